@@ -1,0 +1,20 @@
+// Numbers and names, rows of bits, and the nodes of a graph that hang together.
+//
+// The lowest layer: the numbers of classes, methods, fields and types, the texts of class files, the
+// kinds of values, the limits of both programs, sets kept as rows of bits, and `components`. The
+// layers above use that a `Row` is a set, and that two nodes have one number exactly where a chain of
+// pairs joins them.
+#![tactic(auto)]
+
+mod ids;
+mod kinds;
+pub mod limits;
+mod memory;
+mod sequence;
+mod texts;
+
+pub use ids::{ClassId, FieldId, MethodId, TypeId};
+pub use kinds::{Base, Kind, TypeRef};
+pub use memory::NoMemory;
+pub use sequence::Seq;
+pub use texts::{Name, Units};
