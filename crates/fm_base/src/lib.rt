@@ -10,11 +10,13 @@ mod ids;
 mod kinds;
 pub mod limits;
 mod memory;
+mod rows;
 mod sequence;
 mod texts;
 
 pub use ids::{ClassId, FieldId, MethodId, TypeId};
 pub use kinds::{Base, Kind, TypeRef};
 pub use memory::NoMemory;
+pub use rows::Row;
 pub use sequence::Seq;
 pub use texts::{Name, Units};
