@@ -5,6 +5,14 @@
 // that the bytes and the record determine each other.
 #![tactic(auto)]
 
+mod class_file;
+mod code_array;
+mod constant_pool;
+mod instructions;
 mod operations;
 
+pub use class_file::{ClassDef, Member, MemberAttr, Raw};
+pub use code_array::{Code, CodeAttr, Handler, Item, Line, Var};
+pub use constant_pool::{Entry, Pool};
+pub use instructions::Insn;
 pub use operations::{Conv, Elem, Op, Reg, Shift, Test};
