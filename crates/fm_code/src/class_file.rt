@@ -1,9 +1,8 @@
 // The class file as a record that keeps every byte (class file chapter, sections 4.1 and 4.5 to 4.7).
 
-use fm_base::Seq;
-
 use crate::code_array::Code;
 use crate::constant_pool::Pool;
+use fm_base::Seq;
 
 /// A class file. Each number is the item of that name in the `ClassFile` structure.
 #[derive(Debug, Drop)]

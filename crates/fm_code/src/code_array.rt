@@ -1,9 +1,8 @@
 // A method's code as a list of items (class file chapter, sections 4.7.3, 4.7.12 to 4.7.14).
 
-use fm_base::Seq;
-
 use crate::class_file::Raw;
 use crate::instructions::Insn;
+use fm_base::Seq;
 
 /// A Code attribute. The places that its tables name are numbers of items and not offsets.
 #[derive(Debug, Drop)]

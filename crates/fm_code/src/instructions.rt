@@ -1,8 +1,7 @@
 // The instructions (instruction chapter, section 6.5).
 
-use fm_base::Seq;
-
 use crate::operations::{Conv, Elem, Op, Reg, Shift, Test};
+use fm_base::Seq;
 
 /// An instruction. A `u16` is a pool index or a local variable, and a `u32` the number of the item
 /// that is jumped to.

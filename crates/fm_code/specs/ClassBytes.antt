@@ -1,0 +1,109 @@
+-- The bytes of a class file, as a function of its record (class file chapter, sections 4.1 to 4.7).
+use Rattle.std.specs.Prelude.{ℕ, suc, zero, ◌-◌, List, [], ◌∷◌, ◌++◌, length}
+use Rattle.std.specs.List.{flat_map, concat}
+use Rattle.fm_code.specs.Numbers.{two, four, eight, signed_four, signed_eight}
+use Rattle.fm_code.specs.declared.constant_pool.Entry.{Entry}
+use Rattle.fm_code.specs.declared.constant_pool.Entry.TheVariants as entry
+use Rattle.fm_code.specs.declared.constant_pool.Pool.{Pool}
+use Rattle.fm_code.specs.declared.class_file.ClassDef.{ClassDef}
+use Rattle.fm_code.specs.declared.class_file.Member.{Member}
+use Rattle.fm_code.specs.declared.class_file.MemberAttr.{MemberAttr}
+use Rattle.fm_code.specs.declared.class_file.MemberAttr.TheVariants as attribute
+use Rattle.fm_code.specs.declared.class_file.Raw.{Raw}
+use Rattle.fm_code.specs.declared.code_array.Code.{Code}
+use Rattle.fm_code.specs.declared.code_array.Item.{Item}
+use Rattle.fm_code.specs.declared.code_array.Handler.{Handler}
+use Rattle.fm_code.specs.declared.code_array.CodeAttr.{CodeAttr}
+use Rattle.fm_code.specs.declared.code_array.CodeAttr.TheVariants as code_attribute
+use Rattle.fm_code.specs.declared.code_array.Line.{Line}
+use Rattle.fm_code.specs.declared.code_array.Var.{Var}
+
+-- a list behind its length in two bytes
+abbrev pub counted : {X : Type 0} → (X → List ℕ) → List X → List ℕ
+counted spell xs = two (length xs) ++ flat_map spell xs
+
+-- ---- the constant pool (4.4)
+
+-- an entry: its tag, and what the tag asks for
+unfoldable pub entry_bytes : Entry → List ℕ
+entry_bytes (entry.Utf8 name) = 1 ∷ (two (length name) ++ name)
+entry_bytes (entry.Integer value) = 3 ∷ signed_four value
+entry_bytes (entry.Float bits) = 4 ∷ four bits
+entry_bytes (entry.Long value) = 5 ∷ signed_eight value
+entry_bytes (entry.Double bits) = 6 ∷ eight bits
+entry_bytes (entry.Class name) = 7 ∷ two name
+entry_bytes (entry.Text units) = 8 ∷ two units
+entry_bytes (entry.Field class member) = 9 ∷ (two class ++ two member)
+entry_bytes (entry.Method class member) = 10 ∷ (two class ++ two member)
+entry_bytes (entry.InterfaceMethod class member) = 11 ∷ (two class ++ two member)
+entry_bytes (entry.NameAndType name descriptor) = 12 ∷ (two name ++ two descriptor)
+entry_bytes entry.Second = []
+
+unfoldable pub pool_bytes : Pool → List ℕ
+pool_bytes pool = counted entry_bytes pool.entries
+
+-- ---- attributes (4.7)
+
+-- an attribute: its name, and its bytes behind their number
+abbrev pub attribute_bytes : ℕ → List ℕ → List ℕ
+attribute_bytes name body = two name ++ (four (length body) ++ body)
+
+unfoldable pub raw_bytes : Raw → List ℕ
+raw_bytes raw = attribute_bytes raw.name raw.bytes
+
+-- ---- code (4.7.3, 4.7.12 to 4.7.14)
+
+-- where an item begins, or the code's length behind the last item
+abbrev pub offset_in : List Item → ℕ → ℕ → ℕ
+offset_in [] end index = end
+offset_in (item ∷ items) end zero = item.offset
+offset_in (item ∷ items) end (suc index) = offset_in items end index
+
+abbrev pub offset_of : Code → ℕ → ℕ
+offset_of code index = offset_in code.items code.length index
+
+abbrev pub item_bytes : Item → List ℕ
+item_bytes item = item.bytes
+
+abbrev pub handler_bytes : Code → Handler → List ℕ
+handler_bytes code h = concat (two (offset_of code h.start) ∷ two (offset_of code h.end) ∷ two (offset_of code h.handler) ∷ two h.catch_class ∷ [])
+
+abbrev pub line_bytes : Code → Line → List ℕ
+line_bytes code l = two (offset_of code l.item) ++ two l.line
+
+-- a variable's range is its first offset and its length
+abbrev pub var_bytes : Code → Var → List ℕ
+var_bytes code v =
+    concat (two (offset_of code v.start) ∷ two (offset_of code v.end - offset_of code v.start) ∷ two v.name ∷ two v.kind ∷ two v.index ∷ [])
+
+abbrev pub code_attribute_bytes : Code → CodeAttr → List ℕ
+code_attribute_bytes code (code_attribute.Lines name lines) = attribute_bytes name (counted (line_bytes code) lines)
+code_attribute_bytes code (code_attribute.Vars name types vars) = attribute_bytes name (counted (var_bytes code) vars)
+code_attribute_bytes code (code_attribute.Other raw) = raw_bytes raw
+
+-- the bytes of a Code attribute behind its length
+unfoldable pub code_bytes : Code → List ℕ
+code_bytes code =
+    concat (two code.max_stack ∷ two code.max_locals ∷ four code.length ∷ flat_map item_bytes code.items
+    ∷ counted (handler_bytes code) code.handlers ∷ counted (code_attribute_bytes code) code.attributes ∷ [])
+
+-- ---- members (4.5, 4.6)
+
+unfoldable pub member_attribute_bytes : MemberAttr → List ℕ
+member_attribute_bytes (attribute.Constant name value) = attribute_bytes name (two value)
+member_attribute_bytes (attribute.Coded name code) = attribute_bytes name (code_bytes code)
+member_attribute_bytes (attribute.Other raw) = raw_bytes raw
+
+unfoldable pub member_bytes : Member → List ℕ
+member_bytes m = concat (two m.flags ∷ two m.name ∷ two m.descriptor ∷ counted member_attribute_bytes m.attributes ∷ [])
+
+-- ---- the class file (4.1)
+
+-- cafebabe
+abbrev pub magic : List ℕ
+magic = 202 ∷ 254 ∷ 186 ∷ 190 ∷ []
+
+unfoldable pub class_bytes : ClassDef → List ℕ
+class_bytes c =
+    concat (magic ∷ two c.minor ∷ two c.major ∷ pool_bytes c.pool ∷ two c.flags ∷ two c.this_class ∷ two c.super_class
+    ∷ counted two c.interfaces ∷ counted member_bytes c.fields ∷ counted member_bytes c.methods ∷ counted raw_bytes c.attributes ∷ [])

@@ -1,0 +1,9 @@
+pub mod Numbers
+pub mod InstructionTable
+pub mod ClassBytes
+pub mod SpellsCode
+pub mod Names
+pub mod Fits
+pub mod Rules
+pub mod Spells
+pub mod FirstForm

@@ -1,0 +1,24 @@
+-- What it means that bytes are the class file of a record.
+use Rattle.std.specs.Prelude.{◌≡◌, ℕ, ◌⊎◌, true, List, IsSome, IsSomeAnd}
+use Rattle.std.specs.List.{AllByRecursion}
+use Rattle.fm_code.specs.ClassBytes.{class_bytes}
+use Rattle.fm_code.specs.Fits.{ClassFits}
+use Rattle.fm_code.specs.Names.{is_binary_name}
+use Rattle.fm_code.specs.Rules.{AreSlots, EntryIsValid, utf8_at, class_name_at, is_interface, MethodIsValid, AreDistinct}
+use Rattle.fm_code.specs.declared.class_file.ClassDef.{ClassDef}
+use Rattle.fm_code.specs.declared.class_file.Raw.{Raw}
+
+-- the bytes are those of the record, and the record meets each rule of a class file
+pub record Spells (bytes : List ℕ) (c : ClassDef) : Type 0 where
+  pub bytes_are : bytes ≡ class_bytes c
+  pub fits : ClassFits c
+  pub slots : AreSlots true c.pool.entries
+  pub entries : AllByRecursion (EntryIsValid c.pool.entries) c.pool.entries
+  -- the class names itself, and is no array
+  pub this_class : IsSomeAnd (class_name_at c.pool.entries c.this_class) (λ name. is_binary_name name ≡ true)
+  -- 0, or a class
+  pub super_class : (c.super_class ≡ 0) ⊎ IsSome (class_name_at c.pool.entries c.super_class)
+  pub interfaces : AllByRecursion (λ index. IsSome (class_name_at c.pool.entries index)) c.interfaces
+  pub methods : AllByRecursion (MethodIsValid (is_interface c.flags) c.pool.entries) c.methods
+  pub distinct_methods : AreDistinct c.pool.entries c.methods
+  pub attributes : AllByRecursion (λ (raw : Raw). IsSome (utf8_at c.pool.entries raw.name)) c.attributes
