@@ -4,7 +4,7 @@ use Rattle.std.specs.List.{AllByRecursion}
 use Rattle.fm_code.specs.ClassBytes.{class_bytes}
 use Rattle.fm_code.specs.Fits.{ClassFits}
 use Rattle.fm_code.specs.Names.{is_binary_name}
-use Rattle.fm_code.specs.Rules.{AreSlots, EntryIsValid, utf8_at, class_name_at, is_interface, MethodIsValid, AreDistinct}
+use Rattle.fm_code.specs.Rules.{AreSlots, EntryIsValid, utf8_at, class_name_at, is_interface, FieldIsValid, MethodIsValid, AreDistinct}
 use Rattle.fm_code.specs.declared.class_file.ClassDef.{ClassDef}
 use Rattle.fm_code.specs.declared.class_file.Raw.{Raw}
 
@@ -19,6 +19,7 @@ pub record Spells (bytes : List ℕ) (c : ClassDef) : Type 0 where
   -- 0, or a class
   pub super_class : (c.super_class ≡ 0) ⊎ IsSome (class_name_at c.pool.entries c.super_class)
   pub interfaces : AllByRecursion (λ index. IsSome (class_name_at c.pool.entries index)) c.interfaces
+  pub fields : AllByRecursion (FieldIsValid c.pool.entries) c.fields
   pub methods : AllByRecursion (MethodIsValid (is_interface c.flags) c.pool.entries) c.methods
   pub distinct_methods : AreDistinct c.pool.entries c.methods
   pub attributes : AllByRecursion (λ (raw : Raw). IsSome (utf8_at c.pool.entries raw.name)) c.attributes
