@@ -1,0 +1,11 @@
+// Reads class files into records that keep every byte.
+//
+// So far the records of the first form alone are read, and all other bytes are refused. The layer
+// above uses that what is read is spelled by the bytes, and that nothing of the first form is refused.
+#![tactic(auto)]
+
+mod failure;
+mod first;
+
+pub use failure::FirstFail;
+pub use first::read_first;
