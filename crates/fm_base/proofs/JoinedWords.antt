@@ -30,13 +30,13 @@ Joining_more initial other words grown after i so_far inside word is_joined chan
   initial_fits = so_far.initial_fits;
   other_fits = so_far.other_fits;
   joined = λ k below.
-    ⊎_elim
-    (λ (same : k ≡ i).
-        ap (λ n. get_or (set words i word) n 0) same ∙ get_or-set_same words i word 0 inside ∙ is_joined
-        ∙ ap (λ n. bit_or n (get_or other i 0)) (so_far.ahead i (omega arith))
-        ∙ ap (λ n. bit_or (get_or initial n 0) (get_or other n 0)) (sym same))
-    (λ (apart : k ≢ i). get_or-set_other words i k word 0 apart ∙ so_far.joined k (omega arith))
-    (cases_eq k i);
+      ⊎_elim
+      (λ (same : k ≡ i).
+      ap (λ n. get_or (set words i word) n 0) same ∙ get_or-set_same words i word 0 inside ∙ is_joined
+      ∙ ap (λ n. bit_or n (get_or other i 0)) (so_far.ahead i (omega arith))
+      ∙ ap (λ n. bit_or (get_or initial n 0) (get_or other n 0)) (sym same))
+      (λ (apart : k ≢ i). get_or-set_other words i k word 0 apart ∙ so_far.joined k (omega arith))
+      (cases_eq k i);
   ahead = λ k past. get_or-set_other words i k word 0 (λ same. absurd (omega arith)) ∙ so_far.ahead k (omega arith);
   changed = changed;
 }
@@ -58,8 +58,8 @@ Changed_before initial other words true i word so_far inside unchanged =
 Changed_before initial other words false i word so_far inside unchanged = λ k below.
     ⊎_elim
     (λ (same : k ≡ i).
-        ap (λ n. get_or (set words i word) n 0) same ∙ get_or-set_same words i word 0 inside ∙ unchanged ∙ so_far.ahead i (omega arith)
-        ∙ ap (λ n. get_or initial n 0) (sym same))
+    ap (λ n. get_or (set words i word) n 0) same ∙ get_or-set_same words i word 0 inside ∙ unchanged ∙ so_far.ahead i (omega arith)
+    ∙ ap (λ n. get_or initial n 0) (sym same))
     (λ (apart : k ≢ i). get_or-set_other words i k word 0 apart ∙ so_far.changed k (omega arith))
     (cases_eq k i)
 
@@ -69,8 +69,8 @@ JoinsWords_all initial other words grown i so_far all same k =
     let length_kept = so_far.same_length in
     ⊎_elim (λ (below : k < length words). so_far.joined k (omega arith))
     (λ (past : length words ≤ k).
-        get_or_past words k 0 past
-        ∙ sym (ap (λ n. bit_or n (get_or other k 0)) (get_or_past initial k 0 (omega arith)) ∙ ap (bit_or 0) (get_or_past other k 0 (omega arith))))
+    get_or_past words k 0 past
+    ∙ sym (ap (λ n. bit_or n (get_or other k 0)) (get_or_past initial k 0 (omega arith)) ∙ ap (bit_or 0) (get_or_past other k 0 (omega arith))))
     (cases_lt k (length words))
 
 pub Changed_all : (initial other words : List ℕ) (grown : Bool) (i : ℕ) → Joining initial other words grown i → length words ≤ i → length initial ≡ length other →

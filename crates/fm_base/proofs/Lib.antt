@@ -1,2 +1,3 @@
+pub mod GraphWalkLaws
 pub mod RowLaws
 pub mod JoinedWords

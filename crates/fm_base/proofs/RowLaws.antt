@@ -1,5 +1,5 @@
 -- How the bits of a row follow its words.
-use Rattle.std.proofs.Common.{◌≡◌, ◌≢◌, ℕ, zero, suc, ◌+◌, ◌*◌, ◌-◌, ◌<◌, ◌≤◌, ◌/◌, ◌%◌, ◌^◌, ◌⊎◌, Bool, true, false, List, length, get_or, set, replicate, slice_index, bit_or, eqb, take, drop, ◌++◌, refl, ap, sym, ◌∙◌, inl, inr, arith, max, not, ◌||◌, ◌&&◌, ⊎_elim, subst}
+use Rattle.std.proofs.Common.{◌≡◌, ◌≢◌, ℕ, zero, suc, ◌+◌, ◌*◌, ◌<◌, ◌≤◌, ◌/◌, ◌%◌, ◌^◌, ◌⊎◌, Bool, true, false, List, length, get_or, set, replicate, bit_or, eqb, take, drop, ◌++◌, refl, ap, sym, ◌∙◌, inl, inr, arith, max, not, ◌||◌, ◌&&◌, ⊎_elim}
 use Rattle.std.specs.Int.{bit_at, w64, div_ceil}
 use Rattle.std.proofs.lemmas.List.{take-append-le, take_all, ext_get_or, get_or_past, length-replicate, get_or-replicate, get_or-set_same, get_or-set_other}
 use Rattle.std.proofs.lemmas.List.FromFn.{length-map-range_with_len, get_or-map-range_with_len}
@@ -47,13 +47,13 @@ unfolding bit_of
 bit_of-set_other words i j within other =
     ⊎_elim
     (λ (same : j / 64 ≡ i / 64).
-        let apart : j % 64 ≢ i % 64 = λ e. other (omega arith) in
-        ap (λ k. eqb (bit_at (get_or (set words (i / 64) (bit_or (get_or words (i / 64) 0) (1 * 2 ^ (i % 64) % 2 ^ 64))) k 0) (j % 64)) 1) same
-        ∙ ap (λ n. eqb (bit_at n (j % 64)) 1) (get_or-set_same words (i / 64) (bit_or (get_or words (i / 64) 0) (1 * 2 ^ (i % 64) % 2 ^ 64)) 0 within)
-        ∙ ap (λ n. eqb n 1) (bit_at_set_other w64 (get_or words (i / 64) 0) (i % 64) (omega arith) (j % 64) apart)
-        ∙ ap (λ k. eqb (bit_at (get_or words k 0) (j % 64)) 1) (sym same))
+    let apart : j % 64 ≢ i % 64 = λ e. other (omega arith) in
+    ap (λ k. eqb (bit_at (get_or (set words (i / 64) (bit_or (get_or words (i / 64) 0) (1 * 2 ^ (i % 64) % 2 ^ 64))) k 0) (j % 64)) 1) same
+    ∙ ap (λ n. eqb (bit_at n (j % 64)) 1) (get_or-set_same words (i / 64) (bit_or (get_or words (i / 64) 0) (1 * 2 ^ (i % 64) % 2 ^ 64)) 0 within)
+    ∙ ap (λ n. eqb n 1) (bit_at_set_other w64 (get_or words (i / 64) 0) (i % 64) (omega arith) (j % 64) apart)
+    ∙ ap (λ k. eqb (bit_at (get_or words k 0) (j % 64)) 1) (sym same))
     (λ (apart : j / 64 ≢ i / 64).
-        ap (λ n. eqb (bit_at n (j % 64)) 1) (get_or-set_other words (i / 64) (j / 64) (bit_or (get_or words (i / 64) 0) (1 * 2 ^ (i % 64) % 2 ^ 64)) 0 apart))
+    ap (λ n. eqb (bit_at n (j % 64)) 1) (get_or-set_other words (i / 64) (j / 64) (bit_or (get_or words (i / 64) 0) (1 * 2 ^ (i % 64) % 2 ^ 64)) 0 apart))
     (cases_eq (j / 64) (i / 64))
 
 pub IsRow-set : (words : List ℕ) (bits i : ℕ) → IsRow words bits → i < bits →
@@ -74,16 +74,16 @@ bits_of-set words bits i row below =
     ext_get_or false (bits_of (set words (i / 64) word) bits) (set (bits_of words bits) i true)
     (after ∙ sym before ∙ sym (length-set (bits_of words bits) i true))
     (λ j inside.
-        let j_below : j < bits = omega arith in
-        has-bits_of (set words (i / 64) word) bits j j_below
-        ∙ ⊎_elim
-        (λ (same : j ≡ i).
-            ap (bit_of (set words (i / 64) word)) same ∙ bit_of-set_same words i within
-            ∙ sym (ap (λ k. get_or (set (bits_of words bits) i true) k false) same ∙ get_or-set_same (bits_of words bits) i true false (omega arith)))
-        (λ (other : j ≢ i).
-            bit_of-set_other words i j within other ∙ sym (has-bits_of words bits j j_below)
-            ∙ sym (get_or-set_other (bits_of words bits) i j true false other))
-        (cases_eq j i))
+    let j_below : j < bits = omega arith in
+    has-bits_of (set words (i / 64) word) bits j j_below
+    ∙ ⊎_elim
+    (λ (same : j ≡ i).
+    ap (bit_of (set words (i / 64) word)) same ∙ bit_of-set_same words i within
+    ∙ sym (ap (λ k. get_or (set (bits_of words bits) i true) k false) same ∙ get_or-set_same (bits_of words bits) i true false (omega arith)))
+    (λ (other : j ≢ i).
+    bit_of-set_other words i j within other ∙ sym (has-bits_of words bits j j_below)
+    ∙ sym (get_or-set_other (bits_of words bits) i j true false other))
+    (cases_eq j i))
 
 -- words of zeros are a row of unset bits
 pub bit_of-zeros : (words : List ℕ) (i : ℕ) → ((k : ℕ) → get_or words k 0 ≡ 0) → bit_of words i ≡ false
@@ -95,8 +95,8 @@ bits_of-zeros words bits zeros =
     let made = length-bits_of words bits in
     ext_get_or false (bits_of words bits) (replicate bits false) (made ∙ sym (length-replicate bits false))
     (λ j inside.
-        let below : j < bits = omega arith in
-        has-bits_of words bits j below ∙ bit_of-zeros words j zeros ∙ sym (get_or-replicate bits j false false below))
+    let below : j < bits = omega arith in
+    has-bits_of words bits j below ∙ bit_of-zeros words j zeros ∙ sym (get_or-replicate bits j false false below))
 
 pub IsRow-zeros : (words : List ℕ) (bits : ℕ) → length words ≡ div_ceil bits 64 → ((k : ℕ) → get_or words k 0 ≡ 0) → IsRow words bits
 IsRow-zeros words bits needed zeros = record { words_needed = needed; rest_unset = λ i _. bit_of-zeros words i zeros }
@@ -135,7 +135,7 @@ pub IsRow-joined : (old other new : List ℕ) (bits : ℕ) → IsRow old bits �
 IsRow-joined old other new bits first second same joins = record {
   words_needed = same ∙ first.words_needed;
   rest_unset = λ i past.
-    bit_of-joined old other new joins i ∙ ap (λ b. b || bit_of other i) (first.rest_unset i past) ∙ second.rest_unset i past;
+      bit_of-joined old other new joins i ∙ ap (λ b. b || bit_of other i) (first.rest_unset i past) ∙ second.rest_unset i past;
 }
 
 pub IsUnion-joined : (old other new : List ℕ) (bits : ℕ) → IsRow old bits → IsRow other bits → length new ≡ length old → JoinsWords old other new →
@@ -143,8 +143,8 @@ pub IsUnion-joined : (old other new : List ℕ) (bits : ℕ) → IsRow old bits 
 IsUnion-joined old other new bits first second same joins = record {
   same_length = length-bits_of new bits ∙ sym (length-bits_of old bits);
   members = λ i.
-    has-row new bits i (IsRow-joined old other new bits first second same joins) ∙ bit_of-joined old other new joins i
-    ∙ ap (λ b. b || bit_of other i) (sym (has-row old bits i first)) ∙ ap (λ b. has (bits_of old bits) i || b) (sym (has-row other bits i second));
+      has-row new bits i (IsRow-joined old other new bits first second same joins) ∙ bit_of-joined old other new joins i
+      ∙ ap (λ b. b || bit_of other i) (sym (has-row old bits i first)) ∙ ap (λ b. has (bits_of old bits) i || b) (sym (has-row other bits i second));
 }
 
 -- ---- a bit that was added
@@ -163,10 +163,10 @@ search_below p zero = inr (λ i below. absurd (omega arith))
 search_below p (suc n) =
     ⊎_elim (λ found. inl (found.0, (omega arith, found.1.1)))
     (λ none.
-        elim (p n) as (λ b. p n ≡ b → ((i : ℕ) × ((i < suc n) × (p i ≡ true))) ⊎ ((i : ℕ) → i < suc n → p i ≡ false)) [
-          true ↦ (λ e. inl (n, (omega arith, e)))
-          | false ↦ (λ e. inr (λ i below. ⊎_elim (λ (lt : i < n). none i lt) (λ (ge : n ≤ i). let same : i ≡ n = omega arith in ap p same ∙ e) (cases_lt i n)))
-        ] refl)
+    elim (p n) as (λ b. p n ≡ b → ((i : ℕ) × ((i < suc n) × (p i ≡ true))) ⊎ ((i : ℕ) → i < suc n → p i ≡ false)) [
+      | true ↦ (λ e. inl (n, (omega arith, e)))
+      | false ↦ (λ e. inr (λ i below. ⊎_elim (λ (lt : i < n). none i lt) (λ (ge : n ≤ i). let same : i ≡ n = omega arith in ap p same ∙ e) (cases_lt i n)))
+    ] refl)
     (search_below p n)
 
 -- a bit of a joined word that isn't gained is as before
@@ -185,8 +185,8 @@ gained_bit a b a_fits b_fits changed =
     ⊎_elim
     (λ found. let both = gains_true (eqb (bit_at a found.0) 1) (eqb (bit_at (bit_or a b) found.0) 1) found.1.1 in (found.0, (found.1.0, both)))
     (λ none. absurd (changed (same_from_bits_below 64 (bit_or a b) a (or_lt 64 a b a_fits b_fits) a_fits
-        (λ j below. bit_at_or a b j ∙ kept_bit (bit_at a j) (bit_at b j) (bit_at-lt a j) (bit_at-lt b j)
-            (ap (λ n. gains (eqb (bit_at a j) 1) (eqb n 1)) (sym (bit_at_or a b j)) ∙ none j below)))))
+    (λ j below. bit_at_or a b j ∙ kept_bit (bit_at a j) (bit_at b j) (bit_at-lt a j) (bit_at-lt b j)
+    (ap (λ n. gains (eqb (bit_at a j) 1) (eqb n 1)) (sym (bit_at_or a b j)) ∙ none j below)))))
     (search_below (λ j. gains (eqb (bit_at a j) 1) (eqb (bit_at (bit_or a b) j) 1)) 64)
 
 bit_of-at : (words : List ℕ) (k j : ℕ) → j < 64 → bit_of words (k * 64 + j) ≡ eqb (bit_at (get_or words k 0) j) 1
@@ -202,9 +202,13 @@ pub GainsBit-changed : (old other new : List ℕ) → JoinsWords old other new �
 GainsBit-changed old other new joins old_fits other_fits k changed =
     let a = get_or old k 0 in
     let b = get_or other k 0 in
-    let bit = gained_bit a b (old_fits k) (other_fits k) (λ e. changed (joins k ∙ e)) in
-    (k * 64 + bit.0, (bit_of-at old k bit.0 bit.1.0 ∙ bit.1.1.0,
-        bit_of-at new k bit.0 bit.1.0 ∙ ap (λ n. eqb (bit_at n bit.0) 1) (joins k) ∙ bit.1.1.1))
+    let bit = gained_bit a b (old_fits k) (other_fits k) (λ e. changed (joins k ∙ e)) in (
+      k * 64 + bit.0,
+      (
+        bit_of-at old k bit.0 bit.1.0 ∙ bit.1.1.0,
+        bit_of-at new k bit.0 bit.1.0 ∙ ap (λ n. eqb (bit_at n bit.0) 1) (joins k) ∙ bit.1.1.1,
+      ),
+    )
 
 -- the rows of such words differ in that bit
 pub AddsBit-GainsBit : (old new : List ℕ) (bits : ℕ) → IsRow old bits → IsRow new bits → GainsBit old new → AddsBit (bits_of old bits) (bits_of new bits)

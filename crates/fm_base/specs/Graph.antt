@@ -1,5 +1,9 @@
 -- Nodes that pairs join. A pair joins its two nodes in both directions.
-use Rattle.std.specs.Prelude.{◌≡◌, ℕ, ◌≤◌, ◌<◌, ◌⊎◌, List, [], ◌∷◌, length, Contains, slice_index}
+use Rattle.std.specs.Prelude.{◌≡◌, ℕ, ◌≤◌, ◌<◌, ◌⊎◌, List, [], ◌∷◌, length, All, Contains, slice_index}
+
+-- each pair names two of the nodes below n
+abbrev pub AreNodes : ℕ → List (ℕ × ℕ) → Type 0
+AreNodes n pairs = All (λ pair. (pair.0 < n) × (pair.1 < n)) pairs
 
 -- some pair names the two nodes, in one order or the other
 abbrev pub ArePaired : List (ℕ × ℕ) → ℕ → ℕ → Type 0
@@ -18,3 +22,8 @@ AreJoined pairs a b = (chain : List ℕ) × IsChain pairs a chain b
 pub record IsLeastJoined (pairs : List (ℕ × ℕ)) (a least : ℕ) : Type 0 where
   pub joined : AreJoined pairs a least
   pub no_less : (b : ℕ) → AreJoined pairs a b → least ≤ b
+
+-- for each of the n nodes the least node that is joined with it
+pub record AreLeastJoined (pairs : List (ℕ × ℕ)) (n : ℕ) (least : List ℕ) : Type 0 where
+  pub one_each : length least ≡ n
+  pub each : (a : ℕ) → a < n → IsLeastJoined pairs a (slice_index least a)

@@ -1,3 +1,4 @@
 pub mod Row
 pub mod RowWords
 pub mod Graph
+pub mod GraphWalk

@@ -6,14 +6,18 @@
 // pairs joins them.
 #![tactic(auto)]
 
+mod graph;
 mod ids;
 mod kinds;
 pub mod limits;
 mod memory;
 mod rows;
 mod sequence;
+#[cfg(test)]
+mod tests;
 mod texts;
 
+pub use graph::components;
 pub use ids::{ClassId, FieldId, MethodId, TypeId};
 pub use kinds::{Base, Kind, TypeRef};
 pub use memory::NoMemory;

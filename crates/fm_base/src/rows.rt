@@ -5,10 +5,9 @@ ghost use Rattle.std.specs.Bool.{OnFalse};
 ghost use Rattle.fm_base.specs.Row.{has, IsUnion, AddsBit};
 ghost use Rattle.fm_base.specs.RowWords.{GainsBit};
 
+use crate::memory::NoMemory;
 use std::alloc::Global;
 use std::marker::Model;
-
-use crate::memory::NoMemory;
 
 /// A set of numbers below a fixed number, one bit for each. Contracts see the list of the bits.
 #[derive(Debug, Drop)]

@@ -1,5 +1,5 @@
-use Rattle.std.proofs.Common.{◌≡◌, ◌≢◌, ◌<◌, get_or, bit_or, arith, refl, subst, sym, true, length, set, ◌+◌}
-use Rattle.fm_base.proofs.JoinedWords.{Joining, Joining_more, Changed, Changed_here, Changed_before, JoinsWords_all, Changed_all}
+use Rattle.std.proofs.Common.{◌<◌, get_or, bit_or, arith, refl, length, set, ◌+◌}
+use Rattle.fm_base.proofs.JoinedWords.{Joining_more, Changed, Changed_here, Changed_before, JoinsWords_all, Changed_all}
 use Rattle.fm_base.proofs.rows.unite.Goals.{then-joined-words, else-joined-words}
 use Rattle.fm_base.proofs.rows.unite.Goals as goal
 
@@ -18,10 +18,10 @@ loop-i-preserved c =
     let inside : c.loop-i.i < length c.loop-i.words = omega arith in
     let word = bit_or (get_or c.loop-i.words c.loop-i.i 0) (get_or c.args.other.now c.loop-i.i 0) in
     let changed : Changed c.args.words.now (set c.loop-i.words c.loop-i.i word) (c.loop-i.i + 1) c.if-joined-words.grown =
-        elim c.if-joined-words.branch [
-          then-joined-words w ↦ rw w.grown-is (Changed_here _ _ _ _ _ _ c.loop-i.invariant inside w.if-joined-words.true)
-          | else-joined-words w ↦ rw w.grown-is (Changed_before _ _ _ _ _ _ c.loop-i.invariant inside w.if-joined-words.false)
-        ] in
+    elim c.if-joined-words.branch [
+      | then-joined-words w ↦ rw w.grown-is (Changed_here _ _ _ _ _ _ c.loop-i.invariant inside w.if-joined-words.true)
+      | else-joined-words w ↦ rw w.grown-is (Changed_before _ _ _ _ _ _ c.loop-i.invariant inside w.if-joined-words.false)
+    ] in
     Joining_more _ _ _ _ _ _ c.loop-i.invariant inside word refl changed
 
 pub returns-clause-joined : goal.returns-clause-joined

@@ -1,4 +1,4 @@
-use Rattle.std.proofs.Common.{sym, ◌∙◌, ◌≡◌, ℕ, ap, length, arith, ◌<◌, ◌/◌, ◌%◌, eqb, get_or}
+use Rattle.std.proofs.Common.{sym, ◌∙◌, ◌≡◌, ap, length, arith, ◌<◌, ◌/◌, ◌%◌, eqb, get_or}
 use Rattle.std.specs.Int.{bit_at}
 use Rattle.std.proofs.lemmas.List.{get_or_default}
 use Rattle.std.proofs.lemmas.Nat.Bits.{shr_and_one}
@@ -18,7 +18,7 @@ returns c =
     let below : c.args.i < c.self.inside.bits = omega (arith, ap length c.self.view_is) in
     let within = word_within _ _ _ c.self.invariant below in
     let word : c.index.result.now ≡ get_or c.self.inside.words.items (c.args.i / 64) 0 =
-        c.index.ensures ∙ get_or_default c.self.inside.words.items (c.args.i / 64) c.index.result.now 0 within in
+    c.index.ensures ∙ get_or_default c.self.inside.words.items (c.args.i / 64) c.index.result.now 0 within in
     ap (λ n. eqb n 1) (shr_and_one c.index.result.now (c.args.i % 64))
     ∙ ap (λ n. eqb (bit_at n (c.args.i % 64)) 1) word
     ∙ sym (bit_of-word c.self.inside.words.items c.args.i)

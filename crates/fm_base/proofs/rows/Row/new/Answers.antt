@@ -1,4 +1,4 @@
-use Rattle.std.proofs.Common.{◌∙◌, ◌≡◌, ℕ, ap, length, get_or}
+use Rattle.std.proofs.Common.{◌∙◌, ◌≡◌, ap, length, get_or}
 use Rattle.std.proofs.lemmas.List.{length-replicate}
 use Rattle.fm_base.proofs.RowLaws.{IsRow-zeros, bits_of-zeros, get_or-zeros}
 use Rattle.fm_base.proofs.rows.Row.new.Goals as goal

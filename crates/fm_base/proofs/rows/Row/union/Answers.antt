@@ -10,8 +10,8 @@ use Rattle.fm_base.proofs.rows.Row.union.Goals as goal
 pub unite-requires : goal.unite-requires
 unite-requires c =
     let same : c.self.inside.bits ≡ c.other.inside.bits =
-        sym (length-bits_of c.self.inside.words.items c.self.inside.bits) ∙ ap length c.self.view_is ∙ c.requires ∙ sym (ap length c.other.view_is)
-        ∙ length-bits_of c.other.inside.words.items c.other.inside.bits in
+    sym (length-bits_of c.self.inside.words.items c.self.inside.bits) ∙ ap length c.self.view_is ∙ c.requires ∙ sym (ap length c.other.view_is)
+    ∙ length-bits_of c.other.inside.words.items c.other.inside.bits in
     ap length c.as_mut_slice.ensures.value ∙ c.self.invariant.words_needed ∙ ap (λ bits. div_ceil bits 64) same ∙ sym c.other.invariant.words_needed
     ∙ sym (ap length c.as_slice.ensures.value)
 
@@ -27,7 +27,7 @@ left : (old other new : List ℕ) (bits others : ℕ) (row more : List Bool) (gr
     Left old other new bits row more grown
 left old other new bits others row more grown is_row is_more first second same_bits same joins changed =
     let same_number : others ≡ bits =
-        sym (length-bits_of other others) ∙ ap length is_more ∙ sym same_bits ∙ sym (ap length is_row) ∙ length-bits_of old bits in
+    sym (length-bits_of other others) ∙ ap length is_more ∙ sym same_bits ∙ sym (ap length is_row) ∙ length-bits_of old bits in
     let Is : ℕ → Type 0 = λ n. IsRow other n in
     let second_row : IsRow other bits = subst Is same_number second in
     let invariant = IsRow-joined old other new bits first second_row same joins in
@@ -49,7 +49,7 @@ after c =
     let old = c.self.inside.words.items in
     let kept : length c.unite.new.words ≡ length old = c.unite.auto.words ∙ ap length c.as_mut_slice.ensures.value in
     let written : take c.self.inside.words.len (c.unite.new.words ++ drop (length c.unite.new.words) old) ≡ c.unite.new.words =
-        written_whole c.unite.new.words old c.self.inside.words.len (omega arith) (omega arith) in
+    written_whole c.unite.new.words old c.self.inside.words.len (omega arith) (omega arith) in
     let mine = c.as_mut_slice.ensures.value in
     let theirs = c.as_slice.ensures.value in
     let Joins : List ℕ → Type 0 = λ words. JoinsWords words c.as_slice.result.now c.unite.new.words in
@@ -57,8 +57,8 @@ after c =
     let Changes : List ℕ → Type 0 = λ words. MatchBool c.unite.result (GainsBit words c.unite.new.words) (c.unite.new.words ≡ words) in
     rw written
     (left old c.other.inside.words.items c.unite.new.words c.self.inside.bits c.other.inside.bits c.args.self.now c.args.other.now c.unite.result
-        c.self.view_is c.other.view_is c.self.invariant c.other.invariant c.requires kept
-        (subst JoinsWith theirs (subst Joins mine c.unite.ensures.joined)) (subst Changes mine c.unite.ensures.changed))
+    c.self.view_is c.other.view_is c.self.invariant c.other.invariant c.requires kept
+    (subst JoinsWith theirs (subst Joins mine c.unite.ensures.joined)) (subst Changes mine c.unite.ensures.changed))
 
 pub invariant_of-self : goal.invariant_of-self
 invariant_of-self c = (after c).invariant

@@ -1,0 +1,108 @@
+// The nodes of a graph that hang together, found breadth first.
+
+ghost use Rattle.std.specs.Prelude.{◌≡◌, ◌<◌, ◌+◌, ◌*◌, ◌∷◌, length, IfOk, OnOk};
+ghost use Rattle.std.specs.VecDeque.{deque_len};
+ghost use Rattle.fm_base.specs.Graph.{AreLeastJoined, AreNodes};
+ghost use Rattle.fm_base.specs.GraphWalk.{node_at, other_at, AreLinked, AreReached, Spreading, unreached};
+
+use crate::memory::NoMemory;
+use std::alloc::Global;
+use std::collections::VecDeque;
+
+/// For each node from 0 on the least node that a chain of pairs joins to it, itself among them. A pair
+/// joins its two nodes in both directions. Takes time and memory linear in the number of nodes and
+/// pairs.
+pub fn components(alloc: Global, n: u32, pairs: &[(u32, u32)]) -> Result<Vec<u32>, NoMemory>
+    requires { AreNodes n pairs.now }
+    ensures { IfOk result (λ least. AreLeastJoined pairs.now n least.items) }
+{
+    let ends = Ends::of(alloc, n, pairs)?;
+    let mut least = vec![in alloc; n; n as usize]?;
+    let mut queue = VecDeque::new(alloc);
+    for start in 0..n {
+        if least[start as usize] == n {
+            least[start as usize] = start;
+            queue.push_back(start)?;
+            while let Some(node) = queue.pop_front() {
+                ends.reach(pairs, n, start, node, &mut least, &mut queue)?;
+            }
+        }
+    }
+    Ok(least)
+}
+
+// The node at an end of a pair, where the pair k has the ends 2 k and 2 k + 1.
+fn node_of(pairs: &[(u32, u32)], end: usize) -> u32
+    requires { end < 2 * length pairs.now }
+    ensures { result ≡ node_at pairs.now end }
+{
+    let (first, second) = pairs[end / 2];
+    if end % 2 == 0 { first } else { second }
+}
+
+// The node at the pair's other end.
+fn other_node(pairs: &[(u32, u32)], end: usize) -> u32
+    requires { end < 2 * length pairs.now }
+    ensures { result ≡ other_at pairs.now end }
+{
+    let (first, second) = pairs[end / 2];
+    if end % 2 == 0 { second } else { first }
+}
+
+// The ends of the pairs as a list for each node, linked from the node's last end to its first.
+#[derive(Drop)]
+struct Ends {
+    // for each node one more than its last end, or 0
+    last: Vec<usize>,
+    // for each end one more than the end of the same node before it, or 0
+    before: Vec<usize>,
+}
+
+impl Ends {
+    fn of(alloc: Global, n: u32, pairs: &[(u32, u32)]) -> Result<Ends, NoMemory>
+        requires { AreNodes n pairs.now }
+        ensures { IfOk result (λ ends. AreLinked pairs.now n (2 * length pairs.now) ends.last.items ends.before.items) }
+    {
+        let mut last = vec![in alloc; 0usize; n as usize]?;
+        let mut before = Vec::new(alloc);
+        for end in 0..2 * pairs.len() {
+            let node = node_of(pairs, end) as usize;
+            before.push(last[node])?;
+            last[node] = end + 1;
+        }
+        Ok(Ends { last, before })
+    }
+
+    // Gives each node that is paired with this one, and isn't reached yet, the number of the start, and
+    // lets it wait. After `NoMemory` only some of them have it, and the caller gives both lists up.
+    fn reach(
+        &self,
+        pairs: &[(u32, u32)],
+        n: u32,
+        start: u32,
+        node: u32,
+        least: &mut Vec<u32>,
+        queue: &mut VecDeque<u32>,
+    ) -> Result<(), NoMemory>
+        requires nodes { AreNodes n pairs.now }
+        requires linked { AreLinked pairs.now n (2 * length pairs.now) self.now.last.items self.now.before.items }
+        requires start_is_node { start < n }
+        requires reached { AreReached n least.old.items (start + 1) }
+        requires spreading { Spreading pairs.now n start least.old.items (node ∷ queue.old.items) }
+        ensures reached { OnOk result (AreReached n least.new.items (start + 1)) }
+        ensures spreading { OnOk result (Spreading pairs.now n start least.new.items queue.new.items) }
+        ensures work { OnOk result (unreached n least.new.items + deque_len queue.new ≡ unreached n least.old.items + deque_len queue.old) }
+    {
+        let mut link = self.last[node as usize];
+        while link > 0 {
+            let end = link - 1;
+            let other = other_node(pairs, end);
+            if least[other as usize] == n {
+                queue.push_back(other)?;
+                least[other as usize] = start;
+            }
+            link = self.before[end];
+        }
+        Ok(())
+    }
+}
