@@ -1,0 +1,4 @@
+pub mod TwosComplement
+pub mod Operations
+pub mod Shifts
+pub mod Conversions
