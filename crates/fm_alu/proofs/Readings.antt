@@ -1,10 +1,11 @@
 -- What the low bits of a number are in std's words for the values of a type.
-use Rattle.std.proofs.Common.{◌≡◌, ℕ, suc, ◌-◌, ◌*◌, ◌/◌, ◌%◌, ◌+◌, ◌^◌, ◌<◌, ◌≤◌, Bool, true, false, cond, ℤ, pos, negsuc, ◌-ℤ◌, refl, sym, ap, ◌∙◌, arith, ltb}
+use Rattle.std.proofs.Common.{◌≡◌, ℕ, suc, ◌-◌, ◌*◌, ◌/◌, ◌%◌, ◌+◌, ◌^◌, ◌<◌, ◌≤◌, Bool, true, false, cond, ℤ, pos, negsuc, ◌-ℤ◌, refl, sym, ap, subst, ◌∙◌, arith, ltb}
 use Rattle.std.specs.Prelude.{unsigned_abs, FitsSigned}
 use Rattle.std.specs.Int.{Width, w8, w16, w32, w64, w128, cast_signed, cast_unsigned, int_rem_euclid, int_wrap}
-use Rattle.std.proofs.Math.Nat.{mod-lt, mod-eq_of_lt}
-use Rattle.std.proofs.lemmas.Nat.{pow_pos}
+use Rattle.std.proofs.Math.Nat.{mod-lt, mod-eq_of_lt, div-add-mod', pow-le-pow_right}
+use Rattle.std.proofs.lemmas.Nat.{pow_pos, pow-add, div_below, mod-mul-add}
 use Rattle.std.proofs.lemmas.Int.{ints}
+use borrow.Author.Tests.{ltb-true, ltb-false}
 use mir.Val.{bits, hbits, sel}
 use mir.ValLaws.{half_full}
 use lib.Signed.{mag}
@@ -55,3 +56,47 @@ cast_both w z h = ap (cast_signed w) (cast_unsigned-low_bits w z h) ∙ cast_sig
 
 pub cast_signed-pos : (w : Width) (m : ℕ) → m < 2 ^ bits w → cast_signed w m ≡ signed (bits w) (pos m)
 cast_signed-pos w m h = cast_both w (pos m) h
+
+-- of a type's bits the lowest are those of its value
+pub cast_unsigned-mod : (w : Width) (z : ℤ) (n : ℕ) → n ≤ bits w → FitsSigned w z → cast_unsigned w z % 2 ^ n ≡ low_bits n z
+unfolding low_bits
+cast_unsigned-mod w (pos a) n h f = refl
+cast_unsigned-mod w (negsuc a) n h f =
+    let m = 2 ^ n in
+    let times = 2 ^ (bits w - n) in
+    let q = a / m in
+    let r = a % m in
+    let whole : times * m ≡ 2 ^ bits w = sym (pow-add 2 (bits w - n) n) ∙ ap (λ k. 2 ^ k) (omega arith) in
+    let small = half_full w f.sfits in
+    let fewer : q < times = div_below a m times (pow_pos n) (omega arith) in
+    let split = div-add-mod' a m in
+    let below = mod-lt a (pow_pos n) in
+    let sum : times * m ≡ (q + suc (times - suc q)) * m = ap (λ k. k * m) (omega arith) in
+    let is : 2 ^ bits w - suc a ≡ (times - suc q) * m + (m - 1 - r) = omega arith in
+    ap (λ x. x % m) is ∙ mod-mul-add (times - suc q) m (m - 1 - r) (omega arith)
+
+pub doubled : (n : ℕ) → 0 < n → 2 ^ (n - 1) + 2 ^ (n - 1) ≡ 2 ^ n
+doubled n some =
+    let back_up : n - 1 + 1 ≡ n = omega arith in
+    let power = sym (ap (λ k. 2 ^ k) back_up) ∙ pow-add 2 (n - 1) 1 in
+    omega (arith, power)
+
+in_half : (m h : ℕ) → m < h + h → (t : Bool) → ltb m h ≡ t → mag (cond t (pos m) (pos m -ℤ pos (h + h))) < h
+in_half m h p true e = ltb-true m h e
+in_half m h p false e = subst (λ (z : ℤ). mag z < h) (below_zero m (h + h) p) (omega (arith, ltb-false m h e))
+
+-- the reading of n bits with a sign is from −2 ^ (n − 1) to 2 ^ (n − 1) − 1
+pub mag-signed : (n : ℕ) (z : ℤ) → 0 < n → mag (signed n z) < 2 ^ (n - 1)
+unfolding signed
+mag-signed n z some =
+    let m = low_bits n z in
+    let h = 2 ^ (n - 1) in
+    let double = doubled n some in
+    subst (λ (k : ℕ). mag (cond (ltb m h) (pos m) (pos m -ℤ pos k)) < h) double
+      (in_half m h (omega (arith, double, low_bits-lt n z)) (ltb m h) refl)
+
+pub signed-fits : (n : ℕ) (z : ℤ) → 0 < n → n ≤ 32 → FitsSigned w32 (signed n z)
+signed-fits n z some h =
+    let shorter : n - 1 ≤ 31 = omega arith in
+    let below = pow-le-pow_right {n = 2} (omega arith) shorter in
+    record { sfits = omega (arith, mag-signed n z some, below) }

@@ -10,7 +10,7 @@ use mir.ValLaws.{sfits_le}
 use lib.Signed.{mag_shr}
 use Rattle.fm_alu.specs.TwosComplement.{low_bits, signed}
 use Rattle.fm_alu.specs.Shifts.{floor_quotient}
-use Rattle.fm_alu.proofs.Readings.{low_bits-lt, int_wrap-signed, cast_unsigned-fits, cast_signed-pos}
+use Rattle.fm_alu.proofs.Readings.{low_bits-lt, int_wrap-signed, cast_unsigned-fits, cast_unsigned-mod, cast_signed-pos}
 
 floor_quotient-is : (a : ℤ) (k : ℕ) → int_shr a k ≡ floor_quotient a (2 ^ k)
 unfolding floor_quotient
@@ -41,21 +41,11 @@ module _ (w : Width) (a : ℤ) (f : FitsSigned w a) (k : ℕ) where
 
 -- ---- the count: its low bits, as the code takes them from the bits of an int
 
-count_of : (n : ℤ) → FitsSigned w32 n → (r : ℕ) → r ≡ cast_unsigned w32 (cast_signed w32 (cast_unsigned w32 n)) → r ≡ cast_unsigned w32 n
-count_of n f r e = e ∙ ap (cast_unsigned w32) (to_z-of_z w32 n f)
+count : (n : ℤ) (k r : ℕ) → k ≤ 32 → FitsSigned w32 n → r ≡ cast_unsigned w32 (cast_signed w32 (cast_unsigned w32 n)) → r % 2 ^ k ≡ low_bits k n
+count n k r h f e = ap (λ m. m % 2 ^ k) (e ∙ ap (cast_unsigned w32) (to_z-of_z w32 n f)) ∙ cast_unsigned-mod w32 n k h f
 
-low_5 : (n : ℤ) → FitsSigned w32 n → cast_unsigned w32 n % 32 ≡ low_bits 5 n
-unfolding low_bits
-low_5 (pos a) f = refl
-low_5 (negsuc a) f = omega (arith, f.sfits)
+pub count_5 : (n : ℤ) (r : ℕ) → FitsSigned w32 n → r ≡ cast_unsigned w32 (cast_signed w32 (cast_unsigned w32 n)) → r % 32 ≡ low_bits 5 n
+count_5 n r f e = count n 5 r (omega arith) f e
 
-low_6 : (n : ℤ) → FitsSigned w32 n → cast_unsigned w32 n % 64 ≡ low_bits 6 n
-unfolding low_bits
-low_6 (pos a) f = refl
-low_6 (negsuc a) f = omega (arith, f.sfits)
-
-pub count_5 : (n : ℤ) → FitsSigned w32 n → (r : ℕ) → r ≡ cast_unsigned w32 (cast_signed w32 (cast_unsigned w32 n)) → r % 32 ≡ low_bits 5 n
-count_5 n f r e = ap (λ m. m % 32) (count_of n f r e) ∙ low_5 n f
-
-pub count_6 : (n : ℤ) → FitsSigned w32 n → (r : ℕ) → r ≡ cast_unsigned w32 (cast_signed w32 (cast_unsigned w32 n)) → r % 64 ≡ low_bits 6 n
-count_6 n f r e = ap (λ m. m % 64) (count_of n f r e) ∙ low_6 n f
+pub count_6 : (n : ℤ) (r : ℕ) → FitsSigned w32 n → r ≡ cast_unsigned w32 (cast_signed w32 (cast_unsigned w32 n)) → r % 64 ≡ low_bits 6 n
+count_6 n r f e = count n 6 r (omega arith) f e

@@ -9,21 +9,21 @@ use Rattle.fm_alu.proofs.longs.long_shift.Goals as goal
 pub returns-in-Left : goal.returns-in-Left
 returns-in-Left c =
     let k = low_bits 6 c.args.n in
-    let e = count_6 c.args.n c.ranges.n c.cast_unsigned-count.result c.cast_unsigned-count.ensures in
+    let e = count_6 c.args.n c.cast_unsigned-count.result c.ranges.n c.cast_unsigned-count.ensures in
     let r = left w64 c.args.a c.ranges.a k (low_bits-lt 6 c.args.n) in
     rw e (search (rules, r))
 
 pub returns-in-Right : goal.returns-in-Right
 returns-in-Right c =
     let k = low_bits 6 c.args.n in
-    let e = count_6 c.args.n c.ranges.n c.cast_unsigned-count.result c.cast_unsigned-count.ensures in
+    let e = count_6 c.args.n c.cast_unsigned-count.result c.ranges.n c.cast_unsigned-count.ensures in
     let r = right w64 c.args.a c.ranges.a k in
     rw e (search (rules, r))
 
 pub returns-in-RightZero : goal.returns-in-RightZero
 returns-in-RightZero c =
     let k = low_bits 6 c.args.n in
-    let e = count_6 c.args.n c.ranges.n c.cast_unsigned-count.result c.cast_unsigned-count.ensures in
+    let e = count_6 c.args.n c.cast_unsigned-count.result c.ranges.n c.cast_unsigned-count.ensures in
     let u = c.cast_unsigned.ensures ∙ ap (of_z w64) (to_z-of_z w64 c.args.a c.ranges.a) in
     let r = right_with_zeros w64 c.args.a c.ranges.a k in
     let v : c.cast_signed.result ≡ signed 64 (pos (low_bits 64 c.args.a / 2 ^ k)) = cc in
