@@ -2,3 +2,4 @@ pub mod Readings
 pub mod Rows
 pub mod Shifting
 pub mod Extension
+pub mod Laws

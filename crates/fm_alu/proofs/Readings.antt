@@ -3,7 +3,7 @@ use Rattle.std.proofs.Common.{◌≡◌, ℕ, suc, ◌-◌, ◌*◌, ◌/◌, �
 use Rattle.std.specs.Prelude.{unsigned_abs, FitsSigned}
 use Rattle.std.specs.Int.{Width, w8, w16, w32, w64, w128, cast_signed, cast_unsigned, int_rem_euclid, int_wrap}
 use Rattle.std.proofs.Math.Nat.{mod-lt, mod-eq_of_lt, div-add-mod', pow-le-pow_right}
-use Rattle.std.proofs.lemmas.Nat.{pow_pos, pow-add, div_below, mod-mul-add}
+use Rattle.std.proofs.lemmas.Nat.{pow_pos, pow-add, div_below, mod-mul-add, mod-pow-add}
 use Rattle.std.proofs.lemmas.Int.{ints}
 use borrow.Author.Tests.{ltb-true, ltb-false}
 use mir.Val.{bits, hbits, sel}
@@ -57,23 +57,50 @@ cast_both w z h = ap (cast_signed w) (cast_unsigned-low_bits w z h) ∙ cast_sig
 pub cast_signed-pos : (w : Width) (m : ℕ) → m < 2 ^ bits w → cast_signed w m ≡ signed (bits w) (pos m)
 cast_signed-pos w m h = cast_both w (pos m) h
 
--- of a type's bits the lowest are those of its value
-pub cast_unsigned-mod : (w : Width) (z : ℤ) (n : ℕ) → n ≤ bits w → FitsSigned w z → cast_unsigned w z % 2 ^ n ≡ low_bits n z
-unfolding low_bits
-cast_unsigned-mod w (pos a) n h f = refl
-cast_unsigned-mod w (negsuc a) n h f =
-    let m = 2 ^ n in
-    let times = 2 ^ (bits w - n) in
+-- the bits of −(a + 1) are those of a turned over
+turned : (n k a : ℕ) → k ≤ n → a < 2 ^ n → (2 ^ n - suc a) % 2 ^ k ≡ 2 ^ k - 1 - a % 2 ^ k
+turned n k a h small =
+    let m = 2 ^ k in
+    let times = 2 ^ (n - k) in
     let q = a / m in
     let r = a % m in
-    let whole : times * m ≡ 2 ^ bits w = sym (pow-add 2 (bits w - n) n) ∙ ap (λ k. 2 ^ k) (omega arith) in
-    let small = half_full w f.sfits in
-    let fewer : q < times = div_below a m times (pow_pos n) (omega arith) in
+    let sum_is : n - k + k ≡ n = omega arith in
+    let whole : times * m ≡ 2 ^ n = sym (pow-add 2 (n - k) k) ∙ ap (λ i. 2 ^ i) sum_is in
+    let fewer : q < times = div_below a m times (pow_pos k) (omega arith) in
     let split = div-add-mod' a m in
-    let below = mod-lt a (pow_pos n) in
-    let sum : times * m ≡ (q + suc (times - suc q)) * m = ap (λ k. k * m) (omega arith) in
-    let is : 2 ^ bits w - suc a ≡ (times - suc q) * m + (m - 1 - r) = omega arith in
+    let below = mod-lt a (pow_pos k) in
+    let sum : times * m ≡ (q + suc (times - suc q)) * m = ap (λ i. i * m) (omega arith) in
+    let is : 2 ^ n - suc a ≡ (times - suc q) * m + (m - 1 - r) = omega arith in
     ap (λ x. x % m) is ∙ mod-mul-add (times - suc q) m (m - 1 - r) (omega arith)
+
+low_of_low : (n k a : ℕ) → k ≤ n → a % 2 ^ n % 2 ^ k ≡ a % 2 ^ k
+low_of_low n k a h =
+    let sum : n ≡ n - k + k = omega arith in
+    ap (λ i. a % 2 ^ i % 2 ^ k) sum ∙ ap (λ x. x % 2 ^ k) (mod-pow-add a (n - k) k)
+    ∙ mod-mul-add (a / 2 ^ k % 2 ^ (n - k)) (2 ^ k) (a % 2 ^ k) (mod-lt a (pow_pos k))
+
+-- the low k bits of the low n bits are the low k bits
+pub low_bits-mod : (n k : ℕ) (z : ℤ) → k ≤ n → low_bits n z % 2 ^ k ≡ low_bits k z
+unfolding low_bits
+low_bits-mod n k (pos a) h = low_of_low n k a h
+low_bits-mod n k (negsuc a) h =
+    let less : 2 ^ n - 1 - a % 2 ^ n ≡ 2 ^ n - suc (a % 2 ^ n) = omega arith in
+    ap (λ x. x % 2 ^ k) less ∙ turned n k (a % 2 ^ n) h (mod-lt a (pow_pos n)) ∙ ap (λ x. 2 ^ k - 1 - x) (low_of_low n k a h)
+
+pub cast_unsigned-mod : (w : Width) (z : ℤ) (k : ℕ) → k ≤ bits w → FitsSigned w z → cast_unsigned w z % 2 ^ k ≡ low_bits k z
+cast_unsigned-mod w z k h f = ap (λ n. n % 2 ^ k) (cast_unsigned-fits w z f) ∙ low_bits-mod (bits w) k z h
+
+-- the reading with a sign has the bits that are read
+low_bits-read : (n k m : ℕ) → k ≤ n → m < 2 ^ n → (t : Bool) → low_bits k (cond t (pos m) (pos m -ℤ pos (2 ^ n))) ≡ m % 2 ^ k
+unfolding low_bits
+low_bits-read n k m h small true = refl
+low_bits-read n k m h small false =
+    ap (low_bits k) (sym (below_zero m (2 ^ n) small)) ∙ omega (arith, turned n k m h small, mod-lt m (pow_pos k))
+
+pub low_bits-signed : (n k : ℕ) (z : ℤ) → k ≤ n → low_bits k (signed n z) ≡ low_bits k z
+unfolding signed
+low_bits-signed n k z h =
+    low_bits-read n k (low_bits n z) h (low_bits-lt n z) (ltb (low_bits n z) (2 ^ (n - 1))) ∙ low_bits-mod n k z h
 
 pub doubled : (n : ℕ) → 0 < n → 2 ^ (n - 1) + 2 ^ (n - 1) ≡ 2 ^ n
 doubled n some =
@@ -93,7 +120,7 @@ mag-signed n z some =
     let h = 2 ^ (n - 1) in
     let double = doubled n some in
     subst (λ (k : ℕ). mag (cond (ltb m h) (pos m) (pos m -ℤ pos k)) < h) double
-      (in_half m h (omega (arith, double, low_bits-lt n z)) (ltb m h) refl)
+    (in_half m h (omega (arith, double, low_bits-lt n z)) (ltb m h) refl)
 
 pub signed-fits : (n : ℕ) (z : ℤ) → 0 < n → n ≤ 32 → FitsSigned w32 (signed n z)
 signed-fits n z some h =

@@ -17,7 +17,7 @@ use Rattle.fm_alu.proofs.Readings.{low_bits-lt, int_wrap-signed, cast_unsigned-f
 min-one : (n : ℕ) → min (suc n) 1 ≡ 1
 min-one n = omega arith
 
-quotient-is : (a b : ℤ) → int_div a b ≡ quotient a b
+pub quotient-is : (a b : ℤ) → int_div a b ≡ quotient a b
 unfolding quotient
 quotient-is (pos zero) (pos b) = omega (arith, ints, zero-div b)
 quotient-is (pos (suc a)) (pos zero) = omega (arith, ints)

@@ -23,8 +23,10 @@ module _ (w : Width) (a : ℤ) (f : FitsSigned w a) (k : ℕ) where
     where
       small : 2 ^ k < 2 ^ bits w
       small = pow_below k (bits w) h
+
       low : cast_unsigned w a < 2 ^ bits w
       low = subst (λ (n : ℕ). n < 2 ^ bits w) (sym (cast_unsigned-fits w a f)) (low_bits-lt (bits w) a)
+
       by : int_wrap w (pos (2 ^ k)) ≡ cast_signed w (2 ^ k) → int_shl w a k ≡ signed (bits w) (a *ℤ pos (2 ^ k))
       by e = wrapping_mul-bits w (cast_unsigned w a) (2 ^ k) low small
           ∙ ap (λ z. int_wrap w (z *ℤ cast_signed w (2 ^ k))) (to_z-of_z w a f)

@@ -1,3 +1,4 @@
+pub mod Laws
 pub mod TwosComplement
 pub mod Operations
 pub mod Shifts

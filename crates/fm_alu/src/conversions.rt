@@ -1,7 +1,8 @@
 // Conversions between kinds of numbers, and the comparison of two longs.
-ghost use Rattle.std.specs.Prelude.{◌≡◌, ◌<◌, ◌≤◌, FitsSigned};
+ghost use Rattle.std.specs.Prelude.{◌≡◌, ◌-◌, ◌^◌, ◌<◌, ◌≤◌, pos, neg_ℤ, ◌<ℤ◌, ◌≤ℤ◌, FitsSigned};
 ghost use Rattle.std.specs.Int.{w32};
 ghost use Rattle.fm_alu.specs.TwosComplement.{signed};
+ghost use Rattle.fm_alu.specs.Laws.{IsCongruent};
 ghost use Rattle.fm_alu.specs.Conversions.{Takes, result_of_conversion, result_of_comparison};
 
 use fm_code::Conv;
@@ -38,7 +39,10 @@ pub fn compare(a: i64, b: i64) -> i32
 fn sign_extend(a: i64, bits: u32) -> i64
     requires some { 0 < bits }
     requires within { bits ≤ 64 }
-    ensures { result ≡ signed bits a }
+    ensures value { result ≡ signed bits a }
+    ensures congruent { IsCongruent bits result a }
+    ensures at_least { neg_ℤ (pos (2 ^ (bits - 1))) ≤ℤ result }
+    ensures below { result <ℤ pos (2 ^ (bits - 1)) }
 {
     let gap = 64 - bits;
     (a << gap) >> gap

@@ -1,8 +1,9 @@
 // Operations on two ints, and shifts of an int.
-ghost use Rattle.std.specs.Prelude.{◌≡◌, ◌↔◌, pos, IsNone};
+ghost use Rattle.std.specs.Prelude.{◌≡◌, ◌^◌, ◌↔◌, pos, IsNone, IfSome};
 ghost use Rattle.fm_alu.specs.TwosComplement.{low_bits};
 ghost use Rattle.fm_alu.specs.Operations.{IsDivision, result_of_op};
 ghost use Rattle.fm_alu.specs.Shifts.{result_of_shift};
+ghost use Rattle.fm_alu.specs.Laws.{IsFloor, Satisfies};
 
 use fm_code::{Op, Shift};
 
@@ -10,6 +11,7 @@ use fm_code::{Op, Shift};
 /// `None` comes for a division by 0 alone.
 pub fn int_op(op: Op, a: i32, b: i32) -> Option<i32>
     ensures value { result ≡ result_of_op op 32 a b }
+    ensures law { IfSome result (Satisfies op 32 a b) }
     ensures none { IsNone result ↔ (IsDivision op × (b ≡ pos 0)) }
 {
     match op {
@@ -27,7 +29,8 @@ pub fn int_op(op: Op, a: i32, b: i32) -> Option<i32>
 
 /// A shift of an int: ishl, ishr and iushr (6.5). The low 5 bits of `n` say by how many bits.
 pub fn int_shift(s: Shift, a: i32, n: i32) -> i32
-    ensures { result ≡ result_of_shift s 32 a (low_bits 5 n) }
+    ensures value { result ≡ result_of_shift s 32 a (low_bits 5 n) }
+    ensures floor { s ≡ Shift.Right → IsFloor a (2 ^ low_bits 5 n) result }
 {
     let count = n.cast_unsigned() % 32;
     match s {

@@ -9,6 +9,8 @@
 mod conversions;
 mod ints;
 mod longs;
+#[cfg(test)]
+mod tests;
 
 pub use conversions::{compare, convert};
 pub use ints::{int_op, int_shift};

@@ -1,6 +1,7 @@
--- Each row by its lemma.
-use Rattle.std.proofs.Common.{rules, w32}
+-- Each row by its lemma, and what the specification says of it from that.
+use Rattle.std.proofs.Common.{rules, sym, w32}
 use Rattle.fm_alu.proofs.Rows.{sum, difference, product, division, remainder-is, conjunction, disjunction, exclusive}
+use Rattle.fm_alu.proofs.Laws.{satisfied}
 use Rattle.fm_alu.proofs.ints.int_op.Goals as goal
 
 pub returns-in-Add-clause-value : goal.returns-in-Add-clause-value
@@ -26,3 +27,27 @@ returns-in-Or-clause-value c = let e = disjunction w32 c.args.a c.args.b c.range
 
 pub returns-in-Xor-clause-value : goal.returns-in-Xor-clause-value
 returns-in-Xor-clause-value c = let e = exclusive w32 c.args.a c.args.b c.ranges.a c.ranges.b in search (rules, e)
+
+pub returns-in-Add-clause-law : goal.returns-in-Add-clause-law
+returns-in-Add-clause-law c = satisfied c.args.op 32 c.args.a c.args.b _ (sym (returns-in-Add-clause-value c))
+
+pub returns-in-Sub-clause-law : goal.returns-in-Sub-clause-law
+returns-in-Sub-clause-law c = satisfied c.args.op 32 c.args.a c.args.b _ (sym (returns-in-Sub-clause-value c))
+
+pub returns-in-Mul-clause-law : goal.returns-in-Mul-clause-law
+returns-in-Mul-clause-law c = satisfied c.args.op 32 c.args.a c.args.b _ (sym (returns-in-Mul-clause-value c))
+
+pub returns-in-Div-2-clause-law : goal.returns-in-Div-2-clause-law
+returns-in-Div-2-clause-law c = satisfied c.args.op 32 c.args.a c.args.b _ (sym (returns-in-Div-2-clause-value c))
+
+pub returns-in-Rem-clause-law : goal.returns-in-Rem-clause-law
+returns-in-Rem-clause-law c = satisfied c.args.op 32 c.args.a c.args.b _ (sym (returns-in-Rem-clause-value c))
+
+pub returns-in-And-clause-law : goal.returns-in-And-clause-law
+returns-in-And-clause-law c = satisfied c.args.op 32 c.args.a c.args.b _ (sym (returns-in-And-clause-value c))
+
+pub returns-in-Or-clause-law : goal.returns-in-Or-clause-law
+returns-in-Or-clause-law c = satisfied c.args.op 32 c.args.a c.args.b _ (sym (returns-in-Or-clause-value c))
+
+pub returns-in-Xor-clause-law : goal.returns-in-Xor-clause-law
+returns-in-Xor-clause-law c = satisfied c.args.op 32 c.args.a c.args.b _ (sym (returns-in-Xor-clause-value c))
