@@ -1,11 +1,10 @@
 -- What a shift to the left and back to the right gives: the low bits, read with a sign.
-use Rattle.std.proofs.Common.{◌≡◌, ℕ, suc, ◌-◌, ◌*◌, ◌/◌, ◌%◌, ◌+◌, ◌^◌, ◌<◌, ◌≤◌, Bool, true, false, cond, ltb, ℤ, pos, negsuc, ◌-ℤ◌, refl, sym, ap, subst, ◌∙◌, arith}
+use Rattle.std.proofs.Common.{◌≡◌, ℕ, suc, ◌-◌, ◌*◌, ◌/◌, ◌%◌, ◌+◌, ◌^◌, ◌<◌, ◌≤◌, Bool, true, false, cond, ltb, ℤ, pos, negsuc, ◌-ℤ◌, refl, sym, ap, ◌∙◌, arith}
 use Rattle.std.specs.Prelude.{FitsSigned, bit_and}
 use Rattle.std.specs.Int.{w64, cast_signed, cast_unsigned, int_shl, int_shr}
 use Rattle.std.proofs.Math.Nat.{mod-lt, mul-le-mul_right, div-add-mod'}
 use Rattle.std.proofs.lemmas.Nat.{pow_pos, pow-add, shl-shr, shr_high, mod-mul-add, and_mask}
 use Rattle.std.proofs.lemmas.Int.{ints, to_z-of_z, to_z_pos}
-use Rattle.std.proofs.lemmas.Bool.Decides.{nat_tests}
 use borrow.Author.Tests.{ltb-true, ltb-false}
 use mir.ValLaws.{to_z-neg, to_z-Fits, Fits-wrap, sfits_le}
 use lib.Signed.{mag_shr}
@@ -30,7 +29,7 @@ back g h m top low false e =
     ∙ ap (λ z. int_shr z g) (to_z-neg w64 k (omega arith))
     ∙ ap negsuc (shr_high j g (2 ^ g - 1) (omega arith)) ∙ omega (arith, ints)
 
--- of a product by 2 ^ g, 2 ^ 64 takes away what 2 ^ n takes away of the number
+-- the low 64 bits of a number moved g places up are its low 64 − g bits, moved
 low_product : (u n g : ℕ) → n + g ≡ 64 → (u * 2 ^ g) % 2 ^ 64 ≡ (u % 2 ^ n) * 2 ^ g
 low_product u n g e =
     let whole : 2 ^ n * 2 ^ g ≡ 2 ^ 64 = sym (pow-add 2 n g) ∙ ap (λ k. 2 ^ k) e in
@@ -43,6 +42,7 @@ low_product u n g e =
     ap (λ x. x % 2 ^ 64) product ∙ ap (λ m. (q * (2 ^ n * 2 ^ g) + r * 2 ^ g) % m) (sym whole)
     ∙ mod-mul-add q (2 ^ n * 2 ^ g) (r * 2 ^ g) (omega arith)
 
+-- up by 64 − n places and back leaves the low n bits, read with a sign
 pub extension : (a : ℤ) (n : ℕ) → FitsSigned w64 a → 0 < n → n ≤ 64
     → cast_signed w64 (cast_unsigned w64 (int_shr (int_shl w64 a (64 - n)) (64 - n))) ≡ signed n a
 unfolding signed
@@ -60,7 +60,7 @@ extension a n f some within =
     ∙ back g h m top (omega (arith, low_bits-lt n a)) (ltb m h) refl
     ∙ ap (λ k. cond (ltb m h) (pos m) (pos m -ℤ pos k)) double
 
--- a mask of 16 ones
+-- a mask of 16 ones leaves the low 16 bits
 pub low_char : (a : ℤ) → FitsSigned w64 a → cast_signed w64 (bit_and (cast_unsigned w64 a) 65535) ≡ pos (low_bits 16 a)
 low_char a f =
     ap (cast_signed w64) (and_mask (cast_unsigned w64 a) 16 ∙ cast_unsigned-mod w64 a 16 (omega arith) f)

@@ -1,12 +1,12 @@
 -- What the machine operations of two ints or longs give, in the words of the definitions.
-use Rattle.std.proofs.Common.{◌≡◌, ℕ, zero, suc, ◌-◌, ◌*◌, ◌/◌, ◌%◌, ◌+◌, ◌^◌, ◌<◌, ◌≤◌, min, ℤ, pos, negsuc, ◌+ℤ◌, ◌-ℤ◌, ◌*ℤ◌, refl, sym, ap, ◌∙◌, arith}
+use Rattle.std.proofs.Common.{◌≡◌, ℕ, zero, suc, ◌+◌, ◌≤◌, min, ℤ, pos, negsuc, ◌+ℤ◌, ◌-ℤ◌, ◌*ℤ◌, ap, ◌∙◌, arith}
 use Rattle.std.specs.Prelude.{unsigned_abs, FitsSigned, bit_and, bit_or, bit_xor, int_div, int_rem}
-use Rattle.std.specs.Int.{Width, cast_signed, cast_unsigned, int_wrap, int_wrapping_add, int_wrapping_sub, int_wrapping_mul, int_wrapping_div, int_bit_and, int_bit_or, int_bit_xor}
+use Rattle.std.specs.Int.{Width, cast_signed, int_wrapping_add, int_wrapping_sub, int_wrapping_mul, int_wrapping_div, int_bit_and, int_bit_or, int_bit_xor}
 use Rattle.std.proofs.Math.Nat.{div-le_self, zero-div, zero-mod}
 use Rattle.std.proofs.lemmas.Nat.{or_lt, xor_lt, and_le_l}
 use Rattle.std.proofs.lemmas.Int.{ints, wrapping_add_is, wrapping_sub_is, wrapping_mul_is}
-use mir.Val.{bits, hbits}
-use mir.ValLaws.{half_full, pow-bits}
+use mir.Val.{bits}
+use mir.ValLaws.{pow-bits}
 use lib.Signed.{mag}
 use Rattle.fm_alu.specs.TwosComplement.{low_bits, signed}
 use Rattle.fm_alu.specs.Operations.{quotient, remainder}
@@ -14,9 +14,11 @@ use Rattle.fm_alu.proofs.Readings.{low_bits-lt, int_wrap-signed, cast_unsigned-f
 
 -- ---- division, by the signs of the two numbers
 
+-- 1 is the sign of a positive number
 min-one : (n : ℕ) → min (suc n) 1 ≡ 1
 min-one n = omega arith
 
+-- std's quotient is the one of the magnitudes and signs
 pub quotient-is : (a b : ℤ) → int_div a b ≡ quotient a b
 unfolding quotient
 quotient-is (pos zero) (pos b) = omega (arith, ints, zero-div b)
@@ -28,6 +30,7 @@ quotient-is (negsuc a) (pos zero) = omega (arith, ints)
 quotient-is (negsuc a) (pos (suc b)) = rw (min-one b) (omega (arith, ints))
 quotient-is (negsuc a) (negsuc b) = omega (arith, ints)
 
+-- std's remainder is the one of the magnitudes, with the sign of the dividend
 pub remainder-is : (a b : ℤ) → int_rem a b ≡ remainder a b
 unfolding remainder
 remainder-is (pos zero) b = omega (arith, ints, zero-mod (unsigned_abs b))
@@ -41,7 +44,7 @@ quotient_below (pos a) (negsuc b) = omega (arith, ints, div-le_self a (suc b))
 quotient_below (negsuc a) (pos b) = omega (arith, ints, div-le_self (suc a) b)
 quotient_below (negsuc a) (negsuc b) = omega (arith, div-le_self (suc a) (suc b))
 
--- ---- the rows
+-- ---- the rows, of two values a and b of a signed type
 
 module _ (w : Width) (a b : ℤ) (f : FitsSigned w a) (g : FitsSigned w b) where
   pub sum : int_wrapping_add w a b ≡ signed (bits w) (a +ℤ b)

@@ -1,9 +1,10 @@
--- The rows of the operations in a second form: what the specification says of a result r.
+-- The results in a second form, as relations: what the specification says of a result r. The clauses
+-- `law` and `floor` of the calls prove it beside the definitions.
 use Rattle.std.specs.Prelude.{◌≡◌, ℕ, ◌+◌, ◌/◌, ◌%◌, ◌^◌, ◌<◌, min, max, ℤ, pos, ◌+ℤ◌, ◌-ℤ◌, ◌*ℤ◌, ◌<ℤ◌, ◌≤ℤ◌, unsigned_abs}
 use Rattle.fm_code.specs.declared.operations.Op.{Op}
 use Rattle.fm_code.specs.declared.operations.Op.TheVariants.{Add, Sub, Mul, Div, Rem, And, Or, Xor}
 use Rattle.fm_alu.specs.TwosComplement.{low_bits}
-use Rattle.fm_alu.specs.Operations.{quotient, remainder}
+use Rattle.fm_alu.specs.Operations.{quotient}
 
 -- x and y differ by a multiple of 2 ^ n
 abbrev pub IsCongruent : ℕ → ℤ → ℤ → Type 0
@@ -13,10 +14,10 @@ IsCongruent n x y = (k : ℤ) × (x ≡ y +ℤ k *ℤ pos (2 ^ n))
 abbrev pub bit : ℤ → ℕ → ℕ
 bit z i = low_bits (i + 1) z / 2 ^ i
 
--- r is what a division of a by b leaves over: r makes up the product of quotient and divisor to a, is
--- smaller than the divisor, and is negative or positive only where a is
+-- r is what the division of a by b leaves over: together with the product of quotient and divisor it
+-- makes a, it is smaller than the divisor, and it is negative or positive only where a is
 pub record IsRemainder (a b r : ℤ) : Type 0 where
-  pub makes_up : quotient a b *ℤ b +ℤ r ≡ a
+  pub makes_dividend : quotient a b *ℤ b +ℤ r ≡ a
   pub smaller : unsigned_abs r < unsigned_abs b
   pub negative : r <ℤ pos 0 → a <ℤ pos 0
   pub positive : pos 0 <ℤ r → pos 0 <ℤ a

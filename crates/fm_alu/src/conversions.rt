@@ -1,5 +1,5 @@
 // Conversions between kinds of numbers, and the comparison of two longs.
-ghost use Rattle.std.specs.Prelude.{◌≡◌, ◌-◌, ◌^◌, ◌<◌, ◌≤◌, pos, neg_ℤ, ◌<ℤ◌, ◌≤ℤ◌, FitsSigned};
+ghost use Rattle.std.specs.Prelude.{◌≡◌, ◌↔◌, ◌-◌, ◌^◌, ◌<◌, ◌≤◌, pos, neg_ℤ, ◌<ℤ◌, ◌≤ℤ◌, FitsSigned};
 ghost use Rattle.std.specs.Int.{w32};
 ghost use Rattle.fm_alu.specs.TwosComplement.{signed};
 ghost use Rattle.fm_alu.specs.Laws.{IsCongruent};
@@ -24,7 +24,8 @@ pub fn convert(c: Conv, a: i64) -> i64
 
 /// The comparison of two longs, lcmp (6.5): 1, 0 or −1 where `a` is greater, equal or less.
 pub fn compare(a: i64, b: i64) -> i32
-    ensures { result ≡ result_of_comparison a b }
+    ensures value { result ≡ result_of_comparison a b }
+    ensures equal { (result ≡ pos 0) ↔ (a ≡ b) }
 {
     if a > b {
         1

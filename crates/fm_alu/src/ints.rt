@@ -8,7 +8,7 @@ ghost use Rattle.fm_alu.specs.Laws.{IsFloor, Satisfies};
 use fm_code::{Op, Shift};
 
 /// The result of an operation on two ints: iadd, isub, imul, idiv, irem, iand, ior and ixor (6.5).
-/// `None` comes for a division by 0 alone.
+/// `None` comes for a division by 0 alone. The negation ineg is the difference of 0 and the number.
 pub fn int_op(op: Op, a: i32, b: i32) -> Option<i32>
     ensures value { result ≡ result_of_op op 32 a b }
     ensures law { IfSome result (Satisfies op 32 a b) }

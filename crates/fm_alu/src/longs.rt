@@ -8,7 +8,7 @@ ghost use Rattle.fm_alu.specs.Laws.{IsFloor, Satisfies};
 use fm_code::{Op, Shift};
 
 /// The result of an operation on two longs: ladd, lsub, lmul, ldiv, lrem, land, lor and lxor (6.5).
-/// `None` comes for a division by 0 alone.
+/// `None` comes for a division by 0 alone. The negation lneg is the difference of 0 and the number.
 pub fn long_op(op: Op, a: i64, b: i64) -> Option<i64>
     ensures value { result ≡ result_of_op op 64 a b }
     ensures law { IfSome result (Satisfies op 64 a b) }

@@ -5,49 +5,21 @@ use fm_code::{Conv, Op, Shift};
 // A row: a and b, the results of add, sub, mul, and, or and xor, and those of div and rem.
 #[test]
 fn int_operations_give_what_a_jvm_gives(rt: HostRuntime) {
+    const MIN: i32 = i32::MIN;
+    const MAX: i32 = i32::MAX;
     let rows: [(i32, i32, [i32; 6], Option<i32>, Option<i32>); 13] = [
+        (MIN, -1, [MAX, -MAX, MIN, MIN, -1, MAX], Some(MIN), Some(0)),
+        (MIN, 1, [-MAX, MAX, MIN, 0, -MAX, -MAX], Some(MIN), Some(0)),
+        (MIN, MIN, [0, 0, 0, MIN, MIN, 0], Some(1), Some(0)),
+        (MIN, MAX, [-1, 1, MIN, 0, -1, -1], Some(-1), Some(-1)),
         (
-            i32::MIN,
-            -1,
-            [i32::MAX, -2147483647, i32::MIN, i32::MIN, -1, i32::MAX],
-            Some(i32::MIN),
-            Some(0),
-        ),
-        (
-            i32::MIN,
+            MAX,
             1,
-            [-2147483647, i32::MAX, i32::MIN, 0, -2147483647, -2147483647],
-            Some(i32::MIN),
+            [MIN, MAX - 1, MAX, 1, MAX, MAX - 1],
+            Some(MAX),
             Some(0),
         ),
-        (
-            i32::MIN,
-            i32::MIN,
-            [0, 0, 0, i32::MIN, i32::MIN, 0],
-            Some(1),
-            Some(0),
-        ),
-        (
-            i32::MIN,
-            i32::MAX,
-            [-1, 1, i32::MIN, 0, -1, -1],
-            Some(-1),
-            Some(-1),
-        ),
-        (
-            i32::MAX,
-            1,
-            [i32::MIN, 2147483646, i32::MAX, 1, i32::MAX, 2147483646],
-            Some(i32::MAX),
-            Some(0),
-        ),
-        (
-            i32::MAX,
-            i32::MAX,
-            [-2, 0, 1, i32::MAX, i32::MAX, 0],
-            Some(1),
-            Some(0),
-        ),
+        (MAX, MAX, [-2, 0, 1, MAX, MAX, 0], Some(1), Some(0)),
         (7, 2, [9, 5, 14, 2, 7, 5], Some(3), Some(1)),
         (-7, 2, [-5, -9, -14, 0, -5, -5], Some(-3), Some(-1)),
         (7, -2, [5, 9, -14, 6, -1, -7], Some(-3), Some(1)),
@@ -71,70 +43,21 @@ fn int_operations_give_what_a_jvm_gives(rt: HostRuntime) {
 // A row: a and b, the results of add, sub, mul, and, or and xor, and those of div and rem.
 #[test]
 fn long_operations_give_what_a_jvm_gives(rt: HostRuntime) {
+    const MIN: i64 = i64::MIN;
+    const MAX: i64 = i64::MAX;
     let rows: [(i64, i64, [i64; 6], Option<i64>, Option<i64>); 14] = [
+        (MIN, -1, [MAX, -MAX, MIN, MIN, -1, MAX], Some(MIN), Some(0)),
+        (MIN, 1, [-MAX, MAX, MIN, 0, -MAX, -MAX], Some(MIN), Some(0)),
+        (MIN, MIN, [0, 0, 0, MIN, MIN, 0], Some(1), Some(0)),
+        (MIN, MAX, [-1, 1, MIN, 0, -1, -1], Some(-1), Some(-1)),
         (
-            i64::MIN,
-            -1,
-            [
-                i64::MAX,
-                -0x7fffffffffffffff,
-                i64::MIN,
-                i64::MIN,
-                -1,
-                i64::MAX,
-            ],
-            Some(i64::MIN),
-            Some(0),
-        ),
-        (
-            i64::MIN,
+            MAX,
             1,
-            [
-                -0x7fffffffffffffff,
-                i64::MAX,
-                i64::MIN,
-                0,
-                -0x7fffffffffffffff,
-                -0x7fffffffffffffff,
-            ],
-            Some(i64::MIN),
+            [MIN, MAX - 1, MAX, 1, MAX, MAX - 1],
+            Some(MAX),
             Some(0),
         ),
-        (
-            i64::MIN,
-            i64::MIN,
-            [0, 0, 0, i64::MIN, i64::MIN, 0],
-            Some(1),
-            Some(0),
-        ),
-        (
-            i64::MIN,
-            i64::MAX,
-            [-1, 1, i64::MIN, 0, -1, -1],
-            Some(-1),
-            Some(-1),
-        ),
-        (
-            i64::MAX,
-            1,
-            [
-                i64::MIN,
-                0x7ffffffffffffffe,
-                i64::MAX,
-                1,
-                i64::MAX,
-                0x7ffffffffffffffe,
-            ],
-            Some(i64::MAX),
-            Some(0),
-        ),
-        (
-            i64::MAX,
-            i64::MAX,
-            [-2, 0, 1, i64::MAX, i64::MAX, 0],
-            Some(1),
-            Some(0),
-        ),
+        (MAX, MAX, [-2, 0, 1, MAX, MAX, 0], Some(1), Some(0)),
         (7, 2, [9, 5, 14, 2, 7, 5], Some(3), Some(1)),
         (-7, 2, [-5, -9, -14, 0, -5, -5], Some(-3), Some(-1)),
         (7, -2, [5, 9, -14, 6, -1, -7], Some(-3), Some(1)),
@@ -165,25 +88,27 @@ fn long_operations_give_what_a_jvm_gives(rt: HostRuntime) {
 // A row: a and the count n, and a << n, a >> n and a >>> n.
 #[test]
 fn int_shifts_give_what_a_jvm_gives(rt: HostRuntime) {
+    const MIN: i32 = i32::MIN;
+    const MAX: i32 = i32::MAX;
     let rows: [(i32, i32, i32, i32, i32); 18] = [
-        (-7, -1, i32::MIN, -1, 1),
-        (i32::MAX, -1, i32::MIN, 0, 0),
+        (-7, -1, MIN, -1, 1),
+        (MAX, -1, MIN, 0, 0),
         (-7, 0, -7, -7, -7),
-        (i32::MAX, 0, i32::MAX, i32::MAX, i32::MAX),
+        (MAX, 0, MAX, MAX, MAX),
         (-7, 1, -14, -4, 2147483644),
-        (i32::MAX, 1, -2, 1073741823, 1073741823),
-        (-7, 31, i32::MIN, -1, 1),
-        (i32::MAX, 31, i32::MIN, 0, 0),
+        (MAX, 1, -2, 1073741823, 1073741823),
+        (-7, 31, MIN, -1, 1),
+        (MAX, 31, MIN, 0, 0),
         (-7, 32, -7, -7, -7),
-        (i32::MAX, 32, i32::MAX, i32::MAX, i32::MAX),
+        (MAX, 32, MAX, MAX, MAX),
         (-7, 33, -14, -4, 2147483644),
-        (i32::MAX, 33, -2, 1073741823, 1073741823),
-        (-7, 63, i32::MIN, -1, 1),
-        (i32::MAX, 63, i32::MIN, 0, 0),
+        (MAX, 33, -2, 1073741823, 1073741823),
+        (-7, 63, MIN, -1, 1),
+        (MAX, 63, MIN, 0, 0),
         (-7, 64, -7, -7, -7),
-        (i32::MAX, 64, i32::MAX, i32::MAX, i32::MAX),
+        (MAX, 64, MAX, MAX, MAX),
         (-7, 65, -14, -4, 2147483644),
-        (i32::MAX, 65, -2, 1073741823, 1073741823),
+        (MAX, 65, -2, 1073741823, 1073741823),
     ];
     for (a, n, left, right, zeros) in rows {
         assert_eq!(rt; int_shift(Shift::Left, a, n), left, "{a} << {n}");
@@ -195,25 +120,27 @@ fn int_shifts_give_what_a_jvm_gives(rt: HostRuntime) {
 // A row: a and the count n, and a << n, a >> n and a >>> n.
 #[test]
 fn long_shifts_give_what_a_jvm_gives(rt: HostRuntime) {
+    const MIN: i64 = i64::MIN;
+    const MAX: i64 = i64::MAX;
     let rows: [(i64, i32, i64, i64, i64); 18] = [
-        (-7, -1, i64::MIN, -1, 1),
-        (i64::MAX, -1, i64::MIN, 0, 0),
+        (-7, -1, MIN, -1, 1),
+        (MAX, -1, MIN, 0, 0),
         (-7, 0, -7, -7, -7),
-        (i64::MAX, 0, i64::MAX, i64::MAX, i64::MAX),
+        (MAX, 0, MAX, MAX, MAX),
         (-7, 1, -14, -4, 0x7ffffffffffffffc),
-        (i64::MAX, 1, -2, 0x3fffffffffffffff, 0x3fffffffffffffff),
+        (MAX, 1, -2, 0x3fffffffffffffff, 0x3fffffffffffffff),
         (-7, 31, -0x380000000, -1, 0x1ffffffff),
-        (i64::MAX, 31, -0x80000000, 0xffffffff, 0xffffffff),
+        (MAX, 31, -0x80000000, 0xffffffff, 0xffffffff),
         (-7, 32, -0x700000000, -1, 0xffffffff),
-        (i64::MAX, 32, -0x100000000, 0x7fffffff, 0x7fffffff),
+        (MAX, 32, -0x100000000, 0x7fffffff, 0x7fffffff),
         (-7, 33, -0xe00000000, -1, 0x7fffffff),
-        (i64::MAX, 33, -0x200000000, 0x3fffffff, 0x3fffffff),
-        (-7, 63, i64::MIN, -1, 1),
-        (i64::MAX, 63, i64::MIN, 0, 0),
+        (MAX, 33, -0x200000000, 0x3fffffff, 0x3fffffff),
+        (-7, 63, MIN, -1, 1),
+        (MAX, 63, MIN, 0, 0),
         (-7, 64, -7, -7, -7),
-        (i64::MAX, 64, i64::MAX, i64::MAX, i64::MAX),
+        (MAX, 64, MAX, MAX, MAX),
         (-7, 65, -14, -4, 0x7ffffffffffffffc),
-        (i64::MAX, 65, -2, 0x3fffffffffffffff, 0x3fffffffffffffff),
+        (MAX, 65, -2, 0x3fffffffffffffff, 0x3fffffffffffffff),
     ];
     for (a, n, left, right, zeros) in rows {
         assert_eq!(rt; long_shift(Shift::Left, a, n), left, "{a} << {n}");
@@ -259,6 +186,8 @@ fn int_conversions_give_what_a_jvm_gives(rt: HostRuntime) {
 // A row: a long, and what l2i makes of it.
 #[test]
 fn long_conversions_give_what_a_jvm_gives(rt: HostRuntime) {
+    const MIN: i64 = i64::MIN;
+    const MAX: i64 = i64::MAX;
     let rows: [(i64, i64); 11] = [
         (0, 0),
         (-1, -1),
@@ -269,8 +198,8 @@ fn long_conversions_give_what_a_jvm_gives(rt: HostRuntime) {
         (-0x80000000, -2147483648),
         (-0x80000001, 2147483647),
         (-0x100000000, 0),
-        (i64::MAX, -1),
-        (i64::MIN, 0),
+        (MAX, -1),
+        (MIN, 0),
     ];
     for (a, int) in rows {
         assert_eq!(rt; convert(Conv::LongToInt, a), int, "int of {a}");
@@ -280,15 +209,17 @@ fn long_conversions_give_what_a_jvm_gives(rt: HostRuntime) {
 // A row: two longs, and what lcmp makes of them.
 #[test]
 fn comparisons_give_what_a_jvm_gives(rt: HostRuntime) {
+    const MIN: i64 = i64::MIN;
+    const MAX: i64 = i64::MAX;
     let rows: [(i64, i64, i32); 12] = [
         (0, 0, 0),
         (0, 1, -1),
         (1, 0, 1),
         (-1, 1, -1),
         (1, -1, 1),
-        (i64::MIN, i64::MAX, -1),
-        (i64::MAX, i64::MIN, 1),
-        (i64::MIN, i64::MIN, 0),
+        (MIN, MAX, -1),
+        (MAX, MIN, 1),
+        (MIN, MIN, 0),
         (0x100000000, 0, 1),
         (0, 0x100000000, -1),
         (0x100000000, 1, 1),

@@ -1,4 +1,4 @@
-use Rattle.std.proofs.Common.{rules, arith, w32, ◌<◌, FitsSigned, subst, sym}
+use Rattle.std.proofs.Common.{rules, arith}
 use Rattle.fm_alu.proofs.Readings.{signed-fits}
 use Rattle.fm_alu.proofs.Extension.{low_char}
 use Rattle.fm_alu.proofs.conversions.convert.Goals as goal
