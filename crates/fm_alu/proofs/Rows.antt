@@ -47,26 +47,26 @@ quotient_below (negsuc a) (negsuc b) = omega (arith, div-le_self (suc a) (suc b)
 -- ---- the rows, of two values a and b of a signed type
 
 module _ (w : Width) (a b : ℤ) (f : FitsSigned w a) (g : FitsSigned w b) where
-  pub sum : int_wrapping_add w a b ≡ signed (bits w) (a +ℤ b)
-  sum = wrapping_add_is w a b f g ∙ int_wrap-signed w (a +ℤ b)
+  pub sum-is : int_wrapping_add w a b ≡ signed (bits w) (a +ℤ b)
+  sum-is = wrapping_add_is w a b f g ∙ int_wrap-signed w (a +ℤ b)
 
-  pub difference : int_wrapping_sub w a b ≡ signed (bits w) (a -ℤ b)
-  difference = wrapping_sub_is w a b f g ∙ int_wrap-signed w (a -ℤ b)
+  pub difference-is : int_wrapping_sub w a b ≡ signed (bits w) (a -ℤ b)
+  difference-is = wrapping_sub_is w a b f g ∙ int_wrap-signed w (a -ℤ b)
 
-  pub product : int_wrapping_mul w a b ≡ signed (bits w) (a *ℤ b)
-  product = wrapping_mul_is w a b f g ∙ int_wrap-signed w (a *ℤ b)
+  pub product-is : int_wrapping_mul w a b ≡ signed (bits w) (a *ℤ b)
+  product-is = wrapping_mul_is w a b f g ∙ int_wrap-signed w (a *ℤ b)
 
-  pub division : int_wrapping_div w a b ≡ signed (bits w) (quotient a b)
-  division = cast_both w (int_div a b) (omega (arith, quotient_below a b, f.sfits, pow-bits w)) ∙ ap (signed (bits w)) (quotient-is a b)
+  pub division-is : int_wrapping_div w a b ≡ signed (bits w) (quotient a b)
+  division-is = cast_both w (int_div a b) (omega (arith, quotient_below a b, f.sfits, pow-bits w)) ∙ ap (signed (bits w)) (quotient-is a b)
 
-  pub conjunction : int_bit_and w a b ≡ signed (bits w) (pos (bit_and (low_bits (bits w) a) (low_bits (bits w) b)))
-  conjunction = (λ i. cast_signed w (bit_and (cast_unsigned-fits w a f i) (cast_unsigned-fits w b g i)))
+  pub conjunction-is : int_bit_and w a b ≡ signed (bits w) (pos (bit_and (low_bits (bits w) a) (low_bits (bits w) b)))
+  conjunction-is = (λ i. cast_signed w (bit_and (cast_unsigned-fits w a f i) (cast_unsigned-fits w b g i)))
       ∙ cast_signed-pos w _ (omega (arith, and_le_l (low_bits (bits w) a) (low_bits (bits w) b), low_bits-lt (bits w) a))
 
-  pub disjunction : int_bit_or w a b ≡ signed (bits w) (pos (bit_or (low_bits (bits w) a) (low_bits (bits w) b)))
-  disjunction = (λ i. cast_signed w (bit_or (cast_unsigned-fits w a f i) (cast_unsigned-fits w b g i)))
+  pub disjunction-is : int_bit_or w a b ≡ signed (bits w) (pos (bit_or (low_bits (bits w) a) (low_bits (bits w) b)))
+  disjunction-is = (λ i. cast_signed w (bit_or (cast_unsigned-fits w a f i) (cast_unsigned-fits w b g i)))
       ∙ cast_signed-pos w _ (or_lt (bits w) _ _ (low_bits-lt (bits w) a) (low_bits-lt (bits w) b))
 
-  pub exclusive : int_bit_xor w a b ≡ signed (bits w) (pos (bit_xor (low_bits (bits w) a) (low_bits (bits w) b)))
-  exclusive = (λ i. cast_signed w (bit_xor (cast_unsigned-fits w a f i) (cast_unsigned-fits w b g i)))
+  pub exclusive-is : int_bit_xor w a b ≡ signed (bits w) (pos (bit_xor (low_bits (bits w) a) (low_bits (bits w) b)))
+  exclusive-is = (λ i. cast_signed w (bit_xor (cast_unsigned-fits w a f i) (cast_unsigned-fits w b g i)))
       ∙ cast_signed-pos w _ (xor_lt (bits w) _ _ (low_bits-lt (bits w) a) (low_bits-lt (bits w) b))

@@ -20,8 +20,8 @@ floor_quotient-is (negsuc a) k = refl
 -- ---- the three shifts of a value a of a signed type by k bits
 
 module _ (w : Width) (a : ℤ) (f : FitsSigned w a) (k : ℕ) where
-  pub left : k < bits w → int_shl w a k ≡ signed (bits w) (a *ℤ pos (2 ^ k))
-  left h = by (int_wrap-signed w (pos (2 ^ k)) ∙ sym (cast_signed-pos w (2 ^ k) small))
+  pub left-is : k < bits w → int_shl w a k ≡ signed (bits w) (a *ℤ pos (2 ^ k))
+  left-is h = by (int_wrap-signed w (pos (2 ^ k)) ∙ sym (cast_signed-pos w (2 ^ k) small))
     where
       small : 2 ^ k < 2 ^ bits w
       small = pow_below k (bits w) h
@@ -35,24 +35,24 @@ module _ (w : Width) (a : ℤ) (f : FitsSigned w a) (k : ℕ) where
           ∙ ap (λ z. int_wrap w (a *ℤ z)) (sym e) ∙ int_wrap-mul_right w a (pos (2 ^ k))
           ∙ int_wrap-signed w _
 
-  pub right : cast_signed w (cast_unsigned w (int_shr (cast_signed w (cast_unsigned w a)) k)) ≡ floor_quotient a (2 ^ k)
-  right = (λ i. cast_signed w (cast_unsigned w (int_shr (to_z-of_z w a f i) k)))
+  pub right-is : cast_signed w (cast_unsigned w (int_shr (cast_signed w (cast_unsigned w a)) k)) ≡ floor_quotient a (2 ^ k)
+  right-is = (λ i. cast_signed w (cast_unsigned w (int_shr (to_z-of_z w a f i) k)))
       ∙ to_z-of_z w (int_shr a k) (sfits_le (mag_shr a (2 ^ k)) f) ∙ floor_quotient-is a k
 
-  pub right_with_zeros : cast_signed w (cast_unsigned w a / 2 ^ k) ≡ signed (bits w) (pos (low_bits (bits w) a / 2 ^ k))
-  right_with_zeros = ap (λ n. cast_signed w (n / 2 ^ k)) (cast_unsigned-fits w a f)
+  pub right_with_zeros-is : cast_signed w (cast_unsigned w a / 2 ^ k) ≡ signed (bits w) (pos (low_bits (bits w) a / 2 ^ k))
+  right_with_zeros-is = ap (λ n. cast_signed w (n / 2 ^ k)) (cast_unsigned-fits w a f)
       ∙ cast_signed-pos w _ (omega (arith, low_bits-lt (bits w) a, shr_le (low_bits (bits w) a) k))
 
 -- ---- the count, as the code takes it from the bits of an int
 
 -- the count's low k bits, from what the code computes
-count : (n : ℤ) (k r : ℕ) → k ≤ 32 → FitsSigned w32 n → r ≡ cast_unsigned w32 (cast_signed w32 (cast_unsigned w32 n)) → r % 2 ^ k ≡ low_bits k n
-count n k r h f e = ap (λ m. m % 2 ^ k) (e ∙ ap (cast_unsigned w32) (to_z-of_z w32 n f)) ∙ cast_unsigned-mod w32 n k h f
+count-is : (n : ℤ) (k r : ℕ) → k ≤ 32 → FitsSigned w32 n → r ≡ cast_unsigned w32 (cast_signed w32 (cast_unsigned w32 n)) → r % 2 ^ k ≡ low_bits k n
+count-is n k r h f e = ap (λ m. m % 2 ^ k) (e ∙ ap (cast_unsigned w32) (to_z-of_z w32 n f)) ∙ cast_unsigned-mod w32 n k h f
 
 -- the count of an int
 pub count_5 : (n : ℤ) (r : ℕ) → FitsSigned w32 n → r ≡ cast_unsigned w32 (cast_signed w32 (cast_unsigned w32 n)) → r % 32 ≡ low_bits 5 n
-count_5 n r f e = count n 5 r (omega arith) f e
+count_5 n r f e = count-is n 5 r (omega arith) f e
 
 -- the count of a long
 pub count_6 : (n : ℤ) (r : ℕ) → FitsSigned w32 n → r ≡ cast_unsigned w32 (cast_signed w32 (cast_unsigned w32 n)) → r % 64 ≡ low_bits 6 n
-count_6 n r f e = count n 6 r (omega arith) f e
+count_6 n r f e = count-is n 6 r (omega arith) f e
