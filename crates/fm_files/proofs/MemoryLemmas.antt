@@ -3,7 +3,7 @@ use Rattle.std.proofs.Common.{◌≡◌, ◌≢◌, Result, Ok, Err, Vec, ℕ, S
 use Rattle.std.specs.FinMap.{get, insert}
 use Rattle.fm_files.specs.Files.{Bytes, OthersAreKept}
 use Rattle.fm_files.specs.Memory.{MemFilesState, after_read, after_write}
-use Rattle.fm_files.specs.Tally.{tally_of, tally_after_read}
+use Rattle.fm_files.specs.Tally.{no_tally, tally_of, tallies_after_read}
 use Rattle.fm_files.specs.declared.faults.FileFail.{FileFail}
 use Rattle.fm_files.specs.declared.faults.FileFail.TheVariants as file_fail
 use Rattle.fm_files.specs.declared.faults.WriteFail.{WriteFail}
@@ -18,16 +18,16 @@ module _ (files : MemFilesState) (name : Bytes) where
   held-after_read limit (Err file_fail.TooLong) = refl
   held-after_read limit (Err file_fail.NoMemory) = refl
 
-  pub tallies-after_read : {Y : Type 0} (limit : ℕ) (answer : Result (Vec ℕ Y) FileFail) → IsSetAt files.tallies (after_read files name limit answer).tallies name (tally_after_read (tally_of files.tallies name) limit answer)
-  tallies-after_read limit (Ok bytes) = IsSetAt-insert _ _ _
-  tallies-after_read limit (Err file_fail.Failed) = IsSetAt-insert _ _ _
-  tallies-after_read limit (Err file_fail.TooLong) = IsSetAt-insert _ _ _
-  tallies-after_read limit (Err file_fail.NoMemory) = IsSetAt-none _ _
+  pub tallies-after_read : {Y : Type 0} (limit : ℕ) (answer : Result (Vec ℕ Y) FileFail) → (after_read files name limit answer).tallies ≡ tallies_after_read files.tallies name limit answer
+  tallies-after_read limit (Ok bytes) = refl
+  tallies-after_read limit (Err file_fail.Failed) = refl
+  tallies-after_read limit (Err file_fail.TooLong) = refl
+  tallies-after_read limit (Err file_fail.NoMemory) = refl
 
-  pub tallies-after_write : {A : Type 0} (bytes : Bytes) (answer : Result A WriteFail) → IsSetAt files.tallies (after_write files name bytes answer).tallies name (tally_after_write (tally_of files.tallies name) answer)
-  tallies-after_write bytes (Ok a) = IsSetAt-none _ _
-  tallies-after_write bytes (Err write_fail.Failed) = IsSetAt-insert _ _ _
-  tallies-after_write bytes (Err write_fail.NoMemory) = IsSetAt-none _ _
+  pub tallies-after_write : {A : Type 0} (bytes : Bytes) (answer : Result A WriteFail) → IsSetAt no_tally files.tallies (after_write files name bytes answer).tallies name (tally_after_write (tally_of files.tallies name) answer)
+  tallies-after_write bytes (Ok a) = IsSetAt-none no_tally _ _
+  tallies-after_write bytes (Err write_fail.Failed) = IsSetAt-insert no_tally _ _ _
+  tallies-after_write bytes (Err write_fail.NoMemory) = IsSetAt-none no_tally _ _
 
   pub held-after_write : {A : Type 0} (bytes : Bytes) (answer : Result A WriteFail) (other : Bytes) → other ≢ name → get (after_write files name bytes answer).held other ≡ get files.held other
   held-after_write bytes (Ok a) other ne = get-insert_other _ _ _ other ne

@@ -1,5 +1,5 @@
 -- What a map keyed by texts says of the finite map from their bytes.
-use Rattle.std.proofs.Common.{◌≡◌, ◌≢◌, ◌⊎◌, ℕ, Bool, true, false, List, [], ◌∷◌, Option, Some, cond, String, string_bytes, sym, refl, ap, ◌∙◌, inl, inr}
+use Rattle.std.proofs.Common.{◌≡◌, ◌≢◌, ◌⊎◌, ℕ, Bool, true, false, List, [], ◌∷◌, Option, Some, IsSome, cond, String, string_bytes, sym, refl, ap, ◌∙◌, inl, inr}
 use Rattle.std.specs.Ordering.{nat_cmp, is_eq, eq_by_cmp}
 use Rattle.std.specs.Cmp.{eq_by_cmp_equiv}
 use Rattle.std.specs.Cmp.Lexicographic.{slice_cmp, nat_list_cmp_total}
@@ -53,3 +53,7 @@ pub get-insert_other : {V : Type 0} (m : ByName V) (k : List ℕ) (v : V) (q : L
 get-insert_other m k v q other =
     get-insert nat_list_cmp_total m k v q
     ∙ ap (λ b. cond b (Some v) (get m q)) (sym (same_test k q) ∙ false_from_ne_true _ (λ same. other (sym ((bytes_eq-Decides k q).0 same))))
+
+-- a name at which a value was inserted is there
+pub IsSome-insert : {V : Type 0} (m : ByName V) (k : List ℕ) (v : V) → IsSome (get (insert m k v) k)
+IsSome-insert m k v = rw get-insert_same refl

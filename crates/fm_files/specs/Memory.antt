@@ -4,7 +4,7 @@ use Rattle.std.specs.FinMap.{get, insert}
 use Rattle.fm_files.specs.Calls.{Calls, after_call}
 use Rattle.fm_files.specs.Files.{Bytes}
 use Rattle.fm_files.specs.Names.{ByName}
-use Rattle.fm_files.specs.Tally.{tally_of, tally_after_read, tally_after_failed_write}
+use Rattle.fm_files.specs.Tally.{tally_of, tallies_after_read, tally_after_failed_write}
 use Rattle.fm_files.specs.declared.tally.Tally.{Tally}
 use Rattle.fm_files.specs.declared.faults.FileFail.{FileFail}
 use Rattle.fm_files.specs.declared.faults.WriteFail.{WriteFail}
@@ -22,8 +22,7 @@ pub record MemFilesState : Type 0 where
 -- what a read leaves, by its answer: it is counted, and so is what it saw
 abbrev pub after_read : {Y : Type 0} → MemFilesState → Bytes → ℕ → Result (Vec ℕ Y) FileFail → MemFilesState
 after_read files name limit (Err file_fail.NoMemory) = files
-after_read files name limit answer =
-    record files { tallies = insert files.tallies name (tally_after_read (tally_of files.tallies name) limit answer); calls = after_call files.calls }
+after_read files name limit answer = record files { tallies = tallies_after_read files.tallies name limit answer; calls = after_call files.calls }
 
 -- what a write leaves, by its answer: where it fails the name holds what it held
 abbrev pub after_write : {A : Type 0} → MemFilesState → Bytes → Bytes → Result A WriteFail → MemFilesState

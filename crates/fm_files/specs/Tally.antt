@@ -1,6 +1,6 @@
 -- The three numbers of a name, and what each answer makes of them.
 use Rattle.std.specs.Prelude.{ℕ, ◌+◌, max, Result, Ok, Err, Vec, vec_len, unwrap_or}
-use Rattle.std.specs.FinMap.{get}
+use Rattle.std.specs.FinMap.{get, insert}
 use Rattle.fm_files.specs.Files.{Bytes, Counts}
 use Rattle.fm_files.specs.Names.{ByName}
 use Rattle.fm_files.specs.declared.tally.Tally.{Tally}
@@ -31,6 +31,11 @@ tally_after_read tally limit (Ok bytes) = record tally { widest_read = max tally
 tally_after_read tally limit (Err file_fail.Failed) = record tally { read_faults = tally.read_faults + 1 }
 tally_after_read tally limit (Err file_fail.TooLong) = record tally { widest_read = max tally.widest_read (limit + 1) }
 tally_after_read tally limit (Err file_fail.NoMemory) = tally
+
+-- the numbers of all names after such a read
+abbrev pub tallies_after_read : {Y : Type 0} → ByName Tally → Bytes → ℕ → Result (Vec ℕ Y) FileFail → ByName Tally
+tallies_after_read tallies name limit (Err file_fail.NoMemory) = tallies
+tallies_after_read tallies name limit answer = insert tallies name (tally_after_read (tally_of tallies name) limit answer)
 
 -- a name's numbers after a write that failed
 abbrev pub tally_after_failed_write : Tally → Tally

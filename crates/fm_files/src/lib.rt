@@ -3,13 +3,18 @@
 
 mod calls;
 mod faults;
+mod folder;
 mod memory;
 mod names;
+mod streams;
 mod sure;
 mod tally;
 mod traits;
+mod transfer;
 
 pub use faults::{FileFail, PutFail, WriteFail};
+pub use folder::FolderFiles;
 pub use memory::{MemFiles, MemSink};
-pub use sure::{SureSink};
+pub use streams::StdSink;
+pub use sure::{SureFiles, SureSink};
 pub use traits::{Files, Sink};

@@ -1,7 +1,8 @@
 // The faults of a name, and the widest read of it.
 
-ghost use Rattle.std.specs.Prelude.{◌≡◌, ◌≢◌, IfOk, OnOk};
-ghost use Rattle.fm_files.specs.Tally.{tally_of, tally_after_read, tally_after_failed_write};
+ghost use Rattle.std.specs.Prelude.{◌≡◌, ◌≢◌, ◌⊎◌, IfOk, OnOk, OnErr, IsSome};
+ghost use Rattle.std.specs.FinMap as map;
+ghost use Rattle.fm_files.specs.Tally.{tally_of, tally_after_read, tallies_after_read, tally_after_failed_write};
 
 use crate::faults::FileFail;
 use crate::names::NameMap;
@@ -58,5 +59,31 @@ impl NameMap<Tally> {
             write_faults: 0,
             widest_read: 0,
         })
+    }
+
+    /// Keeps the numbers of a name, so that they can be set again without memory.
+    pub(crate) fn keep(&mut self, name: &str) -> Result<(), NoMemory>
+        ensures ok { OnOk result (self.new ≡ map.insert self.old name.now (tally_of self.old name.now)) }
+        ensures err { OnErr result (self.new ≡ self.old) }
+    {
+        let tally = self.tally(name);
+        self.insert(name, tally)
+    }
+
+    /// Counts a read of at most `limit` bytes of a name whose numbers are kept, and hands its answer
+    /// on. NoMemory where a count would pass its end.
+    pub(crate) fn count_read(
+        &mut self,
+        name: &str,
+        limit: u32,
+        answer: Result<Vec<u8>, FileFail>,
+    ) -> Result<Vec<u8>, FileFail>
+        requires { IsSome (map.get self.old name.now) }
+        ensures after { self.new ≡ tallies_after_read self.old name.now limit result }
+        ensures answered { (result ≡ answer) ⊎ (result ≡ Err FileFail.NoMemory) }
+    {
+        let tally = self.tally(name).after_read(limit, &answer)?;
+        self.replace(name, tally);
+        answer
     }
 }

@@ -1,14 +1,14 @@
 use Rattle.std.proofs.Common.{Some, ap, ◌∙◌}
 use Rattle.std.specs.FinMap.{get}
 use Rattle.fm_files.specs.Memory.{MemFilesState, after_write}
-use Rattle.fm_files.proofs.TallyLemmas.{read_numbers, write_numbers}
+use Rattle.fm_files.proofs.TallyLemmas.{IsSetAt-after_read, read_numbers, write_numbers}
 use Rattle.fm_files.proofs.MemoryLemmas.{held-after_read, tallies-after_read, tallies-after_write, held-after_write, written-after_write}
 use Rattle.fm_files.proofs.memory.MemFilesFiles.TheImpl.Goals as goal
 
 pub read-tells : goal.read-tells
 read-tells c =
     let old = c.args.self.now in
-    let numbers = read_numbers old.tallies c.new.self.now.tallies c.args.name.now c.args.limit c.result (rw c.ensures.after (tallies-after_read old c.args.name.now c.args.limit c.result)) in
+    let numbers = read_numbers old.tallies c.new.self.now.tallies c.args.name.now c.args.limit c.result (rw (c.ensures.after, tallies-after_read) (IsSetAt-after_read old.tallies c.args.name.now c.args.limit c.result)) in
     record {
       contents_kept = ap (λ (f : MemFilesState). Some (get f.held)) c.ensures.after ∙ ap (λ h. Some (get h)) (held-after_read old c.args.name.now c.args.limit c.result);
       write_faults_kept = numbers.write_faults_kept;
