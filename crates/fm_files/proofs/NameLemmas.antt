@@ -32,7 +32,7 @@ insert-by_bytes k m n v u = same_map nat_list_cmp_total (slice_cmp-IsAntisymmetr
     ∙ btree_map_updates_text k m n (Some v) u q
     ∙ ap (λ b. cond b (Some v) (get_by_text m q)) (same_test k q)
     ∙ sym (get-insert nat_list_cmp_total (from_entries (by_bytes m.entries)) k v q
-      ∙ ap (cond (eq_by_cmp (slice_cmp nat_cmp) q k) (Some v)) (get-by_bytes m q)))
+    ∙ ap (cond (eq_by_cmp (slice_cmp nat_cmp) q k) (Some v)) (get-by_bytes m q)))
 
 -- two names are one or they aren't
 pub same_or_other : (q k : List ℕ) → (q ≡ k) ⊎ (q ≢ k)

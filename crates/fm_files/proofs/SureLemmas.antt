@@ -21,7 +21,7 @@ module _ (files : SureFilesState) (this : Bytes) where
       record {
         widest_read_rises = rises 0 (λ n. n) _ _ this _ set (omega arith);
         seen = omega (arith, set.here);
-        too_long = λ e. absurd (cc)
+        too_long = λ e. absurd (cc);
       }
   sees-after_sure_read limit (Err file_fail.Failed) =
       record { widest_read_rises = rises 0 (λ n. n) files.widest _ this _ (IsSetAt-none 0 _ this) (omega arith); seen = tt; too_long = λ e. absurd (cc) }
@@ -30,7 +30,7 @@ module _ (files : SureFilesState) (this : Bytes) where
       record {
         widest_read_rises = rises 0 (λ n. n) _ _ this _ set (omega arith);
         seen = tt;
-        too_long = λ e. omega (arith, set.here)
+        too_long = λ e. omega (arith, set.here);
       }
   sees-after_sure_read limit (Err file_fail.NoMemory) =
       record { widest_read_rises = rises 0 (λ n. n) files.widest _ this _ (IsSetAt-none 0 _ this) (omega arith); seen = tt; too_long = λ e. absurd (cc) }

@@ -24,7 +24,7 @@ module _ {V : Type 0} (default : V) where
   pub IsSetAt-insert : (old : ByName V) (this : Bytes) (value : V) → IsSetAt old (insert old this value) this value
   IsSetAt-insert old this value = record {
     here = ap (λ v. unwrap_or v default) (get-insert_same old this value);
-    others = λ name other. ap (λ v. unwrap_or v default) (get-insert_other old this value name other)
+    others = λ name other. ap (λ v. unwrap_or v default) (get-insert_other old this value name other);
   }
 
   pub IsSetAt-none : (old : ByName V) (this : Bytes) → IsSetAt old old this (value_of default old this)
@@ -47,7 +47,7 @@ module _ {V : Type 0} (default : V) where
     pub rises : f (value_of default old this) ≤ f value → RisesAt this (λ name. f (value_of default old name)) (λ name. f (value_of default new name))
     rises grows = record {
       never_falls = rw set.here grows;
-      others = λ name other. ap f (set.others name other)
+      others = λ name other. ap f (set.others name other);
     }
 
 -- a read sets the numbers of its own name
@@ -86,7 +86,7 @@ module _ {Y : Type 0} (old new : ByName Tally) (this : Bytes) (limit : ℕ) wher
         seen = omega (arith, widest);
         failed = (λ e. absurd (cc), λ less. absurd (omega (arith, same this)));
         too_long = λ e. absurd (cc);
-        no_memory = λ e. absurd (cc)
+        no_memory = λ e. absurd (cc);
       }
   read_numbers (Err file_fail.Failed) set =
       let more : read_faults_of new this ≡ read_faults_of old this + 1 = ap (λ t. t.read_faults) set.here in
@@ -97,7 +97,7 @@ module _ {Y : Type 0} (old new : ByName Tally) (this : Bytes) (limit : ℕ) wher
         seen = tt;
         failed = (λ e. omega (arith, more), λ less. refl);
         too_long = λ e. absurd (cc);
-        no_memory = λ e. absurd (cc)
+        no_memory = λ e. absurd (cc);
       }
   read_numbers (Err file_fail.TooLong) set =
       let same = kept no_tally (λ t. t.read_faults) old new this _ set refl in
@@ -109,7 +109,7 @@ module _ {Y : Type 0} (old new : ByName Tally) (this : Bytes) (limit : ℕ) wher
         seen = tt;
         failed = (λ e. absurd (cc), λ less. absurd (omega (arith, same this)));
         too_long = λ e. omega (arith, widest);
-        no_memory = λ e. absurd (cc)
+        no_memory = λ e. absurd (cc);
       }
   read_numbers (Err file_fail.NoMemory) set =
       let same = kept no_tally (λ t. t.read_faults) old new this _ set refl in
@@ -120,7 +120,7 @@ module _ {Y : Type 0} (old new : ByName Tally) (this : Bytes) (limit : ℕ) wher
         seen = tt;
         failed = (λ e. absurd (cc), λ less. absurd (omega (arith, same this)));
         too_long = λ e. absurd (cc);
-        no_memory = λ e. (same, kept no_tally (λ t. t.widest_read) old new this _ set refl)
+        no_memory = λ e. (same, kept no_tally (λ t. t.widest_read) old new this _ set refl);
       }
 
 -- a name's numbers after a write, by its answer
@@ -146,7 +146,7 @@ module _ {A : Type 0} (old new : ByName Tally) (this : Bytes) where
         widest_read_kept = kept no_tally (λ t. t.widest_read) old new this _ set refl;
         write_faults_rise = rises no_tally (λ t. t.write_faults) old new this _ set (omega arith);
         failed = (λ e. absurd (cc), λ less. absurd (omega (arith, same this)));
-        no_memory = λ e. same
+        no_memory = λ e. same;
       }
   write_numbers (Err write_fail.Failed) set =
       let more : write_faults_of new this ≡ write_faults_of old this + 1 = ap (λ t. t.write_faults) set.here in
@@ -155,7 +155,7 @@ module _ {A : Type 0} (old new : ByName Tally) (this : Bytes) where
         widest_read_kept = kept no_tally (λ t. t.widest_read) old new this _ set refl;
         write_faults_rise = rises no_tally (λ t. t.write_faults) old new this _ set (omega arith);
         failed = (λ e. omega (arith, more), λ less. refl);
-        no_memory = λ e. absurd (cc)
+        no_memory = λ e. absurd (cc);
       }
   write_numbers (Err write_fail.NoMemory) set =
       let same = kept no_tally (λ t. t.write_faults) old new this _ set refl in
@@ -164,7 +164,7 @@ module _ {A : Type 0} (old new : ByName Tally) (this : Bytes) where
         widest_read_kept = kept no_tally (λ t. t.widest_read) old new this _ set refl;
         write_faults_rise = rises no_tally (λ t. t.write_faults) old new this _ set (omega arith);
         failed = (λ e. absurd (cc), λ less. absurd (omega (arith, same this)));
-        no_memory = λ e. same
+        no_memory = λ e. same;
       }
 
 -- after a write that failed, where a record of the name was made before

@@ -1,7 +1,7 @@
 -- Files and sinks in memory, and what each answer leaves there.
-use Rattle.std.specs.Prelude.{ℕ, ◌+◌, List, [], ◌++◌, Result, Ok, Err, Vec, vec_len, max, unwrap_or}
+use Rattle.std.specs.Prelude.{◌≡◌, ◌≢◌, ◌<◌, ◌≤◌, ◌↔◌, ◌⊎◌, ℕ, ◌+◌, max, List, [], ◌++◌, length, Result, Ok, Err, IfOk, IsErrOf, None, Some, IsSomeAnd, unwrap_or, Vec, vec_len}
 use Rattle.std.specs.FinMap.{get, insert}
-use Rattle.fm_files.specs.Calls.{Calls, after_call}
+use Rattle.fm_files.specs.Calls.{Calls, IsToFail, after_call}
 use Rattle.fm_files.specs.Files.{Bytes}
 use Rattle.fm_files.specs.Names.{ByName}
 use Rattle.fm_files.specs.Tally.{tally_of, tallies_after_read, tally_after_failed_write}
@@ -19,12 +19,22 @@ pub record MemFilesState : Type 0 where
   pub tallies : ByName Tally
   pub calls : Calls
 
--- what a read leaves, by its answer: it is counted, and so is what it saw
+-- what a read of at most `limit` bytes answers, where memory for it can be had
+pub record AnswersRead {Y : Type 0} (files : MemFilesState) (name : Bytes) (limit : ℕ) (answer : Result (Vec ℕ Y) FileFail) : Type 0 where
+  -- the bytes are what the name holds
+  pub held : IfOk answer (λ bytes. get files.held name ≡ Some bytes.items)
+  pub within_limit : IfOk answer (λ bytes. vec_len bytes ≤ limit)
+  -- the name holds more
+  pub too_long : IsErrOf answer file_fail.TooLong → IsSomeAnd (get files.held name) (λ bytes. limit < length bytes)
+  -- the call is to fail, or the name isn't there
+  pub fails : answer ≢ Err file_fail.NoMemory → (IsErrOf answer file_fail.Failed ↔ (IsToFail files.calls ⊎ (get files.held name ≡ None)))
+
+-- what a read leaves, by its answer: it is counted, and so is what it saw. One that wants memory leaves all as it was
 abbrev pub after_read : {Y : Type 0} → MemFilesState → Bytes → ℕ → Result (Vec ℕ Y) FileFail → MemFilesState
 after_read files name limit (Err file_fail.NoMemory) = files
 after_read files name limit answer = record files { tallies = tallies_after_read files.tallies name limit answer; calls = after_call files.calls }
 
--- what a write leaves, by its answer: where it fails the name holds what it held
+-- what a write leaves, by its answer: where it fails the name holds what it held, and all is as it was where it wants memory
 abbrev pub after_write : {A : Type 0} → MemFilesState → Bytes → Bytes → Result A WriteFail → MemFilesState
 after_write files name bytes (Ok _) = record files { held = insert files.held name bytes; calls = after_call files.calls }
 after_write files name bytes (Err write_fail.Failed) =
@@ -37,7 +47,7 @@ pub record MemSinkState : Type 0 where
   pub faults : ℕ
   pub calls : Calls
 
--- what a put of a piece leaves, by its answer: where it fails nothing of the piece came in
+-- what a put of a piece leaves, by its answer: where it fails nothing of the piece came in, and all is as it was where it wants memory
 abbrev pub after_put : {A : Type 0} → MemSinkState → List ℕ → Result A PutFail → MemSinkState
 after_put sink piece (Ok _) = record sink { got = sink.got ++ piece; calls = after_call sink.calls }
 after_put sink piece (Err put_fail.SinkFailed) = record sink { faults = sink.faults + 1; calls = after_call sink.calls }

@@ -1,9 +1,12 @@
 // Why a call on the outside gave up.
 
 ghost use Rattle.std.specs.Prelude.{◌≡◌};
+ghost use Rattle.fm_files.specs.declared.faults.FileFail.TheVariants as file_fail;
+ghost use Rattle.fm_files.specs.declared.faults.PutFail.TheVariants as put_fail;
+ghost use Rattle.fm_files.specs.declared.faults.WriteFail.TheVariants as write_fail;
 
 use fm_base::NoMemory;
-use std::alloc::{AllocError, AllocFailed};
+use std::alloc::AllocError;
 use thiserror::Error;
 
 /// Why a file wasn't read.
@@ -43,8 +46,6 @@ pub enum PutFail {
 }
 
 impl From<NoMemory> for FileFail {
-    ghost use Rattle.fm_files.specs.declared.faults.FileFail.TheVariants as file_fail;
-
     ghost from_gives = { λ _ e. e ≡ file_fail.NoMemory };
 
     fn from(_error: NoMemory) -> FileFail {
@@ -53,8 +54,6 @@ impl From<NoMemory> for FileFail {
 }
 
 impl From<AllocError> for FileFail {
-    ghost use Rattle.fm_files.specs.declared.faults.FileFail.TheVariants as file_fail;
-
     ghost from_gives = { λ _ e. e ≡ file_fail.NoMemory };
 
     fn from(_error: AllocError) -> FileFail {
@@ -62,19 +61,7 @@ impl From<AllocError> for FileFail {
     }
 }
 
-impl<T: Drop> From<AllocFailed<T>> for FileFail {
-    ghost use Rattle.fm_files.specs.declared.faults.FileFail.TheVariants as file_fail;
-
-    ghost from_gives = { λ _ e. e ≡ file_fail.NoMemory };
-
-    fn from(_error: AllocFailed<T>) -> FileFail {
-        FileFail::NoMemory
-    }
-}
-
 impl From<NoMemory> for WriteFail {
-    ghost use Rattle.fm_files.specs.declared.faults.WriteFail.TheVariants as write_fail;
-
     ghost from_gives = { λ _ e. e ≡ write_fail.NoMemory };
 
     fn from(_error: NoMemory) -> WriteFail {
@@ -83,8 +70,6 @@ impl From<NoMemory> for WriteFail {
 }
 
 impl From<AllocError> for WriteFail {
-    ghost use Rattle.fm_files.specs.declared.faults.WriteFail.TheVariants as write_fail;
-
     ghost from_gives = { λ _ e. e ≡ write_fail.NoMemory };
 
     fn from(_error: AllocError) -> WriteFail {
@@ -92,19 +77,7 @@ impl From<AllocError> for WriteFail {
     }
 }
 
-impl<T: Drop> From<AllocFailed<T>> for WriteFail {
-    ghost use Rattle.fm_files.specs.declared.faults.WriteFail.TheVariants as write_fail;
-
-    ghost from_gives = { λ _ e. e ≡ write_fail.NoMemory };
-
-    fn from(_error: AllocFailed<T>) -> WriteFail {
-        WriteFail::NoMemory
-    }
-}
-
 impl From<NoMemory> for PutFail {
-    ghost use Rattle.fm_files.specs.declared.faults.PutFail.TheVariants as put_fail;
-
     ghost from_gives = { λ _ e. e ≡ put_fail.NoMemory };
 
     fn from(_error: NoMemory) -> PutFail {
@@ -113,21 +86,9 @@ impl From<NoMemory> for PutFail {
 }
 
 impl From<AllocError> for PutFail {
-    ghost use Rattle.fm_files.specs.declared.faults.PutFail.TheVariants as put_fail;
-
     ghost from_gives = { λ _ e. e ≡ put_fail.NoMemory };
 
     fn from(_error: AllocError) -> PutFail {
-        PutFail::NoMemory
-    }
-}
-
-impl<T: Drop> From<AllocFailed<T>> for PutFail {
-    ghost use Rattle.fm_files.specs.declared.faults.PutFail.TheVariants as put_fail;
-
-    ghost from_gives = { λ _ e. e ≡ put_fail.NoMemory };
-
-    fn from(_error: AllocFailed<T>) -> PutFail {
         PutFail::NoMemory
     }
 }

@@ -9,6 +9,8 @@ mod names;
 mod streams;
 mod sure;
 mod tally;
+#[cfg(test)]
+mod tests;
 mod traits;
 mod transfer;
 

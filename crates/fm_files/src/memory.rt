@@ -1,9 +1,9 @@
 // Files and sinks in memory, with calls that are to fail.
 
-ghost use Rattle.std.specs.Prelude.{◌≡◌, ◌≢◌, ◌<◌, ◌≤◌, ◌↔◌, ◌⊎◌, [], None, Some, length, vec_len, option_copied, unwrap_or, IfOk, OnOk, OnErr, IsErrOf, IsSomeAnd};
+ghost use Rattle.std.specs.Prelude.{◌≡◌, ◌≢◌, ◌↔◌, [], Some, option_copied, OnOk, OnErr, IsErrOf};
 ghost use Rattle.std.specs.FinMap as map;
 ghost use Rattle.fm_files.specs.Calls.{IsToFail};
-ghost use Rattle.fm_files.specs.Memory.{after_read, after_write, after_put};
+ghost use Rattle.fm_files.specs.Memory.{AnswersRead, after_read, after_write, after_put};
 ghost use Rattle.fm_files.specs.Tally.{read_faults_of, write_faults_of, widest_read_of};
 
 use crate::calls::CountedCalls;
@@ -68,12 +68,9 @@ impl MemFiles {
         }
     }
 
-    // The answer of a read, and NoMemory where a copy of the bytes can't be had.
+    // What a read answers. NoMemory where a copy of the bytes can't be had.
     fn look_up(&self, alloc: Global, name: &str, limit: u32) -> Result<Vec<u8>, FileFail>
-        ensures found { IfOk result (λ bytes. map.get self.now.held name.now ≡ Some bytes.items) }
-        ensures within_limit { IfOk result (λ bytes. vec_len bytes ≤ limit) }
-        ensures too_long { IsErrOf result FileFail.TooLong → IsSomeAnd (map.get self.now.held name.now) (λ bytes. limit < length bytes) }
-        ensures fails { result ≢ Err FileFail.NoMemory → (IsErrOf result FileFail.Failed ↔ (IsToFail self.now.calls ⊎ (map.get self.now.held name.now ≡ None))) }
+        ensures { AnswersRead self.now name.now limit result }
     {
         if self.calls.is_to_fail() {
             return Err(FileFail::Failed);
@@ -97,10 +94,7 @@ impl Files for MemFiles {
 
     fn read(&mut self, alloc: Global, name: &str, limit: u32) -> Result<Vec<u8>, FileFail>
         ensures after { self.new ≡ after_read self.old name.now limit result }
-        ensures found { IfOk result (λ bytes. map.get self.old.held name.now ≡ Some bytes.items) }
-        ensures within_limit { IfOk result (λ bytes. vec_len bytes ≤ limit) }
-        ensures too_long { IsErrOf result FileFail.TooLong → IsSomeAnd (map.get self.old.held name.now) (λ bytes. limit < length bytes) }
-        ensures fails { result ≢ Err FileFail.NoMemory → (IsErrOf result FileFail.Failed ↔ (IsToFail self.old.calls ⊎ (map.get self.old.held name.now ≡ None))) }
+        ensures answers { AnswersRead self.old name.now limit result }
     {
         let answer = self.look_up(alloc, name, limit);
         let tally = self.tallies.tally(name).after_read(limit, &answer)?;

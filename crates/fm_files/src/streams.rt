@@ -10,12 +10,14 @@ use std::io;
 use std::io::{Stderr, Stdout};
 use std::marker::Model;
 
+#[derive(Drop)]
 enum Stream {
     Output(Stdout),
     Error(Stderr),
 }
 
 /// Standard output or standard error. Contracts see how many puts failed, and nothing of the bytes.
+#[derive(Drop)]
 pub struct StdSink {
     stream: Stream,
     faults: u64,

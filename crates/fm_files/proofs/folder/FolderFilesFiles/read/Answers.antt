@@ -23,5 +23,5 @@ returns g c =
       failed = numbers.failed;
       too_long = numbers.too_long;
       too_long_told = λ _. tt;
-      no_memory = numbers.no_memory
+      no_memory = numbers.no_memory;
     }

@@ -19,7 +19,7 @@ returns-in-Ok g c =
       others_kept = search rules;
       written = search rules;
       failed = numbers.failed;
-      no_memory = λ e. absurd (cc)
+      no_memory = λ e. absurd (cc);
     }
 
 pub returns-in-Err : goal.returns-in-Err
@@ -34,5 +34,5 @@ returns-in-Err g c =
       others_kept = search rules;
       written = search rules;
       failed = numbers.failed;
-      no_memory = λ e. absurd (cc)
+      no_memory = λ e. absurd (cc);
     }

@@ -14,13 +14,13 @@ read-tells c =
       write_faults_kept = numbers.write_faults_kept;
       read_faults_rise = numbers.read_faults_rise;
       widest_read_rises = numbers.widest_read_rises;
-      within_limit = c.ensures.within_limit;
+      within_limit = c.ensures.answers.within_limit;
       seen = numbers.seen;
-      told = c.ensures.found;
+      told = c.ensures.answers.held;
       failed = numbers.failed;
       too_long = numbers.too_long;
-      too_long_told = c.ensures.too_long;
-      no_memory = numbers.no_memory
+      too_long_told = c.ensures.answers.too_long;
+      no_memory = numbers.no_memory;
     }
 
 pub write-tells : goal.write-tells
@@ -34,5 +34,5 @@ write-tells c =
       others_kept = λ name other. rw c.ensures.after (held-after_write old c.args.name.now c.args.bytes.now c.result name other);
       written = rw c.ensures.after (written-after_write old c.args.name.now c.args.bytes.now c.result);
       failed = numbers.failed;
-      no_memory = λ e. (ap (λ (f : MemFilesState). Some (get f.held)) (c.ensures.after ∙ ap (after_write old c.args.name.now c.args.bytes.now) e), numbers.no_memory e)
+      no_memory = λ e. (ap (λ (f : MemFilesState). Some (get f.held)) (c.ensures.after ∙ ap (after_write old c.args.name.now c.args.bytes.now) e), numbers.no_memory e);
     }

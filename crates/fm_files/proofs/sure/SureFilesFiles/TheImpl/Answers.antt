@@ -16,7 +16,7 @@ read-tells c =
       failed = search rules;
       too_long = sees.too_long;
       too_long_told = search rules;
-      no_memory = search rules
+      no_memory = search rules;
     }
 
 pub write-tells : goal.write-tells
@@ -30,5 +30,5 @@ write-tells c =
       others_kept = λ name other. ap Some (others-sure_write old new c.args.name.now c.args.bytes.now c.result c.ensures.ok c.ensures.err name other);
       written = search (rules, written-sure_write old new c.args.name.now c.args.bytes.now c.result c.ensures.ok);
       failed = search rules;
-      no_memory = search rules
+      no_memory = search rules;
     }
