@@ -1,7 +1,7 @@
 -- What an answer of files in memory says of the three numbers and of the contents.
 use Rattle.std.proofs.Common.{◌≡◌, ◌≢◌, Result, Ok, Err, Vec, ℕ, Some, OnOk, refl}
-use Rattle.std.specs.FinMap.{get, insert}
-use Rattle.fm_files.specs.Files.{Bytes, OthersAreKept}
+use Rattle.std.specs.FinMap.{get}
+use Rattle.fm_files.specs.Files.{Bytes}
 use Rattle.fm_files.specs.Memory.{MemFilesState, after_read, after_write}
 use Rattle.fm_files.specs.Tally.{no_tally, tally_of, tallies_after_read}
 use Rattle.fm_files.specs.declared.faults.FileFail.{FileFail}

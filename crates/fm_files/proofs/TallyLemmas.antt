@@ -1,5 +1,5 @@
 -- What the three numbers of all names are once those of one name were set.
-use Rattle.std.proofs.Common.{◌≡◌, ◌≢◌, ◌⊎◌, ◌<◌, ◌≤◌, ◌+◌, ◌↔◌, ℕ, Result, Ok, Err, Vec, vec_len, max, unwrap_or, IfOk, IsErrOf, sym, refl, ap, ◌∙◌, ⊎_elim, arith}
+use Rattle.std.proofs.Common.{◌≡◌, ◌≢◌, ◌<◌, ◌≤◌, ◌+◌, ◌↔◌, ℕ, Result, Ok, Err, Vec, vec_len, max, unwrap_or, IfOk, IsErrOf, sym, refl, ap, ◌∙◌, ⊎_elim, arith}
 use Rattle.std.specs.FinMap.{get, insert}
 use Rattle.fm_files.specs.Files.{Bytes, AreKept, RisesAt}
 use Rattle.fm_files.specs.Names.{ByName}

@@ -4,4 +4,5 @@ pub mod Files
 pub mod Memory
 pub mod Names
 pub mod Sink
+pub mod Streams
 pub mod Tally

@@ -1,4 +1,13 @@
-// Files and sinks.
+// The outside: files by name, and sinks of bytes.
+//
+// The traits `Files` and `Sink` say what the programs may know of it: what each name holds and what a
+// sink got, where an implementation tells it, and how many calls failed, by name or sink. The layers
+// above are generic over the traits. They use that a call answers a failure exactly where the count
+// rose, that no count falls, and that a call changes its own name alone.
+//
+// `MemFiles` and `MemSink` are in memory and fail at the calls that are named; `SureFiles` and
+// `SureSink` never fail. All four tell their contents. `FolderFiles` and `StdSink` are the files and
+// the streams of the system, which tell nothing.
 #![tactic(auto)]
 
 mod calls;

@@ -1,6 +1,6 @@
 // Values by name.
 
-ghost use Rattle.std.specs.Prelude.{◌≡◌, OnOk, OnErr, IsSome, option_copied};
+ghost use Rattle.std.specs.Prelude.{◌≡◌, OnOk, OnErr, IsSome, IsOk, option_copied};
 ghost use Rattle.std.specs.FinMap as map;
 
 use fm_base::NoMemory;
@@ -47,13 +47,18 @@ impl<V> NameMap<V> {
         self.entries.get(name)
     }
 
-    /// Gives the name its value.
+    /// Gives the name its value. Takes no memory where the map has the name.
     pub(crate) fn insert(&mut self, name: &str, value: V) -> Result<(), NoMemory>
     where
         V: Drop,
         ensures ok { OnOk result (self.new ≡ map.insert self.old name.now value) }
         ensures err { OnErr result (self.new ≡ self.old) }
+        ensures known { IsSome (map.get self.old name.now) → IsOk result }
     {
+        if self.get(name).is_some() {
+            self.replace(name, value);
+            return Ok(());
+        }
         let key = String::from_str(self.alloc, name)?;
         self.entries.insert(key, value)?;
         Ok(())

@@ -7,64 +7,57 @@ use crate::traits::Sink;
 use crate::transfer::write_whole;
 use std::alloc::Global;
 use std::io;
-use std::io::{Stderr, Stdout};
 use std::marker::Model;
 
-#[derive(Drop)]
-enum Stream {
-    Output(Stdout),
-    Error(Stderr),
-}
-
-/// Standard output or standard error. Contracts see how many puts failed, and nothing of the bytes.
+/// Standard output or standard error. Contracts see which, and how many puts failed, and nothing of
+/// the bytes.
 #[derive(Drop)]
 pub struct StdSink {
-    stream: Stream,
+    rt: HostRuntime,
+    error: bool,
     faults: u64,
 }
 
 impl Model for StdSink {
-    ghost use Rattle.std.specs.Prelude.{ℕ};
+    ghost use Rattle.fm_files.specs.Streams.{StdSinkState};
 
-    ghost Value = { ℕ };
+    ghost Value = { StdSinkState };
 
-    ghost view = { λ s. s.faults };
+    ghost view = { λ s. record { is_error = s.error; faults = s.faults } };
 }
 
 impl StdSink {
     /// Standard error where `error` is true, and else standard output. Takes no memory.
     pub fn new(rt: HostRuntime, error: bool) -> StdSink
-        ensures { result ≡ 0 }
+        ensures { result ≡ record { is_error = error; faults = 0 } }
     {
-        let stream = if error {
-            Stream::Error(rt.stderr())
+        StdSink {
+            rt,
+            error,
+            faults: 0,
+        }
+    }
+
+    fn write(&self, bytes: &[u8]) -> io::Result<()> {
+        if self.error {
+            write_whole(&mut self.rt.stderr(), bytes)
         } else {
-            Stream::Output(rt.stdout())
-        };
-        StdSink { stream, faults: 0 }
+            write_whole(&mut self.rt.stdout(), bytes)
+        }
     }
 }
 
 impl Sink for StdSink {
-    ghost faults = { λ s. s };
+    ghost faults = { λ s. s.faults };
 
     ghost got = { λ _. None };
 
     fn put(&mut self, _alloc: Global, bytes: &[u8]) -> Result<(), PutFail> {
         let after_failure = self.faults.checked_add(1).ok_or(PutFail::NoMemory)?;
-        match write_to(&mut self.stream, bytes) {
-            Ok(()) => Ok(()),
-            Err(_) => {
-                self.faults = after_failure;
-                Err(PutFail::SinkFailed)
-            }
+        if self.write(bytes).is_err() {
+            self.faults = after_failure;
+            return Err(PutFail::SinkFailed);
         }
-    }
-}
-
-fn write_to(stream: &mut Stream, bytes: &[u8]) -> io::Result<()> {
-    match stream {
-        Stream::Output(output) => write_whole(output, bytes),
-        Stream::Error(error) => write_whole(error, bytes),
+        Ok(())
     }
 }

@@ -9,8 +9,9 @@ use std::alloc::Global;
 
 /// Files by name. Clauses speak of a name by its bytes.
 ///
-/// The ghost members are read off the value alone. So code that is generic over this trait can't
-/// make a count rise by itself: only a call that failed does.
+/// The ghost members are read off the value alone, so code that is generic over this trait can't make
+/// a count rise by itself: the calls below are all that it has. A failure that can't be counted any
+/// more, since the count stands at its end, is answered NoMemory.
 pub trait Files {
     /// For each name how many reads of it failed.
     ghost read_faults: { Self → Counts };
@@ -24,9 +25,10 @@ pub trait Files {
     /// What each name holds, where the implementation tells it.
     ghost contents: { Self → Contents };
 
-    /// The bytes of the name, where there are at most `limit`.
+    /// The bytes of the name, where there are at most `limit`, and TooLong where there are more. Where
+    /// contents are told, a name that isn't there is Failed or NoMemory.
     fn read(&mut self, alloc: Global, name: &str, limit: u32) -> Result<Vec<u8>, FileFail>
-        // Of its own name a read may raise two numbers. It changes nothing else.
+        // Of its own name a read may raise the read faults and the widest read. It changes nothing else.
         ensures contents_kept { contents self.new ≡ contents self.old }
         ensures write_faults_kept { AreKept (write_faults self.old) (write_faults self.new) }
         ensures read_faults_rise { RisesAt name.now (read_faults self.old) (read_faults self.new) }
@@ -47,7 +49,7 @@ pub trait Files {
             → AreKept (read_faults self.old) (read_faults self.new)
             × AreKept (widest_read self.old) (widest_read self.new) };
 
-    /// Makes the name hold these bytes alone.
+    /// Makes the name hold these bytes alone. After Failed it may hold anything.
     fn write(&mut self, alloc: Global, name: &str, bytes: &[u8]) -> Result<(), WriteFail>
         // Of its own name a write may raise the write faults and change the content. It changes
         // nothing else.
@@ -67,8 +69,9 @@ pub trait Files {
 
 /// What takes bytes in order.
 ///
-/// The ghost members are read off the value alone. So code that is generic over this trait can't
-/// make the count rise by itself: only a put that failed does.
+/// The ghost members are read off the value alone, so code that is generic over this trait can't make
+/// the count rise by itself: the call below is all that it has. A failure that can't be counted any
+/// more, since the count stands at its end, is answered NoMemory.
 pub trait Sink {
     /// How many puts failed.
     ghost faults: { Self → ℕ };
@@ -76,7 +79,7 @@ pub trait Sink {
     /// The bytes that it got, where the implementation tells them.
     ghost got: { Self → Got };
 
-    /// Appends the bytes.
+    /// Appends the bytes. After SinkFailed the sink may have got their front.
     fn put(&mut self, alloc: Global, bytes: &[u8]) -> Result<(), PutFail>
         ensures never_falls { faults self.old ≤ faults self.new }
         ensures appended { OnOk result (Appends bytes.now (got self.old) (got self.new)) }

@@ -1,4 +1,4 @@
-use Rattle.std.proofs.Common.{Ok, Err, sym, ap, ◌∙◌, rules}
+use Rattle.std.proofs.Common.{Ok, Err, refl, ap, ◌∙◌, rules}
 use Rattle.fm_files.specs.declared.faults.WriteFail.TheVariants.{Failed}
 use Rattle.fm_files.specs.Tally.{tally_after_failed_write}
 use Rattle.fm_files.proofs.NameLemmas.{IsSome-insert}
@@ -19,7 +19,7 @@ returns-in-Ok g c =
       others_kept = search rules;
       written = search rules;
       failed = numbers.failed;
-      no_memory = λ e. absurd (cc);
+      no_memory = λ e. (refl, numbers.no_memory e);
     }
 
 pub returns-in-Err : goal.returns-in-Err
@@ -34,5 +34,5 @@ returns-in-Err g c =
       others_kept = search rules;
       written = search rules;
       failed = numbers.failed;
-      no_memory = λ e. absurd (cc);
+      no_memory = λ e. (refl, numbers.no_memory e);
     }
