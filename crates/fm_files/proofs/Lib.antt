@@ -1,0 +1,5 @@
+pub mod MemoryLemmas
+pub mod NameLemmas
+pub mod SureLemmas
+pub mod TallyLemmas
+pub mod TransferLemmas

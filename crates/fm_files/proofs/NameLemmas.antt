@@ -1,0 +1,59 @@
+-- What a map keyed by texts says of the finite map from their bytes.
+use Rattle.std.proofs.Common.{◌≡◌, ◌≢◌, ◌⊎◌, ℕ, Bool, true, false, List, [], ◌∷◌, Some, IsSome, cond, String, string_bytes, sym, refl, ap, ◌∙◌, inl, inr}
+use Rattle.std.specs.Ordering.{nat_cmp, is_eq, eq_by_cmp}
+use Rattle.std.specs.Cmp.{eq_by_cmp_equiv}
+use Rattle.std.specs.Cmp.Lexicographic.{slice_cmp, nat_list_cmp_total}
+use Rattle.std.specs.BTreeMap.{BTreeMap, UpdatesBy, get_by_text, is_at}
+use Rattle.std.specs.FinMap.{get, insert, find, from_entries, get-from_entries, get-insert, same_map, nat_cmp-IsAntisymmetric, slice_cmp-IsAntisymmetric}
+use Rattle.std.specs.Map.{lookup}
+use Rattle.std.specs.Str.{bytes_eq}
+use Rattle.std.specs.String.{string_cmp}
+use Rattle.std.proofs.lemmas.Bool.{false_from_ne_true}
+use Rattle.std.proofs.lemmas.Slice.Eq.{bytes_eq-Decides}
+use Rattle.std.proofs.lemmas.Map.Text.{is_eq-slice_cmp, btree_map_updates_text}
+use Rattle.fm_files.specs.Names.{ByName, by_bytes}
+
+-- looking a name up among the bytes is looking its text up
+find-by_bytes : {Y V : Type 0} (es : List (String Y × V)) (q : List ℕ) → find (slice_cmp nat_cmp) q (by_bytes es) ≡ lookup (is_at (λ k. slice_cmp nat_cmp q (string_bytes k))) es
+find-by_bytes [] q = refl
+find-by_bytes (e ∷ es) q = ap (cond (is_eq (slice_cmp nat_cmp q (string_bytes e.0))) (Some e.1)) (find-by_bytes es q)
+
+-- the finite map has at a name what the map keyed by texts has there
+pub get-by_bytes : {Y V : Type 0} (m : BTreeMap (String Y) V) (q : List ℕ) → get (from_entries {R = slice_cmp nat_cmp} (by_bytes m.entries)) q ≡ get_by_text m q
+get-by_bytes m q = get-from_entries nat_list_cmp_total (by_bytes m.entries) q ∙ find-by_bytes m.entries q
+
+same_test : (k q : List ℕ) → bytes_eq k q ≡ eq_by_cmp (slice_cmp nat_cmp) q k
+same_test k q = sym (is_eq-slice_cmp k q) ∙ (eq_by_cmp_equiv nat_list_cmp_total).symm k q
+
+-- a map keyed by texts with one value changed is the finite map with that value inserted
+pub insert-by_bytes : {Y V : Type 0} (k : List ℕ) (m n : BTreeMap (String Y) V) (v : V) → UpdatesBy string_cmp (λ x. slice_cmp nat_cmp k (string_bytes x)) m n (Some v) → from_entries {R = slice_cmp nat_cmp} (by_bytes n.entries) ≡ insert (from_entries (by_bytes m.entries)) k v
+insert-by_bytes k m n v u = same_map nat_list_cmp_total (slice_cmp-IsAntisymmetric nat_cmp-IsAntisymmetric) _ _ (λ q.
+    get-by_bytes n q
+    ∙ btree_map_updates_text k m n (Some v) u q
+    ∙ ap (λ b. cond b (Some v) (get_by_text m q)) (same_test k q)
+    ∙ sym (get-insert nat_list_cmp_total (from_entries (by_bytes m.entries)) k v q
+    ∙ ap (cond (eq_by_cmp (slice_cmp nat_cmp) q k) (Some v)) (get-by_bytes m q)))
+
+-- two names are one or they aren't
+pub same_or_other : (q k : List ℕ) → (q ≡ k) ⊎ (q ≢ k)
+same_or_other q k = go (bytes_eq q k) refl
+  where
+    go : (b : Bool) → bytes_eq q k ≡ b → (q ≡ k) ⊎ (q ≢ k)
+    go true e = inl ((bytes_eq-Decides q k).0 e)
+    go false e = inr (λ same. let yes = (bytes_eq-Decides q k).1 same in cc)
+
+-- what was inserted at a name
+pub get-insert_same : {V : Type 0} (m : ByName V) (k : List ℕ) (v : V) → get (insert m k v) k ≡ Some v
+get-insert_same m k v =
+    get-insert nat_list_cmp_total m k v k
+    ∙ ap (λ b. cond b (Some v) (get m k)) (sym (same_test k k) ∙ (bytes_eq-Decides k k).1 refl)
+
+-- at every other name nothing changed
+pub get-insert_other : {V : Type 0} (m : ByName V) (k : List ℕ) (v : V) (q : List ℕ) → q ≢ k → get (insert m k v) q ≡ get m q
+get-insert_other m k v q other =
+    get-insert nat_list_cmp_total m k v q
+    ∙ ap (λ b. cond b (Some v) (get m q)) (sym (same_test k q) ∙ false_from_ne_true _ (λ same. other (sym ((bytes_eq-Decides k q).0 same))))
+
+-- a name at which a value was inserted is there
+pub IsSome-insert : {V : Type 0} (m : ByName V) (k : List ℕ) (v : V) → IsSome (get (insert m k v) k)
+IsSome-insert m k v = rw get-insert_same refl

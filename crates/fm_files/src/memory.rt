@@ -1,0 +1,178 @@
+// Files and sinks in memory, with calls that are to fail.
+
+ghost use Rattle.std.specs.Prelude.{◌≡◌, ◌≢◌, ◌↔◌, [], Some, option_copied, OnOk, OnErr, IsErrOf};
+ghost use Rattle.std.specs.FinMap as map;
+ghost use Rattle.fm_files.specs.Calls.{IsToFail};
+ghost use Rattle.fm_files.specs.Memory.{AnswersRead, after_read, after_write, after_put};
+ghost use Rattle.fm_files.specs.Tally.{read_faults_of, write_faults_of, widest_read_of};
+
+use crate::calls::CountedCalls;
+use crate::faults::{FileFail, PutFail, WriteFail};
+use crate::names::NameMap;
+use crate::tally::Tally;
+use crate::traits::{Files, Sink};
+use fm_base::{NoMemory, Seq};
+use std::alloc::Global;
+use std::marker::Model;
+
+/// Files in memory. Contracts see what each name holds, the numbers of each name, and the calls.
+#[derive(Drop)]
+pub struct MemFiles {
+    alloc: Global,
+    held: NameMap<Seq<u8>>,
+    tallies: NameMap<Tally>,
+    calls: CountedCalls,
+}
+
+impl Model for MemFiles {
+    ghost use Rattle.fm_files.specs.Codes.{coded_mem_files};
+    ghost use Rattle.fm_files.specs.Memory.{MemFilesState};
+
+    ghost Value = { MemFilesState };
+
+    ghost coded = { coded_mem_files };
+
+    ghost view = { λ f. record { held = f.held; tallies = f.tallies; calls = f.calls } };
+}
+
+impl MemFiles {
+    /// Files that hold no name. `failing` has the numbers of the calls that are to fail, where reads
+    /// and writes are counted together, from 1. Takes no memory.
+    pub fn new(alloc: Global, failing: Vec<u32>) -> MemFiles
+        ensures { result ≡ record { held = map.empty; tallies = map.empty; calls = record { made = 0; failing = failing.items } } }
+    {
+        MemFiles {
+            alloc,
+            held: NameMap::new(alloc),
+            tallies: NameMap::new(alloc),
+            calls: CountedCalls::new(failing),
+        }
+    }
+
+    /// Gives a name its bytes. This is no call, and can't fail but for want of memory.
+    pub fn add(&mut self, name: &str, bytes: &[u8]) -> Result<(), NoMemory>
+        ensures ok { OnOk result (self.new ≡ record self.old { held = map.insert self.old.held name.now bytes.now }) }
+        ensures err { OnErr result (self.new ≡ self.old) }
+    {
+        let content = Vec::from_slice(self.alloc, bytes)?;
+        self.held.insert(name, Seq::new(content))
+    }
+
+    /// What the name holds. None exactly where it isn't there.
+    pub fn bytes(&self, name: &str) -> Option<&[u8]>
+        ensures { option_copied result ≡ map.get self.now.held name.now }
+    {
+        match self.held.get(name) {
+            Some(content) => Some(content.as_slice()),
+            None => None,
+        }
+    }
+
+    // What a read answers. NoMemory where a copy of the bytes can't be had.
+    fn look_up(&self, alloc: Global, name: &str, limit: u32) -> Result<Vec<u8>, FileFail>
+        ensures { AnswersRead self.now name.now limit result }
+    {
+        if self.calls.is_to_fail() {
+            return Err(FileFail::Failed);
+        }
+        match self.bytes(name) {
+            None => Err(FileFail::Failed),
+            Some(bytes) if bytes.len() > limit as usize => Err(FileFail::TooLong),
+            Some(bytes) => Ok(Vec::from_slice(alloc, bytes)?),
+        }
+    }
+}
+
+impl Files for MemFiles {
+    ghost read_faults = { λ f. read_faults_of f.tallies };
+
+    ghost write_faults = { λ f. write_faults_of f.tallies };
+
+    ghost widest_read = { λ f. widest_read_of f.tallies };
+
+    ghost contents = { λ f. Some (map.get f.held) };
+
+    fn read(&mut self, alloc: Global, name: &str, limit: u32) -> Result<Vec<u8>, FileFail>
+        ensures after { self.new ≡ after_read self.old name.now limit result }
+        ensures answers { AnswersRead self.old name.now limit result }
+    {
+        let answer = self.look_up(alloc, name, limit);
+        let tally = self.tallies.tally(name).after_read(limit, &answer)?;
+        self.tallies.insert(name, tally)?;
+        self.calls.count();
+        answer
+    }
+
+    fn write(&mut self, alloc: Global, name: &str, bytes: &[u8]) -> Result<(), WriteFail>
+        ensures after { self.new ≡ after_write self.old name.now bytes.now result }
+        ensures fails { result ≢ Err WriteFail.NoMemory → (IsErrOf result WriteFail.Failed ↔ IsToFail self.old.calls) }
+    {
+        if self.calls.is_to_fail() {
+            let tally = self.tallies.tally(name).after_failed_write()?;
+            self.tallies.insert(name, tally)?;
+            self.calls.count();
+            return Err(WriteFail::Failed);
+        }
+        let content = Vec::from_slice(alloc, bytes)?;
+        self.held.insert(name, Seq::new(content))?;
+        self.calls.count();
+        Ok(())
+    }
+}
+
+/// A sink in memory. Contracts see what it got, how many puts failed, and its calls.
+#[derive(Debug, Drop)]
+pub struct MemSink {
+    got: Vec<u8>,
+    faults: u64,
+    calls: CountedCalls,
+}
+
+impl Model for MemSink {
+    ghost use Rattle.fm_files.specs.Memory.{MemSinkState};
+
+    ghost Value = { MemSinkState };
+
+    ghost view = { λ s. record { got = s.got.items; faults = s.faults; calls = s.calls } };
+}
+
+impl MemSink {
+    /// A sink that got nothing. `failing` has the numbers of the puts that are to fail, from 1.
+    /// Takes no memory.
+    pub fn new(alloc: Global, failing: Vec<u32>) -> MemSink
+        ensures { result ≡ record { got = []; faults = 0; calls = record { made = 0; failing = failing.items } } }
+    {
+        MemSink {
+            got: Vec::new(alloc),
+            faults: 0,
+            calls: CountedCalls::new(failing),
+        }
+    }
+
+    /// What it got.
+    pub fn bytes(&self) -> &[u8]
+        ensures { result.now ≡ self.now.got }
+    {
+        self.got.as_slice()
+    }
+}
+
+impl Sink for MemSink {
+    ghost faults = { λ s. s.faults };
+
+    ghost got = { λ s. Some s.got };
+
+    fn put(&mut self, _alloc: Global, bytes: &[u8]) -> Result<(), PutFail>
+        ensures after { self.new ≡ after_put self.old bytes.now result }
+        ensures fails { result ≢ Err PutFail.NoMemory → (IsErrOf result PutFail.SinkFailed ↔ IsToFail self.old.calls) }
+    {
+        if self.calls.is_to_fail() {
+            self.faults = self.faults.checked_add(1).ok_or(PutFail::NoMemory)?;
+            self.calls.count();
+            return Err(PutFail::SinkFailed);
+        }
+        self.got.extend_from_slice(bytes)?;
+        self.calls.count();
+        Ok(())
+    }
+}

@@ -1,0 +1,228 @@
+// What no clause says: that calls succeed where there is memory, and what the system does.
+
+use crate::transfer::{read_within, write_whole};
+use crate::{
+    FileFail, Files, FolderFiles, MemFiles, MemSink, PutFail, Sink, StdSink, SureFiles, SureSink,
+    WriteFail,
+};
+use std::alloc::Global;
+use std::io::{Read, Write};
+use std::process::Abort;
+use std::test::Fail;
+use std::{env, fs, io, process};
+
+// Whether a read through the trait gives these bytes, or fails so.
+fn reads<F: Files>(
+    files: &mut F,
+    alloc: Global,
+    name: &str,
+    limit: u32,
+    want: Result<&[u8], FileFail>,
+) -> bool {
+    match files.read(alloc, name, limit) {
+        Ok(bytes) => want == Ok(bytes.as_slice()),
+        Err(fail) => want == Err(fail),
+    }
+}
+
+// Whether a write through the trait ends so.
+fn writes<F: Files>(
+    files: &mut F,
+    alloc: Global,
+    name: &str,
+    bytes: &[u8],
+    want: Result<(), WriteFail>,
+) -> bool {
+    files.write(alloc, name, bytes) == want
+}
+
+// Whether a put through the trait ends so.
+fn puts<S: Sink>(sink: &mut S, alloc: Global, bytes: &[u8], want: Result<(), PutFail>) -> bool {
+    sink.put(alloc, bytes) == want
+}
+
+#[test]
+fn files_in_memory_fail_at_the_named_calls_alone(rt: HostRuntime) -> Result<(), Fail> {
+    let alloc = rt.alloc();
+    let mut files = MemFiles::new(alloc, vec![in alloc; 2, 5]?);
+    files.add("a", b"abc")?;
+    assert!(rt; reads(&mut files, alloc, "a", 3, Ok(b"abc")), "1");
+    assert!(rt;
+        reads(&mut files, alloc, "a", 3, Err(FileFail::Failed)),
+        "2, named"
+    );
+    assert!(rt;
+        reads(&mut files, alloc, "a", 2, Err(FileFail::TooLong)),
+        "3"
+    );
+    assert!(rt; writes(&mut files, alloc, "b", b"xy", Ok(())), "4");
+    assert!(rt;
+        writes(&mut files, alloc, "b", b"z", Err(WriteFail::Failed)),
+        "5, named"
+    );
+    assert!(rt; reads(&mut files, alloc, "b", 9, Ok(b"xy")), "6");
+    assert!(rt;
+        reads(&mut files, alloc, "c", 9, Err(FileFail::Failed)),
+        "7, not there"
+    );
+    assert!(rt; files.bytes("b") == Some(b"xy"));
+    assert!(rt; files.bytes("c").is_none());
+    Ok(())
+}
+
+#[test]
+fn a_sink_in_memory_fails_at_the_named_puts_alone(rt: HostRuntime) -> Result<(), Fail> {
+    let alloc = rt.alloc();
+    let mut sink = MemSink::new(alloc, vec![in alloc; 2]?);
+    assert!(rt; puts(&mut sink, alloc, b"ab", Ok(())), "1");
+    assert!(rt;
+        puts(&mut sink, alloc, b"cd", Err(PutFail::SinkFailed)),
+        "2, named"
+    );
+    assert!(rt; puts(&mut sink, alloc, b"ef", Ok(())), "3");
+    assert!(rt; sink.bytes() == b"abef".as_slice());
+    Ok(())
+}
+
+#[test]
+fn sure_files_and_a_sure_sink_hold_what_they_were_given(rt: HostRuntime) -> Result<(), Fail> {
+    let alloc = rt.alloc();
+    let mut files = SureFiles::new(alloc);
+    files.add("a", b"abc")?;
+    assert!(rt; writes(&mut files, alloc, "b", b"xy", Ok(())));
+    assert!(rt; reads(&mut files, alloc, "a", 3, Ok(b"abc")));
+    assert!(rt; reads(&mut files, alloc, "a", 2, Err(FileFail::TooLong)));
+    assert!(rt; reads(&mut files, alloc, "b", 9, Ok(b"xy")));
+    assert!(rt; reads(&mut files, alloc, "c", 0, Ok(b"")), "never given");
+    assert!(rt; files.bytes("a") == Some(b"abc"));
+    assert!(rt; files.bytes("c") == Some(b""));
+    let mut sink = SureSink::new(alloc);
+    assert!(rt; puts(&mut sink, alloc, b"ab", Ok(())));
+    assert!(rt; sink.bytes() == b"ab".as_slice());
+    Ok(())
+}
+
+// A writer that takes at most so many bytes at once.
+#[derive(Drop)]
+struct Sip {
+    most: usize,
+    taken: Vec<u8>,
+}
+
+impl Write for Sip {
+    fn write(&mut self, buf: &[u8]) -> io::Result<usize> {
+        let n = buf.len().min(self.most);
+        self.taken.extend_from_slice(&buf[..n])?;
+        Ok(n)
+    }
+
+    fn flush(&mut self) -> io::Result<()> {
+        Ok(())
+    }
+}
+
+#[test]
+fn a_short_write_is_continued_and_an_empty_one_is_an_error(rt: HostRuntime) {
+    for (most, whole) in [(100, true), (3, true), (1, true), (0, false)] {
+        let taken = Vec::new(rt.alloc());
+        let mut sip = Sip { most, taken };
+        assert!(rt;
+            write_whole(&mut sip, b"abcdefgh").is_ok() == whole,
+            "{most} at once"
+        );
+        assert!(rt;
+            (sip.taken.as_slice() == b"abcdefgh".as_slice()) == whole,
+            "{most} at once"
+        );
+    }
+}
+
+// A reader that gives some bytes, one at a time, and then fails.
+#[derive(Drop)]
+struct Broken {
+    left: usize,
+}
+
+impl Read for Broken {
+    fn read(&mut self, buf: &mut [u8]) -> io::Result<usize> {
+        if self.left == 0 {
+            return Err(io::Error::from(io::ErrorKind::Other));
+        }
+        self.left -= 1;
+        match buf.first_mut() {
+            Some(byte) => *byte = b'x',
+            None => return Ok(0),
+        }
+        Ok(1)
+    }
+}
+
+#[test]
+fn a_read_that_breaks_off_fails(rt: HostRuntime) {
+    for (limit, want) in [(3, FileFail::Failed), (2, FileFail::TooLong)] {
+        let mut broken = Broken { left: 3 };
+        let got = read_within(rt.alloc(), &mut broken, limit);
+        assert!(rt; got.err() == Some(want), "at {limit}");
+    }
+}
+
+// A file that isn't there yet, nor its folder.
+fn expect_a_file(rt: &impl Abort, files: &mut impl Files, alloc: Global, name: &str, long: &[u8]) {
+    assert!(rt;
+        reads(files, alloc, name, 9, Err(FileFail::Failed)),
+        "missing"
+    );
+    assert!(rt;
+        writes(files, alloc, name, long, Ok(())),
+        "with its folders"
+    );
+    assert!(rt;
+        reads(files, alloc, name, 10_000, Ok(long)),
+        "the whole file"
+    );
+    assert!(rt;
+        reads(files, alloc, name, 9_999, Err(FileFail::TooLong)),
+        "limit + 1 bytes"
+    );
+    assert!(rt; writes(files, alloc, name, b"ab", Ok(())), "in its place");
+    assert!(rt;
+        reads(files, alloc, name, 9_999, Ok(b"ab")),
+        "nothing is left of it"
+    );
+}
+
+// A name under which there can't be a file.
+fn expect_faults(rt: &impl Abort, files: &mut impl Files, alloc: Global, name: &str) {
+    assert!(rt;
+        reads(files, alloc, name, 9, Err(FileFail::Failed)),
+        "{name:?}"
+    );
+    assert!(rt;
+        writes(files, alloc, name, b"ab", Err(WriteFail::Failed)),
+        "{name:?}"
+    );
+}
+
+#[test]
+fn a_folder_of_the_system_is_read_and_written(rt: HostRuntime) -> Result<(), Fail> {
+    let alloc = rt.alloc();
+    let own = format!(in alloc; "fm_files_test_{}", process::id(rt.process()))?;
+    let top = env::temp_dir(&rt)?.join(alloc, own.as_str())?;
+    let file = top.join(alloc, "made/on/the/way/Main.class")?;
+    let long = vec![in alloc; 7; 10_000]?;
+    let mut files = FolderFiles::new(rt, alloc);
+    expect_a_file(&rt, &mut files, alloc, file.as_str(), &long);
+    expect_faults(&rt, &mut files, alloc, top.as_str());
+    expect_faults(&rt, &mut files, alloc, "");
+    expect_faults(&rt, &mut files, alloc, "a\0b");
+    fs::remove_dir_all(&rt, top.as_path())?;
+    Ok(())
+}
+
+#[test]
+fn the_standard_streams_take_a_piece(rt: HostRuntime) {
+    let mut output = StdSink::new(rt, false);
+    assert!(rt; puts(&mut output, rt.alloc(), b"a piece\n", Ok(())));
+    let mut error = StdSink::new(rt, true);
+    assert!(rt; puts(&mut error, rt.alloc(), b"a piece\n", Ok(())));
+}

@@ -1,0 +1,59 @@
+// Bytes in and out of streams, part by part.
+
+ghost use Rattle.std.specs.Prelude.{ℕ, ◌≡◌, ◌<◌, ◌≤◌, take, length, vec_len, IfOk, IfSome, OnOk, OnErr, IsErrOf};
+ghost use Rattle.std.specs.Io.KnownBytes.{Appends};
+
+use crate::faults::FileFail;
+use std::alloc::Global;
+use std::io;
+use std::io::{ErrorKind, Read, Write};
+
+// The most bytes that are read at once.
+const PIECE: usize = 4096;
+
+/// Reads to the end, where at most `limit` bytes are left, and else `limit` + 1 bytes.
+pub(crate) fn read_within<R: Read>(
+    alloc: Global,
+    reader: &mut R,
+    limit: u32,
+) -> Result<Vec<u8>, FileFail>
+    ensures within_limit { IfOk result (λ bytes. vec_len bytes ≤ limit) }
+    ensures whole { IfOk result (λ bytes. IfSome (R.remaining reader.old) (λ left. bytes.items ≡ left)) }
+    ensures too_long { IsErrOf result FileFail.TooLong → IfSome (R.remaining reader.old) (λ left. limit < length left) }
+{
+    let limit = limit as usize;
+    let mut bytes = Vec::new(alloc);
+    let mut piece = [0u8; PIECE];
+    for _ in 0..u64::MAX {
+        let room = (limit + 1 - bytes.len()).min(PIECE);
+        match reader.read(&mut piece[..room]) {
+            Ok(0) => return Ok(bytes),
+            Ok(n) if n > limit - bytes.len() => return Err(FileFail::TooLong),
+            Ok(n) => bytes.extend_from_slice(&piece[..n])?,
+            Err(error) if error.kind() == ErrorKind::Interrupted => {}
+            Err(_) => return Err(FileFail::Failed),
+        }
+    }
+    Err(FileFail::Failed)
+}
+
+/// Writes all of the bytes, however few the writer takes at once, and flushes. A writer that takes
+/// nothing has failed.
+pub(crate) fn write_whole<W: Write>(writer: &mut W, bytes: &[u8]) -> io::Result<()>
+    ensures whole { OnOk result (Appends (W.contents writer.old) (W.contents writer.new) bytes.now) }
+    ensures part { OnErr result ((n : ℕ) × Appends (W.contents writer.old) (W.contents writer.new) (take n bytes.now)) }
+{
+    let mut rest = bytes;
+    for _ in 0..u64::MAX {
+        if rest.is_empty() {
+            return writer.flush();
+        }
+        match writer.write(rest) {
+            Ok(0) => return Err(io::Error::from(ErrorKind::WriteZero)),
+            Ok(n) => rest = &rest[n..],
+            Err(error) if error.kind() == ErrorKind::Interrupted => {}
+            Err(error) => return Err(error),
+        }
+    }
+    Err(io::Error::from(ErrorKind::TimedOut))
+}
