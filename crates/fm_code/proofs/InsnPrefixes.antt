@@ -242,84 +242,84 @@ TellsEnd-switch f tells_count offset x y r s i j x_read y_read e =
 
 -- ---- the table
 
-infixr 45 ◌then◌
+infixr 45 ◌also◌
 
 -- a reading's fact in front of those of the later ones
-◌then◌ : {A B : Type 0} → A → B → A × B
-a then b = (a, b)
+◌also◌ : {A B : Type 0} → A → B → A × B
+a also b = (a, b)
 
 -- 0 to 53
 TellsEnd-constants_and_loads : AllByRecursion TellsEnd constants_and_loads
 TellsEnd-constants_and_loads =
-    TellsEnd-bare insn.Nop then TellsEnd-bare insn.Null then TellsEnd-bare (insn.Const (negsuc 0)) then TellsEnd-bare (insn.Const (pos 0))
-    then TellsEnd-bare (insn.Const (pos 1)) then TellsEnd-bare (insn.Const (pos 2)) then TellsEnd-bare (insn.Const (pos 3))
-    then TellsEnd-bare (insn.Const (pos 4)) then TellsEnd-bare (insn.Const (pos 5)) then TellsEnd-bare (insn.LongConst (pos 0))
-    then TellsEnd-bare (insn.LongConst (pos 1)) then TellsEnd-left_out 11 0 then TellsEnd-left_out 12 0 then TellsEnd-left_out 13 0
-    then TellsEnd-left_out 14 0 then TellsEnd-left_out 15 0 then TellsEnd-signed_byte insn.Const then TellsEnd-signed_short insn.Const
-    then TellsEnd-byte insn.LoadPool then TellsEnd-short insn.LoadPool then TellsEnd-short insn.LoadPool then TellsEnd-byte (insn.Load reg.Int)
-    then TellsEnd-byte (insn.Load reg.Long) then TellsEnd-left_out 23 1 then TellsEnd-left_out 24 1 then TellsEnd-byte (insn.Load reg.Ref)
-    then TellsEnd-bare (insn.Load reg.Int 0) then TellsEnd-bare (insn.Load reg.Int 1) then TellsEnd-bare (insn.Load reg.Int 2)
-    then TellsEnd-bare (insn.Load reg.Int 3) then TellsEnd-bare (insn.Load reg.Long 0) then TellsEnd-bare (insn.Load reg.Long 1)
-    then TellsEnd-bare (insn.Load reg.Long 2) then TellsEnd-bare (insn.Load reg.Long 3) then TellsEnd-left_out 34 0 then TellsEnd-left_out 35 0
-    then TellsEnd-left_out 36 0 then TellsEnd-left_out 37 0 then TellsEnd-left_out 38 0 then TellsEnd-left_out 39 0 then TellsEnd-left_out 40 0
-    then TellsEnd-left_out 41 0 then TellsEnd-bare (insn.Load reg.Ref 0) then TellsEnd-bare (insn.Load reg.Ref 1)
-    then TellsEnd-bare (insn.Load reg.Ref 2) then TellsEnd-bare (insn.Load reg.Ref 3) then TellsEnd-bare (insn.ArrayLoad elem.Int)
-    then TellsEnd-bare (insn.ArrayLoad elem.Long) then TellsEnd-left_out 48 0 then TellsEnd-left_out 49 0 then TellsEnd-bare (insn.ArrayLoad elem.Ref)
-    then TellsEnd-bare (insn.ArrayLoad elem.Byte) then TellsEnd-bare (insn.ArrayLoad elem.Char) then TellsEnd-bare (insn.ArrayLoad elem.Short) then tt
+    TellsEnd-bare insn.Nop also TellsEnd-bare insn.Null also TellsEnd-bare (insn.Const (negsuc 0)) also TellsEnd-bare (insn.Const (pos 0))
+    also TellsEnd-bare (insn.Const (pos 1)) also TellsEnd-bare (insn.Const (pos 2)) also TellsEnd-bare (insn.Const (pos 3))
+    also TellsEnd-bare (insn.Const (pos 4)) also TellsEnd-bare (insn.Const (pos 5)) also TellsEnd-bare (insn.LongConst (pos 0))
+    also TellsEnd-bare (insn.LongConst (pos 1)) also TellsEnd-left_out 11 0 also TellsEnd-left_out 12 0 also TellsEnd-left_out 13 0
+    also TellsEnd-left_out 14 0 also TellsEnd-left_out 15 0 also TellsEnd-signed_byte insn.Const also TellsEnd-signed_short insn.Const
+    also TellsEnd-byte insn.LoadPool also TellsEnd-short insn.LoadPool also TellsEnd-short insn.LoadPool also TellsEnd-byte (insn.Load reg.Int)
+    also TellsEnd-byte (insn.Load reg.Long) also TellsEnd-left_out 23 1 also TellsEnd-left_out 24 1 also TellsEnd-byte (insn.Load reg.Ref)
+    also TellsEnd-bare (insn.Load reg.Int 0) also TellsEnd-bare (insn.Load reg.Int 1) also TellsEnd-bare (insn.Load reg.Int 2)
+    also TellsEnd-bare (insn.Load reg.Int 3) also TellsEnd-bare (insn.Load reg.Long 0) also TellsEnd-bare (insn.Load reg.Long 1)
+    also TellsEnd-bare (insn.Load reg.Long 2) also TellsEnd-bare (insn.Load reg.Long 3) also TellsEnd-left_out 34 0 also TellsEnd-left_out 35 0
+    also TellsEnd-left_out 36 0 also TellsEnd-left_out 37 0 also TellsEnd-left_out 38 0 also TellsEnd-left_out 39 0 also TellsEnd-left_out 40 0
+    also TellsEnd-left_out 41 0 also TellsEnd-bare (insn.Load reg.Ref 0) also TellsEnd-bare (insn.Load reg.Ref 1)
+    also TellsEnd-bare (insn.Load reg.Ref 2) also TellsEnd-bare (insn.Load reg.Ref 3) also TellsEnd-bare (insn.ArrayLoad elem.Int)
+    also TellsEnd-bare (insn.ArrayLoad elem.Long) also TellsEnd-left_out 48 0 also TellsEnd-left_out 49 0 also TellsEnd-bare (insn.ArrayLoad elem.Ref)
+    also TellsEnd-bare (insn.ArrayLoad elem.Byte) also TellsEnd-bare (insn.ArrayLoad elem.Char) also TellsEnd-bare (insn.ArrayLoad elem.Short) also tt
 
 -- 54 to 95
 TellsEnd-stores_and_stack : AllByRecursion TellsEnd stores_and_stack
 TellsEnd-stores_and_stack =
-    TellsEnd-byte (insn.Store reg.Int) then TellsEnd-byte (insn.Store reg.Long) then TellsEnd-left_out 56 1 then TellsEnd-left_out 57 1
-    then TellsEnd-byte (insn.Store reg.Ref) then TellsEnd-bare (insn.Store reg.Int 0) then TellsEnd-bare (insn.Store reg.Int 1)
-    then TellsEnd-bare (insn.Store reg.Int 2) then TellsEnd-bare (insn.Store reg.Int 3) then TellsEnd-bare (insn.Store reg.Long 0)
-    then TellsEnd-bare (insn.Store reg.Long 1) then TellsEnd-bare (insn.Store reg.Long 2) then TellsEnd-bare (insn.Store reg.Long 3)
-    then TellsEnd-left_out 67 0 then TellsEnd-left_out 68 0 then TellsEnd-left_out 69 0 then TellsEnd-left_out 70 0 then TellsEnd-left_out 71 0
-    then TellsEnd-left_out 72 0 then TellsEnd-left_out 73 0 then TellsEnd-left_out 74 0 then TellsEnd-bare (insn.Store reg.Ref 0)
-    then TellsEnd-bare (insn.Store reg.Ref 1) then TellsEnd-bare (insn.Store reg.Ref 2) then TellsEnd-bare (insn.Store reg.Ref 3)
-    then TellsEnd-bare (insn.ArrayStore elem.Int) then TellsEnd-bare (insn.ArrayStore elem.Long) then TellsEnd-left_out 81 0
-    then TellsEnd-left_out 82 0 then TellsEnd-bare (insn.ArrayStore elem.Ref) then TellsEnd-bare (insn.ArrayStore elem.Byte)
-    then TellsEnd-bare (insn.ArrayStore elem.Char) then TellsEnd-bare (insn.ArrayStore elem.Short) then TellsEnd-bare insn.Pop
-    then TellsEnd-bare insn.Pop2 then TellsEnd-bare insn.Dup then TellsEnd-bare insn.DupX1 then TellsEnd-bare insn.DupX2 then TellsEnd-bare insn.Dup2
-    then TellsEnd-bare insn.Dup2X1 then TellsEnd-bare insn.Dup2X2 then TellsEnd-bare insn.Swap then tt
+    TellsEnd-byte (insn.Store reg.Int) also TellsEnd-byte (insn.Store reg.Long) also TellsEnd-left_out 56 1 also TellsEnd-left_out 57 1
+    also TellsEnd-byte (insn.Store reg.Ref) also TellsEnd-bare (insn.Store reg.Int 0) also TellsEnd-bare (insn.Store reg.Int 1)
+    also TellsEnd-bare (insn.Store reg.Int 2) also TellsEnd-bare (insn.Store reg.Int 3) also TellsEnd-bare (insn.Store reg.Long 0)
+    also TellsEnd-bare (insn.Store reg.Long 1) also TellsEnd-bare (insn.Store reg.Long 2) also TellsEnd-bare (insn.Store reg.Long 3)
+    also TellsEnd-left_out 67 0 also TellsEnd-left_out 68 0 also TellsEnd-left_out 69 0 also TellsEnd-left_out 70 0 also TellsEnd-left_out 71 0
+    also TellsEnd-left_out 72 0 also TellsEnd-left_out 73 0 also TellsEnd-left_out 74 0 also TellsEnd-bare (insn.Store reg.Ref 0)
+    also TellsEnd-bare (insn.Store reg.Ref 1) also TellsEnd-bare (insn.Store reg.Ref 2) also TellsEnd-bare (insn.Store reg.Ref 3)
+    also TellsEnd-bare (insn.ArrayStore elem.Int) also TellsEnd-bare (insn.ArrayStore elem.Long) also TellsEnd-left_out 81 0
+    also TellsEnd-left_out 82 0 also TellsEnd-bare (insn.ArrayStore elem.Ref) also TellsEnd-bare (insn.ArrayStore elem.Byte)
+    also TellsEnd-bare (insn.ArrayStore elem.Char) also TellsEnd-bare (insn.ArrayStore elem.Short) also TellsEnd-bare insn.Pop
+    also TellsEnd-bare insn.Pop2 also TellsEnd-bare insn.Dup also TellsEnd-bare insn.DupX1 also TellsEnd-bare insn.DupX2 also TellsEnd-bare insn.Dup2
+    also TellsEnd-bare insn.Dup2X1 also TellsEnd-bare insn.Dup2X2 also TellsEnd-bare insn.Swap also tt
 
 -- 96 to 152
 TellsEnd-arithmetic : AllByRecursion TellsEnd arithmetic
 TellsEnd-arithmetic =
-    TellsEnd-bare (insn.IntOp op.Add) then TellsEnd-bare (insn.LongOp op.Add) then TellsEnd-left_out 98 0 then TellsEnd-left_out 99 0
-    then TellsEnd-bare (insn.IntOp op.Sub) then TellsEnd-bare (insn.LongOp op.Sub) then TellsEnd-left_out 102 0 then TellsEnd-left_out 103 0
-    then TellsEnd-bare (insn.IntOp op.Mul) then TellsEnd-bare (insn.LongOp op.Mul) then TellsEnd-left_out 106 0 then TellsEnd-left_out 107 0
-    then TellsEnd-bare (insn.IntOp op.Div) then TellsEnd-bare (insn.LongOp op.Div) then TellsEnd-left_out 110 0 then TellsEnd-left_out 111 0
-    then TellsEnd-bare (insn.IntOp op.Rem) then TellsEnd-bare (insn.LongOp op.Rem) then TellsEnd-left_out 114 0 then TellsEnd-left_out 115 0
-    then TellsEnd-bare insn.IntNeg then TellsEnd-bare insn.LongNeg then TellsEnd-left_out 118 0 then TellsEnd-left_out 119 0
-    then TellsEnd-bare (insn.IntShift shift.Left) then TellsEnd-bare (insn.LongShift shift.Left) then TellsEnd-bare (insn.IntShift shift.Right)
-    then TellsEnd-bare (insn.LongShift shift.Right) then TellsEnd-bare (insn.IntShift shift.RightZero)
-    then TellsEnd-bare (insn.LongShift shift.RightZero) then TellsEnd-bare (insn.IntOp op.And) then TellsEnd-bare (insn.LongOp op.And)
-    then TellsEnd-bare (insn.IntOp op.Or) then TellsEnd-bare (insn.LongOp op.Or) then TellsEnd-bare (insn.IntOp op.Xor)
-    then TellsEnd-bare (insn.LongOp op.Xor) then TellsEnd-increment then TellsEnd-bare (insn.Convert conv.IntToLong) then TellsEnd-left_out 134 0
-    then TellsEnd-left_out 135 0 then TellsEnd-bare (insn.Convert conv.LongToInt) then TellsEnd-left_out 137 0 then TellsEnd-left_out 138 0
-    then TellsEnd-left_out 139 0 then TellsEnd-left_out 140 0 then TellsEnd-left_out 141 0 then TellsEnd-left_out 142 0 then TellsEnd-left_out 143 0
-    then TellsEnd-left_out 144 0 then TellsEnd-bare (insn.Convert conv.IntToByte) then TellsEnd-bare (insn.Convert conv.IntToChar)
-    then TellsEnd-bare (insn.Convert conv.IntToShort) then TellsEnd-bare insn.LongCompare then TellsEnd-left_out 149 0 then TellsEnd-left_out 150 0
-    then TellsEnd-left_out 151 0 then TellsEnd-left_out 152 0 then tt
+    TellsEnd-bare (insn.IntOp op.Add) also TellsEnd-bare (insn.LongOp op.Add) also TellsEnd-left_out 98 0 also TellsEnd-left_out 99 0
+    also TellsEnd-bare (insn.IntOp op.Sub) also TellsEnd-bare (insn.LongOp op.Sub) also TellsEnd-left_out 102 0 also TellsEnd-left_out 103 0
+    also TellsEnd-bare (insn.IntOp op.Mul) also TellsEnd-bare (insn.LongOp op.Mul) also TellsEnd-left_out 106 0 also TellsEnd-left_out 107 0
+    also TellsEnd-bare (insn.IntOp op.Div) also TellsEnd-bare (insn.LongOp op.Div) also TellsEnd-left_out 110 0 also TellsEnd-left_out 111 0
+    also TellsEnd-bare (insn.IntOp op.Rem) also TellsEnd-bare (insn.LongOp op.Rem) also TellsEnd-left_out 114 0 also TellsEnd-left_out 115 0
+    also TellsEnd-bare insn.IntNeg also TellsEnd-bare insn.LongNeg also TellsEnd-left_out 118 0 also TellsEnd-left_out 119 0
+    also TellsEnd-bare (insn.IntShift shift.Left) also TellsEnd-bare (insn.LongShift shift.Left) also TellsEnd-bare (insn.IntShift shift.Right)
+    also TellsEnd-bare (insn.LongShift shift.Right) also TellsEnd-bare (insn.IntShift shift.RightZero)
+    also TellsEnd-bare (insn.LongShift shift.RightZero) also TellsEnd-bare (insn.IntOp op.And) also TellsEnd-bare (insn.LongOp op.And)
+    also TellsEnd-bare (insn.IntOp op.Or) also TellsEnd-bare (insn.LongOp op.Or) also TellsEnd-bare (insn.IntOp op.Xor)
+    also TellsEnd-bare (insn.LongOp op.Xor) also TellsEnd-increment also TellsEnd-bare (insn.Convert conv.IntToLong) also TellsEnd-left_out 134 0
+    also TellsEnd-left_out 135 0 also TellsEnd-bare (insn.Convert conv.LongToInt) also TellsEnd-left_out 137 0 also TellsEnd-left_out 138 0
+    also TellsEnd-left_out 139 0 also TellsEnd-left_out 140 0 also TellsEnd-left_out 141 0 also TellsEnd-left_out 142 0 also TellsEnd-left_out 143 0
+    also TellsEnd-left_out 144 0 also TellsEnd-bare (insn.Convert conv.IntToByte) also TellsEnd-bare (insn.Convert conv.IntToChar)
+    also TellsEnd-bare (insn.Convert conv.IntToShort) also TellsEnd-bare insn.LongCompare also TellsEnd-left_out 149 0 also TellsEnd-left_out 150 0
+    also TellsEnd-left_out 151 0 also TellsEnd-left_out 152 0 also tt
 
 -- 153 to 201
 TellsEnd-control_and_objects : AllByRecursion TellsEnd control_and_objects
 TellsEnd-control_and_objects =
-    TellsEnd-jump (insn.IfInt test.Eq) then TellsEnd-jump (insn.IfInt test.Ne) then TellsEnd-jump (insn.IfInt test.Lt)
-    then TellsEnd-jump (insn.IfInt test.Ge) then TellsEnd-jump (insn.IfInt test.Gt) then TellsEnd-jump (insn.IfInt test.Le)
-    then TellsEnd-jump (insn.IfPair test.Eq) then TellsEnd-jump (insn.IfPair test.Ne) then TellsEnd-jump (insn.IfPair test.Lt)
-    then TellsEnd-jump (insn.IfPair test.Ge) then TellsEnd-jump (insn.IfPair test.Gt) then TellsEnd-jump (insn.IfPair test.Le)
-    then TellsEnd-jump (insn.IfSame true) then TellsEnd-jump (insn.IfSame false) then TellsEnd-jump insn.Goto then TellsEnd-left_out 168 2
-    then TellsEnd-left_out 169 1 then TellsEnd-switch table_switch TellsCount-table then TellsEnd-switch lookup_switch TellsCount-lookup then TellsEnd-bare (insn.Return (Some reg.Int))
-    then TellsEnd-bare (insn.Return (Some reg.Long)) then TellsEnd-left_out 174 0 then TellsEnd-left_out 175 0
-    then TellsEnd-bare (insn.Return (Some reg.Ref)) then TellsEnd-bare (insn.Return None) then TellsEnd-short insn.GetStatic
-    then TellsEnd-short insn.PutStatic then TellsEnd-short insn.GetField then TellsEnd-short insn.PutField then TellsEnd-short insn.Virtual
-    then TellsEnd-short insn.Special then TellsEnd-short insn.Static then TellsEnd-interface_call then TellsEnd-malformed then TellsEnd-short insn.New
-    then TellsEnd-new_array then TellsEnd-short insn.NewRefs then TellsEnd-bare insn.Length then TellsEnd-bare insn.Throw
-    then TellsEnd-short insn.Cast then TellsEnd-short insn.IsA then TellsEnd-left_out 194 0 then TellsEnd-left_out 195 0 then TellsEnd-wide
-    then TellsEnd-array_of_arrays then TellsEnd-jump (insn.IfNull true) then TellsEnd-jump (insn.IfNull false) then TellsEnd-long_jump insn.Goto
-    then TellsEnd-left_out 201 4 then tt
+    TellsEnd-jump (insn.IfInt test.Eq) also TellsEnd-jump (insn.IfInt test.Ne) also TellsEnd-jump (insn.IfInt test.Lt)
+    also TellsEnd-jump (insn.IfInt test.Ge) also TellsEnd-jump (insn.IfInt test.Gt) also TellsEnd-jump (insn.IfInt test.Le)
+    also TellsEnd-jump (insn.IfPair test.Eq) also TellsEnd-jump (insn.IfPair test.Ne) also TellsEnd-jump (insn.IfPair test.Lt)
+    also TellsEnd-jump (insn.IfPair test.Ge) also TellsEnd-jump (insn.IfPair test.Gt) also TellsEnd-jump (insn.IfPair test.Le)
+    also TellsEnd-jump (insn.IfSame true) also TellsEnd-jump (insn.IfSame false) also TellsEnd-jump insn.Goto also TellsEnd-left_out 168 2
+    also TellsEnd-left_out 169 1 also TellsEnd-switch table_switch TellsCount-table also TellsEnd-switch lookup_switch TellsCount-lookup also TellsEnd-bare (insn.Return (Some reg.Int))
+    also TellsEnd-bare (insn.Return (Some reg.Long)) also TellsEnd-left_out 174 0 also TellsEnd-left_out 175 0
+    also TellsEnd-bare (insn.Return (Some reg.Ref)) also TellsEnd-bare (insn.Return None) also TellsEnd-short insn.GetStatic
+    also TellsEnd-short insn.PutStatic also TellsEnd-short insn.GetField also TellsEnd-short insn.PutField also TellsEnd-short insn.Virtual
+    also TellsEnd-short insn.Special also TellsEnd-short insn.Static also TellsEnd-interface_call also TellsEnd-malformed also TellsEnd-short insn.New
+    also TellsEnd-new_array also TellsEnd-short insn.NewRefs also TellsEnd-bare insn.Length also TellsEnd-bare insn.Throw
+    also TellsEnd-short insn.Cast also TellsEnd-short insn.IsA also TellsEnd-left_out 194 0 also TellsEnd-left_out 195 0 also TellsEnd-wide
+    also TellsEnd-array_of_arrays also TellsEnd-jump (insn.IfNull true) also TellsEnd-jump (insn.IfNull false) also TellsEnd-long_jump insn.Goto
+    also TellsEnd-left_out 201 4 also tt
 
 All-joined : {X : Type 0} (P : X → Type 0) (xs ys : List X) → AllByRecursion P xs → AllByRecursion P ys → AllByRecursion P (xs ++ ys)
 All-joined P [] ys first second = second

@@ -1,11 +1,13 @@
 -- Spellings that tell where they end: numbers, counted lists, and attributes.
-use Rattle.std.proofs.Common.{◌≡◌, ℕ, zero, suc, ◌^◌, ◌<◌, List, [], ◌∷◌, ◌++◌, length, take, drop, refl, ap, sym, ◌∙◌, arith, FitsSigned, ℤ}
+use Rattle.std.proofs.Common.{◌≡◌, ℕ, zero, suc, ◌^◌, ◌<◌, List, [], ◌∷◌, ◌++◌, length, take, drop, refl, ap, sym, ◌∙◌, arith, subst, Option, None, Some, IsSomeAnd, FitsSigned, ℤ}
 use Rattle.std.proofs.lemmas.List.{append_assoc, take_at, drop_at}
 use Rattle.std.specs.Int.{w32, w64}
 use Rattle.std.specs.List.{AllByRecursion, flat_map}
 use Rattle.fm_code.specs.Numbers.{two, four, eight, signed_four, signed_eight}
 use Rattle.fm_code.specs.ClassBytes.{counted, attribute_bytes, raw_bytes}
 use Rattle.fm_code.specs.Fits.{FitsTwo, FitsFour, CountedFits, RawFits}
+use Rattle.fm_code.specs.Rules.{utf8_at}
+use Rattle.fm_code.specs.declared.constant_pool.Entry.{Entry}
 use Rattle.fm_code.specs.declared.class_file.Raw.{Raw}
 use Rattle.fm_code.proofs.Bytes.{length-two, length-four, length-eight, length-signed_four, length-signed_eight, two_injective, four_injective, eight_injective, signed_four_injective, signed_eight_injective}
 
@@ -22,6 +24,31 @@ split_same a b r s same e =
 -- the first of two pieces, in front of all that follows it
 pub peel : (a x r b y s : List ℕ) → (a ++ x) ++ r ≡ (b ++ y) ++ s → a ++ (x ++ r) ≡ b ++ (y ++ s)
 peel a x r b y s e = sym (append_assoc a x r) ∙ e ∙ append_assoc b y s
+
+-- the equations E hold where the pieces p and q stand in front of the same bytes, and what follows is the same
+pub record Tells (p q : List ℕ) (E : Type 0) : Type 0 where
+  pub cancel : (r s : List ℕ) → p ++ r ≡ q ++ s → E × (r ≡ s)
+
+pub tells : {X : Type 0} (spell : X → List ℕ) (Fits : X → Type 0) → Cancels spell Fits → (x y : X) → Fits x → Fits y → Tells (spell x) (spell y) (x ≡ y)
+tells spell Fits cancels x y x_fits y_fits = record { cancel = λ r s e. cancels x y r s x_fits y_fits e }
+
+pub tells_nothing : Tells [] [] (Unit {0})
+tells_nothing = record { cancel = λ r s e. (tt, e) }
+
+infixr 45 ◌then◌
+infixr 45 ◌so◌
+
+-- a second pair of pieces behind the first, which may rest on what the first has told
+pub ◌so◌ : {p q p' q' : List ℕ} {E E' : Type 0} → Tells p q E → (E → Tells p' q' E') → Tells (p ++ p') (q ++ q') (E × E')
+◌so◌ {p = p} {q = q} {p' = p'} {q' = q'} first second = record {
+  cancel = λ r s e.
+    let front = first.cancel (p' ++ r) (q' ++ s) (peel p p' r q q' s e) in
+    let back = (second front.0).cancel r s front.1 in
+    ((front.0, back.0), back.1);
+}
+
+pub ◌then◌ : {p q p' q' : List ℕ} {E E' : Type 0} → Tells p q E → Tells p' q' E' → Tells (p ++ p') (q ++ q') (E × E')
+first then second = first so (λ _. second)
 
 -- ---- numbers
 
@@ -89,3 +116,43 @@ unfolding raw_bytes
 Cancels-raw x y r s x_fits y_fits e =
     let parts = cancel_attribute x.name y.name x.bytes y.bytes r s x_fits.name y_fits.name x_fits.size y_fits.size e in
     (λ i. record { name = parts.0 i; bytes = parts.1 i }, parts.2)
+
+-- ---- pieces of a record
+
+pub tells_two : (x y : ℕ) → FitsTwo x → FitsTwo y → Tells (two x) (two y) (x ≡ y)
+tells_two x y x_fits y_fits = tells two FitsTwo Cancels-two x y x_fits y_fits
+
+pub tells_four : (x y : ℕ) → FitsFour x → FitsFour y → Tells (four x) (four y) (x ≡ y)
+tells_four x y x_fits y_fits = tells four FitsFour Cancels-four x y x_fits y_fits
+
+pub tells_counted : {X : Type 0} (spell : X → List ℕ) (Fits : X → Type 0) → Cancels spell Fits → (xs ys : List X) → CountedFits Fits xs → CountedFits Fits ys →
+    Tells (counted spell xs) (counted spell ys) (xs ≡ ys)
+tells_counted spell Fits cancels xs ys xs_fit ys_fit = tells (counted spell) (CountedFits Fits) (Cancels-counted spell Fits cancels) xs ys xs_fit ys_fit
+
+-- a piece of a known length
+pub tells_same : (p q : List ℕ) → length p ≡ length q → Tells p q (p ≡ q)
+tells_same p q same = record { cancel = λ r s e. split_same p q r s same e }
+
+-- elements with a second property
+pub CountedFits-both : {X : Type 0} (P Q : X → Type 0) (xs : List X) → CountedFits P xs → AllByRecursion Q xs → CountedFits (λ x. P x × Q x) xs
+CountedFits-both P Q xs fits all = record { count = fits.count; each = All-both P Q xs fits.each all }
+
+-- with nothing behind it
+pub told_alone : {X : Type 0} (spell : X → List ℕ) (Fits : X → Type 0) → Cancels spell Fits → (x y : X) → Fits x → Fits y → spell x ≡ spell y → x ≡ y
+told_alone spell Fits cancels x y x_fits y_fits e = (cancels x y [] [] x_fits y_fits (ap (λ (bytes : List ℕ). bytes ++ []) e)).0
+
+-- ---- texts that tell kinds apart
+
+-- one index has one text
+one_text : (o : Option (List ℕ)) (s t : List ℕ) → o ≡ Some s → o ≡ Some t → s ≡ t
+one_text o s t first second = cc
+
+some_and : {X : Type 0} (P : X → Type 0) (o : Option X) (x : X) → o ≡ Some x → IsSomeAnd o P → P x
+some_and P None x e h = absurd h
+some_and P (Some y) x e h = let same : y ≡ x = cc in subst P same h
+
+pub same_text : (entries : List Entry) (n m : ℕ) (s t : List ℕ) → n ≡ m → utf8_at entries n ≡ Some s → utf8_at entries m ≡ Some t → s ≡ t
+same_text entries n m s t same first second = one_text (utf8_at entries n) s t first (ap (utf8_at entries) same ∙ second)
+
+pub text_meets : (P : List ℕ → Type 0) (entries : List Entry) (n m : ℕ) (s : List ℕ) → n ≡ m → utf8_at entries n ≡ Some s → IsSomeAnd (utf8_at entries m) P → P s
+text_meets P entries n m s same first second = some_and P (utf8_at entries m) s (ap (utf8_at entries) (sym same) ∙ first) second
