@@ -91,7 +91,7 @@ with_targets_back f g (insn.Table low others targets) (back, all_back) = λ k. i
 with_targets_back f g (insn.Lookup others keys targets) (back, all_back) = λ k. insn.Lookup (back k) keys (map_back f g targets all_back k)
 with_targets_back f g i back = refl
 
-All-weaker : {X : Type 0} (P Q : X → Type 0) → ((x : X) → P x → Q x) → (xs : List X) → AllByRecursion P xs → AllByRecursion Q xs
+pub All-weaker : {X : Type 0} (P Q : X → Type 0) → ((x : X) → P x → Q x) → (xs : List X) → AllByRecursion P xs → AllByRecursion Q xs
 All-weaker P Q weaker [] all = tt
 All-weaker P Q weaker (x ∷ xs) (p, all) = (weaker x p, All-weaker P Q weaker xs all)
 

@@ -1,0 +1,175 @@
+-- The bytes of a class file determine its record.
+use Rattle.std.proofs.Common.{◌≡◌, ℕ, ◌<◌, Bool, true, false, List, [], ◌∷◌, ◌++◌, length, codes, refl, ap, sym, ◌∙◌, subst, arith}
+use Rattle.std.specs.List.{AllByRecursion, concat}
+use Rattle.fm_code.specs.Numbers.{two}
+use Rattle.fm_code.specs.ClassBytes.{counted, attribute_bytes, raw_bytes, code_bytes, member_attribute_bytes, member_bytes, pool_bytes, magic, class_bytes}
+use Rattle.fm_code.specs.Fits.{FitsTwo, FitsFour, MemberAttrFits, MemberFits, RawFits, ClassFits}
+use Rattle.fm_code.specs.Rules.{FieldAttrIsValid, FieldIsValid, MethodAttrIsValid, MethodIsValid, is_interface}
+use Rattle.fm_code.specs.Spells.{Spells}
+use Rattle.fm_code.specs.declared.constant_pool.Entry.{Entry}
+use Rattle.fm_code.specs.declared.constant_pool.Pool.{Pool}
+use Rattle.fm_code.specs.declared.class_file.ClassDef.{ClassDef}
+use Rattle.fm_code.specs.declared.class_file.Member.{Member}
+use Rattle.fm_code.specs.declared.class_file.MemberAttr.{MemberAttr}
+use Rattle.fm_code.specs.declared.class_file.MemberAttr.TheVariants as attribute
+use Rattle.fm_code.proofs.Bytes.{length-two}
+use Rattle.fm_code.proofs.Prefixes.{Cancels, Tells, Cancels-two, Cancels-raw, cancel_attribute, All-both, CountedFits-both, ◌then◌, ◌so◌, tells, tells_two, tells_counted, tells_same, tells_nothing, told_alone, text_meets}
+use Rattle.fm_code.proofs.PoolPrefixes.{PoolFits, Cancels-pool}
+use Rattle.fm_code.proofs.CodeItems.{All-weaker}
+use Rattle.fm_code.proofs.CodePrefixes.{one_code_attribute}
+
+-- ---- attributes of members
+
+abbrev name_of : MemberAttr → ℕ
+name_of (attribute.Constant name value) = name
+name_of (attribute.Coded name code) = name
+name_of (attribute.Other raw) = raw.name
+
+abbrev body_of : MemberAttr → List ℕ
+body_of (attribute.Constant name value) = two value
+body_of (attribute.Coded name code) = code_bytes code
+body_of (attribute.Other raw) = raw.bytes
+
+member_attribute_is : (a : MemberAttr) → member_attribute_bytes a ≡ attribute_bytes (name_of a) (body_of a)
+unfolding member_attribute_bytes raw_bytes
+member_attribute_is (attribute.Constant name value) = refl
+member_attribute_is (attribute.Coded name code) = refl
+member_attribute_is (attribute.Other raw) = refl
+
+name_fits : (a : MemberAttr) → MemberAttrFits a → FitsTwo (name_of a)
+name_fits (attribute.Constant name value) fits = fits.0
+name_fits (attribute.Coded name code) fits = fits.0
+name_fits (attribute.Other raw) fits = fits.name
+
+body_fits : (a : MemberAttr) → MemberAttrFits a → FitsFour (length (body_of a))
+body_fits (attribute.Constant name value) fits = let size = length-two value in omega arith
+body_fits (attribute.Coded name code) fits = fits.1.size
+body_fits (attribute.Other raw) fits = fits.size
+
+-- attributes that are told by their names and their bodies are told by their bytes
+Cancels-member_attribute : (Right : MemberAttr → Type 0) → ((a : MemberAttr) → Right a → MemberAttrFits a) →
+    ((a b : MemberAttr) → Right a → Right b → name_of a ≡ name_of b → body_of a ≡ body_of b → a ≡ b) → Cancels member_attribute_bytes Right
+Cancels-member_attribute Right fits same a b r s a_right b_right e =
+    let spelled : attribute_bytes (name_of a) (body_of a) ++ r ≡ attribute_bytes (name_of b) (body_of b) ++ s =
+    sym (ap (λ (bytes : List ℕ). bytes ++ r) (member_attribute_is a)) ∙ e ∙ ap (λ (bytes : List ℕ). bytes ++ s) (member_attribute_is b) in
+    let parts = cancel_attribute (name_of a) (name_of b) (body_of a) (body_of b) r s (name_fits a (fits a a_right)) (name_fits b (fits b b_right))
+      (body_fits a (fits a a_right)) (body_fits b (fits b b_right)) spelled in
+    (same a b a_right b_right parts.0 parts.1, parts.2)
+
+abbrev FieldAttrIsRight : List Entry → MemberAttr → Type 0
+FieldAttrIsRight entries a = MemberAttrFits a × FieldAttrIsValid entries a
+
+same_field_attribute : (entries : List Entry) (a b : MemberAttr) → FieldAttrIsRight entries a → FieldAttrIsRight entries b → name_of a ≡ name_of b → body_of a ≡ body_of b → a ≡ b
+same_field_attribute entries (attribute.Constant n v) (attribute.Constant m w) (a_fits, _) (b_fits, _) names bodies =
+    let values = told_alone two FitsTwo Cancels-two v w a_fits.1 b_fits.1 bodies in λ k. attribute.Constant (names k) (values k)
+same_field_attribute entries (attribute.Constant n v) (attribute.Other raw) a_right b_right names bodies =
+    absurd (text_meets _ entries n raw.name _ names a_right.1 b_right.1 refl)
+same_field_attribute entries (attribute.Other raw) (attribute.Constant m w) a_right b_right names bodies =
+    absurd (text_meets _ entries m raw.name _ (sym names) b_right.1 a_right.1 refl)
+same_field_attribute entries (attribute.Other raw) (attribute.Other other) a_right b_right names bodies = λ k. attribute.Other (record { name = names k; bytes = bodies k })
+same_field_attribute entries (attribute.Coded n c) b a_right b_right names bodies = absurd a_right.1
+same_field_attribute entries a (attribute.Coded m d) a_right b_right names bodies = absurd b_right.1
+
+abbrev MethodAttrIsRight : List Entry → MemberAttr → Type 0
+MethodAttrIsRight entries a = MemberAttrFits a × MethodAttrIsValid entries a
+
+same_method_attribute : (entries : List Entry) (a b : MemberAttr) → MethodAttrIsRight entries a → MethodAttrIsRight entries b → name_of a ≡ name_of b → body_of a ≡ body_of b → a ≡ b
+same_method_attribute entries (attribute.Coded n c) (attribute.Coded m d) (a_fits, a_valid) (b_fits, b_valid) names bodies =
+    let codes_same = one_code_attribute entries c d (record { fits = a_fits.1; valid = a_valid.1 }) (record { fits = b_fits.1; valid = b_valid.1 }) bodies in
+    λ k. attribute.Coded (names k) (codes_same k)
+same_method_attribute entries (attribute.Coded n c) (attribute.Other raw) a_right b_right names bodies =
+    absurd (text_meets _ entries n raw.name _ names a_right.1.0 b_right.1 refl)
+same_method_attribute entries (attribute.Other raw) (attribute.Coded m d) a_right b_right names bodies =
+    absurd (text_meets _ entries m raw.name _ (sym names) b_right.1.0 a_right.1 refl)
+same_method_attribute entries (attribute.Other raw) (attribute.Other other) a_right b_right names bodies = λ k. attribute.Other (record { name = names k; bytes = bodies k })
+same_method_attribute entries (attribute.Constant n v) b a_right b_right names bodies = absurd a_right.1
+same_method_attribute entries a (attribute.Constant m w) a_right b_right names bodies = absurd b_right.1
+
+-- ---- members
+
+-- a member whose attributes meet a rule
+abbrev MemberIsRight : (MemberAttr → Type 0) → Member → Type 0
+MemberIsRight Valid m = MemberFits m × AllByRecursion Valid m.attributes
+
+Cancels-member : (Valid : MemberAttr → Type 0) → Cancels member_attribute_bytes (λ a. MemberAttrFits a × Valid a) → Cancels member_bytes (MemberIsRight Valid)
+unfolding member_bytes
+Cancels-member Valid cancels x y r s (x_fits, x_valid) (y_fits, y_valid) e =
+    let told =
+      tells_two x.flags y.flags x_fits.flags y_fits.flags
+      then tells_two x.name y.name x_fits.name y_fits.name
+      then tells_two x.descriptor y.descriptor x_fits.descriptor y_fits.descriptor
+      then tells_counted member_attribute_bytes (λ a. MemberAttrFits a × Valid a) cancels x.attributes y.attributes
+        (CountedFits-both MemberAttrFits Valid x.attributes x_fits.attributes x_valid) (CountedFits-both MemberAttrFits Valid y.attributes y_fits.attributes y_valid)
+      then tells_nothing in
+    let ((flags, (name, (descriptor, (attributes, _)))), rest) = told.cancel r s e in
+    (λ k. record { flags = flags k; name = name k; descriptor = descriptor k; attributes = attributes k }, rest)
+
+Cancels-field : (entries : List Entry) → Cancels member_bytes (MemberIsRight (FieldAttrIsValid entries))
+Cancels-field entries =
+    Cancels-member (FieldAttrIsValid entries) (Cancels-member_attribute (FieldAttrIsRight entries) (λ a right. right.0) (same_field_attribute entries))
+
+Cancels-method : (entries : List Entry) → Cancels member_bytes (MemberIsRight (MethodAttrIsValid entries))
+Cancels-method entries =
+    Cancels-member (MethodAttrIsValid entries) (Cancels-member_attribute (MethodAttrIsRight entries) (λ a right. right.0) (same_method_attribute entries))
+
+-- ---- the class file
+
+tells_fields : (bytes : List ℕ) (c d : ClassDef) → Spells bytes c → Spells bytes d → c.pool ≡ d.pool →
+    Tells (counted member_bytes c.fields) (counted member_bytes d.fields) (c.fields ≡ d.fields)
+tells_fields bytes c d c_spells d_spells pool =
+    let entries = c.pool.entries in
+    let Valid : Member → Type 0 = λ m. AllByRecursion (FieldAttrIsValid entries) m.attributes in
+    let valid : (m : Member) → FieldIsValid entries m → Valid m = λ m field. field.attributes in
+    let d_there : AllByRecursion (FieldIsValid entries) d.fields = subst (λ (p : Pool). AllByRecursion (FieldIsValid p.entries) d.fields) (sym pool) d_spells.fields in
+    tells_counted member_bytes (MemberIsRight (FieldAttrIsValid entries)) (Cancels-field entries) c.fields d.fields
+    (CountedFits-both MemberFits Valid c.fields c_spells.fits.fields (All-weaker (FieldIsValid entries) Valid valid c.fields c_spells.fields))
+    (CountedFits-both MemberFits Valid d.fields d_spells.fits.fields (All-weaker (FieldIsValid entries) Valid valid d.fields d_there))
+
+tells_methods : (bytes : List ℕ) (c d : ClassDef) → Spells bytes c → Spells bytes d → c.pool ≡ d.pool →
+    Tells (counted member_bytes c.methods) (counted member_bytes d.methods) (c.methods ≡ d.methods)
+tells_methods bytes c d c_spells d_spells pool =
+    let entries = c.pool.entries in
+    let Valid : Member → Type 0 = λ m. AllByRecursion (MethodAttrIsValid entries) m.attributes in
+    let valid : (interface : Bool) (m : Member) → MethodIsValid interface entries m → Valid m = λ interface m method. method.attributes in
+    let d_there : AllByRecursion (MethodIsValid (is_interface d.flags) entries) d.methods =
+    subst (λ (p : Pool). AllByRecursion (MethodIsValid (is_interface d.flags) p.entries) d.methods) (sym pool) d_spells.methods in
+    tells_counted member_bytes (MemberIsRight (MethodAttrIsValid entries)) (Cancels-method entries) c.methods d.methods
+    (CountedFits-both MemberFits Valid c.methods c_spells.fits.methods
+        (All-weaker (MethodIsValid (is_interface c.flags) entries) Valid (valid (is_interface c.flags)) c.methods c_spells.methods))
+    (CountedFits-both MemberFits Valid d.methods d_spells.fits.methods
+        (All-weaker (MethodIsValid (is_interface d.flags) entries) Valid (valid (is_interface d.flags)) d.methods d_there))
+
+-- the bytes of a class file determine its record
+pub one_record : (bytes : List ℕ) (c d : ClassDef) → Spells bytes c → Spells bytes d → c ≡ d
+unfolding class_bytes
+one_record bytes c d c_spells d_spells =
+    let c_fits = c_spells.fits in
+    let d_fits = d_spells.fits in
+    let told =
+      tells_same magic magic refl
+      then tells_two c.minor d.minor c_fits.minor d_fits.minor
+      then tells_two c.major d.major c_fits.major d_fits.major
+      then tells pool_bytes PoolFits Cancels-pool c.pool d.pool (record { entries = c_fits.pool; slots = c_spells.slots }) (record { entries = d_fits.pool; slots = d_spells.slots })
+      so λ pool. (
+        tells_two c.flags d.flags c_fits.flags d_fits.flags
+        then tells_two c.this_class d.this_class c_fits.this_class d_fits.this_class
+        then tells_two c.super_class d.super_class c_fits.super_class d_fits.super_class
+        then tells_counted two FitsTwo Cancels-two c.interfaces d.interfaces c_fits.interfaces d_fits.interfaces
+        then tells_fields bytes c d c_spells d_spells pool
+        then tells_methods bytes c d c_spells d_spells pool
+        then tells_counted raw_bytes RawFits Cancels-raw c.attributes d.attributes c_fits.attributes d_fits.attributes
+        then tells_nothing) in
+    let ((_, (minor, (major, (pool, (flags, (this, (super, (interfaces, (fields, (methods, (attributes, _))))))))))), _) =
+    told.cancel [] [] (ap (λ (bs : List ℕ). bs ++ []) (sym c_spells.bytes_are ∙ d_spells.bytes_are)) in
+    λ k. record {
+      minor = minor k;
+      major = major k;
+      pool = pool k;
+      flags = flags k;
+      this_class = this k;
+      super_class = super k;
+      interfaces = interfaces k;
+      fields = fields k;
+      methods = methods k;
+      attributes = attributes k;
+    }
