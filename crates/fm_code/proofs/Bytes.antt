@@ -8,7 +8,7 @@ use Rattle.std.specs.Prelude.{FitsSigned}
 use Rattle.byteorder.specs.Endian.{big_from, big_number, big_bytes}
 use Rattle.byteorder.specs.Numbers.{big_from-cons, length-bytes_high_first, big_number-reads_back}
 use Rattle.fm_code.specs.Numbers.{two, four, eight, signed_four, signed_eight}
-use Rattle.fm_code.specs.Fits.{IsByte, AreBytes, FitsTwo, FitsFour}
+use Rattle.fm_code.specs.Fits.{AreBytes, FitsTwo, FitsFour}
 
 -- a byte of a number, by its place
 byte_at-pow : (k x : ℕ) → byte_at k x ≡ x / 256 ^ k % 256

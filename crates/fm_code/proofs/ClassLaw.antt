@@ -1,9 +1,9 @@
 -- The bytes of a class file determine its record.
-use Rattle.std.proofs.Common.{◌≡◌, ℕ, ◌<◌, Bool, true, false, List, [], ◌∷◌, ◌++◌, length, codes, refl, ap, sym, ◌∙◌, subst, arith}
-use Rattle.std.specs.List.{AllByRecursion, concat}
+use Rattle.std.proofs.Common.{◌≡◌, ℕ, Bool, List, [], ◌++◌, length, refl, ap, sym, ◌∙◌, subst, arith}
+use Rattle.std.specs.List.{AllByRecursion}
 use Rattle.fm_code.specs.Numbers.{two}
 use Rattle.fm_code.specs.ClassBytes.{counted, attribute_bytes, raw_bytes, code_bytes, member_attribute_bytes, member_bytes, pool_bytes, magic, class_bytes}
-use Rattle.fm_code.specs.Fits.{FitsTwo, FitsFour, MemberAttrFits, MemberFits, RawFits, ClassFits}
+use Rattle.fm_code.specs.Fits.{FitsTwo, FitsFour, MemberAttrFits, MemberFits, RawFits}
 use Rattle.fm_code.specs.Rules.{FieldAttrIsValid, FieldIsValid, MethodAttrIsValid, MethodIsValid, is_interface}
 use Rattle.fm_code.specs.Spells.{Spells}
 use Rattle.fm_code.specs.declared.constant_pool.Entry.{Entry}
@@ -13,7 +13,7 @@ use Rattle.fm_code.specs.declared.class_file.Member.{Member}
 use Rattle.fm_code.specs.declared.class_file.MemberAttr.{MemberAttr}
 use Rattle.fm_code.specs.declared.class_file.MemberAttr.TheVariants as attribute
 use Rattle.fm_code.proofs.Bytes.{length-two}
-use Rattle.fm_code.proofs.Prefixes.{Cancels, Tells, Cancels-two, Cancels-raw, cancel_attribute, All-both, CountedFits-both, ◌then◌, ◌so◌, tells, tells_two, tells_counted, tells_same, tells_nothing, told_alone, text_meets}
+use Rattle.fm_code.proofs.Prefixes.{Cancels, Tells, Cancels-two, Cancels-raw, cancel_attribute, CountedFits-both, ◌then◌, ◌so◌, tells, tells_two, tells_counted, tells_same, tells_nothing, told_alone, text_meets}
 use Rattle.fm_code.proofs.PoolPrefixes.{PoolFits, Cancels-pool}
 use Rattle.fm_code.proofs.CodeItems.{All-weaker}
 use Rattle.fm_code.proofs.CodePrefixes.{one_code_attribute}
@@ -53,7 +53,7 @@ Cancels-member_attribute Right fits same a b r s a_right b_right e =
     let spelled : attribute_bytes (name_of a) (body_of a) ++ r ≡ attribute_bytes (name_of b) (body_of b) ++ s =
     sym (ap (λ (bytes : List ℕ). bytes ++ r) (member_attribute_is a)) ∙ e ∙ ap (λ (bytes : List ℕ). bytes ++ s) (member_attribute_is b) in
     let parts = cancel_attribute (name_of a) (name_of b) (body_of a) (body_of b) r s (name_fits a (fits a a_right)) (name_fits b (fits b b_right))
-      (body_fits a (fits a a_right)) (body_fits b (fits b b_right)) spelled in
+    (body_fits a (fits a a_right)) (body_fits b (fits b b_right)) spelled in
     (same a b a_right b_right parts.0 parts.1, parts.2)
 
 abbrev FieldAttrIsRight : List Entry → MemberAttr → Type 0
@@ -95,12 +95,12 @@ Cancels-member : (Valid : MemberAttr → Type 0) → Cancels member_attribute_by
 unfolding member_bytes
 Cancels-member Valid cancels x y r s (x_fits, x_valid) (y_fits, y_valid) e =
     let told =
-      tells_two x.flags y.flags x_fits.flags y_fits.flags
-      then tells_two x.name y.name x_fits.name y_fits.name
-      then tells_two x.descriptor y.descriptor x_fits.descriptor y_fits.descriptor
-      then tells_counted member_attribute_bytes (λ a. MemberAttrFits a × Valid a) cancels x.attributes y.attributes
-        (CountedFits-both MemberAttrFits Valid x.attributes x_fits.attributes x_valid) (CountedFits-both MemberAttrFits Valid y.attributes y_fits.attributes y_valid)
-      then tells_nothing in
+    tells_two x.flags y.flags x_fits.flags y_fits.flags
+    then tells_two x.name y.name x_fits.name y_fits.name
+    then tells_two x.descriptor y.descriptor x_fits.descriptor y_fits.descriptor
+    then tells_counted member_attribute_bytes (λ a. MemberAttrFits a × Valid a) cancels x.attributes y.attributes
+    (CountedFits-both MemberAttrFits Valid x.attributes x_fits.attributes x_valid) (CountedFits-both MemberAttrFits Valid y.attributes y_fits.attributes y_valid)
+    then tells_nothing in
     let ((flags, (name, (descriptor, (attributes, _)))), rest) = told.cancel r s e in
     (λ k. record { flags = flags k; name = name k; descriptor = descriptor k; attributes = attributes k }, rest)
 
@@ -135,9 +135,9 @@ tells_methods bytes c d c_spells d_spells pool =
     subst (λ (p : Pool). AllByRecursion (MethodIsValid (is_interface d.flags) p.entries) d.methods) (sym pool) d_spells.methods in
     tells_counted member_bytes (MemberIsRight (MethodAttrIsValid entries)) (Cancels-method entries) c.methods d.methods
     (CountedFits-both MemberFits Valid c.methods c_spells.fits.methods
-        (All-weaker (MethodIsValid (is_interface c.flags) entries) Valid (valid (is_interface c.flags)) c.methods c_spells.methods))
+    (All-weaker (MethodIsValid (is_interface c.flags) entries) Valid (valid (is_interface c.flags)) c.methods c_spells.methods))
     (CountedFits-both MemberFits Valid d.methods d_spells.fits.methods
-        (All-weaker (MethodIsValid (is_interface d.flags) entries) Valid (valid (is_interface d.flags)) d.methods d_there))
+    (All-weaker (MethodIsValid (is_interface d.flags) entries) Valid (valid (is_interface d.flags)) d.methods d_there))
 
 -- the bytes of a class file determine its record
 pub one_record : (bytes : List ℕ) (c d : ClassDef) → Spells bytes c → Spells bytes d → c ≡ d
@@ -146,19 +146,19 @@ one_record bytes c d c_spells d_spells =
     let c_fits = c_spells.fits in
     let d_fits = d_spells.fits in
     let told =
-      tells_same magic magic refl
-      then tells_two c.minor d.minor c_fits.minor d_fits.minor
-      then tells_two c.major d.major c_fits.major d_fits.major
-      then tells pool_bytes PoolFits Cancels-pool c.pool d.pool (record { entries = c_fits.pool; slots = c_spells.slots }) (record { entries = d_fits.pool; slots = d_spells.slots })
-      so λ pool. (
-        tells_two c.flags d.flags c_fits.flags d_fits.flags
-        then tells_two c.this_class d.this_class c_fits.this_class d_fits.this_class
-        then tells_two c.super_class d.super_class c_fits.super_class d_fits.super_class
-        then tells_counted two FitsTwo Cancels-two c.interfaces d.interfaces c_fits.interfaces d_fits.interfaces
-        then tells_fields bytes c d c_spells d_spells pool
-        then tells_methods bytes c d c_spells d_spells pool
-        then tells_counted raw_bytes RawFits Cancels-raw c.attributes d.attributes c_fits.attributes d_fits.attributes
-        then tells_nothing) in
+    tells_same magic magic refl
+    then tells_two c.minor d.minor c_fits.minor d_fits.minor
+    then tells_two c.major d.major c_fits.major d_fits.major
+    then tells pool_bytes PoolFits Cancels-pool c.pool d.pool (record { entries = c_fits.pool; slots = c_spells.slots }) (record { entries = d_fits.pool; slots = d_spells.slots })
+    so λ pool. (
+    tells_two c.flags d.flags c_fits.flags d_fits.flags
+    then tells_two c.this_class d.this_class c_fits.this_class d_fits.this_class
+    then tells_two c.super_class d.super_class c_fits.super_class d_fits.super_class
+    then tells_counted two FitsTwo Cancels-two c.interfaces d.interfaces c_fits.interfaces d_fits.interfaces
+    then tells_fields bytes c d c_spells d_spells pool
+    then tells_methods bytes c d c_spells d_spells pool
+    then tells_counted raw_bytes RawFits Cancels-raw c.attributes d.attributes c_fits.attributes d_fits.attributes
+    then tells_nothing) in
     let ((_, (minor, (major, (pool, (flags, (this, (super, (interfaces, (fields, (methods, (attributes, _))))))))))), _) =
     told.cancel [] [] (ap (λ (bs : List ℕ). bs ++ []) (sym c_spells.bytes_are ∙ d_spells.bytes_are)) in
     λ k. record {

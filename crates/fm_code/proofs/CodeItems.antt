@@ -1,5 +1,5 @@
 -- A code array is the items of one list only.
-use Rattle.std.proofs.Common.{◌≡◌, ℕ, zero, suc, ◌+◌, ◌<◌, ◌≤◌, Bool, true, false, ◌==◌, List, [], ◌∷◌, ◌++◌, length, map, Some, refl, ap, sym, ◌∙◌, subst, arith, if◌then◌else◌, length-append}
+use Rattle.std.proofs.Common.{◌≡◌, ℕ, zero, suc, ◌+◌, ◌<◌, ◌≤◌, Bool, ◌==◌, List, [], ◌∷◌, ◌++◌, length, map, Some, refl, ap, sym, ◌∙◌, subst, arith, if◌then◌else◌, length-append}
 use Rattle.std.proofs.lemmas.Bool.{eq-eqb, ne_eqb}
 use Rattle.std.proofs.lemmas.List.{append_cancel_left}
 use Rattle.std.specs.List.{AllByRecursion, AllZip, flat_map}
@@ -155,7 +155,7 @@ same_items xs_all ys_all find found count offsets (x ∷ xs) (y ∷ ys) ((at, by
     let f = offset_in xs_all zero in
     let x_back = with_targets_back f find x.insn (All-weaker (λ target. target < length xs_all) (λ target. find (f target) ≡ target) found (targets_of x.insn) x_is.targets) in
     let y_back = with_targets_back f find y.insn
-      (All-weaker (λ target. target < length ys_all) (λ target. find (f target) ≡ target) (λ target inside. found target (omega arith)) (targets_of y.insn) y_is.targets) in
+    (All-weaker (λ target. target < length ys_all) (λ target. find (f target) ≡ target) (λ target inside. found target (omega arith)) (targets_of y.insn) y_is.targets) in
     let both : Some (with_targets f x.insn) ≡ Some (with_targets f y.insn) =
     sym x_is.instruction ∙ (λ k. insn_at (at k) (bytes k)) ∙ y_is.instruction ∙ ap (λ (g : ℕ → ℕ). Some (with_targets g y.insn)) (sym offsets) in
     let named : with_targets f x.insn ≡ with_targets f y.insn = cc in
@@ -181,8 +181,8 @@ pub one_code : (bytes : List ℕ) (xs ys : List Item) → SpellsCode bytes xs �
 one_code bytes xs ys x_spells y_spells =
     let laid = AreLaid-code bytes xs x_spells in
     let same = same_cuts 0 xs ys x_spells.offsets y_spells.offsets
-      (All-weaker (IsSpelled xs) IsRead (IsSpelled-read xs) xs x_spells.spelled) (All-weaker (IsSpelled ys) IsRead (IsSpelled-read ys) ys y_spells.spelled)
-      (sym x_spells.bytes_are ∙ y_spells.bytes_are) in
+    (All-weaker (IsSpelled xs) IsRead (IsSpelled-read xs) xs x_spells.spelled) (All-weaker (IsSpelled ys) IsRead (IsSpelled-read ys) ys y_spells.spelled)
+    (sym x_spells.bytes_are ∙ y_spells.bytes_are) in
     let found : (target : ℕ) → target < length xs → index_of xs (offset_in xs zero target) ≡ target = λ target inside.
     ap (index_of xs) (offset_of_item xs zero (length bytes) target inside) ∙ index_of-offset_in 0 (length bytes) xs target laid inside in
     same_items xs ys (index_of xs) found (same_count xs ys same) (λ k target. same_offset xs ys zero target same k) xs ys same x_spells.spelled y_spells.spelled

@@ -1,15 +1,13 @@
 -- The bytes of a Code attribute determine its record.
-use Rattle.std.proofs.Common.{◌≡◌, ◌≢◌, ℕ, zero, suc, ◌+◌, ◌-◌, ◌*◌, ◌<◌, ◌≤◌, ◌^◌, Bool, true, false, List, [], ◌∷◌, ◌++◌, length, Option, Some, IsSomeAnd, codes, refl, ap, sym, ◌∙◌, subst, arith, inl, inr, length-append}
+use Rattle.std.proofs.Common.{◌≡◌, ℕ, ◌-◌, ◌*◌, ◌<◌, ◌≤◌, true, false, List, [], ◌∷◌, ◌++◌, length, codes, refl, ap, sym, ◌∙◌, subst, arith, inl, inr, length-append}
 use Rattle.std.proofs.lemmas.Bool.{cases_order}
-use Rattle.std.proofs.lemmas.List.{append-nil}
-use Rattle.std.specs.List.{AllByRecursion, flat_map, concat}
+use Rattle.std.specs.List.{flat_map, concat}
 use Rattle.fm_code.specs.Numbers.{two, four}
-use Rattle.fm_code.specs.ClassBytes.{counted, attribute_bytes, raw_bytes, offset_in, offset_of, item_bytes, handler_bytes, line_bytes, var_bytes, code_attribute_bytes, code_bytes}
-use Rattle.fm_code.specs.Fits.{FitsTwo, FitsFour, CountedFits, RawFits, VarFits, CodeAttrFits, CodeFits}
+use Rattle.fm_code.specs.ClassBytes.{counted, attribute_bytes, raw_bytes, offset_in, offset_of, item_bytes, code_attribute_bytes, code_bytes}
+use Rattle.fm_code.specs.Fits.{FitsTwo, FitsFour, CountedFits, VarFits, CodeAttrFits, CodeFits}
 use Rattle.fm_code.specs.SpellsCode.{SpellsCode}
-use Rattle.fm_code.specs.Rules.{utf8_at, HandlerIsValid, VarIsValid, CodeAttrIsValid, CodeIsValid}
+use Rattle.fm_code.specs.Rules.{HandlerIsValid, VarIsValid, CodeAttrIsValid, CodeIsValid}
 use Rattle.fm_code.specs.declared.constant_pool.Entry.{Entry}
-use Rattle.fm_code.specs.declared.class_file.Raw.{Raw}
 use Rattle.fm_code.specs.declared.code_array.Code.{Code}
 use Rattle.fm_code.specs.declared.code_array.Item.{Item}
 use Rattle.fm_code.specs.declared.code_array.Handler.{Handler}
@@ -18,7 +16,7 @@ use Rattle.fm_code.specs.declared.code_array.CodeAttr.TheVariants as code_attrib
 use Rattle.fm_code.specs.declared.code_array.Line.{Line}
 use Rattle.fm_code.specs.declared.code_array.Var.{Var}
 use Rattle.fm_code.proofs.Bytes.{length-two}
-use Rattle.fm_code.proofs.Prefixes.{Cancels, Tells, Cancels-two, Cancels-counted, Cancels-raw, cancel_attribute, CountedFits-both, ◌then◌, ◌so◌, tells_two, tells_four, tells_counted, tells_same, tells_nothing, told_alone, same_text, text_meets}
+use Rattle.fm_code.proofs.Prefixes.{Cancels, Tells, Cancels-two, Cancels-counted, cancel_attribute, CountedFits-both, ◌then◌, ◌so◌, tells_two, tells_four, tells_counted, tells_same, tells_nothing, told_alone, same_text, text_meets}
 use Rattle.fm_code.proofs.CodeItems.{AreLaid, AreLaid-code, offset_le_end, offset_rises, one_code}
 
 -- ---- offsets for the numbers of items
@@ -32,7 +30,7 @@ pub record ArePlaces (place : ℕ → ℕ) (count : ℕ) : Type 0 where
 place_injective : (place : ℕ → ℕ) (count k l : ℕ) → ArePlaces place count → k ≤ count → l ≤ count → place k ≡ place l → k ≡ l
 place_injective place count k l places k_in l_in e =
     elim (cases_order k l) [
-      inl same ↦ same
+      | inl same ↦ same
       | inr (inl before) ↦ (let rises = places.rise k l before l_in in absurd (omega arith))
       | inr (inr after) ↦ (let rises = places.rise l k after k_in in absurd (omega arith))
     ]
@@ -40,7 +38,7 @@ place_injective place count k l places k_in l_in e =
 tells_place : (place : ℕ → ℕ) (count k l : ℕ) → ArePlaces place count → k ≤ count → l ≤ count → Tells (two (place k)) (two (place l)) (k ≡ l)
 tells_place place count k l places k_in l_in = record {
   cancel = λ r s e.
-    let parts = Cancels-two (place k) (place l) r s (places.fit k) (places.fit l) e in (place_injective place count k l places k_in l_in parts.0, parts.1);
+      let parts = Cancels-two (place k) (place l) r s (places.fit k) (places.fit l) e in (place_injective place count k l places k_in l_in parts.0, parts.1);
 }
 
 -- the bytes of the tables, by the offsets
@@ -65,11 +63,11 @@ Cancels-handler place count places x y r s (x_class, x_valid) (y_class, y_valid)
     let x_handler : x.handler ≤ count = let below = x_valid.handler in omega arith in
     let y_handler : y.handler ≤ count = let below = y_valid.handler in omega arith in
     let told =
-      tells_place place count x.start y.start places x_start y_start
-      then tells_place place count x.end y.end places x_valid.end y_valid.end
-      then tells_place place count x.handler y.handler places x_handler y_handler
-      then tells_two x.catch_class y.catch_class x_class y_class
-      then tells_nothing in
+    tells_place place count x.start y.start places x_start y_start
+    then tells_place place count x.end y.end places x_valid.end y_valid.end
+    then tells_place place count x.handler y.handler places x_handler y_handler
+    then tells_two x.catch_class y.catch_class x_class y_class
+    then tells_nothing in
     let ((start, (end, (handler, (class, _)))), rest) = told.cancel r s e in
     (λ k. record { start = start k; end = end k; handler = handler k; catch_class = class k }, rest)
 
@@ -89,11 +87,11 @@ VarIsRight count v = VarFits v × VarIsValid count v
 same_end : (place : ℕ → ℕ) (count a b c d : ℕ) → ArePlaces place count → a ≤ b → b ≤ count → c ≤ d → d ≤ count → a ≡ c → place b - place a ≡ place d - place c → b ≡ d
 same_end place count a b c d places a_b b_in c_d d_in starts sizes =
     let up : (k l : ℕ) → k ≤ l → l ≤ count → place k ≤ place l = λ k l before inside.
-      elim (cases_order k l) [
-        inl same ↦ (let e = ap place same in omega arith)
-        | inr (inl below) ↦ (let rises = places.rise k l below inside in omega arith)
-        | inr (inr above) ↦ absurd (omega arith)
-      ] in
+    elim (cases_order k l) [
+      | inl same ↦ (let e = ap place same in omega arith)
+      | inr (inl below) ↦ (let rises = places.rise k l below inside in omega arith)
+      | inr (inr above) ↦ absurd (omega arith)
+    ] in
     let first = up a b a_b b_in in
     let second = up c d c_d d_in in
     let start : place a ≡ place c = ap place starts in
@@ -106,12 +104,12 @@ Cancels-var place count places x y r s (x_fits, x_valid) (y_fits, y_valid) e =
     let x_size : FitsTwo (place x.end - place x.start) = let a = places.fit x.end in omega arith in
     let y_size : FitsTwo (place y.end - place y.start) = let a = places.fit y.end in omega arith in
     let told =
-      tells_place place count x.start y.start places x_start y_start
-      then tells_two (place x.end - place x.start) (place y.end - place y.start) x_size y_size
-      then tells_two x.name y.name x_fits.name y_fits.name
-      then tells_two x.kind y.kind x_fits.kind y_fits.kind
-      then tells_two x.index y.index x_fits.index y_fits.index
-      then tells_nothing in
+    tells_place place count x.start y.start places x_start y_start
+    then tells_two (place x.end - place x.start) (place y.end - place y.start) x_size y_size
+    then tells_two x.name y.name x_fits.name y_fits.name
+    then tells_two x.kind y.kind x_fits.kind y_fits.kind
+    then tells_two x.index y.index x_fits.index y_fits.index
+    then tells_nothing in
     let ((start, (size, (name, (kind, (index, _))))), rest) = told.cancel r s e in
     let end = same_end place count x.start x.end y.start y.end places x_valid.start x_valid.end y_valid.start y_valid.end start size in
     (λ k. record { start = start k; end = end k; name = name k; kind = kind k; index = index k }, rest)
@@ -186,8 +184,8 @@ same_attribute : (place : ℕ → ℕ) (entries : List Entry) (count : ℕ) → 
     name_of a ≡ name_of b → body_by place a ≡ body_by place b → a ≡ b
 same_attribute place entries count places (code_attribute.Lines n xs) (code_attribute.Lines m ys) (a_fits, a_valid) (b_fits, b_valid) names bodies =
     let lines = told_alone (counted (line_by place)) (CountedFits (LineIsRight count)) (Cancels-counted (line_by place) (LineIsRight count) (Cancels-line place count places)) xs ys
-      (CountedFits-both (λ (l : Line). FitsTwo l.line) (λ (l : Line). l.item < count) xs a_fits.1 a_valid.1)
-      (CountedFits-both (λ (l : Line). FitsTwo l.line) (λ (l : Line). l.item < count) ys b_fits.1 b_valid.1) bodies in
+    (CountedFits-both (λ (l : Line). FitsTwo l.line) (λ (l : Line). l.item < count) xs a_fits.1 a_valid.1)
+    (CountedFits-both (λ (l : Line). FitsTwo l.line) (λ (l : Line). l.item < count) ys b_fits.1 b_valid.1) bodies in
     λ k. code_attribute.Lines (names k) (lines k)
 same_attribute place entries count places (code_attribute.Lines n xs) (code_attribute.Vars m false ys) a_right b_right names bodies =
     lines_vars _ (same_text entries n m _ _ names a_right.1.0 b_right.1.0)
@@ -205,11 +203,11 @@ same_attribute place entries count places (code_attribute.Vars n true xs) (code_
     vars_types _ (same_text entries m n _ _ (sym names) b_right.1.0 a_right.1.0)
 same_attribute place entries count places (code_attribute.Vars n false xs) (code_attribute.Vars m false ys) (a_fits, a_valid) (b_fits, b_valid) names bodies =
     let vars = told_alone (counted (var_by place)) (CountedFits (VarIsRight count)) (Cancels-counted (var_by place) (VarIsRight count) (Cancels-var place count places)) xs ys
-      (CountedFits-both VarFits (VarIsValid count) xs a_fits.1 a_valid.1) (CountedFits-both VarFits (VarIsValid count) ys b_fits.1 b_valid.1) bodies in
+    (CountedFits-both VarFits (VarIsValid count) xs a_fits.1 a_valid.1) (CountedFits-both VarFits (VarIsValid count) ys b_fits.1 b_valid.1) bodies in
     λ k. code_attribute.Vars (names k) false (vars k)
 same_attribute place entries count places (code_attribute.Vars n true xs) (code_attribute.Vars m true ys) (a_fits, a_valid) (b_fits, b_valid) names bodies =
     let vars = told_alone (counted (var_by place)) (CountedFits (VarIsRight count)) (Cancels-counted (var_by place) (VarIsRight count) (Cancels-var place count places)) xs ys
-      (CountedFits-both VarFits (VarIsValid count) xs a_fits.1 a_valid.1) (CountedFits-both VarFits (VarIsValid count) ys b_fits.1 b_valid.1) bodies in
+    (CountedFits-both VarFits (VarIsValid count) xs a_fits.1 a_valid.1) (CountedFits-both VarFits (VarIsValid count) ys b_fits.1 b_valid.1) bodies in
     λ k. code_attribute.Vars (names k) true (vars k)
 same_attribute place entries count places (code_attribute.Vars n false xs) (code_attribute.Other raw) a_right b_right names bodies =
     absurd ((text_meets _ entries n raw.name _ names a_right.1.0 b_right.1).1 refl)
@@ -227,7 +225,7 @@ same_attribute place entries count places (code_attribute.Other raw) (code_attri
 Cancels-attribute : (place : ℕ → ℕ) (entries : List Entry) (count : ℕ) → ArePlaces place count → Cancels (attribute_by place) (CodeAttrIsRight entries count)
 Cancels-attribute place entries count places a b r s a_right b_right e =
     let parts = cancel_attribute (name_of a) (name_of b) (body_by place a) (body_by place b) r s (name_fits a a_right.0) (name_fits b b_right.0)
-      (body_fits place a a_right.0) (body_fits place b b_right.0) e in
+    (body_fits place a a_right.0) (body_fits place b b_right.0) e in
     (same_attribute place entries count places a b a_right b_right parts.0 parts.1, parts.2)
 
 -- ---- the whole
@@ -293,14 +291,14 @@ one_code_attribute entries c d c_right d_right e =
     let handlers = tells_table handler_by HandlerIsRight c d (Cancels-handler place count places) in
     let attributes = tells_table attribute_by (CodeAttrIsRight entries) c d (Cancels-attribute place entries count places) in
     let told =
-      tells_two c.max_stack d.max_stack c_fits.max_stack d_fits.max_stack
-      then tells_two c.max_locals d.max_locals c_fits.max_locals d_fits.max_locals
-      then tells_four c.length d.length c_fits.code_length d_fits.code_length
-      so λ lengths. tells_same (flat_map item_bytes c.items) (flat_map item_bytes d.items) (sym c_valid.measured ∙ lengths ∙ d_valid.measured)
-      so λ bytes. (let items = same_code_items entries c d c_valid d_valid bytes in
-        handlers items lengths c.handlers d.handlers c_handlers d_handlers
-        then attributes items lengths c.attributes d.attributes c_attributes d_attributes
-        then tells_nothing) in
+    tells_two c.max_stack d.max_stack c_fits.max_stack d_fits.max_stack
+    then tells_two c.max_locals d.max_locals c_fits.max_locals d_fits.max_locals
+    then tells_four c.length d.length c_fits.code_length d_fits.code_length
+    so λ lengths. tells_same (flat_map item_bytes c.items) (flat_map item_bytes d.items) (sym c_valid.measured ∙ lengths ∙ d_valid.measured)
+    so λ bytes. (let items = same_code_items entries c d c_valid d_valid bytes in
+    handlers items lengths c.handlers d.handlers c_handlers d_handlers
+    then attributes items lengths c.attributes d.attributes c_attributes d_attributes
+    then tells_nothing) in
     let ((stack, (locals, (lengths, (bytes, (same_handlers, (same_attributes, _)))))), _) = told.cancel [] [] (ap (λ (bs : List ℕ). bs ++ []) (sym (code_bytes_by c) ∙ e ∙ code_bytes_by d)) in
     let items = same_code_items entries c d c_valid d_valid bytes in
     λ k. record { max_stack = stack k; max_locals = locals k; items = items k; length = lengths k; handlers = same_handlers k; attributes = same_attributes k }

@@ -1,11 +1,11 @@
 -- The bytes of an instruction tell where it ends.
-use Rattle.std.proofs.Common.{◌≡◌, ◌≢◌, ℕ, zero, suc, ◌+◌, ◌*◌, ◌<◌, ◌≤◌, Bool, true, false, cond, eqb, ltb, ◌&&◌, ◌==◌, List, [], ◌∷◌, ◌++◌, length, drop, take, get_or, Option, Some, None, option_and_then, refl, ap, sym, ◌∙◌, subst, arith, ℤ, pos, negsuc, ◌+ℤ◌, ◌-ℤ◌, if◌then◌else◌}
-use Rattle.std.proofs.lemmas.Bool.{eqb-true, eqb-false, ltb-false, and_parts, false≢true}
-use Rattle.std.proofs.lemmas.List.{take-append-drop, drop-append-le, length-drop}
+use Rattle.std.proofs.Common.{◌≡◌, ℕ, zero, suc, ◌*◌, ◌<◌, ◌≤◌, Bool, true, false, ltb, ◌==◌, List, [], ◌∷◌, ◌++◌, length, drop, get_or, Option, Some, None, option_and_then, refl, ap, sym, ◌∙◌, arith, ℤ, pos, negsuc, ◌+ℤ◌, ◌-ℤ◌, if◌then◌else◌}
+use Rattle.std.proofs.lemmas.Bool.{eqb-true, ltb-false, and_parts}
+use Rattle.std.proofs.lemmas.List.{drop-append-le, length-drop}
 use Rattle.std.specs.List.{AllByRecursion, slice_index_or}
 use Rattle.std.specs.Option.{option_map}
-use Rattle.fm_code.specs.Numbers.{number_of_two, signed_four_of}
-use Rattle.fm_code.specs.InstructionTable.{Reading, malformed, bare, byte, signed_byte, two_bytes, short, signed_short, jump, long_jump, left_out, increment, interface_call, array_of_arrays, new_array, wide_local, wide, padding_at, signed_fours, offsets_from, is_number, table_switch, are_rising, pairs_of, lookup_switch, switch, constants_and_loads, stores_and_stack, arithmetic, control_and_objects, readings, insn_at}
+use Rattle.fm_code.specs.Numbers.{number_of_two}
+use Rattle.fm_code.specs.InstructionTable.{Reading, malformed, bare, byte, signed_byte, two_bytes, short, signed_short, jump, long_jump, left_out, increment, interface_call, array_of_arrays, new_array, wide_local, wide, padding_at, signed_fours, is_number, table_switch, pairs_of, lookup_switch, switch, constants_and_loads, stores_and_stack, arithmetic, control_and_objects, readings, insn_at}
 use Rattle.fm_code.specs.declared.operations.Reg.TheVariants as reg
 use Rattle.fm_code.specs.declared.operations.Elem.TheVariants as elem
 use Rattle.fm_code.specs.declared.operations.Test.TheVariants as test
@@ -115,9 +115,9 @@ TellsEnd-left_out opcode count = TellsEnd-length count (left_out opcode count) (
 wide_local_is : (opcode index : ℕ) (i : Insn) → wide_local opcode index ≡ Some i → (opcode == 132) ≡ false
 wide_local_is opcode index i e =
     go (opcode == 132) refl where
-    go : (t : Bool) → (opcode == 132) ≡ t → (opcode == 132) ≡ false
-    go true is = let none : wide_local 132 index ≡ Some i = ap (λ (n : ℕ). wide_local n index) (sym (eqb-true opcode 132 is)) ∙ e in cc
-    go false is = is
+      go : (t : Bool) → (opcode == 132) ≡ t → (opcode == 132) ≡ false
+      go true is = let none : wide_local 132 index ≡ Some i = ap (λ (n : ℕ). wide_local n index) (sym (eqb-true opcode 132 is)) ∙ e in cc
+      go false is = is
 
 length-wide : (offset opcode : ℕ) (rest : List ℕ) (i : Insn) → wide offset (opcode ∷ rest) ≡ Some i → length rest ≡ (if opcode == 132 then 4 else 2)
 length-wide offset opcode (a ∷ b ∷ []) i e =
@@ -223,7 +223,7 @@ switch_is : (f : ℕ → List ℤ → Option Insn) (offset : ℕ) (x : List ℕ)
     (padding_at offset ≤ length x) × ((zs : List ℤ) × ((signed_fours (drop (padding_at offset) x) ≡ Some zs) × (f offset zs ≡ Some i)))
 switch_is f offset x i e = go (ltb (length x) (padding_at offset)) refl e where
   go : (t : Bool) → ltb (length x) (padding_at offset) ≡ t → (if t then None else option_and_then (f offset) (signed_fours (drop (padding_at offset) x))) ≡ Some i →
-    (padding_at offset ≤ length x) × ((zs : List ℤ) × ((signed_fours (drop (padding_at offset) x) ≡ Some zs) × (f offset zs ≡ Some i)))
+      (padding_at offset ≤ length x) × ((zs : List ℤ) × ((signed_fours (drop (padding_at offset) x) ≡ Some zs) × (f offset zs ≡ Some i)))
   go true is h = cc
   go false is h = (ltb-false (length x) (padding_at offset) is, and_then_some (f offset) (signed_fours (drop (padding_at offset) x)) i h)
 
@@ -243,7 +243,6 @@ TellsEnd-switch f tells_count offset x y r s i j x_read y_read e =
 -- ---- the table
 
 infixr 45 ◌also◌
-
 -- a reading's fact in front of those of the later ones
 ◌also◌ : {A B : Type 0} → A → B → A × B
 a also b = (a, b)

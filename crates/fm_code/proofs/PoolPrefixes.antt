@@ -1,8 +1,8 @@
 -- The constant pool is told by its bytes.
-use Rattle.std.proofs.Common.{◌≡◌, ℕ, zero, suc, ◌+◌, ◌<◌, Bool, true, false, List, [], ◌∷◌, ◌++◌, length, refl, ap, sym, ◌∙◌, arith, subst}
+use Rattle.std.proofs.Common.{◌≡◌, ℕ, Bool, true, false, List, [], ◌∷◌, ◌++◌, length, refl, ap, sym, ◌∙◌, arith, subst}
 use Rattle.std.specs.List.{AllByRecursion, flat_map}
-use Rattle.fm_code.specs.Numbers.{two, four, eight, signed_four, signed_eight}
-use Rattle.fm_code.specs.ClassBytes.{counted, entry_bytes, pool_bytes}
+use Rattle.fm_code.specs.Numbers.{two}
+use Rattle.fm_code.specs.ClassBytes.{entry_bytes, pool_bytes}
 use Rattle.fm_code.specs.Fits.{FitsTwo, CountedFits, EntryFits}
 use Rattle.fm_code.specs.Rules.{AreSlots, takes_two}
 use Rattle.fm_code.specs.declared.constant_pool.Entry.{Entry}
@@ -91,7 +91,7 @@ cancel_entries false (x ∷ xs) (y ∷ ys) r s same first second (x_fits, first_
     let before = slots_spelled x xs first in
     let after = slots_spelled y ys second in
     let head = cancel_entry x y (flat_map entry_bytes xs ++ r) (flat_map entry_bytes ys ++ s) before.0 after.0 x_fits y_fits
-      (peel (entry_bytes x) (flat_map entry_bytes xs) r (entry_bytes y) (flat_map entry_bytes ys) s e) in
+    (peel (entry_bytes x) (flat_map entry_bytes xs) r (entry_bytes y) (flat_map entry_bytes ys) s e) in
     let due_same : AreSlots (takes_two x) ys = subst (λ (z : Entry). AreSlots (takes_two z) ys) (sym head.0) after.1 in
     let tail = cancel_entries (takes_two x) xs ys r s (omega arith) before.1 due_same first_fit second_fit head.1 in
     (λ i. head.0 i ∷ tail.0 i, tail.1)
@@ -105,7 +105,7 @@ pub Cancels-pool : Cancels pool_bytes PoolFits
 unfolding pool_bytes
 Cancels-pool x y r s x_fits y_fits e =
     let count = Cancels-two (length x.entries) (length y.entries) (flat_map entry_bytes x.entries ++ r) (flat_map entry_bytes y.entries ++ s)
-      x_fits.entries.count y_fits.entries.count
-      (peel (two (length x.entries)) (flat_map entry_bytes x.entries) r (two (length y.entries)) (flat_map entry_bytes y.entries) s e) in
+    x_fits.entries.count y_fits.entries.count
+    (peel (two (length x.entries)) (flat_map entry_bytes x.entries) r (two (length y.entries)) (flat_map entry_bytes y.entries) s e) in
     let entries = cancel_entries true x.entries y.entries r s count.0 x_fits.slots y_fits.slots x_fits.entries.each y_fits.entries.each count.1 in
     (λ i. record { entries = entries.0 i }, entries.1)

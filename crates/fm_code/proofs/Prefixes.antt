@@ -1,5 +1,5 @@
 -- Spellings that tell where they end: numbers, counted lists, and attributes.
-use Rattle.std.proofs.Common.{◌≡◌, ℕ, zero, suc, ◌^◌, ◌<◌, List, [], ◌∷◌, ◌++◌, length, take, drop, refl, ap, sym, ◌∙◌, arith, subst, Option, None, Some, IsSomeAnd, FitsSigned, ℤ}
+use Rattle.std.proofs.Common.{◌≡◌, ℕ, ◌^◌, ◌<◌, List, [], ◌∷◌, ◌++◌, length, take, drop, refl, ap, sym, ◌∙◌, arith, subst, Option, None, Some, IsSomeAnd, FitsSigned}
 use Rattle.std.proofs.lemmas.List.{append_assoc, take_at, drop_at}
 use Rattle.std.specs.Int.{w32, w64}
 use Rattle.std.specs.List.{AllByRecursion, flat_map}
@@ -8,7 +8,6 @@ use Rattle.fm_code.specs.ClassBytes.{counted, attribute_bytes, raw_bytes}
 use Rattle.fm_code.specs.Fits.{FitsTwo, FitsFour, CountedFits, RawFits}
 use Rattle.fm_code.specs.Rules.{utf8_at}
 use Rattle.fm_code.specs.declared.constant_pool.Entry.{Entry}
-use Rattle.fm_code.specs.declared.class_file.Raw.{Raw}
 use Rattle.fm_code.proofs.Bytes.{length-two, length-four, length-eight, length-signed_four, length-signed_eight, two_injective, four_injective, eight_injective, signed_four_injective, signed_eight_injective}
 
 -- a value and what follows it are told by the bytes
@@ -17,9 +16,10 @@ Cancels {X = X} spell Fits = (x y : X) (r s : List ℕ) → Fits x → Fits y �
 
 -- a piece of a known length is told by the bytes
 pub split_same : (a b r s : List ℕ) → length a ≡ length b → a ++ r ≡ b ++ s → (a ≡ b) × (r ≡ s)
-split_same a b r s same e =
-    (sym (take_at a r (length b) same) ∙ ap (take (length b)) e ∙ take_at b s (length b) refl,
-        sym (drop_at a r (length b) same) ∙ ap (drop (length b)) e ∙ drop_at b s (length b) refl)
+split_same a b r s same e = (
+  sym (take_at a r (length b) same) ∙ ap (take (length b)) e ∙ take_at b s (length b) refl,
+  sym (drop_at a r (length b) same) ∙ ap (drop (length b)) e ∙ drop_at b s (length b) refl,
+)
 
 -- the first of two pieces, in front of all that follows it
 pub peel : (a x r b y s : List ℕ) → (a ++ x) ++ r ≡ (b ++ y) ++ s → a ++ (x ++ r) ≡ b ++ (y ++ s)
@@ -37,14 +37,13 @@ tells_nothing = record { cancel = λ r s e. (tt, e) }
 
 infixr 45 ◌then◌
 infixr 45 ◌so◌
-
 -- a second pair of pieces behind the first, which may rest on what the first has told
 pub ◌so◌ : {p q p' q' : List ℕ} {E E' : Type 0} → Tells p q E → (E → Tells p' q' E') → Tells (p ++ p') (q ++ q') (E × E')
 ◌so◌ {p = p} {q = q} {p' = p'} {q' = q'} first second = record {
   cancel = λ r s e.
-    let front = first.cancel (p' ++ r) (q' ++ s) (peel p p' r q q' s e) in
-    let back = (second front.0).cancel r s front.1 in
-    ((front.0, back.0), back.1);
+      let front = first.cancel (p' ++ r) (q' ++ s) (peel p p' r q q' s e) in
+      let back = (second front.0).cancel r s front.1 in
+      ((front.0, back.0), back.1);
 }
 
 pub ◌then◌ : {p q p' q' : List ℕ} {E E' : Type 0} → Tells p q E → Tells p' q' E' → Tells (p ++ p') (q ++ q') (E × E')
@@ -95,7 +94,7 @@ cancel_elements spell Fits cancels (x ∷ xs) (y ∷ ys) r s same (x_fits, first
 pub Cancels-counted : {X : Type 0} (spell : X → List ℕ) (Fits : X → Type 0) → Cancels spell Fits → Cancels (counted spell) (CountedFits Fits)
 Cancels-counted spell Fits cancels xs ys r s xs_fit ys_fit e =
     let count = Cancels-two (length xs) (length ys) (flat_map spell xs ++ r) (flat_map spell ys ++ s) xs_fit.count ys_fit.count
-      (peel (two (length xs)) (flat_map spell xs) r (two (length ys)) (flat_map spell ys) s e) in
+    (peel (two (length xs)) (flat_map spell xs) r (two (length ys)) (flat_map spell ys) s e) in
     cancel_elements spell Fits cancels xs ys r s count.0 xs_fit.each ys_fit.each count.1
 
 -- ---- attributes
@@ -105,9 +104,9 @@ pub cancel_attribute : (name name' : ℕ) (body body' r s : List ℕ) → FitsTw
     attribute_bytes name body ++ r ≡ attribute_bytes name' body' ++ s → (name ≡ name') × (body ≡ body') × (r ≡ s)
 cancel_attribute name name' body body' r s name_fits name'_fits size_fits size'_fits e =
     let first = Cancels-two name name' ((four (length body) ++ body) ++ r) ((four (length body') ++ body') ++ s) name_fits name'_fits
-      (peel (two name) (four (length body) ++ body) r (two name') (four (length body') ++ body') s e) in
+    (peel (two name) (four (length body) ++ body) r (two name') (four (length body') ++ body') s e) in
     let size = Cancels-four (length body) (length body') (body ++ r) (body' ++ s) size_fits size'_fits
-      (peel (four (length body)) body r (four (length body')) body' s first.1) in
+    (peel (four (length body)) body r (four (length body')) body' s first.1) in
     let rest = split_same body body' r s size.0 size.1 in
     (first.0, rest.0, rest.1)
 
