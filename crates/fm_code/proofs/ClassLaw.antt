@@ -114,9 +114,9 @@ Cancels-method entries =
 
 -- ---- the class file
 
-tells_fields : (bytes : List ℕ) (c d : ClassDef) → Spells bytes c → Spells bytes d → c.pool ≡ d.pool →
+tells_fields : (x y : List ℕ) (c d : ClassDef) → Spells x c → Spells y d → c.pool ≡ d.pool →
     Tells (counted member_bytes c.fields) (counted member_bytes d.fields) (c.fields ≡ d.fields)
-tells_fields bytes c d c_spells d_spells pool =
+tells_fields x y c d c_spells d_spells pool =
     let entries = c.pool.entries in
     let Valid : Member → Type 0 = λ m. AllByRecursion (FieldAttrIsValid entries) m.attributes in
     let valid : (m : Member) → FieldIsValid entries m → Valid m = λ m field. field.attributes in
@@ -125,9 +125,9 @@ tells_fields bytes c d c_spells d_spells pool =
     (CountedFits-both MemberFits Valid c.fields c_spells.fits.fields (All-weaker (FieldIsValid entries) Valid valid c.fields c_spells.fields))
     (CountedFits-both MemberFits Valid d.fields d_spells.fits.fields (All-weaker (FieldIsValid entries) Valid valid d.fields d_there))
 
-tells_methods : (bytes : List ℕ) (c d : ClassDef) → Spells bytes c → Spells bytes d → c.pool ≡ d.pool →
+tells_methods : (x y : List ℕ) (c d : ClassDef) → Spells x c → Spells y d → c.pool ≡ d.pool →
     Tells (counted member_bytes c.methods) (counted member_bytes d.methods) (c.methods ≡ d.methods)
-tells_methods bytes c d c_spells d_spells pool =
+tells_methods x y c d c_spells d_spells pool =
     let entries = c.pool.entries in
     let Valid : Member → Type 0 = λ m. AllByRecursion (MethodAttrIsValid entries) m.attributes in
     let valid : (interface : Bool) (m : Member) → MethodIsValid interface entries m → Valid m = λ interface m method. method.attributes in
@@ -139,10 +139,10 @@ tells_methods bytes c d c_spells d_spells pool =
     (CountedFits-both MemberFits Valid d.methods d_spells.fits.methods
     (All-weaker (MethodIsValid (is_interface d.flags) entries) Valid (valid (is_interface d.flags)) d.methods d_there))
 
--- the bytes of a class file determine its record
-pub one_record : (bytes : List ℕ) (c d : ClassDef) → Spells bytes c → Spells bytes d → c ≡ d
+-- a class file in front of other bytes is told by the bytes alone
+pub cancel_class : (x y : List ℕ) (c d : ClassDef) (r s : List ℕ) → Spells x c → Spells y d → x ++ r ≡ y ++ s → (c ≡ d) × (r ≡ s)
 unfolding class_bytes
-one_record bytes c d c_spells d_spells =
+cancel_class x y c d r s c_spells d_spells e =
     let c_fits = c_spells.fits in
     let d_fits = d_spells.fits in
     let told =
@@ -155,13 +155,13 @@ one_record bytes c d c_spells d_spells =
     then tells_two c.this_class d.this_class c_fits.this_class d_fits.this_class
     then tells_two c.super_class d.super_class c_fits.super_class d_fits.super_class
     then tells_counted two FitsTwo Cancels-two c.interfaces d.interfaces c_fits.interfaces d_fits.interfaces
-    then tells_fields bytes c d c_spells d_spells pool
-    then tells_methods bytes c d c_spells d_spells pool
+    then tells_fields x y c d c_spells d_spells pool
+    then tells_methods x y c d c_spells d_spells pool
     then tells_counted raw_bytes RawFits Cancels-raw c.attributes d.attributes c_fits.attributes d_fits.attributes
     then tells_nothing) in
-    let ((_, (minor, (major, (pool, (flags, (this, (super, (interfaces, (fields, (methods, (attributes, _))))))))))), _) =
-    told.cancel [] [] (ap (λ (bs : List ℕ). bs ++ []) (sym c_spells.bytes_are ∙ d_spells.bytes_are)) in
-    λ k. record {
+    let ((_, (minor, (major, (pool, (flags, (this, (super, (interfaces, (fields, (methods, (attributes, _))))))))))), follows) =
+    told.cancel r s (sym (ap (λ (bytes : List ℕ). bytes ++ r) c_spells.bytes_are) ∙ e ∙ ap (λ (bytes : List ℕ). bytes ++ s) d_spells.bytes_are) in
+    (λ k. record {
       minor = minor k;
       major = major k;
       pool = pool k;
@@ -172,4 +172,8 @@ one_record bytes c d c_spells d_spells =
       fields = fields k;
       methods = methods k;
       attributes = attributes k;
-    }
+    }, follows)
+
+-- the bytes of a class file determine its record
+pub one_record : (bytes : List ℕ) (c d : ClassDef) → Spells bytes c → Spells bytes d → c ≡ d
+one_record bytes c d c_spells d_spells = (cancel_class bytes bytes c d [] [] c_spells d_spells refl).0
