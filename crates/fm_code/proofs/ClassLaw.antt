@@ -20,28 +20,28 @@ use Rattle.fm_code.proofs.CodePrefixes.{one_code_attribute}
 
 -- ---- attributes of members
 
-abbrev name_of : MemberAttr → ℕ
+abbrev pub name_of : MemberAttr → ℕ
 name_of (attribute.Constant name value) = name
 name_of (attribute.Coded name code) = name
 name_of (attribute.Other raw) = raw.name
 
-abbrev body_of : MemberAttr → List ℕ
+abbrev pub body_of : MemberAttr → List ℕ
 body_of (attribute.Constant name value) = two value
 body_of (attribute.Coded name code) = code_bytes code
 body_of (attribute.Other raw) = raw.bytes
 
-member_attribute_is : (a : MemberAttr) → member_attribute_bytes a ≡ attribute_bytes (name_of a) (body_of a)
+pub member_attribute_is : (a : MemberAttr) → member_attribute_bytes a ≡ attribute_bytes (name_of a) (body_of a)
 unfolding member_attribute_bytes raw_bytes
 member_attribute_is (attribute.Constant name value) = refl
 member_attribute_is (attribute.Coded name code) = refl
 member_attribute_is (attribute.Other raw) = refl
 
-name_fits : (a : MemberAttr) → MemberAttrFits a → FitsTwo (name_of a)
+pub name_fits : (a : MemberAttr) → MemberAttrFits a → FitsTwo (name_of a)
 name_fits (attribute.Constant name value) fits = fits.0
 name_fits (attribute.Coded name code) fits = fits.0
 name_fits (attribute.Other raw) fits = fits.name
 
-body_fits : (a : MemberAttr) → MemberAttrFits a → FitsFour (length (body_of a))
+pub body_fits : (a : MemberAttr) → MemberAttrFits a → FitsFour (length (body_of a))
 body_fits (attribute.Constant name value) fits = let size = length-two value in omega arith
 body_fits (attribute.Coded name code) fits = fits.1.size
 body_fits (attribute.Other raw) fits = fits.size
@@ -160,19 +160,21 @@ cancel_class x y c d r s c_spells d_spells e =
     then tells_counted raw_bytes RawFits Cancels-raw c.attributes d.attributes c_fits.attributes d_fits.attributes
     then tells_nothing) in
     let ((_, (minor, (major, (pool, (flags, (this, (super, (interfaces, (fields, (methods, (attributes, _))))))))))), follows) =
-    told.cancel r s (sym (ap (λ (bytes : List ℕ). bytes ++ r) c_spells.bytes_are) ∙ e ∙ ap (λ (bytes : List ℕ). bytes ++ s) d_spells.bytes_are) in
-    (λ k. record {
-      minor = minor k;
-      major = major k;
-      pool = pool k;
-      flags = flags k;
-      this_class = this k;
-      super_class = super k;
-      interfaces = interfaces k;
-      fields = fields k;
-      methods = methods k;
-      attributes = attributes k;
-    }, follows)
+    told.cancel r s (sym (ap (λ (bytes : List ℕ). bytes ++ r) c_spells.bytes_are) ∙ e ∙ ap (λ (bytes : List ℕ). bytes ++ s) d_spells.bytes_are) in (
+      λ k. record {
+        minor = minor k;
+        major = major k;
+        pool = pool k;
+        flags = flags k;
+        this_class = this k;
+        super_class = super k;
+        interfaces = interfaces k;
+        fields = fields k;
+        methods = methods k;
+        attributes = attributes k;
+      },
+      follows,
+    )
 
 -- the bytes of a class file determine its record
 pub one_record : (bytes : List ℕ) (c d : ClassDef) → Spells bytes c → Spells bytes d → c ≡ d

@@ -15,7 +15,7 @@ abbrev pub IsSpelledEntry : Entry → Type 0
 IsSpelledEntry entry.Second = ⊥
 IsSpelledEntry e = Unit {0}
 
-first_of_both : (a b : ℕ) (r s : List ℕ) → a ∷ r ≡ b ∷ s → a ≡ b
+pub first_of_both : (a b : ℕ) (r s : List ℕ) → a ∷ r ≡ b ∷ s → a ≡ b
 first_of_both a b r s e = cc
 
 rest_of_both : (a b : ℕ) (r s : List ℕ) → a ∷ r ≡ b ∷ s → r ≡ s
@@ -64,12 +64,12 @@ cancel_entry x entry.Second r s _ spelled _ _ e = absurd spelled
 cancel_entry x y r s _ _ _ _ e = absurd (let tags = first_of_both _ _ _ _ e in omega (arith, tags))
 
 -- where nothing is due nothing is spelled
-slots_due : (x : Entry) (xs : List Entry) → AreSlots true (x ∷ xs) → (x ≡ entry.Second) × AreSlots false xs
+pub slots_due : (x : Entry) (xs : List Entry) → AreSlots true (x ∷ xs) → (x ≡ entry.Second) × AreSlots false xs
 slots_due entry.Second xs slots = (refl, slots)
 slots_due x xs slots = absurd slots
 
 -- elsewhere an entry is spelled, and what it takes is due behind it
-slots_spelled : (x : Entry) (xs : List Entry) → AreSlots false (x ∷ xs) → IsSpelledEntry x × AreSlots (takes_two x) xs
+pub slots_spelled : (x : Entry) (xs : List Entry) → AreSlots false (x ∷ xs) → IsSpelledEntry x × AreSlots (takes_two x) xs
 slots_spelled entry.Second xs slots = absurd slots
 slots_spelled x xs slots = (tt, slots)
 

@@ -1,6 +1,8 @@
 // Laws of the definitions, each as the contract of a function that does nothing.
 
-ghost use Rattle.std.specs.Prelude.{◌≡◌, ℕ, List};
+ghost use Rattle.std.specs.Prelude.{◌≡◌, ℕ, List, length, codes};
+ghost use Rattle.fm_code.specs.Example.{example_bytes, example_record, short_length_bytes, wrong_tag_bytes, longer_bytes};
+ghost use Rattle.fm_code.specs.FirstForm.{IsFirstForm, IsNamed, DeclaresMain};
 ghost use Rattle.fm_code.specs.Spells.{Spells};
 ghost use Rattle.fm_code.specs.SpellsCode.{SpellsCode};
 ghost use Rattle.fm_code.specs.declared.class_file.ClassDef.{ClassDef};
@@ -16,4 +18,17 @@ pub fn law_one_record()
 /// each target is told by its offset.
 pub fn law_one_code()
     ensures { (bytes : List ℕ) (xs ys : List Item) → SpellsCode bytes xs → SpellsCode bytes ys → xs ≡ ys }
+{}
+
+/// The definitions at a class file that is written out by hand: its bytes spell its record, which is
+/// of the first form, and three byte strings that differ from it in one place spell no record at all.
+pub fn law_example()
+    ensures size { length example_bytes ≡ 119 }
+    ensures spelled { Spells example_bytes example_record }
+    ensures first_form { IsFirstForm example_record }
+    ensures named { IsNamed example_record (codes "M") }
+    ensures main { DeclaresMain example_record }
+    ensures short_length { (c : ClassDef) → ¬ (Spells short_length_bytes c) }
+    ensures wrong_tag { (c : ClassDef) → ¬ (Spells wrong_tag_bytes c) }
+    ensures longer { (c : ClassDef) → ¬ (Spells longer_bytes c) }
 {}
