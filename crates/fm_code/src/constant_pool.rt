@@ -40,9 +40,10 @@ impl Pool {
         ensures spelled { IfSome result (λ e. e.now ≢ Entry.Second) }
         ensures none { IfNone result (entry_at self.now.entries index ≡ Entry.Second) }
     {
-        match self.entries.as_slice().get(usize::from(index)) {
-            Some(Entry::Second) | None => None,
-            Some(entry) => Some(entry),
+        let entry = self.entries.as_slice().get(usize::from(index))?;
+        match entry {
+            Entry::Second => None,
+            _ => Some(entry),
         }
     }
 
