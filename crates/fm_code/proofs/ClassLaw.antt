@@ -1,5 +1,6 @@
 -- The bytes of a class file determine its record.
 use Rattle.std.proofs.Common.{◌≡◌, ℕ, Bool, List, [], ◌++◌, length, refl, ap, sym, ◌∙◌, subst, arith}
+use Rattle.std.proofs.lemmas.List.{append-nil}
 use Rattle.std.specs.List.{AllByRecursion}
 use Rattle.fm_code.specs.Numbers.{two}
 use Rattle.fm_code.specs.ClassBytes.{counted, attribute_bytes, raw_bytes, code_bytes, member_attribute_bytes, member_bytes, pool_bytes, magic, class_bytes}
@@ -59,21 +60,26 @@ Cancels-member_attribute Right fits same a b r s a_right b_right e =
 abbrev FieldAttrIsRight : List Entry → MemberAttr → Type 0
 FieldAttrIsRight entries a = MemberAttrFits a × FieldAttrIsValid entries a
 
-same_field_attribute : (entries : List Entry) (a b : MemberAttr) → FieldAttrIsRight entries a → FieldAttrIsRight entries b → name_of a ≡ name_of b → body_of a ≡ body_of b → a ≡ b
+-- a field's attribute is told by its name and its body
+same_field_attribute : (entries : List Entry) (a b : MemberAttr) → FieldAttrIsRight entries a → FieldAttrIsRight entries b →
+    name_of a ≡ name_of b → body_of a ≡ body_of b → a ≡ b
 same_field_attribute entries (attribute.Constant n v) (attribute.Constant m w) (a_fits, _) (b_fits, _) names bodies =
     let values = told_alone two FitsTwo Cancels-two v w a_fits.1 b_fits.1 bodies in λ k. attribute.Constant (names k) (values k)
 same_field_attribute entries (attribute.Constant n v) (attribute.Other raw) a_right b_right names bodies =
     absurd (text_meets _ entries n raw.name _ names a_right.1 b_right.1 refl)
 same_field_attribute entries (attribute.Other raw) (attribute.Constant m w) a_right b_right names bodies =
     absurd (text_meets _ entries m raw.name _ (sym names) b_right.1 a_right.1 refl)
-same_field_attribute entries (attribute.Other raw) (attribute.Other other) a_right b_right names bodies = λ k. attribute.Other (record { name = names k; bytes = bodies k })
+same_field_attribute entries (attribute.Other raw) (attribute.Other other) a_right b_right names bodies =
+    λ k. attribute.Other (record { name = names k; bytes = bodies k })
 same_field_attribute entries (attribute.Coded n c) b a_right b_right names bodies = absurd a_right.1
 same_field_attribute entries a (attribute.Coded m d) a_right b_right names bodies = absurd b_right.1
 
 abbrev MethodAttrIsRight : List Entry → MemberAttr → Type 0
 MethodAttrIsRight entries a = MemberAttrFits a × MethodAttrIsValid entries a
 
-same_method_attribute : (entries : List Entry) (a b : MemberAttr) → MethodAttrIsRight entries a → MethodAttrIsRight entries b → name_of a ≡ name_of b → body_of a ≡ body_of b → a ≡ b
+-- a method's attribute is told by its name and its body
+same_method_attribute : (entries : List Entry) (a b : MemberAttr) → MethodAttrIsRight entries a → MethodAttrIsRight entries b →
+    name_of a ≡ name_of b → body_of a ≡ body_of b → a ≡ b
 same_method_attribute entries (attribute.Coded n c) (attribute.Coded m d) (a_fits, a_valid) (b_fits, b_valid) names bodies =
     let codes_same = one_code_attribute entries c d (record { fits = a_fits.1; valid = a_valid.1 }) (record { fits = b_fits.1; valid = b_valid.1 }) bodies in
     λ k. attribute.Coded (names k) (codes_same k)
@@ -81,7 +87,8 @@ same_method_attribute entries (attribute.Coded n c) (attribute.Other raw) a_righ
     absurd (text_meets _ entries n raw.name _ names a_right.1.0 b_right.1 refl)
 same_method_attribute entries (attribute.Other raw) (attribute.Coded m d) a_right b_right names bodies =
     absurd (text_meets _ entries m raw.name _ (sym names) b_right.1.0 a_right.1 refl)
-same_method_attribute entries (attribute.Other raw) (attribute.Other other) a_right b_right names bodies = λ k. attribute.Other (record { name = names k; bytes = bodies k })
+same_method_attribute entries (attribute.Other raw) (attribute.Other other) a_right b_right names bodies =
+    λ k. attribute.Other (record { name = names k; bytes = bodies k })
 same_method_attribute entries (attribute.Constant n v) b a_right b_right names bodies = absurd a_right.1
 same_method_attribute entries a (attribute.Constant m w) a_right b_right names bodies = absurd b_right.1
 
@@ -139,6 +146,9 @@ tells_methods x y c d c_spells d_spells pool =
     (CountedFits-both MemberFits Valid d.methods d_spells.fits.methods
     (All-weaker (MethodIsValid (is_interface d.flags) entries) Valid (valid (is_interface d.flags)) d.methods d_there))
 
+pool_fits : (bytes : List ℕ) (c : ClassDef) → Spells bytes c → PoolFits c.pool
+pool_fits bytes c spells = record { entries = spells.fits.pool; slots = spells.slots }
+
 -- a class file in front of other bytes is told by the bytes alone
 pub cancel_class : (x y : List ℕ) (c d : ClassDef) (r s : List ℕ) → Spells x c → Spells y d → x ++ r ≡ y ++ s → (c ≡ d) × (r ≡ s)
 unfolding class_bytes
@@ -149,7 +159,7 @@ cancel_class x y c d r s c_spells d_spells e =
     tells_same magic magic refl
     then tells_two c.minor d.minor c_fits.minor d_fits.minor
     then tells_two c.major d.major c_fits.major d_fits.major
-    then tells pool_bytes PoolFits Cancels-pool c.pool d.pool (record { entries = c_fits.pool; slots = c_spells.slots }) (record { entries = d_fits.pool; slots = d_spells.slots })
+    then tells pool_bytes PoolFits Cancels-pool c.pool d.pool (pool_fits x c c_spells) (pool_fits y d d_spells)
     so λ pool. (
     tells_two c.flags d.flags c_fits.flags d_fits.flags
     then tells_two c.this_class d.this_class c_fits.this_class d_fits.this_class
@@ -179,3 +189,8 @@ cancel_class x y c d r s c_spells d_spells e =
 -- the bytes of a class file determine its record
 pub one_record : (bytes : List ℕ) (c d : ClassDef) → Spells bytes c → Spells bytes d → c ≡ d
 one_record bytes c d c_spells d_spells = (cancel_class bytes bytes c d [] [] c_spells d_spells refl).0
+
+-- no class file is the beginning of another
+pub nothing_follows : (bytes rest : List ℕ) (c d : ClassDef) → Spells bytes c → Spells (bytes ++ rest) d → rest ≡ []
+nothing_follows bytes rest c d c_spells d_spells =
+    (cancel_class bytes (bytes ++ rest) c d rest [] c_spells d_spells (sym (append-nil (bytes ++ rest)))).1

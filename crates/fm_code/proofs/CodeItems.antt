@@ -42,7 +42,8 @@ offset_le_end start end (item ∷ items) zero laid = let first = laid.offsets.0 
 offset_le_end start end (item ∷ items) (suc k) laid = offset_le_end (start + length item.bytes) end items k (AreLaid-rest start end item items laid)
 
 -- a later item, or the end, has a greater offset
-pub offset_rises : (start end : ℕ) (items : List Item) (k l : ℕ) → AreLaid start items end → k < l → l ≤ length items → offset_in items end k < offset_in items end l
+pub offset_rises : (start end : ℕ) (items : List Item) (k l : ℕ) → AreLaid start items end → k < l → l ≤ length items →
+    offset_in items end k < offset_in items end l
 offset_rises start end [] k l laid before inside = absurd (omega arith)
 offset_rises start end (item ∷ items) k zero laid before inside = absurd (omega arith)
 offset_rises start end (item ∷ items) zero (suc l) laid before inside =
@@ -153,9 +154,10 @@ same_items xs_all ys_all find found count offsets [] (y ∷ ys) same x_spelled y
 same_items xs_all ys_all find found count offsets (x ∷ xs) [] same x_spelled y_spelled = absurd same
 same_items xs_all ys_all find found count offsets (x ∷ xs) (y ∷ ys) ((at, bytes), same) (x_is, x_spelled) (y_is, y_spelled) =
     let f = offset_in xs_all zero in
-    let x_back = with_targets_back f find x.insn (All-weaker (λ target. target < length xs_all) (λ target. find (f target) ≡ target) found (targets_of x.insn) x_is.targets) in
-    let y_back = with_targets_back f find y.insn
-    (All-weaker (λ target. target < length ys_all) (λ target. find (f target) ≡ target) (λ target inside. found target (omega arith)) (targets_of y.insn) y_is.targets) in
+    let IsFound : ℕ → Type 0 = λ target. find (f target) ≡ target in
+    let found_y : (target : ℕ) → target < length ys_all → IsFound target = λ target inside. found target (omega arith) in
+    let x_back = with_targets_back f find x.insn (All-weaker (λ target. target < length xs_all) IsFound found (targets_of x.insn) x_is.targets) in
+    let y_back = with_targets_back f find y.insn (All-weaker (λ target. target < length ys_all) IsFound found_y (targets_of y.insn) y_is.targets) in
     let both : Some (with_targets f x.insn) ≡ Some (with_targets f y.insn) =
     sym x_is.instruction ∙ (λ k. insn_at (at k) (bytes k)) ∙ y_is.instruction ∙ ap (λ (g : ℕ → ℕ). Some (with_targets g y.insn)) (sym offsets) in
     let named : with_targets f x.insn ≡ with_targets f y.insn = cc in

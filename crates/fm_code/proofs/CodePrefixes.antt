@@ -1,7 +1,7 @@
 -- The bytes of a Code attribute determine its record.
 use Rattle.std.proofs.Common.{◌≡◌, ℕ, ◌-◌, ◌*◌, ◌<◌, ◌≤◌, true, false, List, [], ◌∷◌, ◌++◌, length, codes, refl, ap, sym, ◌∙◌, subst, arith, inl, inr, length-append}
 use Rattle.std.proofs.lemmas.Bool.{cases_order}
-use Rattle.std.specs.List.{flat_map, concat}
+use Rattle.std.specs.List.{AllByRecursion, flat_map, concat}
 use Rattle.fm_code.specs.Numbers.{two, four}
 use Rattle.fm_code.specs.ClassBytes.{counted, attribute_bytes, raw_bytes, offset_in, offset_of, item_bytes, code_attribute_bytes, code_bytes}
 use Rattle.fm_code.specs.Fits.{FitsTwo, FitsFour, CountedFits, VarFits, CodeAttrFits, CodeFits}
@@ -84,7 +84,8 @@ abbrev VarIsRight : ℕ → Var → Type 0
 VarIsRight count v = VarFits v × VarIsValid count v
 
 -- offsets at the end of a range that has the same start and the same length
-same_end : (place : ℕ → ℕ) (count a b c d : ℕ) → ArePlaces place count → a ≤ b → b ≤ count → c ≤ d → d ≤ count → a ≡ c → place b - place a ≡ place d - place c → b ≡ d
+same_end : (place : ℕ → ℕ) (count a b c d : ℕ) → ArePlaces place count → a ≤ b → b ≤ count → c ≤ d → d ≤ count →
+    a ≡ c → place b - place a ≡ place d - place c → b ≡ d
 same_end place count a b c d places a_b b_in c_d d_in starts sizes =
     let up : (k l : ℕ) → k ≤ l → l ≤ count → place k ≤ place l = λ k l before inside.
     elim (cases_order k l) [
@@ -135,10 +136,15 @@ attribute_by_is code (code_attribute.Lines name lines) = refl
 attribute_by_is code (code_attribute.Vars name types vars) = refl
 attribute_by_is code (code_attribute.Other raw) = refl
 
-length-elements : {X : Type 0} (spell : X → List ℕ) (n : ℕ) → ((x : X) → length (spell x) ≡ n) → (xs : List X) → length (flat_map spell xs) ≡ length xs * n
+-- elements of one length
+length-elements : {X : Type 0} (spell : X → List ℕ) (n : ℕ) → ((x : X) → length (spell x) ≡ n) → (xs : List X) →
+    length (flat_map spell xs) ≡ length xs * n
 length-elements spell n each [] = omega arith
 length-elements spell n each (x ∷ xs) =
-    let rest = length-elements spell n each xs in let here = each x in let both = length-append (spell x) (flat_map spell xs) in grind arith
+    let rest = length-elements spell n each xs in
+    let here = each x in
+    let both = length-append (spell x) (flat_map spell xs) in
+    grind arith
 
 length-line : (place : ℕ → ℕ) (l : Line) → length (line_by place l) ≡ 4
 length-line place l = simp (length-append, length-two)
@@ -179,14 +185,33 @@ lines_types P e = let same : length (codes "LineNumberTable") ≡ length (codes 
 vars_types : (P : Type 0) → codes "LocalVariableTable" ≡ codes "LocalVariableTypeTable" → P
 vars_types P e = let same : length (codes "LocalVariableTable") ≡ length (codes "LocalVariableTypeTable") = ap length e in absurd (omega arith)
 
+abbrev LineFits : Line → Type 0
+LineFits l = FitsTwo l.line
+
+abbrev LineIsValid : ℕ → Line → Type 0
+LineIsValid count l = l.item < count
+
+-- a table of lines is told by its bytes
+same_lines : (place : ℕ → ℕ) (count : ℕ) → ArePlaces place count → (xs ys : List Line) → CountedFits LineFits xs → AllByRecursion (LineIsValid count) xs →
+    CountedFits LineFits ys → AllByRecursion (LineIsValid count) ys → counted (line_by place) xs ≡ counted (line_by place) ys → xs ≡ ys
+same_lines place count places xs ys xs_fit xs_valid ys_fit ys_valid e =
+    let cancels = Cancels-counted (line_by place) (LineIsRight count) (Cancels-line place count places) in
+    told_alone (counted (line_by place)) (CountedFits (LineIsRight count)) cancels xs ys
+    (CountedFits-both LineFits (LineIsValid count) xs xs_fit xs_valid) (CountedFits-both LineFits (LineIsValid count) ys ys_fit ys_valid) e
+
+-- a table of variables is told by its bytes
+same_vars : (place : ℕ → ℕ) (count : ℕ) → ArePlaces place count → (xs ys : List Var) → CountedFits VarFits xs → AllByRecursion (VarIsValid count) xs →
+    CountedFits VarFits ys → AllByRecursion (VarIsValid count) ys → counted (var_by place) xs ≡ counted (var_by place) ys → xs ≡ ys
+same_vars place count places xs ys xs_fit xs_valid ys_fit ys_valid e =
+    let cancels = Cancels-counted (var_by place) (VarIsRight count) (Cancels-var place count places) in
+    told_alone (counted (var_by place)) (CountedFits (VarIsRight count)) cancels xs ys
+    (CountedFits-both VarFits (VarIsValid count) xs xs_fit xs_valid) (CountedFits-both VarFits (VarIsValid count) ys ys_fit ys_valid) e
+
 -- the name and the body tell the attribute
-same_attribute : (place : ℕ → ℕ) (entries : List Entry) (count : ℕ) → ArePlaces place count → (a b : CodeAttr) → CodeAttrIsRight entries count a → CodeAttrIsRight entries count b →
-    name_of a ≡ name_of b → body_by place a ≡ body_by place b → a ≡ b
+same_attribute : (place : ℕ → ℕ) (entries : List Entry) (count : ℕ) → ArePlaces place count → (a b : CodeAttr) →
+    CodeAttrIsRight entries count a → CodeAttrIsRight entries count b → name_of a ≡ name_of b → body_by place a ≡ body_by place b → a ≡ b
 same_attribute place entries count places (code_attribute.Lines n xs) (code_attribute.Lines m ys) (a_fits, a_valid) (b_fits, b_valid) names bodies =
-    let lines = told_alone (counted (line_by place)) (CountedFits (LineIsRight count)) (Cancels-counted (line_by place) (LineIsRight count) (Cancels-line place count places)) xs ys
-    (CountedFits-both (λ (l : Line). FitsTwo l.line) (λ (l : Line). l.item < count) xs a_fits.1 a_valid.1)
-    (CountedFits-both (λ (l : Line). FitsTwo l.line) (λ (l : Line). l.item < count) ys b_fits.1 b_valid.1) bodies in
-    λ k. code_attribute.Lines (names k) (lines k)
+    let lines = same_lines place count places xs ys a_fits.1 a_valid.1 b_fits.1 b_valid.1 bodies in λ k. code_attribute.Lines (names k) (lines k)
 same_attribute place entries count places (code_attribute.Lines n xs) (code_attribute.Vars m false ys) a_right b_right names bodies =
     lines_vars _ (same_text entries n m _ _ names a_right.1.0 b_right.1.0)
 same_attribute place entries count places (code_attribute.Lines n xs) (code_attribute.Vars m true ys) a_right b_right names bodies =
@@ -202,13 +227,9 @@ same_attribute place entries count places (code_attribute.Vars n false xs) (code
 same_attribute place entries count places (code_attribute.Vars n true xs) (code_attribute.Vars m false ys) a_right b_right names bodies =
     vars_types _ (same_text entries m n _ _ (sym names) b_right.1.0 a_right.1.0)
 same_attribute place entries count places (code_attribute.Vars n false xs) (code_attribute.Vars m false ys) (a_fits, a_valid) (b_fits, b_valid) names bodies =
-    let vars = told_alone (counted (var_by place)) (CountedFits (VarIsRight count)) (Cancels-counted (var_by place) (VarIsRight count) (Cancels-var place count places)) xs ys
-    (CountedFits-both VarFits (VarIsValid count) xs a_fits.1 a_valid.1) (CountedFits-both VarFits (VarIsValid count) ys b_fits.1 b_valid.1) bodies in
-    λ k. code_attribute.Vars (names k) false (vars k)
+    let vars = same_vars place count places xs ys a_fits.1 a_valid.1 b_fits.1 b_valid.1 bodies in λ k. code_attribute.Vars (names k) false (vars k)
 same_attribute place entries count places (code_attribute.Vars n true xs) (code_attribute.Vars m true ys) (a_fits, a_valid) (b_fits, b_valid) names bodies =
-    let vars = told_alone (counted (var_by place)) (CountedFits (VarIsRight count)) (Cancels-counted (var_by place) (VarIsRight count) (Cancels-var place count places)) xs ys
-    (CountedFits-both VarFits (VarIsValid count) xs a_fits.1 a_valid.1) (CountedFits-both VarFits (VarIsValid count) ys b_fits.1 b_valid.1) bodies in
-    λ k. code_attribute.Vars (names k) true (vars k)
+    let vars = same_vars place count places xs ys a_fits.1 a_valid.1 b_fits.1 b_valid.1 bodies in λ k. code_attribute.Vars (names k) true (vars k)
 same_attribute place entries count places (code_attribute.Vars n false xs) (code_attribute.Other raw) a_right b_right names bodies =
     absurd ((text_meets _ entries n raw.name _ names a_right.1.0 b_right.1).1 refl)
 same_attribute place entries count places (code_attribute.Vars n true xs) (code_attribute.Other raw) a_right b_right names bodies =
@@ -247,8 +268,8 @@ ArePlaces-code entries code valid =
     }
 
 -- a table of places, where both codes have the same places
-tells_table : {X : Type 0} (spell : (ℕ → ℕ) → X → List ℕ) (Fits : ℕ → X → Type 0) (c d : Code) → (Cancels (spell (offset_of c)) (Fits (length c.items))) →
-    c.items ≡ d.items → c.length ≡ d.length → (xs ys : List X) → CountedFits (Fits (length c.items)) xs → CountedFits (Fits (length d.items)) ys →
+tells_table : {X : Type 0} (spell : (ℕ → ℕ) → X → List ℕ) (Fits : ℕ → X → Type 0) (c d : Code) →
+    Cancels (spell (offset_of c)) (Fits (length c.items)) → c.items ≡ d.items → c.length ≡ d.length → (xs ys : List X) → CountedFits (Fits (length c.items)) xs → CountedFits (Fits (length d.items)) ys →
     Tells (counted (spell (offset_of c)) xs) (counted (spell (offset_of d)) ys) (xs ≡ ys)
 tells_table spell Fits c d cancels items lengths xs ys xs_fit ys_fit =
     let places : offset_of c ≡ offset_of d = λ k. offset_in (items k) (lengths k) in
@@ -256,8 +277,8 @@ tells_table spell Fits c d cancels items lengths xs ys xs_fit ys_fit =
     subst (λ (place : ℕ → ℕ). Tells (counted (spell (offset_of c)) xs) (counted (spell place) ys) (xs ≡ ys)) places
     (tells_counted (spell (offset_of c)) (Fits (length c.items)) cancels xs ys xs_fit ys_fit_there)
 
-same_code_items : (entries : List Entry) (c d : Code) → CodeIsValid entries c → CodeIsValid entries d → flat_map item_bytes c.items ≡ flat_map item_bytes d.items →
-    c.items ≡ d.items
+same_code_items : (entries : List Entry) (c d : Code) → CodeIsValid entries c → CodeIsValid entries d →
+    flat_map item_bytes c.items ≡ flat_map item_bytes d.items → c.items ≡ d.items
 same_code_items entries c d c_valid d_valid bytes =
     one_code (flat_map item_bytes c.items) c.items d.items c_valid.spelled (subst (λ (code : List ℕ). SpellsCode code d.items) (sym bytes) d_valid.spelled)
 
@@ -299,6 +320,14 @@ one_code_attribute entries c d c_right d_right e =
     handlers items lengths c.handlers d.handlers c_handlers d_handlers
     then attributes items lengths c.attributes d.attributes c_attributes d_attributes
     then tells_nothing) in
-    let ((stack, (locals, (lengths, (bytes, (same_handlers, (same_attributes, _)))))), _) = told.cancel [] [] (ap (λ (bs : List ℕ). bs ++ []) (sym (code_bytes_by c) ∙ e ∙ code_bytes_by d)) in
+    let ((stack, (locals, (lengths, (bytes, (same_handlers, (same_attributes, _)))))), _) =
+    told.cancel [] [] (ap (λ (bs : List ℕ). bs ++ []) (sym (code_bytes_by c) ∙ e ∙ code_bytes_by d)) in
     let items = same_code_items entries c d c_valid d_valid bytes in
-    λ k. record { max_stack = stack k; max_locals = locals k; items = items k; length = lengths k; handlers = same_handlers k; attributes = same_attributes k }
+    λ k. record {
+      max_stack = stack k;
+      max_locals = locals k;
+      items = items k;
+      length = lengths k;
+      handlers = same_handlers k;
+      attributes = same_attributes k;
+    }

@@ -20,7 +20,7 @@ use Rattle.fm_code.specs.declared.class_file.MemberAttr.{MemberAttr}
 use Rattle.fm_code.specs.declared.instructions.Insn.TheVariants as insn
 use Rattle.fm_code.proofs.Prefixes.{Tells, ◌then◌, tells, Cancels-two, cancel_attribute, peel, tells_two, tells_same, tells_nothing}
 use Rattle.fm_code.proofs.PoolPrefixes.{PoolFits, Cancels-pool, IsSpelledEntry, first_of_both, slots_due, slots_spelled}
-use Rattle.fm_code.proofs.ClassLaw.{cancel_class, name_of, body_of, member_attribute_is, name_fits, body_fits}
+use Rattle.fm_code.proofs.ClassLaw.{nothing_follows, name_of, body_of, member_attribute_is, name_fits, body_fits}
 
 bytes_are : example_bytes ≡ class_bytes example_record
 unfolding class_bytes pool_bytes entry_bytes member_bytes member_attribute_bytes code_bytes raw_bytes two four
@@ -198,11 +198,8 @@ example_main = (example_method, ((0, omega arith, refl), is_main))
 nil_or_more : (b : ℕ) (bytes : List ℕ) → b ∷ bytes ≡ [] → ⊥
 nil_or_more b bytes e = cc
 
--- no class file is the beginning of another
 pub longer_not_spelled : (c : ClassDef) → Spells longer_bytes c → ⊥
-longer_not_spelled c spells =
-    let told = cancel_class example_bytes longer_bytes example_record c (0 ∷ []) [] example_spelled spells (sym (append-nil longer_bytes)) in
-    nil_or_more 0 [] told.1
+longer_not_spelled c spells = nil_or_more 0 [] (nothing_follows example_bytes (0 ∷ []) example_record c example_spelled spells)
 
 -- the bytes of a class file behind its pool
 abbrev bytes_behind_pool : ClassDef → List ℕ
@@ -229,7 +226,8 @@ no_entries_two (x ∷ y ∷ entries) r s count slots e =
 
 -- the class file up to the pool, and the rest
 class_front : (c : ClassDef) →
-    class_bytes c ≡ concat (magic ∷ two c.minor ∷ two c.major ∷ two (length c.pool.entries) ∷ []) ++ (flat_map entry_bytes c.pool.entries ++ bytes_behind_pool c)
+    class_bytes c ≡
+    concat (magic ∷ two c.minor ∷ two c.major ∷ two (length c.pool.entries) ∷ []) ++ (flat_map entry_bytes c.pool.entries ++ bytes_behind_pool c)
 unfolding class_bytes pool_bytes
 class_front c = simp append_assoc
 
@@ -254,14 +252,15 @@ tells_none : {X : Type 0} (spell : X → List ℕ) (xs : List X) → FitsTwo (le
 tells_none spell [] fits = record { cancel = λ r s e. (tt, (Cancels-two 0 0 r s fits fits (e ∙ ap (λ (bytes : List ℕ). bytes ++ s) (append-nil (two 0)))).1) }
 tells_none spell (x ∷ xs) fits = record {
   cancel = λ r s e.
-      let count = Cancels-two 0 (length (x ∷ xs)) r (flat_map spell (x ∷ xs) ++ s) (omega arith) fits (e ∙ append_assoc (two (length (x ∷ xs))) (flat_map spell (x ∷ xs)) s) in
+      let rest = flat_map spell (x ∷ xs) in
+      let count = Cancels-two 0 (length (x ∷ xs)) r (rest ++ s) (omega arith) fits (e ∙ append_assoc (two (length (x ∷ xs))) rest s) in
       let none = count.0 in
       absurd (omega arith);
 }
 
 -- a list of one element
-tells_one : {X : Type 0} (spell : X → List ℕ) (Fits : X → Type 0) (q : List ℕ) → ((x : X) → Fits x → Tells q (spell x) (Unit {0})) → (xs : List X) → CountedFits Fits xs →
-    Tells (two 1 ++ q) (counted spell xs) (Unit {0})
+tells_one : {X : Type 0} (spell : X → List ℕ) (Fits : X → Type 0) (q : List ℕ) → ((x : X) → Fits x → Tells q (spell x) (Unit {0})) →
+    (xs : List X) → CountedFits Fits xs → Tells (two 1 ++ q) (counted spell xs) (Unit {0})
 tells_one spell Fits q told [] fits = record {
   cancel = λ r s e.
       let count = Cancels-two 1 0 (q ++ r) s (omega arith) (omega arith) (peel (two 1) q r (two 0) [] s e) in
@@ -303,11 +302,12 @@ tells_short_method : (m : Member) → MemberFits m → Tells short_method (membe
 unfolding member_bytes
 tells_short_method m fits = record {
   cancel = λ r s e.
+      let framed = tells_framed 7 short_body (omega arith) (omega arith) in
       let told =
       tells_two 9 m.flags (omega arith) fits.flags
       then tells_two 5 m.name (omega arith) fits.name
       then tells_two 6 m.descriptor (omega arith) fits.descriptor
-      then tells_one member_attribute_bytes MemberAttrFits (attribute_bytes 7 short_body) (tells_framed 7 short_body (omega arith) (omega arith)) m.attributes fits.attributes
+      then tells_one member_attribute_bytes MemberAttrFits (attribute_bytes 7 short_body) framed m.attributes fits.attributes
       then tells_nothing in
       (tt, (told.cancel r s e).1);
 }

@@ -167,7 +167,8 @@ TellsCount-table offset (others ∷ low ∷ high ∷ jumps) (others' ∷ low' �
     let here = and_parts _ _ (cond_some _ _ i first).0 in
     let there = and_parts _ _ (cond_some _ _ j second).0 in
     let count : is_number ((high -ℤ low) +ℤ pos 1) (length jumps') ≡ true =
-    ap (λ (z : ℤ). is_number ((high -ℤ z) +ℤ pos 1) (length jumps')) same_low ∙ ap (λ (z : ℤ). is_number ((z -ℤ low') +ℤ pos 1) (length jumps')) same_high ∙ there.1 in
+    ap (λ (z : ℤ). is_number ((high -ℤ z) +ℤ pos 1) (length jumps')) same_low
+    ∙ ap (λ (z : ℤ). is_number ((z -ℤ low') +ℤ pos 1) (length jumps')) same_high ∙ there.1 in
     ap (λ (n : ℕ). suc (suc (suc n))) (same_number _ (length jumps) (length jumps') here.1 count)
 TellsCount-table offset zs ws i j first second agree = cc
 
@@ -222,7 +223,8 @@ AgreeSoFar-signed_fours x y r s (z ∷ zs) (w ∷ ws) x_is y_is e = cc
 switch_is : (f : ℕ → List ℤ → Option Insn) (offset : ℕ) (x : List ℕ) (i : Insn) → switch f offset x ≡ Some i →
     (padding_at offset ≤ length x) × ((zs : List ℤ) × ((signed_fours (drop (padding_at offset) x) ≡ Some zs) × (f offset zs ≡ Some i)))
 switch_is f offset x i e = go (ltb (length x) (padding_at offset)) refl e where
-  go : (t : Bool) → ltb (length x) (padding_at offset) ≡ t → (if t then None else option_and_then (f offset) (signed_fours (drop (padding_at offset) x))) ≡ Some i →
+  go : (t : Bool) → ltb (length x) (padding_at offset) ≡ t →
+      (if t then None else option_and_then (f offset) (signed_fours (drop (padding_at offset) x))) ≡ Some i →
       (padding_at offset ≤ length x) × ((zs : List ℤ) × ((signed_fours (drop (padding_at offset) x) ≡ Some zs) × (f offset zs ≡ Some i)))
   go true is h = cc
   go false is h = (ltb-false (length x) (padding_at offset) is, and_then_some (f offset) (signed_fours (drop (padding_at offset) x)) i h)
@@ -310,7 +312,9 @@ TellsEnd-control_and_objects =
     also TellsEnd-jump (insn.IfPair test.Eq) also TellsEnd-jump (insn.IfPair test.Ne) also TellsEnd-jump (insn.IfPair test.Lt)
     also TellsEnd-jump (insn.IfPair test.Ge) also TellsEnd-jump (insn.IfPair test.Gt) also TellsEnd-jump (insn.IfPair test.Le)
     also TellsEnd-jump (insn.IfSame true) also TellsEnd-jump (insn.IfSame false) also TellsEnd-jump insn.Goto also TellsEnd-left_out 168 2
-    also TellsEnd-left_out 169 1 also TellsEnd-switch table_switch TellsCount-table also TellsEnd-switch lookup_switch TellsCount-lookup also TellsEnd-bare (insn.Return (Some reg.Int))
+    also TellsEnd-left_out 169 1
+    also TellsEnd-switch table_switch TellsCount-table also TellsEnd-switch lookup_switch TellsCount-lookup
+    also TellsEnd-bare (insn.Return (Some reg.Int))
     also TellsEnd-bare (insn.Return (Some reg.Long)) also TellsEnd-left_out 174 0 also TellsEnd-left_out 175 0
     also TellsEnd-bare (insn.Return (Some reg.Ref)) also TellsEnd-bare (insn.Return None) also TellsEnd-short insn.GetStatic
     also TellsEnd-short insn.PutStatic also TellsEnd-short insn.GetField also TellsEnd-short insn.PutField also TellsEnd-short insn.Virtual

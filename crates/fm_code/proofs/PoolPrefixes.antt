@@ -30,8 +30,8 @@ cancel_pair a b c d r s a_fits b_fits c_fits d_fits e =
     (first.0, second.0, second.1)
 
 -- the tag tells the kind of an entry, and what follows tells the rest
-pub cancel_entry : (x y : Entry) (r s : List ℕ) → IsSpelledEntry x → IsSpelledEntry y → EntryFits x → EntryFits y → entry_bytes x ++ r ≡ entry_bytes y ++ s →
-    (x ≡ y) × (r ≡ s)
+pub cancel_entry : (x y : Entry) (r s : List ℕ) → IsSpelledEntry x → IsSpelledEntry y → EntryFits x → EntryFits y →
+    entry_bytes x ++ r ≡ entry_bytes y ++ s → (x ≡ y) × (r ≡ s)
 unfolding entry_bytes
 cancel_entry (entry.Utf8 a) (entry.Utf8 b) r s _ _ a_fits b_fits e =
     let count = Cancels-two (length a) (length b) (a ++ r) (b ++ s) a_fits.0 b_fits.0 (peel (two (length a)) a r (two (length b)) b s (rest_of_both 1 1 _ _ e)) in
@@ -84,7 +84,8 @@ cancel_entries true (x ∷ xs) (y ∷ ys) r s same first second (_, first_fit) (
     let before = slots_due x xs first in
     let after = slots_due y ys second in
     let rest : flat_map entry_bytes xs ++ r ≡ flat_map entry_bytes ys ++ s =
-    sym (ap (λ (z : Entry). (entry_bytes z ++ flat_map entry_bytes xs) ++ r) before.0) ∙ e ∙ ap (λ (z : Entry). (entry_bytes z ++ flat_map entry_bytes ys) ++ s) after.0 in
+    sym (ap (λ (z : Entry). (entry_bytes z ++ flat_map entry_bytes xs) ++ r) before.0) ∙ e
+    ∙ ap (λ (z : Entry). (entry_bytes z ++ flat_map entry_bytes ys) ++ s) after.0 in
     let tail = cancel_entries false xs ys r s (omega arith) before.1 after.1 first_fit second_fit rest in
     (λ i. (before.0 ∙ sym after.0) i ∷ tail.0 i, tail.1)
 cancel_entries false (x ∷ xs) (y ∷ ys) r s same first second (x_fits, first_fit) (y_fits, second_fit) e =
