@@ -66,6 +66,7 @@ AreBytes-big_bytes (suc n) x =
 
 -- ---- two, four and eight bytes
 
+-- what the names stand for
 pub two-bytes : (x : ℕ) → two x ≡ big_bytes 2 x
 unfolding two
 two-bytes x = refl
@@ -86,6 +87,7 @@ pub signed_eight-bytes : (z : ℤ) → signed_eight z ≡ eight (cast_unsigned w
 unfolding signed_eight
 signed_eight-bytes z = refl
 
+-- how many bytes there are
 pub length-two : (x : ℕ) → length (two x) ≡ 2
 unfolding two
 length-two x = length-bytes_high_first 2 x
@@ -106,6 +108,7 @@ pub length-signed_eight : (z : ℤ) → length (signed_eight z) ≡ 8
 unfolding signed_eight
 length-signed_eight z = length-eight (cast_unsigned w64 z)
 
+-- each of them is a byte
 pub AreBytes-two : (x : ℕ) → AreBytes (two x)
 unfolding two
 AreBytes-two x = AreBytes-big_bytes 2 x
@@ -152,6 +155,7 @@ pub eight-big_number : (xs : List ℕ) → 8 ≤ length xs → AreBytes xs → e
 unfolding eight
 eight-big_number xs enough bytes = big_bytes-big_number 8 xs enough bytes
 
+-- what is read from so many bytes fits so many
 pub FitsTwo-big_number : (xs : List ℕ) → 2 ≤ length xs → AreBytes xs → FitsTwo (big_number 2 xs)
 FitsTwo-big_number xs enough bytes = big_number-lt 2 xs enough bytes
 
@@ -173,6 +177,7 @@ eight_injective x y x_fits y_fits e =
 
 -- ---- signed numbers
 
+-- a number's two's complement fits its width
 cast_unsigned-w32_fits : (z : ℤ) → FitsSigned w32 z → cast_unsigned w32 z < 2 ^ 32
 cast_unsigned-w32_fits z fits = omega (arith, ints)
 
@@ -211,6 +216,7 @@ signed_eight-big_number xs enough bytes =
 
 -- ---- lists of bytes
 
+-- bytes joined, cut at the end and cut at the start
 pub AreBytes-append : (xs ys : List ℕ) → AreBytes xs → AreBytes ys → AreBytes (xs ++ ys)
 AreBytes-append [] ys first second = second
 AreBytes-append (x ∷ xs) ys (byte, first) second = (byte, AreBytes-append xs ys first second)

@@ -16,11 +16,12 @@ use Rattle.fm_code.specs.declared.class_file.MemberAttr.TheVariants as attribute
 use Rattle.fm_code.proofs.Bytes.{length-two}
 use Rattle.fm_code.proofs.Prefixes.{Cancels, Tells, Cancels-two, Cancels-raw, cancel_attribute, CountedFits-both, ◌then◌, ◌so◌, tells, tells_two, tells_counted, tells_same, tells_nothing, told_alone, text_meets}
 use Rattle.fm_code.proofs.PoolPrefixes.{PoolFits, Cancels-pool}
-use Rattle.fm_code.proofs.CodeItems.{All-weaker}
+use Rattle.fm_code.proofs.Elements.{All-weaker}
 use Rattle.fm_code.proofs.CodePrefixes.{one_code_attribute}
 
 -- ---- attributes of members
 
+-- the index of an attribute's name, and its bytes behind their number
 abbrev pub name_of : MemberAttr → ℕ
 name_of (attribute.Constant name value) = name
 name_of (attribute.Coded name code) = name
@@ -31,12 +32,14 @@ body_of (attribute.Constant name value) = two value
 body_of (attribute.Coded name code) = code_bytes code
 body_of (attribute.Other raw) = raw.bytes
 
+-- an attribute is its name and its body
 pub member_attribute_is : (a : MemberAttr) → member_attribute_bytes a ≡ attribute_bytes (name_of a) (body_of a)
 unfolding member_attribute_bytes raw_bytes
 member_attribute_is (attribute.Constant name value) = refl
 member_attribute_is (attribute.Coded name code) = refl
 member_attribute_is (attribute.Other raw) = refl
 
+-- the name and the length of the body fit their bytes
 pub name_fits : (a : MemberAttr) → MemberAttrFits a → FitsTwo (name_of a)
 name_fits (attribute.Constant name value) fits = fits.0
 name_fits (attribute.Coded name code) fits = fits.0
@@ -57,6 +60,7 @@ Cancels-member_attribute Right fits same a b r s a_right b_right e =
     (body_fits a (fits a a_right)) (body_fits b (fits b b_right)) spelled in
     (same a b a_right b_right parts.0 parts.1, parts.2)
 
+-- an attribute that a field may have
 abbrev FieldAttrIsRight : List Entry → MemberAttr → Type 0
 FieldAttrIsRight entries a = MemberAttrFits a × FieldAttrIsValid entries a
 
@@ -74,6 +78,7 @@ same_field_attribute entries (attribute.Other raw) (attribute.Other other) a_rig
 same_field_attribute entries (attribute.Coded n c) b a_right b_right names bodies = absurd a_right.1
 same_field_attribute entries a (attribute.Coded m d) a_right b_right names bodies = absurd b_right.1
 
+-- an attribute that a method may have
 abbrev MethodAttrIsRight : List Entry → MemberAttr → Type 0
 MethodAttrIsRight entries a = MemberAttrFits a × MethodAttrIsValid entries a
 
@@ -98,6 +103,7 @@ same_method_attribute entries a (attribute.Constant m w) a_right b_right names b
 abbrev MemberIsRight : (MemberAttr → Type 0) → Member → Type 0
 MemberIsRight Valid m = MemberFits m × AllByRecursion Valid m.attributes
 
+-- a member is told by its bytes if its attributes are
 Cancels-member : (Valid : MemberAttr → Type 0) → Cancels member_attribute_bytes (λ a. MemberAttrFits a × Valid a) → Cancels member_bytes (MemberIsRight Valid)
 unfolding member_bytes
 Cancels-member Valid cancels x y r s (x_fits, x_valid) (y_fits, y_valid) e =
@@ -111,16 +117,19 @@ Cancels-member Valid cancels x y r s (x_fits, x_valid) (y_fits, y_valid) e =
     let ((flags, (name, (descriptor, (attributes, _)))), rest) = told.cancel r s e in
     (λ k. record { flags = flags k; name = name k; descriptor = descriptor k; attributes = attributes k }, rest)
 
+-- fields are told by their bytes
 Cancels-field : (entries : List Entry) → Cancels member_bytes (MemberIsRight (FieldAttrIsValid entries))
 Cancels-field entries =
     Cancels-member (FieldAttrIsValid entries) (Cancels-member_attribute (FieldAttrIsRight entries) (λ a right. right.0) (same_field_attribute entries))
 
+-- methods are told by their bytes
 Cancels-method : (entries : List Entry) → Cancels member_bytes (MemberIsRight (MethodAttrIsValid entries))
 Cancels-method entries =
     Cancels-member (MethodAttrIsValid entries) (Cancels-member_attribute (MethodAttrIsRight entries) (λ a right. right.0) (same_method_attribute entries))
 
 -- ---- the class file
 
+-- the fields of two class files with one pool
 tells_fields : (x y : List ℕ) (c d : ClassDef) → Spells x c → Spells y d → c.pool ≡ d.pool →
     Tells (counted member_bytes c.fields) (counted member_bytes d.fields) (c.fields ≡ d.fields)
 tells_fields x y c d c_spells d_spells pool =
@@ -132,6 +141,7 @@ tells_fields x y c d c_spells d_spells pool =
     (CountedFits-both MemberFits Valid c.fields c_spells.fits.fields (All-weaker (FieldIsValid entries) Valid valid c.fields c_spells.fields))
     (CountedFits-both MemberFits Valid d.fields d_spells.fits.fields (All-weaker (FieldIsValid entries) Valid valid d.fields d_there))
 
+-- the methods of two class files with one pool
 tells_methods : (x y : List ℕ) (c d : ClassDef) → Spells x c → Spells y d → c.pool ≡ d.pool →
     Tells (counted member_bytes c.methods) (counted member_bytes d.methods) (c.methods ≡ d.methods)
 tells_methods x y c d c_spells d_spells pool =
@@ -146,6 +156,7 @@ tells_methods x y c d c_spells d_spells pool =
     (CountedFits-both MemberFits Valid d.methods d_spells.fits.methods
     (All-weaker (MethodIsValid (is_interface d.flags) entries) Valid (valid (is_interface d.flags)) d.methods d_there))
 
+-- the pool of a class file
 pool_fits : (bytes : List ℕ) (c : ClassDef) → Spells bytes c → PoolFits c.pool
 pool_fits bytes c spells = record { entries = spells.fits.pool; slots = spells.slots }
 

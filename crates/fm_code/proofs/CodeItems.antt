@@ -9,6 +9,7 @@ use Rattle.fm_code.specs.SpellsCode.{targets_of, with_targets, AreOffsets, IsSpe
 use Rattle.fm_code.specs.declared.instructions.Insn.{Insn}
 use Rattle.fm_code.specs.declared.instructions.Insn.TheVariants as insn
 use Rattle.fm_code.specs.declared.code_array.Item.{Item}
+use Rattle.fm_code.proofs.Elements.{All-weaker}
 use Rattle.fm_code.proofs.InsnPrefixes.{insn_at_tells_end, insn_at_not_empty}
 
 -- ---- offsets
@@ -23,6 +24,7 @@ pub record AreLaid (start : ℕ) (items : List Item) (end : ℕ) : Type 0 where
   pub not_empty : AllByRecursion HasBytes items
   pub total : start + length (flat_map item_bytes items) ≡ end
 
+-- without the first item
 AreLaid-rest : (start end : ℕ) (item : Item) (items : List Item) → AreLaid start (item ∷ items) end → AreLaid (start + length item.bytes) items end
 AreLaid-rest start end item items laid =
     let size = length-append item.bytes (flat_map item_bytes items) in
@@ -65,6 +67,7 @@ index_of : List Item → ℕ → ℕ
 index_of [] offset = 0
 index_of (item ∷ items) offset = if item.offset == offset then 0 else suc (index_of items offset)
 
+-- an item is found by its offset
 index_of-offset_in : (start end : ℕ) (items : List Item) (k : ℕ) → AreLaid start items end → k < length items → index_of items (offset_in items end k) ≡ k
 unfolding index_of
 index_of-offset_in start end [] k laid inside = absurd (omega arith)
@@ -77,6 +80,7 @@ index_of-offset_in start end (item ∷ items) (suc k) laid inside =
 
 -- ---- targets
 
+-- a list of targets that are named and found again
 map_back : (f g : ℕ → ℕ) (targets : List ℕ) → AllByRecursion (λ target. g (f target) ≡ target) targets → map g (map f targets) ≡ targets
 map_back f g [] back = refl
 map_back f g (target ∷ targets) (here, back) = λ k. here k ∷ map_back f g targets back k
@@ -92,10 +96,6 @@ with_targets_back f g (insn.Table low others targets) (back, all_back) = λ k. i
 with_targets_back f g (insn.Lookup others keys targets) (back, all_back) = λ k. insn.Lookup (back k) keys (map_back f g targets all_back k)
 with_targets_back f g i back = refl
 
-pub All-weaker : {X : Type 0} (P Q : X → Type 0) → ((x : X) → P x → Q x) → (xs : List X) → AllByRecursion P xs → AllByRecursion Q xs
-All-weaker P Q weaker [] all = tt
-All-weaker P Q weaker (x ∷ xs) (p, all) = (weaker x p, All-weaker P Q weaker xs all)
-
 -- ---- the items
 
 -- an item's place and bytes
@@ -106,6 +106,7 @@ SameSpelling x y = (x.offset ≡ y.offset) × (x.bytes ≡ y.bytes)
 abbrev IsRead : Item → Type 0
 IsRead item = (i : Insn) × (insn_at item.offset item.bytes ≡ Some i)
 
+-- an instruction has bytes
 IsRead-has_bytes : (item : Item) → IsRead item → HasBytes item
 IsRead-has_bytes item (i, read) = insn_at_not_empty item.offset item.bytes i read
 
@@ -132,12 +133,14 @@ same_cuts start (x ∷ xs) (y ∷ ys) (x_at, first) (y_at, second) ((i, i_read),
     let second_there : AreOffsets (start + length x.bytes) ys = subst (λ (bytes : List ℕ). AreOffsets (start + length bytes) ys) (sym same) second in
     ((x_at ∙ sym y_at, same), same_cuts (start + length x.bytes) xs ys first second_there x_read y_read rest)
 
+-- lists with the same spelling are of one length
 same_count : (xs ys : List Item) → AllZip SameSpelling xs ys → length xs ≡ length ys
 same_count [] [] same = refl
 same_count [] (y ∷ ys) same = absurd same
 same_count (x ∷ xs) [] same = absurd same
 same_count (x ∷ xs) (y ∷ ys) (_, same) = ap suc (same_count xs ys same)
 
+-- and their items begin at the same offsets
 same_offset : (xs ys : List Item) (end k : ℕ) → AllZip SameSpelling xs ys → offset_in xs end k ≡ offset_in ys end k
 same_offset [] [] end k same = refl
 same_offset [] (y ∷ ys) end k same = absurd same
@@ -165,6 +168,7 @@ same_items xs_all ys_all find found count offsets (x ∷ xs) (y ∷ ys) ((at, by
     let rest = same_items xs_all ys_all find found count offsets xs ys same x_spelled y_spelled in
     λ k. record { offset = at k; bytes = bytes k; insn = insns k } ∷ rest k
 
+-- an item that is spelled has an instruction
 IsSpelled-read : (items : List Item) (item : Item) → IsSpelled items item → IsRead item
 IsSpelled-read items item spelled = (with_targets (offset_in items zero) item.insn, spelled.instruction)
 

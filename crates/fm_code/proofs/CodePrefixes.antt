@@ -35,6 +35,7 @@ place_injective place count k l places k_in l_in e =
       | inr (inr after) ↦ (let rises = places.rise l k after k_in in absurd (omega arith))
     ]
 
+-- an item is told by the two bytes of its offset
 tells_place : (place : ℕ → ℕ) (count k l : ℕ) → ArePlaces place count → k ≤ count → l ≤ count → Tells (two (place k)) (two (place l)) (k ≡ l)
 tells_place place count k l places k_in l_in = record {
   cancel = λ r s e.
@@ -53,6 +54,7 @@ var_by place v = concat (two (place v.start) ∷ two (place v.end - place v.star
 
 -- ---- the tables
 
+-- an entry of the exception table that fits and is valid, and its bytes tell it
 abbrev HandlerIsRight : ℕ → Handler → Type 0
 HandlerIsRight count h = FitsTwo h.catch_class × HandlerIsValid count h
 
@@ -71,6 +73,7 @@ Cancels-handler place count places x y r s (x_class, x_valid) (y_class, y_valid)
     let ((start, (end, (handler, (class, _)))), rest) = told.cancel r s e in
     (λ k. record { start = start k; end = end k; handler = handler k; catch_class = class k }, rest)
 
+-- the same for a line
 abbrev LineIsRight : ℕ → Line → Type 0
 LineIsRight count l = FitsTwo l.line × (l.item < count)
 
@@ -80,6 +83,7 @@ Cancels-line place count places x y r s (x_line, x_item) (y_line, y_item) e =
     let ((item, line), rest) = told.cancel r s e in
     (λ k. record { item = item k; line = line k }, rest)
 
+-- the same for a variable
 abbrev VarIsRight : ℕ → Var → Type 0
 VarIsRight count v = VarFits v × VarIsValid count v
 
@@ -117,6 +121,7 @@ Cancels-var place count places x y r s (x_fits, x_valid) (y_fits, y_valid) e =
 
 -- ---- the attributes of a Code attribute
 
+-- the index of an attribute's name, and its bytes behind their number
 abbrev name_of : CodeAttr → ℕ
 name_of (code_attribute.Lines name lines) = name
 name_of (code_attribute.Vars name types vars) = name
@@ -130,6 +135,7 @@ body_by place (code_attribute.Other raw) = raw.bytes
 abbrev attribute_by : (ℕ → ℕ) → CodeAttr → List ℕ
 attribute_by place a = attribute_bytes (name_of a) (body_by place a)
 
+-- an attribute is its name and its body
 attribute_by_is : (code : Code) (a : CodeAttr) → code_attribute_bytes code a ≡ attribute_by (offset_of code) a
 unfolding raw_bytes
 attribute_by_is code (code_attribute.Lines name lines) = refl
@@ -146,12 +152,14 @@ length-elements spell n each (x ∷ xs) =
     let both = length-append (spell x) (flat_map spell xs) in
     grind arith
 
+-- a line takes four bytes, and a variable ten
 length-line : (place : ℕ → ℕ) (l : Line) → length (line_by place l) ≡ 4
 length-line place l = simp (length-append, length-two)
 
 length-var : (place : ℕ → ℕ) (v : Var) → length (var_by place v) ≡ 10
 length-var place v = simp (length-append, length-two)
 
+-- the name and the length of the body fit their bytes
 name_fits : (a : CodeAttr) → CodeAttrFits a → FitsTwo (name_of a)
 name_fits (code_attribute.Lines name lines) fits = fits.0
 name_fits (code_attribute.Vars name types vars) fits = fits.0
@@ -172,6 +180,7 @@ body_fits place (code_attribute.Vars name types vars) (_, fits) =
     omega arith
 body_fits place (code_attribute.Other raw) fits = fits.size
 
+-- an attribute that fits and is valid
 abbrev CodeAttrIsRight : List Entry → ℕ → CodeAttr → Type 0
 CodeAttrIsRight entries count a = CodeAttrFits a × CodeAttrIsValid entries count a
 
@@ -185,6 +194,7 @@ lines_types P e = let same : length (codes "LineNumberTable") ≡ length (codes 
 vars_types : (P : Type 0) → codes "LocalVariableTable" ≡ codes "LocalVariableTypeTable" → P
 vars_types P e = let same : length (codes "LocalVariableTable") ≡ length (codes "LocalVariableTypeTable") = ap length e in absurd (omega arith)
 
+-- the two halves of that for a line
 abbrev LineFits : Line → Type 0
 LineFits l = FitsTwo l.line
 
@@ -243,6 +253,7 @@ same_attribute place entries count places (code_attribute.Other raw) (code_attri
 same_attribute place entries count places (code_attribute.Other raw) (code_attribute.Other other) a_right b_right names bodies =
     λ k. code_attribute.Other (record { name = names k; bytes = bodies k })
 
+-- an attribute is told by its bytes
 Cancels-attribute : (place : ℕ → ℕ) (entries : List Entry) (count : ℕ) → ArePlaces place count → Cancels (attribute_by place) (CodeAttrIsRight entries count)
 Cancels-attribute place entries count places a b r s a_right b_right e =
     let parts = cancel_attribute (name_of a) (name_of b) (body_by place a) (body_by place b) r s (name_fits a a_right.0) (name_fits b b_right.0)
@@ -256,9 +267,11 @@ pub record CodeIsRight (entries : List Entry) (code : Code) : Type 0 where
   pub fits : CodeFits code
   pub valid : CodeIsValid entries code
 
+-- the items of a valid code lie from 0 to its length
 AreLaid-items : (entries : List Entry) (code : Code) → CodeIsValid entries code → AreLaid 0 code.items code.length
 AreLaid-items entries code valid = subst (AreLaid 0 code.items) (sym valid.measured) (AreLaid-code (flat_map item_bytes code.items) code.items valid.spelled)
 
+-- so their offsets fit two bytes and rise
 ArePlaces-code : (entries : List Entry) (code : Code) → CodeIsValid entries code → ArePlaces (offset_of code) (length code.items)
 ArePlaces-code entries code valid =
     let laid = AreLaid-items entries code valid in
@@ -277,11 +290,13 @@ tells_table spell Fits c d cancels items lengths xs ys xs_fit ys_fit =
     subst (λ (place : ℕ → ℕ). Tells (counted (spell (offset_of c)) xs) (counted (spell place) ys) (xs ≡ ys)) places
     (tells_counted (spell (offset_of c)) (Fits (length c.items)) cancels xs ys xs_fit ys_fit_there)
 
+-- valid codes of the same bytes have the same items
 same_code_items : (entries : List Entry) (c d : Code) → CodeIsValid entries c → CodeIsValid entries d →
     flat_map item_bytes c.items ≡ flat_map item_bytes d.items → c.items ≡ d.items
 same_code_items entries c d c_valid d_valid bytes =
     one_code (flat_map item_bytes c.items) c.items d.items c_valid.spelled (subst (λ (code : List ℕ). SpellsCode code d.items) (sym bytes) d_valid.spelled)
 
+-- the class that a handler catches fits its bytes
 abbrev CatchFits : Handler → Type 0
 CatchFits h = FitsTwo h.catch_class
 
@@ -291,6 +306,7 @@ bytes_by spell code =
     concat (two code.max_stack ∷ two code.max_locals ∷ four code.length ∷ flat_map item_bytes code.items
     ∷ counted (handler_by (offset_of code)) code.handlers ∷ counted spell code.attributes ∷ [])
 
+-- that spells what the code's own function does
 code_bytes_by : (code : Code) → code_bytes code ≡ bytes_by (attribute_by (offset_of code)) code
 unfolding code_bytes
 code_bytes_by code = λ k. bytes_by (λ a. attribute_by_is code a k) code

@@ -22,10 +22,12 @@ use Rattle.fm_code.proofs.Prefixes.{Tells, ◌then◌, tells, Cancels-two, cance
 use Rattle.fm_code.proofs.PoolPrefixes.{PoolFits, Cancels-pool, IsSpelledEntry, first_of_both, slots_due, slots_spelled}
 use Rattle.fm_code.proofs.ClassLaw.{nothing_follows, name_of, body_of, member_attribute_is, name_fits, body_fits}
 
+-- the bytes are those of the record, by computation
 bytes_are : example_bytes ≡ class_bytes example_record
 unfolding class_bytes pool_bytes entry_bytes member_bytes member_attribute_bytes code_bytes raw_bytes two four
 bytes_are = refl
 
+-- 177 is return
 instruction : insn_at 0 (177 ∷ []) ≡ Some (insn.Return None)
 unfolding insn_at
 instruction = refl
@@ -35,6 +37,7 @@ are_bytes : (bytes : List ℕ) → list_all (λ b. ltb b 256) bytes ≡ true →
 are_bytes [] e = tt
 are_bytes (b ∷ bytes) e = let parts = and_parts (ltb b 256) (list_all (λ c. ltb c 256) bytes) e in (ltb-true b 256 parts.0, are_bytes bytes parts.1)
 
+-- each number and length fits
 code_fits : CodeFits example_code
 unfolding code_bytes two four
 code_fits = record {
@@ -96,6 +99,7 @@ fits = record {
   attributes = record { count = omega arith; each = tt };
 }
 
+-- the rules of the code and of the method
 code_is_valid : CodeIsValid example_entries example_code
 code_is_valid = record {
   not_empty = omega arith;
@@ -120,6 +124,7 @@ method_is_valid = record {
   of_interface = λ e. cc;
 }
 
+-- the example is a class file
 pub example_spelled : Spells example_bytes example_record
 example_spelled = record {
   bytes_are = bytes_are;
@@ -137,6 +142,7 @@ example_spelled = record {
 
 -- ---- the first form
 
+-- bytes from 1 to 127, by a test
 are_plain : (bytes : List ℕ) → list_all (λ b. ltb 0 b && ltb b 128) bytes ≡ true → AllByRecursion (λ b. (0 < b) × (b < 128)) bytes
 are_plain [] e = tt
 are_plain (b ∷ bytes) e =
@@ -144,6 +150,7 @@ are_plain (b ∷ bytes) e =
     let both = and_parts (ltb 0 b) (ltb b 128) parts.0 in
     ((ltb-true 0 b both.0, ltb-true b 128 both.1), are_plain bytes parts.1)
 
+-- it is main, in a class of that form and that name
 is_main : IsMain example_entries example_method
 is_main = record { name = refl; descriptor = refl }
 
@@ -195,9 +202,11 @@ example_main = (example_method, ((0, omega arith, refl), is_main))
 
 -- ---- neighbours
 
+-- a byte is not nothing
 nil_or_more : (b : ℕ) (bytes : List ℕ) → b ∷ bytes ≡ [] → ⊥
 nil_or_more b bytes e = cc
 
+-- nothing may follow
 pub longer_not_spelled : (c : ClassDef) → Spells longer_bytes c → ⊥
 longer_not_spelled c spells = nil_or_more 0 [] (nothing_follows example_bytes (0 ∷ []) example_record c example_spelled spells)
 
@@ -213,6 +222,7 @@ unfolding entry_bytes
 no_tag_two entry.Second r s spelled e = absurd spelled
 no_tag_two x r s spelled e = let tags = first_of_both _ _ _ _ e in omega arith
 
+-- so no pool of eight slots begins with it
 no_entries_two : (entries : List Entry) (r s : List ℕ) → length entries ≡ 8 → AreSlots true entries → 2 ∷ r ≡ flat_map entry_bytes entries ++ s → ⊥
 unfolding entry_bytes
 no_entries_two [] r s count slots e = absurd (omega arith)
@@ -231,6 +241,7 @@ class_front : (c : ClassDef) →
 unfolding class_bytes pool_bytes
 class_front c = simp append_assoc
 
+-- and no class file has it there
 pub wrong_tag_not_spelled : (c : ClassDef) → Spells wrong_tag_bytes c → ⊥
 unfolding two
 wrong_tag_not_spelled c spells =
@@ -295,9 +306,11 @@ tells_framed name body name_fit body_fit a fits = record {
 abbrev short_body : List ℕ
 short_body = take 12 (drop 104 example_bytes)
 
+-- the method of the example, with the shorter attribute
 abbrev short_method : List ℕ
 short_method = concat (two 9 ∷ two 5 ∷ two 6 ∷ (two 1 ++ attribute_bytes 7 short_body) ∷ [])
 
+-- any method of those bytes ends where it does
 tells_short_method : (m : Member) → MemberFits m → Tells short_method (member_bytes m) (Unit {0})
 unfolding member_bytes
 tells_short_method m fits = record {
@@ -312,6 +325,7 @@ tells_short_method m fits = record {
       (tt, (told.cancel r s e).1);
 }
 
+-- the class file with that method, in front of the byte that is left
 abbrev short_class : List ℕ
 short_class =
     concat (magic ∷ two 0 ∷ two 49 ∷ pool_bytes example_record.pool ∷ two 33 ∷ two 2 ∷ two 4 ∷ two 0 ∷ two 0 ∷ (two 1 ++ short_method) ∷ two 0 ∷ [])

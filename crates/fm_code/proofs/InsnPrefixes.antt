@@ -1,5 +1,5 @@
 -- The bytes of an instruction tell where it ends.
-use Rattle.std.proofs.Common.{◌≡◌, ℕ, zero, suc, ◌*◌, ◌<◌, ◌≤◌, Bool, true, false, ltb, ◌==◌, List, [], ◌∷◌, ◌++◌, length, drop, get_or, Option, Some, None, option_and_then, refl, ap, sym, ◌∙◌, arith, ℤ, pos, negsuc, ◌+ℤ◌, ◌-ℤ◌, if◌then◌else◌}
+use Rattle.std.proofs.Common.{◌≡◌, ℕ, zero, suc, ◌*◌, ◌<◌, ◌≤◌, Bool, true, false, ltb, ◌==◌, List, [], ◌∷◌, ◌++◌, length, drop, Option, Some, None, option_and_then, refl, ap, sym, ◌∙◌, arith, ℤ, pos, negsuc, ◌+ℤ◌, ◌-ℤ◌, if◌then◌else◌}
 use Rattle.std.proofs.lemmas.Bool.{eqb-true, ltb-false, and_parts}
 use Rattle.std.proofs.lemmas.List.{drop-append-le, length-drop}
 use Rattle.std.specs.List.{AllByRecursion, slice_index_or}
@@ -14,6 +14,7 @@ use Rattle.fm_code.specs.declared.operations.Shift.TheVariants as shift
 use Rattle.fm_code.specs.declared.operations.Conv.TheVariants as conv
 use Rattle.fm_code.specs.declared.instructions.Insn.{Insn}
 use Rattle.fm_code.specs.declared.instructions.Insn.TheVariants as insn
+use Rattle.fm_code.proofs.Elements.{All-joined, All-at}
 use Rattle.fm_code.proofs.Prefixes.{split_same}
 
 -- operands in front of other bytes are told by the bytes alone
@@ -24,6 +25,7 @@ TellsEnd read = (offset : ℕ) (x y r s : List ℕ) (i j : Insn) → read offset
 abbrev HasLength : ℕ → Reading → Type 0
 HasLength n read = (offset : ℕ) (x : List ℕ) (i : Insn) → read offset x ≡ Some i → length x ≡ n
 
+-- a known number of operand bytes tells the end
 TellsEnd-length : (n : ℕ) (read : Reading) → HasLength n read → TellsEnd read
 TellsEnd-length n read has_length offset x y r s i j x_read y_read e =
     (split_same x y r s (has_length offset x i x_read ∙ sym (has_length offset y j y_read)) e).0
@@ -119,12 +121,14 @@ wide_local_is opcode index i e =
       go true is = let none : wide_local 132 index ≡ Some i = ap (λ (n : ℕ). wide_local n index) (sym (eqb-true opcode 132 is)) ∙ e in cc
       go false is = is
 
+-- two bytes follow the second opcode, or four behind iinc
 length-wide : (offset opcode : ℕ) (rest : List ℕ) (i : Insn) → wide offset (opcode ∷ rest) ≡ Some i → length rest ≡ (if opcode == 132 then 4 else 2)
 length-wide offset opcode (a ∷ b ∷ []) i e =
     sym (ap (λ (t : Bool). if t then 4 else 2) (wide_local_is opcode (number_of_two a b) i e))
 length-wide offset opcode (a ∷ b ∷ c ∷ d ∷ []) i e = sym (ap (λ (t : Bool). if t then 4 else 2) (cond_some (opcode == 132) _ i e).0)
 length-wide offset opcode rest i e = cc
 
+-- so its first byte tells its end
 TellsEnd-wide : TellsEnd wide
 TellsEnd-wide offset [] y r s i j x_read y_read e = cc
 TellsEnd-wide offset (a ∷ x) [] r s i j x_read y_read e = cc
@@ -146,10 +150,12 @@ AgreeSoFar (z ∷ zs) (w ∷ ws) = (z ≡ w) × AgreeSoFar zs ws
 abbrev TellsCount : (ℕ → List ℤ → Option Insn) → Type 0
 TellsCount f = (offset : ℕ) (zs ws : List ℤ) (i j : Insn) → f offset zs ≡ Some i → f offset ws ≡ Some j → AgreeSoFar zs ws → length zs ≡ length ws
 
+-- what gives something began with something
 and_then_some : {X Y : Type 0} (f : X → Option Y) (o : Option X) (y : Y) → option_and_then f o ≡ Some y → (x : X) × ((o ≡ Some x) × (f x ≡ Some y))
 and_then_some f None y e = cc
 and_then_some f (Some x) y e = (x, (refl, e))
 
+-- the same for a function of what was there
 map_some : {X Y : Type 0} (f : X → Y) (o : Option X) (y : Y) → option_map f o ≡ Some y → (x : X) × ((o ≡ Some x) × (f x ≡ y))
 map_some f None y e = cc
 map_some f (Some x) y e = (x, (refl, cc))
@@ -159,9 +165,11 @@ is_number_pos : (z : ℤ) (k : ℕ) → is_number z k ≡ true → z ≡ pos k
 is_number_pos (pos n) k e = ap pos (eqb-true n k e)
 is_number_pos (negsuc n) k e = cc
 
+-- a number is one natural number only
 same_number : (z : ℤ) (k l : ℕ) → is_number z k ≡ true → is_number z l ≡ true → k ≡ l
 same_number z k l first second = let e : pos k ≡ pos l = sym (is_number_pos z k first) ∙ is_number_pos z l second in cc
 
+-- a tableswitch has as many jumps as its keys
 TellsCount-table : TellsCount table_switch
 TellsCount-table offset (others ∷ low ∷ high ∷ jumps) (others' ∷ low' ∷ high' ∷ jumps') i j first second (_, (same_low, (same_high, _))) =
     let here = and_parts _ _ (cond_some _ _ i first).0 in
@@ -172,6 +180,7 @@ TellsCount-table offset (others ∷ low ∷ high ∷ jumps) (others' ∷ low' �
     ap (λ (n : ℕ). suc (suc (suc n))) (same_number _ (length jumps) (length jumps') here.1 count)
 TellsCount-table offset zs ws i j first second agree = cc
 
+-- two numbers for each pair
 length-pairs_of : (numbers : List ℤ) (p : List ℤ × List ℤ) → pairs_of numbers ≡ Some p → length numbers ≡ 2 * length p.0
 length-pairs_of [] p e = let none : p ≡ ([], []) = cc in ap (λ (q : List ℤ × List ℤ). 2 * length q.0) (sym none)
 length-pairs_of (key ∷ []) p e = cc
@@ -181,6 +190,7 @@ length-pairs_of (key ∷ jump ∷ rest) p e =
     let keys : suc (length q.0) ≡ length p.0 = ap (λ (u : List ℤ × List ℤ). length u.0) p_is in
     omega arith
 
+-- a lookupswitch has as many pairs as it counts
 TellsCount-lookup : TellsCount lookup_switch
 TellsCount-lookup offset (others ∷ count ∷ numbers) (others' ∷ count' ∷ numbers') i j first second (_, (same_count, _)) =
     let (p, (p_is, here)) = and_then_some _ (pairs_of numbers) i first in
@@ -229,6 +239,7 @@ switch_is f offset x i e = go (ltb (length x) (padding_at offset)) refl e where
   go true is h = cc
   go false is h = (ltb-false (length x) (padding_at offset) is, and_then_some (f offset) (signed_fours (drop (padding_at offset) x)) i h)
 
+-- a switch tells its end if its numbers tell their count
 TellsEnd-switch : (f : ℕ → List ℤ → Option Insn) → TellsCount f → TellsEnd (switch f)
 TellsEnd-switch f tells_count offset x y r s i j x_read y_read e =
     let pad = padding_at offset in
@@ -324,16 +335,7 @@ TellsEnd-control_and_objects =
     also TellsEnd-array_of_arrays also TellsEnd-jump (insn.IfNull true) also TellsEnd-jump (insn.IfNull false) also TellsEnd-long_jump insn.Goto
     also TellsEnd-left_out 201 4 also tt
 
-All-joined : {X : Type 0} (P : X → Type 0) (xs ys : List X) → AllByRecursion P xs → AllByRecursion P ys → AllByRecursion P (xs ++ ys)
-All-joined P [] ys first second = second
-All-joined P (x ∷ xs) ys (p, first) second = (p, All-joined P xs ys first second)
-
--- what holds of each element and of the default holds at each index
-All-at : {X : Type 0} (P : X → Type 0) (xs : List X) (d : X) → AllByRecursion P xs → P d → (k : ℕ) → P (get_or xs k d)
-All-at P [] d all default k = default
-All-at P (x ∷ xs) d (p, all) default zero = p
-All-at P (x ∷ xs) d (p, all) default (suc k) = All-at P xs d all default k
-
+-- each reading of the table tells its end
 TellsEnd-readings : AllByRecursion TellsEnd readings
 TellsEnd-readings =
     All-joined TellsEnd ((constants_and_loads ++ stores_and_stack) ++ arithmetic) control_and_objects

@@ -15,6 +15,7 @@ abbrev pub IsSpelledEntry : Entry → Type 0
 IsSpelledEntry entry.Second = ⊥
 IsSpelledEntry e = Unit {0}
 
+-- the first bytes of equal lists, and the rests
 pub first_of_both : (a b : ℕ) (r s : List ℕ) → a ∷ r ≡ b ∷ s → a ≡ b
 first_of_both a b r s e = cc
 
@@ -102,6 +103,7 @@ pub record PoolFits (pool : Pool) : Type 0 where
   pub entries : CountedFits EntryFits pool.entries
   pub slots : AreSlots true pool.entries
 
+-- a pool is told by its bytes
 pub Cancels-pool : Cancels pool_bytes PoolFits
 unfolding pool_bytes
 Cancels-pool x y r s x_fits y_fits e =

@@ -8,6 +8,7 @@ use Rattle.fm_code.specs.ClassBytes.{counted, attribute_bytes, raw_bytes}
 use Rattle.fm_code.specs.Fits.{FitsTwo, FitsFour, CountedFits, RawFits}
 use Rattle.fm_code.specs.Rules.{utf8_at}
 use Rattle.fm_code.specs.declared.constant_pool.Entry.{Entry}
+use Rattle.fm_code.proofs.Elements.{All-both}
 use Rattle.fm_code.proofs.Bytes.{length-two, length-four, length-eight, length-signed_four, length-signed_eight, two_injective, four_injective, eight_injective, signed_four_injective, signed_eight_injective}
 
 -- a value and what follows it are told by the bytes
@@ -29,9 +30,11 @@ peel a x r b y s e = sym (append_assoc a x r) ∙ e ∙ append_assoc b y s
 pub record Tells (p q : List ℕ) (E : Type 0) : Type 0 where
   pub cancel : (r s : List ℕ) → p ++ r ≡ q ++ s → E × (r ≡ s)
 
+-- a value that the bytes tell
 pub tells : {X : Type 0} (spell : X → List ℕ) (Fits : X → Type 0) → Cancels spell Fits → (x y : X) → Fits x → Fits y → Tells (spell x) (spell y) (x ≡ y)
 tells spell Fits cancels x y x_fits y_fits = record { cancel = λ r s e. cancels x y r s x_fits y_fits e }
 
+-- no piece tells nothing
 pub tells_nothing : Tells [] [] (Unit {0})
 tells_nothing = record { cancel = λ r s e. (tt, e) }
 
@@ -46,6 +49,7 @@ pub ◌so◌ : {p q p' q' : List ℕ} {E E' : Type 0} → Tells p q E → (E →
       ((front.0, back.0), back.1);
 }
 
+-- a second pair of pieces behind the first
 pub ◌then◌ : {p q p' q' : List ℕ} {E E' : Type 0} → Tells p q E → Tells p' q' E' → Tells (p ++ p') (q ++ q') (E × E')
 first then second = first so (λ _. second)
 
@@ -75,11 +79,6 @@ Cancels-signed_eight x y r s x_fits y_fits e =
 
 -- ---- lists
 
--- two properties of each element
-pub All-both : {X : Type 0} (P Q : X → Type 0) (xs : List X) → AllByRecursion P xs → AllByRecursion Q xs → AllByRecursion (λ x. P x × Q x) xs
-All-both P Q [] first second = tt
-All-both P Q (x ∷ xs) (p, first) (q, second) = ((p, q), All-both P Q xs first second)
-
 -- as many elements, one after the other
 pub cancel_elements : {X : Type 0} (spell : X → List ℕ) (Fits : X → Type 0) → Cancels spell Fits → (xs ys : List X) (r s : List ℕ) → length xs ≡ length ys →
     AllByRecursion Fits xs → AllByRecursion Fits ys → flat_map spell xs ++ r ≡ flat_map spell ys ++ s → (xs ≡ ys) × (r ≡ s)
@@ -91,6 +90,7 @@ cancel_elements spell Fits cancels (x ∷ xs) (y ∷ ys) r s same (x_fits, first
     let tail = cancel_elements spell Fits cancels xs ys r s (omega arith) first second head.1 in
     (λ i. head.0 i ∷ tail.0 i, tail.1)
 
+-- a list behind its length
 pub Cancels-counted : {X : Type 0} (spell : X → List ℕ) (Fits : X → Type 0) → Cancels spell Fits → Cancels (counted spell) (CountedFits Fits)
 Cancels-counted spell Fits cancels xs ys r s xs_fit ys_fit e =
     let count = Cancels-two (length xs) (length ys) (flat_map spell xs ++ r) (flat_map spell ys ++ s) xs_fit.count ys_fit.count
@@ -110,6 +110,7 @@ cancel_attribute name name' body body' r s name_fits name'_fits size_fits size'_
     let rest = split_same body body' r s size.0 size.1 in
     (first.0, rest.0, rest.1)
 
+-- an attribute that is kept as it is
 pub Cancels-raw : Cancels raw_bytes RawFits
 unfolding raw_bytes
 Cancels-raw x y r s x_fits y_fits e =
@@ -146,12 +147,15 @@ told_alone spell Fits cancels x y x_fits y_fits e = (cancels x y [] [] x_fits y_
 one_text : (o : Option (List ℕ)) (s t : List ℕ) → o ≡ Some s → o ≡ Some t → s ≡ t
 one_text o s t first second = cc
 
+-- what holds of a value that is there
 some_and : {X : Type 0} (P : X → Type 0) (o : Option X) (x : X) → o ≡ Some x → IsSomeAnd o P → P x
 some_and P None x e h = absurd h
 some_and P (Some y) x e h = let same : y ≡ x = cc in subst P same h
 
+-- two names at one index are one text
 pub same_text : (entries : List Entry) (n m : ℕ) (s t : List ℕ) → n ≡ m → utf8_at entries n ≡ Some s → utf8_at entries m ≡ Some t → s ≡ t
 same_text entries n m s t same first second = one_text (utf8_at entries n) s t first (ap (utf8_at entries) same ∙ second)
 
+-- what is said of the text at an index holds of it
 pub text_meets : (P : List ℕ → Type 0) (entries : List Entry) (n m : ℕ) (s : List ℕ) → n ≡ m → utf8_at entries n ≡ Some s → IsSomeAnd (utf8_at entries m) P → P s
 text_meets P entries n m s same first second = some_and P (utf8_at entries m) s (ap (utf8_at entries) (sym same) ∙ first) second
