@@ -7,3 +7,4 @@ pub mod Fits
 pub mod Rules
 pub mod Spells
 pub mod FirstForm
+pub mod Example

@@ -9,10 +9,12 @@ mod class_file;
 mod code_array;
 mod constant_pool;
 mod instructions;
+mod laws;
 mod operations;
 
 pub use class_file::{ClassDef, Member, MemberAttr, Raw};
 pub use code_array::{Code, CodeAttr, Handler, Item, Line, Var};
 pub use constant_pool::{Entry, Pool};
 pub use instructions::Insn;
+pub use laws::{law_example, law_nothing_follows, law_number_bytes, law_one_code, law_one_record};
 pub use operations::{Conv, Elem, Op, Reg, Shift, Test};

@@ -1,0 +1,49 @@
+// Laws of the definitions, each as the contract of a function that does nothing.
+
+ghost use Rattle.std.specs.Prelude.{◌≡◌, ℕ, ◌≤◌, List, [], ◌++◌, length, take, codes};
+ghost use Rattle.byteorder.specs.Endian.{big_number, big_bytes};
+ghost use Rattle.fm_code.specs.Fits.{AreBytes};
+ghost use Rattle.fm_code.specs.Example.{example_bytes, example_record, short_length_bytes, wrong_tag_bytes, longer_bytes};
+ghost use Rattle.fm_code.specs.FirstForm.{IsFirstForm, IsNamed, DeclaresMain};
+ghost use Rattle.fm_code.specs.Spells.{Spells};
+ghost use Rattle.fm_code.specs.SpellsCode.{SpellsCode};
+ghost use Rattle.fm_code.specs.declared.class_file.ClassDef.{ClassDef};
+ghost use Rattle.fm_code.specs.declared.code_array.Item.{Item};
+
+/// The bytes of the number that n bytes make, the highest first, are those n bytes.
+pub fn law_number_bytes()
+    ensures { (n : ℕ) (bytes : List ℕ) → n ≤ length bytes → AreBytes bytes
+        → big_bytes n (big_number n bytes) ≡ take n bytes }
+{}
+
+/// The bytes of a class file determine its record: no two records have one spelling. (That a record
+/// determines its bytes is immediate, since the bytes are a function of the record.)
+pub fn law_one_record()
+    ensures { (bytes : List ℕ) (c d : ClassDef) → Spells bytes c → Spells bytes d → c ≡ d }
+{}
+
+/// No class file is the beginning of another: nothing follows the last attribute.
+pub fn law_nothing_follows()
+    ensures { (bytes rest : List ℕ) (c d : ClassDef)
+        → Spells bytes c → Spells (bytes ++ rest) d → rest ≡ [] }
+{}
+
+/// The bytes of a code array determine its items: they are cut into instructions in one way, and
+/// each target is told by its offset.
+pub fn law_one_code()
+    ensures { (bytes : List ℕ) (xs ys : List Item)
+        → SpellsCode bytes xs → SpellsCode bytes ys → xs ≡ ys }
+{}
+
+/// The definitions at a class file that is written out by hand: its bytes spell its record, which is
+/// of the first form, and three byte strings that differ from it in one place spell no record at all.
+pub fn law_example()
+    ensures size { length example_bytes ≡ 119 }
+    ensures spelled { Spells example_bytes example_record }
+    ensures first_form { IsFirstForm example_record }
+    ensures named { IsNamed example_record (codes "M") }
+    ensures main { DeclaresMain example_record }
+    ensures short_length { (c : ClassDef) → ¬ (Spells short_length_bytes c) }
+    ensures wrong_tag { (c : ClassDef) → ¬ (Spells wrong_tag_bytes c) }
+    ensures longer { (c : ClassDef) → ¬ (Spells longer_bytes c) }
+{}
