@@ -1,5 +1,7 @@
+pub mod AnswerLemmas
 pub mod MemoryLemmas
 pub mod NameLemmas
+pub mod SettingLemmas
 pub mod SureLemmas
 pub mod TallyLemmas
 pub mod TransferLemmas

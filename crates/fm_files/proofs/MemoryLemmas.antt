@@ -9,7 +9,8 @@ use Rattle.fm_files.specs.declared.faults.FileFail.TheVariants as file_fail
 use Rattle.fm_files.specs.declared.faults.WriteFail.{WriteFail}
 use Rattle.fm_files.specs.declared.faults.WriteFail.TheVariants as write_fail
 use Rattle.fm_files.proofs.NameLemmas.{get-insert_same, get-insert_other}
-use Rattle.fm_files.proofs.TallyLemmas.{IsSetAt, IsSetAt-insert, IsSetAt-none, tally_after_write}
+use Rattle.fm_files.proofs.SettingLemmas.{IsSetAt, IsSetAt-insert, IsSetAt-none}
+use Rattle.fm_files.proofs.TallyLemmas.{tally_after_write}
 
 module _ (files : MemFilesState) (name : Bytes) where
   pub held-after_read : {Y : Type 0} (limit : ℕ) (answer : Result (Vec ℕ Y) FileFail) → (after_read files name limit answer).held ≡ files.held

@@ -6,6 +6,10 @@ pub record Calls : Type 0 where
   pub made : ℕ
   pub failing : List ℕ
 
+-- no call yet
+abbrev pub no_calls : List ℕ → Calls
+no_calls failing = record { made = 0; failing = failing }
+
 -- the number of the next call. It stands still at the greatest `u64`, which no list of `u32` has
 abbrev pub next_call : Calls → ℕ
 next_call calls = min (calls.made + 1) (2 ^ 64 - 1)

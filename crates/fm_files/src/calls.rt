@@ -1,7 +1,7 @@
 // Calls that are counted, some of which are to fail.
 
 ghost use Rattle.std.specs.Prelude.{◌≡◌, ◌↔◌, IsTrue};
-ghost use Rattle.fm_files.specs.Calls.{IsToFail, after_call};
+ghost use Rattle.fm_files.specs.Calls.{IsToFail, no_calls, after_call};
 
 use std::marker::Model;
 
@@ -23,7 +23,7 @@ impl Model for CountedCalls {
 impl CountedCalls {
     /// No call yet.
     pub(crate) fn new(failing: Vec<u32>) -> CountedCalls
-        ensures { result ≡ record { made = 0; failing = failing.items } }
+        ensures { result ≡ no_calls failing.items }
     {
         CountedCalls { made: 0, failing }
     }

@@ -2,7 +2,7 @@
 
 ghost use Rattle.std.specs.Prelude.{◌≡◌, ◌≢◌, ◌↔◌, [], Some, option_copied, OnOk, OnErr, IsErrOf};
 ghost use Rattle.std.specs.FinMap as map;
-ghost use Rattle.fm_files.specs.Calls.{IsToFail};
+ghost use Rattle.fm_files.specs.Calls.{IsToFail, no_calls};
 ghost use Rattle.fm_files.specs.Memory.{AnswersRead, after_read, after_write, after_put};
 ghost use Rattle.fm_files.specs.Tally.{read_faults_of, write_faults_of, widest_read_of};
 
@@ -15,8 +15,9 @@ use fm_base::{NoMemory, Seq};
 use std::alloc::Global;
 use std::marker::Model;
 
-/// Files in memory. Contracts see what each name holds, the numbers of each name, and the calls.
-#[derive(Drop)]
+/// Files in memory, of whose reads and writes some are to fail. A call that answers NoMemory isn't
+/// counted. Contracts see what each name holds, the numbers of each name, and the calls.
+#[derive(Debug, Drop)]
 pub struct MemFiles {
     alloc: Global,
     held: NameMap<Seq<u8>>,
@@ -39,7 +40,11 @@ impl MemFiles {
     /// Files that hold no name. `failing` has the numbers of the calls that are to fail, where reads
     /// and writes are counted together, from 1. Takes no memory.
     pub fn new(alloc: Global, failing: Vec<u32>) -> MemFiles
-        ensures { result ≡ record { held = map.empty; tallies = map.empty; calls = record { made = 0; failing = failing.items } } }
+        ensures { result ≡ record {
+          held = map.empty;
+          tallies = map.empty;
+          calls = no_calls failing.items;
+        } }
     {
         MemFiles {
             alloc,
@@ -51,7 +56,8 @@ impl MemFiles {
 
     /// Gives a name its bytes. This is no call, and can't fail but for want of memory.
     pub fn add(&mut self, name: &str, bytes: &[u8]) -> Result<(), NoMemory>
-        ensures ok { OnOk result (self.new ≡ record self.old { held = map.insert self.old.held name.now bytes.now }) }
+        ensures ok { OnOk result
+            (self.new ≡ record self.old { held = map.insert self.old.held name.now bytes.now }) }
         ensures err { OnErr result (self.new ≡ self.old) }
     {
         let content = Vec::from_slice(self.alloc, bytes)?;
@@ -105,7 +111,8 @@ impl Files for MemFiles {
 
     fn write(&mut self, alloc: Global, name: &str, bytes: &[u8]) -> Result<(), WriteFail>
         ensures after { self.new ≡ after_write self.old name.now bytes.now result }
-        ensures fails { result ≢ Err WriteFail.NoMemory → (IsErrOf result WriteFail.Failed ↔ IsToFail self.old.calls) }
+        ensures fails { result ≢ Err WriteFail.NoMemory
+            → (IsErrOf result WriteFail.Failed ↔ IsToFail self.old.calls) }
     {
         if self.calls.is_to_fail() {
             let tally = self.tallies.tally(name).after_failed_write()?;
@@ -120,7 +127,8 @@ impl Files for MemFiles {
     }
 }
 
-/// A sink in memory. Contracts see what it got, how many puts failed, and its calls.
+/// A sink in memory, of whose puts some are to fail. A call that answers NoMemory isn't counted.
+/// Contracts see what it got, how many puts failed, and the calls.
 #[derive(Debug, Drop)]
 pub struct MemSink {
     got: Vec<u8>,
@@ -140,7 +148,7 @@ impl MemSink {
     /// A sink that got nothing. `failing` has the numbers of the puts that are to fail, from 1.
     /// Takes no memory.
     pub fn new(alloc: Global, failing: Vec<u32>) -> MemSink
-        ensures { result ≡ record { got = []; faults = 0; calls = record { made = 0; failing = failing.items } } }
+        ensures { result ≡ record { got = []; faults = 0; calls = no_calls failing.items } }
     {
         MemSink {
             got: Vec::new(alloc),
@@ -164,7 +172,8 @@ impl Sink for MemSink {
 
     fn put(&mut self, _alloc: Global, bytes: &[u8]) -> Result<(), PutFail>
         ensures after { self.new ≡ after_put self.old bytes.now result }
-        ensures fails { result ≢ Err PutFail.NoMemory → (IsErrOf result PutFail.SinkFailed ↔ IsToFail self.old.calls) }
+        ensures fails { result ≢ Err PutFail.NoMemory
+            → (IsErrOf result PutFail.SinkFailed ↔ IsToFail self.old.calls) }
     {
         if self.calls.is_to_fail() {
             self.faults = self.faults.checked_add(1).ok_or(PutFail::NoMemory)?;

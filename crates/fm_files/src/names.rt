@@ -9,7 +9,7 @@ use std::collections::BTreeMap;
 use std::marker::Model;
 
 /// Values by name. Contracts see the finite map from the bytes of a name to its value.
-#[derive(Drop)]
+#[derive(Debug, Drop)]
 pub(crate) struct NameMap<V> {
     alloc: Global,
     entries: BTreeMap<String, V>,

@@ -13,7 +13,7 @@ use std::marker::Model;
 
 /// Files in memory that never fail. A name that was never given bytes holds none, and is read as
 /// such. Contracts see what was given, and the widest read of each name.
-#[derive(Drop)]
+#[derive(Debug, Drop)]
 pub struct SureFiles {
     alloc: Global,
     given: NameMap<Seq<u8>>,
@@ -45,7 +45,8 @@ impl SureFiles {
 
     /// Gives a name its bytes.
     pub fn add(&mut self, name: &str, bytes: &[u8]) -> Result<(), NoMemory>
-        ensures ok { OnOk result (self.new ≡ record self.old { given = map.insert self.old.given name.now bytes.now }) }
+        ensures ok { OnOk result
+            (self.new ≡ record self.old { given = map.insert self.old.given name.now bytes.now }) }
         ensures err { OnErr result (self.new ≡ self.old) }
     {
         let content = Vec::from_slice(self.alloc, bytes)?;
@@ -70,7 +71,8 @@ impl SureFiles {
 
     // Keeps that a read of the name saw so many bytes.
     fn keep_seen(&mut self, name: &str, seen: u64) -> Result<(), NoMemory>
-        ensures ok { OnOk result (self.new ≡ record self.old { widest = map.insert self.old.widest name.now (max (widest_of self.old name.now) seen) }) }
+        ensures ok { let widest = max (widest_of self.old name.now) seen in OnOk result
+            (self.new ≡ record self.old { widest = map.insert self.old.widest name.now widest }) }
         ensures err { OnErr result (self.new ≡ self.old) }
     {
         let widest = self.widest.get(name).copied().unwrap_or(0);
@@ -89,9 +91,10 @@ impl Files for SureFiles {
 
     fn read(&mut self, alloc: Global, name: &str, limit: u32) -> Result<Vec<u8>, FileFail>
         ensures after { self.new ≡ after_sure_read self.old name.now limit result }
-        ensures found { IfOk result (λ bytes. held_by self.old name.now ≡ bytes.items) }
+        ensures held { IfOk result (λ bytes. held_by self.old name.now ≡ bytes.items) }
         ensures within_limit { IfOk result (λ bytes. vec_len bytes ≤ limit) }
-        ensures too_long { IsErrOf result FileFail.TooLong → limit < length (held_by self.old name.now) }
+        ensures too_long { IsErrOf result FileFail.TooLong
+            → limit < length (held_by self.old name.now) }
         ensures sure { result ≢ Err FileFail.Failed }
     {
         let held = self.held(name);
@@ -105,7 +108,8 @@ impl Files for SureFiles {
     }
 
     fn write(&mut self, _alloc: Global, name: &str, bytes: &[u8]) -> Result<(), WriteFail>
-        ensures ok { OnOk result (self.new ≡ record self.old { given = map.insert self.old.given name.now bytes.now }) }
+        ensures ok { OnOk result
+            (self.new ≡ record self.old { given = map.insert self.old.given name.now bytes.now }) }
         ensures err { OnErr result (self.new ≡ self.old) }
         ensures sure { result ≢ Err WriteFail.Failed }
     {

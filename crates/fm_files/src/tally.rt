@@ -63,7 +63,8 @@ impl NameMap<Tally> {
 
     /// Keeps the numbers of a name, so that they can be set again without memory.
     pub(crate) fn keep(&mut self, name: &str) -> Result<(), NoMemory>
-        ensures ok { OnOk result (self.new ≡ map.insert self.old name.now (tally_of self.old name.now)) }
+        ensures ok { OnOk result
+            (self.new ≡ map.insert self.old name.now (tally_of self.old name.now)) }
         ensures err { OnErr result (self.new ≡ self.old) }
     {
         let tally = self.tally(name);

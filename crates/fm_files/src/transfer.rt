@@ -18,8 +18,10 @@ pub(crate) fn read_within<R: Read>(
     limit: u32,
 ) -> Result<Vec<u8>, FileFail>
     ensures within_limit { IfOk result (λ bytes. vec_len bytes ≤ limit) }
-    ensures whole { IfOk result (λ bytes. IfSome (R.remaining reader.old) (λ left. bytes.items ≡ left)) }
-    ensures too_long { IsErrOf result FileFail.TooLong → IfSome (R.remaining reader.old) (λ left. limit < length left) }
+    ensures whole { IfOk result
+        (λ bytes. IfSome (R.remaining reader.old) (λ left. bytes.items ≡ left)) }
+    ensures too_long { IsErrOf result FileFail.TooLong
+        → IfSome (R.remaining reader.old) (λ left. limit < length left) }
 {
     let limit = limit as usize;
     let mut bytes = Vec::new(alloc);
@@ -41,7 +43,8 @@ pub(crate) fn read_within<R: Read>(
 /// nothing has failed.
 pub(crate) fn write_whole<W: Write>(writer: &mut W, bytes: &[u8]) -> io::Result<()>
     ensures whole { OnOk result (Appends (W.contents writer.old) (W.contents writer.new) bytes.now) }
-    ensures part { OnErr result ((n : ℕ) × Appends (W.contents writer.old) (W.contents writer.new) (take n bytes.now)) }
+    ensures part { OnErr result ((n : ℕ)
+        × Appends (W.contents writer.old) (W.contents writer.new) (take n bytes.now)) }
 {
     let mut rest = bytes;
     for _ in 0..u64::MAX {

@@ -1,6 +1,7 @@
 use Rattle.std.proofs.Common.{◌++◌, take, drop}
 use Rattle.std.proofs.KnownBytes.{Appends-trans, Appends-kept}
-use Rattle.fm_files.proofs.TransferLemmas.{on_err, front_done, part_moved, part_moved_slice}
+use Rattle.fm_files.proofs.AnswerLemmas.{on_err}
+use Rattle.fm_files.proofs.TransferLemmas.{front_done, part_moved, part_moved_slice}
 use Rattle.fm_files.proofs.transfer.write_whole.Goals as goal
 use Rattle.fm_files.proofs.transfer.write_whole.Goals.{in-Ok, in-Err}
 

@@ -1,7 +1,7 @@
 use Rattle.std.proofs.Common.{◌≤◌, vec_len, rules}
 use Rattle.fm_files.proofs.NameLemmas.{IsSome-insert}
 use Rattle.fm_files.proofs.TallyLemmas.{IsSetAt-kept_and_read, read_numbers}
-use Rattle.fm_files.proofs.TransferLemmas.{on_any, handed_on}
+use Rattle.fm_files.proofs.AnswerLemmas.{on_any, handed_on}
 use Rattle.fm_files.proofs.folder.FolderFilesFiles.read.Goals as goal
 
 pub count_read-requires : goal.count_read-requires

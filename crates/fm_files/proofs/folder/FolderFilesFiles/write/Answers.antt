@@ -2,7 +2,8 @@ use Rattle.std.proofs.Common.{Ok, Err, refl, ap, ◌∙◌, rules}
 use Rattle.fm_files.specs.declared.faults.WriteFail.TheVariants.{Failed}
 use Rattle.fm_files.specs.Tally.{tally_after_failed_write}
 use Rattle.fm_files.proofs.NameLemmas.{IsSome-insert}
-use Rattle.fm_files.proofs.TallyLemmas.{IsSetAt-insert, IsSetAt-kept_and_failed, write_numbers}
+use Rattle.fm_files.proofs.SettingLemmas.{IsSetAt-insert}
+use Rattle.fm_files.proofs.TallyLemmas.{IsSetAt-kept_and_failed, write_numbers}
 use Rattle.fm_files.proofs.folder.FolderFilesFiles.write.Goals as goal
 
 pub replace-requires : goal.replace-requires
