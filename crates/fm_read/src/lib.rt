@@ -6,6 +6,10 @@
 
 mod failure;
 mod first;
+mod methods;
+mod numbers;
+mod parts;
+mod pool;
 
 pub use failure::FirstFail;
 pub use first::read_first;
