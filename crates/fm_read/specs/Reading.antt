@@ -13,14 +13,13 @@ abbrev pub ◌>>=◌ : {A B : Type 0} → Option A → (A → Option B) → Opti
 o >>= f = option_and_then f o
 
 -- what a function returned, seen by view, is what reading gives, unless memory ran out
+abbrev pub Fails : {Y : Type 0} → FirstFail → Option Y → Type 0
+Fails fail.NotYet reading = reading ≡ None
+Fails fail.NoMemory reading = Unit {0}
+
 abbrev pub Gives : {X Y : Type 0} → (X → Y) → Result X FirstFail → Option Y → Type 0
 Gives view (Ok x) reading = reading ≡ Some (view x)
-Gives view (Err fail.NotYet) reading = reading ≡ None
-Gives view (Err fail.NoMemory) reading = Unit {0}
-
--- what was read before, in front of what is read
-abbrev pub with_front : {X : Type 0} → List X → Option (List X × List ℕ) → Option (List X × List ℕ)
-with_front front reading = reading >>= λ x. Some (front ++ x.0, x.1)
+Gives view (Err e) reading = Fails e reading
 
 -- ---- numbers and bytes
 
@@ -37,6 +36,19 @@ unfoldable pub fixed_at : ℕ → ℕ → List ℕ → Option (List ℕ)
 fixed_at size value bytes = do
   number ← number_at size bytes
   if number.0 == value then Some number.1 else None
+
+-- ---- pieces one behind the other
+
+unfoldable pub several_at : {X : Type 0} → (List ℕ → Option (X × List ℕ)) → ℕ → List ℕ → Option (List X × List ℕ)
+several_at piece_at zero bytes = Some ([], bytes)
+several_at piece_at (suc count) bytes = do
+  first ← piece_at bytes
+  others ← several_at piece_at count first.1
+  Some (first.0 ∷ others.0, others.1)
+
+-- what was read before, in front of what is read
+abbrev pub with_front : {X : Type 0} → List X → Option (List X × List ℕ) → Option (List X × List ℕ)
+with_front front reading = reading >>= λ x. Some (front ++ x.0, x.1)
 
 -- ---- the constant pool
 
@@ -64,18 +76,11 @@ entry_at_front bytes = do
   tag ← number_at 1 bytes
   if tag.0 == 1 then named_at tag.1 else if tag.0 == 7 then class_entry_at tag.1 else None
 
-unfoldable pub entries_at : ℕ → List ℕ → Option (List Entry × List ℕ)
-entries_at zero bytes = Some ([], bytes)
-entries_at (suc count) bytes = do
-  first ← entry_at_front bytes
-  others ← entries_at count first.1
-  Some (first.0 ∷ others.0, others.1)
-
 -- the count is one more than the entries that are spelled, as nothing is spelled at index 0
 unfoldable pub pool_at : List ℕ → Option (List Entry × List ℕ)
 pool_at bytes = do
   count ← number_at 2 bytes
-  if count.0 == 0 then None else with_front (entry.Second ∷ []) (entries_at (count.0 - 1) count.1)
+  if count.0 == 0 then None else with_front (entry.Second ∷ []) (several_at entry_at_front (count.0 - 1) count.1)
 
 -- ---- methods
 
@@ -96,13 +101,6 @@ method_at bytes = do
   attribute ← attribute_at descriptor.1
   Some (record { flags = flags.0; name = name.0; descriptor = descriptor.0; attribute = attribute.0.0; body = attribute.0.1 }, attribute.1)
 
-unfoldable pub methods_at : ℕ → List ℕ → Option (List Method × List ℕ)
-methods_at zero bytes = Some ([], bytes)
-methods_at (suc count) bytes = do
-  first ← method_at bytes
-  others ← methods_at count first.1
-  Some (first.0 ∷ others.0, others.1)
-
 -- ---- the class
 
 -- the magic number and the version 49.0
@@ -118,7 +116,7 @@ members_at bytes = do
   interfaces ← fixed_at 2 0 bytes
   fields ← fixed_at 2 0 interfaces
   count ← number_at 2 fields
-  methods_at count.0 count.1
+  several_at method_at count.0 count.1
 
 -- behind the last method the count of the attributes, which is 0, and nothing else
 unfoldable pub ends_at : List ℕ → Option (List ℕ)

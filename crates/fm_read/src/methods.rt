@@ -2,7 +2,7 @@
 
 ghost use Rattle.std.specs.Prelude.{◌≡◌, map};
 ghost use Rattle.fm_read.specs.Parts.{method_view};
-ghost use Rattle.fm_read.specs.Reading.{Gives, attribute_at, members_at, method_at, methods_at};
+ghost use Rattle.fm_read.specs.Reading.{Gives, attribute_at, members_at, method_at, several_at};
 
 use std::alloc::Global;
 
@@ -47,7 +47,7 @@ fn methods_of(
     count: u16,
     bytes: &[u8],
 ) -> Result<(Vec<MethodParts<'_>>, &[u8]), FirstFail>
-    ensures { Gives (λ x. (map method_view x.0.items, x.1.now)) result (methods_at count bytes.now) }
+    ensures { Gives (λ x. (map method_view x.0.items, x.1.now)) result (several_at method_at count bytes.now) }
 {
     let mut methods = Vec::new(alloc);
     let mut rest = bytes;

@@ -2,7 +2,7 @@
 
 ghost use Rattle.std.specs.Prelude.{◌≡◌, ◌<◌, ◌&&◌, ◌-◌, ◌∷◌, [], nat_lt, IsTrue};
 ghost use Rattle.std.specs.List.{list_all};
-ghost use Rattle.fm_read.specs.Reading.{Gives, entries_at, entry_at_front, pool_at, text_at, with_front};
+ghost use Rattle.fm_read.specs.Reading.{Gives, entry_at_front, pool_at, several_at, text_at, with_front};
 
 use fm_base::Name;
 use fm_code::Entry;
@@ -54,7 +54,7 @@ fn entry_of(alloc: Global, bytes: &[u8]) -> Result<(Entry, &[u8]), FirstFail>
 
 /// The entries from index 0 on, where nothing is spelled, to below the count, which is at least 1.
 fn entries_of(alloc: Global, count: u16, bytes: &[u8]) -> Result<(Vec<Entry>, &[u8]), FirstFail>
-    ensures { Gives (λ x. (x.0.items, x.1.now)) result (with_front (Entry.Second ∷ []) (entries_at (count - 1) bytes.now)) }
+    ensures { Gives (λ x. (x.0.items, x.1.now)) result (with_front (Entry.Second ∷ []) (several_at entry_at_front (count - 1) bytes.now)) }
 {
     let mut entries = Vec::new(alloc);
     entries.push(Entry::Second)?;
