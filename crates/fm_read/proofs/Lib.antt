@@ -1,2 +1,5 @@
 pub mod Several
 pub mod Pieces
+pub mod PoolPieces
+pub mod MethodPieces
+pub mod ClassPieces
