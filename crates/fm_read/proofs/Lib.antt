@@ -3,3 +3,7 @@ pub mod Pieces
 pub mod PoolPieces
 pub mod MethodPieces
 pub mod ClassPieces
+pub mod MethodRules
+pub mod MembersInTurn
+pub mod FirstFound
+pub mod FirstRead

@@ -13,7 +13,7 @@ abbrev pub one_attribute_bytes : ℕ × List ℕ → List ℕ
 one_attribute_bytes a = two 1 ++ attribute_bytes a.0 a.1
 
 abbrev pub AttributeFits : ℕ × List ℕ → Type 0
-AttributeFits a = FitsTwo a.0 × FitsFour (length a.1) × AreBytes a.1
+AttributeFits a = FitsTwo a.0 × FitsFour (length a.1)
 
 attribute_takes : (bytes : List ℕ) (x : (ℕ × List ℕ) × List ℕ) → AreBytes bytes → attribute_at bytes ≡ Some x → Takes bytes (one_attribute_bytes x.0) x.1 × AttributeFits x.0
 unfolding attribute_at
@@ -31,7 +31,7 @@ attribute_takes bytes x fits e =
     let e13 = Takes-then a.0 (two b.0.0) b.0.1 (four (length d.0.0) ++ d.0.0) d.0.1 t1.0 sized in
     let e03 = Takes-then bytes (two 1) a.0 (attribute_bytes b.0.0 d.0.0) d.0.1 t0 e13 in
     let made : (ℕ × List ℕ) × List ℕ = ((b.0.0, d.0.0), d.0.1) in
-    subst (λ (y : (ℕ × List ℕ) × List ℕ). Takes bytes (one_attribute_bytes y.0) y.1 × AttributeFits y.0) (some_is made x d.2) (e03, (t1.1, subst FitsFour (sym t3.1) t2.1, t3.2))
+    subst (λ (y : (ℕ × List ℕ) × List ℕ). Takes bytes (one_attribute_bytes y.0) y.1 × AttributeFits y.0) (some_is made x d.2) (e03, (t1.1, subst FitsFour (sym t3.1) t2.1))
 
 attribute_again : (a : ℕ × List ℕ) (rest : List ℕ) → AttributeFits a → attribute_at (one_attribute_bytes a ++ rest) ≡ Some (a, rest)
 unfolding attribute_at
@@ -54,7 +54,6 @@ pub record MethodFits (m : Method) : Type 0 where
   pub descriptor : FitsTwo m.descriptor
   pub attribute : FitsTwo m.attribute
   pub size : FitsFour (length m.body)
-  pub body : AreBytes m.body
 
 method_takes : (bytes : List ℕ) (x : Method × List ℕ) → AreBytes bytes → method_at bytes ≡ Some x → Takes bytes (method_bytes x.0) x.1 × MethodFits x.0
 unfolding method_at
@@ -72,7 +71,7 @@ method_takes bytes x fits e =
     let e03 = Takes-then bytes (two a.0.0) a.0.1 (two b.0.0 ++ (two c.0.0 ++ one_attribute_bytes d.0.0)) d.0.1 t0.0 e13 in
     let made : Method × List ℕ = (record { flags = a.0.0; name = b.0.0; descriptor = c.0.0; attribute = d.0.0.0; body = d.0.0.1 }, d.0.1) in
     subst (λ (y : Method × List ℕ). Takes bytes (method_bytes y.0) y.1 × MethodFits y.0) (some_is made x d.2)
-    (e03, record { flags = t0.1; name = t1.1; descriptor = t2.1; attribute = t3.1.0; size = t3.1.1; body = t3.1.2 })
+    (e03, record { flags = t0.1; name = t1.1; descriptor = t2.1; attribute = t3.1.0; size = t3.1.1 })
 
 method_again : (m : Method) (rest : List ℕ) → MethodFits m → method_at (method_bytes m ++ rest) ≡ Some (m, rest)
 unfolding method_at
@@ -80,7 +79,7 @@ method_again m rest fits =
     let tail = one_attribute_bytes (m.attribute, m.body) ++ rest in
     let regrouped : method_bytes m ++ rest ≡ two m.flags ++ (two m.name ++ (two m.descriptor ++ (one_attribute_bytes (m.attribute, m.body) ++ rest))) = simp append_assoc in
     ap method_at regrouped
-    ∙ rw (two_piece.again m.flags (two m.name ++ (two m.descriptor ++ tail)) fits.flags, two_piece.again m.name (two m.descriptor ++ tail) fits.name, two_piece.again m.descriptor tail fits.descriptor, attribute_piece.again (m.attribute, m.body) rest (fits.attribute, fits.size, fits.body)) refl
+    ∙ rw (two_piece.again m.flags (two m.name ++ (two m.descriptor ++ tail)) fits.flags, two_piece.again m.name (two m.descriptor ++ tail) fits.name, two_piece.again m.descriptor tail fits.descriptor, attribute_piece.again (m.attribute, m.body) rest (fits.attribute, fits.size)) refl
 
 pub method_piece : IsPiece method_at method_bytes MethodFits
 method_piece = record { takes = method_takes; again = method_again }
