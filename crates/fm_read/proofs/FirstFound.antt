@@ -24,7 +24,7 @@ use Rattle.fm_read.specs.PartsRules.{MethodMeetsRules, MeetsRules, AreMethodsDis
 use Rattle.fm_read.proofs.PoolPieces.{AreFirstCharacters, IsReadEntry, IsReadPool}
 use Rattle.fm_read.proofs.MethodPieces.{method_bytes, MethodFits}
 use Rattle.fm_read.proofs.ClassPieces.{parts_bytes, PartsFit}
-use Rattle.fm_read.proofs.DescriptorLaws.{ints_take_words, main_descriptor}
+use Rattle.fm_read.proofs.NamesMethods.{IsMethodDescriptor-ints, IsMethodDescriptor-main}
 
 -- ---- what holds of the value in a Some
 
@@ -134,8 +134,8 @@ first_method entries m code rules body =
     }
 
 first_descriptor : (name descriptor : List ℕ) → ((name ≡ codes "main") × (descriptor ≡ codes "([Ljava/lang/String;)V")) ⊎ ((is_int_descriptor descriptor ≡ true) × (length descriptor ≤ 258)) → IsMethodDescriptor 0 descriptor
-first_descriptor name descriptor (inl main) = subst (IsMethodDescriptor 0) (sym main.1) main_descriptor
-first_descriptor name descriptor (inr ints) = (ints_take_words 0 descriptor ints.0).1 (omega (arith, ints.1))
+first_descriptor name descriptor (inl main) = subst (IsMethodDescriptor 0) (sym main.1) IsMethodDescriptor-main
+first_descriptor name descriptor (inr ints) = (IsMethodDescriptor-ints 0 descriptor ints.0).1 (omega (arith, ints.1))
 
 valid_method : (in_interface : Bool) (entries : List Entry) (m : Method) (code : Code) → in_interface ≡ false → MethodMeetsRules entries m → IsFirstBody m.body code → MethodIsValid in_interface entries (member_of m code)
 valid_method in_interface entries m code apart rules body =

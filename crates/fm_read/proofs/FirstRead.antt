@@ -28,7 +28,7 @@ use Rattle.fm_read.specs.declared.failure.FirstFail.TheVariants as fail
 use Rattle.fm_read.proofs.PoolPieces.{IsReadEntry, IsReadPool}
 use Rattle.fm_read.proofs.MethodPieces.{MethodFits}
 use Rattle.fm_read.proofs.ClassPieces.{parts_bytes, PartsFit, class_again}
-use Rattle.fm_read.proofs.DescriptorLaws.{ints_take_words}
+use Rattle.fm_read.proofs.NamesMethods.{IsMethodDescriptor-ints}
 use Rattle.fm_read.proofs.FirstFound.{someAnd_is, is_someAnd, someAnd_weaker, members_spelled, class_spelled, distinct_methods}
 
 -- ---- the pool
@@ -99,7 +99,7 @@ signature_of entries m static name descriptor (inr ints) =
     let plain : IsSomeAnd (utf8_at entries m.descriptor) (IsMethodDescriptor 0) = subst (λ (k : ℕ). IsSomeAnd (utf8_at entries m.descriptor) (IsMethodDescriptor k)) words descriptor in
     is_someAnd (utf8_at entries m.name) _ n.0 n.1 (short_ints (utf8_at entries m.descriptor) n.0 plain ints) where
       short_ints : (o : Option (List ℕ)) (name : List ℕ) → IsSomeAnd o (IsMethodDescriptor 0) → IsSomeAnd o (λ d. is_int_descriptor d ≡ true) → IsSomeAnd o (IsFirstSignature name)
-      short_ints (Some d) name words ints = inr (ints, let few = (ints_take_words 0 d ints).0 words in omega (arith, few))
+      short_ints (Some d) name words ints = inr (ints, let few = (IsMethodDescriptor-ints 0 d ints).0 words in omega (arith, few))
       short_ints None name words ints = absurd words
 
 -- the parts of one method

@@ -1,3 +1,9 @@
+pub mod NamesLaws
+pub mod NamesMethods
+pub mod CodeOpcodes
+pub mod CodeBytes
+pub mod CodeWalk
+pub mod CodeParts
 pub mod Several
 pub mod Pieces
 pub mod PoolPieces

@@ -1,4 +1,6 @@
+pub mod CodeItems
+pub mod CodeBody
+pub mod NamesParts
 pub mod Parts
 pub mod Reading
-pub mod CodeBody
 pub mod PartsRules
