@@ -13,3 +13,5 @@ pub mod MethodRules
 pub mod MembersInTurn
 pub mod FirstFound
 pub mod FirstRead
+pub mod KeysInTurn
+pub mod TextsInTurn

@@ -4,3 +4,4 @@ pub mod NamesParts
 pub mod Parts
 pub mod Reading
 pub mod PartsRules
+pub mod TextNumbers
