@@ -1,10 +1,10 @@
 -- The instructions of the first form by their opcodes: each takes the bytes that its opcode asks for, and none has a target.
-use Rattle.std.proofs.Common.{◌≡◌, ℕ, zero, suc, ◌+◌, ◌-◌, Bool, true, false, eqb, List, [], ◌∷◌, length, Option, Some, None, refl, sym, ap, subst, ◌∙◌, arith, inl, inr}
+use Rattle.std.proofs.Common.{◌≡◌, ℕ, Bool, true, false, eqb, List, [], ◌∷◌, length, Some, None, refl, sym, ap, subst, ◌∙◌, inl, inr}
 use Rattle.std.specs.Prelude.{pos, negsuc}
 use Rattle.fm_code.specs.Numbers.{signed_one, signed_two}
 use Rattle.std.specs.List.{AllByRecursion, list_any, slice_index_or}
 use Rattle.std.proofs.lemmas.Bool.{cases_Bool, eqb-true}
-use Rattle.fm_code.specs.InstructionTable.{Reading, bare, byte, signed_byte, two_bytes, signed_short, increment, readings, malformed, insn_at}
+use Rattle.fm_code.specs.InstructionTable.{Reading, bare, byte, two_bytes, readings, malformed, insn_at}
 use Rattle.fm_code.specs.FirstForm.{first_opcodes}
 use Rattle.fm_code.specs.SpellsCode.{with_targets, targets_of}
 use Rattle.fm_code.specs.declared.operations.Reg.TheVariants as reg
@@ -71,6 +71,7 @@ Takes-bare j none = record { size = size_of; ends = ends_of } where
   size_of : (offset : ℕ) (operands : List ℕ) (i : Insn) → bare j offset operands ≡ Some i → length operands ≡ 0
   size_of offset [] i e = refl
   size_of offset (a ∷ rest) i e = absurd cc
+
   ends_of : (offset : ℕ) (operands : List ℕ) (i : Insn) → bare j offset operands ≡ Some i → jumps i ≡ false
   ends_of offset [] i e = let same : j ≡ i = cc in ap jumps (sym same) ∙ none
   ends_of offset (a ∷ rest) i e = absurd cc
@@ -81,6 +82,7 @@ Takes-byte f none = record { size = size_of; ends = ends_of } where
   size_of offset [] i e = absurd cc
   size_of offset (a ∷ []) i e = refl
   size_of offset (a ∷ b ∷ rest) i e = absurd cc
+
   ends_of : (offset : ℕ) (operands : List ℕ) (i : Insn) → byte f offset operands ≡ Some i → jumps i ≡ false
   ends_of offset [] i e = absurd cc
   ends_of offset (a ∷ []) i e = let same : f a ≡ i = cc in ap jumps (sym same) ∙ none a
@@ -93,6 +95,7 @@ Takes-two_bytes f none = record { size = size_of; ends = ends_of } where
   size_of offset (a ∷ []) i e = absurd cc
   size_of offset (a ∷ b ∷ []) i e = refl
   size_of offset (a ∷ b ∷ c ∷ rest) i e = absurd cc
+
   ends_of : (offset : ℕ) (operands : List ℕ) (i : Insn) → two_bytes (λ a b. Some (f a b)) offset operands ≡ Some i → jumps i ≡ false
   ends_of offset [] i e = absurd cc
   ends_of offset (a ∷ []) i e = absurd cc
@@ -116,46 +119,121 @@ HasOperands opcode = Takes (operand_count opcode) (reading_of opcode)
 
 -- each opcode of the first form
 each_takes : AllByRecursion HasOperands first_opcodes
-each_takes =
-    (Takes-bare insn.Nop refl,
-    (Takes-bare (insn.Const (negsuc 0)) refl,
-    (Takes-bare (insn.Const (pos 0)) refl,
-    (Takes-bare (insn.Const (pos 1)) refl,
-    (Takes-bare (insn.Const (pos 2)) refl,
-    (Takes-bare (insn.Const (pos 3)) refl,
-    (Takes-bare (insn.Const (pos 4)) refl,
-    (Takes-bare (insn.Const (pos 5)) refl,
-    (Takes-byte (λ a. insn.Const (signed_one a)) (λ a. refl),
-    (Takes-two_bytes (λ a b. insn.Const (signed_two a b)) (λ a b. refl),
-    (Takes-byte (insn.Load reg.Int) (λ a. refl),
-    (Takes-bare (insn.Load reg.Int 0) refl,
-    (Takes-bare (insn.Load reg.Int 1) refl,
-    (Takes-bare (insn.Load reg.Int 2) refl,
-    (Takes-bare (insn.Load reg.Int 3) refl,
-    (Takes-byte (insn.Store reg.Int) (λ a. refl),
-    (Takes-bare (insn.Store reg.Int 0) refl,
-    (Takes-bare (insn.Store reg.Int 1) refl,
-    (Takes-bare (insn.Store reg.Int 2) refl,
-    (Takes-bare (insn.Store reg.Int 3) refl,
-    (Takes-bare insn.Pop refl,
-    (Takes-bare insn.Dup refl,
-    (Takes-bare (insn.IntOp op.Add) refl,
-    (Takes-bare (insn.IntOp op.Sub) refl,
-    (Takes-bare (insn.IntOp op.Mul) refl,
-    (Takes-bare insn.IntNeg refl,
-    (Takes-bare (insn.IntShift shift.Left) refl,
-    (Takes-bare (insn.IntShift shift.Right) refl,
-    (Takes-bare (insn.IntShift shift.RightZero) refl,
-    (Takes-bare (insn.IntOp op.And) refl,
-    (Takes-bare (insn.IntOp op.Or) refl,
-    (Takes-bare (insn.IntOp op.Xor) refl,
-    (Takes-two_bytes (λ a b. insn.Inc a (signed_one b)) (λ a b. refl),
-    (Takes-bare (insn.Convert conv.IntToByte) refl,
-    (Takes-bare (insn.Convert conv.IntToChar) refl,
-    (Takes-bare (insn.Convert conv.IntToShort) refl,
-    (Takes-bare (insn.Return (Some reg.Int)) refl,
-    (Takes-bare (insn.Return None) refl,
-    tt))))))))))))))))))))))))))))))))))))))
+each_takes = (
+  Takes-bare insn.Nop refl,
+  (
+    Takes-bare (insn.Const (negsuc 0)) refl,
+    (
+      Takes-bare (insn.Const (pos 0)) refl,
+      (
+        Takes-bare (insn.Const (pos 1)) refl,
+        (
+          Takes-bare (insn.Const (pos 2)) refl,
+          (
+            Takes-bare (insn.Const (pos 3)) refl,
+            (
+              Takes-bare (insn.Const (pos 4)) refl,
+              (
+                Takes-bare (insn.Const (pos 5)) refl,
+                (
+                  Takes-byte (λ a. insn.Const (signed_one a)) (λ a. refl),
+                  (
+                    Takes-two_bytes (λ a b. insn.Const (signed_two a b)) (λ a b. refl),
+                    (
+                      Takes-byte (insn.Load reg.Int) (λ a. refl),
+                      (
+                        Takes-bare (insn.Load reg.Int 0) refl,
+                        (
+                          Takes-bare (insn.Load reg.Int 1) refl,
+                          (
+                            Takes-bare (insn.Load reg.Int 2) refl,
+                            (
+                              Takes-bare (insn.Load reg.Int 3) refl,
+                              (
+                                Takes-byte (insn.Store reg.Int) (λ a. refl),
+                                (
+                                  Takes-bare (insn.Store reg.Int 0) refl,
+                                  (
+                                    Takes-bare (insn.Store reg.Int 1) refl,
+                                    (
+                                      Takes-bare (insn.Store reg.Int 2) refl,
+                                      (
+                                        Takes-bare (insn.Store reg.Int 3) refl,
+                                        (
+                                          Takes-bare insn.Pop refl,
+                                          (
+                                            Takes-bare insn.Dup refl,
+                                            (
+                                              Takes-bare (insn.IntOp op.Add) refl,
+                                              (
+                                                Takes-bare (insn.IntOp op.Sub) refl,
+                                                (
+                                                  Takes-bare (insn.IntOp op.Mul) refl,
+                                                  (
+                                                    Takes-bare insn.IntNeg refl,
+                                                    (
+                                                      Takes-bare (insn.IntShift shift.Left) refl,
+                                                      (
+                                                        Takes-bare (insn.IntShift shift.Right) refl,
+                                                        (
+                                                          Takes-bare (insn.IntShift shift.RightZero) refl,
+                                                          (
+                                                            Takes-bare (insn.IntOp op.And) refl,
+                                                            (
+                                                              Takes-bare (insn.IntOp op.Or) refl,
+                                                              (
+                                                                Takes-bare (insn.IntOp op.Xor) refl,
+                                                                (
+                                                                  Takes-two_bytes (λ a b. insn.Inc a (signed_one b)) (λ a b. refl),
+                                                                  (
+                                                                    Takes-bare (insn.Convert conv.IntToByte) refl,
+                                                                    (
+                                                                      Takes-bare (insn.Convert conv.IntToChar) refl,
+                                                                      (
+                                                                        Takes-bare (insn.Convert conv.IntToShort) refl,
+                                                                        (
+                                                                          Takes-bare (insn.Return (Some reg.Int)) refl,
+                                                                          (
+                                                                            Takes-bare (insn.Return None) refl,
+                                                                            tt,
+                                                                          ),
+                                                                        ),
+                                                                      ),
+                                                                    ),
+                                                                  ),
+                                                                ),
+                                                              ),
+                                                            ),
+                                                          ),
+                                                        ),
+                                                      ),
+                                                    ),
+                                                  ),
+                                                ),
+                                              ),
+                                            ),
+                                          ),
+                                        ),
+                                      ),
+                                    ),
+                                  ),
+                                ),
+                              ),
+                            ),
+                          ),
+                        ),
+                      ),
+                    ),
+                  ),
+                ),
+              ),
+            ),
+          ),
+        ),
+      ),
+    ),
+  ),
+)
 
 -- an opcode of the first form takes the bytes that it asks for
 pub operands-of : (offset opcode : ℕ) (operands : List ℕ) (i : Insn) → is_first_opcode opcode ≡ true → insn_at offset (opcode ∷ operands) ≡ Some i

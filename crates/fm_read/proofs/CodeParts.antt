@@ -1,7 +1,7 @@
 -- The parts of a body without tables are determined by the body, and make it up.
-use Rattle.std.proofs.Common.{◌≡◌, ℕ, suc, ◌+◌, ◌-◌, ◌*◌, ◌^◌, ◌<◌, ◌≤◌, List, [], ◌∷◌, ◌++◌, length, get_or, take, drop, refl, sym, ap, subst, ◌∙◌, arith, append_assoc, length-append, length-take, length-drop}
+use Rattle.std.proofs.Common.{◌≡◌, ℕ, ◌+◌, ◌<◌, ◌≤◌, List, [], ◌∷◌, ◌++◌, length, take, drop, refl, sym, ap, subst, ◌∙◌, arith, length-append, length-take, length-drop}
 use Rattle.std.specs.List.{flat_map, concat, AllByRecursion}
-use Rattle.std.proofs.lemmas.List.{take_at, drop_at, take-append-drop, drop-drop, append-nil}
+use Rattle.std.proofs.lemmas.List.{take_at, drop_at, take-append-drop, drop-drop}
 use Rattle.std.specs.Prelude.{nat_eq, not, Bool, true, false}
 use Rattle.std.specs.Cmp.Lexicographic.{pointwise}
 use Rattle.std.proofs.lemmas.Bool.{not-true, not-false, both_ways}
@@ -91,19 +91,19 @@ HasParts-from body n fits size is some few tables =
     let e8 : drop 8 body ≡ code ++ (two 0 ++ (two 0 ++ [])) = split n (drop 8 body) code (two 0 ++ (two 0 ++ [])) refl (two-zero ∙ sym tables) in
     let length4 : 4 ≤ length (drop 4 body) = omega (arith, length-drop 4 body) in
     let e4 : drop 4 body ≡ four (length code) ++ (code ++ (two 0 ++ (two 0 ++ []))) =
-      split 4 (drop 4 body) (four (length code)) (code ++ (two 0 ++ (two 0 ++ []))) (ap four (long ∙ sym is) ∙ four-big_number (drop 4 body) fits4 length4)
-      (sym e8 ∙ sym (drop-drop 4 4 body)) in
+    split 4 (drop 4 body) (four (length code)) (code ++ (two 0 ++ (two 0 ++ []))) (ap four (long ∙ sym is) ∙ four-big_number (drop 4 body) fits4 length4)
+    (sym e8 ∙ sym (drop-drop 4 4 body)) in
     let length2 : 2 ≤ length (drop 2 body) = omega (arith, length-drop 2 body) in
     let e2 : drop 2 body ≡ two (big_number 2 (drop 2 body)) ++ (four (length code) ++ (code ++ (two 0 ++ (two 0 ++ [])))) =
-      split 2 (drop 2 body) (two (big_number 2 (drop 2 body))) (four (length code) ++ (code ++ (two 0 ++ (two 0 ++ [])))) (two-big_number (drop 2 body) fits2 length2)
-      (sym e4 ∙ sym (drop-drop 2 2 body)) in
+    split 2 (drop 2 body) (two (big_number 2 (drop 2 body))) (four (length code) ++ (code ++ (two 0 ++ (two 0 ++ [])))) (two-big_number (drop 2 body) fits2 length2)
+    (sym e4 ∙ sym (drop-drop 2 2 body)) in
     record {
       stack_fits = omega (arith, fits 0, fits 1);
       locals_fit = omega (arith, fits2 0, fits2 1);
       not_empty = omega (arith, long);
       not_long = omega (arith, long);
       bytes_are = split 2 body (two (big_number 2 body)) (two (big_number 2 (drop 2 body)) ++ (four (length code) ++ (code ++ (two 0 ++ (two 0 ++ [])))))
-      (two-big_number body fits (omega arith)) (sym e2);
+          (two-big_number body fits (omega arith)) (sym e2);
     }
 
 -- ---- the body and its code
@@ -115,9 +115,10 @@ plain_code max_stack max_locals size items =
 
 items_fit : (items : List Item) → IsBytes (flat_map item_bytes items) → AllByRecursion (λ (item : Item). AreBytes item.bytes) items
 items_fit [] fits = tt
-items_fit (item ∷ items) fits =
-    ( AreBytes-from item.bytes (IsBytes-left item.bytes (flat_map item_bytes items) fits)
-    , items_fit items (IsBytes-right item.bytes (flat_map item_bytes items) fits) )
+items_fit (item ∷ items) fits = (
+  AreBytes-from item.bytes (IsBytes-left item.bytes (flat_map item_bytes items) fits),
+  items_fit items (IsBytes-right item.bytes (flat_map item_bytes items) fits),
+)
 
 plain_bytes : (body : List ℕ) (max_stack max_locals : ℕ) (bytes : List ℕ) (items : List Item) → HasParts body max_stack max_locals bytes → bytes ≡ flat_map item_bytes items
     → body ≡ code_bytes (plain_code max_stack max_locals (length bytes) items)

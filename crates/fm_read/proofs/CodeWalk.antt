@@ -1,5 +1,5 @@
 -- Items one after the other, as they are read, are the items that the bytes spell.
-use Rattle.std.proofs.Common.{◌≡◌, ℕ, zero, suc, ◌+◌, ◌-◌, ◌*◌, ◌≤◌, ◌<◌, Bool, true, false, List, [], ◌∷◌, ◌++◌, length, get_or, take, drop, Option, Some, None, refl, sym, ap, subst, ◌∙◌, arith, inl, inr, append_assoc, length-append, length-take, length-drop}
+use Rattle.std.proofs.Common.{◌≡◌, ℕ, zero, suc, ◌+◌, ◌*◌, ◌≤◌, ◌<◌, true, false, List, [], ◌∷◌, ◌++◌, length, get_or, take, drop, Option, Some, None, refl, sym, ap, subst, ◌∙◌, arith, inl, inr, append_assoc, length-take, length-drop}
 use Rattle.std.specs.List.{flat_map, AllByRecursion}
 use Rattle.std.specs.Option.{option_map}
 use Rattle.std.proofs.lemmas.Bool.{cases_Bool, cases_lt, ne_eqb, lt-ltb, le-ltb}
@@ -14,7 +14,7 @@ use Rattle.std.proofs.lemmas.List.{take_at, drop_at, take-append-drop, drop-drop
 use Rattle.std.proofs.lemmas.Option.{none-some, some_pair_parts}
 use Rattle.fm_code.specs.InstructionTable.{insn_at}
 use Rattle.fm_code.specs.ClassBytes.{item_bytes, offset_in}
-use Rattle.fm_code.specs.SpellsCode.{AreOffsets, IsSpelled, SpellsCode, LocalsFit, with_targets, targets_of}
+use Rattle.fm_code.specs.SpellsCode.{AreOffsets, IsSpelled, LocalsFit, with_targets}
 use Rattle.fm_code.specs.FirstForm.{opcode_of}
 use Rattle.fm_code.specs.declared.instructions.Insn.{Insn}
 use Rattle.fm_code.specs.declared.code_array.Item.{Item}
@@ -44,17 +44,17 @@ front_takes offset (opcode ∷ operands) i n e =
     elim (cases_Bool (is_first_opcode opcode)) [
       | inr other ↦ absurd (none-some _ (rw other at e))
       | inl first ↦
-        let count = operand_count opcode in
-        let parts = front_parts offset opcode operands count (insn_at offset (opcode ∷ take count operands)) i n refl (rw first at e) in
-        let takes = operands-of offset opcode (take count operands) i first parts.0 in
-        let k : n ≡ suc count = omega (arith, parts.1) in
-        record {
-          some = omega arith;
-          within = omega (arith, takes.0, length-take count operands);
-          first = first;
-          insn_is = ap (λ m. insn_at offset (take m (opcode ∷ operands))) k ∙ parts.0;
-          ends = takes.1;
-        }
+          let count = operand_count opcode in
+          let parts = front_parts offset opcode operands count (insn_at offset (opcode ∷ take count operands)) i n refl (rw first at e) in
+          let takes = operands-of offset opcode (take count operands) i first parts.0 in
+          let k : n ≡ suc count = omega (arith, parts.1) in
+          record {
+            some = omega arith;
+            within = omega (arith, takes.0, length-take count operands);
+            first = first;
+            insn_is = ap (λ m. insn_at offset (take m (opcode ∷ operands))) k ∙ parts.0;
+            ends = takes.1;
+          }
     ]
 
 -- the bytes of an instruction tell where it ends, so whatever follows it, it is read
@@ -176,10 +176,11 @@ walked_from : (max_locals offset : ℕ) (whole items : List Item) → AreOffsets
 walked_from max_locals offset whole [] offsets spelled locals firsts = refl
 walked_from max_locals offset whole (item ∷ items) offsets spelled locals firsts =
     let rest = flat_map item_bytes items in
-    let back : drop (length item.bytes) (item.bytes ++ rest) ≡ rest = drop_at item.bytes rest (length item.bytes) refl in
-    ( front_is max_locals offset whole item rest offsets.0 spelled.0 locals.0 firsts.0
-    , subst (λ (b : List ℕ). AreWalked max_locals (offset + length item.bytes) b items) (sym back)
-      (walked_from max_locals (offset + length item.bytes) whole items offsets.1 spelled.1 locals.1 firsts.1) )
+    let back : drop (length item.bytes) (item.bytes ++ rest) ≡ rest = drop_at item.bytes rest (length item.bytes) refl in (
+      front_is max_locals offset whole item rest offsets.0 spelled.0 locals.0 firsts.0,
+      subst (λ (b : List ℕ). AreWalked max_locals (offset + length item.bytes) b items) (sym back)
+          (walked_from max_locals (offset + length item.bytes) whole items offsets.1 spelled.1 locals.1 firsts.1),
+    )
 
 -- what is spelled so is read
 pub walked_again : (max_locals : ℕ) (bytes : List ℕ) (items : List Item) → AreFirstItems max_locals bytes items → AreWalked max_locals 0 bytes items
@@ -205,20 +206,21 @@ pub record IsReadUpTo (max_locals : ℕ) (code : List ℕ) (items : List Item) (
   pub goes_on : (more : List Item) → AreWalked max_locals at (drop at code) more → AreWalked max_locals 0 code (items ++ more)
   pub only : (all : List Item) → AreWalked max_locals 0 code all → (more : List Item) × ((all ≡ items ++ more) × AreWalked max_locals at (drop at code) more)
 
-pub read_none : (max_locals : ℕ) (code : List ℕ) → IsReadUpTo max_locals code [] 0
-read_none max_locals code = record { goes_on = λ more walked. walked; only = λ all walked. (all, (refl, walked)) }
-
+-- with one item more
 pub read_more : (max_locals : ℕ) (code : List ℕ) (items : List Item) (at : ℕ) (item : Item) → IsReadUpTo max_locals code items at → IsFront max_locals at (drop at code) item
     → IsReadUpTo max_locals code (items ++ item ∷ []) (at + length item.bytes)
 read_more max_locals code items at item so_far front = record { goes_on = goes_on; only = λ all walked. let w = so_far.only all walked in next all w.0 w.1.0 w.1.1 } where
   n : ℕ
   n = length item.bytes
+
   moved : drop n (drop at code) ≡ drop (at + n) code
   moved = drop-drop n at code
+
   goes_on : (more : List Item) → AreWalked max_locals (at + n) (drop (at + n) code) more → AreWalked max_locals 0 code ((items ++ item ∷ []) ++ more)
   goes_on more walked =
       subst (λ (all : List Item). AreWalked max_locals 0 code all) (sym (append_assoc items (item ∷ []) more))
       (so_far.goes_on (item ∷ more) (front, subst (λ (b : List ℕ). AreWalked max_locals (at + n) b more) (sym moved) walked))
+
   next : (all more : List Item) → all ≡ items ++ more → AreWalked max_locals at (drop at code) more
       → (later : List Item) × ((all ≡ (items ++ item ∷ []) ++ later) × AreWalked max_locals (at + n) (drop (at + n) code) later)
   next all [] is walked =
@@ -227,10 +229,13 @@ read_more max_locals code items at item so_far front = record { goes_on = goes_o
   next all (other ∷ more) is walked =
       let same : other ≡ item = front_unique max_locals at (drop at code) other item walked.0 front in
       let rest : AreWalked max_locals (at + n) (drop n (drop at code)) more =
-        subst (λ (i : Item). AreWalked max_locals (at + length i.bytes) (drop (length i.bytes) (drop at code)) more) same walked.1 in
-      ( more
-      , ( is ∙ ap (λ (i : Item). items ++ i ∷ more) same ∙ sym (append_assoc items (item ∷ []) more)
-        , subst (λ (b : List ℕ). AreWalked max_locals (at + n) b more) moved rest ) )
+      subst (λ (i : Item). AreWalked max_locals (at + length i.bytes) (drop (length i.bytes) (drop at code)) more) same walked.1 in (
+        more,
+        (
+          is ∙ ap (λ (i : Item). items ++ i ∷ more) same ∙ sym (append_assoc items (item ∷ []) more),
+          subst (λ (b : List ℕ). AreWalked max_locals (at + n) b more) moved rest,
+        ),
+      )
 
 -- at the end
 pub read_all : (max_locals : ℕ) (code : List ℕ) (items : List Item) (at : ℕ) → length code ≤ at → IsReadUpTo max_locals code items at → AreFirstItems max_locals code items

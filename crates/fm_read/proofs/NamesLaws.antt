@@ -1,10 +1,9 @@
 -- Laws of names and of descriptors of ints.
 use Rattle.std.proofs.Common.{◌≡◌, ◌↔◌, ℕ, zero, suc, ◌+◌, ◌-◌, ◌≤◌, ◌<◌, Bool, true, false, ◌&&◌, ◌||◌, eqb, replicate, List, [], ◌∷◌, ◌++◌, length, take, drop, get_or, length-append, refl, sym, ap, ◌∙◌, arith, inl, inr}
 use Rattle.std.specs.List.{prefix_len, list_all}
-use Rattle.std.specs.Cmp.Lexicographic.{pointwise}
 use Rattle.std.specs.Str.{bytes_eq}
 use Rattle.std.proofs.lemmas.Bool.{cases_Bool, both_ways, eqb-true}
-use Rattle.fm_code.specs.Names.{is_name_character, is_unqualified, is_binary_name, is_primitive_letter, BaseType, primitive, object, IsBaseType, base_descriptor, FieldType, IsFieldType, IsArrayName}
+use Rattle.fm_code.specs.Names.{is_name_character, is_unqualified, is_binary_name, is_primitive_letter, BaseType, primitive, object, IsBaseType, base_descriptor, IsArrayName}
 use Rattle.std.proofs.lemmas.List.{take_all, take_at, take_more, get_or_at, drop_at, length-replicate}
 use Rattle.fm_read.specs.NamesParts.{IsBaseDescriptor}
 use Rattle.fm_code.specs.FirstForm.{is_int_descriptor}
@@ -97,8 +96,9 @@ IsArrayName-parts name n is = (parts, λ p. back p.0 p.1 p.2) where
       let spelled = w.1.1.1 in
       let k : n ≡ t.dimensions = is ∙ ap (prefix_len is_bracket) spelled ∙ prefix_len-brackets t.dimensions (base_descriptor t.base) (prefix_len-base t.base ok.base) in
       let inner : drop n name ≡ base_descriptor t.base =
-        ap (drop n) spelled ∙ drop_at (replicate t.dimensions 91) (base_descriptor t.base) n (length-replicate t.dimensions 91 ∙ sym k) in
+      ap (drop n) spelled ∙ drop_at (replicate t.dimensions 91) (base_descriptor t.base) n (length-replicate t.dimensions 91 ∙ sym k) in
       (omega (arith, some), omega (arith, ok.dimensions), (t.base, (ok.base, inner)))
+
   back : 0 < n → n ≤ 255 → IsBaseDescriptor (drop n name) → IsArrayName name
   back some few base =
       let whole : name ≡ replicate n 91 ++ base_descriptor base.0 = replicate-prefix_len 91 name ∙ ap (λ (k : ℕ). replicate k 91 ++ drop k name) (sym is) ∙ ap (λ (ys : List ℕ). replicate n 91 ++ ys) base.1.1 in
@@ -133,12 +133,16 @@ IsBaseDescriptor-class (c ∷ xs) r two first last is =
     (λ e. (object (take (length xs - 1) xs), (sym at ∙ e, whole)), λ base. at ∙ only base.0 base.1.0 base.1.1) where
       less : suc (length xs) - 1 - 1 ≡ length xs - 1
       less = omega arith
+
       at : r ≡ is_binary_name (take (length xs - 1) xs)
       at = is ∙ ap (λ n. is_binary_name (take n xs)) less
+
       final : get_or xs (length xs - 1) 0 ≡ 59
       final = sym (last-of c xs (omega arith)) ∙ last
+
       whole : c ∷ xs ≡ 76 ∷ (take (length xs - 1) xs ++ 59 ∷ [])
       whole = ap (λ b. b ∷ xs) first ∙ ap (λ ys. 76 ∷ ys) (between-is xs (omega arith) final)
+
       only : (b : BaseType) → IsBaseType b → c ∷ xs ≡ base_descriptor b → is_binary_name (take (length xs - 1) xs) ≡ true
       only (primitive letter) ok same = absurd (omega (arith, ap length same))
       only (object name) ok same =

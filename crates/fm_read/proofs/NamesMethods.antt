@@ -1,5 +1,5 @@
 -- Which descriptors of the first form are descriptors of methods: their arguments take at most 255 words.
-use Rattle.std.proofs.Common.{◌≡◌, ◌↔◌, ℕ, zero, suc, ◌+◌, ◌≤◌, ◌<◌, Bool, true, false, ◌&&◌, eqb, codes, replicate, List, [], ◌∷◌, ◌++◌, length, drop, get_or, Option, Some, None, ◌⊎◌, refl, sym, ap, subst, ◌∙◌, arith, inl, inr, append_assoc, length-append}
+use Rattle.std.proofs.Common.{◌≡◌, ◌↔◌, ℕ, zero, suc, ◌+◌, ◌≤◌, true, false, eqb, codes, replicate, List, [], ◌∷◌, ◌++◌, length, drop, Option, Some, None, ◌⊎◌, refl, sym, ap, ◌∙◌, arith, inl, inr, append_assoc, length-append}
 use Rattle.std.specs.Prelude.{IfSome}
 use Rattle.std.specs.List.{prefix_len, sum_by, flat_map, AllByRecursion}
 use Rattle.std.specs.Str.{bytes_eq}
@@ -7,7 +7,7 @@ use Rattle.std.proofs.lemmas.Bool.{cases_Bool, both_ways, eqb-true, or_cases}
 use Rattle.std.proofs.lemmas.List.{length-replicate}
 use Rattle.std.proofs.lemmas.List.Sums.{sum_by-cons}
 use Rattle.std.proofs.lemmas.Slice.Eq.{bytes_eq-Decides}
-use Rattle.fm_code.specs.Names.{is_primitive_letter, BaseType, primitive, object, IsBaseType, base_descriptor, FieldType, IsFieldType, field_descriptor, words_of, MethodType, IsMethodType, method_descriptor, result_descriptor, IsMethodDescriptor}
+use Rattle.fm_code.specs.Names.{is_primitive_letter, BaseType, primitive, object, IsBaseType, base_descriptor, FieldType, IsFieldType, field_descriptor, words_of, MethodType, method_descriptor, result_descriptor, IsMethodDescriptor}
 use Rattle.fm_code.specs.FirstForm.{is_int_descriptor}
 use Rattle.fm_read.proofs.NamesLaws.{is_end, is_int_descriptor-ints, replicate-prefix_len}
 
@@ -34,13 +34,18 @@ ints_are (c ∷ rest) e =
     elim (cases_Bool (eqb c 40)) [
       | inr other ↦ absurd (both_ways false refl (rw other at e))
       | inl opens ↦
-        let n = prefix_len (λ b. eqb b 73) rest in
-        let inner : is_int_descriptor (40 ∷ rest) ≡ true = rw opens at e in
-        let end = end_is (drop n rest) (sym (is_int_descriptor-ints rest) ∙ inner) in
-        ( n
-        , ( end.0
-          , ( end.1.0
-            , ap (λ b. b ∷ rest) (eqb-true c 40 opens) ∙ ap (λ (ys : List ℕ). 40 ∷ ys) (replicate-prefix_len 73 rest) ∙ ap (λ (ys : List ℕ). 40 ∷ (replicate n 73 ++ ys)) end.1.1 ) ) )
+          let n = prefix_len (λ b. eqb b 73) rest in
+          let inner : is_int_descriptor (40 ∷ rest) ≡ true = rw opens at e in
+          let end = end_is (drop n rest) (sym (is_int_descriptor-ints rest) ∙ inner) in (
+            n,
+            (
+              end.0,
+              (
+                end.1.0,
+                ap (λ b. b ∷ rest) (eqb-true c 40 opens) ∙ ap (λ (ys : List ℕ). 40 ∷ ys) (replicate-prefix_len 73 rest) ∙ ap (λ (ys : List ℕ). 40 ∷ (replicate n 73 ++ ys)) end.1.1,
+              ),
+            ),
+          )
     ]
 
 heads : (a b : ℕ) (xs ys : List ℕ) → a ∷ xs ≡ b ∷ ys → a ≡ b
@@ -112,25 +117,29 @@ pub IsMethodDescriptor-ints : (receiver : ℕ) (d : List ℕ) → is_int_descrip
 IsMethodDescriptor-ints receiver d e = (few, fits) where
   are : AreInts d
   are = ints_are d e
+
   size : length d ≡ are.0 + 3
-  size = ap length are.1.1.1 ∙ omega (arith, length-append (replicate are.0 73) (41 ∷ are.1.0 ∷ []), length-replicate are.0 73)
+  size = ap length are.1.1.1 ∙ omega (arith, length-append (replicate are.0 73) (41 ∷ are.1.0 ∷ []), length-replicate {A = ℕ} are.0 73)
+
   few : IsMethodDescriptor receiver d → length d + receiver ≤ 258
   few w =
       let m = w.0 in
       let same = sym w.1.1.0 ∙ are.1.1.1 in
       let words = ints_words m.parameters are.0 (result_descriptor m.result) (are.1.0 ∷ []) w.1.0.parameters (tails _ _ _ _ same) in
       omega (arith, size, words, w.1.1.1)
+
   fits : length d + receiver ≤ 258 → IsMethodDescriptor receiver d
   fits le =
       let result = result_type are.1.0 are.1.1.0 in
       let m : MethodType = record { parameters = ints_type are.0; result = result.0 } in
       let spelled : d ≡ method_descriptor m =
-        are.1.1.1 ∙ ap (λ (ys : List ℕ). 40 ∷ (ys ++ 41 ∷ are.1.0 ∷ [])) (sym (ints_type-descriptor are.0))
-        ∙ ap (λ (ys : List ℕ). 40 ∷ (flat_map field_descriptor (ints_type are.0) ++ 41 ∷ ys)) (sym result.1.1) in
+      are.1.1.1 ∙ ap (λ (ys : List ℕ). 40 ∷ (ys ++ 41 ∷ are.1.0 ∷ [])) (sym (ints_type-descriptor are.0))
+      ∙ ap (λ (ys : List ℕ). 40 ∷ (flat_map field_descriptor (ints_type are.0) ++ 41 ∷ ys)) (sym result.1.1) in
       (m, (record { parameters = ints_type-fits are.0; result = result.1.0 }, (spelled, omega (arith, ints_type-words are.0, size))))
 
 -- main takes one array of texts
 pub IsMethodDescriptor-main : IsMethodDescriptor 0 (codes "([Ljava/lang/String;)V")
-IsMethodDescriptor-main =
-    ( record { parameters = record { dimensions = 1; base = object (codes "java/lang/String") } ∷ []; result = None }
-    , ( record { parameters = (record { dimensions = omega arith; base = refl }, tt); result = tt }, (refl, omega arith) ) )
+IsMethodDescriptor-main = (
+  record { parameters = record { dimensions = 1; base = object (codes "java/lang/String") } ∷ []; result = None },
+  (record { parameters = (record { dimensions = omega arith; base = refl }, tt); result = tt }, (refl, omega arith)),
+)

@@ -8,12 +8,11 @@ ghost use Rattle.fm_code.specs.declared.code_array.Item.{Item};
 ghost use Rattle.fm_read.specs.CodeBody.{IsFirstBody, HasParts};
 ghost use Rattle.fm_read.specs.CodeItems.{front_insn, bare_insn, IsFront, AreFirstItems};
 
+use crate::failure::FirstFail;
 use byteorder::{BigEndian, ByteOrder};
 use fm_base::Seq;
 use fm_code::{Code, Conv, Insn, Item, Op, Reg, Shift};
 use std::alloc::Global;
-
-use crate::failure::FirstFail;
 
 /// The code of the first form whose Code attribute has these bytes behind its length. `NotYet` comes
 /// exactly where there is none. No memory is taken for a length that the bytes only claim.
@@ -131,6 +130,7 @@ fn insn_of(code: &[u8], at: usize) -> Option<(Insn, usize)>
 {
     let (opcode, operands) = code[at..].split_first()?;
     match *opcode {
+        // bipush, sipush, iload, istore and iinc
         16 => Some((Insn::Const(i32::from(operands.first()?.cast_signed())), 2)),
         17 => match operands {
             [_, _, ..] => Some((Insn::Const(i32::from(BigEndian::read_i16(operands))), 3)),
@@ -139,10 +139,7 @@ fn insn_of(code: &[u8], at: usize) -> Option<(Insn, usize)>
         21 => Some((Insn::Load(Reg::Int, u16::from(*operands.first()?)), 2)),
         54 => Some((Insn::Store(Reg::Int, u16::from(*operands.first()?)), 2)),
         132 => match operands {
-            [local, by, ..] => Some((
-                Insn::Inc(u16::from(*local), i16::from(by.cast_signed())),
-                3,
-            )),
+            [local, by, ..] => Some((Insn::Inc(u16::from(*local), i16::from(by.cast_signed())), 3)),
             _ => None,
         },
         opcode => Some((bare_insn_of(opcode)?, 1)),
@@ -191,3 +188,6 @@ fn bare_insn_of(opcode: u8) -> Option<Insn>
         _ => None,
     }
 }
+
+#[cfg(test)]
+mod tests;

@@ -127,3 +127,6 @@ fn is_name_character(c: u8) -> bool
 {
     !matches!(c, b'.' | b';' | b'[' | b'/')
 }
+
+#[cfg(test)]
+mod tests;

@@ -1,10 +1,5 @@
-use Rattle.std.proofs.Common.{◌≡◌, List, length, sym, ap, subst, ◌∙◌, arith}
+use Rattle.std.proofs.Common.{◌≡◌, sym, subst, ◌∙◌, arith}
 use Rattle.std.proofs.lemmas.Result.{err_from_is_err_and}
-use Rattle.fm_code.specs.ClassBytes.{item_bytes}
-use Rattle.fm_code.specs.declared.code_array.Code.{Code}
-use Rattle.fm_code.specs.declared.code_array.Item.{Item}
-use Rattle.fm_code.specs.declared.code_array.Handler.{Handler}
-use Rattle.fm_code.specs.declared.code_array.CodeAttr.{CodeAttr}
 use Rattle.fm_read.specs.CodeBody.{IsFirstBody}
 use Rattle.fm_read.proofs.CodeParts.{IsFirstBody-from, IsFirstBody-parts, IsFirstBody-items, IsFirstBody-unique, plain_code-is}
 use Rattle.fm_read.proofs.code.code_of.Goals as goal
@@ -31,7 +26,7 @@ returns-in_err-items-clause-not_yet c = λ e code first.
 pub returns-clause-found : goal.returns-clause-found
 returns-clause-found c =
     let is = IsFirstBody-from c.args.body.now c.in-Some.max_stack c.in-Some.max_locals c.in-Some.code.now c.in_ok-items.items.items (λ i. omega (arith, c.type_inv.body i))
-      c.in-Some.ensures.found c.in_ok-items.ensures.found in
+    c.in-Some.ensures.found c.in_ok-items.ensures.found in
     subst (IsFirstBody c.args.body.now) (plain_code-is _ _ _ _ _ _ _ c.new.ensures (c.new-3.ensures ∙ c.new-2.ensures.items) (c.new-5.ensures ∙ c.new-4.ensures.items)) is
 
 pub returns-clause-read : goal.returns-clause-read

@@ -1,9 +1,8 @@
-use Rattle.std.proofs.Common.{◌≡◌, ℕ, suc, ◌∷◌, drop, sym, ap, ◌∙◌, subst, arith, Some, ℤ}
-use Rattle.std.specs.Int.{w16, w32, cast_signed, cast_unsigned}
+use Rattle.std.proofs.Common.{◌≡◌, suc, ◌∷◌, drop, sym, ap, ◌∙◌, subst, arith, Some, ℤ}
+use Rattle.std.specs.Int.{w16, w32}
 use Rattle.std.specs.Option.{option_map}
 use Rattle.std.proofs.lemmas.List.{take_rest}
 use Rattle.std.proofs.lemmas.Int.{to_z-of_z}
-use Rattle.fm_code.specs.declared.instructions.Insn.{Insn}
 use Rattle.fm_code.specs.declared.instructions.Insn.TheVariants as insn
 use Rattle.fm_read.specs.CodeItems.{front_insn}
 use Rattle.fm_read.proofs.CodeBytes.{IsBytes, IsBytes-drop}

@@ -1,4 +1,4 @@
-use Rattle.std.proofs.Common.{◌≡◌, ℕ, ◌∷◌, [], List, take, drop, length, refl, sym, ap, subst, ◌∙◌, arith, inl, inr}
+use Rattle.std.proofs.Common.{◌≡◌, ℕ, ◌∷◌, [], List, take, drop, length, sym, ap, subst, ◌∙◌, arith, inl, inr}
 use Rattle.std.proofs.lemmas.List.{take_rest}
 use Rattle.byteorder.specs.Endian.{big_number}
 use Rattle.fm_read.specs.CodeBody.{HasParts}
@@ -25,7 +25,7 @@ returns-then-ne-clause-none c = λ max_stack max_locals code has.
     let tells = tells_parts c.args.body.now max_stack max_locals code has in
     let read : c.read_u32-length.result ≡ length code = c.read_u32-length.ensures ∙ ap (big_number 4) (take_rest c.args.body.now 4) ∙ tells.length_is in
     let tables : c.split_at.result.1.now ≡ 0 ∷ 0 ∷ 0 ∷ 0 ∷ [] =
-      c.split_at.ensures.back ∙ ap (drop c.read_u32-length.result) (take_rest c.args.body.now 8) ∙ ap (λ (n : ℕ). drop n (drop 8 c.args.body.now)) read ∙ tells.tables_are in
+    c.split_at.ensures.back ∙ ap (drop c.read_u32-length.result) (take_rest c.args.body.now 8) ∙ ap (λ (n : ℕ). drop n (drop 8 c.args.body.now)) read ∙ tells.tables_are in
     other_from_ne _ _ c.as_slice.ensures _ c.ne.ensures c.if-ne.true tables
 
 pub returns-clause-found : goal.returns-clause-found

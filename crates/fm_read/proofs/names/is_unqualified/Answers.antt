@@ -9,5 +9,5 @@ use Rattle.fm_read.proofs.names.is_unqualified.Goals as goal
 pub returns-then-not-is_empty : goal.returns-then-not-is_empty
 returns-then-not-is_empty c =
     let all : c.all.result ≡ list_all is_name_character c.args.name.now =
-      all_from_yields_List is_name_character _ _ c.all.result c.all.ensures.ran (YieldsList-from_slice c.args.name.now cc) (λ x b q k. search (rules, tests)) in
+    all_from_yields_List is_name_character _ _ c.all.result c.all.ensures.ran (YieldsList-from_slice c.args.name.now cc) (λ x b q k. search (rules, tests)) in
     all ∙ sym (is_unqualified-some c.args.name.now (λ e. grind (arith, eq-eqb)))
