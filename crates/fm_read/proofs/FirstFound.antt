@@ -1,26 +1,23 @@
 -- The parts of a class with the code of its methods are a record of the first form, and the bytes of the parts spell it.
-use Rattle.std.proofs.Common.{◌≡◌, ℕ, zero, suc, ◌+◌, ◌<◌, ◌≤◌, ◌⊎◌, inl, inr, Bool, true, false, cond, ◌||◌, List, [], ◌∷◌, ◌++◌, length, map, Option, Some, None, refl, sym, ap, subst, ◌∙◌, append_assoc, arith, IsTrue}
+use Rattle.std.proofs.Common.{◌≡◌, ℕ, suc, ◌≤◌, ◌⊎◌, inl, inr, Bool, true, false, List, [], ◌∷◌, length, map, Option, Some, None, refl, sym, ap, subst, ◌∙◌, append_assoc, arith}
 use Rattle.std.specs.Prelude.{IsSomeAnd, IsSome, codes}
 use Rattle.std.specs.List.{flat_map, AllByRecursion}
 use Rattle.std.proofs.lemmas.Bool.{false≢true}
 use Rattle.std.proofs.lemmas.List.{append-nil}
-use Rattle.fm_code.specs.Numbers.{two, four}
-use Rattle.fm_code.specs.ClassBytes.{magic, counted, entry_bytes, pool_bytes, attribute_bytes, code_bytes, member_attribute_bytes, member_bytes, class_bytes}
-use Rattle.fm_code.specs.Fits.{AreBytes, IsByte, FitsTwo, FitsFour, CountedFits, EntryFits, MemberFits, MemberAttrFits, ClassFits}
-use Rattle.fm_code.specs.Names.{is_method_name, is_binary_name, IsMethodDescriptor}
-use Rattle.fm_code.specs.Rules.{AreSlots, EntryIsValid, MethodIsValid, MethodAttrIsValid, AreDifferent, AreDistinct, utf8_at, class_name_at, is_static, is_native, is_abstract, is_interface, receiver_words}
+use Rattle.fm_code.specs.Numbers.{four}
+use Rattle.fm_code.specs.ClassBytes.{magic, pool_bytes, code_bytes, member_attribute_bytes, member_bytes, class_bytes}
+use Rattle.fm_code.specs.Fits.{AreBytes, FitsTwo, CountedFits, EntryFits, MemberFits, ClassFits}
+use Rattle.fm_code.specs.Names.{IsMethodDescriptor}
+use Rattle.fm_code.specs.Rules.{AreSlots, MethodIsValid, AreDifferent, AreDistinct, utf8_at, class_name_at, is_interface, receiver_words}
 use Rattle.fm_code.specs.Spells.{Spells}
-use Rattle.fm_code.specs.FirstForm.{IsFirstEntry, IsFirstMethod, IsFirstForm, IsMain, is_int_descriptor}
+use Rattle.fm_code.specs.FirstForm.{IsFirstEntry, IsFirstMethod, IsFirstForm, is_int_descriptor}
 use Rattle.fm_code.specs.declared.constant_pool.Entry.{Entry}
 use Rattle.fm_code.specs.declared.constant_pool.Entry.TheVariants as entry
-use Rattle.fm_code.specs.declared.class_file.ClassDef.{ClassDef}
 use Rattle.fm_code.specs.declared.class_file.Member.{Member}
-use Rattle.fm_code.specs.declared.class_file.MemberAttr.{MemberAttr}
-use Rattle.fm_code.specs.declared.class_file.MemberAttr.TheVariants as attribute
 use Rattle.fm_code.specs.declared.code_array.Code.{Code}
 use Rattle.fm_read.specs.Parts.{Method, Class}
 use Rattle.fm_read.specs.CodeBody.{IsFirstBody}
-use Rattle.fm_read.specs.PartsRules.{MethodMeetsRules, MeetsRules, AreMethodsDistinct, IsMemberOf, AreMembersOf, member_of, bare_member, class_of_parts}
+use Rattle.fm_read.specs.PartsRules.{MethodMeetsRules, MeetsRules, AreMethodsDistinct, AreMembersOf, member_of, bare_member, class_of_parts}
 use Rattle.fm_read.proofs.PoolPieces.{AreFirstCharacters, IsReadEntry, IsReadPool}
 use Rattle.fm_read.proofs.MethodPieces.{method_bytes, MethodFits}
 use Rattle.fm_read.proofs.ClassPieces.{parts_bytes, PartsFit}
@@ -249,17 +246,19 @@ is_found bytes c members e fits rules distinct h =
       fields = nothing_fits MemberFits;
       methods = record { count = count; each = each.0 };
       attributes = nothing_fits _;
-    } in
-    (first, record {
-      bytes_are = e ∙ sym (class_spelled c members h);
-      fits = fitting;
-      slots = pool.2;
-      entries = rules.entries;
-      this_class = rules.names.this_class;
-      super_class = inr (some_from (class_name_at c.entries c.super_class) _ rules.names.superclass);
-      interfaces = tt;
-      fields = tt;
-      methods = members_of_class (is_interface c.flags) c.entries c.methods members rules.interface rules.methods h;
-      distinct_methods = distinct_members c.entries c.methods members h distinct;
-      attributes = tt;
-    })
+    } in (
+      first,
+      record {
+        bytes_are = e ∙ sym (class_spelled c members h);
+        fits = fitting;
+        slots = pool.2;
+        entries = rules.entries;
+        this_class = rules.names.this_class;
+        super_class = inr (some_from (class_name_at c.entries c.super_class) _ rules.names.superclass);
+        interfaces = tt;
+        fields = tt;
+        methods = members_of_class (is_interface c.flags) c.entries c.methods members rules.interface rules.methods h;
+        distinct_methods = distinct_members c.entries c.methods members h distinct;
+        attributes = tt;
+      },
+    )

@@ -1,13 +1,13 @@
 -- A record of the first form is made of its parts, which meet the rules of parts.
-use Rattle.std.proofs.Common.{◌≡◌, ◌↔◌, IsTrue, rules, ℕ, zero, suc, ◌+◌, ◌<◌, ◌≤◌, ◌⊎◌, inl, inr, Bool, true, false, cond, List, [], ◌∷◌, ◌++◌, length, get_or, map, Result, Ok, Err, Option, Some, None, refl, sym, ap, subst, ◌∙◌, arith}
+use Rattle.std.proofs.Common.{◌≡◌, ◌↔◌, IsTrue, rules, ℕ, ◌<◌, ◌⊎◌, inl, inr, Bool, true, false, List, [], ◌∷◌, length, get_or, Result, Ok, Err, Option, Some, None, refl, sym, ap, subst, ◌∙◌, arith}
 use Rattle.std.specs.Prelude.{MatchResult, IsSomeAnd, codes, ◌==◌, not}
 use Rattle.std.specs.List.{list_all, AllByRecursion}
 use Rattle.std.proofs.lemmas.Bool.{false≢true}
 use Rattle.std.proofs.lemmas.List.Elements.{recursion_from_All, All-from_get_or}
 use Rattle.fm_code.specs.ClassBytes.{code_bytes, class_bytes}
-use Rattle.fm_code.specs.Fits.{AreBytes, IsByte, FitsTwo, FitsFour, CountedFits, EntryFits, CodeFits, MemberFits, MemberAttrFits}
+use Rattle.fm_code.specs.Fits.{AreBytes, IsByte, FitsTwo, CountedFits, EntryFits, MemberFits, MemberAttrFits}
 use Rattle.fm_code.specs.Names.{is_method_name, IsMethodDescriptor}
-use Rattle.fm_code.specs.Rules.{AreSlots, CodeAttrIsValid, CodeIsValid, MethodIsValid, MethodAttrIsValid, utf8_at, is_static, is_abstract, is_interface, receiver_words}
+use Rattle.fm_code.specs.Rules.{AreSlots, CodeAttrIsValid, CodeIsValid, MethodIsValid, MethodAttrIsValid, utf8_at, is_static, is_interface, receiver_words}
 use Rattle.fm_code.specs.Spells.{Spells}
 use Rattle.fm_code.specs.FirstForm.{IsFirstEntry, IsFirstCode, AreFirstAttributes, IsFirstMethod, IsFirstForm, IsMain, is_int_descriptor}
 use Rattle.fm_code.specs.declared.constant_pool.Entry.{Entry}
@@ -18,10 +18,9 @@ use Rattle.fm_code.specs.declared.class_file.MemberAttr.{MemberAttr}
 use Rattle.fm_code.specs.declared.class_file.MemberAttr.TheVariants as attribute
 use Rattle.fm_code.specs.declared.class_file.Raw.{Raw}
 use Rattle.fm_code.specs.declared.code_array.Code.{Code}
-use Rattle.fm_code.specs.declared.code_array.CodeAttr.{CodeAttr}
 use Rattle.fm_read.specs.Parts.{Method, Class}
 use Rattle.fm_read.specs.CodeBody.{IsFirstBody}
-use Rattle.fm_read.specs.PartsRules.{HasFirstFlags, IsFirstName, IsFirstSignature, MethodMeetsRules, MeetsRules, AreMethodsDistinct, IsMemberOf, AreMembersOf, member_of, class_of_parts}
+use Rattle.fm_read.specs.PartsRules.{IsFirstName, IsFirstSignature, MethodMeetsRules, MeetsRules, AreMethodsDistinct, IsMemberOf, AreMembersOf, member_of, class_of_parts}
 use Rattle.fm_read.specs.Reading.{Fails, class_at}
 use Rattle.fm_read.specs.declared.failure.FirstFail.{FirstFail}
 use Rattle.fm_read.specs.declared.failure.FirstFail.TheVariants as fail
@@ -29,7 +28,7 @@ use Rattle.fm_read.proofs.PoolPieces.{IsReadEntry, IsReadPool}
 use Rattle.fm_read.proofs.MethodPieces.{MethodFits}
 use Rattle.fm_read.proofs.ClassPieces.{parts_bytes, PartsFit, class_again}
 use Rattle.fm_read.proofs.NamesMethods.{IsMethodDescriptor-ints}
-use Rattle.fm_read.proofs.FirstFound.{someAnd_is, is_someAnd, someAnd_weaker, members_spelled, class_spelled, distinct_methods}
+use Rattle.fm_read.proofs.FirstFound.{someAnd_is, is_someAnd, members_spelled, class_spelled, distinct_methods}
 
 -- ---- the pool
 
@@ -111,13 +110,17 @@ one_member in_interface entries m first valid fits =
     let fitting = subst (AllByRecursion MemberAttrFits) a.2 fits.attributes.each in
     let rules = subst (AllByRecursion (MethodAttrIsValid entries)) a.2 valid.attributes in
     let body : IsFirstBody (code_bytes a.1) a.1 = record { bytes_are = refl; fits = fitting.0.1; valid = λ there. valid_anywhere entries there a.1 a.3.attributes rules.0.1; first = a.3 } in
-    let same : m ≡ member_of p a.1 = ap (λ (each : List MemberAttr). let made : Member = record { flags = m.flags; name = m.name; descriptor = m.descriptor; attributes = each } in made) a.2 in
-    (p, (a.1, (body, same)), record { flags = fits.flags; name = fits.name; descriptor = fits.descriptor; attribute = fitting.0.0; size = fitting.0.1.size }, record {
-      flags = record { static = first.static; not_native = first.not_native; not_abstract = first.not_abstract };
-      name = both_names (utf8_at entries m.name) valid.name first.name;
-      signature = signature_of entries m first.static valid.name valid.descriptor first.descriptor;
-      attribute = rules.0.0;
-    })
+    let same : m ≡ member_of p a.1 = ap (λ (each : List MemberAttr). let made : Member = record { flags = m.flags; name = m.name; descriptor = m.descriptor; attributes = each } in made) a.2 in (
+      p,
+      (a.1, (body, same)),
+      record { flags = fits.flags; name = fits.name; descriptor = fits.descriptor; attribute = fitting.0.0; size = fitting.0.1.size },
+      record {
+        flags = record { static = first.static; not_native = first.not_native; not_abstract = first.not_abstract };
+        name = both_names (utf8_at entries m.name) valid.name first.name;
+        signature = signature_of entries m first.static valid.name valid.descriptor first.descriptor;
+        attribute = rules.0.0;
+      },
+    )
 
 pub record HasMethods (entries : List Entry) (members : List Member) : Type 0 where
   pub methods : List Method
@@ -164,7 +167,7 @@ pub record HasParts (bytes : List ℕ) (c : ClassDef) : Type 0 where
 same_class : (c : ClassDef) (methods : List Method) → IsFirstForm c → class_of_parts (record { entries = c.pool.entries; flags = c.flags; this_class = c.this_class; super_class = c.super_class; methods = methods }) c.methods ≡ c
 same_class c methods first =
     let made : ℕ → ℕ → List ℕ → List Member → List Raw → ClassDef = λ minor major interfaces fields attributes.
-      record { minor = minor; major = major; pool = c.pool; flags = c.flags; this_class = c.this_class; super_class = c.super_class; interfaces = interfaces; fields = fields; methods = c.methods; attributes = attributes } in
+    record { minor = minor; major = major; pool = c.pool; flags = c.flags; this_class = c.this_class; super_class = c.super_class; interfaces = interfaces; fields = fields; methods = c.methods; attributes = attributes } in
     ap (λ n. made n 49 [] [] []) (sym first.minor) ∙ ap (λ n. made c.minor n [] [] []) (sym first.major) ∙ ap (λ l. made c.minor c.major l [] []) (sym first.interfaces)
     ∙ ap (λ l. made c.minor c.major c.interfaces l []) (sym first.fields) ∙ ap (λ l. made c.minor c.major c.interfaces c.fields l) (sym first.attributes)
 

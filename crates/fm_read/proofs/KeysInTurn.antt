@@ -1,5 +1,5 @@
 -- Keys that go into a set one after the other, as a loop does.
-use Rattle.std.proofs.Common.{◌≡◌, ◌↔◌, ℕ, ◌+◌, ◌<◌, Bool, true, false, cond, Ordering, inl, inr, List, [], ◌∷◌, map, drop, length, get_or, refl, sym, ap, subst, ◌∙◌}
+use Rattle.std.proofs.Common.{◌≡◌, ◌↔◌, ℕ, Bool, true, false, cond, Ordering, inl, inr, List, [], ◌∷◌, map, refl, sym, ap, ◌∙◌}
 use Rattle.std.specs.Prelude.{slice_index, not}
 use Rattle.std.specs.List.{AllByRecursion}
 use Rattle.std.proofs.lemmas.Bool.{false≢true, cases_Bool}
@@ -82,7 +82,7 @@ pair_is : (x y : ℕ × ℕ) → is_eq (pair_cmp x y) ≡ true → x ≡ y
 pair_is x y e = exact_pairs nat_cmp nat_cmp exact_unsigned exact_unsigned x y ((Equal-is (pair_cmp x y)).0 e)
 
 apart_test : (x y : ℕ × ℕ) → (x ≡ y → ⊥) → is_eq (pair_cmp x y) ≡ false
-apart_test x y apart = elim (cases_Bool (is_eq (pair_cmp x y))) [ | inl same ↦ absurd (apart (pair_is x y same)) | inr no_more ↦ no_more ]
+apart_test x y apart = elim (cases_Bool (is_eq (pair_cmp x y))) [ inl same ↦ absurd (apart (pair_is x y same)) | inr no_more ↦ no_more ]
 
 false_before : (b x y : Bool) → y ≡ cond b true x → y ≡ false → x ≡ false
 false_before true x y e f = absurd (false≢true (sym f ∙ e))

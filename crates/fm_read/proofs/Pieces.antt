@@ -1,12 +1,12 @@
 -- What a piece that is read has: its spelling is what was taken from the front, and its spelling is read as it.
-use Rattle.std.proofs.Common.{◌≡◌, ℕ, zero, suc, ◌+◌, ◌≤◌, ◌<◌, Bool, true, false, cond, eqb, ltb, List, [], ◌∷◌, ◌++◌, length, take, drop, Option, Some, None, refl, sym, ap, subst, ◌∙◌, append_assoc, arith}
+use Rattle.std.proofs.Common.{◌≡◌, ℕ, zero, suc, ◌≤◌, Bool, true, false, cond, eqb, ltb, List, [], ◌∷◌, ◌++◌, length, take, drop, Option, Some, None, refl, sym, ap, subst, ◌∙◌, append_assoc, arith}
 use Rattle.std.specs.List.{flat_map, AllByRecursion}
 use Rattle.std.proofs.lemmas.Bool.{eqb-true, eq-eqb, ltb-false, le-ltb}
 use Rattle.std.proofs.lemmas.List.{take_at, drop_at, take-append-drop, length-append, length-take}
 use Rattle.std.proofs.lemmas.List.Concat.{flat_map-cons}
 use Rattle.byteorder.specs.Endian.{big_number}
 use Rattle.fm_code.specs.Numbers.{two, four}
-use Rattle.fm_code.specs.Fits.{AreBytes, FitsTwo, FitsFour, IsByte, CountedFits}
+use Rattle.fm_code.specs.Fits.{AreBytes, FitsTwo, FitsFour, IsByte}
 use Rattle.fm_code.proofs.Bytes.{AreBytes-take, AreBytes-drop, length-two, length-four, big_number-two, big_number-four, two-big_number, four-big_number, FitsTwo-big_number, FitsFour-big_number}
 use Rattle.fm_read.specs.Reading.{◌>>=◌, number_at, bytes_at, fixed_at, several_at}
 
@@ -143,7 +143,7 @@ several_takes {X = X} piece_at spell Fits piece (suc count) bytes x fits e =
     let second = several_takes piece_at spell Fits piece count a.0.1 b.0 first.0.rest_fits b.1 in
     let both = Takes-then bytes (spell a.0.0) a.0.1 (flat_map spell b.0.0) b.0.1 first.0 second.0 in
     let made : List X × List ℕ = (a.0.0 ∷ b.0.0, b.0.1) in
-    subst (λ (y : List X × List ℕ). Takes bytes (flat_map spell y.0) y.1 × (length y.0 ≡ suc count) × AllByRecursion Fits y.0) (some_is made x b.2) (rw flat_map-cons both, ap suc second.1, (first.1, second.2))
+    subst (λ (y : List X × List ℕ). Takes bytes (flat_map spell y.0) y.1 × (length y.0 ≡ suc count) × AllByRecursion Fits y.0) {x = made} (some_is made x b.2) (rw flat_map-cons both, ap suc second.1, (first.1, second.2))
 
 pub several_again : {X : Type 0} (piece_at : List ℕ → Option (X × List ℕ)) (spell : X → List ℕ) (Fits : X → Type 0) → IsPiece piece_at spell Fits
     → (xs : List X) (rest : List ℕ) → AllByRecursion Fits xs → several_at piece_at (length xs) (flat_map spell xs ++ rest) ≡ Some (xs, rest)

@@ -1,10 +1,10 @@
 -- The constant pool as a piece.
-use Rattle.std.proofs.Common.{◌≡◌, ℕ, zero, suc, ◌-◌, ◌≤◌, ◌<◌, Bool, true, false, cond, eqb, ltb, ◌&&◌, ◌⊎◌, inl, inr, List, [], ◌∷◌, ◌++◌, length, Option, Some, None, refl, sym, ap, subst, ◌∙◌, append_assoc, arith}
+use Rattle.std.proofs.Common.{◌≡◌, ℕ, zero, suc, ◌-◌, ◌<◌, Bool, true, false, cond, eqb, ltb, ◌&&◌, ◌⊎◌, inl, inr, List, [], ◌∷◌, ◌++◌, length, Some, None, refl, sym, ap, subst, ◌∙◌, append_assoc, arith}
 use Rattle.std.specs.List.{list_all, flat_map, AllByRecursion}
 use Rattle.std.proofs.lemmas.Bool.{eqb-true, ne_eqb, ltb-true, lt-ltb}
 use Rattle.fm_code.specs.Numbers.{two}
 use Rattle.fm_code.specs.ClassBytes.{entry_bytes, counted}
-use Rattle.fm_code.specs.Fits.{AreBytes, FitsTwo, IsByte}
+use Rattle.fm_code.specs.Fits.{AreBytes, FitsTwo}
 use Rattle.fm_code.specs.declared.constant_pool.Entry.{Entry}
 use Rattle.fm_code.specs.declared.constant_pool.Entry.TheVariants as entry
 use Rattle.fm_read.specs.Reading.{◌>>=◌, number_at, bytes_at, text_at, named_at, class_entry_at, entry_at_front, several_at, pool_at, with_front}
@@ -96,7 +96,7 @@ entry_takes bytes x fits e =
     elim (chosen (eqb a.0.0 1) (named_at a.0.1) (cond (eqb a.0.0 7) (class_entry_at a.0.1) None) (Some x) a.2) [
       | inl h ↦ behind bytes a.0.1 1 x (t.0.parts ∙ ap (λ (n : ℕ). n ∷ a.0.1) (eqb-true _ _ h.0)) (named_takes a.0.1 x t.0.rest_fits h.1)
       | inr h ↦ let g = guard_holds (eqb a.0.0 7) (class_entry_at a.0.1) x h.1 in
-        behind bytes a.0.1 7 x (t.0.parts ∙ ap (λ (n : ℕ). n ∷ a.0.1) (eqb-true _ _ g.0)) (class_takes a.0.1 x t.0.rest_fits g.1)
+          behind bytes a.0.1 7 x (t.0.parts ∙ ap (λ (n : ℕ). n ∷ a.0.1) (eqb-true _ _ g.0)) (class_takes a.0.1 x t.0.rest_fits g.1)
     ]
 
 entry_again : (e : Entry) (rest : List ℕ) → IsReadEntry e → entry_at_front (entry_bytes e ++ rest) ≡ Some (e, rest)

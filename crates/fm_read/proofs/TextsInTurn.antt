@@ -1,5 +1,5 @@
 -- Texts that get their numbers one after the other, as a loop does.
-use Rattle.std.proofs.Common.{◌≡◌, ◌↔◌, ℕ, zero, suc, ◌+◌, ◌<◌, ◌≤◌, ◌⊎◌, inl, inr, true, false, cond, List, [], ◌∷◌, ◌++◌, length, take, get_or, Bor, Option, Some, None, refl, sym, ap, subst, ◌∙◌, arith}
+use Rattle.std.proofs.Common.{◌≡◌, ◌↔◌, ℕ, zero, suc, ◌+◌, ◌<◌, ◌≤◌, ◌⊎◌, inl, inr, false, cond, List, [], ◌∷◌, ◌++◌, length, take, get_or, Bor, Option, Some, None, refl, sym, ap, subst, ◌∙◌, arith}
 use Rattle.std.specs.Prelude.{slice_index}
 use Rattle.std.specs.Ordering.{nat_cmp}
 use Rattle.std.specs.Cmp.Lexicographic.{slice_cmp}
@@ -94,17 +94,17 @@ known_before text n known more learns other k h =
 learns_known : (text : List ℕ) (n : ℕ) (known more : List ℕ → Option ℕ) (limit : ℕ) → Learns text n known more → n ≡ limit + 1 → AreKnown known limit → AreKnown more (limit + 1)
 learns_known text n known more limit learns fresh h =
     record {
-      above = λ other k e. elim (known_before text n known more learns other k e) [ | inl new ↦ omega (arith, new.1, fresh) | inr old ↦ h.above other k old ];
-      within = λ other k e. elim (known_before text n known more learns other k e) [ | inl new ↦ omega (arith, new.1, fresh) | inr old ↦ let bound = h.within other k old in omega arith ];
+      above = λ other k e. elim (known_before text n known more learns other k e) [ inl new ↦ omega (arith, new.1, fresh) | inr old ↦ h.above other k old ];
+      within = λ other k e. elim (known_before text n known more learns other k e) [ inl new ↦ omega (arith, new.1, fresh) | inr old ↦ let bound = h.within other k old in omega arith ];
       one = λ one other k e f. elim (known_before text n known more learns one k e) [
         | inl new ↦ elim (known_before text n known more learns other k f) [
-            | inl also ↦ sym new.0 ∙ also.0
-            | inr old ↦ absurd (let bound = h.within other k old in omega (arith, new.1, fresh))
-          ]
+          | inl also ↦ sym new.0 ∙ also.0
+          | inr old ↦ absurd (let bound = h.within other k old in omega (arith, new.1, fresh))
+        ]
         | inr old ↦ elim (known_before text n known more learns other k f) [
-            | inl new ↦ absurd (let bound = h.within one k old in omega (arith, new.1, fresh))
-            | inr also ↦ h.one one other k old also
-          ]
+          | inl new ↦ absurd (let bound = h.within one k old in omega (arith, new.1, fresh))
+          | inr also ↦ h.one one other k old also
+        ]
       ];
     }
 
@@ -138,9 +138,10 @@ tells : (known : List ℕ → Option ℕ) (limit : ℕ) (o p : Option (List ℕ)
 tells known limit None None m n h a b = (λ _. refl, λ _. a ∙ sym b)
 tells known limit None (Some t) m n h a b = (λ e. absurd (let above = h.above t n b in omega (arith, a, e)), λ e. absurd cc)
 tells known limit (Some t) None m n h a b = (λ e. absurd (let above = h.above t m a in omega (arith, b, e)), λ e. absurd cc)
-tells known limit (Some t) (Some u) m n h a b =
-    ( λ e. ap (λ (x : List ℕ). Some x) (h.one t u n (subst (λ (k : ℕ). known t ≡ Some k) e a) b)
-    , λ e. let same : t ≡ u = cc in number_is m n (known t) a (ap known same ∙ b) )
+tells known limit (Some t) (Some u) m n h a b = (
+  λ e. ap (λ (x : List ℕ). Some x) (h.one t u n (subst (λ (k : ℕ). known t ≡ Some k) e a) b),
+  λ e. let same : t ≡ u = cc in number_is m n (known t) a (ap known same ∙ b),
+)
 
 pub HasNumbers-all : (known : List ℕ → Option ℕ) (entries : List Entry) (numbers : List ℕ) → HasNumbers known entries numbers → NumbersTexts entries numbers
 HasNumbers-all known entries numbers h = λ i j.
@@ -151,10 +152,10 @@ HasNumbers-all known entries numbers h = λ i j.
 text_is : (text other : List ℕ) → (text ≡ other) ⊎ (text ≡ other → ⊥)
 text_is text other =
     let d = bytes_eq-Decides text other in
-    elim (cases_Bool (bytes_eq text other)) [ | inl e ↦ inl (d.0 e) | inr e ↦ inr (λ same. false≢true (sym e ∙ d.1 same)) ]
+    elim (cases_Bool (bytes_eq text other)) [ inl e ↦ inl (d.0 e) | inr e ↦ inr (λ same. false≢true (sym e ∙ d.1 same)) ]
 
 other_text : (text other : List ℕ) → (text ≡ other → ⊥) → bytes_eq text other ≡ false
-other_text text other apart = elim (cases_Bool (bytes_eq text other)) [ | inl e ↦ absurd (apart ((bytes_eq-Decides text other).0 e)) | inr e ↦ e ]
+other_text text other apart = elim (cases_Bool (bytes_eq text other)) [ inl e ↦ absurd (apart ((bytes_eq-Decides text other).0 e)) | inr e ↦ e ]
 
 pub Learns-from_update : (text : List ℕ) (n : ℕ) (known more : List ℕ → Option ℕ) → known text ≡ None → ((other : List ℕ) → more other ≡ cond (bytes_eq text other) (Some n) (known other)) → Learns text n known more
 Learns-from_update text n known more none updates =

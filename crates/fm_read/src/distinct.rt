@@ -8,12 +8,11 @@ ghost use Rattle.fm_read.specs.Parts.{method_view};
 ghost use Rattle.fm_read.specs.PartsRules.{AreMethodsDistinct};
 ghost use Rattle.fm_read.specs.TextNumbers.{NumbersTexts, AreKeysDistinct};
 
+use crate::failure::FirstFail;
+use crate::parts::MethodParts;
 use fm_code::Entry;
 use std::alloc::Global;
 use std::collections::{BTreeMap, BTreeSet};
-
-use crate::failure::FirstFail;
-use crate::parts::MethodParts;
 
 /// A number for each entry, which is 0 for an entry that is no text. Equal texts have equal numbers, and
 /// different texts have different ones. The only failure is `NoMemory`.

@@ -7,15 +7,14 @@ ghost use Rattle.fm_code.specs.FirstForm.{IsFirstForm};
 ghost use Rattle.fm_read.specs.Parts.{class_view};
 ghost use Rattle.fm_read.specs.PartsRules.{class_of_parts};
 
-use fm_base::Seq;
-use fm_code::{ClassDef, Member, Pool};
-use std::alloc::Global;
-
 use crate::distinct::methods_are_distinct;
 use crate::failure::FirstFail;
 use crate::members::members_with_code;
 use crate::parts::{ClassParts, class_of};
 use crate::rules::class_meets_rules;
+use fm_base::Seq;
+use fm_code::{ClassDef, Member, Pool};
+use std::alloc::Global;
 
 /// The record of the first form that the bytes spell. `NotYet` comes exactly where there is none. No
 /// memory is taken for a length that the bytes only claim.
@@ -57,3 +56,6 @@ fn class_def(alloc: Global, class: ClassParts<'_>, members: Vec<Member>) -> Clas
         attributes: Seq::new(Vec::new(alloc)),
     }
 }
+
+#[cfg(test)]
+mod tests;

@@ -5,13 +5,12 @@ ghost use Rattle.fm_code.specs.declared.class_file.Member.{Member};
 ghost use Rattle.fm_read.specs.Parts.{method_view};
 ghost use Rattle.fm_read.specs.PartsRules.{AreMembersOf, IsMemberOf};
 
-use fm_base::Seq;
-use fm_code::{Member, MemberAttr};
-use std::alloc::Global;
-
 use crate::code::code_of;
 use crate::failure::FirstFail;
 use crate::parts::MethodParts;
+use fm_base::Seq;
+use fm_code::{Member, MemberAttr};
+use std::alloc::Global;
 
 /// The method with the code that its body spells. `NotYet` comes exactly where there is none.
 fn member_of(alloc: Global, method: &MethodParts<'_>) -> Result<Member, FirstFail>

@@ -4,11 +4,10 @@ ghost use Rattle.std.specs.Prelude.{◌≡◌, map};
 ghost use Rattle.fm_read.specs.Parts.{method_view};
 ghost use Rattle.fm_read.specs.Reading.{Gives, attribute_at, members_at, method_at, several_at};
 
-use std::alloc::Global;
-
 use crate::failure::FirstFail;
 use crate::numbers::{after_u16, bytes_of, u16_at, u32_at};
 use crate::parts::MethodParts;
+use std::alloc::Global;
 
 /// The name and the bytes of the one attribute of a method.
 #[tactic(auto, unfolding(crate::specs::Reading::attribute_at))]

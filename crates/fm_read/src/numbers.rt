@@ -3,9 +3,8 @@
 ghost use Rattle.std.specs.Prelude.{◌≡◌};
 ghost use Rattle.fm_read.specs.Reading.{Gives, bytes_at, fixed_at, number_at};
 
-use byteorder::{BigEndian, ByteOrder};
-
 use crate::failure::FirstFail;
+use byteorder::{BigEndian, ByteOrder};
 
 /// The first byte, and the bytes behind it.
 pub(crate) fn u8_at(bytes: &[u8]) -> Result<(u8, &[u8]), FirstFail>

@@ -4,13 +4,12 @@ ghost use Rattle.std.specs.Prelude.{◌≡◌};
 ghost use Rattle.fm_read.specs.Parts.{class_view};
 ghost use Rattle.fm_read.specs.Reading.{Gives, class_at, ends_at, header_at};
 
-use fm_code::Entry;
-use std::alloc::Global;
-
 use crate::failure::FirstFail;
 use crate::methods::members_of;
 use crate::numbers::{after_u16, after_u32, u16_at};
 use crate::pool::pool_of;
+use fm_code::Entry;
+use std::alloc::Global;
 
 /// A method with one attribute. Each number is the item of that name in the `method_info` structure.
 #[derive(Clone, Copy, Debug)]

@@ -4,12 +4,11 @@ ghost use Rattle.std.specs.Prelude.{◌≡◌, ◌<◌, ◌&&◌, ◌-◌, ◌�
 ghost use Rattle.std.specs.List.{list_all};
 ghost use Rattle.fm_read.specs.Reading.{Gives, entry_at_front, pool_at, several_at, text_at, with_front};
 
+use crate::failure::FirstFail;
+use crate::numbers::{bytes_of, u8_at, u16_at};
 use fm_base::Name;
 use fm_code::Entry;
 use std::alloc::Global;
-
-use crate::failure::FirstFail;
-use crate::numbers::{bytes_of, u16_at, u8_at};
 
 /// Whether each byte is one from 1 to 127.
 fn is_first_text(text: &[u8]) -> bool

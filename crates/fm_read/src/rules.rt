@@ -8,15 +8,17 @@ ghost use Rattle.fm_code.specs.Names.{is_binary_name};
 ghost use Rattle.fm_read.specs.Parts.{class_view, method_view};
 ghost use Rattle.fm_read.specs.PartsRules.{HasFirstFlags, IsFirstName, IsEmptyInterface, IsFirstSignature, MeetsRules, MethodMeetsRules, NamesMeetRules};
 
-use fm_code::Entry;
-
 use crate::names::{is_binary_name, is_class_name, is_int_descriptor, is_method_name};
 use crate::parts::{ClassParts, MethodParts};
+use fm_code::Entry;
 
 // The numbers of flags' bits.
 const STATIC: u32 = 3;
+
 const NATIVE: u32 = 8;
+
 const INTERFACE: u32 = 9;
+
 const ABSTRACT: u32 = 10;
 
 /// The bytes of the text at an index.
