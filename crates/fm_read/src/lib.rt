@@ -4,8 +4,17 @@
 // above uses that what is read is spelled by the bytes, and that nothing of the first form is refused.
 #![tactic(auto)]
 
+mod code;
+mod distinct;
 mod failure;
 mod first;
+mod members;
+mod methods;
+mod names;
+mod numbers;
+mod parts;
+mod pool;
+mod rules;
 
 pub use failure::FirstFail;
 pub use first::read_first;

@@ -1,0 +1,17 @@
+pub mod NamesLaws
+pub mod NamesMethods
+pub mod CodeOpcodes
+pub mod CodeBytes
+pub mod CodeWalk
+pub mod CodeParts
+pub mod Several
+pub mod Pieces
+pub mod PoolPieces
+pub mod MethodPieces
+pub mod ClassPieces
+pub mod MethodRules
+pub mod MembersInTurn
+pub mod FirstFound
+pub mod FirstRead
+pub mod KeysInTurn
+pub mod TextsInTurn

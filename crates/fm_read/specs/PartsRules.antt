@@ -1,0 +1,90 @@
+-- The rules that the parts of a class of the first form meet beside their spelling, and the record that they make.
+use Rattle.std.specs.Prelude.{◌≡◌, ◌≤◌, ◌==◌, ◌⊎◌, not, ℕ, true, false, List, [], ◌∷◌, length, map, codes, Some, IsSomeAnd}
+use Rattle.std.specs.List.{list_all, AllByRecursion}
+use Rattle.fm_code.specs.Names.{is_method_name, is_binary_name}
+use Rattle.fm_code.specs.Rules.{utf8_at, class_name_at, is_static, is_native, is_abstract, is_interface, EntryIsValid, AreDistinct}
+use Rattle.fm_code.specs.FirstForm.{is_int_descriptor}
+use Rattle.fm_code.specs.declared.constant_pool.Entry.{Entry}
+use Rattle.fm_code.specs.declared.class_file.ClassDef.{ClassDef}
+use Rattle.fm_code.specs.declared.class_file.Member.{Member}
+use Rattle.fm_code.specs.declared.class_file.MemberAttr.TheVariants as attribute
+use Rattle.fm_code.specs.declared.code_array.Code.{Code}
+use Rattle.fm_read.specs.CodeBody.{IsFirstBody}
+use Rattle.fm_read.specs.Parts.{Method, Class}
+
+-- ---- rules
+
+-- the flags of a static method with code
+pub record HasFirstFlags (flags : ℕ) : Type 0 where
+  pub static : is_static flags ≡ true
+  pub not_native : is_native flags ≡ false
+  pub not_abstract : is_abstract flags ≡ false
+
+-- a method's name without <
+pub record IsFirstName (name : List ℕ) : Type 0 where
+  pub valid : is_method_name name ≡ true
+  pub no_start : list_all (λ c. not (c == 60)) name ≡ true
+
+-- main's name and descriptor, or ints, of which there are at most 255 between ( and the two last characters
+abbrev pub IsFirstSignature : List ℕ → List ℕ → Type 0
+IsFirstSignature name descriptor =
+    ((name ≡ codes "main") × (descriptor ≡ codes "([Ljava/lang/String;)V")) ⊎ ((is_int_descriptor descriptor ≡ true) × (length descriptor ≤ 258))
+
+pub record MethodMeetsRules (entries : List Entry) (m : Method) : Type 0 where
+  pub flags : HasFirstFlags m.flags
+  pub name : IsSomeAnd (utf8_at entries m.name) IsFirstName
+  pub signature : IsSomeAnd (utf8_at entries m.name) (λ name. IsSomeAnd (utf8_at entries m.descriptor) (IsFirstSignature name))
+  pub attribute : utf8_at entries m.attribute ≡ Some (codes "Code")
+
+-- a method without its attribute
+abbrev pub bare_member : Method → Member
+bare_member m = record { flags = m.flags; name = m.name; descriptor = m.descriptor; attributes = [] }
+
+-- no two methods agree in the texts of their names and of their descriptors
+abbrev pub AreMethodsDistinct : List Entry → List Method → Type 0
+AreMethodsDistinct entries methods = AreDistinct entries (map bare_member methods)
+
+-- an interface has no method with code
+abbrev pub IsEmptyInterface : ℕ → List Method → Type 0
+IsEmptyInterface flags methods = is_interface flags ≡ true → methods ≡ []
+
+-- the class names itself, and is no array; and it extends java/lang/Object
+pub record NamesMeetRules (entries : List Entry) (this super : ℕ) : Type 0 where
+  pub this_class : IsSomeAnd (class_name_at entries this) (λ name. is_binary_name name ≡ true)
+  pub superclass : class_name_at entries super ≡ Some (codes "java/lang/Object")
+
+pub record MeetsRules (c : Class) : Type 0 where
+  pub entries : AllByRecursion (EntryIsValid c.entries) c.entries
+  pub names : NamesMeetRules c.entries c.this_class c.super_class
+  pub methods : AllByRecursion (MethodMeetsRules c.entries) c.methods
+  pub interface : IsEmptyInterface c.flags c.methods
+
+-- ---- the record of the parts
+
+abbrev pub member_of : Method → Code → Member
+member_of m code = record { flags = m.flags; name = m.name; descriptor = m.descriptor; attributes = attribute.Coded m.attribute code ∷ [] }
+
+-- the member has the numbers of the method, and the code that the body spells
+abbrev pub IsMemberOf : Method → Member → Type 0
+IsMemberOf m x = (code : Code) × (IsFirstBody m.body code × (x ≡ member_of m code))
+
+abbrev pub AreMembersOf : List Method → List Member → Type 0
+AreMembersOf [] [] = Unit {0}
+AreMembersOf [] (x ∷ members) = ⊥
+AreMembersOf (m ∷ methods) [] = ⊥
+AreMembersOf (m ∷ methods) (x ∷ members) = IsMemberOf m x × AreMembersOf methods members
+
+abbrev pub class_of_parts : Class → List Member → ClassDef
+class_of_parts c members =
+    record {
+      minor = 0;
+      major = 49;
+      pool = record { entries = c.entries };
+      flags = c.flags;
+      this_class = c.this_class;
+      super_class = c.super_class;
+      interfaces = [];
+      fields = [];
+      methods = members;
+      attributes = [];
+    }

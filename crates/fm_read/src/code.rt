@@ -1,0 +1,193 @@
+// The bodies of Code attributes of the first form (class file chapter, section 4.7.3, and the
+// instruction chapter, section 6.5).
+
+ghost use Rattle.std.specs.Prelude.{◌≡◌, ◌≢◌, ◌↔◌, ℕ, ◌+◌, ◌<◌, ◌≤◌, List, length, drop, IsTrue, IfOk, IfSome, IfNone, MatchResult};
+ghost use Rattle.fm_code.specs.SpellsCode.{LocalsFit, LocalFits};
+ghost use Rattle.fm_code.specs.declared.code_array.Code.{Code};
+ghost use Rattle.fm_code.specs.declared.code_array.Item.{Item};
+ghost use Rattle.fm_read.specs.CodeBody.{IsFirstBody, HasParts};
+ghost use Rattle.fm_read.specs.CodeItems.{front_insn, bare_insn, IsFront, AreFirstItems};
+
+use crate::failure::FirstFail;
+use byteorder::{BigEndian, ByteOrder};
+use fm_base::Seq;
+use fm_code::{Code, Conv, Insn, Item, Op, Reg, Shift};
+use std::alloc::Global;
+
+/// The code of the first form whose Code attribute has these bytes behind its length. `NotYet` comes
+/// exactly where there is none. No memory is taken for a length that the bytes only claim.
+pub(crate) fn code_of(alloc: Global, body: &[u8]) -> Result<Code, FirstFail>
+    // What is read is spelled by the bytes.
+    ensures found { IfOk result (λ code. IsFirstBody body.now code) }
+    // What is spelled by the bytes is read, unless memory runs out.
+    ensures read { (code : Code) → IsFirstBody body.now code → MatchResult result (λ d. d ≡ code) (λ e. e ≡ FirstFail.NoMemory) }
+    ensures not_yet { result ≡ Err FirstFail.NotYet → (code : Code) → ¬ IsFirstBody body.now code }
+{
+    let Some((max_stack, max_locals, code)) = parts_of(body) else {
+        return Err(FirstFail::NotYet);
+    };
+    let items = items_of(alloc, max_locals, code)?;
+    Ok(Code {
+        max_stack,
+        max_locals,
+        items: Seq::new(items),
+        length: code.len() as u32,
+        handlers: Seq::new(Vec::new(alloc)),
+        attributes: Seq::new(Vec::new(alloc)),
+    })
+}
+
+/// max_stack, max_locals and the code array of a body without tables.
+fn parts_of(body: &[u8]) -> Option<(u16, u16, &[u8])>
+    ensures found { IfSome result (λ parts. HasParts body.now parts.0 parts.1 parts.2.now) }
+    ensures none { IfNone result ((max_stack max_locals : ℕ) (code : List ℕ) → ¬ HasParts body.now max_stack max_locals code) }
+{
+    if body.len() < 12 {
+        return None;
+    }
+    let max_stack = BigEndian::read_u16(body);
+    let max_locals = BigEndian::read_u16(&body[2..]);
+    let length = BigEndian::read_u32(&body[4..]) as usize;
+    if length == 0 || length > 65_535 {
+        return None;
+    }
+    if body.len() != length + 12 {
+        return None;
+    }
+    let (code, tables) = body[8..].split_at(length);
+    if tables != [0, 0, 0, 0].as_slice() {
+        return None;
+    }
+    Some((max_stack, max_locals, code))
+}
+
+/// The items of a code array, from the first byte to the last.
+fn items_of(alloc: Global, max_locals: u16, code: &[u8]) -> Result<Vec<Item>, FirstFail>
+    requires { length code.now ≤ 65535 }
+    ensures found { IfOk result (λ items. AreFirstItems max_locals code.now items.items) }
+    ensures read { (items : List Item) → AreFirstItems max_locals code.now items
+        → MatchResult result (λ found. found.items ≡ items) (λ e. e ≡ FirstFail.NoMemory) }
+{
+    let mut items = Vec::new(alloc);
+    let mut at = 0;
+    while at < code.len() {
+        let item = item_of(alloc, max_locals, code, at)?;
+        at += item.bytes.as_slice().len();
+        items.push(item)?;
+    }
+    Ok(items)
+}
+
+/// The item that stands at an offset of a code array.
+fn item_of(alloc: Global, max_locals: u16, code: &[u8], at: usize) -> Result<Item, FirstFail>
+    requires short { length code.now ≤ 65535 }
+    requires within { at < length code.now }
+    ensures found { IfOk result (λ item. IsFront max_locals at (drop at code.now) item) }
+    ensures not_yet { (item : Item) → IsFront max_locals at (drop at code.now) item → result ≢ Err FirstFail.NotYet }
+{
+    let Some((insn, count)) = insn_of(code, at) else {
+        return Err(FirstFail::NotYet);
+    };
+    if !locals_fit(max_locals, &insn) {
+        return Err(FirstFail::NotYet);
+    }
+    let bytes = Vec::from_slice(alloc, &code[at..at + count])?;
+    Ok(Item {
+        offset: at as u32,
+        bytes: Seq::new(bytes),
+        insn,
+    })
+}
+
+/// Whether the local that an instruction loads, stores or changes is below max_locals, and for a long
+/// the next one too (section 4.9.1).
+fn locals_fit(max_locals: u16, insn: &Insn) -> bool
+    ensures { IsTrue result ↔ LocalsFit max_locals insn.now }
+{
+    match insn {
+        Insn::Load(kind, local) | Insn::Store(kind, local) => local_fits(max_locals, *kind, *local),
+        Insn::Inc(local, _) => *local < max_locals,
+        _ => true,
+    }
+}
+
+/// Whether a local of this kind is below max_locals.
+fn local_fits(max_locals: u16, kind: Reg, local: u16) -> bool
+    ensures { IsTrue result ↔ LocalFits max_locals kind local }
+{
+    match kind {
+        Reg::Int | Reg::Ref => local < max_locals,
+        Reg::Long => u32::from(local) + 1 < u32::from(max_locals),
+    }
+}
+
+/// The instruction at an offset of a code array, and how many bytes it takes there.
+#[tactic(auto, unfolding(crate::specs::CodeItems::front_insn, fm_code::specs::InstructionTable::insn_at))]
+fn insn_of(code: &[u8], at: usize) -> Option<(Insn, usize)>
+    requires { at ≤ length code.now }
+    ensures front { result ≡ front_insn at (drop at code.now) }
+    ensures within { IfSome result (λ found. (0 < found.1) × (at + found.1 ≤ length code.now)) }
+{
+    let (opcode, operands) = code[at..].split_first()?;
+    match *opcode {
+        // bipush, sipush, iload, istore and iinc
+        16 => Some((Insn::Const(i32::from(operands.first()?.cast_signed())), 2)),
+        17 => match operands {
+            [_, _, ..] => Some((Insn::Const(i32::from(BigEndian::read_i16(operands))), 3)),
+            _ => None,
+        },
+        21 => Some((Insn::Load(Reg::Int, u16::from(*operands.first()?)), 2)),
+        54 => Some((Insn::Store(Reg::Int, u16::from(*operands.first()?)), 2)),
+        132 => match operands {
+            [local, by, ..] => Some((Insn::Inc(u16::from(*local), i16::from(by.cast_signed())), 3)),
+            _ => None,
+        },
+        opcode => Some((bare_insn_of(opcode)?, 1)),
+    }
+}
+
+/// The instruction of an opcode that has no operands.
+#[tactic(auto, unfolding(crate::specs::CodeItems::bare_insn, fm_code::specs::InstructionTable::insn_at))]
+fn bare_insn_of(opcode: u8) -> Option<Insn>
+    ensures { (offset : ℕ) → result ≡ bare_insn offset opcode }
+{
+    match opcode {
+        0 => Some(Insn::Nop),
+        2 => Some(Insn::Const(-1)),
+        3 => Some(Insn::Const(0)),
+        4 => Some(Insn::Const(1)),
+        5 => Some(Insn::Const(2)),
+        6 => Some(Insn::Const(3)),
+        7 => Some(Insn::Const(4)),
+        8 => Some(Insn::Const(5)),
+        26 => Some(Insn::Load(Reg::Int, 0)),
+        27 => Some(Insn::Load(Reg::Int, 1)),
+        28 => Some(Insn::Load(Reg::Int, 2)),
+        29 => Some(Insn::Load(Reg::Int, 3)),
+        59 => Some(Insn::Store(Reg::Int, 0)),
+        60 => Some(Insn::Store(Reg::Int, 1)),
+        61 => Some(Insn::Store(Reg::Int, 2)),
+        62 => Some(Insn::Store(Reg::Int, 3)),
+        87 => Some(Insn::Pop),
+        89 => Some(Insn::Dup),
+        96 => Some(Insn::IntOp(Op::Add)),
+        100 => Some(Insn::IntOp(Op::Sub)),
+        104 => Some(Insn::IntOp(Op::Mul)),
+        116 => Some(Insn::IntNeg),
+        120 => Some(Insn::IntShift(Shift::Left)),
+        122 => Some(Insn::IntShift(Shift::Right)),
+        124 => Some(Insn::IntShift(Shift::RightZero)),
+        126 => Some(Insn::IntOp(Op::And)),
+        128 => Some(Insn::IntOp(Op::Or)),
+        130 => Some(Insn::IntOp(Op::Xor)),
+        145 => Some(Insn::Convert(Conv::IntToByte)),
+        146 => Some(Insn::Convert(Conv::IntToChar)),
+        147 => Some(Insn::Convert(Conv::IntToShort)),
+        172 => Some(Insn::Return(Some(Reg::Int))),
+        177 => Some(Insn::Return(None)),
+        _ => None,
+    }
+}
+
+#[cfg(test)]
+mod tests;

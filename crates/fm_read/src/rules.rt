@@ -1,0 +1,171 @@
+// The rules that the parts of a class of the first form meet beside their spelling (class file
+// chapter, sections 4.1, 4.4 and 4.6).
+
+ghost use Rattle.std.specs.Prelude.{◌≡◌, ◌↔◌, ◌<◌, ◌==◌, not, true, map, codes, Some, IsSomeAnd, IsTrue, option_copied};
+ghost use Rattle.std.specs.List.{list_all, AllByRecursion};
+ghost use Rattle.fm_code.specs.Rules.{utf8_at, class_name_at, has_flag, EntryIsValid};
+ghost use Rattle.fm_code.specs.Names.{is_binary_name};
+ghost use Rattle.fm_read.specs.Parts.{class_view, method_view};
+ghost use Rattle.fm_read.specs.PartsRules.{HasFirstFlags, IsFirstName, IsEmptyInterface, IsFirstSignature, MeetsRules, MethodMeetsRules, NamesMeetRules};
+
+use crate::names::{is_binary_name, is_class_name, is_int_descriptor, is_method_name};
+use crate::parts::{ClassParts, MethodParts};
+use fm_code::Entry;
+
+// The numbers of flags' bits.
+const STATIC: u32 = 3;
+
+const NATIVE: u32 = 8;
+
+const INTERFACE: u32 = 9;
+
+const ABSTRACT: u32 = 10;
+
+/// The bytes of the text at an index.
+fn utf8_at(entries: &[Entry], index: u16) -> Option<&[u8]>
+    ensures { option_copied result ≡ utf8_at entries.now index }
+{
+    match entries.get(index as usize)? {
+        Entry::Utf8(name) => Some(name.as_slice()),
+        _ => None,
+    }
+}
+
+/// The name of the class at an index.
+fn class_name_at(entries: &[Entry], index: u16) -> Option<&[u8]>
+    ensures { option_copied result ≡ class_name_at entries.now index }
+{
+    match entries.get(index as usize)? {
+        Entry::Class(name) => utf8_at(entries, *name),
+        _ => None,
+    }
+}
+
+/// Whether a class entry names a text, and that text a class.
+fn entry_is_valid(entries: &[Entry], entry: &Entry) -> bool
+    ensures { IsTrue result ↔ EntryIsValid entries.now entry.now }
+{
+    match entry {
+        Entry::Class(name) => match utf8_at(entries, *name) {
+            Some(name) => is_class_name(name),
+            None => false,
+        },
+        _ => true,
+    }
+}
+
+/// Whether each entry is valid.
+fn entries_are_valid(entries: &[Entry]) -> bool
+    ensures { IsTrue result ↔ AllByRecursion (EntryIsValid entries.now) entries.now }
+{
+    entries.iter().all(|entry| entry_is_valid(entries, entry))
+}
+
+/// Whether the bit of that number is set.
+fn has_flag(flags: u16, bit: u32) -> bool
+    requires { bit < 16 }
+    ensures { result ≡ has_flag flags bit }
+{
+    (flags >> bit) & 1 == 1
+}
+
+/// Whether a method with these flags is static and has code.
+fn has_first_flags(flags: u16) -> bool
+    ensures { IsTrue result ↔ HasFirstFlags flags }
+{
+    has_flag(flags, STATIC) && !has_flag(flags, NATIVE) && !has_flag(flags, ABSTRACT)
+}
+
+/// Whether the bytes are a method's name without `<`.
+fn is_first_name(name: &[u8]) -> bool
+    ensures { IsTrue result ↔ IsFirstName name.now }
+{
+    is_method_name(name) && has_no_start(name)
+}
+
+/// Whether no character is `<`.
+fn has_no_start(name: &[u8]) -> bool
+    ensures { result ≡ list_all (λ c. not (c == 60)) name.now }
+{
+    name.iter().all(|c| *c != b'<')
+}
+
+/// Whether these are main's name and descriptor, or the descriptor has ints alone.
+fn is_first_signature(name: &[u8], descriptor: &[u8]) -> bool
+    ensures { IsTrue result ↔ IsFirstSignature name.now descriptor.now }
+{
+    (name == b"main".as_slice() && descriptor == b"([Ljava/lang/String;)V".as_slice())
+        || (is_int_descriptor(descriptor) && descriptor.len() <= 258)
+}
+
+/// Whether a method meets the rules that don't look at other methods.
+fn method_meets_rules(entries: &[Entry], method: &MethodParts<'_>) -> bool
+    ensures { IsTrue result ↔ MethodMeetsRules entries.now (method_view method.now) }
+{
+    let (Some(name), Some(descriptor), Some(attribute)) = (
+        utf8_at(entries, method.name),
+        utf8_at(entries, method.descriptor),
+        utf8_at(entries, method.attribute),
+    ) else {
+        return false;
+    };
+    has_first_flags(method.flags)
+        && is_first_name(name)
+        && is_first_signature(name, descriptor)
+        && attribute == b"Code".as_slice()
+}
+
+/// Whether each method meets the rules that don't look at other methods.
+fn methods_meet_rules(entries: &[Entry], methods: &[MethodParts<'_>]) -> bool
+    ensures { IsTrue result ↔ AllByRecursion (MethodMeetsRules entries.now) (map method_view methods.now) }
+{
+    methods
+        .iter()
+        .all(|method| method_meets_rules(entries, method))
+}
+
+/// Whether the class's own name is that of a class that isn't an array.
+fn is_named(entries: &[Entry], this_class: u16) -> bool
+    ensures { IsTrue result ↔ IsSomeAnd (class_name_at entries.now this_class) (λ name. is_binary_name name ≡ true) }
+{
+    match class_name_at(entries, this_class) {
+        Some(name) => is_binary_name(name),
+        None => false,
+    }
+}
+
+/// Whether the superclass is `java/lang/Object`.
+fn extends_object(entries: &[Entry], super_class: u16) -> bool
+    ensures { IsTrue result ↔ (class_name_at entries.now super_class ≡ Some (codes "java/lang/Object")) }
+{
+    match class_name_at(entries, super_class) {
+        Some(name) => name == b"java/lang/Object".as_slice(),
+        None => false,
+    }
+}
+
+/// Whether the class names itself, and its superclass is `java/lang/Object`.
+fn names_meet_rules(entries: &[Entry], this_class: u16, super_class: u16) -> bool
+    ensures { IsTrue result ↔ NamesMeetRules entries.now this_class super_class }
+{
+    is_named(entries, this_class) && extends_object(entries, super_class)
+}
+
+/// Whether there are no methods, or the class isn't an interface.
+fn is_empty_interface(flags: u16, methods: &[MethodParts<'_>]) -> bool
+    ensures { IsTrue result ↔ IsEmptyInterface flags (map method_view methods.now) }
+{
+    methods.is_empty() || !has_flag(flags, INTERFACE)
+}
+
+/// Whether the parts meet each rule but that on methods that agree.
+pub(crate) fn class_meets_rules(class: &ClassParts<'_>) -> bool
+    ensures { IsTrue result ↔ MeetsRules (class_view class.now) }
+{
+    let entries = class.entries.as_slice();
+    let methods = class.methods.as_slice();
+    entries_are_valid(entries)
+        && names_meet_rules(entries, class.this_class, class.super_class)
+        && methods_meet_rules(entries, methods)
+        && is_empty_interface(class.flags, methods)
+}
