@@ -1,0 +1,4 @@
+pub mod Job
+pub mod Outcome
+pub mod Run
+pub mod Causes
