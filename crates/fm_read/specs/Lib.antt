@@ -5,3 +5,4 @@ pub mod Parts
 pub mod Reading
 pub mod PartsRules
 pub mod TextNumbers
+pub mod MainClass

@@ -8,6 +8,7 @@ mod code;
 mod distinct;
 mod failure;
 mod first;
+mod main_class;
 mod members;
 mod methods;
 mod names;
@@ -18,3 +19,4 @@ mod rules;
 
 pub use failure::FirstFail;
 pub use first::read_first;
+pub use main_class::read_main_class;

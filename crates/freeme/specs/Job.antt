@@ -1,8 +1,7 @@
 -- What the words of the command line ask for, and which file is accepted for it.
 use Rattle.std.specs.Prelude.{◌≡◌, ℕ, ◌<◌, ◌≤◌, List, [], ◌∷◌, ◌++◌, length, codes}
 use Rattle.fm_base.specs.declared.limits.TheConstants.{MAX_FILE_BYTES}
-use Rattle.fm_code.specs.Spells.{Spells}
-use Rattle.fm_code.specs.FirstForm.{IsFirstForm, IsNamed, DeclaresMain}
+use Rattle.fm_read.specs.MainClass.{IsMainClass}
 use Rattle.fm_code.specs.declared.class_file.ClassDef.{ClassDef}
 use Rattle.freeme.specs.declared.request.Request.{Request}
 
@@ -23,16 +22,9 @@ pub record Asks (words : List (List ℕ)) (job : Job) : Type 0 where
 abbrev pub AskNothing : List (List ℕ) → Type 0
 AskNothing words = (job : Job) → ¬ Asks words job
 
--- the bytes are the class file of a record of the first form, which has this name and a main method
-pub record IsAcceptedAs (main bytes : List ℕ) (c : ClassDef) : Type 0 where
-  pub form : IsFirstForm c
-  pub spells : Spells bytes c
-  pub named : IsNamed c main
-  pub main_method : DeclaresMain c
-
--- the file is no longer than the limit, and is accepted under the name of the main class
+-- the file is no longer than the limit, and is the main class
 abbrev pub IsAccepted : Job → List ℕ → ClassDef → Type 0
-IsAccepted job bytes c = (length bytes ≤ MAX_FILE_BYTES) × IsAcceptedAs job.main bytes c
+IsAccepted job bytes c = (length bytes ≤ MAX_FILE_BYTES) × IsMainClass job.main bytes c
 
 -- DIR/CLASS.class, the file that is written
 abbrev pub written_name : Job → List ℕ

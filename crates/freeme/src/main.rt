@@ -5,7 +5,6 @@
 // command line, the files of the system and standard output.
 #![tactic(auto)]
 
-mod accept;
 mod outcome;
 mod request;
 mod run;

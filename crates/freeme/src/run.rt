@@ -7,12 +7,12 @@ ghost use Rattle.freeme.specs.Outcome.{status_of, line_of};
 ghost use Rattle.freeme.specs.Run.{texts, disk_of, output_of, ComesTo, Writes, Tells, Runs};
 ghost use Rattle.freeme.specs.Causes.{IsStatus, IsForWords, IsForRead, IsForForm, IsForWrite, IsForDone, KeepsFiles, KeepsOthers};
 
-use crate::accept::is_accepted;
 use crate::outcome::Outcome;
 use crate::request::{Request, request_of};
 use fm_base::NoMemory;
 use fm_base::limits::MAX_FILE_BYTES;
 use fm_files::{FileFail, Files, PutFail, Sink, WriteFail};
+use fm_read::{FirstFail, read_main_class};
 use std::alloc::Global;
 
 /// Does what the words of the command line ask for, puts the line that tells of it, and answers the
@@ -81,10 +81,10 @@ fn do_job<F: Files>(alloc: Global, request: Request<'_>, files: &mut F) -> Outco
         Err(FileFail::TooLong) => return Outcome::NotYet,
         Err(FileFail::NoMemory) => return Outcome::OutOfMemory,
     };
-    match is_accepted(alloc, request.main, bytes.as_slice()) {
-        Ok(true) => write_copy(alloc, request, bytes.as_slice(), files),
-        Ok(false) => Outcome::NotYet,
-        Err(NoMemory) => Outcome::OutOfMemory,
+    match read_main_class(alloc, request.main, bytes.as_slice()) {
+        Ok(_) => write_copy(alloc, request, bytes.as_slice(), files),
+        Err(FirstFail::NotYet) => Outcome::NotYet,
+        Err(FirstFail::NoMemory) => Outcome::OutOfMemory,
     }
 }
 

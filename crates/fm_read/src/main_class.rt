@@ -1,25 +1,29 @@
-// Which class files are accepted so far.
+// The class that a program is started with: it has the name that was asked for, and a main method.
 
-ghost use Rattle.std.specs.Prelude.{◌≡◌, ◌↔◌, Some, IfOk, IsTrue, MatchBool, option_copied};
+ghost use Rattle.std.specs.Prelude.{◌≡◌, ◌↔◌, Some, IfOk, IsTrue, option_copied};
+ghost use Rattle.fm_code.specs.declared.class_file.ClassDef.{ClassDef};
 ghost use Rattle.fm_code.specs.FirstForm.{IsNamed, DeclaresMain, IsMain};
 ghost use Rattle.fm_code.specs.Rules.{utf8_at, class_name_at};
-ghost use Rattle.fm_code.specs.declared.class_file.ClassDef.{ClassDef};
-ghost use Rattle.freeme.specs.Job.{IsAcceptedAs};
+ghost use Rattle.fm_read.specs.MainClass.{IsMainClass};
 
-use fm_base::{Name, NoMemory};
+use crate::failure::FirstFail;
+use crate::first::read_first;
+use fm_base::Name;
 use fm_code::{ClassDef, Entry, Member, Pool};
-use fm_read::{FirstFail, read_first};
 use std::alloc::Global;
 
-/// Whether the bytes are the class file of a record of the first form that has this name and declares
-/// a main method.
-pub fn is_accepted(alloc: Global, main: &str, bytes: &[u8]) -> Result<bool, NoMemory>
-    ensures { IfOk result (λ accepted. MatchBool accepted ((c : ClassDef) × IsAcceptedAs main.now bytes.now c) ((c : ClassDef) → ¬ IsAcceptedAs main.now bytes.now c)) }
+/// The record of the first form that the bytes spell, where it has this name and declares
+/// `main([Ljava/lang/String;)V`. `NotYet` comes exactly where there is no such record. The name is
+/// compared byte by byte, as class files of the first form have only the characters from 1 to 127.
+pub fn read_main_class(alloc: Global, name: &str, bytes: &[u8]) -> Result<ClassDef, FirstFail>
+    ensures found { IfOk result (IsMainClass name.now bytes.now) }
+    ensures not_yet { result ≡ Err FirstFail.NotYet → (c : ClassDef) → ¬ IsMainClass name.now bytes.now c }
 {
-    match read_first(alloc, bytes) {
-        Ok(class) => Ok(is_named(&class, main) && declares_main(&class)),
-        Err(FirstFail::NotYet) => Ok(false),
-        Err(FirstFail::NoMemory) => Err(NoMemory),
+    let class = read_first(alloc, bytes)?;
+    if is_named(&class, name) && declares_main(&class) {
+        Ok(class)
+    } else {
+        Err(FirstFail::NotYet)
     }
 }
 
