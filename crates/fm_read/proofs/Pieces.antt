@@ -34,6 +34,7 @@ some_is x y e = cc
 
 -- ---- what is taken from the front
 
+-- the bytes are a text and the rest
 pub record Takes (bytes text rest : List ℕ) : Type 0 where
   pub parts : bytes ≡ text ++ rest
   pub rest_fits : AreBytes rest
@@ -41,6 +42,7 @@ pub record Takes (bytes text rest : List ℕ) : Type 0 where
 pub Takes-then : (a x b y c : List ℕ) → Takes a x b → Takes b y c → Takes a (x ++ y) c
 Takes-then a x b y c p q = record { parts = p.parts ∙ ap (λ (t : List ℕ). x ++ t) q.parts ∙ sym (append_assoc x y c); rest_fits = q.rest_fits }
 
+-- what is read is spelled at the front, and what is spelled at the front is read
 pub record IsPiece {X : Type 0} (piece_at : List ℕ → Option (X × List ℕ)) (spell : X → List ℕ) (Fits : X → Type 0) : Type 0 where
   pub takes : (bytes : List ℕ) (x : X × List ℕ) → AreBytes bytes → piece_at bytes ≡ Some x → Takes bytes (spell x.0) x.1 × Fits x.0
   pub again : (x : X) (rest : List ℕ) → Fits x → piece_at (spell x ++ rest) ≡ Some (x, rest)

@@ -30,6 +30,7 @@ abbrev pub IsFirstSignature : List ℕ → List ℕ → Type 0
 IsFirstSignature name descriptor =
     ((name ≡ codes "main") × (descriptor ≡ codes "([Ljava/lang/String;)V")) ⊎ ((is_int_descriptor descriptor ≡ true) × (length descriptor ≤ 258))
 
+-- what is asked of one method beside its spelling
 pub record MethodMeetsRules (entries : List Entry) (m : Method) : Type 0 where
   pub flags : HasFirstFlags m.flags
   pub name : IsSomeAnd (utf8_at entries m.name) IsFirstName
@@ -53,6 +54,7 @@ pub record NamesMeetRules (entries : List Entry) (this super : ℕ) : Type 0 whe
   pub this_class : IsSomeAnd (class_name_at entries this) (λ name. is_binary_name name ≡ true)
   pub superclass : class_name_at entries super ≡ Some (codes "java/lang/Object")
 
+-- what is asked of a class beside its spelling, but that its methods differ
 pub record MeetsRules (c : Class) : Type 0 where
   pub entries : AllByRecursion (EntryIsValid c.entries) c.entries
   pub names : NamesMeetRules c.entries c.this_class c.super_class
@@ -61,6 +63,7 @@ pub record MeetsRules (c : Class) : Type 0 where
 
 -- ---- the record of the parts
 
+-- the method with its code
 abbrev pub member_of : Method → Code → Member
 member_of m code = record { flags = m.flags; name = m.name; descriptor = m.descriptor; attributes = attribute.Coded m.attribute code ∷ [] }
 
@@ -68,12 +71,14 @@ member_of m code = record { flags = m.flags; name = m.name; descriptor = m.descr
 abbrev pub IsMemberOf : Method → Member → Type 0
 IsMemberOf m x = (code : Code) × (IsFirstBody m.body code × (x ≡ member_of m code))
 
+-- the members are the methods with their code, in order
 abbrev pub AreMembersOf : List Method → List Member → Type 0
 AreMembersOf [] [] = Unit {0}
 AreMembersOf [] (x ∷ members) = ⊥
 AreMembersOf (m ∷ methods) [] = ⊥
 AreMembersOf (m ∷ methods) (x ∷ members) = IsMemberOf m x × AreMembersOf methods members
 
+-- the class file of the parts and of the methods with their code
 abbrev pub class_of_parts : Class → List Member → ClassDef
 class_of_parts c members =
     record {

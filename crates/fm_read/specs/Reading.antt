@@ -8,15 +8,17 @@ use Rattle.fm_read.specs.Parts.{Method, Class}
 use Rattle.fm_read.specs.declared.failure.FirstFail.{FirstFail}
 use Rattle.fm_read.specs.declared.failure.FirstFail.TheVariants as fail
 
+-- the next step, unless an earlier one read nothing
 infixl 10 ◌>>=◌
 abbrev pub ◌>>=◌ : {A B : Type 0} → Option A → (A → Option B) → Option B
 o >>= f = option_and_then f o
 
--- what a function returned, seen by view, is what reading gives, unless memory ran out
+-- a refusal says that nothing is read; want of memory says nothing
 abbrev pub Fails : {Y : Type 0} → FirstFail → Option Y → Type 0
 Fails fail.NotYet reading = reading ≡ None
 Fails fail.NoMemory reading = Unit {0}
 
+-- what a function returned, seen by view, is what reading gives, unless memory ran out
 abbrev pub Gives : {X Y : Type 0} → (X → Y) → Result X FirstFail → Option Y → Type 0
 Gives view (Ok x) reading = reading ≡ Some (view x)
 Gives view (Err e) reading = Fails e reading
@@ -39,6 +41,7 @@ fixed_at size value bytes = do
 
 -- ---- pieces one behind the other
 
+-- so many pieces
 unfoldable pub several_at : {X : Type 0} → (List ℕ → Option (X × List ℕ)) → ℕ → List ℕ → Option (List X × List ℕ)
 several_at piece_at zero bytes = Some ([], bytes)
 several_at piece_at (suc count) bytes = do
@@ -71,6 +74,7 @@ class_entry_at bytes = do
   name ← number_at 2 bytes
   Some (entry.Class name.0, name.1)
 
+-- an entry behind its tag: 1 for a text, 7 for a class
 unfoldable pub entry_at_front : List ℕ → Option (Entry × List ℕ)
 entry_at_front bytes = do
   tag ← number_at 1 bytes
@@ -93,6 +97,7 @@ attribute_at bytes = do
   body ← bytes_at size.0 size.1
   Some ((name.0, body.0), body.1)
 
+-- a method's numbers, and its one attribute
 unfoldable pub method_at : List ℕ → Option (Method × List ℕ)
 method_at bytes = do
   flags ← number_at 2 bytes
@@ -124,6 +129,7 @@ ends_at bytes = do
   rest ← fixed_at 2 0 bytes
   if length rest == 0 then Some rest else None
 
+-- the parts of a class, which are all of the bytes
 unfoldable pub class_at : List ℕ → Option Class
 class_at bytes = do
   header ← header_at bytes
