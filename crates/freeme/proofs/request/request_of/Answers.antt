@@ -1,6 +1,6 @@
 use Rattle.std.proofs.Common.{◌≡◌, length, sym, ap, ◌∙◌, arith, codes}
 use Rattle.freeme.specs.Run.{texts}
-use Rattle.freeme.proofs.RunLaws.{five_words, same_text, not_empty}
+use Rattle.freeme.proofs.WordLaws.{five_words, same_text, not_empty}
 use Rattle.freeme.proofs.request.request_of.Goals as goal
 
 pub returns : goal.returns
