@@ -1,0 +1,2 @@
+pub mod CellSizes
+pub mod Maps

@@ -1,0 +1,10 @@
+// Memory for objects: cells that are never reused, and cells that are.
+#![tactic(auto)]
+
+mod answers;
+mod memories;
+mod sizes;
+
+pub use answers::{Cell, Freed, Head, MakeFail, NotHeld};
+pub use memories::Memory;
+pub use sizes::{cell_words, size_class};
