@@ -1,2 +1,9 @@
 pub mod CellSizes
 pub mod Maps
+pub mod Laws
+pub mod Sound
+pub mod Held
+pub mod NeverReused
+pub mod Lists
+pub mod LastReused
+pub mod MapsOf

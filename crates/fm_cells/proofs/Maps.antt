@@ -1,5 +1,5 @@
 -- Sums over the values of a finite map whose keys are numbers.
-use Rattle.std.proofs.Common.{◌≡◌, ℕ, ◌+◌, Bool, true, false, cond, not, List, [], ◌∷◌, refl, sym, ◌∙◌, ap, subst, map, nat_eq, arith}
+use Rattle.std.proofs.Common.{length, ◌≡◌, ℕ, ◌+◌, Bool, true, false, cond, not, List, [], ◌∷◌, refl, sym, ◌∙◌, ap, subst, map, nat_eq, arith}
 use Rattle.std.specs.Prelude.{Option, Some, None}
 use Rattle.std.specs.Prelude.{is_some, IsTrue}
 use Rattle.std.proofs.lemmas.Bool.Decides.{nat_tests}
@@ -12,6 +12,10 @@ use Rattle.std.specs.FinMap as fin
 use Rattle.std.specs.FinMap.{FinMap, find, put, gets}
 use Rattle.std.specs.FinMap.Entries.{by_order}
 use Rattle.std.proofs.lemmas.List.Sums.{sum_by-cons}
+
+no_entries : {X : Type 0} (es : List (ℕ × X)) → length es ≡ 0 → es ≡ []
+no_entries [] h = refl
+no_entries (e ∷ es) h = absurd (omega arith)
 
 module _ {X : Type 0} (f : X → ℕ) where
   sum-put : (k : ℕ) (v : X) (es : List (ℕ × X)) → find nat_cmp k es ≡ None → sum_by f (map (λ e. e.1) (put nat_cmp k v es)) ≡ sum_by f (map (λ e. e.1) es) + f v
@@ -26,6 +30,12 @@ module _ {X : Type 0} (f : X → ℕ) where
   -- the sum of f over the values
   abbrev pub total : FinMap nat_cmp X → ℕ
   total m = sum_by f (fin.values m)
+
+  -- the sum of no values is 0
+  pub total-empty : total fin.empty ≡ 0
+  total-empty =
+      let none : fin.entries fin.empty ≡ [] = no_entries (fin.entries (fin.empty {X = X} {R = nat_cmp})) (sym (fin.len-entries fin.empty) ∙ fin.len-empty nat_cmp X) in
+      ap (λ es. sum_by f (map (λ e. e.1) es)) none
 
   -- a new key adds its value
   pub total-insert_new : (m : FinMap nat_cmp X) (k : ℕ) (v : X) → fin.get m k ≡ None → total (fin.insert m k v) ≡ total m + f v

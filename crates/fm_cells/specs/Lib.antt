@@ -5,3 +5,6 @@ pub mod Changes
 pub mod Choices
 pub mod Soundness
 pub mod Answers
+pub mod Tables
+pub mod SlotObjects
+pub mod Slots

@@ -3,8 +3,10 @@
 
 mod answers;
 mod memories;
+mod plain_cells;
 mod sizes;
 
 pub use answers::{Cell, Freed, Head, MakeFail, NotHeld};
 pub use memories::Memory;
+pub use plain_cells::PlainCells;
 pub use sizes::{cell_words, size_class};

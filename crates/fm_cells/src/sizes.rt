@@ -1,6 +1,6 @@
 // The words of cells, and the size classes that cells are made in.
 
-ghost use Rattle.std.specs.Prelude.{◌≡◌, ◌<◌};
+ghost use Rattle.std.specs.Prelude.{◌≡◌, ◌^◌, ◌<◌};
 ghost use Rattle.fm_cells.specs.Sizes as spec;
 
 /// The size class of so many words: up to 32 it is the number of words, and above it is 27 and the
@@ -33,4 +33,13 @@ pub fn cell_words(words: u32) -> u64
     ensures { result ≡ spec.cell_words words }
 {
     class_words(size_class(words))
+}
+
+/// The words of an object of so many elements, where a word holds `pack` of them. Takes no memory.
+pub fn object_words(len: u32, pack: u8) -> u32
+    requires len_fits { len < 2 ^ 31 }
+    requires pack_is { spec.IsPack pack }
+    ensures { result ≡ spec.words_of len pack }
+{
+    2 + (len + (pack as u32 - 1)) / pack as u32
 }
