@@ -44,9 +44,9 @@ first_class-is (suc more) from s n a b fits below =
           ] refl
       | false ↦ λ e. let over : class_words from < n = leb-false n (class_words from) e in
           let next : suc from ≤ s = elim (cases_lt from s) as (λ _. suc from ≤ s) [
-              | inl up ↦ omega arith
-              | inr low ↦ let no_more : class_words s ≤ class_words from = class_words-mono s from low in absurd (omega arith)
-            ] in
+            | inl up ↦ omega arith
+            | inr low ↦ let no_more : class_words s ≤ class_words from = class_words-mono s from low in absurd (omega arith)
+          ] in
           first_class-is more (suc from) s n next (omega arith) fits (λ t h k. below t (omega arith) k)
     ] refl
 
@@ -62,11 +62,14 @@ first_class-fits (suc more) from n h =
     elim (nat_le n (class_words from)) as (λ r. nat_le n (class_words from) ≡ r → (n ≤ class_words (cond r from (first_class more (suc from) n))) × ((t : ℕ) → from ≤ t → t < cond r from (first_class more (suc from) n) → class_words t < n) × (cond r from (first_class more (suc from) n) ≤ from + suc more)) [
       | true ↦ λ e. (leb-true n (class_words from) e, λ t a b. absurd (omega arith), omega arith)
       | false ↦ λ e. let over : class_words from < n = leb-false n (class_words from) e in
-          let rest = first_class-fits more (suc from) n (let e : from + suc more ≡ suc from + more = omega arith in subst (λ k. n ≤ class_words k) e h) in
-          (rest.0, λ t a b. elim (nat_le t from) as (λ r. nat_le t from ≡ r → class_words t < n) [
+          let rest = first_class-fits more (suc from) n (let e : from + suc more ≡ suc from + more = omega arith in subst (λ k. n ≤ class_words k) e h) in (
+            rest.0,
+            λ t a b. elim (nat_le t from) as (λ r. nat_le t from ≡ r → class_words t < n) [
               | true ↦ λ f. let low : t ≤ from = leb-true t from f in let small : class_words t ≤ class_words from = class_words-mono t from low in omega arith
               | false ↦ λ f. let up : from < t = leb-false t from f in rest.1 t (omega arith) b
-            ] refl, omega (arith, rest.2))
+            ] refl,
+            omega (arith, rest.2),
+          )
     ] refl
 
 last_class : class_words 63 ≡ 2 ^ 36
@@ -120,14 +123,14 @@ size_class-up_to_32 n h = sym (size_class-is n n (omega arith) (omega (arith, cl
 pub size_class-power : (n s : ℕ) → 32 < n → 33 ≤ s → s < 64 → n ≤ 2 ^ (s - 27) → 2 ^ (s - 27) < 2 * n → s ≡ size_class n
 size_class-power n s big above bound fits half =
     sym (size_class-is n s bound (omega (arith, class_words-large s (omega arith))) (λ t k.
-      let step : class_words t ≤ class_words (s - 1) = class_words-mono t (s - 1) (omega arith) in
-      elim (nat_le s 33) as (λ r. nat_le s 33 ≡ r → class_words t < n) [
-        | true ↦ λ e. let low : class_words (s - 1) ≡ s - 1 = class_words-small (s - 1) (omega (arith, leb-true s 33 e)) in omega (arith, leb-true s 33 e)
-        | false ↦ λ e. let up : 33 < s = leb-false s 33 e in
-            let exponent : s - 27 ≡ suc (s - 1 - 27) = omega arith in
-            let doubled : 2 ^ (s - 27) ≡ 2 * 2 ^ (s - 1 - 27) = ap (λ k. 2 ^ k) exponent ∙ grind arith in
-            omega (arith, class_words-large (s - 1) (omega arith), doubled)
-      ] refl))
+    let step : class_words t ≤ class_words (s - 1) = class_words-mono t (s - 1) (omega arith) in
+    elim (nat_le s 33) as (λ r. nat_le s 33 ≡ r → class_words t < n) [
+      | true ↦ λ e. let low : class_words (s - 1) ≡ s - 1 = class_words-small (s - 1) (omega (arith, leb-true s 33 e)) in omega (arith, leb-true s 33 e)
+      | false ↦ λ e. let up : 33 < s = leb-false s 33 e in
+          let exponent : s - 27 ≡ suc (s - 1 - 27) = omega arith in
+          let doubled : 2 ^ (s - 27) ≡ 2 * 2 ^ (s - 1 - 27) = ap (λ k. 2 ^ k) exponent ∙ grind arith in
+          omega (arith, class_words-large (s - 1) (omega arith), doubled)
+    ] refl))
 
 -- a power of two below 2 ^ k has an exponent below k
 pub exponent_below : (i k : ℕ) → 2 ^ i < 2 ^ k → i < k

@@ -7,3 +7,6 @@ pub mod NeverReused
 pub mod Lists
 pub mod LastReused
 pub mod MapsOf
+pub mod PlainSlots
+pub mod Plain
+pub mod Elements

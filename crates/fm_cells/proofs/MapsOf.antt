@@ -18,9 +18,9 @@ get-remove_nat m cell q = grind (arith, gets, nat_tests)
 
 get-with_entry : (o : Option Object) (cell : ℕ) (m : fin.FinMap nat_cmp Object) (q : ℕ) → fin.get m cell ≡ None → fin.get (with_entry o cell m) q ≡ cond (nat_eq q cell) o (fin.get m q)
 get-with_entry None cell m q none = elim (cases_eq q cell) as (λ _. fin.get m q ≡ cond (nat_eq q cell) None (fin.get m q)) [
-    | inl e ↦ grind (arith, nat_tests)
-    | inr e ↦ grind (arith, nat_tests)
-  ]
+  | inl e ↦ grind (arith, nat_tests)
+  | inr e ↦ grind (arith, nat_tests)
+]
 get-with_entry (Some object) cell m q none = grind (arith, gets, nat_tests)
 
 get-map_of-past : (object_in : ℕ → Option Object) (n cell : ℕ) → n ≤ cell → fin.get (map_of object_in n) cell ≡ None
@@ -42,9 +42,9 @@ get-map_of-below object_in (suc n) cell h =
 -- the map has what it is given by, where there is nothing past its end
 pub get-map_of : (object_in : ℕ → Option Object) (n cell : ℕ) → (n ≤ cell → object_in cell ≡ None) → fin.get (map_of object_in n) cell ≡ object_in cell
 get-map_of object_in n cell past = elim (cases_lt cell n) as (λ _. fin.get (map_of object_in n) cell ≡ object_in cell) [
-    | inl h ↦ get-map_of-below object_in n cell h
-    | inr h ↦ get-map_of-past object_in n cell h ∙ sym (past h)
-  ]
+  | inl h ↦ get-map_of-below object_in n cell h
+  | inr h ↦ get-map_of-past object_in n cell h ∙ sym (past h)
+]
 
 -- a change of one cell is an insert
 pub map_of-insert : (before after : ℕ → Option Object) (n m cell : ℕ) (object : Object) → ((q : ℕ) → n ≤ q → before q ≡ None) → ((q : ℕ) → m ≤ q → after q ≡ None) → ((q : ℕ) → after q ≡ cond (nat_eq q cell) (Some object) (before q)) → map_of after m ≡ fin.insert (map_of before n) cell object

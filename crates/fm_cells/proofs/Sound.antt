@@ -32,7 +32,7 @@ IsSound-opened budget limit free =
       classes = refl;
       made_within_births = omega arith;
       births_fit = omega arith;
-      untouched = λ _. refl
+      untouched = λ _. refl;
     }
 
 -- the words of an object and of a request are far below those of the largest size class
@@ -65,8 +65,8 @@ IsObject-new_object birth request fits h =
       chain_fits = omega arith;
       length_fits = omega (arith, length-replicate {A = ℕ} request.len 0, h.len_fits);
       elements_fit = λ k d below.
-        let within : k < request.len = omega (arith, length-replicate {A = ℕ} request.len 0) in
-        omega (arith, get_or-replicate {A = ℕ} request.len k 0 d within, pow_pos (element_bits request.pack))
+          let within : k < request.len = omega (arith, length-replicate {A = ℕ} request.len 0) in
+          omega (arith, get_or-replicate {A = ℕ} request.len k 0 d within, pow_pos (element_bits request.pack));
     }
 
 -- the sum of the counts rises by one where one of them does
@@ -88,13 +88,13 @@ apart_after : (store next : Store) (cell : ℕ) (changed : Object) → ((q : ℕ
 apart_after store next cell changed at sound fresh q other object second h k e =
     elim (cases_eq q cell) as (λ _. q ≡ other) [
       | inl p ↦ elim (cases_eq other cell) as (λ _. q ≡ other) [
-          | inl r ↦ p ∙ sym r
-          | inr r ↦
-              let old : object_at store other ≡ Some second = grind (arith, nat_tests, at other) in
-              let here : object_at next q ≡ Some changed = grind (arith, nat_tests, at q) in
-              let same : changed ≡ object = same_Some changed object (sym here ∙ h) in
-              p ∙ fresh other second old (ap (λ o. o.birth) same ∙ e)
-        ]
+        | inl r ↦ p ∙ sym r
+        | inr r ↦
+            let old : object_at store other ≡ Some second = grind (arith, nat_tests, at other) in
+            let here : object_at next q ≡ Some changed = grind (arith, nat_tests, at q) in
+            let same : changed ≡ object = same_Some changed object (sym here ∙ h) in
+            p ∙ fresh other second old (ap (λ o. o.birth) same ∙ e)
+      ]
       | inr p ↦
           let old : object_at store q ≡ Some object = grind (arith, nat_tests, at q) in
           elim (cases_eq other cell) as (λ _. q ≡ other) [
@@ -133,7 +133,7 @@ IsSound-made_by store request cell grows sound asked fits within may =
       classes = made_after-length store request grows ∙ sound.classes;
       made_within_births = omega (arith, made_after-sum store request grows class, sound.made_within_births);
       births_fit = omega arith;
-      untouched = λ h. absurd (omega arith)
+      untouched = λ h. absurd (omega arith);
     }
 
 -- a free leads from a sound store to a sound store
@@ -151,7 +151,7 @@ IsSound-without_object store cell object sound held =
       classes = sound.classes;
       made_within_births = sound.made_within_births;
       births_fit = sound.births_fit;
-      untouched = λ none. absurd (omega (arith, sound.born cell object held))
+      untouched = λ none. absurd (omega (arith, sound.born cell object held));
     }
 
 -- a put, or a change of a chain, leads from a sound store to a sound store
@@ -160,9 +160,9 @@ IsSound-with_object store cell old object sound held fits same_birth same_words 
     let at = object_at-with_object store cell object in
     record {
       null_not_held = elim (cases_eq 0 cell) as (λ _. object_at (with_object store cell object) 0 ≡ None) [
-          | inl e ↦ let none : object_at store cell ≡ None = subst (λ c. object_at store c ≡ None) e sound.null_not_held in absurd (none-some old (sym none ∙ held))
-          | inr e ↦ grind (arith, nat_tests, at 0, sound.null_not_held)
-        ];
+        | inl e ↦ let none : object_at store cell ≡ None = subst (λ c. object_at store c ≡ None) e sound.null_not_held in absurd (none-some old (sym none ∙ held))
+        | inr e ↦ grind (arith, nat_tests, at 0, sound.null_not_held)
+      ];
       objects_fit = λ q o h. changed_object (λ o. IsObject o) (nat_eq q cell) object (object_at store q) _ o (at q) fits (sound.objects_fit q o) h;
       born = λ q o h. changed_object (λ o. o.birth < store.births) (nat_eq q cell) object (object_at store q) _ o (at q) (omega (arith, sound.born cell old held)) (λ e. sound.born q o e) h;
       births_apart = apart_after store (with_object store cell object) cell object at sound (λ other second e same. sound.births_apart cell other old second held e (sym same_birth ∙ same));
@@ -171,7 +171,7 @@ IsSound-with_object store cell old object sound held fits same_birth same_words 
       classes = sound.classes;
       made_within_births = sound.made_within_births;
       births_fit = sound.births_fit;
-      untouched = λ none. absurd (omega (arith, sound.born cell old held))
+      untouched = λ none. absurd (omega (arith, sound.born cell old held));
     }
 
 -- an element within its range, or a chain within its own, leaves the object in its ranges
@@ -183,7 +183,7 @@ IsObject-with_element object place element h fits =
       pack_is = h.pack_is;
       chain_fits = h.chain_fits;
       length_fits = omega (arith, length-set object.elements place element, h.length_fits);
-      elements_fit = All-set (λ x. x < 2 ^ element_bits object.pack) object.elements place element fits h.elements_fit
+      elements_fit = All-set (λ x. x < 2 ^ element_bits object.pack) object.elements place element fits h.elements_fit;
     }
 
 pub IsObject-with_chain : (object : Object) (to : ℕ) → IsObject object → to < 2 ^ 32 → IsObject (with_chain object to)
@@ -194,5 +194,5 @@ IsObject-with_chain object to h fits =
       pack_is = h.pack_is;
       chain_fits = fits;
       length_fits = h.length_fits;
-      elements_fit = h.elements_fit
+      elements_fit = h.elements_fit;
     }

@@ -39,7 +39,7 @@ made_by store request (Take cell grows) =
       made_words = made_words_after store request grows;
       peak = max store.peak (words_needed store request);
       made = made_after store request grows;
-      free = slice_set store.free (request_size_class request) (without cell (free_cells store (request_size_class request)))
+      free = slice_set store.free (request_size_class request) (without cell (free_cells store (request_size_class request)));
     }
 
 -- the store after the object in a cell was freed: its size class has the cell as the last freed one
@@ -47,7 +47,7 @@ abbrev pub without_object : Store → ℕ → Object → Store
 without_object store cell object =
     record store {
       held = map.remove store.held cell;
-      free = slice_set store.free (object_size_class object) (cell ∷ free_cells store (object_size_class object))
+      free = slice_set store.free (object_size_class object) (cell ∷ free_cells store (object_size_class object));
     }
 
 -- the store with another object in a cell

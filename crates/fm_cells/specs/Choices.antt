@@ -1,5 +1,5 @@
 -- Which choices a memory may make.
-use Rattle.std.specs.Prelude.{◌≡◌, ℕ, ◌+◌, ◌<◌, Bool, true, false, List, [], ◌∷◌, if◌then◌else◌}
+use Rattle.std.specs.Prelude.{◌≡◌, ℕ, ◌+◌, ◌<◌, Bool, true, false, List, [], ◌∷◌, if◌then◌else◌, IsTrue}
 use Rattle.std.specs.Prelude.{None}
 use Rattle.fm_cells.specs.Objects.{Request, request_size_class}
 use Rattle.fm_cells.specs.Stores.{Store, object_at, passes_limit, free_cells}
@@ -32,6 +32,14 @@ MayNever store request choice = choice ≡ never_choice store request
 
 abbrev pub MayLast : Store → Request → Choice → Type 0
 MayLast store request choice = choice ≡ last_choice store request
+
+-- the request would need a new cell that passes the store limit, where each cell is new, and where freed cells of the
+-- size class come first
+abbrev pub IsFullNever : Store → Request → Type 0
+IsFullNever store request = IsTrue (passes_limit store request)
+
+abbrev pub IsFullLast : Store → Request → Type 0
+IsFullLast store request = (free_cells store (request_size_class request) ≡ []) × IsTrue (passes_limit store request)
 
 -- the request was met in a cell, by a choice that the memory may make, and so may memory that reuses cells in any way
 abbrev pub IsMade : (Store → Request → Choice → Type 0) → Store → Request → ℕ → Store → Type 0

@@ -18,10 +18,10 @@ pub record Object : Type 0 where
 abbrev pub object_code : Coded Object
 object_code =
     code_by (ℕ × (ℕ × (ℕ × (Bool × (ℕ × List ℕ)))))
-      (coded× coded_ℕ (coded× coded_ℕ (coded× coded_ℕ (coded× coded_bool (coded× coded_ℕ (coded_list coded_ℕ))))))
-      (λ o. (o.class, (o.birth, (o.pack, (o.fixed, (o.chain, o.elements))))))
-      (λ t. record { class = t.0; birth = t.1.0; pack = t.1.1.0; fixed = t.1.1.1.0; chain = t.1.1.1.1.0; elements = t.1.1.1.1.1 })
-      (λ _. refl)
+    (coded× coded_ℕ (coded× coded_ℕ (coded× coded_ℕ (coded× coded_bool (coded× coded_ℕ (coded_list coded_ℕ))))))
+    (λ o. (o.class, (o.birth, (o.pack, (o.fixed, (o.chain, o.elements))))))
+    (λ t. record { class = t.0; birth = t.1.0; pack = t.1.1.0; fixed = t.1.1.1.0; chain = t.1.1.1.1.0; elements = t.1.1.1.1.1 })
+    (λ _. refl)
 
 -- the words of an object
 abbrev pub object_words : Object → ℕ
@@ -47,6 +47,9 @@ pub record Request : Type 0 where
   pub pack : ℕ
   pub fixed : Bool
 
+abbrev pub request_of : ℕ → ℕ → ℕ → Bool → Request
+request_of class len pack fixed = record { class = class; len = len; pack = pack; fixed = fixed }
+
 -- the words that a request needs
 abbrev pub request_words : Request → ℕ
 request_words request = words_of request.len request.pack
@@ -70,5 +73,5 @@ new_object birth request =
       pack = request.pack;
       fixed = request.fixed;
       chain = 0;
-      elements = replicate request.len 0
+      elements = replicate request.len 0;
     }

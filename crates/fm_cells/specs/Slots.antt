@@ -1,25 +1,13 @@
 -- A list of optional objects, seen as a store: cell 1 is the first of them, and a freed cell never serves again.
-use Rattle.std.specs.Prelude.{◌≡◌, ◌+◌, ◌-◌, ◌≤◌, ◌^◌, length}
-use Rattle.std.specs.Prelude.{Some}
-use Rattle.fm_cells.specs.Stores.{Store, no_lists, live_words}
+use Rattle.std.specs.Prelude.{◌≡◌, ◌-◌, ◌≤◌, ◌^◌}
+use Rattle.fm_cells.specs.Stores.{Store, live_words}
 use Rattle.fm_cells.specs.Soundness.{IsNeverReused}
-use Rattle.fm_cells.specs.Tables.{map_of}
-use Rattle.fm_cells.specs.SlotObjects.{object_in}
+use Rattle.fm_cells.specs.SlotObjects.{plain_of}
 use Rattle.fm_cells.specs.declared.plain_cells.PlainCells.TheInside.{Inside}
 
 -- the store that the list and the numbers beside it are
 abbrev pub plain_store : Inside → Store
-plain_store inside =
-    record {
-      held = map_of (object_in inside.slots.items) (length inside.slots.items + 1);
-      budget = inside.budget;
-      limit = Some inside.limit;
-      births = length inside.slots.items;
-      made_words = inside.made_words;
-      peak = inside.peak;
-      made = inside.made;
-      free = no_lists
-    }
+plain_store inside = plain_of inside.slots.items inside.budget inside.limit inside.made_words inside.peak inside.made
 
 -- the store is one of memory that is never reused, and the live words are its
 pub record IsPlain (inside : Inside) : Type 0 where

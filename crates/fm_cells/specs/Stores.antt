@@ -30,10 +30,10 @@ pub record Store : Type 0 where
 abbrev pub store_code : Coded Store
 store_code =
     code_by (map.FinMap nat_cmp Object × (ℕ × (Option ℕ × (ℕ × (ℕ × (ℕ × (List ℕ × List (List ℕ))))))))
-      (coded× (map.code coded_ℕ object_code) (coded× coded_ℕ (coded× (coded_option coded_ℕ) (coded× coded_ℕ (coded× coded_ℕ (coded× coded_ℕ (coded× (coded_list coded_ℕ) (coded_list (coded_list coded_ℕ)))))))))
-      (λ s. (s.held, (s.budget, (s.limit, (s.births, (s.made_words, (s.peak, (s.made, s.free))))))))
-      (λ t. record { held = t.0; budget = t.1.0; limit = t.1.1.0; births = t.1.1.1.0; made_words = t.1.1.1.1.0; peak = t.1.1.1.1.1.0; made = t.1.1.1.1.1.1.0; free = t.1.1.1.1.1.1.1 })
-      (λ _. refl)
+    (coded× (map.code coded_ℕ object_code) (coded× coded_ℕ (coded× (coded_option coded_ℕ) (coded× coded_ℕ (coded× coded_ℕ (coded× coded_ℕ (coded× (coded_list coded_ℕ) (coded_list (coded_list coded_ℕ)))))))))
+    (λ s. (s.held, (s.budget, (s.limit, (s.births, (s.made_words, (s.peak, (s.made, s.free))))))))
+    (λ t. record { held = t.0; budget = t.1.0; limit = t.1.1.0; births = t.1.1.1.0; made_words = t.1.1.1.1.0; peak = t.1.1.1.1.1.0; made = t.1.1.1.1.1.1.0; free = t.1.1.1.1.1.1.1 })
+    (λ _. refl)
 
 -- a store in which nothing was made, of memory with these lists of freed cells
 abbrev pub opened : ℕ → Option ℕ → List (List ℕ) → Store

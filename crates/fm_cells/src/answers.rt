@@ -1,11 +1,11 @@
 // Cells and heads, and what the calls of a memory answer.
 
+ghost use Rattle.std.specs.Prelude.{◌≡◌};
+ghost use Rattle.fm_cells.specs.declared.answers.MakeFail.TheVariants.{NoMemory as WantOfMemory};
+
 use fm_base::NoMemory;
 use std::alloc::{AllocError, AllocFailed};
 use thiserror::Error;
-
-ghost use Rattle.std.specs.Prelude.{◌≡◌};
-ghost use Rattle.fm_cells.specs.declared.answers.MakeFail.TheVariants.{NoMemory as WantOfMemory};
 
 /// The number of a cell of memory. The number 0 is null, and no object lies there.
 #[derive(Clone, Copy, Debug, PartialEq, Eq)]

@@ -5,7 +5,7 @@
 
 ghost use Rattle.std.specs.Prelude.{◌≡◌, ℕ, ◌+◌, ◌-◌, ◌^◌, ◌<◌, ◌≤◌, ◌↔◌, ◌≢◌, length, slice_index, IfOk, OnErr, sum};
 ghost use Rattle.fm_cells.specs.Sizes.{IsPack, element_bits};
-ghost use Rattle.fm_cells.specs.Objects.{Request, IsRequest};
+ghost use Rattle.fm_cells.specs.Objects.{Request, request_of};
 ghost use Rattle.fm_cells.specs.Stores as spec;
 ghost use Rattle.fm_cells.specs.Stores.{Store, IsHeld, IsOverBudget, elements_at, pack_at, opened};
 ghost use Rattle.fm_cells.specs.Changes.{Choice, RefuseStore, freed_by, put_by, chained_by};
@@ -27,9 +27,9 @@ pub trait Memory {
         requires len_fits { len < 2 ^ 31 }
         requires pack_is { IsPack pack }
         requires birth_fits { (store self.old).births < 2 ^ 32 - 1 }
-        ensures made { IfOk result (λ cell. IsMade may_choose (store self.old) (record { class = class; len = len; pack = pack; fixed = fixed }) cell.0 (store self.new)) }
-        ensures budget { (result ≡ Err MakeFail.Budget) ↔ IsOverBudget (store self.old) (record { class = class; len = len; pack = pack; fixed = fixed }) }
-        ensures full { result ≡ Err MakeFail.Store → may_choose (store self.old) (record { class = class; len = len; pack = pack; fixed = fixed }) RefuseStore }
+        ensures made { IfOk result (λ cell. IsMade may_choose (store self.old) (request_of class len pack fixed) cell.0 (store self.new)) }
+        ensures budget { (result ≡ Err MakeFail.Budget) ↔ IsOverBudget (store self.old) (request_of class len pack fixed) }
+        ensures full { result ≡ Err MakeFail.Store → may_choose (store self.old) (request_of class len pack fixed) RefuseStore }
         ensures refused { OnErr result (store self.new ≡ store self.old) };
 
     /// Frees the object in a cell. Null and fixed objects are skipped. Takes no memory.

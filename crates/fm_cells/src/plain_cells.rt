@@ -1,11 +1,13 @@
 // A memory whose cells are never reused: a list of optional objects.
 
-ghost use Rattle.std.specs.Prelude.{◌≡◌, ◌-◌, ◌^◌, ◌≤◌, IfOk, Some, replicate};
+ghost use Rattle.std.specs.Prelude.{◌≡◌, ◌-◌, ◌^◌, ◌<◌, ◌≤◌, ◌↔◌, IfOk, OnErr, Err, Some, replicate};
 ghost use Rattle.std.specs.Option.{option_map, option_copied};
 ghost use Rattle.fm_cells.specs.SlotObjects.{slot_object, object_in};
-ghost use Rattle.fm_cells.specs.Objects.{Request};
+ghost use Rattle.fm_cells.specs.Sizes.{IsPack};
+ghost use Rattle.fm_cells.specs.Objects.{request_of};
 ghost use Rattle.fm_cells.specs.Stores as spec;
-ghost use Rattle.fm_cells.specs.Choices.{MayNever};
+ghost use Rattle.fm_cells.specs.Changes.{RefuseStore};
+ghost use Rattle.fm_cells.specs.Choices.{MayNever, IsFullNever, IsMade};
 
 use crate::answers::{Cell, Freed, Head, MakeFail, NotHeld};
 use crate::memories::Memory;
@@ -97,7 +99,19 @@ impl Memory for PlainCells {
 
     ghost may_choose = { MayNever };
 
-    fn make(&mut self, class: u32, len: u32, pack: u8, fixed: bool) -> Result<Cell, MakeFail> {
+    fn make(&mut self, class: u32, len: u32, pack: u8, fixed: bool) -> Result<Cell, MakeFail>
+        requires class_fits { class < 2 ^ 28 }
+        requires len_fits { len < 2 ^ 31 }
+        requires pack_is { IsPack pack }
+        requires birth_fits { self.old.births < 2 ^ 32 - 1 }
+        ensures made { IfOk result (λ cell. IsMade MayNever self.old (request_of class len pack fixed) cell.0 self.new) }
+        ensures budget { (result ≡ Err MakeFail.Budget) ↔ spec.IsOverBudget self.old (request_of class len pack fixed) }
+        ensures full { result ≡ Err MakeFail.Store → MayNever self.old (request_of class len pack fixed) RefuseStore }
+        ensures refused { OnErr result (self.new ≡ self.old) }
+
+        // The store is full exactly where the words of a new cell would pass its limit.
+        ensures store { (result ≡ Err MakeFail.Store) ↔ ((spec.words_needed self.old (request_of class len pack fixed) ≤ self.old.budget) × IsFullNever self.old (request_of class len pack fixed)) }
+    {
         let words = object_words(len, pack);
         if words as u64 > self.budget - self.live {
             return Err(MakeFail::Budget);
@@ -108,7 +122,14 @@ impl Memory for PlainCells {
         }
         let elements = zeros(self.alloc, len)?;
         let birth = self.slots.len() as u32;
-        self.slots.push(Some(Slot { class, birth, pack, fixed, chain: 0, elements }))?;
+        self.slots.push(Some(Slot {
+            class,
+            birth,
+            pack,
+            fixed,
+            chain: 0,
+            elements,
+        }))?;
         self.live += words as u64;
         self.peak = self.peak.max(self.live);
         self.made_words += cell_words;
@@ -117,11 +138,12 @@ impl Memory for PlainCells {
     }
 
     fn free(&mut self, cell: Cell) -> Result<Freed, NotHeld> {
-        if cell.0 == 0 {
-            return Ok(Freed::Skipped);
-        }
         let (words, fixed) = match slot_of(self.slots.as_slice(), cell) {
-            Some(slot) => (object_words(slot.elements.len() as u32, slot.pack), slot.fixed),
+            Some(slot) => (
+                object_words(slot.elements.len() as u32, slot.pack),
+                slot.fixed,
+            ),
+            None if cell.0 == 0 => return Ok(Freed::Skipped),
             None => return Err(NotHeld),
         };
         if fixed {

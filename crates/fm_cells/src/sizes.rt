@@ -25,7 +25,11 @@ pub fn class_words(class: u8) -> u64
     requires { class < 64 }
     ensures { result ≡ spec.class_words class }
 {
-    if class <= 32 { class as u64 } else { 1 << (class - 27) }
+    if class <= 32 {
+        class as u64
+    } else {
+        1 << (class - 27)
+    }
 }
 
 /// The words of the cell that holds so many words. Takes no memory.

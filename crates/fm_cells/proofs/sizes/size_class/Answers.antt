@@ -13,10 +13,10 @@ overflow_add-class c =
 
 pub loop-cell-preserved : goal.loop-cell-preserved
 loop-cell-preserved c = record {
-    above = omega arith;
-    cell_is = pow-next c.loop-cell.cell c.loop-cell.class (omega arith) c.loop-cell.invariant.cell_is;
-    half_is_small = omega arith
-  }
+  above = omega arith;
+  cell_is = pow-next c.loop-cell.cell c.loop-cell.class (omega arith) c.loop-cell.invariant.cell_is;
+  half_is_small = omega arith;
+}
 
 pub returns : goal.returns
 returns c =
