@@ -10,3 +10,8 @@ pub mod MapsOf
 pub mod PlainSlots
 pub mod Plain
 pub mod Elements
+pub mod DigitLaws
+pub mod Tiles
+pub mod ObjectWords
+pub mod Keeping
+pub mod KeptStores

@@ -33,3 +33,6 @@ apart-nat_eq a b h = grind (arith, nat_tests)
 
 pub same-nat_eq : (a : ℕ) → nat_eq a a ≡ true
 same-nat_eq a = grind (arith, nat_tests)
+
+pub eq-nat_eq : (a b : ℕ) → nat_eq a b ≡ true → a ≡ b
+eq-nat_eq a b h = grind (arith, nat_tests)

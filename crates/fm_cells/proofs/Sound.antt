@@ -79,7 +79,7 @@ changed_object P true changed before after object e new old h = let same : chang
 changed_object P false changed before after object e new old h = old (sym e ∙ h)
 
 -- an object that is held after one cell was freed was held before
-kept_object : (there : Bool) (before after : Option Object) (object : Object) → after ≡ cond there None before → after ≡ Some object → before ≡ Some object
+pub kept_object : (there : Bool) (before after : Option Object) (object : Object) → after ≡ cond there None before → after ≡ Some object → before ≡ Some object
 kept_object true before after object e h = absurd (none-some object (sym e ∙ h))
 kept_object false before after object e h = sym e ∙ h
 

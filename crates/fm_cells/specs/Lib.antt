@@ -8,3 +8,6 @@ pub mod Answers
 pub mod Tables
 pub mod SlotObjects
 pub mod Slots
+pub mod Words
+pub mod Layouts
+pub mod WordStores

@@ -1,0 +1,23 @@
+use Rattle.std.proofs.Common.{rules, ◌≡◌, ◌+◌, ◌-◌, ◌^◌, ◌<◌, ◌≤◌, ◌↔◌, IfOk, OnOk, OnErr, Err, Some, true, false, ℕ, List, [], ◌∷◌, max, slice_set, ◌*◌, length, ◌/◌, ◌%◌, Bool, nat_eq, nat_lt, ◌++◌, slice_index_or, bit_and, bit_or, Fits, w8, w32, w64, Bor, MutBor}
+use Rattle.fm_cells.specs.Sizes.{IsPack}
+use Rattle.fm_cells.specs.Objects.{request_of, request_size_class}
+use Rattle.fm_cells.specs.Stores as spec
+use Rattle.fm_cells.specs.Changes.{Take, RefuseStore, made_by}
+use Rattle.fm_cells.specs.Choices.{MayLast, IsFullLast, IsMade}
+use Rattle.fm_cells.proofs.word_cells.WordCellsMemory.get.Goals as goal
+
+-- src/word_cells.rt:233:21
+pub index-requires : goal.index-requires
+index-requires c = ?
+
+-- src/word_cells.rt:230:9
+pub element-requires-clause-within : goal.element-requires-clause-within
+element-requires-clause-within c = ?
+
+-- src/word_cells.rt:228:5
+pub returns-clause-value : goal.returns-clause-value
+returns-clause-value c = ?
+
+-- src/word_cells.rt:228:5
+pub returns-clause-fits : goal.returns-clause-fits
+returns-clause-fits c = ?
