@@ -77,3 +77,8 @@ freed_by-none store cell none = ap (λ o. on_object o (λ x. cond x.fixed store 
 
 pub freed_by-some : (store : Store) (cell : ℕ) (object : Object) → object_at store cell ≡ Some object → freed_by store cell ≡ cond object.fixed store (without_object store cell object)
 freed_by-some store cell object some = ap (λ o. on_object o (λ x. cond x.fixed store (without_object store cell x)) store) some
+
+-- what is held has an object
+pub some-object : (o : Option Object) → IsSome o → (object : Object) × (o ≡ Some object)
+some-object None h = absurd (cc)
+some-object (Some object) h = (object, refl)

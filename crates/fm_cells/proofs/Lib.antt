@@ -15,3 +15,4 @@ pub mod Tiles
 pub mod ObjectWords
 pub mod Keeping
 pub mod KeptStores
+pub mod WordState

@@ -1,15 +1,14 @@
-use Rattle.std.proofs.Common.{rules, ◌≡◌, ◌+◌, ◌-◌, ◌^◌, ◌<◌, ◌≤◌, ◌↔◌, IfOk, OnOk, OnErr, Err, Some, true, false, ℕ, List, [], ◌∷◌, max, slice_set, ◌*◌, length, ◌/◌, ◌%◌, Bool, nat_eq, nat_lt, ◌++◌, slice_index_or, bit_and, bit_or, Fits, w8, w32, w64, Bor, MutBor}
-use Rattle.fm_cells.specs.Sizes.{IsPack}
-use Rattle.fm_cells.specs.Objects.{request_of, request_size_class}
-use Rattle.fm_cells.specs.Stores as spec
-use Rattle.fm_cells.specs.Changes.{Take, RefuseStore, made_by}
-use Rattle.fm_cells.specs.Choices.{MayLast, IsFullLast, IsMade}
+use Rattle.std.proofs.Common.{◌≡◌, ◌<◌, ◌+◌, ap, ◌∙◌, get_or, arith}
+use Rattle.std.proofs.lemmas.List.{get_or_default}
+use Rattle.fm_cells.specs.Words.{chain_of}
+use Rattle.fm_cells.proofs.WordState.{second_within, chain_value}
 use Rattle.fm_cells.proofs.word_cells.WordCellsMemory.chain.Goals as goal
 
--- src/word_cells.rt:245:23
 pub index-requires : goal.index-requires
-index-requires c = ?
+index-requires c = second_within c.self.inside c.args.self.now c.args.cell.0 c.self.view_is c.self.invariant c.requires
 
--- src/word_cells.rt:244:5
 pub returns : goal.returns
-returns c = ?
+returns c =
+    let within = second_within c.self.inside c.args.self.now c.args.cell.0 c.self.view_is c.self.invariant c.requires in
+    let read : c.index.result.now ≡ get_or c.self.inside.words.items (c.args.cell.0 + 1) 0 = c.index.ensures ∙ get_or_default c.self.inside.words.items (c.args.cell.0 + 1) c.index.result.now 0 (omega (arith, c.self.inside.words.ok.0)) in
+    c.chain_of.ensures ∙ ap chain_of read ∙ chain_value c.self.inside c.args.self.now c.args.cell.0 c.self.view_is c.self.invariant c.requires

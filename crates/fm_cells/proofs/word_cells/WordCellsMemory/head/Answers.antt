@@ -1,19 +1,28 @@
-use Rattle.std.proofs.Common.{rules, ◌≡◌, ◌+◌, ◌-◌, ◌^◌, ◌<◌, ◌≤◌, ◌↔◌, IfOk, OnOk, OnErr, Err, Some, true, false, ℕ, List, [], ◌∷◌, max, slice_set, ◌*◌, length, ◌/◌, ◌%◌, Bool, nat_eq, nat_lt, ◌++◌, slice_index_or, bit_and, bit_or, Fits, w8, w32, w64, Bor, MutBor}
-use Rattle.fm_cells.specs.Sizes.{IsPack}
-use Rattle.fm_cells.specs.Objects.{request_of, request_size_class}
-use Rattle.fm_cells.specs.Stores as spec
-use Rattle.fm_cells.specs.Changes.{Take, RefuseStore, made_by}
-use Rattle.fm_cells.specs.Choices.{MayLast, IsFullLast, IsMade}
+use Rattle.std.proofs.Common.{◌≡◌, ◌+◌, ap, sym, ◌∙◌, get_or, arith, Some}
+use Rattle.std.specs.Option.{option_map}
+use Rattle.fm_cells.specs.Answers.{head_of}
+use Rattle.fm_cells.specs.Stores.{object_at}
+use Rattle.fm_cells.specs.Words.{class_of, birth_of, pack_of, is_fixed, len_of, object_from}
+use Rattle.fm_cells.proofs.Held.{held_if}
+use Rattle.fm_cells.proofs.ObjectWords.{length-elements_in}
+use Rattle.fm_cells.proofs.WordState.{held-found, first_within, second_within, word-read, same_head}
 use Rattle.fm_cells.proofs.word_cells.WordCellsMemory.head.Goals as goal
 
--- src/word_cells.rt:218:24
 pub index-identity-requires : goal.index-identity-requires
-index-identity-requires c = ?
+index-identity-requires c =
+    let held = held-found c.self.inside c.args.self.now c.args.cell.0 _ c.self.view_is c.self.invariant c.as_slice.ensures.value (c.is_marked.ensures.0 c.if-not-is_marked.false) in
+    first_within c.self.inside c.args.self.now c.args.cell.0 c.self.view_is c.self.invariant (held_if _ _ held)
 
--- src/word_cells.rt:222:25
 pub index-requires : goal.index-requires
-index-requires c = ?
+index-requires c =
+    let held = held-found c.self.inside c.args.self.now c.args.cell.0 _ c.self.view_is c.self.invariant c.as_slice.ensures.value (c.is_marked.ensures.0 c.if-not-is_marked.false) in
+    second_within c.self.inside c.args.self.now c.args.cell.0 c.self.view_is c.self.invariant (held_if _ _ held)
 
--- src/word_cells.rt:213:5
 pub returns : goal.returns
-returns c = ?
+returns c =
+    let held = held-found c.self.inside c.args.self.now c.args.cell.0 _ c.self.view_is c.self.invariant c.as_slice.ensures.value (c.is_marked.ensures.0 c.if-not-is_marked.false) in
+    let some = held_if (object_at c.args.self.now c.args.cell.0) (object_from c.self.inside.words.items c.args.cell.0) held in
+    let first : c.index-identity.result.now ≡ get_or c.self.inside.words.items c.args.cell.0 0 = word-read c.self.inside.words c.args.cell.0 c.index-identity.result.now (first_within c.self.inside c.args.self.now c.args.cell.0 c.self.view_is c.self.invariant some) c.index-identity.ensures in
+    let second : c.index.result.now ≡ get_or c.self.inside.words.items (c.args.cell.0 + 1) 0 = word-read c.self.inside.words (c.args.cell.0 + 1) c.index.result.now (second_within c.self.inside c.args.self.now c.args.cell.0 c.self.view_is c.self.invariant some) c.index.ensures in
+    same_head c.self.inside.words.items c.args.cell.0 _ _ _ _ _ (c.class_of.ensures ∙ ap class_of first) (c.birth_of.ensures ∙ ap birth_of first) (c.len_of.ensures ∙ ap len_of second) (c.pack_of.ensures.value ∙ ap pack_of first) (c.is_fixed.ensures ∙ ap is_fixed first)
+    ∙ sym (ap (λ o. option_map head_of o) held)
