@@ -1,6 +1,6 @@
 -- Which cells are held after a change of one cell, and made words within the limit.
 use Rattle.std.proofs.Common.{◌≡◌, ◌≢◌, ℕ, ◌≤◌, Bool, true, false, cond, [], refl, sym, ◌∙◌, ap, subst, nat_eq, arith}
-use Rattle.std.specs.Prelude.{Option, Some, None, IsSome, is_some, IfSome, nat_lt}
+use Rattle.std.specs.Prelude.{Option, Some, None, Result, Ok, Err, OnErr, IsSome, is_some, IfSome, nat_lt}
 use Rattle.std.specs.Option.{option_map, unwrap_or}
 use Rattle.std.specs.Ordering.{nat_cmp}
 use Rattle.std.specs.FinMap.{get-empty}
@@ -40,3 +40,8 @@ held_after q cell changed before after e h apart = let same : after ≡ before =
 pub held_before : (there : Bool) (before after : Option Object) → after ≡ cond there None before → IsSome after → IsSome before
 held_before true before after e h = let no : IsSome {T = Object} None = subst IsSome e h in absurd (cc)
 held_before false before after e h = subst IsSome e h
+
+-- what holds, holds at an error
+pub at_error : {T E : Type 0} (r : Result T E) (P : Type 0) → P → OnErr r P
+at_error (Ok x) P h = tt
+at_error (Err e) P h = h

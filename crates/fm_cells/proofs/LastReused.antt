@@ -275,3 +275,37 @@ made-most_held-fresh store request last asked e =
     let most : max (made_count store class) (held_count (made_by store request (Take (store.made_words + 1) true)) class) ≡ made_count store class + 1 =
     omega (arith, one, held_count-made_by store request (store.made_words + 1) true class may.1, ap length e, last.balance class (request_size_class-lt request asked)) in
     sym (ap (λ n. slice_set store.made class n) most)
+
+-- the lists after a make that takes the head of one: that list loses its head, and the others stay
+pub free_cells-head : (store : Store) (request : Request) (cell : ℕ) (rest : List ℕ) → IsLastReused store → IsRequest request → free_cells store (request_size_class request) ≡ cell ∷ rest → (k : ℕ) → free_cells (made_by store request (Take cell false)) k ≡ cond (nat_eq k (request_size_class request)) rest (free_cells store k)
+free_cells-head store request cell rest last asked e k =
+    let class = request_size_class request in
+    let distinct : IsDistinct nat_eq (cell ∷ rest) = subst (λ cells. IsDistinct nat_eq cells) e (last.listed_once class) in
+    let left : without cell (free_cells store class) ≡ rest = ap (without cell) e ∙ without-head cell rest distinct in
+    free_cells-set store.free class k (without cell (free_cells store class)) (omega (arith, request_size_class-lt request asked, last.lists)) ∙ ap (λ cells. cond (nat_eq k class) cells (free_cells store k)) left
+
+-- and the cell is in none of them
+pub free_cells-head_gone : (store : Store) (request : Request) (cell : ℕ) (rest : List ℕ) → IsLastReused store → IsRequest request → free_cells store (request_size_class request) ≡ cell ∷ rest → (k : ℕ) → AllByRecursion (λ other. nat_eq cell other ≡ false) (free_cells (made_by store request (Take cell false)) k)
+unfolding IsDistinct
+free_cells-head_gone store request cell rest last asked e k =
+    let class = request_size_class request in
+    let next = made_by store request (Take cell false) in
+    let distinct : IsDistinct nat_eq (cell ∷ rest) = subst (λ cells. IsDistinct nat_eq cells) e (last.listed_once class) in
+    let after = free_cells-head store request cell rest last asked e k in
+    elim (cases_eq k class) as (λ _. AllByRecursion (λ other. nat_eq cell other ≡ false) (free_cells next k)) [
+      | inl same ↦ subst (λ cells. AllByRecursion (λ other. nat_eq cell other ≡ false) cells) (sym (after ∙ ap (λ b. cond b rest (free_cells store k)) (ap (λ n. nat_eq n class) same ∙ same-nat_eq class))) distinct.0
+      | inr other ↦
+          let apart : SharesNoCell (cell ∷ rest) (free_cells store k) = subst (λ cells. SharesNoCell cells (free_cells store k)) e (last.lists_apart class k (λ h. other (sym h))) in
+          subst (λ cells. AllByRecursion (λ d. nat_eq cell d ≡ false) cells) (sym (after ∙ ap (λ b. cond b rest (free_cells store k)) (apart-nat_eq k class other))) apart.0
+    ]
+
+-- the lists after a make of a new cell stay as they were
+pub free_cells-fresh : (store : Store) (request : Request) → IsLastReused store → IsRequest request → free_cells store (request_size_class request) ≡ [] → (k : ℕ) → free_cells (made_by store request (Take (store.made_words + 1) true)) k ≡ free_cells store k
+free_cells-fresh store request last asked e k =
+    let class = request_size_class request in
+    let cell = store.made_words + 1 in
+    let after = free_cells-set store.free class k (without cell (free_cells store class)) (omega (arith, request_size_class-lt request asked, last.lists)) in
+    elim (cases_eq k class) as (λ _. free_cells (made_by store request (Take cell true)) k ≡ free_cells store k) [
+      | inl h ↦ after ∙ ap (λ b. cond b (without cell (free_cells store class)) (free_cells store k)) (ap (λ n. nat_eq n class) h ∙ same-nat_eq class) ∙ ap (without cell) e ∙ sym e ∙ ap (free_cells store) (sym h)
+      | inr h ↦ after ∙ ap (λ b. cond b (without cell (free_cells store class)) (free_cells store k)) (apart-nat_eq k class h)
+    ]

@@ -16,3 +16,4 @@ pub mod ObjectWords
 pub mod Keeping
 pub mod KeptStores
 pub mod WordState
+pub mod WordMakes

@@ -59,7 +59,7 @@ object_from-frame words words' cell n fits same =
       elements = elements i
     }
 
-zero-digit : (bits place : ℕ) → digit bits place 0 ≡ 0
+pub zero-digit : (bits place : ℕ) → digit bits place 0 ≡ 0
 zero-digit bits place = ap (λ n. n % 2 ^ bits) (zero-div (2 ^ (bits * place))) ∙ zero-mod (2 ^ bits)
 
 -- header words that say what was asked for, and a body of zeros, are the object as it is made

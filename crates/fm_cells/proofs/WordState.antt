@@ -228,7 +228,7 @@ chain_value inside now cell view kept held =
     sym (chain_at-some now cell found.0 found.1 ∙ ap (λ o. o.chain) (sym facts.words_are))
 
 -- a write of the mark of a word
-marks-set : (marks marks' : List ℕ) (cell mark : ℕ) → cell / 64 < length marks → mark < 2 → marks' ≡ set marks (cell / 64) (with_digit 1 (cell % 64) mark (get_or marks (cell / 64) 0)) → (q : ℕ) → mark_in marks' q ≡ cond (nat_eq q cell) mark (mark_in marks q)
+pub marks-set : (marks marks' : List ℕ) (cell mark : ℕ) → cell / 64 < length marks → mark < 2 → marks' ≡ set marks (cell / 64) (with_digit 1 (cell % 64) mark (get_or marks (cell / 64) 0)) → (q : ℕ) → mark_in marks' q ≡ cond (nat_eq q cell) mark (mark_in marks q)
 marks-set marks marks' cell mark within bit written q = ap (λ all. mark_in all q) written ∙ mark_in-set marks cell mark q within bit
 
 -- the mark of a held cell is there

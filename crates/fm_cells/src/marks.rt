@@ -1,6 +1,6 @@
 // One bit for each word of memory, 64 in a word: those at which held cells begin are set.
 
-ghost use Rattle.std.specs.Prelude.{◌≡◌, ◌+◌, ◌*◌, ◌/◌, ◌%◌, ◌<◌, ◌≤◌, ◌↔◌, length, slice_index, slice_set, IsTrue, replicate, ◌++◌, OnOk, OnErr};
+ghost use Rattle.std.specs.Prelude.{◌≡◌, ◌+◌, ◌*◌, ◌/◌, ◌%◌, ◌<◌, ◌≤◌, ◌↔◌, ℕ, length, slice_index, slice_set, IsTrue, OnOk};
 ghost use Rattle.fm_cells.specs.Words as spec;
 
 use crate::digits::{digit, with_digit};
@@ -24,4 +24,17 @@ pub fn set_mark(marks: &mut [u64], cell: u32, mark: u64)
 {
     let at = (cell / 64) as usize;
     marks[at] = with_digit(marks[at], 1, cell % 64, mark);
+}
+
+/// Makes room for the marks of so many words. Each mark stays as it was, and those that are added aren't set.
+pub fn reserve_marks(marks: &mut Vec<u64>, words: usize) -> Result<(), AllocError>
+    ensures room { OnOk result (words ≤ 64 * length marks.new.items) }
+    ensures same { (k : ℕ) → slice_index marks.new.items k ≡ slice_index marks.old.items k }
+    ensures longer { length marks.old.items ≤ length marks.new.items }
+{
+    let wanted = words / 64 + 1;
+    if marks.len() < wanted {
+        marks.resize(wanted, 0)?;
+    }
+    Ok(())
 }

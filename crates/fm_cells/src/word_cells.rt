@@ -26,7 +26,7 @@ use crate::bodies::{element, set_element, write_object};
 use crate::headers::{
     birth_of, chain_of, class_of, extent_word, identity_word, is_fixed, len_of, pack_of,
 };
-use crate::marks::{is_marked, set_mark};
+use crate::marks::{is_marked, reserve_marks, set_mark};
 use crate::memories::Memory;
 use crate::sizes::{class_words, object_words, size_class};
 use std::alloc::Global;
@@ -133,9 +133,7 @@ impl WordCells {
         if end as u64 - 1 > self.limit {
             return Err(MakeFail::Store);
         }
-        if self.marks.len() < end / 64 + 1 {
-            self.marks.resize(end / 64 + 1, 0)?;
-        }
+        reserve_marks(&mut self.marks, end)?;
         self.words.resize(end, 0)?;
         let identity = identity_word(class, self.births as u32, pack, fixed);
         write_object(

@@ -1,15 +1,24 @@
-use Rattle.std.proofs.Common.{rules, ◌≡◌, ◌+◌, ◌-◌, ◌^◌, ◌<◌, ◌≤◌, ◌↔◌, IfOk, OnOk, OnErr, Err, Some, true, false, ℕ, List, [], ◌∷◌, max, slice_set, ◌*◌, length, ◌/◌, ◌%◌, Bool, nat_eq, nat_lt, ◌++◌, slice_index_or, bit_and, bit_or, Fits, w8, w32, w64, Bor, MutBor}
-use Rattle.fm_cells.specs.Sizes.{IsPack}
-use Rattle.fm_cells.specs.Objects.{request_of, request_size_class}
-use Rattle.fm_cells.specs.Stores as spec
-use Rattle.fm_cells.specs.Changes.{Take, RefuseStore, made_by}
-use Rattle.fm_cells.specs.Choices.{MayLast, IsFullLast, IsMade}
+use Rattle.std.proofs.Common.{refl, replicate}
+use Rattle.fm_cells.specs.declared.word_cells.WordCells.TheInside.{Inside}
+use Rattle.fm_cells.proofs.WordMakes.{opened-done}
 use Rattle.fm_cells.proofs.word_cells.WordCells.new.Goals as goal
 
--- src/word_cells.rt:65:5
-pub invariant_of-result : goal.invariant_of-result
-invariant_of-result c = ?
+-- the fields of the new memory
+abbrev fields : goal.After-new-2 → Inside
+fields c = record {
+    words = c.new.result;
+    marks = c.new-2.result;
+    heads = replicate 64 0;
+    made = replicate 64 0;
+    budget = c.args.budget;
+    limit = c.args.store;
+    births = 0;
+    live = 0;
+    peak = 0
+  }
 
--- src/word_cells.rt:65:5
+pub invariant_of-result : goal.invariant_of-result
+invariant_of-result c = (opened-done (fields c) c.args.budget c.args.store c.new.ensures.items c.new-2.ensures.items refl refl refl refl refl refl refl c.requires).1
+
 pub returns : goal.returns
-returns c = ?
+returns c = (opened-done (fields c) c.args.budget c.args.store c.new.ensures.items c.new-2.ensures.items refl refl refl refl refl refl refl c.requires).0
