@@ -10,8 +10,8 @@ use Rattle.std.proofs.lemmas.Bool.Decides.{nat_tests}
 use Rattle.fm_cells.specs.Sizes.{cell_words}
 use Rattle.fm_cells.specs.Objects.{Object, IsObject, object_words, object_size_class, Request, IsRequest, request_words, request_size_class, new_object}
 use Rattle.fm_cells.specs.Stores.{Store, opened, empty_lists, object_at, IsHeld, held_count, made_count, free_cells, words_needed, passes_limit}
-use Rattle.fm_cells.specs.Changes.{Take, without, made_by, made_after, made_words_after, without_object, with_object}
-use Rattle.fm_cells.specs.Choices.{MayReuse}
+use Rattle.fm_cells.specs.Changes.{Take, RefuseStore, without, made_by, made_after, made_words_after, without_object, with_object}
+use Rattle.fm_cells.specs.Choices.{MayReuse, last_choice, last_choice_among}
 use Rattle.fm_cells.specs.Soundness.{IsSound, IsFree, SharesNoCell, IsLastReused}
 use Rattle.fm_cells.proofs.CellSizes.{words-le-cell_words}
 use Rattle.fm_cells.proofs.Held.{within_limit, zero_within_limit, not_held, held_if, nothing_held, held_after, held_before}
@@ -309,3 +309,13 @@ free_cells-fresh store request last asked e k =
       | inl h ↦ after ∙ ap (λ b. cond b (without cell (free_cells store class)) (free_cells store k)) (ap (λ n. nat_eq n class) h ∙ same-nat_eq class) ∙ ap (without cell) e ∙ sym e ∙ ap (free_cells store) (sym h)
       | inr h ↦ after ∙ ap (λ b. cond b (without cell (free_cells store class)) (free_cells store k)) (apart-nat_eq k class h)
     ]
+
+-- the choice where the list of the size class has a head, where it has none, and where the store is full
+pub last_choice-head : (store : Store) (request : Request) (cell : ℕ) (rest : List ℕ) → free_cells store (request_size_class request) ≡ cell ∷ rest → Take cell false ≡ last_choice store request
+last_choice-head store request cell rest e = sym (ap (λ cells. last_choice_among cells store request) e)
+
+pub last_choice-fresh : (store : Store) (request : Request) → free_cells store (request_size_class request) ≡ [] → passes_limit store request ≡ false → Take (store.made_words + 1) true ≡ last_choice store request
+last_choice-fresh store request e limit = sym (ap (λ cells. last_choice_among cells store request) e ∙ ap (λ b. cond b RefuseStore (Take (store.made_words + 1) true)) limit)
+
+pub last_choice-full : (store : Store) (request : Request) → free_cells store (request_size_class request) ≡ [] → passes_limit store request ≡ true → RefuseStore ≡ last_choice store request
+last_choice-full store request e limit = sym (ap (λ cells. last_choice_among cells store request) e ∙ ap (λ b. cond b RefuseStore (Take (store.made_words + 1) true)) limit)

@@ -1,6 +1,6 @@
 -- The store that the fields of the word cells are when they are opened and after a make.
 use Rattle.std.proofs.Common.{◌≡◌, ◌≢◌, ℕ, suc, ◌+◌, ◌-◌, ◌*◌, ◌/◌, ◌%◌, ◌^◌, ◌<◌, ◌≤◌, ◌⊎◌, Bool, true, false, cond, List, [], ◌∷◌, ◌++◌, length, get_or, set, replicate, max, refl, sym, ◌∙◌, ap, subst, nat_eq, arith, inl, inr, length-set, get_or-set_same, get_or-set_other, Global}
-use Rattle.std.specs.Prelude.{Option, Some, None, slice_index}
+use Rattle.std.specs.Prelude.{Option, Some, None, Result, Ok, Err, IfOk, OnOk, slice_index}
 use Rattle.std.specs.List.{AllByRecursion}
 use Rattle.std.specs.Ordering.{nat_cmp}
 use Rattle.std.specs.FinMap.{get-empty}
@@ -10,16 +10,19 @@ use Rattle.std.proofs.lemmas.Bool.{cases_eq, le-ltb}
 use Rattle.std.proofs.lemmas.Option.{none-some}
 use Rattle.fm_cells.specs.Sizes.{IsPack, words_of, class_words, cell_words, size_class}
 use Rattle.fm_cells.specs.Objects.{Object, Request, IsRequest, request_words, request_size_class, new_object, request_of}
-use Rattle.fm_cells.specs.Stores.{Store, opened, empty_lists, object_at, live_words, words_needed, free_cells, passes_limit}
+use Rattle.fm_cells.specs.Stores.{Store, opened, empty_lists, object_at, live_words, words_needed, free_cells, passes_limit, made_count, held_count}
 use Rattle.fm_cells.specs.Changes.{Take, made_by, made_after}
 use Rattle.fm_cells.specs.Soundness.{IsSound, IsFree, IsLastReused}
 use Rattle.fm_cells.specs.Words.{digit, with_digit, class_of, birth_of, pack_of, is_fixed, len_of, chain_of, extent_word, object_from, mark_in, marked_object}
+use Rattle.fm_cells.specs.Choices.{IsMade, MayLast}
+use Rattle.fm_cells.specs.declared.answers.Cell.{Cell}
+use Rattle.fm_cells.specs.declared.answers.MakeFail.{MakeFail}
 use Rattle.fm_cells.specs.Layouts.{Keeps, IsTile, IsTiling, IsLinked, IsListed}
 use Rattle.fm_cells.specs.WordStores.{word_store, IsWords}
 use Rattle.fm_cells.specs.declared.word_cells.WordCells.TheInside.{Inside}
 use Rattle.fm_cells.proofs.CellSizes.{words-le-cell_words}
 use Rattle.fm_cells.proofs.Keeping.{SameOutside, Keeps-made_by}
-use Rattle.fm_cells.proofs.LastReused.{nothing_freed, IsLastReused-opened, IsLastReused-head, IsLastReused-fresh, MayReuse-head, MayReuse-after, free_cells-head, free_cells-head_gone, free_cells-fresh}
+use Rattle.fm_cells.proofs.LastReused.{last_choice-fresh, made-most_held-fresh, nothing_freed, IsLastReused-opened, IsLastReused-head, IsLastReused-fresh, MayReuse-head, MayReuse-after, free_cells-head, free_cells-head_gone, free_cells-fresh}
 use Rattle.fm_cells.proofs.Laws.{live_words-opened, live_words-made_by}
 use Rattle.fm_cells.proofs.Lists.{all-map, apart-nat_eq, same-nat_eq}
 use Rattle.fm_cells.proofs.ObjectWords.{zero-digit, object_from-new}
@@ -251,3 +254,33 @@ pub within-passes : (inside : Inside) (now : Store) (cell cells : ℕ) (request 
 within-passes inside now cell cells request view is_cell is_cells within =
     let made : length inside.words.items - 1 ≡ now.made_words = ap (λ s. s.made_words) view in
     ap (λ s. passes_limit s request) (sym view) ∙ le-ltb inside.limit (length inside.words.items - 1 + cell_words (request_words request)) (omega arith)
+
+-- a list whose head is 0 is empty, and any other begins with its head
+pub head-none : (inside : Inside) (now : Store) (head : ℕ) (request : Request) → word_store inside ≡ now → IsWords inside → IsRequest request → get_or inside.heads (request_size_class request) 0 ≡ head → head ≡ 0 → free_cells now (request_size_class request) ≡ []
+head-none inside now head request view kept asked is zero =
+    let k = request_size_class request in
+    let link : IsLinked inside.words.items (slice_index inside.heads k) (free_cells now k) = subst (λ s. IsLinked inside.words.items (slice_index inside.heads k) (free_cells s k)) view (kept.keeps.linked k (request_size_class-lt request asked)) in
+    elim (free_cells now k) as (λ cells. IsLinked inside.words.items (slice_index inside.heads k) cells → cells ≡ []) [
+      | [] ↦ λ _. refl
+      | d ∷ ds ↦ λ l. absurd (omega (arith, l.0, l.1))
+    ] link
+
+pub head-some : (inside : Inside) (now : Store) (head : ℕ) (request : Request) → word_store inside ≡ now → IsWords inside → IsRequest request → get_or inside.heads (request_size_class request) 0 ≡ head → head ≢ 0 → (rest : List ℕ) × (free_cells now (request_size_class request) ≡ head ∷ rest)
+head-some inside now head request view kept asked is other =
+    let k = request_size_class request in
+    let link : IsLinked inside.words.items (slice_index inside.heads k) (free_cells now k) = subst (λ s. IsLinked inside.words.items (slice_index inside.heads k) (free_cells s k)) view (kept.keeps.linked k (request_size_class-lt request asked)) in
+    elim (free_cells now k) as (λ cells. IsLinked inside.words.items (slice_index inside.heads k) cells → (rest : List ℕ) × (cells ≡ head ∷ rest)) [
+      | [] ↦ λ l. absurd (other (sym is ∙ l))
+      | d ∷ ds ↦ λ l. (ds, ap (λ c. c ∷ ds) (sym l.0 ∙ is))
+    ] link
+
+-- what a make of a new cell says, in the words of memory that takes the last freed cell
+pub fresh-made : (now new : Store) (request : Request) (r : Result Cell MakeFail) → IsLastReused now → free_cells now (request_size_class request) ≡ [] → IfOk r (λ cell. (cell.0 ≡ now.made_words + 1) × (new ≡ made_by now request (Take (now.made_words + 1) true))) → IfOk r (λ _. passes_limit now request ≡ false) → IfOk r (λ cell. IsMade MayLast now request cell.0 new)
+fresh-made now new request (Ok cell) last e made open_limit =
+    subst (λ n. IsMade MayLast now request n new) (sym made.0) (true, last_choice-fresh now request e open_limit, MayReuse-after now request true last, made.1)
+fresh-made now new request (Err x) last e made open_limit = tt
+
+pub fresh-most_held : (now new : Store) (request : Request) (r : Result Cell MakeFail) → IsLastReused now → IsRequest request → free_cells now (request_size_class request) ≡ [] → IfOk r (λ cell. (cell.0 ≡ now.made_words + 1) × (new ≡ made_by now request (Take (now.made_words + 1) true)))
+  → OnOk r (new.made ≡ set now.made (request_size_class request) (max (made_count now (request_size_class request)) (held_count new (request_size_class request))))
+fresh-most_held now new request (Ok cell) last asked e made = subst (λ s. s.made ≡ set now.made (request_size_class request) (max (made_count now (request_size_class request)) (held_count s (request_size_class request)))) (sym made.1) (made-most_held-fresh now request last asked e)
+fresh-most_held now new request (Err x) last asked e made = tt
