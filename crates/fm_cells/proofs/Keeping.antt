@@ -53,7 +53,7 @@ linked-frame words words' head (d ∷ ds) same is = (is.0, is.1, subst (λ h. Is
 other_links : (words words' : List ℕ) (tiles : List (ℕ × ℕ)) (to cell k head l : ℕ) (cells : List ℕ) → IsTiling 1 tiles to → IsTile tiles cell k → AllByRecursion (λ d. IsTile tiles d l) cells → AllByRecursion (λ d. nat_eq cell d ≡ false) cells → SameOutside words words' cell k → IsLinked words head cells → IsLinked words' head cells
 other_links words words' tiles to cell k head l cells tiling tile others apart same is =
     linked-frame words words' head cells (all-map (λ d. IsTile tiles d l × (nat_eq cell d ≡ false)) (λ d. get_or words' d 0 ≡ get_or words d 0) (λ d h. other_first words words' tiles to cell k d l tiling tile h.0 h.1 same) cells
-      (all-both (λ d. IsTile tiles d l) (λ d. nat_eq cell d ≡ false) cells others apart)) is
+    (all-both (λ d. IsTile tiles d l) (λ d. nat_eq cell d ≡ false) cells others apart)) is
 
 -- a cell whose object is marked has its mark, and it is the object that the words hold
 pub marked-some : (words marks : List ℕ) (cell : ℕ) (object : Object) → marked_object words marks cell ≡ Some object → (mark_in marks cell ≡ 1) × (object_from words cell ≡ object)
@@ -89,7 +89,7 @@ either_held false object before h = h
 
 -- a put, or a change of a chain
 pub Keeps-with_object : (words words' marks heads : List ℕ) (store : Store) (cell : ℕ) (old object : Object) → Keeps words marks heads store → IsLastReused store → object_at store cell ≡ Some old → object_size_class object ≡ object_size_class old → length words' ≡ length words
-  → SameOutside words words' cell (object_size_class old) → object_from words' cell ≡ object → Keeps words' marks heads (with_object store cell object)
+    → SameOutside words words' cell (object_size_class old) → object_from words' cell ≡ object → Keeps words' marks heads (with_object store cell object)
 Keeps-with_object words words' marks heads store cell old object keeps last held class long same is =
     let k = object_size_class old in
     let tile = keeps.held_tile cell old held in
@@ -98,30 +98,30 @@ Keeps-with_object words words' marks heads store cell old object keeps last held
     let apart = λ (l : ℕ). all-map (IsFree store) (λ other. nat_eq cell other ≡ false) (λ other h. held-apart store cell old other held h) (free_cells store l) (last.free_not_held l) in
     record {
       held = λ q. elim (cases_eq q cell) as (λ _. marked_object words' marks q ≡ object_at (with_object store cell object) q) [
-          | inl e ↦ ap (marked_object words' marks) e ∙ own_held words' marks cell object mark is ∙ sym (at q ∙ ap (λ b. cond b (Some object) (object_at store q)) (ap (λ n. nat_eq n cell) e ∙ same-nat_eq cell))
-          | inr e ↦ other_held words words' marks marks heads store keeps.tiles (store.made_words + 1) cell k q keeps last.sound keeps.tiling tile (λ l t. t) e refl same ∙ sym (at q ∙ ap (λ b. cond b (Some object) (object_at store q)) (apart-nat_eq q cell e))
-        ];
+        | inl e ↦ ap (marked_object words' marks) e ∙ own_held words' marks cell object mark is ∙ sym (at q ∙ ap (λ b. cond b (Some object) (object_at store q)) (ap (λ n. nat_eq n cell) e ∙ same-nat_eq cell))
+        | inr e ↦ other_held words words' marks marks heads store keeps.tiles (store.made_words + 1) cell k q keeps last.sound keeps.tiling tile (λ l t. t) e refl same ∙ sym (at q ∙ ap (λ b. cond b (Some object) (object_at store q)) (apart-nat_eq q cell e))
+      ];
       words_made = ap (λ n. n - 1) long ∙ keeps.words_made;
       tiles = keeps.tiles;
       tiling = keeps.tiling;
       held_tile = λ q o h. elim (cases_eq q cell) as (λ _. IsTile keeps.tiles q (object_size_class o)) [
-          | inl e ↦
-              let here : Some object ≡ Some o = sym (ap (λ b. cond b (Some object) (object_at store q)) (ap (λ n. nat_eq n cell) e ∙ same-nat_eq cell)) ∙ sym (at q) ∙ h in
-              subst (λ n. IsTile keeps.tiles n (object_size_class o)) (sym e) (subst (λ n. IsTile keeps.tiles cell n) (sym class ∙ ap object_size_class (same_Some object o here)) tile)
-          | inr e ↦ keeps.held_tile q o (sym (ap (λ b. cond b (Some object) (object_at store q)) (apart-nat_eq q cell e)) ∙ sym (at q) ∙ h)
-        ];
+        | inl e ↦
+            let here : Some object ≡ Some o = sym (ap (λ b. cond b (Some object) (object_at store q)) (ap (λ n. nat_eq n cell) e ∙ same-nat_eq cell)) ∙ sym (at q) ∙ h in
+            subst (λ n. IsTile keeps.tiles n (object_size_class o)) (sym e) (subst (λ n. IsTile keeps.tiles cell n) (sym class ∙ ap object_size_class (same_Some object o here)) tile)
+        | inr e ↦ keeps.held_tile q o (sym (ap (λ b. cond b (Some object) (object_at store q)) (apart-nat_eq q cell e)) ∙ sym (at q) ∙ h)
+      ];
       free_tile = keeps.free_tile;
       linked = λ l below. other_links words words' keeps.tiles (store.made_words + 1) cell k (slice_index heads l) l (free_cells store l) keeps.tiling tile (keeps.free_tile l) (apart l) same (keeps.linked l below);
       covered = λ q l t. elim (keeps.covered q l t) as (λ _. IsHeld (with_object store cell object) q ⊎ IsListed q (free_cells store l)) [
-          | inl h ↦ inl (subst IsSome (sym (at q)) (either_held (nat_eq q cell) object (object_at store q) h))
-          | inr h ↦ inr h
-        ]
+        | inl h ↦ inl (subst IsSome (sym (at q)) (either_held (nat_eq q cell) object (object_at store q) h))
+        | inr h ↦ inr h
+      ];
     }
 
 -- a free: the first word of the cell keeps the old head of its list, and the cell is the new head
 pub Keeps-without_object : (words words' marks marks' heads : List ℕ) (store : Store) (cell : ℕ) (object : Object) → Keeps words marks heads store → IsLastReused store → object_at store cell ≡ Some object → 64 ≤ length heads → length words' ≡ length words
-  → SameOutside words words' cell (object_size_class object) → get_or words' cell 0 ≡ slice_index heads (object_size_class object) → ((q : ℕ) → mark_in marks' q ≡ cond (nat_eq q cell) 0 (mark_in marks q))
-  → Keeps words' marks' (set heads (object_size_class object) cell) (without_object store cell object)
+    → SameOutside words words' cell (object_size_class object) → get_or words' cell 0 ≡ slice_index heads (object_size_class object) → ((q : ℕ) → mark_in marks' q ≡ cond (nat_eq q cell) 0 (mark_in marks q))
+    → Keeps words' marks' (set heads (object_size_class object) cell) (without_object store cell object)
 Keeps-without_object words words' marks marks' heads store cell object keeps last held room long same first marked =
     let k = object_size_class object in
     let next = without_object store cell object in
@@ -136,58 +136,58 @@ Keeps-without_object words words' marks marks' heads store cell object keeps las
     let links = λ (l : ℕ) (few : l < 64). other_links words words' keeps.tiles (store.made_words + 1) cell k (slice_index heads l) l (free_cells store l) keeps.tiling tile (keeps.free_tile l) (apart l) same (keeps.linked l few) in
     record {
       held = λ q. elim (cases_eq q cell) as (λ _. marked_object words' marks' q ≡ object_at next q) [
-          | inl e ↦
-              ap (λ m. cond (nat_eq m 1) (Some (object_from words' q)) None) (marked q ∙ ap (λ b. cond b 0 (mark_in marks q)) (ap (λ n. nat_eq n cell) e ∙ same-nat_eq cell))
-              ∙ sym (at q ∙ ap (λ b. cond b None (object_at store q)) (ap (λ n. nat_eq n cell) e ∙ same-nat_eq cell))
-          | inr e ↦
-              other_held words words' marks marks' heads store keeps.tiles (store.made_words + 1) cell k q keeps last.sound keeps.tiling tile (λ l t. t) e (marked q ∙ ap (λ b. cond b 0 (mark_in marks q)) (apart-nat_eq q cell e)) same
-              ∙ sym (at q ∙ ap (λ b. cond b None (object_at store q)) (apart-nat_eq q cell e))
-        ];
+        | inl e ↦
+            ap (λ m. cond (nat_eq m 1) (Some (object_from words' q)) None) (marked q ∙ ap (λ b. cond b 0 (mark_in marks q)) (ap (λ n. nat_eq n cell) e ∙ same-nat_eq cell))
+            ∙ sym (at q ∙ ap (λ b. cond b None (object_at store q)) (ap (λ n. nat_eq n cell) e ∙ same-nat_eq cell))
+        | inr e ↦
+            other_held words words' marks marks' heads store keeps.tiles (store.made_words + 1) cell k q keeps last.sound keeps.tiling tile (λ l t. t) e (marked q ∙ ap (λ b. cond b 0 (mark_in marks q)) (apart-nat_eq q cell e)) same
+            ∙ sym (at q ∙ ap (λ b. cond b None (object_at store q)) (apart-nat_eq q cell e))
+      ];
       words_made = ap (λ n. n - 1) long ∙ keeps.words_made;
       tiles = keeps.tiles;
       tiling = keeps.tiling;
       held_tile = λ q o h. keeps.held_tile q o (kept_object (nat_eq q cell) (object_at store q) _ o (at q) h);
       free_tile = λ l. elim (cases_eq l k) as (λ _. AllByRecursion (λ d. IsTile keeps.tiles d l) (free_cells next l)) [
-          | inl h ↦ subst (λ cells. AllByRecursion (λ d. IsTile keeps.tiles d l) cells) (sym (here l h)) (subst (λ j. IsTile keeps.tiles cell j) (sym h) tile, keeps.free_tile l)
-          | inr h ↦ subst (λ cells. AllByRecursion (λ d. IsTile keeps.tiles d l) cells) (sym (there l h)) (keeps.free_tile l)
-        ];
+        | inl h ↦ subst (λ cells. AllByRecursion (λ d. IsTile keeps.tiles d l) cells) (sym (here l h)) (subst (λ j. IsTile keeps.tiles cell j) (sym h) tile, keeps.free_tile l)
+        | inr h ↦ subst (λ cells. AllByRecursion (λ d. IsTile keeps.tiles d l) cells) (sym (there l h)) (keeps.free_tile l)
+      ];
       linked = λ l below. elim (cases_eq l k) as (λ _. IsLinked words' (slice_index (set heads k cell) l) (free_cells next l)) [
-          | inl h ↦
-              let head : slice_index (set heads k cell) l ≡ cell = ap (slice_index (set heads k cell)) h ∙ get_or-set_same heads k cell 0 (omega arith) in
-              subst (λ cells. IsLinked words' (slice_index (set heads k cell) l) cells) (sym (here l h))
-                (head, held_above store cell object last.sound held, subst (λ n. IsLinked words' n (free_cells store l)) (sym (first ∙ ap (slice_index heads) (sym h))) (links l below))
-          | inr h ↦
-              subst (λ cells. IsLinked words' (slice_index (set heads k cell) l) cells) (sym (there l h)) (subst (λ n. IsLinked words' n (free_cells store l)) (sym (get_or-set_other heads k l cell 0 h)) (links l below))
-        ];
+        | inl h ↦
+            let head : slice_index (set heads k cell) l ≡ cell = ap (slice_index (set heads k cell)) h ∙ get_or-set_same heads k cell 0 (omega arith) in
+            subst (λ cells. IsLinked words' (slice_index (set heads k cell) l) cells) (sym (here l h))
+            (head, held_above store cell object last.sound held, subst (λ n. IsLinked words' n (free_cells store l)) (sym (first ∙ ap (slice_index heads) (sym h))) (links l below))
+        | inr h ↦
+            subst (λ cells. IsLinked words' (slice_index (set heads k cell) l) cells) (sym (there l h)) (subst (λ n. IsLinked words' n (free_cells store l)) (sym (get_or-set_other heads k l cell 0 h)) (links l below))
+      ];
       covered = λ q l t. elim (cases_eq q cell) as (λ _. IsHeld next q ⊎ IsListed q (free_cells next l)) [
-          | inl e ↦
-              let class : l ≡ k = elim (tile-apart 1 keeps.tiles (store.made_words + 1) q l cell k keeps.tiling t tile) as (λ _. l ≡ k) [
-                  | inl is ↦ is.1
-                  | inr (inl is) ↦ let wide = tile-within 1 keeps.tiles (store.made_words + 1) q l keeps.tiling t in absurd (omega (arith, wide.2))
-                  | inr (inr is) ↦ let wide = tile-within 1 keeps.tiles (store.made_words + 1) cell k keeps.tiling tile in absurd (omega (arith, wide.2))
-                ] in
-              inr (subst (λ cells. IsListed q cells) (sym (here l class)) (inl (sym e)))
-          | inr e ↦ elim (keeps.covered q l t) as (λ _. IsHeld next q ⊎ IsListed q (free_cells next l)) [
-              | inl h ↦ inl (subst IsSome (sym (at q ∙ ap (λ b. cond b None (object_at store q)) (apart-nat_eq q cell e))) h)
-              | inr h ↦ inr (elim (cases_eq l k) as (λ _. IsListed q (free_cells next l)) [
-                  | inl same ↦ subst (λ cells. IsListed q cells) (sym (here l same)) (inr h)
-                  | inr other ↦ subst (λ cells. IsListed q cells) (sym (there l other)) h
-                ])
-            ]
+        | inl e ↦
+            let class : l ≡ k = elim (tile-apart 1 keeps.tiles (store.made_words + 1) q l cell k keeps.tiling t tile) as (λ _. l ≡ k) [
+              | inl is ↦ is.1
+              | inr (inl is) ↦ let wide = tile-within 1 keeps.tiles (store.made_words + 1) q l keeps.tiling t in absurd (omega (arith, wide.2))
+              | inr (inr is) ↦ let wide = tile-within 1 keeps.tiles (store.made_words + 1) cell k keeps.tiling tile in absurd (omega (arith, wide.2))
+            ] in
+            inr (subst (λ cells. IsListed q cells) (sym (here l class)) (inl (sym e)))
+        | inr e ↦ elim (keeps.covered q l t) as (λ _. IsHeld next q ⊎ IsListed q (free_cells next l)) [
+          | inl h ↦ inl (subst IsSome (sym (at q ∙ ap (λ b. cond b None (object_at store q)) (apart-nat_eq q cell e))) h)
+          | inr h ↦ inr (elim (cases_eq l k) as (λ _. IsListed q (free_cells next l)) [
+            | inl same ↦ subst (λ cells. IsListed q cells) (sym (here l same)) (inr h)
+            | inr other ↦ subst (λ cells. IsListed q cells) (sym (there l other)) h
+          ])
         ]
+      ];
     }
 
 -- a make: the words of its cell hold the new object, and the cell has its mark
 pub Keeps-made_by : (words words' marks marks' heads heads' : List ℕ) (store : Store) (request : Request) (cell : ℕ) (grows : Bool) (tiles' : List (ℕ × ℕ)) → (keeps : Keeps words marks heads store) → IsSound store → object_at store cell ≡ None
-  → length words' - 1 ≡ (made_by store request (Take cell grows)).made_words
-  → IsTiling 1 tiles' ((made_by store request (Take cell grows)).made_words + 1) → IsTile tiles' cell (request_size_class request)
-  → ((q l : ℕ) → IsTile keeps.tiles q l → IsTile tiles' q l) → ((q l : ℕ) → IsTile tiles' q l → IsTile keeps.tiles q l ⊎ ((cell ≡ q) × (request_size_class request ≡ l)))
-  → ((P : ℕ → Type 0) (l : ℕ) → AllByRecursion P (free_cells store l) → AllByRecursion P (free_cells (made_by store request (Take cell grows)) l))
-  → ((l : ℕ) → AllByRecursion (λ other. nat_eq cell other ≡ false) (free_cells (made_by store request (Take cell grows)) l))
-  → ((l : ℕ) → l < 64 → IsLinked words (slice_index heads' l) (free_cells (made_by store request (Take cell grows)) l))
-  → ((q l : ℕ) → q ≢ cell → IsListed q (free_cells store l) → IsListed q (free_cells (made_by store request (Take cell grows)) l))
-  → SameOutside words words' cell (request_size_class request) → object_from words' cell ≡ new_object store.births request → ((q : ℕ) → mark_in marks' q ≡ cond (nat_eq q cell) 1 (mark_in marks q))
-  → Keeps words' marks' heads' (made_by store request (Take cell grows))
+    → length words' - 1 ≡ (made_by store request (Take cell grows)).made_words
+    → IsTiling 1 tiles' ((made_by store request (Take cell grows)).made_words + 1) → IsTile tiles' cell (request_size_class request)
+    → ((q l : ℕ) → IsTile keeps.tiles q l → IsTile tiles' q l) → ((q l : ℕ) → IsTile tiles' q l → IsTile keeps.tiles q l ⊎ ((cell ≡ q) × (request_size_class request ≡ l)))
+    → ((P : ℕ → Type 0) (l : ℕ) → AllByRecursion P (free_cells store l) → AllByRecursion P (free_cells (made_by store request (Take cell grows)) l))
+    → ((l : ℕ) → AllByRecursion (λ other. nat_eq cell other ≡ false) (free_cells (made_by store request (Take cell grows)) l))
+    → ((l : ℕ) → l < 64 → IsLinked words (slice_index heads' l) (free_cells (made_by store request (Take cell grows)) l))
+    → ((q l : ℕ) → q ≢ cell → IsListed q (free_cells store l) → IsListed q (free_cells (made_by store request (Take cell grows)) l))
+    → SameOutside words words' cell (request_size_class request) → object_from words' cell ≡ new_object store.births request → ((q : ℕ) → mark_in marks' q ≡ cond (nat_eq q cell) 1 (mark_in marks q))
+    → Keeps words' marks' heads' (made_by store request (Take cell grows))
 Keeps-made_by words words' marks marks' heads heads' store request cell grows tiles' keeps sound free long tiling tile more before part gone links still same is marked =
     let k = request_size_class request in
     let next = made_by store request (Take cell grows) in
@@ -195,33 +195,33 @@ Keeps-made_by words words' marks marks' heads heads' store request cell grows ti
     let at = object_at-made_by store request cell grows in
     record {
       held = λ q. elim (cases_eq q cell) as (λ _. marked_object words' marks' q ≡ object_at next q) [
-          | inl e ↦
-              let mark : mark_in marks' cell ≡ 1 = marked cell ∙ ap (λ b. cond b 1 (mark_in marks cell)) (same-nat_eq cell) in
-              ap (marked_object words' marks') e ∙ own_held words' marks' cell object mark is ∙ sym (at q ∙ ap (λ b. cond b (Some object) (object_at store q)) (ap (λ n. nat_eq n cell) e ∙ same-nat_eq cell))
-          | inr e ↦
-              other_held words words' marks marks' heads store tiles' (next.made_words + 1) cell k q keeps sound tiling tile (more q) e (marked q ∙ ap (λ b. cond b 1 (mark_in marks q)) (apart-nat_eq q cell e)) same
-              ∙ sym (at q ∙ ap (λ b. cond b (Some object) (object_at store q)) (apart-nat_eq q cell e))
-        ];
+        | inl e ↦
+            let mark : mark_in marks' cell ≡ 1 = marked cell ∙ ap (λ b. cond b 1 (mark_in marks cell)) (same-nat_eq cell) in
+            ap (marked_object words' marks') e ∙ own_held words' marks' cell object mark is ∙ sym (at q ∙ ap (λ b. cond b (Some object) (object_at store q)) (ap (λ n. nat_eq n cell) e ∙ same-nat_eq cell))
+        | inr e ↦
+            other_held words words' marks marks' heads store tiles' (next.made_words + 1) cell k q keeps sound tiling tile (more q) e (marked q ∙ ap (λ b. cond b 1 (mark_in marks q)) (apart-nat_eq q cell e)) same
+            ∙ sym (at q ∙ ap (λ b. cond b (Some object) (object_at store q)) (apart-nat_eq q cell e))
+      ];
       words_made = long;
       tiles = tiles';
       tiling = tiling;
       held_tile = λ q o h. elim (cases_eq q cell) as (λ _. IsTile tiles' q (object_size_class o)) [
-          | inl e ↦
-              let here : Some object ≡ Some o = sym (ap (λ b. cond b (Some object) (object_at store q)) (ap (λ n. nat_eq n cell) e ∙ same-nat_eq cell)) ∙ sym (at q) ∙ h in
-              subst (λ n. IsTile tiles' n (object_size_class o)) (sym e) (subst (λ n. IsTile tiles' cell n) (sym (object_size_class-new_object store.births request) ∙ ap object_size_class (same_Some object o here)) tile)
-          | inr e ↦ more q (object_size_class o) (keeps.held_tile q o (sym (ap (λ b. cond b (Some object) (object_at store q)) (apart-nat_eq q cell e)) ∙ sym (at q) ∙ h))
-        ];
+        | inl e ↦
+            let here : Some object ≡ Some o = sym (ap (λ b. cond b (Some object) (object_at store q)) (ap (λ n. nat_eq n cell) e ∙ same-nat_eq cell)) ∙ sym (at q) ∙ h in
+            subst (λ n. IsTile tiles' n (object_size_class o)) (sym e) (subst (λ n. IsTile tiles' cell n) (sym (object_size_class-new_object store.births request) ∙ ap object_size_class (same_Some object o here)) tile)
+        | inr e ↦ more q (object_size_class o) (keeps.held_tile q o (sym (ap (λ b. cond b (Some object) (object_at store q)) (apart-nat_eq q cell e)) ∙ sym (at q) ∙ h))
+      ];
       free_tile = λ l. all-map (λ d. IsTile keeps.tiles d l) (λ d. IsTile tiles' d l) (λ d t. more d l t) (free_cells next l) (part (λ d. IsTile keeps.tiles d l) l (keeps.free_tile l));
       linked = λ l below. other_links words words' tiles' (next.made_words + 1) cell k (slice_index heads' l) l (free_cells next l) tiling tile
           (all-map (λ d. IsTile keeps.tiles d l) (λ d. IsTile tiles' d l) (λ d t. more d l t) (free_cells next l) (part (λ d. IsTile keeps.tiles d l) l (keeps.free_tile l))) (gone l) same (links l below);
       covered = λ q l t. elim (cases_eq q cell) as (λ _. IsHeld next q ⊎ IsListed q (free_cells next l)) [
-          | inl e ↦ inl (held_if (object_at next q) object (at q ∙ ap (λ b. cond b (Some object) (object_at store q)) (ap (λ n. nat_eq n cell) e ∙ same-nat_eq cell)))
-          | inr e ↦ elim (before q l t) as (λ _. IsHeld next q ⊎ IsListed q (free_cells next l)) [
-              | inl old ↦ elim (keeps.covered q l old) as (λ _. IsHeld next q ⊎ IsListed q (free_cells next l)) [
-                  | inl h ↦ inl (subst IsSome (sym (at q)) (either_held (nat_eq q cell) object (object_at store q) h))
-                  | inr h ↦ inr (still q l e h)
-                ]
-              | inr new ↦ absurd (e (sym new.0))
-            ]
+        | inl e ↦ inl (held_if (object_at next q) object (at q ∙ ap (λ b. cond b (Some object) (object_at store q)) (ap (λ n. nat_eq n cell) e ∙ same-nat_eq cell)))
+        | inr e ↦ elim (before q l t) as (λ _. IsHeld next q ⊎ IsListed q (free_cells next l)) [
+          | inl old ↦ elim (keeps.covered q l old) as (λ _. IsHeld next q ⊎ IsListed q (free_cells next l)) [
+            | inl h ↦ inl (subst IsSome (sym (at q)) (either_held (nat_eq q cell) object (object_at store q) h))
+            | inr h ↦ inr (still q l e h)
+          ]
+          | inr new ↦ absurd (e (sym new.0))
         ]
+      ];
     }

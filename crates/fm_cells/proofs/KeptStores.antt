@@ -40,17 +40,17 @@ kept-past words marks heads store keeps cell h =
 
 -- the store that the words are is the one that they keep
 pub kept-store : (words marks heads made : List ℕ) (budget limit births peak : ℕ) (store : Store) → Keeps words marks heads store → IsLastReused store → made ≡ store.made → budget ≡ store.budget → Some limit ≡ store.limit → births ≡ store.births → peak ≡ store.peak
-  → words_store words marks heads made budget limit births peak ≡ store
+    → words_store words marks heads made budget limit births peak ≡ store
 kept-store words marks heads made budget limit births peak store keeps last same_made same_budget same_limit same_births same_peak =
     let held : map_of (marked_object words marks) (length words) ≡ store.held =
-        fin.same_map nat_cmp_total fin.nat_cmp-IsAntisymmetric _ _ (λ q. get-map_of (marked_object words marks) (length words) q (kept-past words marks heads store keeps q) ∙ keeps.held q) in
+    fin.same_map nat_cmp_total fin.nat_cmp-IsAntisymmetric _ _ (λ q. get-map_of (marked_object words marks) (length words) q (kept-past words marks heads store keeps q) ∙ keeps.held q) in
     let list = λ (k : ℕ). linked_cells (slice_index made k) words (slice_index heads k) in
     let free : free_lists words heads made ≡ store.free =
-        ext_get_or [] (free_lists words heads made) store.free (length-map-range_with_len list 0 64 ∙ sym last.lists)
-          (λ k h.
-            let few : k < 64 = omega (arith, length-map-range_with_len list 0 64) in
-            get_or-map-range_with_len list 0 64 k k [] few (omega arith)
-            ∙ linked_cells-is (slice_index made k) words (slice_index heads k) (free_cells store k) (keeps.linked k few) (omega (arith, last.balance k few, ap (λ all. get_or all k 0) same_made))) in
+    ext_get_or [] (free_lists words heads made) store.free (length-map-range_with_len list 0 64 ∙ sym last.lists)
+    (λ k h.
+    let few : k < 64 = omega (arith, length-map-range_with_len list 0 64) in
+    get_or-map-range_with_len list 0 64 k k [] few (omega arith)
+    ∙ linked_cells-is (slice_index made k) words (slice_index heads k) (free_cells store k) (keeps.linked k few) (omega (arith, last.balance k few, ap (λ all. get_or all k 0) same_made))) in
     λ i. record {
       held = held i;
       budget = same_budget i;
@@ -59,5 +59,5 @@ kept-store words marks heads made budget limit births peak store keeps last same
       made_words = keeps.words_made i;
       peak = same_peak i;
       made = same_made i;
-      free = free i
+      free = free i;
     }

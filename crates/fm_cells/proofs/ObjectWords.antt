@@ -45,18 +45,18 @@ object_from-frame words words' cell n fits same =
     let identity : get_or words' cell 0 ≡ get_or words cell 0 = same cell (omega arith) (omega arith) in
     let extent : get_or words' (cell + 1) 0 ≡ get_or words (cell + 1) 0 = same (cell + 1) (omega arith) (omega arith) in
     let elements : elements_in words' (cell + 2) (pack_of (get_or words' cell 0)) (len_of (get_or words' (cell + 1) 0)) ≡ elements_in words (cell + 2) (pack_of (get_or words cell 0)) (len_of (get_or words (cell + 1) 0)) =
-        ap (λ w. elements_in words' (cell + 2) (pack_of w) (len_of (get_or words' (cell + 1) 0))) identity
-        ∙ ap (λ w. elements_in words' (cell + 2) (pack_of (get_or words cell 0)) (len_of w)) extent
-        ∙ map-range-ext (element_in words' (cell + 2) (pack_of (get_or words cell 0))) (element_in words (cell + 2) (pack_of (get_or words cell 0))) (len_of (get_or words (cell + 1) 0))
-          (λ place h. ap (λ w. digit (element_bits (pack_of (get_or words cell 0))) (place % pack_of (get_or words cell 0)) w)
-            (same (cell + 2 + place / pack_of (get_or words cell 0)) (omega arith) (omega (arith, place-in-body place (len_of (get_or words (cell + 1) 0)) (pack_of (get_or words cell 0)) (IsPack-pack_of (get_or words cell 0)) h)))) in
+    ap (λ w. elements_in words' (cell + 2) (pack_of w) (len_of (get_or words' (cell + 1) 0))) identity
+    ∙ ap (λ w. elements_in words' (cell + 2) (pack_of (get_or words cell 0)) (len_of w)) extent
+    ∙ map-range-ext (element_in words' (cell + 2) (pack_of (get_or words cell 0))) (element_in words (cell + 2) (pack_of (get_or words cell 0))) (len_of (get_or words (cell + 1) 0))
+    (λ place h. ap (λ w. digit (element_bits (pack_of (get_or words cell 0))) (place % pack_of (get_or words cell 0)) w)
+    (same (cell + 2 + place / pack_of (get_or words cell 0)) (omega arith) (omega (arith, place-in-body place (len_of (get_or words (cell + 1) 0)) (pack_of (get_or words cell 0)) (IsPack-pack_of (get_or words cell 0)) h)))) in
     λ i. record {
       class = class_of (identity i);
       birth = birth_of (identity i);
       pack = pack_of (identity i);
       fixed = is_fixed (identity i);
       chain = chain_of (extent i);
-      elements = elements i
+      elements = elements i;
     }
 
 pub zero-digit : (bits place : ℕ) → digit bits place 0 ≡ 0
@@ -64,19 +64,19 @@ zero-digit bits place = ap (λ n. n % 2 ^ bits) (zero-div (2 ^ (bits * place))) 
 
 -- header words that say what was asked for, and a body of zeros, are the object as it is made
 pub object_from-new : (words : List ℕ) (cell class birth pack len : ℕ) (fixed : Bool) → IsPack pack → class_of (get_or words cell 0) ≡ class → birth_of (get_or words cell 0) ≡ birth → pack_of (get_or words cell 0) ≡ pack → is_fixed (get_or words cell 0) ≡ fixed
-  → len_of (get_or words (cell + 1) 0) ≡ len → chain_of (get_or words (cell + 1) 0) ≡ 0 → ((k : ℕ) → cell + 2 ≤ k → k < cell + words_of len pack → get_or words k 0 ≡ 0)
-  → object_from words cell ≡ new_object birth (request_of class len pack fixed)
+    → len_of (get_or words (cell + 1) 0) ≡ len → chain_of (get_or words (cell + 1) 0) ≡ 0 → ((k : ℕ) → cell + 2 ≤ k → k < cell + words_of len pack → get_or words k 0 ≡ 0)
+    → object_from words cell ≡ new_object birth (request_of class len pack fixed)
 object_from-new words cell class birth pack len fixed is_pack is_class is_birth same_pack same_fixed is_len is_chain zeros =
     let elements : elements_in words (cell + 2) (pack_of (get_or words cell 0)) (len_of (get_or words (cell + 1) 0)) ≡ replicate len 0 =
-        ap (λ p. elements_in words (cell + 2) p (len_of (get_or words (cell + 1) 0))) same_pack
-        ∙ ap (λ n. elements_in words (cell + 2) pack n) is_len
-        ∙ ext_get_or 0 (elements_in words (cell + 2) pack len) (replicate len 0) (length-elements_in words (cell + 2) pack len ∙ sym (length-replicate {A = ℕ} len 0))
-          (λ place h.
-            let below : place < len = omega (arith, length-elements_in words (cell + 2) pack len) in
-            get_or-map-range_with_len (element_in words (cell + 2) pack) 0 len place place 0 below (omega arith)
-            ∙ ap (λ w. digit (element_bits pack) (place % pack) w) (zeros (cell + 2 + place / pack) (omega arith) (omega (arith, place-in-body place len pack is_pack below)))
-            ∙ zero-digit (element_bits pack) (place % pack)
-            ∙ sym (get_or-replicate {A = ℕ} len place 0 0 below)) in
+    ap (λ p. elements_in words (cell + 2) p (len_of (get_or words (cell + 1) 0))) same_pack
+    ∙ ap (λ n. elements_in words (cell + 2) pack n) is_len
+    ∙ ext_get_or 0 (elements_in words (cell + 2) pack len) (replicate len 0) (length-elements_in words (cell + 2) pack len ∙ sym (length-replicate {A = ℕ} len 0))
+    (λ place h.
+    let below : place < len = omega (arith, length-elements_in words (cell + 2) pack len) in
+    get_or-map-range_with_len (element_in words (cell + 2) pack) 0 len place place 0 below (omega arith)
+    ∙ ap (λ w. digit (element_bits pack) (place % pack) w) (zeros (cell + 2 + place / pack) (omega arith) (omega (arith, place-in-body place len pack is_pack below)))
+    ∙ zero-digit (element_bits pack) (place % pack)
+    ∙ sym (get_or-replicate {A = ℕ} len place 0 0 below)) in
     λ i. record { class = is_class i; birth = is_birth i; pack = same_pack i; fixed = same_fixed i; chain = is_chain i; elements = elements i }
 
 same_place : (p q pack : ℕ) → p / pack ≡ q / pack → p % pack ≡ q % pack → p ≡ q
@@ -84,7 +84,7 @@ same_place p q pack e f = sym (div-add-mod' p pack) ∙ ap (λ n. n * pack + p %
 
 -- a write of one element changes that element alone
 pub element_in-set : (words : List ℕ) (start pack place value : ℕ) (q : ℕ) → start + place / pack < length words → value < 2 ^ element_bits pack
-  → element_in (set words (start + place / pack) (with_digit (element_bits pack) (place % pack) value (get_or words (start + place / pack) 0))) start pack q ≡ cond (nat_eq q place) value (element_in words start pack q)
+    → element_in (set words (start + place / pack) (with_digit (element_bits pack) (place % pack) value (get_or words (start + place / pack) 0))) start pack q ≡ cond (nat_eq q place) value (element_in words start pack q)
 element_in-set words start pack place value q within fits =
     let at = start + place / pack in
     let word = with_digit (element_bits pack) (place % pack) value (get_or words at 0) in

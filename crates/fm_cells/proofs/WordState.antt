@@ -38,16 +38,18 @@ with_items-all v ws h = take_at ws (drop (length ws) v.items) v.len (h ∙ sym v
 
 -- fields that keep a store are that store
 pub IsWords-is : (inside : Inside) (store : Store) → Keeps inside.words.items inside.marks.items inside.heads store → IsLastReused store → inside.made ≡ store.made → inside.budget ≡ store.budget → Some inside.limit ≡ store.limit → inside.births ≡ store.births → inside.peak ≡ store.peak
-  → inside.live ≡ live_words store → inside.limit ≤ 2 ^ 32 - 2 → length inside.words.items ≤ 64 * length inside.marks.items → (word_store inside ≡ store) × IsWords inside
+    → inside.live ≡ live_words store → inside.limit ≤ 2 ^ 32 - 2 → length inside.words.items ≤ 64 * length inside.marks.items → (word_store inside ≡ store) × IsWords inside
 IsWords-is inside store keeps last same_made same_budget same_limit same_births same_peak live fits long =
-    let is : word_store inside ≡ store = kept-store inside.words.items inside.marks.items inside.heads inside.made inside.budget inside.limit inside.births inside.peak store keeps last same_made same_budget same_limit same_births same_peak in
-    (is, record {
-      last_reused = subst (λ s. IsLastReused s) (sym is) last;
-      keeps = subst (λ s. Keeps inside.words.items inside.marks.items inside.heads s) (sym is) keeps;
-      live_is = live ∙ ap live_words (sym is);
-      limit_fits = fits;
-      marks_long = long
-    })
+    let is : word_store inside ≡ store = kept-store inside.words.items inside.marks.items inside.heads inside.made inside.budget inside.limit inside.births inside.peak store keeps last same_made same_budget same_limit same_births same_peak in (
+      is,
+      record {
+        last_reused = subst (λ s. IsLastReused s) (sym is) last;
+        keeps = subst (λ s. Keeps inside.words.items inside.marks.items inside.heads s) (sym is) keeps;
+        live_is = live ∙ ap live_words (sym is);
+        limit_fits = fits;
+        marks_long = long;
+      },
+    )
 
 -- a held cell: the words hold its object, and it lies within them
 pub record IsHeldIn (inside : Inside) (cell : ℕ) (object : Object) : Type 0 where
@@ -70,7 +72,7 @@ held-in inside now cell object view words held =
       above = omega (arith, within.0);
       extent = omega (arith, within.0, within.1, within.2, words.keeps.words_made);
       fits = words-le-cell_words (object_words object) (omega (arith, object_words_bound object object_fits));
-      object_fits = object_fits
+      object_fits = object_fits;
     }
 
 -- a cell with its mark is held, and one without isn't
@@ -106,8 +108,8 @@ get_value inside now cell place view words within =
 
 -- the object after a write of one element
 object_from-set : (words : List ℕ) (cell place value : ℕ) → place < len_of (get_or words (cell + 1) 0) → cell + 2 + place / pack_of (get_or words cell 0) < length words → value < 2 ^ element_bits (pack_of (get_or words cell 0))
-  → object_from (set words (cell + 2 + place / pack_of (get_or words cell 0)) (with_digit (element_bits (pack_of (get_or words cell 0))) (place % pack_of (get_or words cell 0)) value (get_or words (cell + 2 + place / pack_of (get_or words cell 0)) 0))) cell
-      ≡ with_element (object_from words cell) place value
+    → object_from (set words (cell + 2 + place / pack_of (get_or words cell 0)) (with_digit (element_bits (pack_of (get_or words cell 0))) (place % pack_of (get_or words cell 0)) value (get_or words (cell + 2 + place / pack_of (get_or words cell 0)) 0))) cell
+    ≡ with_element (object_from words cell) place value
 object_from-set words cell place value below within fits =
     let pack = pack_of (get_or words cell 0) in
     let len = len_of (get_or words (cell + 1) 0) in
@@ -116,22 +118,22 @@ object_from-set words cell place value below within fits =
     let first : get_or words' cell 0 ≡ get_or words cell 0 = get_or-set_other words at cell (with_digit (element_bits pack) (place % pack) value (get_or words at 0)) 0 (λ e. absurd (omega arith)) in
     let second : get_or words' (cell + 1) 0 ≡ get_or words (cell + 1) 0 = get_or-set_other words at (cell + 1) (with_digit (element_bits pack) (place % pack) value (get_or words at 0)) 0 (λ e. absurd (omega arith)) in
     let body : elements_in words' (cell + 2) pack len ≡ set (elements_in words (cell + 2) pack len) place value =
-        ext_get_or 0 (elements_in words' (cell + 2) pack len) (set (elements_in words (cell + 2) pack len) place value)
-          (length-elements_in words' (cell + 2) pack len ∙ sym (length-set (elements_in words (cell + 2) pack len) place value ∙ length-elements_in words (cell + 2) pack len))
-          (λ q h.
-            let few : q < len = omega (arith, length-elements_in words' (cell + 2) pack len) in
-            get_or-map-range_with_len (element_in words' (cell + 2) pack) 0 len q q 0 few (omega arith)
-            ∙ element_in-set words (cell + 2) pack place value q within fits
-            ∙ elim (cases_eq q place) as (λ _. cond (nat_eq q place) value (element_in words (cell + 2) pack q) ≡ get_or (set (elements_in words (cell + 2) pack len) place value) q 0) [
-              | inl e ↦
-                  ap (λ b. cond b value (element_in words (cell + 2) pack q)) (ap (λ n. nat_eq n place) e ∙ same-nat_eq place)
-                  ∙ sym (ap (λ n. get_or (set (elements_in words (cell + 2) pack len) place value) n 0) e ∙ get_or-set_same (elements_in words (cell + 2) pack len) place value 0 (omega (arith, length-elements_in words (cell + 2) pack len)))
-              | inr e ↦
-                  ap (λ b. cond b value (element_in words (cell + 2) pack q)) (apart-nat_eq q place e)
-                  ∙ sym (get_or-set_other (elements_in words (cell + 2) pack len) place q value 0 e ∙ get_or-map-range_with_len (element_in words (cell + 2) pack) 0 len q q 0 few (omega arith))
-            ]) in
+    ext_get_or 0 (elements_in words' (cell + 2) pack len) (set (elements_in words (cell + 2) pack len) place value)
+    (length-elements_in words' (cell + 2) pack len ∙ sym (length-set (elements_in words (cell + 2) pack len) place value ∙ length-elements_in words (cell + 2) pack len))
+    (λ q h.
+    let few : q < len = omega (arith, length-elements_in words' (cell + 2) pack len) in
+    get_or-map-range_with_len (element_in words' (cell + 2) pack) 0 len q q 0 few (omega arith)
+    ∙ element_in-set words (cell + 2) pack place value q within fits
+    ∙ elim (cases_eq q place) as (λ _. cond (nat_eq q place) value (element_in words (cell + 2) pack q) ≡ get_or (set (elements_in words (cell + 2) pack len) place value) q 0) [
+      | inl e ↦
+          ap (λ b. cond b value (element_in words (cell + 2) pack q)) (ap (λ n. nat_eq n place) e ∙ same-nat_eq place)
+          ∙ sym (ap (λ n. get_or (set (elements_in words (cell + 2) pack len) place value) n 0) e ∙ get_or-set_same (elements_in words (cell + 2) pack len) place value 0 (omega (arith, length-elements_in words (cell + 2) pack len)))
+      | inr e ↦
+          ap (λ b. cond b value (element_in words (cell + 2) pack q)) (apart-nat_eq q place e)
+          ∙ sym (get_or-set_other (elements_in words (cell + 2) pack len) place q value 0 e ∙ get_or-map-range_with_len (element_in words (cell + 2) pack) 0 len q q 0 few (omega arith))
+    ]) in
     let elements : elements_in words' (cell + 2) (pack_of (get_or words' cell 0)) (len_of (get_or words' (cell + 1) 0)) ≡ set (elements_in words (cell + 2) pack len) place value =
-        ap (λ w. elements_in words' (cell + 2) (pack_of w) (len_of (get_or words' (cell + 1) 0))) first ∙ ap (λ w. elements_in words' (cell + 2) pack (len_of w)) second ∙ body in
+    ap (λ w. elements_in words' (cell + 2) (pack_of w) (len_of (get_or words' (cell + 1) 0))) first ∙ ap (λ w. elements_in words' (cell + 2) pack (len_of w)) second ∙ body in
     λ i. record { class = class_of (first i); birth = birth_of (first i); pack = pack_of (first i); fixed = is_fixed (first i); chain = chain_of (second i); elements = elements i }
 
 -- a write within the words of a cell leaves all others
@@ -140,23 +142,23 @@ set-outside words cell k at value low high = λ i out. get_or-set_other words at
 
 -- the fields after a put, or a change of a chain
 overwritten : (inside after : Inside) (now : Store) (cell at value : ℕ) (old object : Object) (words : Vec ℕ Global) → word_store inside ≡ now → IsWords inside → object_at now cell ≡ Some old
-  → words.items ≡ set inside.words.items at value → cell ≤ at → at < cell + class_words (object_size_class old) → object_from (set inside.words.items at value) cell ≡ object
-  → IsObject object → object.birth ≡ old.birth → object_words object ≡ object_words old → after ≡ record inside { words = words } → (word_store after ≡ with_object now cell object) × IsWords after
+    → words.items ≡ set inside.words.items at value → cell ≤ at → at < cell + class_words (object_size_class old) → object_from (set inside.words.items at value) cell ≡ object
+    → IsObject object → object.birth ≡ old.birth → object_words object ≡ object_words old → after ≡ record inside { words = words } → (word_store after ≡ with_object now cell object) × IsWords after
 overwritten inside after now cell at value old object words view kept held written low high is fits same_birth same_words changed =
     let last : IsLastReused now = subst (λ s. IsLastReused s) view kept.last_reused in
     let keeps : Keeps inside.words.items inside.marks.items inside.heads now = subst (λ s. Keeps inside.words.items inside.marks.items inside.heads s) view kept.keeps in
     let next : Keeps (set inside.words.items at value) inside.marks.items inside.heads (with_object now cell object) =
-        Keeps-with_object inside.words.items (set inside.words.items at value) inside.marks.items inside.heads now cell old object keeps last held (ap size_class same_words) (length-set inside.words.items at value) (set-outside inside.words.items cell (object_size_class old) at value low high) is in
+    Keeps-with_object inside.words.items (set inside.words.items at value) inside.marks.items inside.heads now cell old object keeps last held (ap size_class same_words) (length-set inside.words.items at value) (set-outside inside.words.items cell (object_size_class old) at value low high) is in
     let all : Keeps words.items inside.marks.items inside.heads (with_object now cell object) = subst (λ ws. Keeps ws inside.marks.items inside.heads (with_object now cell object)) (sym written) next in
     let done = IsWords-is (record inside { words = words }) (with_object now cell object) all (IsLastReused-with_object now cell old object last held fits same_birth same_words)
-      (ap (λ s. s.made) view) (ap (λ s. s.budget) view) (ap (λ s. s.limit) view) (ap (λ s. s.births) view) (ap (λ s. s.peak) view)
-      (kept.live_is ∙ ap live_words view ∙ sym (live_words-with_object now cell old object held same_words)) kept.limit_fits
-      (omega (arith, kept.marks_long, ap length written, length-set inside.words.items at value)) in
+    (ap (λ s. s.made) view) (ap (λ s. s.budget) view) (ap (λ s. s.limit) view) (ap (λ s. s.births) view) (ap (λ s. s.peak) view)
+    (kept.live_is ∙ ap live_words view ∙ sym (live_words-with_object now cell old object held same_words)) kept.limit_fits
+    (omega (arith, kept.marks_long, ap length written, length-set inside.words.items at value)) in
     (ap word_store changed ∙ done.0, subst (λ a. IsWords a) (sym changed) done.1)
 
 pub put-done : (inside after : Inside) (now : Store) (cell place value pack : ℕ) (words : Vec ℕ Global) → word_store inside ≡ now → IsWords inside → place < length (elements_at now cell) → value < 2 ^ element_bits (pack_at now cell) → pack ≡ pack_of (get_or inside.words.items cell 0)
-  → words.items ≡ set inside.words.items (cell + 2 + place / pack) (with_digit (element_bits pack) (place % pack) value (get_or inside.words.items (cell + 2 + place / pack) 0))
-  → after ≡ record inside { words = words } → (word_store after ≡ put_by now cell place value) × IsWords after
+    → words.items ≡ set inside.words.items (cell + 2 + place / pack) (with_digit (element_bits pack) (place % pack) value (get_or inside.words.items (cell + 2 + place / pack) 0))
+    → after ≡ record inside { words = words } → (word_store after ≡ put_by now cell place value) × IsWords after
 put-done inside after now cell place value pack words view kept within fits is_pack written changed =
     let found = has_object now cell place within in
     let old = found.0 in
@@ -169,12 +171,12 @@ put-done inside after now cell place value pack words view kept within fits is_p
     let small : value < 2 ^ element_bits own = subst (λ p. value < 2 ^ element_bits p) same_pack fits in
     let small' : value < 2 ^ element_bits old.pack = subst (λ p. value < 2 ^ element_bits p) (pack_at-some now cell old found.1) fits in
     let written' : words.items ≡ set ws (cell + 2 + place / own) (with_digit (element_bits own) (place % own) value (get_or ws (cell + 2 + place / own) 0)) =
-        written ∙ ap (λ p. set ws (cell + 2 + place / p) (with_digit (element_bits p) (place % p) value (get_or ws (cell + 2 + place / p) 0))) is_pack in
+    written ∙ ap (λ p. set ws (cell + 2 + place / p) (with_digit (element_bits p) (place % p) value (get_or ws (cell + 2 + place / p) 0))) is_pack in
     let body = place-in-body place (len_of (get_or ws (cell + 1) 0)) own (IsPack-pack_of (get_or ws cell 0)) below in
     let at = get_within inside now cell place view kept within in
     let size = header_words ws cell old held.words_are in
     let done = overwritten inside after now cell (cell + 2 + place / own) (with_digit (element_bits own) (place % own) value (get_or ws (cell + 2 + place / own) 0)) old (with_element old place value) words view kept found.1 written' (omega arith) (omega (arith, held.fits))
-      (object_from-set ws cell place value below at small ∙ ap (λ o. with_element o place value) held.words_are) (IsObject-with_element old place value held.object_fits small') refl (object_words-with_element old place value) changed in
+    (object_from-set ws cell place value below at small ∙ ap (λ o. with_element o place value) held.words_are) (IsObject-with_element old place value held.object_fits small') refl (object_words-with_element old place value) changed in
     (done.0 ∙ sym (put_by-some now cell place value old found.1), done.1)
 
 -- the parts of a second header word
@@ -195,14 +197,14 @@ object_from-chain words cell chain within small =
     let same_len : len_of (get_or words' (cell + 1) 0) ≡ len = ap len_of second ∙ len_of-extent_word len chain fits in
     let new_chain : chain_of (get_or words' (cell + 1) 0) ≡ chain = ap chain_of second ∙ chain_of-extent_word len chain fits small in
     let elements : elements_in words' (cell + 2) (pack_of (get_or words' cell 0)) (len_of (get_or words' (cell + 1) 0)) ≡ elements_in words (cell + 2) (pack_of (get_or words cell 0)) len =
-        ap (λ w. elements_in words' (cell + 2) (pack_of w) (len_of (get_or words' (cell + 1) 0))) first
-        ∙ ap (λ n. elements_in words' (cell + 2) (pack_of (get_or words cell 0)) n) same_len
-        ∙ map-range-ext (element_in words' (cell + 2) (pack_of (get_or words cell 0))) (element_in words (cell + 2) (pack_of (get_or words cell 0))) len
-          (λ place h. ap (λ w. digit (element_bits (pack_of (get_or words cell 0))) (place % pack_of (get_or words cell 0)) w) (get_or-set_other words (cell + 1) (cell + 2 + place / pack_of (get_or words cell 0)) (extent_word len chain) 0 (λ e. absurd (omega arith)))) in
+    ap (λ w. elements_in words' (cell + 2) (pack_of w) (len_of (get_or words' (cell + 1) 0))) first
+    ∙ ap (λ n. elements_in words' (cell + 2) (pack_of (get_or words cell 0)) n) same_len
+    ∙ map-range-ext (element_in words' (cell + 2) (pack_of (get_or words cell 0))) (element_in words (cell + 2) (pack_of (get_or words cell 0))) len
+    (λ place h. ap (λ w. digit (element_bits (pack_of (get_or words cell 0))) (place % pack_of (get_or words cell 0)) w) (get_or-set_other words (cell + 1) (cell + 2 + place / pack_of (get_or words cell 0)) (extent_word len chain) 0 (λ e. absurd (omega arith)))) in
     λ i. record { class = class_of (first i); birth = birth_of (first i); pack = pack_of (first i); fixed = is_fixed (first i); chain = new_chain i; elements = elements i }
 
 pub set_chain-done : (inside after : Inside) (now : Store) (cell chain extent : ℕ) (words : Vec ℕ Global) → word_store inside ≡ now → IsWords inside → IsSome (object_at now cell) → chain < 2 ^ 32 → extent ≡ extent_word (len_of (get_or inside.words.items (cell + 1) 0)) chain
-  → words.items ≡ set inside.words.items (cell + 1) extent → after ≡ record inside { words = words } → (word_store after ≡ chained_by now cell chain) × IsWords after
+    → words.items ≡ set inside.words.items (cell + 1) extent → after ≡ record inside { words = words } → (word_store after ≡ chained_by now cell chain) × IsWords after
 set_chain-done inside after now cell chain extent words view kept held small is written changed =
     let found = some-object (object_at now cell) held in
     let old = found.0 in
@@ -211,7 +213,7 @@ set_chain-done inside after now cell chain extent words view kept held small is 
     let own = extent_word (len_of (get_or ws (cell + 1) 0)) chain in
     let wide : 2 ≤ object_words old = omega (arith, header_words ws cell old facts.words_are) in
     let done = overwritten inside after now cell (cell + 1) own old (with_chain old chain) words view kept found.1 (written ∙ ap (set ws (cell + 1)) is) (omega arith) (omega (arith, facts.fits))
-      (object_from-chain ws cell chain (omega (arith, facts.extent, facts.fits)) small ∙ ap (λ o. with_chain o chain) facts.words_are) (IsObject-with_chain old chain facts.object_fits small) refl refl changed in
+    (object_from-chain ws cell chain (omega (arith, facts.extent, facts.fits)) small ∙ ap (λ o. with_chain o chain) facts.words_are) (IsObject-with_chain old chain facts.object_fits small) refl refl changed in
     (done.0 ∙ sym (chained_by-some now cell chain old found.1), done.1)
 
 -- the second header word lies within the words
@@ -238,8 +240,8 @@ mark_within inside now cell object view kept held =
     omega (arith, facts.extent, facts.fits, header_words inside.words.items cell object facts.words_are, kept.marks_long)
 
 pub free-done : (inside after : Inside) (now : Store) (cell k size : ℕ) (object : Object) (words marks : Vec ℕ Global) → word_store inside ≡ now → IsWords inside → object_at now cell ≡ Some object → 64 ≤ length inside.heads → k ≡ object_size_class object → size ≡ object_words object
-  → words.items ≡ set inside.words.items cell (get_or inside.heads k 0) → marks.items ≡ set inside.marks.items (cell / 64) (with_digit 1 (cell % 64) 0 (get_or inside.marks.items (cell / 64) 0))
-  → after ≡ record inside { words = words; marks = marks; heads = set inside.heads k cell; live = inside.live - size } → (word_store after ≡ without_object now cell object) × IsWords after
+    → words.items ≡ set inside.words.items cell (get_or inside.heads k 0) → marks.items ≡ set inside.marks.items (cell / 64) (with_digit 1 (cell % 64) 0 (get_or inside.marks.items (cell / 64) 0))
+    → after ≡ record inside { words = words; marks = marks; heads = set inside.heads k cell; live = inside.live - size } → (word_store after ≡ without_object now cell object) × IsWords after
 free-done inside after now cell k size object words marks view kept held room is_class is_size written marked changed =
     let facts = held-in inside now cell object view kept held in
     let ws = inside.words.items in
@@ -249,13 +251,13 @@ free-done inside after now cell k size object words marks view kept held room is
     let first : get_or words.items cell 0 ≡ get_or inside.heads (object_size_class object) 0 = ap (λ all. get_or all cell 0) written ∙ get_or-set_same ws cell (get_or inside.heads k 0) 0 (omega (arith, facts.extent, facts.fits)) ∙ ap (λ n. get_or inside.heads n 0) is_class in
     let outside : SameOutside ws words.items cell (object_size_class object) = λ i out. ap (λ all. get_or all i 0) written ∙ set-outside ws cell (object_size_class object) cell (get_or inside.heads k 0) (omega arith) (omega (arith, facts.fits)) i out in
     let next = Keeps-without_object ws words.items inside.marks.items marks.items inside.heads now cell object keeps last held room (ap length written ∙ length-set ws cell (get_or inside.heads k 0)) outside first
-      (marks-set inside.marks.items marks.items cell 0 (mark_within inside now cell object view kept held) (omega arith) marked) in
+    (marks-set inside.marks.items marks.items cell 0 (mark_within inside now cell object view kept held) (omega arith) marked) in
     let all : Keeps words.items marks.items (set inside.heads k cell) (without_object now cell object) = subst (λ n. Keeps words.items marks.items (set inside.heads n cell) (without_object now cell object)) (sym is_class) next in
     let live : inside.live ≡ live_words now = kept.live_is ∙ ap live_words view in
     let done = IsWords-is (record inside { words = words; marks = marks; heads = set inside.heads k cell; live = inside.live - size }) (without_object now cell object) all (IsLastReused-without_object now cell object last held)
-      (ap (λ s. s.made) view) (ap (λ s. s.budget) view) (ap (λ s. s.limit) view) (ap (λ s. s.births) view) (ap (λ s. s.peak) view)
-      (omega (arith, live_words-without_object now cell object held)) kept.limit_fits
-      (omega (arith, kept.marks_long, ap length written, length-set ws cell (get_or inside.heads k 0), ap length marked, length-set inside.marks.items (cell / 64) (with_digit 1 (cell % 64) 0 (get_or inside.marks.items (cell / 64) 0)))) in
+    (ap (λ s. s.made) view) (ap (λ s. s.budget) view) (ap (λ s. s.limit) view) (ap (λ s. s.births) view) (ap (λ s. s.peak) view)
+    (omega (arith, live_words-without_object now cell object held)) kept.limit_fits
+    (omega (arith, kept.marks_long, ap length written, length-set ws cell (get_or inside.heads k 0), ap length marked, length-set inside.marks.items (cell / 64) (with_digit 1 (cell % 64) 0 (get_or inside.marks.items (cell / 64) 0)))) in
     (ap word_store changed ∙ done.0, subst (λ a. IsWords a) (sym changed) done.1)
 
 -- the words of a held object are among the live words
@@ -288,7 +290,7 @@ header_class inside now cell view kept held =
 
 -- the head that was read from the words of a cell is that of its object
 pub same_head : (words : List ℕ) (cell class birth len pack : ℕ) (fixed : Bool) → class ≡ class_of (get_or words cell 0) → birth ≡ birth_of (get_or words cell 0) → len ≡ len_of (get_or words (cell + 1) 0) → pack ≡ pack_of (get_or words cell 0) → fixed ≡ is_fixed (get_or words cell 0)
-  → ◌≡◌ {A = Option Head} (Some (record { class = class; birth = birth; len = len; pack = pack; fixed = fixed })) (Some (head_of (object_from words cell)))
+    → ◌≡◌ {A = Option Head} (Some (record { class = class; birth = birth; len = len; pack = pack; fixed = fixed })) (Some (head_of (object_from words cell)))
 same_head words cell class birth len pack fixed is_class is_birth is_len is_pack same_fixed =
     let count : len ≡ length (elements_in words (cell + 2) (pack_of (get_or words cell 0)) (len_of (get_or words (cell + 1) 0))) = is_len ∙ sym (length-elements_in words (cell + 2) (pack_of (get_or words cell 0)) (len_of (get_or words (cell + 1) 0))) in
     λ i. Some (record { class = is_class i; birth = is_birth i; len = count i; pack = is_pack i; fixed = same_fixed i })
@@ -302,7 +304,7 @@ pack_is_own inside now cell place view kept within =
 
 -- the words that were counted from a header are those of its object, and so is the size class
 pub size_from : (inside : Inside) (now : Store) (cell first second len pack size : ℕ) → word_store inside ≡ now → IsWords inside → object_at now cell ≡ Some (object_from inside.words.items cell)
-  → first ≡ slice_index_or inside.words.items cell first → second ≡ slice_index_or inside.words.items (cell + 1) second → len ≡ len_of second → pack ≡ pack_of first → size ≡ words_of len pack → size ≡ object_words (object_from inside.words.items cell)
+    → first ≡ slice_index_or inside.words.items cell first → second ≡ slice_index_or inside.words.items (cell + 1) second → len ≡ len_of second → pack ≡ pack_of first → size ≡ words_of len pack → size ≡ object_words (object_from inside.words.items cell)
 size_from inside now cell first second len pack size view kept held read_first read_second is_len is_pack is =
     let some = held_if (object_at now cell) (object_from inside.words.items cell) held in
     let one = word-read inside.words cell first (first_within inside now cell view kept some) read_first in

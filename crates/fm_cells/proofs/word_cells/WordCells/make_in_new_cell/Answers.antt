@@ -63,13 +63,13 @@ bounds-self-inside-size-2 c =
 -- the fields at the end
 abbrev after : goal.After-self-6-1 → Inside
 after c = record c.self.inside {
-    words = with_items c.resize.new.self c.write_object.new.words;
-    marks = with_items c.reserve_marks.new.marks c.set_mark.new.marks;
-    made = set c.self.inside.made c.size_class-size.result (get_or c.self.inside.made c.size_class-size.result 0 + 1);
-    births = c.self.inside.births + 1;
-    live = c.self.inside.live + c.object_words-words.result;
-    peak = c.max-self-inside.result
-  }
+  words = with_items c.resize.new.self c.write_object.new.words;
+  marks = with_items c.reserve_marks.new.marks c.set_mark.new.marks;
+  made = set c.self.inside.made c.size_class-size.result (get_or c.self.inside.made c.size_class-size.result 0 + 1);
+  births = c.self.inside.births + 1;
+  live = c.self.inside.live + c.object_words-words.result;
+  peak = c.max-self-inside.result;
+}
 
 both : (c : goal.After-self-6-1) → (word_store (after c) ≡ made_by c.args.self.now (request_of c.args.class c.args.len c.args.pack c.args.fixed) (Take (c.args.self.now.made_words + 1) true)) × IsWords (after c)
 both c =
@@ -86,24 +86,24 @@ both c =
     let words_long : length c.write_object.new.words ≡ length ws = c.write_object.auto.words ∙ ap length c.as_mut_slice.ensures.value in
     let grown_long : length ws ≡ cell + class_words c.size_class-size.result = omega (arith, c.in_ok-resize.ensures.len, c.resize.new.self.ok.0, c.class_words.ensures) in
     let front : (i : ℕ) → i < cell → get_or ws i 0 ≡ get_or c.self.inside.words.items i 0 = λ i h. elim (cases_lt i c.self.inside.words.len) as (λ _. get_or ws i 0 ≡ get_or c.self.inside.words.items i 0) [
-        | inl below ↦ c.in_ok-resize.ensures.by_index.0 i 0 (omega arith) below
-        | inr past ↦ c.in_ok-resize.ensures.by_index.1 i 0 refl past (omega arith) ∙ sym (get_or_past c.self.inside.words.items i 0 (omega (arith, c.self.inside.words.ok.0)))
-      ] in
+      | inl below ↦ c.in_ok-resize.ensures.by_index.0 i 0 (omega arith) below
+      | inr past ↦ c.in_ok-resize.ensures.by_index.1 i 0 refl past (omega arith) ∙ sym (get_or_past c.self.inside.words.items i 0 (omega (arith, c.self.inside.words.ok.0)))
+    ] in
     let written : IsWritten ws c.write_object.new.words cell c.identity_word-identity.result c.extent_word.result c.object_words-words.result =
-        record {
-          first = c.write_object.ensures.first;
-          second = c.write_object.ensures.second;
-          zeros = c.write_object.ensures.zeros;
-          before = λ k h. c.write_object.ensures.before k h ∙ ap (λ all. get_or all k 0) c.as_mut_slice.ensures.value;
-          after = λ k h. c.write_object.ensures.after k h ∙ ap (λ all. get_or all k 0) c.as_mut_slice.ensures.value
-        } in
+    record {
+      first = c.write_object.ensures.first;
+      second = c.write_object.ensures.second;
+      zeros = c.write_object.ensures.zeros;
+      before = λ k h. c.write_object.ensures.before k h ∙ ap (λ all. get_or all k 0) c.as_mut_slice.ensures.value;
+      after = λ k h. c.write_object.ensures.after k h ∙ ap (λ all. get_or all k 0) c.as_mut_slice.ensures.value;
+    } in
     let items : (with_items c.resize.new.self c.write_object.new.words).items ≡ c.write_object.new.words = with_items-all c.resize.new.self c.write_object.new.words words_long in
     fresh-done c.self.inside (after c) c.args.self.now c.args.class c.args.len c.args.pack c.args.fixed cell c.identity_word-identity.result c.extent_word.result c.object_words-words.result c.size_class-size.result c.max-self-inside.result c.resize.new.self c.reserve_marks.new.marks
-      (with_items c.resize.new.self c.write_object.new.words) (with_items c.reserve_marks.new.marks c.set_mark.new.marks) c.self.view_is c.self.invariant asked c.requires.birth_fits c.requires.within c.requires.none
-      (within-passes c.self.inside c.args.self.now cell c.class_words.result request c.self.view_is is_cell room c.if-end-self.false) is_cell c.object_words-words.ensures c.size_class-size.ensures front grown_long
-      (ap length items ∙ words_long) (rewritten ws c.write_object.new.words _ cell c.identity_word-identity.result c.extent_word.result c.object_words-words.result (sym items) written)
-      (record { class_is = c.identity_word-identity.ensures.class; birth_is = c.identity_word-identity.ensures.birth; pack_is = c.identity_word-identity.ensures.pack; fixed_is = c.identity_word-identity.ensures.fixed }) c.extent_word.ensures
-      c.in_ok-reserve_marks.ensures.same (omega (arith, c.in_ok-reserve_marks.ensures.room, c.class_words.ensures)) (with_items-all c.reserve_marks.new.marks c.set_mark.new.marks marks_long ∙ marked) c.max-self-inside.ensures refl
+    (with_items c.resize.new.self c.write_object.new.words) (with_items c.reserve_marks.new.marks c.set_mark.new.marks) c.self.view_is c.self.invariant asked c.requires.birth_fits c.requires.within c.requires.none
+    (within-passes c.self.inside c.args.self.now cell c.class_words.result request c.self.view_is is_cell room c.if-end-self.false) is_cell c.object_words-words.ensures c.size_class-size.ensures front grown_long
+    (ap length items ∙ words_long) (rewritten ws c.write_object.new.words _ cell c.identity_word-identity.result c.extent_word.result c.object_words-words.result (sym items) written)
+    (record { class_is = c.identity_word-identity.ensures.class; birth_is = c.identity_word-identity.ensures.birth; pack_is = c.identity_word-identity.ensures.pack; fixed_is = c.identity_word-identity.ensures.fixed }) c.extent_word.ensures
+    c.in_ok-reserve_marks.ensures.same (omega (arith, c.in_ok-reserve_marks.ensures.room, c.class_words.ensures)) (with_items-all c.reserve_marks.new.marks c.set_mark.new.marks marks_long ∙ marked) c.max-self-inside.ensures refl
 
 pub invariant_of-self-2 : goal.invariant_of-self-2
 invariant_of-self-2 c = (both c).1

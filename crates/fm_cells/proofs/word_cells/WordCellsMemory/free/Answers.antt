@@ -70,11 +70,11 @@ overflow_sub-self c =
 -- the fields at the end
 abbrev after : goal.After-self-3-1 → Inside
 after c = record c.self.inside {
-    words = with_item c.self.inside.words c.args.cell.0 (slice_index_or c.self.inside.heads c.size_class-size.result 0);
-    marks = with_items c.self.inside.marks c.set_mark.new.marks;
-    heads = set c.self.inside.heads c.size_class-size.result c.args.cell.0;
-    live = c.self.inside.live - c.object_words-words.result
-  }
+  words = with_item c.self.inside.words c.args.cell.0 (slice_index_or c.self.inside.heads c.size_class-size.result 0);
+  marks = with_items c.self.inside.marks c.set_mark.new.marks;
+  heads = set c.self.inside.heads c.size_class-size.result c.args.cell.0;
+  live = c.self.inside.live - c.object_words-words.result;
+}
 
 both : (c : goal.After-self-3-1) → (word_store (after c) ≡ without_object c.args.self.now c.args.cell.0 (object_from c.self.inside.words.items c.args.cell.0)) × IsWords (after c)
 both c =
@@ -84,8 +84,8 @@ both c =
     let marked : c.set_mark.new.marks ≡ set c.self.inside.marks.items (c.args.cell.0 / 64) bit = c.set_mark.ensures ∙ ap (λ all. set all (c.args.cell.0 / 64) (with_digit 1 (c.args.cell.0 % 64) 0 (get_or all (c.args.cell.0 / 64) 0))) c.as_mut_slice.ensures.value in
     let long : length c.set_mark.new.marks ≡ length c.self.inside.marks.items = ap length marked ∙ length-set c.self.inside.marks.items (c.args.cell.0 / 64) bit in
     free-done c.self.inside (after c) c.args.self.now c.args.cell.0 c.size_class-size.result c.object_words-words.result (object_from c.self.inside.words.items c.args.cell.0)
-      (with_item c.self.inside.words c.args.cell.0 (slice_index_or c.self.inside.heads c.size_class-size.result 0)) (with_items c.self.inside.marks c.set_mark.new.marks) c.self.view_is c.self.invariant held (omega (arith, c.self.told.0))
-      (c.size_class-size.ensures ∙ ap size_class size) size refl (with_items-all c.self.inside.marks c.set_mark.new.marks long ∙ marked) refl
+    (with_item c.self.inside.words c.args.cell.0 (slice_index_or c.self.inside.heads c.size_class-size.result 0)) (with_items c.self.inside.marks c.set_mark.new.marks) c.self.view_is c.self.invariant held (omega (arith, c.self.told.0))
+    (c.size_class-size.ensures ∙ ap size_class size) size refl (with_items-all c.self.inside.marks c.set_mark.new.marks long ∙ marked) refl
 
 pub invariant_of-self : goal.invariant_of-self
 invariant_of-self c = (both c).1
