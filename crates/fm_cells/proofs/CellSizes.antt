@@ -1,10 +1,9 @@
 -- Size classes: the first one that has room, and how far a cell is above the words that it holds.
-use Rattle.std.proofs.Common.{◌≡◌, ℕ, zero, suc, ◌+◌, ◌-◌, ◌*◌, ◌/◌, ◌^◌, ◌<◌, ◌≤◌, Bool, true, false, refl, sym, ◌∙◌, ap, subst, arith, inl, inr}
+use Rattle.std.proofs.Common.{◌≡◌, ℕ, zero, suc, ◌+◌, ◌-◌, ◌*◌, ◌^◌, ◌<◌, ◌≤◌, true, false, refl, sym, ◌∙◌, ap, subst, arith, inl, inr}
 use Rattle.std.proofs.Math.Nat.{pow-le-pow_right}
 use Rattle.std.specs.Prelude.{nat_le, cond}
 use Rattle.std.proofs.lemmas.Bool.{leb-true, leb-false, le-leb, lt-leb, cases_lt}
-use Rattle.std.proofs.lemmas.Nat.{pow_below, pow_pos}
-use Rattle.fm_cells.specs.Sizes.{IsPack, body_words, words_of, class_words, first_class, size_class, cell_words}
+use Rattle.fm_cells.specs.Sizes.{class_words, first_class, size_class, cell_words}
 
 pow-mono : (i j : ℕ) → i ≤ j → 2 ^ i ≤ 2 ^ j
 pow-mono i j h = pow-le-pow_right (omega arith) {i = i} {j = j} h

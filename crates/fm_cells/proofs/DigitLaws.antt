@@ -1,7 +1,7 @@
 -- Groups of bits of a word: a group is what a shift and a mask leave, and a group that is set changes no other.
 use Rattle.std.proofs.Common.{◌≡◌, ◌≢◌, ℕ, zero, suc, ◌+◌, ◌-◌, ◌*◌, ◌/◌, ◌%◌, ◌^◌, ◌<◌, ◌≤◌, refl, sym, ◌∙◌, ap, subst, arith, bit_and, inl, inr}
 use Rattle.std.proofs.lemmas.Bool.{cases_lt}
-use Rattle.std.proofs.lemmas.Nat.{pow_pos, pow-add, shr-shr, mod-pow-add, and_mask, shr_high, mod_low, field_of, shl_whole, shr_split, mod_below, shr_below, mul-add-lt, one_shl}
+use Rattle.std.proofs.lemmas.Nat.{pow_pos, pow-add, shr-shr, mod-pow-add, and_mask, shr_high, mod_low, field_of, shl_whole, shr_split, mod_below, shr_below, mul-add-lt}
 use Rattle.fm_cells.specs.Sizes.{IsPack}
 use Rattle.fm_cells.specs.Words.{digit, with_digit}
 

@@ -1,17 +1,14 @@
 -- The elements, the pack and the chain of the object in a cell.
-use Rattle.std.proofs.Common.{◌≡◌, ◌≢◌, ℕ, cond, nat_eq, ◌<◌, ◌≤◌, ◌^◌, List, [], length, get_or, refl, sym, ◌∙◌, ap, subst, arith}
+use Rattle.std.proofs.Common.{◌≡◌, ◌≢◌, ℕ, cond, nat_eq, ◌<◌, ◌^◌, [], length, get_or, refl, sym, ◌∙◌, ap, subst, arith}
 use Rattle.std.specs.Prelude.{Option, Some, None, IsSome, is_some}
 use Rattle.std.specs.Option.{option_map, unwrap_or}
-use Rattle.std.proofs.lemmas.Option.{none-some}
 use Rattle.fm_cells.specs.Sizes.{element_bits}
 use Rattle.fm_cells.specs.Objects.{Object, IsObject}
 use Rattle.fm_cells.specs.Stores.{Store, object_at, elements_at, pack_at, chain_at}
 use Rattle.fm_cells.specs.Changes.{on_object, without_object, with_object, with_element, with_chain, put_by, chained_by, freed_by}
-use Rattle.std.specs.Prelude.{Result, Ok, Err}
+use Rattle.std.specs.Prelude.{Ok, Err}
 use Rattle.fm_cells.specs.Answers.{free_answer, freed_answer}
-use Rattle.fm_cells.specs.declared.answers.Freed.{Freed}
 use Rattle.fm_cells.specs.declared.answers.Freed.TheVariants.{Done, Skipped}
-use Rattle.fm_cells.specs.declared.answers.NotHeld.{NotHeld}
 use Rattle.fm_cells.proofs.Lists.{apart-nat_eq}
 use Rattle.fm_cells.specs.Soundness.{IsSound}
 

@@ -1,15 +1,14 @@
 -- The words, the marks and the heads keep the store after each call: what a call writes lies in one cell, and no other
 -- object and no list of freed cells rests on it.
-use Rattle.std.proofs.Common.{◌≡◌, ◌≢◌, ℕ, ◌+◌, ◌-◌, ◌<◌, ◌≤◌, ◌⊎◌, Bool, true, false, cond, List, [], ◌∷◌, ◌++◌, length, get_or, set, refl, sym, ◌∙◌, ap, subst, nat_eq, arith, inl, inr, get_or-set_same, get_or-set_other}
-use Rattle.std.specs.Prelude.{Option, Some, None, IsSome, is_some, slice_index}
-use Rattle.std.specs.List.{AllByRecursion, IsDistinct}
+use Rattle.std.proofs.Common.{◌≡◌, ◌≢◌, ℕ, ◌+◌, ◌-◌, ◌<◌, ◌≤◌, ◌⊎◌, Bool, true, false, cond, List, [], ◌∷◌, length, get_or, set, refl, sym, ◌∙◌, ap, subst, nat_eq, arith, inl, inr, get_or-set_same, get_or-set_other}
+use Rattle.std.specs.Prelude.{Option, Some, None, IsSome, slice_index}
+use Rattle.std.specs.List.{AllByRecursion}
 use Rattle.std.proofs.lemmas.Bool.{cases_eq, cases_Bool}
-use Rattle.std.proofs.lemmas.Bool.Decides.{nat_tests}
 use Rattle.std.proofs.lemmas.Option.{none-some, same_Some}
 use Rattle.fm_cells.specs.Sizes.{class_words}
-use Rattle.fm_cells.specs.Objects.{Object, IsObject, object_words, object_size_class, Request, IsRequest, request_size_class, request_words, new_object}
+use Rattle.fm_cells.specs.Objects.{Object, object_words, object_size_class, Request, request_size_class, new_object}
 use Rattle.fm_cells.specs.Stores.{Store, object_at, IsHeld, free_cells}
-use Rattle.fm_cells.specs.Changes.{Take, made_by, without, without_object, with_object}
+use Rattle.fm_cells.specs.Changes.{Take, made_by, without_object, with_object}
 use Rattle.fm_cells.specs.Soundness.{IsSound, IsFree, IsLastReused}
 use Rattle.fm_cells.specs.Words.{object_from, mark_in, marked_object}
 use Rattle.fm_cells.specs.Layouts.{IsTiling, IsTile, IsLinked, IsListed, Keeps}
@@ -20,7 +19,7 @@ use Rattle.fm_cells.proofs.Laws.{object_size_class-new_object, object_at-made_by
 use Rattle.fm_cells.proofs.Lists.{eq-nat_eq, all-map, all-both, apart-nat_eq, same-nat_eq}
 use Rattle.fm_cells.proofs.ObjectWords.{object_from-frame}
 use Rattle.fm_cells.proofs.Sound.{object_words_bound, object_size_class-lt, kept_object}
-use Rattle.fm_cells.proofs.Tiles.{tile-within, tile-apart, tile-more}
+use Rattle.fm_cells.proofs.Tiles.{tile-within, tile-apart}
 
 -- two lists of words agree outside the words of a cell
 abbrev pub SameOutside : List ℕ → List ℕ → ℕ → ℕ → Type 0

@@ -1,15 +1,12 @@
 -- Words, marks and heads that keep a store are that store.
-use Rattle.std.proofs.Common.{◌≡◌, ◌≢◌, ℕ, zero, suc, ◌+◌, ◌-◌, ◌<◌, ◌≤◌, Bool, true, false, cond, List, [], ◌∷◌, length, map, get_or, refl, sym, ◌∙◌, ap, subst, nat_eq, arith, inl, inr}
-use Rattle.std.specs.Prelude.{Option, Some, None, slice_index}
-use Rattle.std.specs.List.{range_with_len}
-use Rattle.std.specs.Ordering.{nat_cmp}
+use Rattle.std.proofs.Common.{◌≡◌, ℕ, zero, suc, ◌+◌, ◌<◌, ◌≤◌, cond, List, [], ◌∷◌, length, get_or, refl, sym, ◌∙◌, ap, nat_eq, arith}
+use Rattle.std.specs.Prelude.{Some, None, slice_index}
 use Rattle.std.specs.Cmp.{nat_cmp_total}
 use Rattle.std.specs.FinMap as fin
 use Rattle.std.proofs.lemmas.List.{ext_get_or}
 use Rattle.std.proofs.lemmas.List.FromFn.{length-map-range_with_len, get_or-map-range_with_len}
-use Rattle.std.proofs.lemmas.Option.{none-some}
-use Rattle.fm_cells.specs.Objects.{Object, object_size_class}
-use Rattle.fm_cells.specs.Stores.{Store, object_at, held_count, free_cells}
+use Rattle.fm_cells.specs.Objects.{object_size_class}
+use Rattle.fm_cells.specs.Stores.{Store, object_at, free_cells}
 use Rattle.fm_cells.specs.Soundness.{IsLastReused}
 use Rattle.fm_cells.specs.Tables.{map_of}
 use Rattle.fm_cells.specs.Words.{marked_object}

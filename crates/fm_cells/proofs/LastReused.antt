@@ -1,22 +1,21 @@
 -- Memory that takes the last freed cell of a size class: its choices are among those of memory that reuses cells in any
 -- way, its stores stay what they are, and of each size class as many cells are made as were held at once.
 use Rattle.std.proofs.Common.{not, ◌≡◌, ◌≢◌, ℕ, ◌+◌, ◌-◌, ◌^◌, ◌<◌, ◌≤◌, Bool, true, false, cond, List, [], ◌∷◌, length, refl, sym, ◌∙◌, ap, subst, nat_eq, arith, inl, inr, max, length-set, get_or, set, get_or-set_same, get_or-set_other, replicate}
-use Rattle.std.specs.Prelude.{Option, Some, None, IsSome, is_some, IfSome, slice_set, slice_index_or}
+use Rattle.std.specs.Prelude.{Option, Some, None, IfSome, slice_set, slice_index_or}
 use Rattle.std.specs.List.{AllByRecursion, IsDistinct}
 use Rattle.std.proofs.lemmas.List.{length-replicate, set-get_or, get_or-replicate, get_or_past}
 use Rattle.std.proofs.lemmas.Option.{none-some}
 use Rattle.std.proofs.lemmas.Bool.{cases_eq, cases_lt}
-use Rattle.std.proofs.lemmas.Bool.Decides.{nat_tests}
 use Rattle.fm_cells.specs.Sizes.{cell_words}
 use Rattle.fm_cells.specs.Objects.{Object, IsObject, object_words, object_size_class, Request, IsRequest, request_words, request_size_class, new_object}
-use Rattle.fm_cells.specs.Stores.{Store, opened, empty_lists, object_at, IsHeld, held_count, made_count, free_cells, words_needed, passes_limit}
-use Rattle.fm_cells.specs.Changes.{Take, RefuseStore, without, made_by, made_after, made_words_after, without_object, with_object}
+use Rattle.fm_cells.specs.Stores.{Store, opened, empty_lists, object_at, held_count, made_count, free_cells, words_needed, passes_limit}
+use Rattle.fm_cells.specs.Changes.{Take, RefuseStore, without, made_by, made_words_after, without_object, with_object}
 use Rattle.fm_cells.specs.Choices.{MayReuse, last_choice, last_choice_among}
 use Rattle.fm_cells.specs.Soundness.{IsSound, IsFree, SharesNoCell, IsLastReused}
 use Rattle.fm_cells.proofs.CellSizes.{words-le-cell_words}
 use Rattle.fm_cells.proofs.Held.{within_limit, zero_within_limit, not_held, held_if, nothing_held, held_after, held_before}
 use Rattle.fm_cells.proofs.Laws.{of_class, object_at-made_by, object_at-without_object, object_at-with_object, held_count-opened, held_count-made_by, held_count-without_object, held_count-with_object}
-use Rattle.fm_cells.proofs.Lists.{all-map, all-both, all-any, filter-all, nat_eq-comm, apart-nat_eq, same-nat_eq}
+use Rattle.fm_cells.proofs.Lists.{all-map, all-both, filter-all, nat_eq-comm, apart-nat_eq, same-nat_eq}
 use Rattle.fm_cells.proofs.Sound.{IsSound-opened, IsSound-made_by, IsSound-without_object, IsSound-with_object, request_size_class-lt, request_words_bound, object_size_class-lt}
 
 -- no size class of an opened store has a freed cell

@@ -17,3 +17,4 @@ pub mod Keeping
 pub mod KeptStores
 pub mod WordState
 pub mod WordMakes
+pub mod StoreCalls

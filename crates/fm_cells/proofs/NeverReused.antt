@@ -1,17 +1,13 @@
 -- Memory that is never reused: its choices are among those of memory that reuses cells in any way, and its stores stay
 -- what they are.
-use Rattle.std.proofs.Common.{◌≡◌, ℕ, ◌+◌, ◌-◌, ◌^◌, ◌<◌, ◌≤◌, Bool, true, false, cond, List, [], ◌∷◌, length, refl, sym, ◌∙◌, ap, subst, nat_eq, arith, inl, inr}
-use Rattle.std.specs.Prelude.{Option, Some, None, IsSome, is_some, IfSome, slice_set}
-use Rattle.std.specs.Option.{option_map, unwrap_or}
-use Rattle.std.specs.FinMap.{gets}
-use Rattle.std.proofs.lemmas.Option.{none-some}
-use Rattle.std.proofs.lemmas.Bool.{ltb-false, cases_eq}
-use Rattle.std.proofs.lemmas.Bool.Decides.{nat_tests}
-use Rattle.fm_cells.specs.Objects.{Object, IsObject, object_words, object_size_class, request_size_class, Request, IsRequest, new_object}
-use Rattle.fm_cells.specs.Stores.{Store, opened, no_lists, object_at, IsHeld, free_cells, words_needed, passes_limit}
+use Rattle.std.proofs.Common.{◌≡◌, ℕ, ◌+◌, ◌-◌, ◌^◌, ◌<◌, ◌≤◌, Bool, true, false, ◌∷◌, refl, sym, ap, subst, nat_eq, arith, inl, inr}
+use Rattle.std.specs.Prelude.{Option, Some, slice_set}
+use Rattle.std.proofs.lemmas.Bool.{cases_eq}
+use Rattle.fm_cells.specs.Objects.{Object, IsObject, object_words, object_size_class, request_size_class, Request, IsRequest}
+use Rattle.fm_cells.specs.Stores.{Store, opened, no_lists, object_at, free_cells, words_needed, passes_limit}
 use Rattle.fm_cells.specs.Changes.{Take, without, made_by, without_object, with_object}
 use Rattle.fm_cells.specs.Choices.{MayReuse}
-use Rattle.fm_cells.specs.Soundness.{IsSound, IsNeverReused}
+use Rattle.fm_cells.specs.Soundness.{IsNeverReused}
 use Rattle.fm_cells.proofs.Held.{within_limit, zero_within_limit, not_held, held_if, nothing_held, held_after, held_before}
 use Rattle.fm_cells.proofs.Laws.{object_at-made_by, object_at-without_object, object_at-with_object}
 use Rattle.fm_cells.proofs.Sound.{IsSound-opened, IsSound-made_by, IsSound-without_object, IsSound-with_object}

@@ -1,6 +1,5 @@
 -- The object that words hold: what it rests on, and what a write to one element changes.
-use Rattle.std.proofs.Common.{◌≡◌, ◌≢◌, ℕ, zero, suc, ◌+◌, ◌-◌, ◌*◌, ◌/◌, ◌%◌, ◌^◌, ◌<◌, ◌≤◌, Bool, true, false, cond, List, [], ◌∷◌, length, map, replicate, get_or, set, refl, sym, ◌∙◌, ap, subst, nat_eq, arith, inl, inr, get_or-set_same, get_or-set_other, zero-add}
-use Rattle.std.specs.Prelude.{Option, Some, None}
+use Rattle.std.proofs.Common.{◌≡◌, ◌≢◌, ℕ, ◌+◌, ◌*◌, ◌/◌, ◌%◌, ◌^◌, ◌<◌, ◌≤◌, Bool, cond, List, length, map, replicate, get_or, set, sym, ◌∙◌, ap, subst, nat_eq, arith, inl, inr, get_or-set_same, get_or-set_other, zero-add}
 use Rattle.std.specs.List.{range_with_len}
 use Rattle.std.proofs.lemmas.List.{ext_get_or, get_or-replicate, length-replicate}
 use Rattle.std.proofs.lemmas.List.FromFn.{fill_by_all, length-map-range_with_len, get_or-map-range_with_len}
@@ -8,9 +7,8 @@ use Rattle.std.proofs.lemmas.Bool.{cases_eq}
 use Rattle.std.proofs.Math.Nat.{zero-div, zero-mod}
 use Rattle.std.proofs.lemmas.Nat.{mod_below, div-add-mod'}
 use Rattle.fm_cells.specs.Sizes.{IsPack, element_bits, body_words, words_of}
-use Rattle.fm_cells.specs.Objects.{Object, object_words, Request, new_object, request_of}
-use Rattle.fm_cells.specs.Changes.{with_element, with_chain}
-use Rattle.fm_cells.specs.Words.{digit, with_digit, element_in, elements_in, class_of, birth_of, pack_of, is_fixed, len_of, chain_of, extent_word, object_from, mark_in}
+use Rattle.fm_cells.specs.Objects.{object_words, new_object, request_of}
+use Rattle.fm_cells.specs.Words.{digit, with_digit, element_in, elements_in, class_of, birth_of, pack_of, is_fixed, len_of, chain_of, object_from, mark_in}
 use Rattle.fm_cells.proofs.DigitLaws.{IsPack-power, digit-with_digit_same, digit-with_digit_other}
 use Rattle.fm_cells.proofs.Lists.{apart-nat_eq, same-nat_eq}
 

@@ -1,15 +1,12 @@
 -- A list of slots as a store: what is in a cell, and the store after a push and after a write.
-use Rattle.std.proofs.Common.{◌≡◌, ◌≢◌, ℕ, zero, suc, ◌+◌, ◌-◌, ◌<◌, ◌≤◌, Bool, true, false, cond, List, [], ◌∷◌, ◌++◌, length, refl, sym, ◌∙◌, ap, subst, nat_eq, arith, inl, inr, max, set, get_or, replicate, length-set, length-append, get_or-set_same, get_or-set_other}
+use Rattle.std.proofs.Common.{◌≡◌, ℕ, zero, suc, ◌+◌, ◌<◌, ◌≤◌, true, false, cond, List, [], ◌∷◌, ◌++◌, length, sym, ◌∙◌, ap, subst, nat_eq, arith, inl, inr, max, set, get_or, replicate, length-set, length-append, get_or-set_same, get_or-set_other}
 use Rattle.std.specs.Prelude.{Option, Some, None, IsSome}
 use Rattle.std.specs.Option.{option_map}
-use Rattle.std.specs.FinMap as fin
 use Rattle.std.proofs.lemmas.List.{get_or_past, get_or_append_left, get_or_at}
 use Rattle.std.proofs.lemmas.Bool.{cases_eq, cases_lt, lt-ltb, le-ltb}
-use Rattle.std.proofs.lemmas.Bool.Decides.{nat_tests}
-use Rattle.std.proofs.lemmas.Option.{none-some}
 use Rattle.fm_cells.specs.Sizes.{cell_words}
-use Rattle.fm_cells.specs.Objects.{Object, object_size_class, Request, request_words, request_size_class, new_object}
-use Rattle.fm_cells.specs.Stores.{Store, opened, no_lists, object_at, live_words, words_needed}
+use Rattle.fm_cells.specs.Objects.{Object, Request, request_words, request_size_class, new_object}
+use Rattle.fm_cells.specs.Stores.{opened, no_lists, object_at, live_words}
 use Rattle.fm_cells.specs.Changes.{Take, RefuseStore, made_by, without_object, with_object}
 use Rattle.fm_cells.specs.Choices.{never_choice}
 use Rattle.fm_cells.specs.Tables.{map_of}

@@ -1,18 +1,18 @@
 -- Every store that calls lead to is sound.
-use Rattle.std.proofs.Common.{◌≡◌, ℕ, zero, suc, ◌+◌, ◌-◌, ◌^◌, ◌<◌, ◌≤◌, Bool, true, false, cond, List, [], ◌∷◌, length, refl, sym, ◌∙◌, ap, subst, nat_eq, arith, max, length-set, inl, inr, set, get_or, replicate}
+use Rattle.std.proofs.Common.{◌≡◌, ℕ, ◌+◌, ◌-◌, ◌^◌, ◌<◌, ◌≤◌, Bool, true, false, cond, List, length, refl, sym, ◌∙◌, ap, subst, nat_eq, arith, length-set, inl, inr, set, get_or}
 use Rattle.std.specs.Prelude.{Option, Some, None}
-use Rattle.std.specs.List.{sum_by, sum, All}
+use Rattle.std.specs.List.{sum}
 use Rattle.std.specs.FinMap.{gets}
 use Rattle.std.proofs.lemmas.Option.{none-some, same_Some}
 use Rattle.std.proofs.lemmas.List.{length-replicate, get_or-replicate}
 use Rattle.std.proofs.lemmas.List.Sums.{sum_by-set}
 use Rattle.std.proofs.lemmas.List.Elements.{All-set}
-use Rattle.std.proofs.lemmas.Bool.{cases_lt, cases_eq}
+use Rattle.std.proofs.lemmas.Bool.{cases_eq}
 use Rattle.std.proofs.lemmas.Bool.Decides.{nat_tests}
 use Rattle.std.proofs.lemmas.Nat.{pow_pos}
-use Rattle.fm_cells.specs.Sizes.{IsPack, element_bits, words_of, size_class}
+use Rattle.fm_cells.specs.Sizes.{IsPack, element_bits, words_of}
 use Rattle.fm_cells.specs.Objects.{Object, IsObject, object_words, object_size_class, Request, IsRequest, request_words, request_size_class, new_object}
-use Rattle.fm_cells.specs.Stores.{Store, opened, object_at, IsHeld, live_words, held_count, made_count, free_cells, words_needed, IsOverBudget}
+use Rattle.fm_cells.specs.Stores.{Store, opened, object_at, made_count, words_needed}
 use Rattle.fm_cells.specs.Changes.{Take, made_by, made_after, without_object, with_object, with_element, with_chain}
 use Rattle.fm_cells.specs.Choices.{MayReuse}
 use Rattle.fm_cells.specs.Soundness.{IsSound}

@@ -1,5 +1,5 @@
 -- Cells that tile the words: each lies within them, no two share a word, and one more may be added at the end.
-use Rattle.std.proofs.Common.{◌≡◌, ℕ, ◌+◌, ◌<◌, ◌≤◌, List, [], ◌∷◌, ◌++◌, refl, sym, ◌∙◌, ap, subst, arith, inl, inr, ◌⊎◌}
+use Rattle.std.proofs.Common.{◌≡◌, ℕ, ◌+◌, ◌≤◌, List, [], ◌∷◌, ◌++◌, refl, sym, ◌∙◌, ap, arith, inl, inr, ◌⊎◌}
 use Rattle.fm_cells.specs.Sizes.{class_words}
 use Rattle.fm_cells.specs.Layouts.{IsTiling, IsTile}
 

@@ -1,6 +1,6 @@
 -- The store that the fields of the word cells are when they are opened and after a make.
-use Rattle.std.proofs.Common.{◌≡◌, ◌≢◌, ℕ, suc, ◌+◌, ◌-◌, ◌*◌, ◌/◌, ◌%◌, ◌^◌, ◌<◌, ◌≤◌, ◌⊎◌, Bool, true, false, cond, List, [], ◌∷◌, ◌++◌, length, get_or, set, replicate, max, refl, sym, ◌∙◌, ap, subst, nat_eq, arith, inl, inr, length-set, get_or-set_same, get_or-set_other, Global}
-use Rattle.std.specs.Prelude.{Option, Some, None, Result, Ok, Err, IfOk, OnOk, slice_index}
+use Rattle.std.proofs.Common.{◌≡◌, ◌≢◌, ℕ, ◌+◌, ◌-◌, ◌*◌, ◌/◌, ◌%◌, ◌^◌, ◌<◌, ◌≤◌, Bool, true, false, cond, List, [], ◌∷◌, ◌++◌, length, get_or, set, replicate, max, refl, sym, ◌∙◌, ap, subst, nat_eq, arith, inl, inr, length-set, get_or-set_same, get_or-set_other, Global}
+use Rattle.std.specs.Prelude.{Some, None, Result, Ok, Err, IfOk, OnOk, slice_index}
 use Rattle.std.specs.List.{AllByRecursion}
 use Rattle.std.specs.Ordering.{nat_cmp}
 use Rattle.std.specs.FinMap.{get-empty}
@@ -8,11 +8,11 @@ use Rattle.std.specs.declared.vec.Vec.{Vec}
 use Rattle.std.proofs.lemmas.List.{get_or-replicate, get_or_past}
 use Rattle.std.proofs.lemmas.Bool.{cases_eq, le-ltb}
 use Rattle.std.proofs.lemmas.Option.{none-some}
-use Rattle.fm_cells.specs.Sizes.{IsPack, words_of, class_words, cell_words, size_class}
-use Rattle.fm_cells.specs.Objects.{Object, Request, IsRequest, request_words, request_size_class, new_object, request_of}
+use Rattle.fm_cells.specs.Sizes.{words_of, class_words, cell_words, size_class}
+use Rattle.fm_cells.specs.Objects.{Request, IsRequest, request_words, request_size_class, new_object, request_of}
 use Rattle.fm_cells.specs.Stores.{Store, opened, empty_lists, object_at, live_words, words_needed, free_cells, passes_limit, made_count, held_count}
-use Rattle.fm_cells.specs.Changes.{Take, made_by, made_after}
-use Rattle.fm_cells.specs.Soundness.{IsSound, IsFree, IsLastReused}
+use Rattle.fm_cells.specs.Changes.{Take, made_by}
+use Rattle.fm_cells.specs.Soundness.{IsFree, IsLastReused}
 use Rattle.fm_cells.specs.Words.{digit, with_digit, class_of, birth_of, pack_of, is_fixed, len_of, chain_of, extent_word, object_from, mark_in, marked_object}
 use Rattle.fm_cells.specs.Choices.{IsMade, MayLast}
 use Rattle.fm_cells.specs.declared.answers.Cell.{Cell}

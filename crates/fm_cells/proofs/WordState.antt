@@ -1,23 +1,21 @@
 -- What the fields of the word cells say of a held cell, and the store that they are after each call.
-use Rattle.std.proofs.Common.{◌≡◌, ◌≢◌, ℕ, suc, ◌+◌, ◌-◌, ◌*◌, ◌/◌, ◌%◌, ◌^◌, ◌<◌, ◌≤◌, Bool, true, false, cond, List, [], ◌∷◌, ◌++◌, length, map, get_or, set, take, drop, refl, sym, ◌∙◌, ap, subst, nat_eq, arith, inl, inr, length-set, get_or-set_same, get_or-set_other, slice_set, slice_index_or, Global}
-use Rattle.std.specs.Prelude.{Option, Some, None, IsSome, is_some, slice_index}
-use Rattle.std.specs.List.{range_with_len}
+use Rattle.std.proofs.Common.{◌≡◌, ◌≢◌, ℕ, ◌+◌, ◌-◌, ◌*◌, ◌/◌, ◌%◌, ◌^◌, ◌<◌, ◌≤◌, Bool, cond, List, length, get_or, set, drop, refl, sym, ◌∙◌, ap, subst, nat_eq, arith, inl, inr, length-set, get_or-set_same, get_or-set_other, slice_index_or, Global}
+use Rattle.std.specs.Prelude.{Option, Some, None, IsSome, slice_index}
 use Rattle.std.specs.Vec.{with_items}
 use Rattle.std.specs.declared.vec.Vec.{Vec}
-use Rattle.std.proofs.lemmas.List.{get_or_default, ext_get_or, take_at, get_or_past}
-use Rattle.std.proofs.lemmas.List.FromFn.{length-map-range_with_len, get_or-map-range_with_len}
+use Rattle.std.proofs.lemmas.List.{get_or_default, ext_get_or, take_at}
+use Rattle.std.proofs.lemmas.List.FromFn.{get_or-map-range_with_len}
 use Rattle.std.proofs.lemmas.Bool.{cases_eq}
 use Rattle.std.proofs.lemmas.Nat.{shr_high, mod_low}
-use Rattle.std.proofs.lemmas.Option.{none-some}
-use Rattle.fm_cells.specs.Sizes.{IsPack, element_bits, body_words, words_of, class_words, cell_words, size_class}
-use Rattle.fm_cells.specs.Objects.{Object, IsObject, object_words, object_size_class, Request, IsRequest, request_words, request_size_class, new_object}
-use Rattle.fm_cells.specs.Stores.{Store, object_at, elements_at, pack_at, chain_at, live_words, words_needed, free_cells}
-use Rattle.fm_cells.specs.Changes.{Take, made_by, made_after, without_object, with_object, with_element, with_chain, put_by, chained_by}
+use Rattle.fm_cells.specs.Sizes.{element_bits, words_of, class_words, size_class}
+use Rattle.fm_cells.specs.Objects.{Object, IsObject, object_words, object_size_class}
+use Rattle.fm_cells.specs.Stores.{Store, object_at, elements_at, pack_at, chain_at, live_words}
+use Rattle.fm_cells.specs.Changes.{without_object, with_object, with_element, with_chain, put_by, chained_by}
 use Rattle.fm_cells.specs.Answers.{head_of}
 use Rattle.fm_cells.specs.declared.answers.Head.{Head}
-use Rattle.fm_cells.specs.Soundness.{IsSound, IsLastReused}
-use Rattle.fm_cells.specs.Words.{digit, with_digit, element_in, elements_in, class_of, birth_of, pack_of, is_fixed, len_of, chain_of, extent_word, object_from, mark_in, marked_object}
-use Rattle.fm_cells.specs.Layouts.{Keeps, words_store}
+use Rattle.fm_cells.specs.Soundness.{IsLastReused}
+use Rattle.fm_cells.specs.Words.{digit, with_digit, element_in, elements_in, class_of, birth_of, pack_of, is_fixed, len_of, chain_of, extent_word, object_from, mark_in}
+use Rattle.fm_cells.specs.Layouts.{Keeps}
 use Rattle.fm_cells.specs.WordStores.{word_store, IsWords}
 use Rattle.fm_cells.specs.declared.word_cells.WordCells.TheInside.{Inside}
 use Rattle.fm_cells.proofs.CellSizes.{words-le-cell_words}
@@ -25,8 +23,8 @@ use Rattle.fm_cells.proofs.Elements.{some-object, chain_at-some, elements_at-som
 use Rattle.fm_cells.proofs.Keeping.{SameOutside, marked-some, Keeps-with_object, Keeps-without_object}
 use Rattle.fm_cells.proofs.Held.{held_if}
 use Rattle.fm_cells.proofs.KeptStores.{kept-store}
-use Rattle.fm_cells.proofs.LastReused.{held_above, IsLastReused-with_object, IsLastReused-without_object}
-use Rattle.fm_cells.proofs.Laws.{object_words-with_element, object_words-with_chain, live_words-with_object, live_words-without_object}
+use Rattle.fm_cells.proofs.LastReused.{IsLastReused-with_object, IsLastReused-without_object}
+use Rattle.fm_cells.proofs.Laws.{object_words-with_element, live_words-with_object, live_words-without_object}
 use Rattle.fm_cells.proofs.Lists.{apart-nat_eq, same-nat_eq}
 use Rattle.fm_cells.proofs.ObjectWords.{map-range-ext, length-elements_in, place-in-body, IsPack-pack_of, object_words-object_from, element_in-set, mark_in-set}
 use Rattle.fm_cells.proofs.Sound.{object_size_class-lt, object_words_bound, IsObject-with_element, IsObject-with_chain}

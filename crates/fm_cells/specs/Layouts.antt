@@ -1,6 +1,6 @@
 -- Cells in one list of words: how freed cells are linked, how cells tile the words, and the store that it all is.
-use Rattle.std.specs.Prelude.{◌≡◌, ℕ, zero, suc, ◌+◌, ◌-◌, ◌*◌, ◌^◌, ◌<◌, ◌≤◌, ◌⊎◌, List, [], ◌∷◌, map, length, nat_eq, if◌then◌else◌, slice_index}
-use Rattle.std.specs.Prelude.{Option, Some, None}
+use Rattle.std.specs.Prelude.{◌≡◌, ℕ, zero, suc, ◌+◌, ◌-◌, ◌<◌, ◌≤◌, ◌⊎◌, List, [], ◌∷◌, map, length, nat_eq, if◌then◌else◌, slice_index}
+use Rattle.std.specs.Prelude.{Some}
 use Rattle.std.specs.List.{range_with_len, AllByRecursion}
 use Rattle.fm_cells.specs.Sizes.{class_words}
 use Rattle.fm_cells.specs.Objects.{Object, object_size_class}

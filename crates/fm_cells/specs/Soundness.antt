@@ -1,6 +1,6 @@
 -- What holds of every store that calls can lead to.
 use Rattle.std.specs.Prelude.{◌≡◌, ◌≢◌, false, ℕ, ◌+◌, ◌^◌, ◌<◌, ◌≤◌, List, [], length, nat_eq, IfSome}
-use Rattle.std.specs.Prelude.{Option, Some, None}
+use Rattle.std.specs.Prelude.{Some, None}
 use Rattle.std.specs.List.{sum, AllByRecursion, IsDistinct}
 use Rattle.fm_cells.specs.Objects.{Object, IsObject}
 use Rattle.fm_cells.specs.Stores.{Store, opened, object_at, IsHeld, live_words, held_count, made_count, free_cells}

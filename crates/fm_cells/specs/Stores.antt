@@ -1,14 +1,14 @@
 -- A store: the objects that are held in cells, with the numbers beside them. One kind of value serves for memory that
 -- is never reused and for memory that is.
-use Rattle.std.specs.Prelude.{◌≡◌, ℕ, ◌+◌, ◌<◌, Bool, false, List, [], ◌∷◌, length, replicate, max, nat_eq, nat_lt, if◌then◌else◌, IsSome, IsNone, slice_index, slice_index_or, slice_set, refl}
-use Rattle.std.specs.Prelude.{Option, Some, None}
-use Rattle.std.specs.List.{sum_by, count_by, sum, filter}
+use Rattle.std.specs.Prelude.{ℕ, ◌+◌, ◌<◌, Bool, false, List, [], replicate, nat_eq, nat_lt, IsSome, slice_index, slice_index_or, refl}
+use Rattle.std.specs.Prelude.{Option}
+use Rattle.std.specs.List.{sum_by, count_by}
 use Rattle.std.specs.Option.{unwrap_or, option_map}
 use Rattle.std.specs.Ordering.{nat_cmp}
 use Rattle.std.specs.FinMap as map
 use Rattle.std.specs.Coded.{Coded, code_by, coded×, coded_ℕ, coded_list, coded_option}
 use Rattle.fm_cells.specs.Sizes.{cell_words}
-use Rattle.fm_cells.specs.Objects.{Object, object_code, object_words, object_size_class, Request, request_words, request_size_class, new_object}
+use Rattle.fm_cells.specs.Objects.{Object, object_code, object_words, object_size_class, Request, request_words}
 
 -- held: the object in each cell that is held
 -- budget, limit: how many words may live, and how many words of cells may be made, where that is limited

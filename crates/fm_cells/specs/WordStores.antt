@@ -1,5 +1,5 @@
 -- One vector of words, seen as a store.
-use Rattle.std.specs.Prelude.{◌≡◌, ℕ, ◌-◌, ◌*◌, ◌^◌, ◌≤◌, length}
+use Rattle.std.specs.Prelude.{◌≡◌, ◌-◌, ◌*◌, ◌^◌, ◌≤◌, length}
 use Rattle.fm_cells.specs.Stores.{Store, live_words}
 use Rattle.fm_cells.specs.Soundness.{IsLastReused}
 use Rattle.fm_cells.specs.Layouts.{words_store, Keeps}

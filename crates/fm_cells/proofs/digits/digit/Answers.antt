@@ -1,4 +1,4 @@
-use Rattle.std.proofs.Common.{◌≡◌, ◌+◌, ◌*◌, ◌^◌, ◌<◌, ◌≤◌, sym, subst, arith}
+use Rattle.std.proofs.Common.{◌^◌, ◌<◌, sym, subst, arith}
 use Rattle.fm_cells.proofs.DigitLaws.{digit-is, digit-lt}
 use Rattle.fm_cells.proofs.digits.digit.Goals as goal
 

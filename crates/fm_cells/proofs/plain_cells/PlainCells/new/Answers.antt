@@ -1,4 +1,4 @@
-use Rattle.std.proofs.Common.{◌≡◌, sym, Some}
+use Rattle.std.proofs.Common.{sym, Some}
 use Rattle.fm_cells.specs.Stores.{opened, no_lists}
 use Rattle.fm_cells.proofs.Laws.{live_words-opened}
 use Rattle.fm_cells.proofs.NeverReused.{IsNeverReused-opened}

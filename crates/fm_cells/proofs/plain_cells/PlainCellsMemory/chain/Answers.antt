@@ -1,6 +1,6 @@
-use Rattle.std.proofs.Common.{◌≡◌, ap, sym, ◌∙◌, subst, Some, None}
+use Rattle.std.proofs.Common.{◌≡◌, ap, sym, subst, Some, None}
 use Rattle.std.specs.Prelude.{IsSome}
-use Rattle.std.specs.Option.{option_map, option_copied, unwrap_or}
+use Rattle.std.specs.Option.{option_map, unwrap_or}
 use Rattle.fm_cells.specs.Objects.{Object}
 use Rattle.fm_cells.specs.SlotObjects.{slot_object}
 use Rattle.fm_cells.specs.Stores.{object_at}

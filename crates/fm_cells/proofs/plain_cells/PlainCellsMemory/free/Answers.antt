@@ -1,6 +1,6 @@
 use Rattle.std.proofs.Common.{◌≡◌, ◌≢◌, ◌∙◌, sym, refl, ap, cond, Some, None, Ok, arith}
 use Rattle.fm_cells.specs.Changes.{without_object}
-use Rattle.fm_cells.specs.Objects.{Object, IsObject, object_words}
+use Rattle.fm_cells.specs.Objects.{IsObject, object_words}
 use Rattle.fm_cells.specs.Sizes.{words_of}
 use Rattle.fm_cells.specs.SlotObjects.{slot_object}
 use Rattle.fm_cells.specs.Stores.{object_at}

@@ -1,12 +1,9 @@
-use Rattle.std.proofs.Common.{◌≡◌, ◌<◌, ◌^◌, ap, sym, ◌∙◌, subst, Some, None, arith, get_or, length, List, ℕ, []}
-use Rattle.std.specs.Option.{option_map, option_copied, unwrap_or}
+use Rattle.std.proofs.Common.{◌≡◌, ◌<◌, ap, sym, ◌∙◌, Some, None, arith, get_or, length}
 use Rattle.std.proofs.lemmas.List.{get_or_default}
-use Rattle.fm_cells.specs.Objects.{Object}
 use Rattle.fm_cells.specs.SlotObjects.{slot_object}
-use Rattle.fm_cells.specs.Sizes.{element_bits}
-use Rattle.fm_cells.specs.Stores.{object_at, elements_at, pack_at}
+use Rattle.fm_cells.specs.Stores.{object_at, elements_at}
 use Rattle.fm_cells.proofs.Plain.{found_some, found_none}
-use Rattle.fm_cells.proofs.Elements.{elements_at-some, pack_at-some, elements_at-none, element-fits}
+use Rattle.fm_cells.proofs.Elements.{elements_at-some, elements_at-none, element-fits}
 use Rattle.fm_cells.proofs.plain_cells.PlainCellsMemory.get.Goals as goal
 
 pub index-requires : goal.index-requires

@@ -1,7 +1,7 @@
 use Rattle.std.proofs.Common.{◌≡◌, ap, sym, ◌∙◌, Some, None, arith, length}
-use Rattle.std.specs.Option.{option_map, option_copied}
+use Rattle.std.specs.Option.{option_map}
 use Rattle.fm_cells.specs.Answers.{head_of}
-use Rattle.fm_cells.specs.Objects.{Object, IsObject}
+use Rattle.fm_cells.specs.Objects.{IsObject}
 use Rattle.fm_cells.specs.SlotObjects.{slot_object}
 use Rattle.fm_cells.specs.Stores.{object_at}
 use Rattle.fm_cells.proofs.Elements.{fits_at}

@@ -1,6 +1,6 @@
-use Rattle.std.proofs.Common.{◌≡◌, ◌<◌, ◌≤◌, ◌-◌, ◌+◌, ◌^◌, ap, sym, refl, ◌∙◌, subst, Some, arith, max, slice_set, slice_index_or}
-use Rattle.fm_cells.specs.Sizes.{words_of, cell_words, size_class}
-use Rattle.fm_cells.specs.Objects.{request_of, Request, IsRequest, request_words, request_size_class}
+use Rattle.std.proofs.Common.{◌<◌, ◌-◌, ◌+◌, ◌^◌, ap, sym, refl, ◌∙◌, subst, arith, slice_set, slice_index_or}
+use Rattle.fm_cells.specs.Sizes.{cell_words, size_class}
+use Rattle.fm_cells.specs.Objects.{request_of, IsRequest}
 use Rattle.fm_cells.specs.Choices.{IsMade, MayNever}
 use Rattle.fm_cells.specs.Slots.{plain_store, IsPlain}
 use Rattle.fm_cells.specs.declared.plain_cells.PlainCells.TheInside.{Inside}

@@ -1,16 +1,12 @@
-use Rattle.std.proofs.Common.{◌≡◌, ◌<◌, ◌^◌, ap, sym, refl, ◌∙◌, subst, Some, None, arith, length}
+use Rattle.std.proofs.Common.{◌≡◌, ap, sym, refl, ◌∙◌, subst, Some, None, arith}
 use Rattle.std.specs.Prelude.{IsSome}
-use Rattle.std.proofs.lemmas.Option.{none-some}
 use Rattle.std.specs.Option.{option_map}
-use Rattle.std.specs.Vec.{with_item}
-use Rattle.fm_cells.specs.Sizes.{element_bits}
-use Rattle.fm_cells.specs.Changes.{chained_by, with_object, with_chain}
-use Rattle.fm_cells.specs.Objects.{Object, IsObject}
+use Rattle.fm_cells.specs.Changes.{chained_by}
+use Rattle.fm_cells.specs.Objects.{Object}
 use Rattle.fm_cells.specs.SlotObjects.{slot_object}
 use Rattle.fm_cells.specs.Slots.{plain_store, IsPlain}
-use Rattle.fm_cells.specs.Stores.{object_at, elements_at}
-use Rattle.fm_cells.proofs.Elements.{pack_at-some, elements_at-some, elements_at-none, held_of_elements, chained_by-some, fits_at}
-use Rattle.fm_cells.proofs.Held.{held_if}
+use Rattle.fm_cells.specs.Stores.{object_at}
+use Rattle.fm_cells.proofs.Elements.{chained_by-some, fits_at}
 use Rattle.fm_cells.proofs.Laws.{object_words-with_chain}
 use Rattle.fm_cells.proofs.Plain.{slot_read, overwritten}
 use Rattle.fm_cells.proofs.Sound.{IsObject-with_chain}

@@ -1,7 +1,7 @@
-use Rattle.std.proofs.Common.{◌≡◌, ◌<◌, ◌≤◌, ◌+◌, ◌-◌, ◌/◌, ◌%◌, ◌^◌, false, ap, sym, refl, ◌∙◌, get_or, set, arith, subst, length, length-set}
+use Rattle.std.proofs.Common.{◌≡◌, ◌+◌, ◌/◌, ◌%◌, false, ap, sym, refl, ◌∙◌, get_or, set, arith, length, length-set}
 use Rattle.std.specs.Vec.{with_items}
 use Rattle.fm_cells.specs.Changes.{Take, made_by}
-use Rattle.fm_cells.specs.Objects.{request_of, Request, IsRequest}
+use Rattle.fm_cells.specs.Objects.{request_of, IsRequest}
 use Rattle.fm_cells.specs.WordStores.{word_store, IsWords}
 use Rattle.fm_cells.specs.Words.{with_digit}
 use Rattle.fm_cells.specs.declared.word_cells.WordCells.TheInside.{Inside}

@@ -1,17 +1,16 @@
-use Rattle.std.proofs.Common.{◌≡◌, ℕ, ◌<◌, ◌≤◌, ◌+◌, ◌-◌, ◌*◌, ◌/◌, ◌%◌, ◌^◌, true, ap, sym, refl, ◌∙◌, get_or, set, max, arith, subst, length, length-set, inl, inr}
+use Rattle.std.proofs.Common.{◌≡◌, ℕ, ◌<◌, ◌≤◌, ◌+◌, ◌/◌, ◌%◌, ◌^◌, true, ap, sym, refl, ◌∙◌, get_or, set, max, arith, subst, length, length-set, inl, inr}
 use Rattle.std.specs.Vec.{with_items}
 use Rattle.std.proofs.lemmas.Bool.{cases_lt}
 use Rattle.std.proofs.lemmas.List.{get_or_past}
 use Rattle.fm_cells.specs.Changes.{Take, made_by}
 use Rattle.fm_cells.specs.Objects.{request_of, Request, IsRequest, request_words}
 use Rattle.fm_cells.specs.Sizes.{class_words, cell_words, size_class}
-use Rattle.fm_cells.specs.Stores.{passes_limit}
 use Rattle.fm_cells.specs.WordStores.{word_store, IsWords}
 use Rattle.fm_cells.specs.Words.{with_digit}
 use Rattle.fm_cells.specs.declared.word_cells.WordCells.TheInside.{Inside}
-use Rattle.fm_cells.proofs.CellSizes.{size_class-lt, class_words-mono, words-le-cell_words}
+use Rattle.fm_cells.proofs.CellSizes.{class_words-mono}
 use Rattle.fm_cells.proofs.Held.{at_error}
-use Rattle.fm_cells.proofs.Sound.{request_words_bound, request_size_class-lt}
+use Rattle.fm_cells.proofs.Sound.{request_size_class-lt}
 use Rattle.fm_cells.proofs.WordMakes.{IsWritten, same-marks, fresh-done, rewritten, next_cell, within-passes, request-fits}
 use Rattle.fm_cells.proofs.WordState.{with_items-all}
 use Rattle.fm_cells.proofs.word_cells.WordCells.make_in_new_cell.Goals as goal

@@ -1,16 +1,15 @@
-use Rattle.std.proofs.Common.{◌≡◌, ◌≢◌, ◌<◌, ◌≤◌, ◌+◌, ◌-◌, ◌/◌, ◌%◌, ap, sym, refl, ◌∙◌, cond, true, false, get_or, set, arith, subst, length, length-set, Some, Ok, slice_index_or}
+use Rattle.std.proofs.Common.{◌≡◌, ◌<◌, ◌-◌, ◌/◌, ◌%◌, ap, sym, refl, ◌∙◌, cond, true, false, get_or, set, arith, subst, length, length-set, Ok, slice_index_or}
 use Rattle.std.specs.Vec.{with_item, with_items}
-use Rattle.fm_cells.specs.Changes.{without_object, freed_by}
-use Rattle.fm_cells.specs.Objects.{object_words, object_size_class}
-use Rattle.fm_cells.specs.Sizes.{words_of, size_class}
-use Rattle.fm_cells.specs.Stores.{object_at}
-use Rattle.fm_cells.specs.Words.{pack_of, len_of, is_fixed, with_digit, object_from}
+use Rattle.fm_cells.specs.Changes.{without_object}
+use Rattle.fm_cells.specs.Objects.{object_words}
+use Rattle.fm_cells.specs.Sizes.{size_class}
+use Rattle.fm_cells.specs.Words.{is_fixed, with_digit, object_from}
 use Rattle.fm_cells.specs.WordStores.{word_store, IsWords}
 use Rattle.fm_cells.specs.declared.word_cells.WordCells.TheInside.{Inside}
 use Rattle.fm_cells.specs.declared.answers.Freed.TheVariants.{Done, Skipped}
 use Rattle.fm_cells.proofs.Elements.{free_answer-some, freed_by-some}
 use Rattle.fm_cells.proofs.Held.{held_if}
-use Rattle.fm_cells.proofs.WordState.{size_from, class_from, with_items-all, held-found, first_within, second_within, word-read, header_words, header_class, mark_within, marked-above, size-le-live, free-done}
+use Rattle.fm_cells.proofs.WordState.{size_from, class_from, with_items-all, held-found, first_within, second_within, word-read, mark_within, marked-above, size-le-live, free-done}
 use Rattle.fm_cells.proofs.word_cells.WordCellsMemory.free.Goals as goal
 
 pub index-identity-requires : goal.index-identity-requires

@@ -1,4 +1,4 @@
-use Rattle.std.proofs.Common.{◌≡◌, ◌<◌, ◌+◌, ◌/◌, ap, sym, ◌∙◌, get_or, arith, subst, length}
+use Rattle.std.proofs.Common.{◌≡◌, ◌<◌, ◌+◌, ◌/◌, ap, sym, ◌∙◌, get_or, subst, length}
 use Rattle.fm_cells.specs.Stores.{elements_at}
 use Rattle.fm_cells.specs.Words.{pack_of, element_in}
 use Rattle.fm_cells.proofs.Elements.{held_of_elements, element-fits}

@@ -1,10 +1,9 @@
-use Rattle.std.proofs.Common.{◌≡◌, ◌+◌, ap, sym, ◌∙◌, get_or, arith, Some}
+use Rattle.std.proofs.Common.{◌≡◌, ◌+◌, ap, sym, ◌∙◌, get_or}
 use Rattle.std.specs.Option.{option_map}
 use Rattle.fm_cells.specs.Answers.{head_of}
 use Rattle.fm_cells.specs.Stores.{object_at}
 use Rattle.fm_cells.specs.Words.{class_of, birth_of, pack_of, is_fixed, len_of, object_from}
 use Rattle.fm_cells.proofs.Held.{held_if}
-use Rattle.fm_cells.proofs.ObjectWords.{length-elements_in}
 use Rattle.fm_cells.proofs.WordState.{held-found, first_within, second_within, word-read, same_head}
 use Rattle.fm_cells.proofs.word_cells.WordCellsMemory.head.Goals as goal
 

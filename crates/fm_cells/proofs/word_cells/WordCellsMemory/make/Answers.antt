@@ -1,10 +1,8 @@
-use Rattle.std.proofs.Common.{◌≡◌, ◌≢◌, ◌<◌, ◌≤◌, ◌-◌, ◌+◌, ◌^◌, ℕ, List, [], ◌∷◌, true, false, ap, sym, refl, ◌∙◌, subst, get_or, set, max, arith, Ok, Err}
-use Rattle.fm_cells.specs.Changes.{Take, RefuseStore, made_by}
-use Rattle.fm_cells.specs.Choices.{IsMade, MayLast}
-use Rattle.fm_cells.specs.Objects.{request_of, Request, IsRequest, request_words, request_size_class}
-use Rattle.fm_cells.specs.Sizes.{words_of, size_class}
+use Rattle.std.proofs.Common.{◌≡◌, ◌<◌, ◌≤◌, ℕ, List, [], ◌∷◌, false, ap, sym, ◌∙◌, subst, get_or, set, max, arith}
+use Rattle.fm_cells.specs.Objects.{request_of, IsRequest, request_size_class}
+use Rattle.fm_cells.specs.Sizes.{size_class}
 use Rattle.fm_cells.specs.Soundness.{IsLastReused}
-use Rattle.fm_cells.specs.Stores.{Store, free_cells, words_needed, live_words, made_count, held_count, passes_limit}
+use Rattle.fm_cells.specs.Stores.{free_cells, words_needed, live_words, made_count, held_count}
 use Rattle.fm_cells.proofs.LastReused.{MayReuse-head, last_choice-head, last_choice-full, made-most_held-head}
 use Rattle.fm_cells.proofs.Sound.{request_size_class-lt}
 use Rattle.fm_cells.proofs.WordMakes.{head-none, head-some, fresh-made, fresh-most_held}

@@ -1,8 +1,7 @@
-use Rattle.std.proofs.Common.{◌≡◌, ◌<◌, ◌+◌, ◌/◌, ◌%◌, ◌^◌, ap, sym, refl, ◌∙◌, get_or, set, arith, subst, length, length-set}
+use Rattle.std.proofs.Common.{◌≡◌, ◌<◌, ◌+◌, ◌/◌, ◌%◌, ◌^◌, ap, sym, refl, ◌∙◌, get_or, set, subst, length, length-set}
 use Rattle.std.specs.Vec.{with_items}
 use Rattle.fm_cells.specs.Changes.{put_by}
 use Rattle.fm_cells.specs.Sizes.{element_bits}
-use Rattle.fm_cells.specs.Stores.{pack_at}
 use Rattle.fm_cells.specs.Words.{pack_of, with_digit}
 use Rattle.fm_cells.specs.WordStores.{word_store, IsWords}
 use Rattle.fm_cells.proofs.Elements.{held_of_elements}

@@ -1,4 +1,4 @@
-use Rattle.std.proofs.Common.{◌≡◌, ◌<◌, ◌+◌, ap, refl, ◌∙◌, get_or, arith}
+use Rattle.std.proofs.Common.{◌≡◌, ◌+◌, ap, refl, ◌∙◌, get_or, arith}
 use Rattle.std.proofs.lemmas.List.{get_or_default}
 use Rattle.std.specs.Vec.{with_item}
 use Rattle.fm_cells.specs.Changes.{chained_by}
