@@ -149,7 +149,7 @@ pushed inside after slots slot request words cell peak class plain asked fits ar
     ap plain_store is ∙ plain_of-made inside.slots.items slots.items slot request inside.budget inside.limit inside.made_words inside.peak inside.live inside.made words cell peak class are (object ∙ ap (λ n. new_object n request) len) plain.live_is is_words is_cell is_peak is_class in
     let live : after.live ≡ live_words (made_by store request (Take (store.births + 1) true)) =
     ap (λ a. a.live) is ∙ omega (arith, plain.live_is, live_words-made_by store request (store.births + 1) true may.1) in (
-      subst (λ n. IsMade MayNever store request (n + 1) (plain_store after)) (sym len) (true, choice, may, made),
+      subst (λ n. IsMade MayNever store request (n + 1) (plain_store after)) (sym len) (true, (choice, may), made),
       IsPlain-is after _ made (IsNeverReused-made_by store request never asked fits needed open_limit) live (subst (λ a. a.limit ≤ 2 ^ 32 - 2) (sym is) plain.limit_fits),
     )
 

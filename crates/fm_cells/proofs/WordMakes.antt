@@ -278,7 +278,7 @@ head-some inside now head request view kept asked is other =
 -- what a make of a new cell says, in the words of memory that takes the last freed cell
 pub fresh-made : (now new : Store) (request : Request) (r : Result Cell MakeFail) → IsLastReused now → free_cells now (request_size_class request) ≡ [] → IfOk r (λ cell. (cell.0 ≡ now.made_words + 1) × (new ≡ made_by now request (Take (now.made_words + 1) true))) → IfOk r (λ _. passes_limit now request ≡ false) → IfOk r (λ cell. IsMade MayLast now request cell.0 new)
 fresh-made now new request (Ok cell) last e made open_limit =
-    subst (λ n. IsMade MayLast now request n new) (sym made.0) (true, last_choice-fresh now request e open_limit, MayReuse-after now request true last, made.1)
+    subst (λ n. IsMade MayLast now request n new) (sym made.0) (true, (last_choice-fresh now request e open_limit, MayReuse-after now request true last), made.1)
 fresh-made now new request (Err x) last e made open_limit = tt
 
 pub fresh-most_held : (now new : Store) (request : Request) (r : Result Cell MakeFail) → IsLastReused now → IsRequest request → free_cells now (request_size_class request) ≡ [] → IfOk r (λ cell. (cell.0 ≡ now.made_words + 1) × (new ≡ made_by now request (Take (now.made_words + 1) true)))

@@ -41,7 +41,11 @@ IsFullNever store request = IsTrue (passes_limit store request)
 abbrev pub IsFullLast : Store → Request → Type 0
 IsFullLast store request = (free_cells store (request_size_class request) ≡ []) × IsTrue (passes_limit store request)
 
--- the request was met in a cell, by a choice that the memory may make, and so may memory that reuses cells in any way
+-- a choice that the memory may make, and so may memory that reuses cells in any way
+abbrev pub Chooses : (Store → Request → Choice → Type 0) → Store → Request → Choice → Type 0
+Chooses may_choose store request choice = may_choose store request choice × MayReuse store request choice
+
+-- the request was met in a cell by such a choice
 abbrev pub IsMade : (Store → Request → Choice → Type 0) → Store → Request → ℕ → Store → Type 0
 IsMade may_choose old request cell new =
-    (grows : Bool) × may_choose old request (Take cell grows) × MayReuse old request (Take cell grows) × (new ≡ made_by old request (Take cell grows))
+    (grows : Bool) × Chooses may_choose old request (Take cell grows) × (new ≡ made_by old request (Take cell grows))

@@ -9,7 +9,7 @@ ghost use Rattle.fm_cells.specs.Objects.{Request, request_of};
 ghost use Rattle.fm_cells.specs.Stores as spec;
 ghost use Rattle.fm_cells.specs.Stores.{Store, IsHeld, IsOverBudget, elements_at, pack_at, opened};
 ghost use Rattle.fm_cells.specs.Changes.{Choice, RefuseStore, freed_by, put_by, chained_by};
-ghost use Rattle.fm_cells.specs.Choices.{IsMade};
+ghost use Rattle.fm_cells.specs.Choices.{Chooses, IsMade};
 ghost use Rattle.fm_cells.specs.Answers.{head_at, free_answer};
 
 use crate::answers::{Cell, Freed, Head, MakeFail, NotHeld};
@@ -29,7 +29,7 @@ pub trait Memory {
         requires birth_fits { (store self.old).births < 2 ^ 32 - 1 }
         ensures made { IfOk result (λ cell. IsMade may_choose (store self.old) (request_of class len pack fixed) cell.0 (store self.new)) }
         ensures budget { (result ≡ Err MakeFail.Budget) ↔ IsOverBudget (store self.old) (request_of class len pack fixed) }
-        ensures full { result ≡ Err MakeFail.Store → may_choose (store self.old) (request_of class len pack fixed) RefuseStore }
+        ensures full { result ≡ Err MakeFail.Store → Chooses may_choose (store self.old) (request_of class len pack fixed) RefuseStore }
         ensures refused { OnErr result (store self.new ≡ store self.old) };
 
     /// Frees the object in a cell. Null and fixed objects are skipped. Takes no memory.

@@ -7,7 +7,7 @@ ghost use Rattle.fm_cells.specs.Sizes.{IsPack};
 ghost use Rattle.fm_cells.specs.Objects.{request_of};
 ghost use Rattle.fm_cells.specs.Stores as spec;
 ghost use Rattle.fm_cells.specs.Changes.{RefuseStore};
-ghost use Rattle.fm_cells.specs.Choices.{MayNever, IsFullNever, IsMade};
+ghost use Rattle.fm_cells.specs.Choices.{MayNever, Chooses, IsFullNever, IsMade};
 
 use crate::answers::{Cell, Freed, Head, MakeFail, NotHeld};
 use crate::memories::Memory;
@@ -106,7 +106,7 @@ impl Memory for PlainCells {
         requires birth_fits { self.old.births < 2 ^ 32 - 1 }
         ensures made { IfOk result (λ cell. IsMade MayNever self.old (request_of class len pack fixed) cell.0 self.new) }
         ensures budget { (result ≡ Err MakeFail.Budget) ↔ spec.IsOverBudget self.old (request_of class len pack fixed) }
-        ensures full { result ≡ Err MakeFail.Store → MayNever self.old (request_of class len pack fixed) RefuseStore }
+        ensures full { result ≡ Err MakeFail.Store → Chooses MayNever self.old (request_of class len pack fixed) RefuseStore }
         ensures refused { OnErr result (self.new ≡ self.old) }
 
         // The store is full exactly where the words of a new cell would pass its limit.

@@ -19,7 +19,7 @@ ghost use Rattle.fm_cells.specs.Sizes.{IsPack};
 ghost use Rattle.fm_cells.specs.Objects.{request_of, request_size_class};
 ghost use Rattle.fm_cells.specs.Stores as spec;
 ghost use Rattle.fm_cells.specs.Changes.{Take, RefuseStore, made_by};
-ghost use Rattle.fm_cells.specs.Choices.{MayLast, IsFullLast, IsMade};
+ghost use Rattle.fm_cells.specs.Choices.{MayLast, Chooses, IsFullLast, IsMade};
 
 use crate::answers::{Cell, Freed, Head, MakeFail, NotHeld};
 use crate::bodies::{element, set_element, write_object};
@@ -164,7 +164,7 @@ impl Memory for WordCells {
         requires birth_fits { self.old.births < 2 ^ 32 - 1 }
         ensures made { IfOk result (λ cell. IsMade MayLast self.old (request_of class len pack fixed) cell.0 self.new) }
         ensures budget { (result ≡ Err MakeFail.Budget) ↔ spec.IsOverBudget self.old (request_of class len pack fixed) }
-        ensures full { result ≡ Err MakeFail.Store → MayLast self.old (request_of class len pack fixed) RefuseStore }
+        ensures full { result ≡ Err MakeFail.Store → Chooses MayLast self.old (request_of class len pack fixed) RefuseStore }
         ensures refused { OnErr result (self.new ≡ self.old) }
 
         // The store is full exactly where no cell of the size class is free, and the words of a new one would pass its limit.

@@ -35,7 +35,7 @@ returns-then-head-eq0-clause-made c =
     fresh-made c.args.self.now c.make_in_new_cell.new.self (request_of c.args.class c.args.len c.args.pack c.args.fixed) c.make_in_new_cell.result last (none_free c) c.make_in_new_cell.ensures.made c.make_in_new_cell.ensures.room
 
 pub returns-then-head-eq0-clause-full : goal.returns-then-head-eq0-clause-full
-returns-then-head-eq0-clause-full c = λ full. last_choice-full c.args.self.now (request_of c.args.class c.args.len c.args.pack c.args.fixed) (none_free c) (c.make_in_new_cell.ensures.full.0 full)
+returns-then-head-eq0-clause-full c = λ full. (last_choice-full c.args.self.now (request_of c.args.class c.args.len c.args.pack c.args.fixed) (none_free c) (c.make_in_new_cell.ensures.full.0 full), c.make_in_new_cell.ensures.full.0 full)
 
 pub returns-then-head-eq0-clause-store : goal.returns-then-head-eq0-clause-store
 returns-then-head-eq0-clause-store c =
@@ -61,7 +61,7 @@ pub returns-else-head-eq0-clause-made : goal.returns-else-head-eq0-clause-made
 returns-else-head-eq0-clause-made c =
     let last : IsLastReused c.args.self.now = subst (λ s. IsLastReused s) c.self.view_is c.self.invariant.last_reused in
     let free = free_from c in
-    (false, last_choice-head c.args.self.now (request_of c.args.class c.args.len c.args.pack c.args.fixed) _ free.0 free.1, MayReuse-head c.args.self.now (request_of c.args.class c.args.len c.args.pack c.args.fixed) _ free.0 false last free.1, c.make_in_freed_cell.ensures)
+    (false, (last_choice-head c.args.self.now (request_of c.args.class c.args.len c.args.pack c.args.fixed) _ free.0 free.1, MayReuse-head c.args.self.now (request_of c.args.class c.args.len c.args.pack c.args.fixed) _ free.0 false last free.1), c.make_in_freed_cell.ensures)
 
 pub returns-else-head-eq0-clause-store : goal.returns-else-head-eq0-clause-store
 returns-else-head-eq0-clause-store c = let free = free_from c in (λ no. absurd (cc), λ both. let no : get_or c.self.inside.heads c.size_class.result 0 ∷ free.0 ≡ [] = sym free.1 ∙ both.1.0 in absurd (cc))
