@@ -1,0 +1,13 @@
+pub mod Sizes
+pub mod Objects
+pub mod Stores
+pub mod Changes
+pub mod Choices
+pub mod Soundness
+pub mod Answers
+pub mod Tables
+pub mod SlotObjects
+pub mod Slots
+pub mod Words
+pub mod Layouts
+pub mod WordStores

@@ -1,0 +1,71 @@
+-- Objects in words: two header words, and a body in which each word holds as many elements as the pack says.
+use Rattle.std.specs.Prelude.{ℕ, ◌+◌, ◌-◌, ◌*◌, ◌/◌, ◌%◌, ◌^◌, Bool, List, map, nat_eq, if◌then◌else◌, slice_index}
+use Rattle.std.specs.Prelude.{Option, Some, None}
+use Rattle.std.specs.List.{range_with_len}
+use Rattle.fm_cells.specs.Sizes.{element_bits}
+use Rattle.fm_cells.specs.Objects.{Object}
+
+-- the group of so many bits at a place of a word, the lowest first
+abbrev pub digit : ℕ → ℕ → ℕ → ℕ
+digit bits place word = word / 2 ^ (bits * place) % 2 ^ bits
+
+-- the word with another group at a place
+abbrev pub with_digit : ℕ → ℕ → ℕ → ℕ → ℕ
+with_digit bits place value word = word - digit bits place word * 2 ^ (bits * place) + value * 2 ^ (bits * place)
+
+-- the element at a place of a body that begins at a word
+abbrev pub element_in : List ℕ → ℕ → ℕ → ℕ → ℕ
+element_in words start pack place = digit (element_bits pack) (place % pack) (slice_index words (start + place / pack))
+
+-- the elements of a body
+abbrev pub elements_in : List ℕ → ℕ → ℕ → ℕ → List ℕ
+elements_in words start pack len = map (element_in words start pack) (range_with_len 0 len)
+
+-- the first header word, from its highest bits: whether the object is fixed (1 bit), the exponent of its pack (2), its
+-- birth (32) and the number of its type (28)
+abbrev pub identity_word : ℕ → ℕ → ℕ → Bool → ℕ
+identity_word class birth exponent fixed = (((if fixed then 1 else 0) * 2 ^ 2 + exponent) * 2 ^ 32 + birth) * 2 ^ 28 + class
+
+abbrev pub class_of : ℕ → ℕ
+class_of identity = identity % 2 ^ 28
+
+abbrev pub birth_of : ℕ → ℕ
+birth_of identity = identity / 2 ^ 28 % 2 ^ 32
+
+abbrev pub pack_of : ℕ → ℕ
+pack_of identity = 2 ^ (identity / 2 ^ 60 % 2 ^ 2)
+
+abbrev pub is_fixed : ℕ → Bool
+is_fixed identity = nat_eq (identity / 2 ^ 62) 1
+
+-- the second header word: the chain (32 bits) above the number of elements (31)
+abbrev pub extent_word : ℕ → ℕ → ℕ
+extent_word len chain = chain * 2 ^ 31 + len
+
+abbrev pub len_of : ℕ → ℕ
+len_of extent = extent % 2 ^ 31
+
+abbrev pub chain_of : ℕ → ℕ
+chain_of extent = extent / 2 ^ 31 % 2 ^ 32
+
+-- the object whose first header word has this index
+abbrev pub object_from : List ℕ → ℕ → Object
+object_from words cell =
+    let identity = slice_index words cell in
+    let extent = slice_index words (cell + 1) in
+    record {
+      class = class_of identity;
+      birth = birth_of identity;
+      pack = pack_of identity;
+      fixed = is_fixed identity;
+      chain = chain_of extent;
+      elements = elements_in words (cell + 2) (pack_of identity) (len_of extent);
+    }
+
+-- the bit of a word of memory, among marks that hold 64 in a word
+abbrev pub mark_in : List ℕ → ℕ → ℕ
+mark_in marks cell = digit 1 (cell % 64) (slice_index marks (cell / 64))
+
+-- the object in a cell, which is held where the first header word has a mark
+abbrev pub marked_object : List ℕ → List ℕ → ℕ → Option Object
+marked_object words marks cell = (if nat_eq (mark_in marks cell) 1 then Some (object_from words cell) else None)

@@ -1,0 +1,86 @@
+// The two header words of an object.
+//
+//     word 0    fixed (1 bit) | exponent of the pack (2) | birth (32) | type (28)
+//     word 1    chain (32) | number of elements (31)
+
+ghost use Rattle.std.specs.Prelude.{◌≡◌, ◌^◌, ◌<◌};
+ghost use Rattle.fm_cells.specs.Sizes.{IsPack};
+ghost use Rattle.fm_cells.specs.Words as spec;
+
+/// The exponent of a pack, which is a power of two.
+fn exponent(pack: u8) -> u64
+    requires { IsPack pack }
+    ensures power { 2 ^ result ≡ pack }
+    ensures small { result < 2 ^ 2 }
+{
+    match pack {
+        1 => 0,
+        2 => 1,
+        4 => 2,
+        _ => 3,
+    }
+}
+
+/// The first header word.
+pub fn identity_word(class: u32, birth: u32, pack: u8, fixed: bool) -> u64
+    requires class_fits { class < 2 ^ 28 }
+    requires pack_is { IsPack pack }
+    ensures class { spec.class_of result ≡ class }
+    ensures birth { spec.birth_of result ≡ birth }
+    ensures pack { spec.pack_of result ≡ pack }
+    ensures fixed { spec.is_fixed result ≡ fixed }
+{
+    let kind = (fixed as u64) << 2 | exponent(pack);
+    (kind << 32 | birth as u64) << 28 | class as u64
+}
+
+/// The second header word.
+pub fn extent_word(len: u32, chain: u32) -> u64
+    requires { len < 2 ^ 31 }
+    ensures { result ≡ spec.extent_word len chain }
+{
+    (chain as u64) << 31 | len as u64
+}
+
+/// The number of the type in the first header word.
+pub fn class_of(identity: u64) -> u32
+    ensures { result ≡ spec.class_of identity }
+{
+    (identity & 0xfff_ffff) as u32
+}
+
+/// The birth number in the first header word.
+pub fn birth_of(identity: u64) -> u32
+    ensures { result ≡ spec.birth_of identity }
+{
+    (identity >> 28 & 0xffff_ffff) as u32
+}
+
+/// The pack in the first header word.
+pub fn pack_of(identity: u64) -> u8
+    ensures value { result ≡ spec.pack_of identity }
+    ensures pack { IsPack result }
+{
+    1 << (identity >> 60 & 3)
+}
+
+/// Whether the first header word says that the object is fixed.
+pub fn is_fixed(identity: u64) -> bool
+    ensures { result ≡ spec.is_fixed identity }
+{
+    identity >> 62 == 1
+}
+
+/// The number of elements in the second header word.
+pub fn len_of(extent: u64) -> u32
+    ensures { result ≡ spec.len_of extent }
+{
+    (extent & 0x7fff_ffff) as u32
+}
+
+/// The chain in the second header word.
+pub fn chain_of(extent: u64) -> u32
+    ensures { result ≡ spec.chain_of extent }
+{
+    (extent >> 31 & 0xffff_ffff) as u32
+}

@@ -1,0 +1,26 @@
+// Memory for objects: cells that are never reused, and cells that serve again once they are freed.
+//
+// `Memory` has the calls of a memory, and says what each does to a store: the map from held cells to objects,
+// with the word budget, the store limit, the births and the counts of made cells beside it. `PlainCells` never
+// reuses a cell; `WordCells` keeps all cells in one vector of words, and takes the last freed cell of a size
+// class first. The layer above is written over `Memory`, and reads a store by its objects, in which the birth
+// numbers tell which objects of two runs are the same.
+#![tactic(auto)]
+
+mod answers;
+mod bodies;
+mod digits;
+mod headers;
+mod marks;
+mod memories;
+mod plain_cells;
+mod sizes;
+#[cfg(test)]
+mod tests;
+mod word_cells;
+
+pub use answers::{Cell, Freed, Head, MakeFail, NotHeld};
+pub use memories::Memory;
+pub use plain_cells::PlainCells;
+pub use sizes::{cell_words, size_class};
+pub use word_cells::WordCells;

@@ -1,0 +1,49 @@
+// The words of cells, and the size classes that cells are made in.
+
+ghost use Rattle.std.specs.Prelude.{◌≡◌, ◌^◌, ◌<◌};
+ghost use Rattle.fm_cells.specs.Sizes as spec;
+
+/// The size class of so many words: up to 32 it is the number of words, and above it is 27 and the
+/// exponent of the least power of two that isn't below it. Takes no memory.
+pub fn size_class(words: u32) -> u8
+    ensures { result ≡ spec.size_class words }
+{
+    if words <= 32 {
+        return words as u8;
+    }
+    let mut class = 33;
+    let mut cell: u64 = 64;
+    while cell < words as u64 {
+        cell *= 2;
+        class += 1;
+    }
+    class
+}
+
+/// The words of a cell of a size class, of which there are 64. Takes no memory.
+pub fn class_words(class: u8) -> u64
+    requires { class < 64 }
+    ensures { result ≡ spec.class_words class }
+{
+    if class <= 32 {
+        class as u64
+    } else {
+        1 << (class - 27)
+    }
+}
+
+/// The words of the cell that holds so many words. Takes no memory.
+pub fn cell_words(words: u32) -> u64
+    ensures { result ≡ spec.cell_words words }
+{
+    class_words(size_class(words))
+}
+
+/// The words of an object of so many elements, where a word holds `pack` of them. Takes no memory.
+pub fn object_words(len: u32, pack: u8) -> u32
+    requires len_fits { len < 2 ^ 31 }
+    requires pack_is { spec.IsPack pack }
+    ensures { result ≡ spec.words_of len pack }
+{
+    2 + (len + (pack as u32 - 1)) / pack as u32
+}
