@@ -187,7 +187,7 @@ example_first_form = record {
       not_abstract = refl;
       name = refl;
       descriptor = inl is_main;
-      attributes = record { handlers = refl; attributes = refl; opcodes = (refl, tt) };
+      attributes = record { handlers = refl; attributes = refl; opcodes = (refl, tt); operands = (tt, tt) };
     },
     tt,
   );

@@ -1,7 +1,7 @@
--- The records that are read so far: one class with static methods over ints, without branches, calls or constants of the pool.
-use Rattle.std.specs.Prelude.{◌≡◌, ℕ, ◌<◌, ◌==◌, ◌||◌, ◌&&◌, ◌⊎◌, not, Bool, true, false, List, [], ◌∷◌, codes, Some, IsSomeAnd, Contains, if◌then◌else◌, slice_index}
+-- The records that are read so far: one class with static methods over ints and longs, which call one another and print ints.
+use Rattle.std.specs.Prelude.{◌≡◌, ℕ, ◌<◌, ◌==◌, ◌||◌, ◌&&◌, ◌⊎◌, not, Bool, true, false, List, [], ◌∷◌, codes, Some, IsSomeAnd, Contains, if◌then◌else◌, slice_index, Option, None, option_and_then}
 use Rattle.std.specs.List.{list_all, list_any, AllByRecursion}
-use Rattle.fm_code.specs.Rules.{utf8_at, class_name_at, is_static, is_native, is_abstract}
+use Rattle.fm_code.specs.Rules.{entry_at, utf8_at, class_name_at, named_and_typed_at, is_static, is_native, is_abstract}
 use Rattle.fm_code.specs.declared.constant_pool.Entry.{Entry}
 use Rattle.fm_code.specs.declared.constant_pool.Entry.TheVariants as entry
 use Rattle.fm_code.specs.declared.class_file.ClassDef.{ClassDef}
@@ -10,24 +10,31 @@ use Rattle.fm_code.specs.declared.class_file.MemberAttr.{MemberAttr}
 use Rattle.fm_code.specs.declared.class_file.MemberAttr.TheVariants as attribute
 use Rattle.fm_code.specs.declared.code_array.Code.{Code}
 use Rattle.fm_code.specs.declared.code_array.Item.{Item}
+use Rattle.fm_code.specs.declared.instructions.Insn.{Insn}
+use Rattle.fm_code.specs.declared.instructions.Insn.TheVariants as insn
 
--- texts of the bytes from 1 to 127, and classes; the index 0 has nothing
+-- texts of the bytes from 1 to 127, ints, longs, classes and members of classes; the index 0 and those behind a long have nothing
 abbrev pub IsFirstEntry : Entry → Type 0
 IsFirstEntry (entry.Utf8 name) = AllByRecursion (λ b. (0 < b) × (b < 128)) name
+IsFirstEntry (entry.Integer value) = Unit {0}
+IsFirstEntry (entry.Long value) = Unit {0}
 IsFirstEntry (entry.Class name) = Unit {0}
+IsFirstEntry (entry.Field class member) = Unit {0}
+IsFirstEntry (entry.Method class member) = Unit {0}
+IsFirstEntry (entry.NameAndType name descriptor) = Unit {0}
 IsFirstEntry entry.Second = Unit {0}
 IsFirstEntry e = ⊥
 
--- ints alone between ( and ), and then an int or nothing
-abbrev pub is_int_descriptor : List ℕ → Bool
-is_int_descriptor [] = false
-is_int_descriptor (c ∷ rest) = (c == 40) && ints_and_result rest where
-  ints_and_result : List ℕ → Bool
-  ints_and_result [] = false
-  ints_and_result (d ∷ ds) = if d == 73 then ints_and_result ds else (d == 41) && is_result ds where
+-- ints and longs alone between ( and ), and then an int, a long or nothing
+abbrev pub is_number_descriptor : List ℕ → Bool
+is_number_descriptor [] = false
+is_number_descriptor (c ∷ rest) = (c == 40) && numbers_and_result rest where
+  numbers_and_result : List ℕ → Bool
+  numbers_and_result [] = false
+  numbers_and_result (d ∷ ds) = if (d == 73) || (d == 74) then numbers_and_result ds else (d == 41) && is_result ds where
     is_result : List ℕ → Bool
     is_result [] = false
-    is_result (r ∷ []) = (r == 73) || (r == 86)
+    is_result (r ∷ []) = (r == 73) || (r == 74) || (r == 86)
     is_result (r ∷ s ∷ more) = false
 
 -- main([Ljava/lang/String;)V
@@ -35,33 +42,89 @@ pub record IsMain (entries : List Entry) (m : Member) : Type 0 where
   pub name : utf8_at entries m.name ≡ Some (codes "main")
   pub descriptor : utf8_at entries m.descriptor ≡ Some (codes "([Ljava/lang/String;)V")
 
--- nop, iconst, bipush, sipush, iload, istore, pop, dup, the operations on ints without a division, iinc, the conversions of ints, ireturn, return
+-- the class, the name and the descriptor of a member
+pub record MemberName : Type 0 where
+  pub class : List ℕ
+  pub name : List ℕ
+  pub descriptor : List ℕ
+
+abbrev pub member_of : List Entry → ℕ → ℕ → Option MemberName
+member_of entries class member =
+    option_and_then (λ c. option_and_then (λ pair. Some (record { class = c; name = pair.0; descriptor = pair.1 })) (named_and_typed_at entries member)) (class_name_at entries class)
+
+-- the field at an index, or the method
+abbrev pub field_at : List Entry → ℕ → Option MemberName
+field_at entries index = of_field (entry_at entries index) where
+  of_field : Entry → Option MemberName
+  of_field (entry.Field class member) = member_of entries class member
+  of_field e = None
+
+abbrev pub method_at : List Entry → ℕ → Option MemberName
+method_at entries index = of_method (entry_at entries index) where
+  of_method : Entry → Option MemberName
+  of_method (entry.Method class member) = member_of entries class member
+  of_method e = None
+
+-- System.out, and its println of an int
+abbrev pub system_out : MemberName
+system_out = record { class = codes "java/lang/System"; name = codes "out"; descriptor = codes "Ljava/io/PrintStream;" }
+
+abbrev pub println_int : MemberName
+println_int = record { class = codes "java/io/PrintStream"; name = codes "println"; descriptor = codes "(I)V" }
+
+-- the constant of ldc is an int, and that of ldc2_w a long
+abbrev pub IsConstantOf : Bool → Entry → Type 0
+IsConstantOf false (entry.Integer value) = Unit {0}
+IsConstantOf true (entry.Long value) = Unit {0}
+IsConstantOf wide e = ⊥
+
+-- the class declares the method: one of its methods has this name and this descriptor
+abbrev pub Declares : ClassDef → MemberName → Type 0
+Declares c method =
+    (class_name_at c.pool.entries c.this_class ≡ Some method.class)
+    × ((m : Member) × (Contains c.methods m × ((utf8_at c.pool.entries m.name ≡ Some method.name) × (utf8_at c.pool.entries m.descriptor ≡ Some method.descriptor))))
+
+-- nop, the constants, the loads, stores and stack moves of numbers, their arithmetic, conversions and comparison, jumps, returns, and
+-- ldc, ldc2_w, getstatic, invokevirtual and invokestatic, whose operands are asked for besides
 abbrev pub first_opcodes : List ℕ
 first_opcodes =
-    0 ∷ 2 ∷ 3 ∷ 4 ∷ 5 ∷ 6 ∷ 7 ∷ 8 ∷ 16 ∷ 17 ∷ 21 ∷ 26 ∷ 27 ∷ 28 ∷ 29 ∷ 54 ∷ 59 ∷ 60 ∷ 61 ∷ 62 ∷ 87 ∷ 89 ∷ 96 ∷ 100 ∷ 104 ∷ 116 ∷ 120 ∷ 122 ∷ 124
-    ∷ 126 ∷ 128 ∷ 130 ∷ 132 ∷ 145 ∷ 146 ∷ 147 ∷ 172 ∷ 177 ∷ []
+    0 ∷ 2 ∷ 3 ∷ 4 ∷ 5 ∷ 6 ∷ 7 ∷ 8 ∷ 9 ∷ 10 ∷ 16 ∷ 17 ∷ 18 ∷ 20 ∷ 21 ∷ 22 ∷ 26 ∷ 27 ∷ 28 ∷ 29 ∷ 30 ∷ 31 ∷ 32 ∷ 33 ∷ 54 ∷ 55 ∷ 59 ∷ 60 ∷ 61 ∷ 62 ∷ 63 ∷ 64 ∷ 65 ∷ 66
+    ∷ 87 ∷ 89 ∷ 96 ∷ 97 ∷ 100 ∷ 101 ∷ 104 ∷ 105 ∷ 108 ∷ 109 ∷ 112 ∷ 113 ∷ 116 ∷ 117 ∷ 120 ∷ 121 ∷ 122 ∷ 123 ∷ 124 ∷ 125 ∷ 126 ∷ 127 ∷ 128 ∷ 129 ∷ 130 ∷ 131 ∷ 132 ∷ 133 ∷ 136
+    ∷ 145 ∷ 146 ∷ 147 ∷ 148 ∷ 153 ∷ 154 ∷ 155 ∷ 156 ∷ 157 ∷ 158 ∷ 159 ∷ 160 ∷ 161 ∷ 162 ∷ 163 ∷ 164 ∷ 167 ∷ 172 ∷ 173 ∷ 177 ∷ 178 ∷ 182 ∷ 184 ∷ []
 
 abbrev pub opcode_of : Item → ℕ
 opcode_of item = slice_index item.bytes 0
 
-pub record IsFirstCode (code : Code) : Type 0 where
+-- ldc of an int, ldc2_w of a long, getstatic of System.out, invokevirtual of println(I)V, and invokestatic of a method that the class
+-- declares; other instructions name nothing in the pool
+abbrev pub IsFirstOperand : ClassDef → Item → Type 0
+IsFirstOperand c item = asked item.insn where
+  asked : Insn → Type 0
+  asked (insn.LoadPool index) = IsConstantOf (opcode_of item == 20) (entry_at c.pool.entries index)
+  asked (insn.GetStatic index) = field_at c.pool.entries index ≡ Some system_out
+  asked (insn.Virtual index) = method_at c.pool.entries index ≡ Some println_int
+  asked (insn.Static index) = IsSomeAnd (method_at c.pool.entries index) (Declares c)
+  asked i = Unit {0}
+
+pub record IsFirstCode (c : ClassDef) (code : Code) : Type 0 where
   pub handlers : code.handlers ≡ []
   pub attributes : code.attributes ≡ []
   pub opcodes : AllByRecursion (λ item. list_any (λ opcode. opcode == opcode_of item) first_opcodes ≡ true) code.items
+  pub operands : AllByRecursion (IsFirstOperand c) code.items
 
 -- one Code, and no other attribute
-abbrev pub AreFirstAttributes : List MemberAttr → Type 0
-AreFirstAttributes (attribute.Coded name code ∷ []) = IsFirstCode code
-AreFirstAttributes attributes = ⊥
+abbrev pub AreFirstAttributes : ClassDef → List MemberAttr → Type 0
+AreFirstAttributes c (attribute.Coded name code ∷ []) = IsFirstCode c code
+AreFirstAttributes c attributes = ⊥
 
-pub record IsFirstMethod (entries : List Entry) (m : Member) : Type 0 where
+pub record IsFirstMethod (c : ClassDef) (m : Member) : Type 0 where
   pub static : is_static m.flags ≡ true
   pub not_native : is_native m.flags ≡ false
   pub not_abstract : is_abstract m.flags ≡ false
   -- no < in its name
-  pub name : IsSomeAnd (utf8_at entries m.name) (λ name. list_all (λ c. not (c == 60)) name ≡ true)
-  pub descriptor : IsMain entries m ⊎ IsSomeAnd (utf8_at entries m.descriptor) (λ descriptor. is_int_descriptor descriptor ≡ true)
-  pub attributes : AreFirstAttributes m.attributes
+  pub name : IsSomeAnd (utf8_at c.pool.entries m.name) (λ name. list_all (λ c. not (c == 60)) name ≡ true)
+  pub descriptor : IsMain c.pool.entries m ⊎ IsSomeAnd (utf8_at c.pool.entries m.descriptor) (λ descriptor. is_number_descriptor descriptor ≡ true)
+  pub attributes : AreFirstAttributes c m.attributes
 
 pub record IsFirstForm (c : ClassDef) : Type 0 where
   pub minor : c.minor ≡ 0
@@ -70,7 +133,7 @@ pub record IsFirstForm (c : ClassDef) : Type 0 where
   pub superclass : class_name_at c.pool.entries c.super_class ≡ Some (codes "java/lang/Object")
   pub interfaces : c.interfaces ≡ []
   pub fields : c.fields ≡ []
-  pub methods : AllByRecursion (IsFirstMethod c.pool.entries) c.methods
+  pub methods : AllByRecursion (IsFirstMethod c) c.methods
   pub attributes : c.attributes ≡ []
 
 -- the class's own name

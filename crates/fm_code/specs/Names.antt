@@ -65,6 +65,9 @@ base_descriptor (object name) = 76 ∷ (name ++ 59 ∷ [])
 abbrev pub field_descriptor : FieldType → List ℕ
 field_descriptor t = replicate t.dimensions 91 ++ base_descriptor t.base
 
+abbrev pub IsFieldDescriptor : List ℕ → Type 0
+IsFieldDescriptor descriptor = (t : FieldType) × (IsFieldType t × (descriptor ≡ field_descriptor t))
+
 -- a long or a double takes two words, all else one
 abbrev pub words_of : FieldType → ℕ
 words_of t = words_at t.dimensions t.base where

@@ -1,13 +1,14 @@
 -- The parts of a class of the first form: what is read is spelled so, and what is spelled so is read.
-use Rattle.std.proofs.Common.{◌≡◌, ℕ, cond, eqb, List, [], ◌++◌, length, Some, None, refl, ap, subst, ◌∙◌, append_assoc, arith}
+use Rattle.std.proofs.Common.{◌≡◌, ℕ, Bool, true, false, cond, eqb, List, [], ◌∷◌, ◌++◌, length, Option, Some, None, refl, sym, ap, subst, ◌∙◌, append_assoc, arith}
 use Rattle.std.proofs.lemmas.Bool.{eqb-true}
 use Rattle.std.proofs.lemmas.List.{append-nil, nil_from_length}
 use Rattle.fm_code.specs.Numbers.{two, four}
 use Rattle.fm_code.specs.ClassBytes.{entry_bytes, counted}
 use Rattle.fm_code.specs.Fits.{AreBytes, FitsTwo, FitsFour}
-use Rattle.fm_read.specs.Parts.{Class}
+use Rattle.fm_code.specs.declared.constant_pool.Entry.{Entry}
+use Rattle.fm_read.specs.Parts.{Method, Class}
 use Rattle.fm_read.specs.Reading.{◌>>=◌, number_at, fixed_at, header_at, pool_at, members_at, ends_at, class_at}
-use Rattle.fm_read.proofs.Pieces.{bind_some, guard_holds, some_is, Takes, Takes-then, two_piece, four_piece, fixed_takes, fixed_again}
+use Rattle.fm_read.proofs.Pieces.{bind_some, guard_holds, some_is, Takes, Takes-then, IsPiece, two_piece, four_piece, fixed_takes, fixed_again}
 use Rattle.fm_read.proofs.PoolPieces.{IsReadPool, pool_piece}
 use Rattle.fm_read.proofs.MethodPieces.{members_bytes, MembersFit, members_piece}
 
@@ -81,7 +82,7 @@ class_takes bytes c fits e =
     let e2 : p.0.1 ≡ two f.0.0 ++ (two t.0.0 ++ (two s.0.0 ++ (members_bytes m.0.0 ++ two 0))) = t2.0.parts ∙ ap (λ (r : List ℕ). two f.0.0 ++ r) e3 in
     let e1 : h.0 ≡ counted entry_bytes p.0.0 ++ (two f.0.0 ++ (two t.0.0 ++ (two s.0.0 ++ (members_bytes m.0.0 ++ two 0)))) = t1.0.parts ∙ ap (λ (r : List ℕ). counted entry_bytes p.0.0 ++ r) e2 in
     let e0 : bytes ≡ parts_bytes made = t0.parts ∙ ap (λ (r : List ℕ). header_bytes ++ r) e1 in
-    subst (λ (d : Class). (bytes ≡ parts_bytes d) × PartsFit d) {x = made} (some_is made c z.2)
+    subst (λ (d : Class). (bytes ≡ parts_bytes d) × PartsFit d) (some_is made c z.2)
     (e0, record { entries = t1.1; flags = t2.1; this_class = t3.1; super_class = t4.1; methods = t5.1 })
 
 pub class_again : (c : Class) → PartsFit c → class_at (parts_bytes c) ≡ Some c

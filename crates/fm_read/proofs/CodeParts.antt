@@ -12,7 +12,8 @@ use Rattle.fm_code.specs.Numbers.{two, four}
 use Rattle.fm_code.specs.ClassBytes.{code_bytes, item_bytes, counted, handler_bytes, code_attribute_bytes}
 use Rattle.fm_code.specs.Fits.{AreBytes, CodeFits}
 use Rattle.fm_code.specs.Rules.{CodeIsValid, CodeAttrIsValid}
-use Rattle.fm_code.specs.FirstForm.{IsFirstCode}
+use Rattle.fm_code.specs.FirstForm.{IsFirstCode, IsFirstOperand}
+use Rattle.fm_code.specs.declared.class_file.ClassDef.{ClassDef}
 use Rattle.fm_code.specs.declared.constant_pool.Entry.{Entry}
 use Rattle.fm_code.specs.declared.code_array.Code.{Code}
 use Rattle.fm_code.specs.SpellsCode.{SpellsCode, LocalsFit}
@@ -127,9 +128,9 @@ plain_bytes body max_stack max_locals bytes items has spells =
     has.bytes_are ∙ ap (λ (b : List ℕ). two max_stack ++ (two max_locals ++ (four (length bytes) ++ (b ++ (two 0 ++ (two 0 ++ [])))))) spells
 
 -- what the parts and the items make is the code of the body
-pub IsFirstBody-from : (body : List ℕ) (max_stack max_locals : ℕ) (bytes : List ℕ) (items : List Item) → IsBytes body → HasParts body max_stack max_locals bytes
-    → AreFirstItems max_locals bytes items → IsFirstBody body (plain_code max_stack max_locals (length bytes) items)
-IsFirstBody-from body max_stack max_locals bytes items fits has are =
+pub IsFirstBody-from : (c : ClassDef) (body : List ℕ) (max_stack max_locals : ℕ) (bytes : List ℕ) (items : List Item) → IsBytes body → HasParts body max_stack max_locals bytes
+    → AreFirstItems max_locals bytes items → AllByRecursion (IsFirstOperand c) items → IsFirstBody c body (plain_code max_stack max_locals (length bytes) items)
+IsFirstBody-from c body max_stack max_locals bytes items fits has are operands =
     let spells = are.spelled.bytes_are in
     let whole = plain_bytes body max_stack max_locals bytes items has spells in
     let tells = tells_parts body max_stack max_locals bytes has in
@@ -154,7 +155,7 @@ IsFirstBody-from body max_stack max_locals bytes items fits has are =
         handlers = tt;
         attributes = tt;
       };
-      first = record { handlers = refl; attributes = refl; opcodes = are.opcodes };
+      first = record { handlers = refl; attributes = refl; opcodes = are.opcodes; operands = operands };
     }
 
 abbrev with_tables : Code → ℕ → List Handler → List CodeAttr → List ℕ
@@ -162,23 +163,23 @@ with_tables code size handlers attributes =
     concat (two code.max_stack ∷ two code.max_locals ∷ four size ∷ flat_map item_bytes code.items ∷ counted (handler_bytes code) handlers ∷ counted (code_attribute_bytes code) attributes ∷ [])
 
 -- code of the first form has no tables
-first_bytes : (body : List ℕ) (code : Code) → IsFirstBody body code → body ≡ spelled code.max_stack code.max_locals (flat_map item_bytes code.items)
+first_bytes : (c : ClassDef) (body : List ℕ) (code : Code) → IsFirstBody c body code → body ≡ spelled code.max_stack code.max_locals (flat_map item_bytes code.items)
 unfolding code_bytes two
-first_bytes body code is =
+first_bytes c body code is =
     let all : body ≡ with_tables code code.length code.handlers code.attributes = is.bytes_are in
     all ∙ ap (λ (n : ℕ). with_tables code n code.handlers code.attributes) (is.valid []).measured
     ∙ ap (λ (hs : List Handler). with_tables code (length (flat_map item_bytes code.items)) hs code.attributes) is.first.handlers
     ∙ ap (λ (attrs : List CodeAttr). with_tables code (length (flat_map item_bytes code.items)) [] attrs) is.first.attributes
 
-pub IsFirstBody-parts : (body : List ℕ) (code : Code) → IsFirstBody body code → HasParts body code.max_stack code.max_locals (flat_map item_bytes code.items)
-IsFirstBody-parts body code is =
+pub IsFirstBody-parts : (c : ClassDef) (body : List ℕ) (code : Code) → IsFirstBody c body code → HasParts body code.max_stack code.max_locals (flat_map item_bytes code.items)
+IsFirstBody-parts c body code is =
     let valid = is.valid [] in
     record {
       stack_fits = is.fits.max_stack;
       locals_fit = is.fits.max_locals;
       not_empty = omega (arith, valid.not_empty, valid.measured);
       not_long = omega (arith, valid.not_long, valid.measured);
-      bytes_are = first_bytes body code is;
+      bytes_are = first_bytes c body code is;
     }
 
 -- a body has one way to be parted
@@ -199,10 +200,10 @@ same_parts body a c xs b d ys p q =
     }
 
 -- the code's items are those of the body's code array
-pub IsFirstBody-items : (body : List ℕ) (max_stack max_locals : ℕ) (bytes : List ℕ) (code : Code) → HasParts body max_stack max_locals bytes → IsFirstBody body code
+pub IsFirstBody-items : (c : ClassDef) (body : List ℕ) (max_stack max_locals : ℕ) (bytes : List ℕ) (code : Code) → HasParts body max_stack max_locals bytes → IsFirstBody c body code
     → AreFirstItems max_locals bytes code.items
-IsFirstBody-items body max_stack max_locals bytes code has is =
-    let same = same_parts body max_stack max_locals bytes code.max_stack code.max_locals (flat_map item_bytes code.items) has (IsFirstBody-parts body code is) in
+IsFirstBody-items c body max_stack max_locals bytes code has is =
+    let same = same_parts body max_stack max_locals bytes code.max_stack code.max_locals (flat_map item_bytes code.items) has (IsFirstBody-parts c body code is) in
     let valid = is.valid [] in
     record {
       spelled = subst (λ (b : List ℕ). SpellsCode b code.items) (sym same.bytes) valid.spelled;
@@ -211,10 +212,10 @@ IsFirstBody-items body max_stack max_locals bytes code has is =
     }
 
 -- the body has no other code
-pub IsFirstBody-unique : (body : List ℕ) (max_stack max_locals : ℕ) (bytes : List ℕ) (code : Code) → HasParts body max_stack max_locals bytes → IsFirstBody body code
+pub IsFirstBody-unique : (c : ClassDef) (body : List ℕ) (max_stack max_locals : ℕ) (bytes : List ℕ) (code : Code) → HasParts body max_stack max_locals bytes → IsFirstBody c body code
     → plain_code max_stack max_locals (length bytes) code.items ≡ code
-IsFirstBody-unique body max_stack max_locals bytes code has is =
-    let same = same_parts body max_stack max_locals bytes code.max_stack code.max_locals (flat_map item_bytes code.items) has (IsFirstBody-parts body code is) in
+IsFirstBody-unique c body max_stack max_locals bytes code has is =
+    let same = same_parts body max_stack max_locals bytes code.max_stack code.max_locals (flat_map item_bytes code.items) has (IsFirstBody-parts c body code is) in
     let size : length bytes ≡ code.length = ap length same.bytes ∙ sym (is.valid []).measured in
     ap (λ (n : ℕ). plain_code n max_locals (length bytes) code.items) same.stack ∙ ap (λ (n : ℕ). plain_code code.max_stack n (length bytes) code.items) same.locals
     ∙ ap (λ (n : ℕ). plain_code code.max_stack code.max_locals n code.items) size
@@ -224,8 +225,8 @@ IsFirstBody-unique body max_stack max_locals bytes code has is =
       whole_code c hs attrs = record { max_stack = c.max_stack; max_locals = c.max_locals; items = c.items; length = c.length; handlers = hs; attributes = attrs }
 
 -- where there are no tables the pool doesn't matter
-pub IsFirstBody-in_pool : (entries : List Entry) (body : List ℕ) (code : Code) → body ≡ code_bytes code → CodeFits code → CodeIsValid entries code → IsFirstCode code → IsFirstBody body code
-IsFirstBody-in_pool entries body code bytes_are fits valid first = record {
+pub IsFirstBody-in_pool : (c : ClassDef) (entries : List Entry) (body : List ℕ) (code : Code) → body ≡ code_bytes code → CodeFits code → CodeIsValid entries code → IsFirstCode c code → IsFirstBody c body code
+IsFirstBody-in_pool c entries body code bytes_are fits valid first = record {
   bytes_are = bytes_are;
   fits = fits;
   valid = λ others. record {

@@ -1,27 +1,30 @@
 -- The parts of a class with the code of its methods are a record of the first form, and the bytes of the parts spell it.
-use Rattle.std.proofs.Common.{◌≡◌, ℕ, suc, ◌≤◌, ◌⊎◌, inl, inr, Bool, true, false, List, [], ◌∷◌, length, map, Option, Some, None, refl, sym, ap, subst, ◌∙◌, append_assoc, arith}
+use Rattle.std.proofs.Common.{◌≡◌, ℕ, zero, suc, ◌+◌, ◌<◌, ◌≤◌, ◌⊎◌, inl, inr, Bool, true, false, cond, ◌||◌, List, [], ◌∷◌, ◌++◌, length, map, Option, Some, None, refl, sym, ap, subst, ◌∙◌, append_assoc, arith, IsTrue}
 use Rattle.std.specs.Prelude.{IsSomeAnd, IsSome, codes}
 use Rattle.std.specs.List.{flat_map, AllByRecursion}
 use Rattle.std.proofs.lemmas.Bool.{false≢true}
 use Rattle.std.proofs.lemmas.List.{append-nil}
-use Rattle.fm_code.specs.Numbers.{four}
-use Rattle.fm_code.specs.ClassBytes.{magic, pool_bytes, code_bytes, member_attribute_bytes, member_bytes, class_bytes}
-use Rattle.fm_code.specs.Fits.{AreBytes, FitsTwo, CountedFits, EntryFits, MemberFits, ClassFits}
-use Rattle.fm_code.specs.Names.{IsMethodDescriptor}
-use Rattle.fm_code.specs.Rules.{AreSlots, MethodIsValid, AreDifferent, AreDistinct, utf8_at, class_name_at, is_interface, receiver_words}
+use Rattle.fm_code.specs.Numbers.{two, four}
+use Rattle.fm_code.specs.ClassBytes.{magic, counted, entry_bytes, pool_bytes, attribute_bytes, code_bytes, member_attribute_bytes, member_bytes, class_bytes}
+use Rattle.fm_code.specs.Fits.{AreBytes, IsByte, FitsTwo, FitsFour, CountedFits, MemberFits, MemberAttrFits, ClassFits}
+use Rattle.fm_code.specs.Names.{is_method_name, is_binary_name, IsMethodDescriptor}
+use Rattle.fm_code.specs.Rules.{EntryIsValid, MethodIsValid, MethodAttrIsValid, AreDifferent, AreDistinct, utf8_at, class_name_at, is_static, is_native, is_abstract, is_interface, receiver_words}
 use Rattle.fm_code.specs.Spells.{Spells}
-use Rattle.fm_code.specs.FirstForm.{IsFirstEntry, IsFirstMethod, IsFirstForm, is_int_descriptor}
+use Rattle.fm_code.specs.FirstForm.{IsFirstMethod, IsFirstForm, IsMain, is_number_descriptor}
 use Rattle.fm_code.specs.declared.constant_pool.Entry.{Entry}
 use Rattle.fm_code.specs.declared.constant_pool.Entry.TheVariants as entry
+use Rattle.fm_code.specs.declared.class_file.ClassDef.{ClassDef}
 use Rattle.fm_code.specs.declared.class_file.Member.{Member}
+use Rattle.fm_code.specs.declared.class_file.MemberAttr.{MemberAttr}
+use Rattle.fm_code.specs.declared.class_file.MemberAttr.TheVariants as attribute
 use Rattle.fm_code.specs.declared.code_array.Code.{Code}
 use Rattle.fm_read.specs.Parts.{Method, Class}
 use Rattle.fm_read.specs.CodeBody.{IsFirstBody}
-use Rattle.fm_read.specs.PartsRules.{MethodMeetsRules, MeetsRules, AreMethodsDistinct, AreMembersOf, member_of, bare_member, class_of_parts}
-use Rattle.fm_read.proofs.PoolPieces.{AreFirstCharacters, IsReadEntry, IsReadPool}
+use Rattle.fm_read.specs.PartsRules.{MethodMeetsRules, MeetsRules, AreMethodsDistinct, IsMemberOf, AreMembersOf, member_of, bare_member, bare_class, class_of_parts}
+use Rattle.fm_read.proofs.PoolPieces.{IsReadPool}
 use Rattle.fm_read.proofs.MethodPieces.{method_bytes, MethodFits}
 use Rattle.fm_read.proofs.ClassPieces.{parts_bytes, PartsFit}
-use Rattle.fm_read.proofs.NamesMethods.{IsMethodDescriptor-ints, IsMethodDescriptor-main}
+use Rattle.fm_read.proofs.SameNames.{SameNames, AreSameNames, names_of_members, SameDeclared, members_kept}
 
 -- ---- what holds of the value in a Some
 
@@ -46,12 +49,12 @@ unfolding member_bytes member_attribute_bytes
 member_spelled m code e = rw (e, append-nil, append-nil) refl
 
 -- the members spell what the methods do
-pub members_spelled : (methods : List Method) (members : List Member) → AreMembersOf methods members → (flat_map member_bytes members ≡ flat_map method_bytes methods) × (length members ≡ length methods)
-members_spelled [] [] h = (refl, refl)
-members_spelled [] (x ∷ members) h = absurd h
-members_spelled (m ∷ methods) [] h = absurd h
-members_spelled (m ∷ methods) (x ∷ members) h =
-    let rest = members_spelled methods members h.1 in
+pub members_spelled : (d : ClassDef) (methods : List Method) (members : List Member) → AreMembersOf d methods members → (flat_map member_bytes members ≡ flat_map method_bytes methods) × (length members ≡ length methods)
+members_spelled d [] [] h = (refl, refl)
+members_spelled d [] (x ∷ members) h = absurd h
+members_spelled d (m ∷ methods) [] h = absurd h
+members_spelled d (m ∷ methods) (x ∷ members) h =
+    let rest = members_spelled d methods members h.1 in
     let head : member_bytes x ≡ method_bytes m = ap member_bytes h.0.1.1 ∙ member_spelled m h.0.0 h.0.1.0.bytes_are in
     (rw (head, rest.0) refl, ap suc rest.1)
 
@@ -59,63 +62,28 @@ four_magic : four 3405691582 ≡ magic
 unfolding four
 four_magic = refl
 
-pub class_spelled : (c : Class) (members : List Member) → AreMembersOf c.methods members → class_bytes (class_of_parts c members) ≡ parts_bytes c
+pub class_spelled : (d : ClassDef) (c : Class) (members : List Member) → AreMembersOf d c.methods members → class_bytes (class_of_parts c members) ≡ parts_bytes c
 unfolding class_bytes pool_bytes
-class_spelled c members h =
-    let m = members_spelled c.methods members h in
+class_spelled d c members h =
+    let m = members_spelled d c.methods members h in
     rw (m.0, m.1, four_magic) (simp (append_assoc, append-nil))
-
--- ---- the pool
-
-first_bytes : (text : List ℕ) → AreFirstCharacters text → AreBytes text
-first_bytes [] h = tt
-first_bytes (b ∷ text) h = (omega (arith, h.0.1), first_bytes text h.1)
-
-entries_fit : (entries : List Entry) → AllByRecursion IsReadEntry entries → AllByRecursion EntryFits entries × AllByRecursion IsFirstEntry entries × AreSlots false entries
-entries_fit [] h = (tt, tt, tt)
-entries_fit (entry.Utf8 name ∷ entries) h = let rest = entries_fit entries h.1 in (((h.0.0, first_bytes name h.0.1), rest.0), (h.0.1, rest.1), rest.2)
-entries_fit (entry.Class name ∷ entries) h = let rest = entries_fit entries h.1 in ((h.0, rest.0), (tt, rest.1), rest.2)
-entries_fit (entry.Integer n ∷ entries) h = absurd h.0
-entries_fit (entry.Float n ∷ entries) h = absurd h.0
-entries_fit (entry.Long n ∷ entries) h = absurd h.0
-entries_fit (entry.Double n ∷ entries) h = absurd h.0
-entries_fit (entry.Text n ∷ entries) h = absurd h.0
-entries_fit (entry.Field n m ∷ entries) h = absurd h.0
-entries_fit (entry.Method n m ∷ entries) h = absurd h.0
-entries_fit (entry.InterfaceMethod n m ∷ entries) h = absurd h.0
-entries_fit (entry.NameAndType n m ∷ entries) h = absurd h.0
-entries_fit (entry.Second ∷ entries) h = absurd h.0
-
-pool_fits : (entries : List Entry) → IsReadPool entries → CountedFits EntryFits entries × AllByRecursion IsFirstEntry entries × AreSlots true entries
-pool_fits [] h = absurd h
-pool_fits (entry.Second ∷ entries) h = let rest = entries_fit entries h.1 in (record { count = h.0; each = (tt, rest.0) }, (tt, rest.1), rest.2)
-pool_fits (entry.Utf8 n ∷ entries) h = absurd h
-pool_fits (entry.Class n ∷ entries) h = absurd h
-pool_fits (entry.Integer n ∷ entries) h = absurd h
-pool_fits (entry.Float n ∷ entries) h = absurd h
-pool_fits (entry.Long n ∷ entries) h = absurd h
-pool_fits (entry.Double n ∷ entries) h = absurd h
-pool_fits (entry.Text n ∷ entries) h = absurd h
-pool_fits (entry.Field n m ∷ entries) h = absurd h
-pool_fits (entry.Method n m ∷ entries) h = absurd h
-pool_fits (entry.InterfaceMethod n m ∷ entries) h = absurd h
-pool_fits (entry.NameAndType n m ∷ entries) h = absurd h
 
 -- ---- methods
 
 one_fits : FitsTwo 1
 one_fits = omega arith
 
-member_fits : (m : Method) (code : Code) → MethodFits m → IsFirstBody m.body code → MemberFits (member_of m code)
-member_fits m code fits body = record {
+member_fits : (d : ClassDef) (m : Method) (code : Code) → MethodFits m → IsFirstBody d m.body code → MemberFits (member_of m code)
+member_fits d m code fits body = record {
   flags = fits.flags;
   name = fits.name;
   descriptor = fits.descriptor;
   attributes = record { count = one_fits; each = ((fits.attribute, body.fits), tt) };
 }
 
-first_method : (entries : List Entry) (m : Method) (code : Code) → MethodMeetsRules entries m → IsFirstBody m.body code → IsFirstMethod entries (member_of m code)
-first_method entries m code rules body =
+first_method : (d : ClassDef) (m : Method) (code : Code) → MethodMeetsRules d.pool.entries m → IsFirstBody d m.body code → IsFirstMethod d (member_of m code)
+first_method d m code rules body =
+    let entries = d.pool.entries in
     let name = someAnd_is (utf8_at entries m.name) _ rules.signature in
     let descriptor = someAnd_is (utf8_at entries m.descriptor) _ name.2 in
     record {
@@ -123,25 +91,21 @@ first_method entries m code rules body =
       not_native = rules.flags.not_native;
       not_abstract = rules.flags.not_abstract;
       name = someAnd_weaker (utf8_at entries m.name) _ _ (λ x h. h.no_start) rules.name;
-      descriptor = elim descriptor.2 [
+      descriptor = elim descriptor.2.first [
         | inl main ↦ inl (record { name = name.1 ∙ ap (λ (t : List ℕ). Some t) main.0; descriptor = descriptor.1 ∙ ap (λ (t : List ℕ). Some t) main.1 })
-        | inr ints ↦ inr (is_someAnd (utf8_at entries m.descriptor) (λ d. is_int_descriptor d ≡ true) descriptor.0 descriptor.1 ints.0)
+        | inr numbers ↦ inr (is_someAnd (utf8_at entries m.descriptor) (λ d. is_number_descriptor d ≡ true) descriptor.0 descriptor.1 numbers)
       ];
       attributes = body.first;
     }
 
-first_descriptor : (name descriptor : List ℕ) → ((name ≡ codes "main") × (descriptor ≡ codes "([Ljava/lang/String;)V")) ⊎ ((is_int_descriptor descriptor ≡ true) × (length descriptor ≤ 258)) → IsMethodDescriptor 0 descriptor
-first_descriptor name descriptor (inl main) = subst (IsMethodDescriptor 0) (sym main.1) IsMethodDescriptor-main
-first_descriptor name descriptor (inr ints) = (IsMethodDescriptor-ints 0 descriptor ints.0).1 (omega (arith, ints.1))
-
-valid_method : (in_interface : Bool) (entries : List Entry) (m : Method) (code : Code) → in_interface ≡ false → MethodMeetsRules entries m → IsFirstBody m.body code → MethodIsValid in_interface entries (member_of m code)
-valid_method in_interface entries m code apart rules body =
+valid_method : (in_interface : Bool) (entries : List Entry) (d : ClassDef) (m : Method) (code : Code) → in_interface ≡ false → MethodMeetsRules entries m → IsFirstBody d m.body code → MethodIsValid in_interface entries (member_of m code)
+valid_method in_interface entries d m code apart rules body =
     let name = someAnd_is (utf8_at entries m.name) _ rules.signature in
     let descriptor = someAnd_is (utf8_at entries m.descriptor) _ name.2 in
     let words : receiver_words m.flags ≡ 0 = rw rules.flags.static refl in
     record {
       name = someAnd_weaker (utf8_at entries m.name) _ _ (λ x h. h.valid) rules.name;
-      descriptor = subst (λ (n : ℕ). IsSomeAnd (utf8_at entries m.descriptor) (IsMethodDescriptor n)) (sym words) (is_someAnd (utf8_at entries m.descriptor) (IsMethodDescriptor 0) descriptor.0 descriptor.1 (first_descriptor name.0 descriptor.0 descriptor.2));
+      descriptor = subst (λ (n : ℕ). IsSomeAnd (utf8_at entries m.descriptor) (IsMethodDescriptor n)) (sym words) (is_someAnd (utf8_at entries m.descriptor) (IsMethodDescriptor 0) descriptor.0 descriptor.1 descriptor.2.valid);
       attributes = ((rules.attribute, body.valid entries), tt);
       coded = rw (rules.flags.not_abstract, rules.flags.not_native) refl;
       abstract_alone = λ e. absurd (false≢true (sym rules.flags.not_abstract ∙ e));
@@ -149,40 +113,29 @@ valid_method in_interface entries m code apart rules body =
     }
 
 -- each member, where the class is no interface
-members_hold : (entries : List Entry) (methods : List Method) (members : List Member) → AllByRecursion (MethodMeetsRules entries) methods → AllByRecursion MethodFits methods → AreMembersOf methods members
-    → AllByRecursion MemberFits members × AllByRecursion (IsFirstMethod entries) members
-members_hold entries [] [] rules fits h = (tt, tt)
-members_hold entries [] (x ∷ members) rules fits h = absurd h
-members_hold entries (m ∷ methods) [] rules fits h = absurd h
-members_hold entries (m ∷ methods) (x ∷ members) rules fits h =
-    let rest = members_hold entries methods members rules.1 fits.1 h.1 in
+members_hold : (d : ClassDef) (methods : List Method) (members : List Member) → AllByRecursion (MethodMeetsRules d.pool.entries) methods → AllByRecursion MethodFits methods → AreMembersOf d methods members
+    → AllByRecursion MemberFits members × AllByRecursion (IsFirstMethod d) members
+members_hold d [] [] rules fits h = (tt, tt)
+members_hold d [] (x ∷ members) rules fits h = absurd h
+members_hold d (m ∷ methods) [] rules fits h = absurd h
+members_hold d (m ∷ methods) (x ∷ members) rules fits h =
+    let rest = members_hold d methods members rules.1 fits.1 h.1 in
     let code = h.0.0 in
-    ((subst MemberFits (sym h.0.1.1) (member_fits m code fits.0 h.0.1.0), rest.0), (subst (IsFirstMethod entries) (sym h.0.1.1) (first_method entries m code rules.0 h.0.1.0), rest.1))
+    ((subst MemberFits (sym h.0.1.1) (member_fits d m code fits.0 h.0.1.0), rest.0), (subst (IsFirstMethod d) (sym h.0.1.1) (first_method d m code rules.0 h.0.1.0), rest.1))
 
-members_valid : (in_interface : Bool) (entries : List Entry) (methods : List Method) (members : List Member) → in_interface ≡ false → AllByRecursion (MethodMeetsRules entries) methods → AreMembersOf methods members → AllByRecursion (MethodIsValid in_interface entries) members
-members_valid in_interface entries [] [] apart rules h = tt
-members_valid in_interface entries [] (x ∷ members) apart rules h = absurd h
-members_valid in_interface entries (m ∷ methods) [] apart rules h = absurd h
-members_valid in_interface entries (m ∷ methods) (x ∷ members) apart rules h =
-    (subst (MethodIsValid in_interface entries) (sym h.0.1.1) (valid_method in_interface entries m h.0.0 apart rules.0 h.0.1.0), members_valid in_interface entries methods members apart rules.1 h.1)
+members_valid : (in_interface : Bool) (entries : List Entry) (d : ClassDef) (methods : List Method) (members : List Member) → in_interface ≡ false → AllByRecursion (MethodMeetsRules entries) methods → AreMembersOf d methods members → AllByRecursion (MethodIsValid in_interface entries) members
+members_valid in_interface entries d [] [] apart rules h = tt
+members_valid in_interface entries d [] (x ∷ members) apart rules h = absurd h
+members_valid in_interface entries d (m ∷ methods) [] apart rules h = absurd h
+members_valid in_interface entries d (m ∷ methods) (x ∷ members) apart rules h =
+    (subst (MethodIsValid in_interface entries) (sym h.0.1.1) (valid_method in_interface entries d m h.0.0 apart rules.0 h.0.1.0), members_valid in_interface entries d methods members apart rules.1 h.1)
 
-members_of_class : (in_interface : Bool) (entries : List Entry) (methods : List Method) (members : List Member) → (in_interface ≡ true → methods ≡ []) → AllByRecursion (MethodMeetsRules entries) methods → AreMembersOf methods members → AllByRecursion (MethodIsValid in_interface entries) members
-members_of_class false entries methods members none rules h = members_valid false entries methods members refl rules h
-members_of_class true entries methods [] none rules h = tt
-members_of_class true entries methods (x ∷ members) none rules h = absurd (subst (λ (ms : List Method). AreMembersOf ms (x ∷ members)) (none refl) h)
+members_of_class : (in_interface : Bool) (entries : List Entry) (d : ClassDef) (methods : List Method) (members : List Member) → (in_interface ≡ true → methods ≡ []) → AllByRecursion (MethodMeetsRules entries) methods → AreMembersOf d methods members → AllByRecursion (MethodIsValid in_interface entries) members
+members_of_class false entries d methods members none rules h = members_valid false entries d methods members refl rules h
+members_of_class true entries d methods [] none rules h = tt
+members_of_class true entries d methods (x ∷ members) none rules h = absurd (subst (λ (ms : List Method). AreMembersOf d ms (x ∷ members)) (none refl) h)
 
 -- ---- methods that differ
-
--- two methods with the indices of two others
-record SameNames (m n : Member) : Type 0 where
-  name : m.name ≡ n.name
-  descriptor : m.descriptor ≡ n.descriptor
-
-abbrev AreSameNames : List Member → List Member → Type 0
-AreSameNames [] [] = Unit {0}
-AreSameNames [] (y ∷ ys) = ⊥
-AreSameNames (x ∷ xs) [] = ⊥
-AreSameNames (x ∷ xs) (y ∷ ys) = SameNames x y × AreSameNames xs ys
 
 different_kept : (entries : List Entry) (m n : Member) (xs ys : List Member) → SameNames m n → AreSameNames xs ys → AllByRecursion (AreDifferent entries m) xs → AllByRecursion (AreDifferent entries n) ys
 different_kept entries m n [] [] same names h = tt
@@ -198,37 +151,29 @@ distinct_kept entries [] (y ∷ ys) names h = absurd names
 distinct_kept entries (x ∷ xs) [] names h = absurd names
 distinct_kept entries (x ∷ xs) (y ∷ ys) names h = (different_kept entries x y xs ys names.0 names.1 h.0, distinct_kept entries xs ys names.1 h.1)
 
-names_of_members : (methods : List Method) (members : List Member) → AreMembersOf methods members → AreSameNames (map bare_member methods) members × AreSameNames members (map bare_member methods)
-names_of_members [] [] h = (tt, tt)
-names_of_members [] (x ∷ members) h = absurd h
-names_of_members (m ∷ methods) [] h = absurd h
-names_of_members (m ∷ methods) (x ∷ members) h =
-    let rest = names_of_members methods members h.1 in
-    let name : x.name ≡ m.name = ap (λ (y : Member). y.name) h.0.1.1 in
-    let descriptor : x.descriptor ≡ m.descriptor = ap (λ (y : Member). y.descriptor) h.0.1.1 in
-    ((record { name = sym name; descriptor = sym descriptor }, rest.0), (record { name = name; descriptor = descriptor }, rest.1))
+pub distinct_members : (entries : List Entry) (d : ClassDef) (methods : List Method) (members : List Member) → AreMembersOf d methods members → AreMethodsDistinct entries methods → AreDistinct entries members
+distinct_members entries d methods members h distinct = distinct_kept entries (map bare_member methods) members (names_of_members d methods members h).0 distinct
 
-pub distinct_members : (entries : List Entry) (methods : List Method) (members : List Member) → AreMembersOf methods members → AreMethodsDistinct entries methods → AreDistinct entries members
-distinct_members entries methods members h distinct = distinct_kept entries (map bare_member methods) members (names_of_members methods members h).0 distinct
-
-pub distinct_methods : (entries : List Entry) (methods : List Method) (members : List Member) → AreMembersOf methods members → AreDistinct entries members → AreMethodsDistinct entries methods
-distinct_methods entries methods members h distinct = distinct_kept entries members (map bare_member methods) (names_of_members methods members h).1 distinct
+pub distinct_methods : (entries : List Entry) (d : ClassDef) (methods : List Method) (members : List Member) → AreMembersOf d methods members → AreDistinct entries members → AreMethodsDistinct entries methods
+distinct_methods entries d methods members h distinct = distinct_kept entries members (map bare_member methods) (names_of_members d methods members h).1 distinct
 
 -- ---- the class
 
 nothing_fits : {X : Type 0} (Fits : X → Type 0) → CountedFits Fits []
 nothing_fits Fits = record { count = omega arith; each = tt }
 
-pub is_found : (bytes : List ℕ) (c : Class) (members : List Member) → bytes ≡ parts_bytes c → PartsFit c → MeetsRules c → AreMethodsDistinct c.entries c.methods → AreMembersOf c.methods members
+pub is_found : (bytes : List ℕ) (c : Class) (members : List Member) → bytes ≡ parts_bytes c → PartsFit c → MeetsRules c → AreMethodsDistinct c.entries c.methods → AreMembersOf (bare_class c) c.methods members
     → IsFirstForm (class_of_parts c members) × Spells bytes (class_of_parts c members)
-is_found bytes c members e fits rules distinct h =
-    let pool = pool_fits c.entries fits.entries in
-    let each = members_hold c.entries c.methods members rules.methods fits.methods.1 h in
-    let count : FitsTwo (length members) = subst FitsTwo (sym (members_spelled c.methods members h).1) fits.methods.0 in
+is_found bytes c members e fits rules distinct members_of =
+    let d = class_of_parts c members in
+    let same : SameDeclared (bare_class c) d = record { entries = refl; this_class = refl; methods = (names_of_members (bare_class c) c.methods members members_of).0 } in
+    let h = members_kept (bare_class c) d same c.methods members members_of in
+    let each = members_hold d c.methods members rules.methods fits.methods.1 h in
+    let count : FitsTwo (length members) = subst FitsTwo (sym (members_spelled d c.methods members h).1) fits.methods.0 in
     let first : IsFirstForm (class_of_parts c members) = record {
       minor = refl;
       major = refl;
-      entries = pool.1;
+      entries = fits.entries.first;
       superclass = rules.names.superclass;
       interfaces = refl;
       fields = refl;
@@ -238,7 +183,7 @@ is_found bytes c members e fits rules distinct h =
     let fitting : ClassFits (class_of_parts c members) = record {
       minor = omega arith;
       major = omega arith;
-      pool = pool.0;
+      pool = fits.entries.fits;
       flags = fits.flags;
       this_class = fits.this_class;
       super_class = fits.super_class;
@@ -249,16 +194,16 @@ is_found bytes c members e fits rules distinct h =
     } in (
       first,
       record {
-        bytes_are = e ∙ sym (class_spelled c members h);
+        bytes_are = e ∙ sym (class_spelled d c members h);
         fits = fitting;
-        slots = pool.2;
+        slots = fits.entries.slots;
         entries = rules.entries;
         this_class = rules.names.this_class;
         super_class = inr (some_from (class_name_at c.entries c.super_class) _ rules.names.superclass);
         interfaces = tt;
         fields = tt;
-        methods = members_of_class (is_interface c.flags) c.entries c.methods members rules.interface rules.methods h;
-        distinct_methods = distinct_members c.entries c.methods members h distinct;
+        methods = members_of_class (is_interface c.flags) c.entries d c.methods members rules.interface rules.methods h;
+        distinct_methods = distinct_members c.entries d c.methods members h distinct;
         attributes = tt;
       },
     )

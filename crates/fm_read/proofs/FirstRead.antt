@@ -1,15 +1,15 @@
 -- A record of the first form is made of its parts, which meet the rules of parts.
-use Rattle.std.proofs.Common.{◌≡◌, ◌↔◌, IsTrue, rules, ℕ, ◌<◌, ◌⊎◌, inl, inr, Bool, true, false, List, [], ◌∷◌, length, get_or, Result, Ok, Err, Option, Some, None, refl, sym, ap, subst, ◌∙◌, arith}
+use Rattle.std.proofs.Common.{◌≡◌, ◌↔◌, IsTrue, rules, ℕ, zero, suc, ◌+◌, ◌<◌, ◌≤◌, ◌⊎◌, inl, inr, Bool, true, false, cond, List, [], ◌∷◌, ◌++◌, length, get_or, map, Result, Ok, Err, Option, Some, None, refl, sym, ap, subst, ◌∙◌, arith}
 use Rattle.std.specs.Prelude.{MatchResult, IsSomeAnd, codes, ◌==◌, not}
 use Rattle.std.specs.List.{list_all, AllByRecursion}
 use Rattle.std.proofs.lemmas.Bool.{false≢true}
 use Rattle.std.proofs.lemmas.List.Elements.{recursion_from_All, All-from_get_or}
 use Rattle.fm_code.specs.ClassBytes.{code_bytes, class_bytes}
-use Rattle.fm_code.specs.Fits.{AreBytes, IsByte, FitsTwo, CountedFits, EntryFits, MemberFits, MemberAttrFits}
+use Rattle.fm_code.specs.Fits.{AreBytes, IsByte, FitsTwo, FitsFour, CodeFits, MemberFits, MemberAttrFits}
 use Rattle.fm_code.specs.Names.{is_method_name, IsMethodDescriptor}
-use Rattle.fm_code.specs.Rules.{AreSlots, CodeAttrIsValid, CodeIsValid, MethodIsValid, MethodAttrIsValid, utf8_at, is_static, is_interface, receiver_words}
+use Rattle.fm_code.specs.Rules.{CodeAttrIsValid, CodeIsValid, MethodIsValid, MethodAttrIsValid, utf8_at, is_static, is_abstract, is_interface, receiver_words}
 use Rattle.fm_code.specs.Spells.{Spells}
-use Rattle.fm_code.specs.FirstForm.{IsFirstEntry, IsFirstCode, AreFirstAttributes, IsFirstMethod, IsFirstForm, IsMain, is_int_descriptor}
+use Rattle.fm_code.specs.FirstForm.{IsFirstCode, AreFirstAttributes, IsFirstMethod, IsFirstForm, IsMain, is_number_descriptor}
 use Rattle.fm_code.specs.declared.constant_pool.Entry.{Entry}
 use Rattle.fm_code.specs.declared.constant_pool.Entry.TheVariants as entry
 use Rattle.fm_code.specs.declared.class_file.ClassDef.{ClassDef}
@@ -18,59 +18,27 @@ use Rattle.fm_code.specs.declared.class_file.MemberAttr.{MemberAttr}
 use Rattle.fm_code.specs.declared.class_file.MemberAttr.TheVariants as attribute
 use Rattle.fm_code.specs.declared.class_file.Raw.{Raw}
 use Rattle.fm_code.specs.declared.code_array.Code.{Code}
+use Rattle.fm_code.specs.declared.code_array.CodeAttr.{CodeAttr}
 use Rattle.fm_read.specs.Parts.{Method, Class}
 use Rattle.fm_read.specs.CodeBody.{IsFirstBody}
-use Rattle.fm_read.specs.PartsRules.{IsFirstName, IsFirstSignature, MethodMeetsRules, MeetsRules, AreMethodsDistinct, IsMemberOf, AreMembersOf, member_of, class_of_parts}
+use Rattle.fm_read.specs.PartsRules.{HasFirstFlags, IsFirstName, IsFirstSignature, MethodMeetsRules, MeetsRules, AreMethodsDistinct, IsMemberOf, AreMembersOf, member_of, bare_class, class_of_parts}
 use Rattle.fm_read.specs.Reading.{Fails, class_at}
 use Rattle.fm_read.specs.declared.failure.FirstFail.{FirstFail}
 use Rattle.fm_read.specs.declared.failure.FirstFail.TheVariants as fail
-use Rattle.fm_read.proofs.PoolPieces.{IsReadEntry, IsReadPool}
 use Rattle.fm_read.proofs.MethodPieces.{MethodFits}
 use Rattle.fm_read.proofs.ClassPieces.{parts_bytes, PartsFit, class_again}
-use Rattle.fm_read.proofs.NamesMethods.{IsMethodDescriptor-ints}
-use Rattle.fm_read.proofs.FirstFound.{someAnd_is, is_someAnd, members_spelled, class_spelled, distinct_methods}
-
--- ---- the pool
-
-entries_read : (entries : List Entry) → AreSlots false entries → AllByRecursion IsFirstEntry entries → AllByRecursion EntryFits entries → AllByRecursion IsReadEntry entries
-entries_read [] slots first fits = tt
-entries_read (entry.Utf8 name ∷ entries) slots first fits = ((fits.0.0, first.0), entries_read entries slots first.1 fits.1)
-entries_read (entry.Class name ∷ entries) slots first fits = (fits.0, entries_read entries slots first.1 fits.1)
-entries_read (entry.Integer n ∷ entries) slots first fits = absurd first.0
-entries_read (entry.Float n ∷ entries) slots first fits = absurd first.0
-entries_read (entry.Long n ∷ entries) slots first fits = absurd first.0
-entries_read (entry.Double n ∷ entries) slots first fits = absurd first.0
-entries_read (entry.Text n ∷ entries) slots first fits = absurd first.0
-entries_read (entry.Field n m ∷ entries) slots first fits = absurd first.0
-entries_read (entry.Method n m ∷ entries) slots first fits = absurd first.0
-entries_read (entry.InterfaceMethod n m ∷ entries) slots first fits = absurd first.0
-entries_read (entry.NameAndType n m ∷ entries) slots first fits = absurd first.0
-entries_read (entry.Second ∷ entries) slots first fits = absurd slots
-
-pool_read : (entries : List Entry) → AreSlots true entries → AllByRecursion IsFirstEntry entries → CountedFits EntryFits entries → IsReadPool entries
-pool_read [] slots first fits = absurd slots
-pool_read (entry.Second ∷ entries) slots first fits = (fits.count, entries_read entries slots first.1 fits.each.1)
-pool_read (entry.Utf8 n ∷ entries) slots first fits = absurd slots
-pool_read (entry.Class n ∷ entries) slots first fits = absurd slots
-pool_read (entry.Integer n ∷ entries) slots first fits = absurd slots
-pool_read (entry.Float n ∷ entries) slots first fits = absurd slots
-pool_read (entry.Long n ∷ entries) slots first fits = absurd slots
-pool_read (entry.Double n ∷ entries) slots first fits = absurd slots
-pool_read (entry.Text n ∷ entries) slots first fits = absurd slots
-pool_read (entry.Field n m ∷ entries) slots first fits = absurd slots
-pool_read (entry.Method n m ∷ entries) slots first fits = absurd slots
-pool_read (entry.InterfaceMethod n m ∷ entries) slots first fits = absurd slots
-pool_read (entry.NameAndType n m ∷ entries) slots first fits = absurd slots
+use Rattle.fm_read.proofs.SameNames.{names_of_members, SameDeclared, members_kept}
+use Rattle.fm_read.proofs.FirstFound.{someAnd_is, is_someAnd, someAnd_weaker, members_spelled, class_spelled, distinct_methods}
 
 -- ---- methods
 
 -- the one attribute
-coded : (attributes : List MemberAttr) → AreFirstAttributes attributes → (name : ℕ) × (code : Code) × (attributes ≡ attribute.Coded name code ∷ []) × IsFirstCode code
-coded [] h = absurd h
-coded (attribute.Coded name code ∷ []) h = (name, code, refl, h)
-coded (attribute.Coded name code ∷ a ∷ attributes) h = absurd h
-coded (attribute.Constant n v ∷ attributes) h = absurd h
-coded (attribute.Other raw ∷ attributes) h = absurd h
+coded : (c : ClassDef) (attributes : List MemberAttr) → AreFirstAttributes c attributes → (name : ℕ) × (code : Code) × (attributes ≡ attribute.Coded name code ∷ []) × IsFirstCode c code
+coded c [] h = absurd h
+coded c (attribute.Coded name code ∷ []) h = (name, code, refl, h)
+coded c (attribute.Coded name code ∷ a ∷ attributes) h = absurd h
+coded c (attribute.Constant n v ∷ attributes) h = absurd h
+coded c (attribute.Other raw ∷ attributes) h = absurd h
 
 -- without tables no rule of code names the pool
 valid_anywhere : (here there : List Entry) (code : Code) → code.attributes ≡ [] → CodeIsValid here code → CodeIsValid there code
@@ -88,28 +56,32 @@ both_names : (o : Option (List ℕ)) → IsSomeAnd o (λ name. is_method_name na
 both_names (Some name) valid no_start = record { valid = valid; no_start = no_start }
 both_names None valid no_start = absurd valid
 
+-- the one text that stands at an index
+same_text : (o : Option (List ℕ)) (x y : List ℕ) → o ≡ Some x → o ≡ Some y → x ≡ y
+same_text o x y here there = cc
+
 signature_of : (entries : List Entry) (m : Member) → is_static m.flags ≡ true → IsSomeAnd (utf8_at entries m.name) (λ name. is_method_name name ≡ true) → IsSomeAnd (utf8_at entries m.descriptor) (IsMethodDescriptor (receiver_words m.flags))
-    → IsMain entries m ⊎ IsSomeAnd (utf8_at entries m.descriptor) (λ d. is_int_descriptor d ≡ true) → IsSomeAnd (utf8_at entries m.name) (λ name. IsSomeAnd (utf8_at entries m.descriptor) (IsFirstSignature name))
-signature_of entries m static name descriptor (inl main) =
-    is_someAnd (utf8_at entries m.name) _ (codes "main") main.name (is_someAnd (utf8_at entries m.descriptor) _ (codes "([Ljava/lang/String;)V") main.descriptor (inl (refl, refl)))
-signature_of entries m static name descriptor (inr ints) =
-    let n = someAnd_is (utf8_at entries m.name) _ name in
+    → IsMain entries m ⊎ IsSomeAnd (utf8_at entries m.descriptor) (λ d. is_number_descriptor d ≡ true) → IsSomeAnd (utf8_at entries m.name) (λ name. IsSomeAnd (utf8_at entries m.descriptor) (IsFirstSignature name))
+signature_of entries m static name descriptor first =
     let words : receiver_words m.flags ≡ 0 = rw static refl in
-    let plain : IsSomeAnd (utf8_at entries m.descriptor) (IsMethodDescriptor 0) = subst (λ (k : ℕ). IsSomeAnd (utf8_at entries m.descriptor) (IsMethodDescriptor k)) words descriptor in
-    is_someAnd (utf8_at entries m.name) _ n.0 n.1 (short_ints (utf8_at entries m.descriptor) n.0 plain ints) where
-      short_ints : (o : Option (List ℕ)) (name : List ℕ) → IsSomeAnd o (IsMethodDescriptor 0) → IsSomeAnd o (λ d. is_int_descriptor d ≡ true) → IsSomeAnd o (IsFirstSignature name)
-      short_ints (Some d) name words ints = inr (ints, let few = (IsMethodDescriptor-ints 0 d ints).0 words in omega (arith, few))
-      short_ints None name words ints = absurd words
+    let n = someAnd_is (utf8_at entries m.name) _ name in
+    let d = someAnd_is (utf8_at entries m.descriptor) _ (subst (λ (k : ℕ). IsSomeAnd (utf8_at entries m.descriptor) (IsMethodDescriptor k)) words descriptor) in
+    let texts : ((n.0 ≡ codes "main") × (d.0 ≡ codes "([Ljava/lang/String;)V")) ⊎ (is_number_descriptor d.0 ≡ true) = elim first [
+      | inl main ↦ inl (same_text (utf8_at entries m.name) n.0 _ n.1 main.name, same_text (utf8_at entries m.descriptor) d.0 _ d.1 main.descriptor)
+      | inr numbers ↦ let t = someAnd_is (utf8_at entries m.descriptor) _ numbers in inr (ap is_number_descriptor (same_text (utf8_at entries m.descriptor) d.0 t.0 d.1 t.1) ∙ t.2)
+    ] in
+    is_someAnd (utf8_at entries m.name) _ n.0 n.1 (is_someAnd (utf8_at entries m.descriptor) (IsFirstSignature n.0) d.0 d.1 (record { valid = d.2; first = texts }))
 
 -- the parts of one method
-one_member : (in_interface : Bool) (entries : List Entry) (m : Member) → IsFirstMethod entries m → MethodIsValid in_interface entries m → MemberFits m
-    → (p : Method) × IsMemberOf p m × MethodFits p × MethodMeetsRules entries p
-one_member in_interface entries m first valid fits =
-    let a = coded m.attributes first.attributes in
+one_member : (in_interface : Bool) (c : ClassDef) (m : Member) → IsFirstMethod c m → MethodIsValid in_interface c.pool.entries m → MemberFits m
+    → (p : Method) × IsMemberOf c p m × MethodFits p × MethodMeetsRules c.pool.entries p
+one_member in_interface c m first valid fits =
+    let entries = c.pool.entries in
+    let a = coded c m.attributes first.attributes in
     let p : Method = record { flags = m.flags; name = m.name; descriptor = m.descriptor; attribute = a.0; body = code_bytes a.1 } in
     let fitting = subst (AllByRecursion MemberAttrFits) a.2 fits.attributes.each in
     let rules = subst (AllByRecursion (MethodAttrIsValid entries)) a.2 valid.attributes in
-    let body : IsFirstBody (code_bytes a.1) a.1 = record { bytes_are = refl; fits = fitting.0.1; valid = λ there. valid_anywhere entries there a.1 a.3.attributes rules.0.1; first = a.3 } in
+    let body : IsFirstBody c (code_bytes a.1) a.1 = record { bytes_are = refl; fits = fitting.0.1; valid = λ there. valid_anywhere entries there a.1 a.3.attributes rules.0.1; first = a.3 } in
     let same : m ≡ member_of p a.1 = ap (λ (each : List MemberAttr). let made : Member = record { flags = m.flags; name = m.name; descriptor = m.descriptor; attributes = each } in made) a.2 in (
       p,
       (a.1, (body, same)),
@@ -122,17 +94,17 @@ one_member in_interface entries m first valid fits =
       },
     )
 
-pub record HasMethods (entries : List Entry) (members : List Member) : Type 0 where
+pub record HasMethods (c : ClassDef) (members : List Member) : Type 0 where
   pub methods : List Method
-  pub members_of : AreMembersOf methods members
+  pub members_of : AreMembersOf c methods members
   pub fits : AllByRecursion MethodFits methods
-  pub rules : AllByRecursion (MethodMeetsRules entries) methods
+  pub rules : AllByRecursion (MethodMeetsRules c.pool.entries) methods
 
-all_members : (in_interface : Bool) (entries : List Entry) (members : List Member) → AllByRecursion (IsFirstMethod entries) members → AllByRecursion (MethodIsValid in_interface entries) members → AllByRecursion MemberFits members → HasMethods entries members
-all_members in_interface entries [] first valid fits = record { methods = []; members_of = tt; fits = tt; rules = tt }
-all_members in_interface entries (m ∷ members) first valid fits =
-    let rest = all_members in_interface entries members first.1 valid.1 fits.1 in
-    let p = one_member in_interface entries m first.0 valid.0 fits.0 in
+all_members : (in_interface : Bool) (c : ClassDef) (members : List Member) → AllByRecursion (IsFirstMethod c) members → AllByRecursion (MethodIsValid in_interface c.pool.entries) members → AllByRecursion MemberFits members → HasMethods c members
+all_members in_interface c [] first valid fits = record { methods = []; members_of = tt; fits = tt; rules = tt }
+all_members in_interface c (m ∷ members) first valid fits =
+    let rest = all_members in_interface c members first.1 valid.1 fits.1 in
+    let p = one_member in_interface c m first.0 valid.0 fits.0 in
     record { methods = p.0 ∷ rest.methods; members_of = (p.1, rest.members_of); fits = (p.2, rest.fits); rules = (p.3, rest.rules) }
 
 -- a method of the first form stands in no interface
@@ -140,17 +112,17 @@ no_start : (o : Option (List ℕ)) → o ≡ Some (codes "<clinit>") → IsSomeA
 no_start (Some name) e h = false≢true (subst (λ (v : Option (List ℕ)). IsSomeAnd v (λ name. list_all (λ c. not (c == 60)) name ≡ true)) e h)
 no_start None e h = h
 
-in_no_interface : (in_interface : Bool) (entries : List Entry) (m : Member) → IsFirstMethod entries m → MethodIsValid in_interface entries m → in_interface ≡ true → ⊥
-in_no_interface in_interface entries m first valid e =
+in_no_interface : (in_interface : Bool) (c : ClassDef) (m : Member) → IsFirstMethod c m → MethodIsValid in_interface c.pool.entries m → in_interface ≡ true → ⊥
+in_no_interface in_interface c m first valid e =
     elim (valid.of_interface e) [
       | inl abstract ↦ false≢true (sym first.not_abstract ∙ abstract)
-      | inr start ↦ no_start (utf8_at entries m.name) start first.name
+      | inr start ↦ no_start (utf8_at c.pool.entries m.name) start first.name
     ]
 
-interface_empty : (in_interface : Bool) (entries : List Entry) (methods : List Method) (members : List Member) → AreMembersOf methods members → AllByRecursion (IsFirstMethod entries) members → AllByRecursion (MethodIsValid in_interface entries) members → in_interface ≡ true → methods ≡ []
-interface_empty in_interface entries [] members h first valid e = refl
-interface_empty in_interface entries (m ∷ methods) [] h first valid e = absurd h
-interface_empty in_interface entries (m ∷ methods) (x ∷ members) h first valid e = absurd (in_no_interface in_interface entries x first.0 valid.0 e)
+interface_empty : (in_interface : Bool) (c : ClassDef) (methods : List Method) (members : List Member) → AreMembersOf c methods members → AllByRecursion (IsFirstMethod c) members → AllByRecursion (MethodIsValid in_interface c.pool.entries) members → in_interface ≡ true → methods ≡ []
+interface_empty in_interface c [] members h first valid e = refl
+interface_empty in_interface c (m ∷ methods) [] h first valid e = absurd h
+interface_empty in_interface c (m ∷ methods) (x ∷ members) h first valid e = absurd (in_no_interface in_interface c x first.0 valid.0 e)
 
 -- ---- the class
 
@@ -160,7 +132,7 @@ pub record HasParts (bytes : List ℕ) (c : ClassDef) : Type 0 where
   pub fits : PartsFit parts
   pub rules : MeetsRules parts
   pub distinct : AreMethodsDistinct parts.entries parts.methods
-  pub members_of : AreMembersOf parts.methods c.methods
+  pub members_of : AreMembersOf (bare_class parts) parts.methods c.methods
   pub made_of : class_of_parts parts c.methods ≡ c
 
 -- minor, major, interfaces, fields and attributes are those of the first form
@@ -173,15 +145,16 @@ same_class c methods first =
 
 pub has_parts : (bytes : List ℕ) (c : ClassDef) → IsFirstForm c → Spells bytes c → HasParts bytes c
 has_parts bytes c first spells =
-    let m = all_members (is_interface c.flags) c.pool.entries c.methods first.methods spells.methods spells.fits.methods.each in
+    let m = all_members (is_interface c.flags) c c.methods first.methods spells.methods spells.fits.methods.each in
     let parts : Class = record { entries = c.pool.entries; flags = c.flags; this_class = c.this_class; super_class = c.super_class; methods = m.methods } in
     let same = same_class c m.methods first in
-    let count : FitsTwo (length m.methods) = subst FitsTwo (members_spelled m.methods c.methods m.members_of).1 spells.fits.methods.count in
+    let declared : SameDeclared c (bare_class parts) = record { entries = refl; this_class = refl; methods = (names_of_members c m.methods c.methods m.members_of).1 } in
+    let count : FitsTwo (length m.methods) = subst FitsTwo (members_spelled c m.methods c.methods m.members_of).1 spells.fits.methods.count in
     record {
       parts = parts;
-      bytes_are = spells.bytes_are ∙ ap class_bytes (sym same) ∙ class_spelled parts c.methods m.members_of;
+      bytes_are = spells.bytes_are ∙ ap class_bytes (sym same) ∙ class_spelled c parts c.methods m.members_of;
       fits = record {
-        entries = pool_read c.pool.entries spells.slots first.entries spells.fits.pool;
+        entries = record { fits = spells.fits.pool; first = first.entries; slots = spells.slots };
         flags = spells.fits.flags;
         this_class = spells.fits.this_class;
         super_class = spells.fits.super_class;
@@ -191,10 +164,10 @@ has_parts bytes c first spells =
         entries = spells.entries;
         names = record { this_class = spells.this_class; superclass = first.superclass };
         methods = m.rules;
-        interface = interface_empty (is_interface c.flags) c.pool.entries m.methods c.methods m.members_of first.methods spells.methods;
+        interface = interface_empty (is_interface c.flags) c m.methods c.methods m.members_of first.methods spells.methods;
       };
-      distinct = distinct_methods c.pool.entries m.methods c.methods m.members_of spells.distinct_methods;
-      members_of = m.members_of;
+      distinct = distinct_methods c.pool.entries c m.methods c.methods m.members_of spells.distinct_methods;
+      members_of = members_kept c (bare_class parts) declared m.methods c.methods m.members_of;
       made_of = same;
     }
 
@@ -221,7 +194,7 @@ only_no_memory bytes c fail.NotYet h p = absurd (let read = is_read bytes c p in
 pub record IsOf (parts : Class) (c : ClassDef) : Type 0 where
   pub rules : MeetsRules parts
   pub distinct : AreMethodsDistinct parts.entries parts.methods
-  pub members_of : AreMembersOf parts.methods c.methods
+  pub members_of : AreMembersOf (bare_class parts) parts.methods c.methods
   pub made_of : class_of_parts parts c.methods ≡ c
 
 pub parts_are : (bytes : List ℕ) (parts : Class) (c : ClassDef) → class_at bytes ≡ Some parts → IsFirstForm c → Spells bytes c → IsOf parts c

@@ -1,5 +1,5 @@
 -- A method of the first form as a piece.
-use Rattle.std.proofs.Common.{◌≡◌, ℕ, List, ◌++◌, length, Some, refl, sym, ap, subst, ◌∙◌, append_assoc, arith}
+use Rattle.std.proofs.Common.{◌≡◌, ℕ, List, [], ◌∷◌, ◌++◌, length, Option, Some, refl, sym, ap, subst, ◌∙◌, append_assoc, arith}
 use Rattle.std.specs.List.{flat_map, AllByRecursion}
 use Rattle.fm_code.specs.Numbers.{two, four}
 use Rattle.fm_code.specs.ClassBytes.{attribute_bytes, counted}
@@ -31,7 +31,7 @@ attribute_takes bytes x fits e =
     let e13 = Takes-then a.0 (two b.0.0) b.0.1 (four (length d.0.0) ++ d.0.0) d.0.1 t1.0 sized in
     let e03 = Takes-then bytes (two 1) a.0 (attribute_bytes b.0.0 d.0.0) d.0.1 t0 e13 in
     let made : (ℕ × List ℕ) × List ℕ = ((b.0.0, d.0.0), d.0.1) in
-    subst (λ (y : (ℕ × List ℕ) × List ℕ). Takes bytes (one_attribute_bytes y.0) y.1 × AttributeFits y.0) {x = made} (some_is made x d.2) (e03, (t1.1, subst FitsFour (sym t3.1) t2.1))
+    subst (λ (y : (ℕ × List ℕ) × List ℕ). Takes bytes (one_attribute_bytes y.0) y.1 × AttributeFits y.0) (some_is made x d.2) (e03, (t1.1, subst FitsFour (sym t3.1) t2.1))
 
 attribute_again : (a : ℕ × List ℕ) (rest : List ℕ) → AttributeFits a → attribute_at (one_attribute_bytes a ++ rest) ≡ Some (a, rest)
 unfolding attribute_at
@@ -70,7 +70,7 @@ method_takes bytes x fits e =
     let e13 = Takes-then a.0.1 (two b.0.0) b.0.1 (two c.0.0 ++ one_attribute_bytes d.0.0) d.0.1 t1.0 e23 in
     let e03 = Takes-then bytes (two a.0.0) a.0.1 (two b.0.0 ++ (two c.0.0 ++ one_attribute_bytes d.0.0)) d.0.1 t0.0 e13 in
     let made : Method × List ℕ = (record { flags = a.0.0; name = b.0.0; descriptor = c.0.0; attribute = d.0.0.0; body = d.0.0.1 }, d.0.1) in
-    subst (λ (y : Method × List ℕ). Takes bytes (method_bytes y.0) y.1 × MethodFits y.0) {x = made} (some_is made x d.2)
+    subst (λ (y : Method × List ℕ). Takes bytes (method_bytes y.0) y.1 × MethodFits y.0) (some_is made x d.2)
     (e03, record { flags = t0.1; name = t1.1; descriptor = t2.1; attribute = t3.1.0; size = t3.1.1 })
 
 method_again : (m : Method) (rest : List ℕ) → MethodFits m → method_at (method_bytes m ++ rest) ≡ Some (m, rest)

@@ -1,83 +1,199 @@
--- Laws of names and of descriptors of ints.
-use Rattle.std.proofs.Common.{◌≡◌, ◌↔◌, ℕ, zero, suc, ◌+◌, ◌-◌, ◌≤◌, ◌<◌, Bool, true, false, ◌&&◌, ◌||◌, eqb, replicate, List, [], ◌∷◌, ◌++◌, length, take, drop, get_or, length-append, refl, sym, ap, ◌∙◌, arith, inl, inr}
+-- Laws of names, of descriptors of numbers and of descriptors of fields.
+use Rattle.std.proofs.Common.{◌≡◌, ◌↔◌, ℕ, zero, suc, ◌+◌, ◌≤◌, ◌<◌, Bool, true, false, ◌&&◌, ◌||◌, not, eqb, cond, replicate, List, [], ◌∷◌, ◌++◌, length, take, drop, length-append, length-drop, append_assoc, get_or, ◌-◌, IsTrue, Option, Some, None, refl, sym, ap, subst, ◌∙◌, arith, inl, inr}
 use Rattle.std.specs.List.{prefix_len, list_all}
-use Rattle.std.specs.Str.{bytes_eq}
 use Rattle.std.proofs.lemmas.Bool.{cases_Bool, both_ways, eqb-true}
-use Rattle.fm_code.specs.Names.{is_name_character, is_unqualified, is_binary_name, is_primitive_letter, BaseType, primitive, object, IsBaseType, base_descriptor, IsArrayName}
-use Rattle.std.proofs.lemmas.List.{take_all, take_at, take_more, get_or_at, drop_at, length-replicate}
-use Rattle.fm_read.specs.NamesParts.{IsBaseDescriptor}
-use Rattle.fm_code.specs.FirstForm.{is_int_descriptor}
+use Rattle.std.proofs.lemmas.List.{take_at, drop_at, length-replicate, take-append-drop, append-nil, take_all, nil_from_length, get_or-drop}
+use Rattle.std.proofs.lemmas.List.Sums.{prefix_len_stops}
+use Rattle.fm_code.specs.Names.{is_name_character, is_unqualified, is_binary_name, are_parts, is_primitive_letter, BaseType, primitive, object, IsBaseType, base_descriptor, FieldType, field_descriptor, words_of, IsFieldDescriptor, IsArrayName}
+use Rattle.fm_code.specs.FirstForm.{is_number_descriptor}
+use Rattle.fm_read.specs.NamesParts.{is_number_letter, is_number_end, first_words, StartsWithClass, StartsWithBase, StartsWithField}
 
--- ) and the letter of an int's or of no result
-abbrev pub is_end : List ℕ → Bool
-is_end bytes = bytes_eq bytes (41 ∷ 73 ∷ []) || bytes_eq bytes (41 ∷ 86 ∷ [])
+-- ---- lists
 
-pub or_after_false : (a b : Bool) → a ≡ false → (a || b) ≡ b
-or_after_false a b e = rw e refl
+pub heads : (a b : ℕ) (xs ys : List ℕ) → a ∷ xs ≡ b ∷ ys → a ≡ b
+heads a b xs ys e = cc
 
-both-fail : (a : Bool) → (a && false) ≡ ((a && false) || (a && false))
-both-fail true = refl
-both-fail false = refl
+pub tails : (a b : ℕ) (xs ys : List ℕ) → a ∷ xs ≡ b ∷ ys → xs ≡ ys
+tails a b xs ys e = cc
 
-one-of : (a b c : Bool) → (a && (b || c)) ≡ ((a && (b && true)) || (a && (c && true)))
-one-of true true c = refl
-one-of true false true = refl
-one-of true false false = refl
-one-of false b c = refl
+-- a list by its first element
+pub cons_is : (b : ℕ) (xs : List ℕ) → 0 < length xs → get_or xs 0 0 ≡ b → xs ≡ b ∷ take (length xs - 1) (drop 1 xs)
+cons_is b [] some e = absurd (omega arith)
+cons_is b (x ∷ xs) some e =
+    let all : take (suc (length xs) - 1) xs ≡ xs = take_all (suc (length xs) - 1) xs (omega arith) in
+    ap (λ (y : ℕ). y ∷ xs) e ∙ ap (λ (ys : List ℕ). b ∷ ys) (sym all)
 
-too-long : (a b c : Bool) → (a && false) ≡ ((a && (b && false)) || (a && (c && false)))
-too-long true true true = refl
-too-long true true false = refl
-too-long true false true = refl
-too-long true false false = refl
-too-long false b c = refl
+abbrev pub found : List ℕ → Option (List ℕ)
+found rest = Some rest
 
--- behind the ( and before an I
-is_int_descriptor-other : (c : ℕ) (cs : List ℕ) → eqb c 73 ≡ false → is_int_descriptor (40 ∷ c ∷ cs) ≡ is_end (c ∷ cs)
-is_int_descriptor-other c [] e = rw e (both-fail (eqb c 41))
-is_int_descriptor-other c (r ∷ []) e = rw e (one-of (eqb c 41) (eqb r 73) (eqb r 86))
-is_int_descriptor-other c (r ∷ s ∷ more) e = rw e (too-long (eqb c 41) (eqb r 73) (eqb r 86))
+pub found_is : (xs ys : List ℕ) → found xs ≡ found ys → xs ≡ ys
+found_is xs ys e = cc
 
 suc-is : (n : ℕ) → 1 + n ≡ suc n
 suc-is n = omega arith
 
--- behind the ( stand ints, and then the end
-pub is_int_descriptor-ints : (rest : List ℕ) → is_int_descriptor (40 ∷ rest) ≡ is_end (drop (prefix_len (λ c. eqb c 73) rest) rest)
-is_int_descriptor-ints [] = refl
-is_int_descriptor-ints (c ∷ cs) =
-    elim (cases_Bool (eqb c 73)) [
-      | inl e ↦ rw (e, suc-is (prefix_len (λ c. eqb c 73) cs)) (is_int_descriptor-ints cs)
-      | inr e ↦ is_int_descriptor-other c cs e ∙ (rw e refl)
+and_second : (a b : Bool) → (a && b) ≡ true → b ≡ true
+and_second true b e = e
+and_second false b e = absurd cc
+
+-- ---- descriptors of numbers
+
+and_false : (a : Bool) → (a && false) ≡ false
+and_false true = refl
+and_false false = refl
+
+and_true : (a : Bool) → (a && true) ≡ a
+and_true true = refl
+and_true false = refl
+
+one_of : (a b c d : Bool) → (a && (b || c || d)) ≡ ((a && (b && true)) || (a && (c && true)) || (a && (d && true)))
+one_of true b c d = rw (and_true b, and_true c, and_true d) refl
+one_of false b c d = refl
+
+-- behind the ( and before a letter that is no number's
+is_number_descriptor-other : (c : ℕ) (cs : List ℕ) → is_number_letter c ≡ false → is_number_descriptor (40 ∷ c ∷ cs) ≡ is_number_end (c ∷ cs)
+is_number_descriptor-other c [] e = rw (e, and_false (eqb c 41)) refl
+is_number_descriptor-other c (r ∷ []) e = rw e (one_of (eqb c 41) (eqb r 73) (eqb r 74) (eqb r 86))
+is_number_descriptor-other c (r ∷ s ∷ more) e = rw (e, and_false (eqb c 41), and_false (eqb r 73), and_false (eqb r 74), and_false (eqb r 86), and_false (eqb c 41)) refl
+
+-- behind the ( stand numbers, and then the end
+is_number_descriptor-numbers : (rest : List ℕ) → is_number_descriptor (40 ∷ rest) ≡ is_number_end (drop (prefix_len is_number_letter rest) rest)
+is_number_descriptor-numbers [] = refl
+is_number_descriptor-numbers (c ∷ cs) =
+    elim (cases_Bool (is_number_letter c)) [
+      | inl e ↦ rw (e, suc-is (prefix_len is_number_letter cs)) (is_number_descriptor-numbers cs)
+      | inr e ↦ is_number_descriptor-other c cs e ∙ (rw e refl)
     ]
 
--- behind the ( stand ints, and then one of two texts
-pub is_int_descriptor-by_texts : (rest : List ℕ) (n : ℕ) → n ≡ prefix_len (λ c. eqb c 73) rest → (end : List ℕ) → end ≡ drop n rest → is_int_descriptor (40 ∷ rest) ≡ is_end end
-is_int_descriptor-by_texts rest n is end same = is_int_descriptor-ints rest ∙ ap (λ k. is_end (drop k rest)) (sym is) ∙ ap is_end (sym same)
+pub is_number_descriptor-by_end : (rest : List ℕ) (n : ℕ) → n ≡ prefix_len is_number_letter rest → is_number_descriptor (40 ∷ rest) ≡ is_number_end (drop n rest)
+is_number_descriptor-by_end rest n is = is_number_descriptor-numbers rest ∙ ap (λ (k : ℕ). is_number_end (drop k rest)) (sym is)
+
+-- ---- names
 
 -- a name with a character in it
 pub is_unqualified-some : (name : List ℕ) → (length name ≡ 0 → ⊥) → is_unqualified name ≡ list_all is_name_character name
 is_unqualified-some [] some = absurd (some refl)
 is_unqualified-some (c ∷ name) some = refl
 
--- ---- arrays
+-- ---- a class and ;
+
+abbrev is_before : ℕ → Bool
+is_before c = not (eqb c 59)
+
+-- no ; stands in a class's name
+prefix_len-name : (begun : Bool) (name rest : List ℕ) → are_parts begun name ≡ true → prefix_len is_before (name ++ 59 ∷ rest) ≡ length name
+prefix_len-name begun [] rest ok = refl
+prefix_len-name begun (c ∷ cs) rest ok =
+    elim (cases_Bool (eqb c 59)) [
+      | inl semicolon ↦ absurd (both_ways (are_parts begun (c ∷ cs)) (ap (λ (b : ℕ). are_parts begun (b ∷ cs)) (eqb-true c 59 semicolon)) ok)
+      | inr other ↦ rw other (suc-is (prefix_len is_before (cs ++ 59 ∷ rest)) ∙ ap suc (elim (cases_Bool (eqb c 47)) [
+        | inl slash ↦ prefix_len-name false cs rest (and_second begun (are_parts false cs) (rw slash at ok))
+        | inr character ↦ prefix_len-name true cs rest (and_second _ (are_parts true cs) (rw character at ok))
+      ]))
+    ]
+
+-- the name is what stands before the first ;
+pub class_parts : (bytes rest : List ℕ) (n : ℕ) → n ≡ prefix_len is_before bytes → StartsWithClass bytes rest → (is_binary_name (take n bytes) ≡ true) × (drop n bytes ≡ 59 ∷ rest)
+class_parts bytes rest n is w =
+    let size : length w.name ≡ n = sym (prefix_len-name false w.name rest w.is_name) ∙ ap (prefix_len is_before) (sym w.bytes_are) ∙ sym is in
+    let front : take n bytes ≡ w.name = ap (take n) w.bytes_are ∙ take_at w.name (59 ∷ rest) n size in
+    (ap is_binary_name front ∙ w.is_name, ap (drop n) w.bytes_are ∙ drop_at w.name (59 ∷ rest) n size)
+
+pub class_from : (bytes rest : List ℕ) (n : ℕ) → is_binary_name (take n bytes) ≡ true → drop n bytes ≡ 59 ∷ rest → StartsWithClass bytes rest
+class_from bytes rest n ok behind =
+    record { name = take n bytes; is_name = ok; bytes_are = sym (take-append-drop n bytes) ∙ ap (λ (w : List ℕ). take n bytes ++ w) behind }
+
+-- what stands behind the bytes before the first ; begins with it
+semicolon : (bytes : List ℕ) (n first : ℕ) (rest : List ℕ) → n ≡ prefix_len is_before bytes → drop n bytes ≡ first ∷ rest → first ≡ 59
+semicolon bytes n first rest is behind =
+    let within : n < length bytes = omega (arith, ap length behind, length-drop n bytes) in
+    let stops : is_before (get_or bytes n 0) ≡ false = rw is (prefix_len_stops is_before bytes 0 (omega (arith, within, is))) in
+    let plain : n ≡ n + 0 = omega arith in
+    let at : get_or bytes n 0 ≡ first = ap (λ (k : ℕ). get_or bytes k 0) plain ∙ sym (get_or-drop n bytes 0 0) ∙ ap (λ (ys : List ℕ). get_or ys 0 0) behind in
+    eqb-true first 59 (not_false (eqb first 59) (ap is_before (sym at) ∙ stops)) where
+      not_false : (b : Bool) → not b ≡ false → b ≡ true
+      not_false true e = refl
+      not_false false e = absurd cc
+
+pub class_decided : (bytes front back behind : List ℕ) (n first : ℕ) → n ≡ prefix_len is_before bytes → front ≡ take n bytes → back ≡ drop n bytes → back ≡ first ∷ behind → is_binary_name front ≡ true
+    → (rest : List ℕ) → StartsWithClass bytes rest ↔ (found behind ≡ found rest)
+class_decided bytes front back behind n first is front_is back_is split ok rest =
+    let dropped = sym back_is ∙ split in
+    let ends = ap (λ (b : ℕ). b ∷ behind) (semicolon bytes n first behind is dropped) in (
+      λ w. ap found (tails _ _ _ _ (sym dropped ∙ (class_parts bytes rest n is w).1)),
+      λ e. class_from bytes rest n (ap is_binary_name (sym front_is) ∙ ok) (dropped ∙ ends ∙ ap (λ (r : List ℕ). 59 ∷ r) (found_is behind rest e)),
+    )
+
+-- no ; at all
+pub class_endless : (bytes back rest : List ℕ) (n : ℕ) → n ≡ prefix_len is_before bytes → back ≡ drop n bytes → length back ≡ 0 → StartsWithClass bytes rest → ⊥
+class_endless bytes back rest n is back_is empty w = omega (arith, empty, ap length (back_is ∙ (class_parts bytes rest n is w).1))
+
+-- what stands before it is no name
+pub class_nameless : (bytes front rest : List ℕ) (n : ℕ) → n ≡ prefix_len is_before bytes → front ≡ take n bytes → is_binary_name front ≡ false → StartsWithClass bytes rest → ⊥
+class_nameless bytes front rest n is front_is bad w = both_ways (is_binary_name front) bad (ap is_binary_name front_is ∙ (class_parts bytes rest n is w).0)
+
+-- ---- types that aren't arrays
+
+-- behind an L stand a class and ;
+pub base_class : (tail rest : List ℕ) → StartsWithBase (76 ∷ tail) rest ↔ StartsWithClass tail rest
+base_class tail rest = (λ w. there w.base w.is_base w.bytes_are, back) where
+  there : (b : BaseType) → IsBaseType b → 76 ∷ tail ≡ base_descriptor b ++ rest → StartsWithClass tail rest
+  there (primitive letter) ok e = absurd (both_ways (is_primitive_letter letter) (ap is_primitive_letter (sym (heads _ _ _ _ e))) ok)
+  there (object name) ok e = record { name = name; is_name = ok; bytes_are = tails _ _ _ _ e ∙ append_assoc name (59 ∷ []) rest }
+
+  back : StartsWithClass tail rest → StartsWithBase (76 ∷ tail) rest
+  back w = record { base = object w.name; is_base = w.is_name; bytes_are = ap (λ (t : List ℕ). 76 ∷ t) (w.bytes_are ∙ sym (append_assoc w.name (59 ∷ []) rest)) }
+
+-- behind a primitive type's letter stands the rest
+pub base_letter : (c : ℕ) (tail rest : List ℕ) → is_primitive_letter c ≡ true → StartsWithBase (c ∷ tail) rest ↔ (tail ≡ rest)
+base_letter c tail rest letter = (λ w. there w.base w.is_base w.bytes_are, λ e. record { base = primitive c; is_base = letter; bytes_are = ap (λ (t : List ℕ). c ∷ t) e }) where
+  there : (b : BaseType) → IsBaseType b → c ∷ tail ≡ base_descriptor b ++ rest → tail ≡ rest
+  there (primitive l) ok e = tails _ _ _ _ e
+  there (object name) ok e = absurd (both_ways (is_primitive_letter c) (ap is_primitive_letter (heads _ _ _ _ e)) letter)
+
+pub base_class_at : (bytes rest : List ℕ) → 0 < length bytes → get_or bytes 0 0 ≡ 76 → StartsWithBase bytes rest ↔ StartsWithClass (take (length bytes - 1) (drop 1 bytes)) rest
+base_class_at bytes rest some first =
+    let tail = take (length bytes - 1) (drop 1 bytes) in
+    subst (λ (all : List ℕ). StartsWithBase all rest ↔ StartsWithClass tail rest) (sym (cons_is 76 bytes some first)) (base_class tail rest)
+
+pub base_letter_at : (bytes rest : List ℕ) → 0 < length bytes → is_primitive_letter (get_or bytes 0 0) ≡ true → StartsWithBase bytes rest ↔ (found (take (length bytes - 1) (drop 1 bytes)) ≡ found rest)
+base_letter_at bytes rest some letter =
+    let tail = take (length bytes - 1) (drop 1 bytes) in
+    let whole = base_letter (get_or bytes 0 0) tail rest letter in
+    subst (λ (all : List ℕ). StartsWithBase all rest ↔ (found tail ≡ found rest)) (sym (cons_is (get_or bytes 0 0) bytes some refl)) (λ w. ap found (whole.0 w), λ e. whole.1 (found_is tail rest e))
+
+-- nothing else is one
+pub base_nothing : (rest : List ℕ) → StartsWithBase [] rest → ⊥
+base_nothing rest w = none w.base w.bytes_are where
+  none : (b : BaseType) → [] ≡ base_descriptor b ++ rest → ⊥
+  none (primitive l) e = cc
+  none (object name) e = cc
+
+pub base_other : (c : ℕ) (tail rest : List ℕ) → (c ≡ 76 → ⊥) → is_primitive_letter c ≡ false → StartsWithBase (c ∷ tail) rest → ⊥
+base_other c tail rest no_class no_letter w = none w.base w.is_base w.bytes_are where
+  none : (b : BaseType) → IsBaseType b → c ∷ tail ≡ base_descriptor b ++ rest → ⊥
+  none (primitive l) ok e = both_ways (is_primitive_letter c) no_letter (ap is_primitive_letter (heads _ _ _ _ e) ∙ ok)
+  none (object name) ok e = no_class (heads _ _ _ _ e)
+
+-- ---- fields
 
 abbrev is_bracket : ℕ → Bool
 is_bracket c = eqb c 91
 
-prefix_len-base : (b : BaseType) → IsBaseType b → prefix_len is_bracket (base_descriptor b) ≡ 0
-prefix_len-base (primitive letter) ok =
+prefix_len-base : (b : BaseType) (rest : List ℕ) → IsBaseType b → prefix_len is_bracket (base_descriptor b ++ rest) ≡ 0
+prefix_len-base (primitive letter) rest ok =
     elim (cases_Bool (eqb letter 91)) [
       | inl e ↦ absurd (both_ways (is_primitive_letter letter) (ap is_primitive_letter (eqb-true letter 91 e)) ok)
       | inr e ↦ rw e refl
     ]
-prefix_len-base (object name) ok = refl
+prefix_len-base (object name) rest ok = refl
 
 prefix_len-brackets : (n : ℕ) (rest : List ℕ) → prefix_len is_bracket rest ≡ 0 → prefix_len is_bracket (replicate n 91 ++ rest) ≡ n
 prefix_len-brackets zero rest none = none
 prefix_len-brackets (suc n) rest none = suc-is (prefix_len is_bracket (replicate n 91 ++ rest)) ∙ ap suc (prefix_len-brackets n rest none)
 
 -- what stands at the front of a list again and again
-pub replicate-prefix_len : (b : ℕ) (xs : List ℕ) → xs ≡ replicate (prefix_len (λ c. eqb c b) xs) b ++ drop (prefix_len (λ c. eqb c b) xs) xs
+replicate-prefix_len : (b : ℕ) (xs : List ℕ) → xs ≡ replicate (prefix_len (λ c. eqb c b) xs) b ++ drop (prefix_len (λ c. eqb c b) xs) xs
 replicate-prefix_len b [] = refl
 replicate-prefix_len b (c ∷ cs) =
     elim (cases_Bool (eqb c b)) [
@@ -86,78 +202,69 @@ replicate-prefix_len b (c ∷ cs) =
     ]
 
 -- as many [ as there are at the front, and then what isn't an array
-pub IsArrayName-parts : (name : List ℕ) (n : ℕ) → n ≡ prefix_len (λ c. eqb c 91) name → IsArrayName name ↔ ((0 < n) × (n ≤ 255) × IsBaseDescriptor (drop n name))
-IsArrayName-parts name n is = (parts, λ p. back p.0 p.1 p.2) where
-  parts : IsArrayName name → (0 < n) × (n ≤ 255) × IsBaseDescriptor (drop n name)
+pub field_parts : (bytes rest : List ℕ) (n : ℕ) → n ≡ prefix_len is_bracket bytes → StartsWithField bytes rest ↔ ((n ≤ 255) × StartsWithBase (drop n bytes) rest)
+field_parts bytes rest n is = (parts, λ p. back p.0 p.1) where
+  parts : StartsWithField bytes rest → (n ≤ 255) × StartsWithBase (drop n bytes) rest
   parts w =
-      let t = w.0 in
-      let ok = w.1.0 in
-      let some = w.1.1.0 in
-      let spelled = w.1.1.1 in
-      let k : n ≡ t.dimensions = is ∙ ap (prefix_len is_bracket) spelled ∙ prefix_len-brackets t.dimensions (base_descriptor t.base) (prefix_len-base t.base ok.base) in
-      let inner : drop n name ≡ base_descriptor t.base =
-      ap (drop n) spelled ∙ drop_at (replicate t.dimensions 91) (base_descriptor t.base) n (length-replicate t.dimensions 91 ∙ sym k) in
-      (omega (arith, some), omega (arith, ok.dimensions), (t.base, (ok.base, inner)))
+      let base = base_descriptor w.type.base ++ rest in
+      let spelled : bytes ≡ replicate w.type.dimensions 91 ++ base = w.bytes_are ∙ append_assoc (replicate w.type.dimensions 91) (base_descriptor w.type.base) rest in
+      let k : n ≡ w.type.dimensions = is ∙ ap (prefix_len is_bracket) spelled ∙ prefix_len-brackets w.type.dimensions base (prefix_len-base w.type.base rest w.is_type.base) in
+      let inner : drop n bytes ≡ base = ap (drop n) spelled ∙ drop_at (replicate w.type.dimensions 91) base n (length-replicate w.type.dimensions 91 ∙ sym k) in
+      (omega (arith, w.is_type.dimensions), record { base = w.type.base; is_base = w.is_type.base; bytes_are = inner })
 
-  back : 0 < n → n ≤ 255 → IsBaseDescriptor (drop n name) → IsArrayName name
-  back some few base =
-      let whole : name ≡ replicate n 91 ++ base_descriptor base.0 = replicate-prefix_len 91 name ∙ ap (λ (k : ℕ). replicate k 91 ++ drop k name) (sym is) ∙ ap (λ (ys : List ℕ). replicate n 91 ++ ys) base.1.1 in
-      (record { dimensions = n; base = base.0 }, (record { dimensions = few; base = base.1.0 }, (some, whole)))
+  back : n ≤ 255 → StartsWithBase (drop n bytes) rest → StartsWithField bytes rest
+  back few w =
+      let whole : bytes ≡ (replicate n 91 ++ base_descriptor w.base) ++ rest =
+      replicate-prefix_len 91 bytes ∙ ap (λ (k : ℕ). replicate k 91 ++ drop k bytes) (sym is) ∙ ap (λ (ys : List ℕ). replicate n 91 ++ ys) w.bytes_are ∙ sym (append_assoc (replicate n 91) (base_descriptor w.base) rest) in
+      record { type = record { dimensions = n; base = w.base }; is_type = record { dimensions = few; base = w.is_base }; bytes_are = whole }
 
--- ---- types that aren't arrays
+-- a descriptor has at least one character
+pub field_takes : (bytes rest : List ℕ) → StartsWithField bytes rest → length rest < length bytes
+field_takes bytes rest w =
+    let some = base_some w.type.base in
+    omega (arith, some, ap length w.bytes_are, length-append (field_descriptor w.type) rest, length-append (replicate w.type.dimensions 91) (base_descriptor w.type.base)) where
+      base_some : (b : BaseType) → 0 < length (base_descriptor b)
+      base_some (primitive letter) = omega arith
+      base_some (object name) = omega arith
 
--- a letter alone
-pub IsBaseDescriptor-letter : (d : List ℕ) (r : Bool) → length d ≡ 1 → r ≡ is_primitive_letter (get_or d 0 0) → (r ≡ true) ↔ IsBaseDescriptor d
-IsBaseDescriptor-letter [] r one is = absurd (omega arith)
-IsBaseDescriptor-letter (c ∷ []) r one is = (λ e. (primitive c, (sym is ∙ e, refl)), λ base. is ∙ only base.0 base.1.0 base.1.1) where
-  only : (b : BaseType) → IsBaseType b → c ∷ [] ≡ base_descriptor b → is_primitive_letter c ≡ true
-  only (primitive letter) ok same = let e : c ≡ letter = cc in rw e ok
-  only (object name) ok same = absurd (omega (arith, ap length same, length-append name (59 ∷ [])))
-IsBaseDescriptor-letter (c ∷ d ∷ rest) r one is = absurd (omega arith)
+-- the first character tells the words
+pub words_of-first : (t : FieldType) (rest : List ℕ) → words_of t ≡ first_words (field_descriptor t ++ rest)
+words_of-first t rest = by t.dimensions t.base where
+  by : (dimensions : ℕ) (base : BaseType) → words_of (record { dimensions = dimensions; base = base }) ≡ first_words ((replicate dimensions 91 ++ base_descriptor base) ++ rest)
+  by (suc n) (primitive letter) = refl
+  by (suc n) (object name) = refl
+  by zero (primitive letter) = refl
+  by zero (object name) = refl
 
--- what stands between an L and a ;
-between-is : (xs : List ℕ) → 0 < length xs → get_or xs (length xs - 1) 0 ≡ 59 → xs ≡ take (length xs - 1) xs ++ 59 ∷ []
-between-is xs some last =
-    let back : length xs - 1 + 1 ≡ length xs = omega arith in
-    let whole : take (length xs) xs ≡ xs = take_all (length xs) xs (omega arith) in
-    sym whole ∙ ap (λ n. take n xs) (sym back) ∙ take_more xs (length xs - 1) 0 (omega arith) ∙ ap (λ b. take (length xs - 1) xs ++ b ∷ []) last
+-- a field's descriptor alone
+pub field_alone : (bytes : List ℕ) → IsFieldDescriptor bytes ↔ StartsWithField bytes []
+field_alone bytes =
+    (λ w. record { type = w.0; is_type = w.1.0; bytes_are = w.1.1 ∙ sym (append-nil (field_descriptor w.0)) }, λ w. (w.type, (w.is_type, w.bytes_are ∙ append-nil (field_descriptor w.type))))
 
-last-of : (c : ℕ) (xs : List ℕ) → 0 < length xs → get_or (c ∷ xs) (length (c ∷ xs) - 1) 0 ≡ get_or xs (length xs - 1) 0
-last-of c xs some = let k : length (c ∷ xs) - 1 ≡ suc (length xs - 1) = omega arith in ap (λ n. get_or (c ∷ xs) n 0) k
+-- a field's descriptor, and nothing behind it
+pub field_decided : (bytes after : List ℕ) (r : Bool) → r ≡ eqb (length after) 0 → ((rest : List ℕ) → StartsWithField bytes rest ↔ (found after ≡ found rest)) → IsTrue r ↔ IsFieldDescriptor bytes
+field_decided bytes after r is decides = (there, back) where
+  there : IsTrue r → IsFieldDescriptor bytes
+  there t =
+      let empty : after ≡ [] = nil_from_length after (eqb-true _ _ (sym is ∙ t)) in
+      (field_alone bytes).1 ((decides []).1 (ap found empty))
 
--- a class between L and ;
-pub IsBaseDescriptor-class : (d : List ℕ) (r : Bool) → 2 ≤ length d → get_or d 0 0 ≡ 76 → get_or d (length d - 1) 0 ≡ 59
-    → r ≡ is_binary_name (take (length d - 1 - 1) (drop 1 d)) → (r ≡ true) ↔ IsBaseDescriptor d
-IsBaseDescriptor-class [] r two first last is = absurd (omega arith)
-IsBaseDescriptor-class (c ∷ xs) r two first last is =
-    (λ e. (object (take (length xs - 1) xs), (sym at ∙ e, whole)), λ base. at ∙ only base.0 base.1.0 base.1.1) where
-      less : suc (length xs) - 1 - 1 ≡ length xs - 1
-      less = omega arith
+  back : IsFieldDescriptor bytes → IsTrue r
+  back w =
+      let empty : after ≡ [] = found_is after [] ((decides []).0 ((field_alone bytes).0 w)) in
+      is ∙ ap (λ (ys : List ℕ). eqb (length ys) 0) empty
 
-      at : r ≡ is_binary_name (take (length xs - 1) xs)
-      at = is ∙ ap (λ n. is_binary_name (take n xs)) less
+-- a field's descriptor that begins with [ is an array's
+pub array_is : (tail : List ℕ) → IsFieldDescriptor (91 ∷ tail) → IsArrayName (91 ∷ tail)
+array_is tail w = (w.0, (w.1.0, (some w.0.dimensions w.0.base w.1.0.base w.1.1, w.1.1))) where
+  some : (dimensions : ℕ) (base : BaseType) → IsBaseType base → 91 ∷ tail ≡ replicate dimensions 91 ++ base_descriptor base → 0 < dimensions
+  some (suc n) base ok e = omega arith
+  some zero (primitive letter) ok e = absurd (both_ways (is_primitive_letter letter) (ap is_primitive_letter (sym (heads _ _ _ _ e))) ok)
+  some zero (object name) ok e = absurd (omega (arith, heads _ _ _ _ e))
 
-      final : get_or xs (length xs - 1) 0 ≡ 59
-      final = sym (last-of c xs (omega arith)) ∙ last
-
-      whole : c ∷ xs ≡ 76 ∷ (take (length xs - 1) xs ++ 59 ∷ [])
-      whole = ap (λ b. b ∷ xs) first ∙ ap (λ ys. 76 ∷ ys) (between-is xs (omega arith) final)
-
-      only : (b : BaseType) → IsBaseType b → c ∷ xs ≡ base_descriptor b → is_binary_name (take (length xs - 1) xs) ≡ true
-      only (primitive letter) ok same = absurd (omega (arith, ap length same))
-      only (object name) ok same =
-          let tails : xs ≡ name ++ 59 ∷ [] = cc in
-          let size : length xs ≡ length name + 1 = ap length tails ∙ length-append name (59 ∷ []) in
-          let k : length name ≡ length xs - 1 = omega arith in
-          let front : take (length xs - 1) xs ≡ name = ap (λ ys. take (length xs - 1) ys) tails ∙ take_at name (59 ∷ []) (length xs - 1) k in
-          ap is_binary_name front ∙ ok
-
--- neither
-pub IsBaseDescriptor-none : (d : List ℕ) → 2 ≤ length d → (get_or d 0 0 ≡ 76 → get_or d (length d - 1) 0 ≡ 59 → ⊥) → IsBaseDescriptor d → ⊥
-IsBaseDescriptor-none d two neither base = only base.0 base.1.1 where
-  only : (b : BaseType) → d ≡ base_descriptor b → ⊥
-  only (primitive letter) same = absurd (omega (arith, ap length same))
-  only (object name) same =
-      let size : length d ≡ suc (length (name ++ 59 ∷ [])) = ap length same in
-      let k : length (76 ∷ name) ≡ length d - 1 = omega (arith, length-append name (59 ∷ [])) in
-      neither (ap (λ ys. get_or ys 0 0) same) (ap (λ ys. get_or ys (length d - 1) 0) same ∙ get_or_at (76 ∷ name) 59 [] 0 (length d - 1) k)
+-- an array's name begins with [
+pub array_begins : (name : List ℕ) → IsArrayName name → (tail : List ℕ) × (name ≡ 91 ∷ tail)
+array_begins name w = first w.0.dimensions w.1.1.0 w.1.1.1 where
+  first : (dimensions : ℕ) → 0 < dimensions → name ≡ replicate dimensions 91 ++ base_descriptor w.0.base → (tail : List ℕ) × (name ≡ 91 ∷ tail)
+  first (suc n) some e = (replicate n 91 ++ base_descriptor w.0.base, e)
+  first zero some e = absurd (omega arith)

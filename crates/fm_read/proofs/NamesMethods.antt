@@ -1,145 +1,103 @@
--- Which descriptors of the first form are descriptors of methods: their arguments take at most 255 words.
-use Rattle.std.proofs.Common.{◌≡◌, ◌↔◌, ℕ, zero, suc, ◌+◌, ◌≤◌, true, false, eqb, codes, replicate, List, [], ◌∷◌, ◌++◌, length, drop, Option, Some, None, ◌⊎◌, refl, sym, ap, ◌∙◌, arith, inl, inr, append_assoc, length-append}
+-- Descriptors of methods, read from left to right.
+use Rattle.std.proofs.Common.{◌≡◌, ◌↔◌, false, ℕ, zero, suc, ◌+◌, ◌≤◌, ◌<◌, List, [], ◌∷◌, ◌++◌, length, Option, Some, None, refl, sym, ap, subst, ◌∙◌, arith, append_assoc, replicate}
 use Rattle.std.specs.Prelude.{IfSome}
-use Rattle.std.specs.List.{prefix_len, sum_by, flat_map, AllByRecursion}
-use Rattle.std.specs.Str.{bytes_eq}
-use Rattle.std.proofs.lemmas.Bool.{cases_Bool, both_ways, eqb-true, or_cases}
-use Rattle.std.proofs.lemmas.List.{length-replicate}
+use Rattle.std.specs.List.{sum_by, flat_map, AllByRecursion}
+use Rattle.std.proofs.lemmas.Bool.{both_ways}
 use Rattle.std.proofs.lemmas.List.Sums.{sum_by-cons}
+use Rattle.std.proofs.lemmas.List.Concat.{flat_map-cons}
+use Rattle.std.specs.Str.{bytes_eq}
 use Rattle.std.proofs.lemmas.Slice.Eq.{bytes_eq-Decides}
-use Rattle.fm_code.specs.Names.{is_primitive_letter, BaseType, primitive, object, IsBaseType, base_descriptor, FieldType, IsFieldType, field_descriptor, words_of, MethodType, method_descriptor, result_descriptor, IsMethodDescriptor}
-use Rattle.fm_code.specs.FirstForm.{is_int_descriptor}
-use Rattle.fm_read.proofs.NamesLaws.{is_end, is_int_descriptor-ints, replicate-prefix_len}
+use Rattle.fm_code.specs.Names.{is_primitive_letter, BaseType, primitive, object, IsBaseType, base_descriptor, FieldType, IsFieldType, field_descriptor, words_of, MethodType, method_descriptor, result_descriptor, IsFieldDescriptor, IsMethodDescriptor}
+use Rattle.fm_read.specs.NamesParts.{first_words, StartsWithField, IsResultDescriptor}
+use Rattle.fm_read.proofs.NamesLaws.{heads, tails, words_of-first}
 
--- so many ints between ( and ), and then the result's letter
-abbrev ints_text : ℕ → ℕ → List ℕ
-ints_text count letter = 40 ∷ (replicate count 73 ++ 41 ∷ letter ∷ [])
+-- the rest of a method's descriptor, before it arguments of so many words
+pub record IsMethodRest (words : ℕ) (rest : List ℕ) : Type 0 where
+  pub parameters : List FieldType
+  pub result : Option FieldType
+  pub are_types : AllByRecursion IsFieldType parameters
+  pub is_type : IfSome result IsFieldType
+  pub spelled : rest ≡ flat_map field_descriptor parameters ++ 41 ∷ result_descriptor result
+  pub few : words + sum_by words_of parameters ≤ 255
 
-abbrev IsResult : ℕ → Type 0
-IsResult letter = (letter ≡ 73) ⊎ (letter ≡ 86)
-
-abbrev AreInts : List ℕ → Type 0
-AreInts d = (count : ℕ) × ((letter : ℕ) × (IsResult letter × (d ≡ ints_text count letter)))
-
-end_is : (end : List ℕ) → is_end end ≡ true → (letter : ℕ) × (IsResult letter × (end ≡ 41 ∷ letter ∷ []))
-end_is end e =
-    elim (or_cases (bytes_eq end (41 ∷ 73 ∷ [])) (bytes_eq end (41 ∷ 86 ∷ [])) e) [
-      | inl int ↦ (73, (inl refl, (bytes_eq-Decides end (41 ∷ 73 ∷ [])).0 int))
-      | inr nothing ↦ (86, (inr refl, (bytes_eq-Decides end (41 ∷ 86 ∷ [])).0 nothing))
-    ]
-
-ints_are : (d : List ℕ) → is_int_descriptor d ≡ true → AreInts d
-ints_are [] e = absurd cc
-ints_are (c ∷ rest) e =
-    elim (cases_Bool (eqb c 40)) [
-      | inr other ↦ absurd (both_ways false refl (rw other at e))
-      | inl opens ↦
-          let n = prefix_len (λ b. eqb b 73) rest in
-          let inner : is_int_descriptor (40 ∷ rest) ≡ true = rw opens at e in
-          let end = end_is (drop n rest) (sym (is_int_descriptor-ints rest) ∙ inner) in (
-            n,
-            (
-              end.0,
-              (
-                end.1.0,
-                ap (λ b. b ∷ rest) (eqb-true c 40 opens) ∙ ap (λ (ys : List ℕ). 40 ∷ ys) (replicate-prefix_len 73 rest) ∙ ap (λ (ys : List ℕ). 40 ∷ (replicate n 73 ++ ys)) end.1.1,
-              ),
-            ),
-          )
-    ]
-
-heads : (a b : ℕ) (xs ys : List ℕ) → a ∷ xs ≡ b ∷ ys → a ≡ b
-heads a b xs ys e = cc
-
-tails : (a b : ℕ) (xs ys : List ℕ) → a ∷ xs ≡ b ∷ ys → xs ≡ ys
-tails a b xs ys e = cc
-
--- the type of an int
-int_type : FieldType
-int_type = record { dimensions = 0; base = primitive 73 }
-
--- where only ints stand, the first type is an int
-record IsIntFirst (dimensions : ℕ) (base : BaseType) (rest : List ℕ) (count : ℕ) (other : List ℕ) : Type 0 where
-  no_array : dimensions ≡ 0
-  int : base ≡ primitive 73
-  more : (k : ℕ) × ((count ≡ suc k) × (rest ≡ replicate k 73 ++ 41 ∷ other))
-
-first_is_int : (dimensions : ℕ) (base : BaseType) (rest : List ℕ) (count : ℕ) (other : List ℕ) → IsBaseType base
-    → (replicate dimensions 91 ++ base_descriptor base) ++ rest ≡ replicate count 73 ++ 41 ∷ other → IsIntFirst dimensions base rest count other
-first_is_int (suc k) base rest zero other ok e = absurd (omega (arith, heads _ _ _ _ e))
-first_is_int (suc k) base rest (suc n) other ok e = absurd (omega (arith, heads _ _ _ _ e))
-first_is_int zero (object name) rest zero other ok e = absurd (omega (arith, heads _ _ _ _ e))
-first_is_int zero (object name) rest (suc n) other ok e = absurd (omega (arith, heads _ _ _ _ e))
-first_is_int zero (primitive letter) rest zero other ok e =
-    absurd (both_ways (is_primitive_letter letter) (ap is_primitive_letter (heads _ _ _ _ e)) ok)
-first_is_int zero (primitive letter) rest (suc n) other ok e =
-    record { no_array = refl; int = ap primitive (heads _ _ _ _ e); more = (n, (refl, tails _ _ _ _ e)) }
-
-words_of-int : (t : FieldType) → t.dimensions ≡ 0 → t.base ≡ primitive 73 → words_of t ≡ 1
-words_of-int t d b = ap (λ (n : ℕ). words_of (record { dimensions = n; base = t.base })) d ∙ ap (λ (base : BaseType). words_of (record { dimensions = 0; base = base })) b
-
--- ints take a word each
-ints_words : (ps : List FieldType) (count : ℕ) (tail other : List ℕ) → AllByRecursion IsFieldType ps → flat_map field_descriptor ps ++ 41 ∷ tail ≡ replicate count 73 ++ 41 ∷ other
-    → sum_by words_of ps ≡ count
-ints_words [] zero tail other ok e = refl
-ints_words [] (suc n) tail other ok e = absurd (omega (arith, heads _ _ _ _ e))
-ints_words (t ∷ ts) count tail other ok e =
-    let apart = sym (append_assoc (field_descriptor t) (flat_map field_descriptor ts) (41 ∷ tail)) ∙ e in
-    let first = first_is_int t.dimensions t.base (flat_map field_descriptor ts ++ 41 ∷ tail) count other ok.0.base apart in
-    let rest = ints_words ts first.more.0 tail other ok.1 first.more.1.1 in
-    sum_by-cons words_of t ts ∙ omega (arith, words_of-int t first.no_array first.int, rest, first.more.1.0)
-
-ints_type : ℕ → List FieldType
-ints_type count = replicate count int_type
-
-ints_type-descriptor : (count : ℕ) → flat_map field_descriptor (ints_type count) ≡ replicate count 73
-unfolding ints_type int_type
-ints_type-descriptor zero = refl
-ints_type-descriptor (suc n) = ap (λ (ys : List ℕ). 73 ∷ ys) (ints_type-descriptor n)
-
-ints_type-words : (count : ℕ) → sum_by words_of (ints_type count) ≡ count
-unfolding ints_type int_type
-ints_type-words zero = refl
-ints_type-words (suc n) = sum_by-cons words_of int_type (ints_type n) ∙ omega (arith, ints_type-words n)
-
-ints_type-fits : (count : ℕ) → AllByRecursion IsFieldType (ints_type count)
-unfolding ints_type int_type
-ints_type-fits zero = tt
-ints_type-fits (suc n) = (record { dimensions = omega arith; base = refl }, ints_type-fits n)
-
-result_type : (letter : ℕ) → IsResult letter → (t : Option FieldType) × (IfSome t IsFieldType × (result_descriptor t ≡ letter ∷ []))
-unfolding int_type
-result_type letter (inl int) = (Some int_type, (record { dimensions = omega arith; base = refl }, ap (λ b. b ∷ []) (sym int)))
-result_type letter (inr nothing) = (None, (tt, ap (λ b. b ∷ []) (sym nothing)))
-
--- ints alone: a word for each byte but the parentheses and the result
-pub IsMethodDescriptor-ints : (receiver : ℕ) (d : List ℕ) → is_int_descriptor d ≡ true → IsMethodDescriptor receiver d ↔ (length d + receiver ≤ 258)
-IsMethodDescriptor-ints receiver d e = (few, fits) where
-  are : AreInts d
-  are = ints_are d e
-
-  size : length d ≡ are.0 + 3
-  size = ap length are.1.1.1 ∙ omega (arith, length-append (replicate are.0 73) (41 ∷ are.1.0 ∷ []), length-replicate {A = ℕ} are.0 73)
-
-  few : IsMethodDescriptor receiver d → length d + receiver ≤ 258
-  few w =
-      let m = w.0 in
-      let same = sym w.1.1.0 ∙ are.1.1.1 in
-      let words = ints_words m.parameters are.0 (result_descriptor m.result) (are.1.0 ∷ []) w.1.0.parameters (tails _ _ _ _ same) in
-      omega (arith, size, words, w.1.1.1)
-
-  fits : length d + receiver ≤ 258 → IsMethodDescriptor receiver d
-  fits le =
-      let result = result_type are.1.0 are.1.1.0 in
-      let m : MethodType = record { parameters = ints_type are.0; result = result.0 } in
-      let spelled : d ≡ method_descriptor m =
-      are.1.1.1 ∙ ap (λ (ys : List ℕ). 40 ∷ (ys ++ 41 ∷ are.1.0 ∷ [])) (sym (ints_type-descriptor are.0))
-      ∙ ap (λ (ys : List ℕ). 40 ∷ (flat_map field_descriptor (ints_type are.0) ++ 41 ∷ ys)) (sym result.1.1) in
-      (m, (record { parameters = ints_type-fits are.0; result = result.1.0 }, (spelled, omega (arith, ints_type-words are.0, size))))
-
--- main takes one array of texts
-pub IsMethodDescriptor-main : IsMethodDescriptor 0 (codes "([Ljava/lang/String;)V")
-IsMethodDescriptor-main = (
-  record { parameters = record { dimensions = 1; base = object (codes "java/lang/String") } ∷ []; result = None },
-  (record { parameters = (record { dimensions = omega arith; base = refl }, tt); result = tt }, (refl, omega arith)),
+-- behind the ( no argument was read yet
+pub method_start : (bytes : List ℕ) → IsMethodDescriptor 0 (40 ∷ bytes) ↔ IsMethodRest 0 bytes
+method_start bytes = (
+  λ w. record { parameters = w.0.parameters; result = w.0.result; are_types = w.1.0.parameters; is_type = w.1.0.result; spelled = tails _ _ _ _ w.1.1.0; few = omega (arith, w.1.1.1) },
+  λ w. (
+    record { parameters = w.parameters; result = w.result },
+    (record { parameters = w.are_types; result = w.is_type }, (ap (λ (ys : List ℕ). 40 ∷ ys) w.spelled, omega (arith, w.few))),
+  ),
 )
+
+pub method_begins : (d : List ℕ) → IsMethodDescriptor 0 d → (rest : List ℕ) × (d ≡ 40 ∷ rest)
+method_begins d w = (_, w.1.1.0)
+
+-- no argument begins with )
+closes : (t : FieldType) (rest more : List ℕ) → IsFieldType t → field_descriptor t ++ rest ≡ 41 ∷ more → ⊥
+closes t rest more ok e = by t.dimensions t.base ok.base e where
+  by : (dimensions : ℕ) (base : BaseType) → IsBaseType base → (replicate dimensions 91 ++ base_descriptor base) ++ rest ≡ 41 ∷ more → ⊥
+  by (suc n) base ok e = omega (arith, heads _ _ _ _ e)
+  by zero (primitive letter) ok e = both_ways (is_primitive_letter letter) (ap is_primitive_letter (heads _ _ _ _ e)) ok
+  by zero (object name) ok e = omega (arith, heads _ _ _ _ e)
+
+-- the first argument, and those behind it
+argument_apart : (t : FieldType) (ts : List FieldType) (more : List ℕ) → flat_map field_descriptor (t ∷ ts) ++ more ≡ field_descriptor t ++ (flat_map field_descriptor ts ++ more)
+argument_apart t ts more = ap (λ (ys : List ℕ). ys ++ more) (flat_map-cons field_descriptor t ts) ∙ append_assoc (field_descriptor t) (flat_map field_descriptor ts) more
+
+pub method_next : (words : ℕ) (rest after : List ℕ) (found : Option (List ℕ)) → ((r : List ℕ) → StartsWithField rest r ↔ (found ≡ Some r)) → found ≡ Some after
+    → IsMethodRest words rest ↔ IsMethodRest (words + first_words rest) after
+method_next words rest after found decides is = (λ w. there w.parameters w.result w.are_types w.is_type w.spelled w.few, back) where
+  same : (r : List ℕ) → found ≡ Some r → r ≡ after
+  same r e = let both : some r ≡ some after = sym e ∙ is in cc where
+    some : List ℕ → Option (List ℕ)
+    some x = Some x
+
+  first : StartsWithField rest after
+  first = (decides after).1 is
+
+  there : (ps : List FieldType) (result : Option FieldType) → AllByRecursion IsFieldType ps → IfSome result IsFieldType → rest ≡ flat_map field_descriptor ps ++ 41 ∷ result_descriptor result → words + sum_by words_of ps ≤ 255
+      → IsMethodRest (words + first_words rest) after
+  there [] result oks ok e few = absurd (closes first.type after (result_descriptor result) first.is_type (sym first.bytes_are ∙ e))
+  there (t ∷ ts) result oks ok e few =
+      let behind = flat_map field_descriptor ts ++ 41 ∷ result_descriptor result in
+      let apart : rest ≡ field_descriptor t ++ behind = e ∙ argument_apart t ts (41 ∷ result_descriptor result) in
+      let is_behind : behind ≡ after = same behind ((decides behind).0 (record { type = t; is_type = oks.0; bytes_are = apart })) in
+      let word : words_of t ≡ first_words rest = words_of-first t behind ∙ ap first_words (sym apart) in
+      record { parameters = ts; result = result; are_types = oks.1; is_type = ok; spelled = sym is_behind; few = omega (arith, word, few, sum_by-cons words_of t ts) }
+
+  back : IsMethodRest (words + first_words rest) after → IsMethodRest words rest
+  back w =
+      let word : words_of first.type ≡ first_words rest = words_of-first first.type after ∙ ap first_words (sym first.bytes_are) in
+      record {
+        parameters = first.type ∷ w.parameters;
+        result = w.result;
+        are_types = (first.is_type, w.are_types);
+        is_type = w.is_type;
+        spelled = first.bytes_are ∙ ap (λ (ys : List ℕ). field_descriptor first.type ++ ys) w.spelled ∙ sym (argument_apart first.type w.parameters (41 ∷ result_descriptor w.result));
+        few = omega (arith, word, w.few, sum_by-cons words_of first.type w.parameters);
+      }
+
+-- arguments of more than 255 words
+pub method_many : (words : ℕ) (rest : List ℕ) → 255 < words → IsMethodRest words rest → ⊥
+method_many words rest many w = omega (arith, w.few)
+
+-- where no argument stands, ) and the result do
+pub method_ends : (words : ℕ) (rest : List ℕ) → ((r : List ℕ) → StartsWithField rest r → ⊥) → IsMethodRest words rest → (descriptor : List ℕ) × (IsResultDescriptor descriptor × (rest ≡ 41 ∷ descriptor))
+method_ends words rest none w = ends w.parameters w.result w.are_types w.is_type w.spelled where
+  ends : (ps : List FieldType) (result : Option FieldType) → AllByRecursion IsFieldType ps → IfSome result IsFieldType → rest ≡ flat_map field_descriptor ps ++ 41 ∷ result_descriptor result
+      → (descriptor : List ℕ) × (IsResultDescriptor descriptor × (rest ≡ 41 ∷ descriptor))
+  ends [] result oks ok e = (result_descriptor result, ((result, (ok, refl)), e))
+  ends (t ∷ ts) result oks ok e =
+      absurd (none (flat_map field_descriptor ts ++ 41 ∷ result_descriptor result) (record { type = t; is_type = oks.0; bytes_are = e ∙ argument_apart t ts (41 ∷ result_descriptor result) }))
+
+pub method_done : (words : ℕ) (descriptor : List ℕ) → words ≤ 255 → IsResultDescriptor descriptor → IsMethodRest words (41 ∷ descriptor)
+method_done words descriptor few w =
+    record { parameters = []; result = w.0; are_types = tt; is_type = w.1.0; spelled = ap (λ (ys : List ℕ). 41 ∷ ys) w.1.1; few = omega (arith, few) }
+
+-- what isn't V and is returned is a field's
+pub result_is : (descriptor : List ℕ) → bytes_eq descriptor (86 ∷ []) ≡ false → IsFieldDescriptor descriptor ↔ IsResultDescriptor descriptor
+result_is descriptor no_v = (λ w. (Some w.0, (w.1.0, w.1.1)), λ w. back w.0 w.1.0 w.1.1) where
+  back : (result : Option FieldType) → IfSome result IsFieldType → descriptor ≡ result_descriptor result → IsFieldDescriptor descriptor
+  back None ok e = absurd (both_ways (bytes_eq descriptor (86 ∷ [])) no_v ((bytes_eq-Decides descriptor (86 ∷ [])).1 e))
+  back (Some t) ok e = (t, (ok, e))

@@ -1,12 +1,12 @@
 -- What a piece that is read has: its spelling is what was taken from the front, and its spelling is read as it.
-use Rattle.std.proofs.Common.{◌≡◌, ℕ, zero, suc, ◌≤◌, Bool, true, false, cond, eqb, ltb, List, [], ◌∷◌, ◌++◌, length, take, drop, Option, Some, None, refl, sym, ap, subst, ◌∙◌, append_assoc, arith}
+use Rattle.std.proofs.Common.{◌≡◌, ℕ, zero, suc, ◌+◌, ◌≤◌, ◌<◌, Bool, true, false, cond, eqb, ltb, List, [], ◌∷◌, ◌++◌, length, take, drop, Option, Some, None, refl, sym, ap, subst, ◌∙◌, append_assoc, arith}
 use Rattle.std.specs.List.{flat_map, AllByRecursion}
 use Rattle.std.proofs.lemmas.Bool.{eqb-true, eq-eqb, ltb-false, le-ltb}
 use Rattle.std.proofs.lemmas.List.{take_at, drop_at, take-append-drop, length-append, length-take}
 use Rattle.std.proofs.lemmas.List.Concat.{flat_map-cons}
 use Rattle.byteorder.specs.Endian.{big_number}
 use Rattle.fm_code.specs.Numbers.{two, four}
-use Rattle.fm_code.specs.Fits.{AreBytes, FitsTwo, FitsFour, IsByte}
+use Rattle.fm_code.specs.Fits.{AreBytes, FitsTwo, FitsFour, IsByte, CountedFits}
 use Rattle.fm_code.proofs.Bytes.{AreBytes-take, AreBytes-drop, length-two, length-four, big_number-two, big_number-four, two-big_number, four-big_number, FitsTwo-big_number, FitsFour-big_number}
 use Rattle.fm_read.specs.Reading.{◌>>=◌, number_at, bytes_at, fixed_at, several_at}
 
@@ -34,7 +34,6 @@ some_is x y e = cc
 
 -- ---- what is taken from the front
 
--- the bytes are a text and the rest
 pub record Takes (bytes text rest : List ℕ) : Type 0 where
   pub parts : bytes ≡ text ++ rest
   pub rest_fits : AreBytes rest
@@ -42,7 +41,6 @@ pub record Takes (bytes text rest : List ℕ) : Type 0 where
 pub Takes-then : (a x b y c : List ℕ) → Takes a x b → Takes b y c → Takes a (x ++ y) c
 Takes-then a x b y c p q = record { parts = p.parts ∙ ap (λ (t : List ℕ). x ++ t) q.parts ∙ sym (append_assoc x y c); rest_fits = q.rest_fits }
 
--- what is read is spelled at the front, and what is spelled at the front is read
 pub record IsPiece {X : Type 0} (piece_at : List ℕ → Option (X × List ℕ)) (spell : X → List ℕ) (Fits : X → Type 0) : Type 0 where
   pub takes : (bytes : List ℕ) (x : X × List ℕ) → AreBytes bytes → piece_at bytes ≡ Some x → Takes bytes (spell x.0) x.1 × Fits x.0
   pub again : (x : X) (rest : List ℕ) → Fits x → piece_at (spell x ++ rest) ≡ Some (x, rest)
@@ -50,7 +48,7 @@ pub record IsPiece {X : Type 0} (piece_at : List ℕ → Option (X × List ℕ))
 -- ---- numbers and bytes
 
 -- enough bytes, their number, and those behind it
-number_parts : (size : ℕ) (bytes : List ℕ) (x : ℕ × List ℕ) → number_at size bytes ≡ Some x → (size ≤ length bytes) × (big_number size bytes ≡ x.0) × (drop size bytes ≡ x.1)
+pub number_parts : (size : ℕ) (bytes : List ℕ) (x : ℕ × List ℕ) → number_at size bytes ≡ Some x → (size ≤ length bytes) × (big_number size bytes ≡ x.0) × (drop size bytes ≡ x.1)
 number_parts size bytes x e =
     let g = guard_fails (ltb (length bytes) size) (Some (big_number size bytes, drop size bytes)) x e in
     let same = some_is (big_number size bytes, drop size bytes) x g.1 in
@@ -145,7 +143,7 @@ several_takes {X = X} piece_at spell Fits piece (suc count) bytes x fits e =
     let second = several_takes piece_at spell Fits piece count a.0.1 b.0 first.0.rest_fits b.1 in
     let both = Takes-then bytes (spell a.0.0) a.0.1 (flat_map spell b.0.0) b.0.1 first.0 second.0 in
     let made : List X × List ℕ = (a.0.0 ∷ b.0.0, b.0.1) in
-    subst (λ (y : List X × List ℕ). Takes bytes (flat_map spell y.0) y.1 × (length y.0 ≡ suc count) × AllByRecursion Fits y.0) {x = made} (some_is made x b.2) (rw flat_map-cons both, ap suc second.1, (first.1, second.2))
+    subst (λ (y : List X × List ℕ). Takes bytes (flat_map spell y.0) y.1 × (length y.0 ≡ suc count) × AllByRecursion Fits y.0) (some_is made x b.2) (rw flat_map-cons both, ap suc second.1, (first.1, second.2))
 
 pub several_again : {X : Type 0} (piece_at : List ℕ → Option (X × List ℕ)) (spell : X → List ℕ) (Fits : X → Type 0) → IsPiece piece_at spell Fits
     → (xs : List X) (rest : List ℕ) → AllByRecursion Fits xs → several_at piece_at (length xs) (flat_map spell xs ++ rest) ≡ Some (xs, rest)

@@ -1,14 +1,24 @@
 -- The constant pool as a piece.
-use Rattle.std.proofs.Common.{◌≡◌, ℕ, zero, suc, ◌-◌, ◌<◌, Bool, true, false, cond, eqb, ltb, ◌&&◌, ◌⊎◌, inl, inr, List, [], ◌∷◌, ◌++◌, length, Some, None, refl, sym, ap, subst, ◌∙◌, append_assoc, arith}
+use Rattle.std.proofs.Common.{inl, inr, ◌≡◌, ℕ, zero, suc, ◌≤◌, ◌<◌, Bool, true, false, cond, eqb, ltb, ◌&&◌, List, [], ◌∷◌, ◌++◌, length, take, drop, Option, Some, None, refl, sym, ap, subst, ◌∙◌, append_assoc, arith, ◌^◌, ℤ}
+use Rattle.std.specs.Prelude.{FitsSigned}
+use Rattle.std.proofs.lemmas.Int.{ints}
 use Rattle.std.specs.List.{list_all, flat_map, AllByRecursion}
-use Rattle.std.proofs.lemmas.Bool.{eqb-true, ne_eqb, ltb-true, lt-ltb}
-use Rattle.fm_code.specs.Numbers.{two}
+use Rattle.std.specs.Int.{w32, w64, cast_signed}
+use Rattle.std.proofs.lemmas.Bool.{eqb-true, ltb-true, lt-ltb, le-ltb, cases_Bool}
+use Rattle.std.proofs.lemmas.List.{drop_at, take-append-drop, length-append}
+use Rattle.std.proofs.lemmas.List.Concat.{flat_map-cons}
+use Rattle.byteorder.specs.Endian.{big_number}
+use Rattle.fm_code.specs.Numbers.{two, signed_four, signed_eight}
 use Rattle.fm_code.specs.ClassBytes.{entry_bytes, counted}
-use Rattle.fm_code.specs.Fits.{AreBytes, FitsTwo}
+use Rattle.fm_code.specs.Fits.{AreBytes, FitsTwo, CountedFits, EntryFits}
+use Rattle.fm_code.specs.Rules.{takes_two, AreSlots}
+use Rattle.fm_code.specs.FirstForm.{IsFirstEntry}
 use Rattle.fm_code.specs.declared.constant_pool.Entry.{Entry}
 use Rattle.fm_code.specs.declared.constant_pool.Entry.TheVariants as entry
-use Rattle.fm_read.specs.Reading.{◌>>=◌, number_at, bytes_at, text_at, named_at, class_entry_at, entry_at_front, several_at, pool_at, with_front}
-use Rattle.fm_read.proofs.Pieces.{bind_some, guard_holds, guard_fails, some_is, Takes, Takes-then, IsPiece, two_piece, one_piece, bytes_takes, bytes_again, several_takes, several_again}
+use Rattle.fm_code.proofs.Bytes.{AreBytes-drop, length-signed_four, length-signed_eight, big_number-lt, big_number-signed_four, big_number-signed_eight, signed_four-big_number, signed_eight-big_number}
+use Rattle.fm_code.proofs.PoolPrefixes.{IsSpelledEntry, slots_spelled}
+use Rattle.fm_read.specs.Reading.{◌>>=◌, number_at, bytes_at, text_at, pair_at, entry_behind, entry_at_front, slot_at, slots_at, pool_at}
+use Rattle.fm_read.proofs.Pieces.{bind_some, guard_holds, some_is, Takes, Takes-then, IsPiece, number_parts, two_piece, one_piece, bytes_takes, bytes_again}
 
 abbrev pub AreFirstCharacters : List ℕ → Type 0
 AreFirstCharacters text = AllByRecursion (λ b. (0 < b) × (b < 128)) text
@@ -38,6 +48,11 @@ text_bytes text = two (length text) ++ text
 abbrev pub IsFirstText : List ℕ → Type 0
 IsFirstText text = FitsTwo (length text) × AreFirstCharacters text
 
+-- such characters are bytes
+first_bytes : (text : List ℕ) → AreFirstCharacters text → AreBytes text
+first_bytes [] h = tt
+first_bytes (b ∷ text) h = (omega (arith, h.0.1), first_bytes text h.1)
+
 text_takes : (bytes : List ℕ) (x : List ℕ × List ℕ) → AreBytes bytes → text_at bytes ≡ Some x → Takes bytes (text_bytes x.0) x.1 × IsFirstText x.0
 unfolding text_at
 text_takes bytes x fits e =
@@ -57,113 +72,221 @@ text_again text rest h =
     let regrouped : text_bytes text ++ rest ≡ two (length text) ++ (text ++ rest) = append_assoc (two (length text)) text rest in
     ap text_at regrouped ∙ rw (two_piece.again (length text) (text ++ rest) h.0, bytes_again (length text) text rest refl, passes text h.1) refl
 
+-- ---- signed numbers and pairs
+
+FitsSigned-w32 : (n : ℕ) → n < 2 ^ 32 → FitsSigned w32 (cast_signed w32 n)
+FitsSigned-w32 n lt = omega (arith, ints)
+
+FitsSigned-w64 : (n : ℕ) → n < 2 ^ 64 → FitsSigned w64 (cast_signed w64 n)
+FitsSigned-w64 n lt = omega (arith, ints)
+
+-- four bytes that are read as a signed number
+four_takes : (bytes : List ℕ) (x : ℕ × List ℕ) → AreBytes bytes → number_at 4 bytes ≡ Some x → Takes bytes (signed_four (cast_signed w32 x.0)) x.1 × FitsSigned w32 (cast_signed w32 x.0)
+four_takes bytes x fits e =
+    let p = number_parts 4 bytes x e in
+    let front : signed_four (cast_signed w32 x.0) ≡ take 4 bytes = rw (← p.1) (signed_four-big_number bytes p.0 fits) in
+    let small : x.0 < 2 ^ 32 = rw (← p.1) (big_number-lt 4 bytes p.0 fits) in
+    (record { parts = rw (front, ← p.2) (sym (take-append-drop 4 bytes)); rest_fits = rw (← p.2) (AreBytes-drop 4 bytes fits) }, FitsSigned-w32 x.0 small)
+
+four_again : (z : ℤ) (rest : List ℕ) → FitsSigned w32 z → entry_behind 3 (signed_four z ++ rest) ≡ Some (entry.Integer z, rest)
+unfolding entry_behind
+four_again z rest fits =
+    let size = length-signed_four z in
+    let long : ltb (length (signed_four z ++ rest)) 4 ≡ false = le-ltb _ _ (omega (arith, length-append (signed_four z) rest)) in
+    rw (long, big_number-signed_four z rest fits, drop_at (signed_four z) rest 4 size) refl
+
+-- eight bytes likewise
+eight_takes : (bytes : List ℕ) (x : ℕ × List ℕ) → AreBytes bytes → number_at 8 bytes ≡ Some x → Takes bytes (signed_eight (cast_signed w64 x.0)) x.1 × FitsSigned w64 (cast_signed w64 x.0)
+eight_takes bytes x fits e =
+    let p = number_parts 8 bytes x e in
+    let front : signed_eight (cast_signed w64 x.0) ≡ take 8 bytes = rw (← p.1) (signed_eight-big_number bytes p.0 fits) in
+    let small : x.0 < 2 ^ 64 = rw (← p.1) (big_number-lt 8 bytes p.0 fits) in
+    (record { parts = rw (front, ← p.2) (sym (take-append-drop 8 bytes)); rest_fits = rw (← p.2) (AreBytes-drop 8 bytes fits) }, FitsSigned-w64 x.0 small)
+
+eight_again : (z : ℤ) (rest : List ℕ) → FitsSigned w64 z → entry_behind 5 (signed_eight z ++ rest) ≡ Some (entry.Long z, rest)
+unfolding entry_behind
+eight_again z rest fits =
+    let size = length-signed_eight z in
+    let long : ltb (length (signed_eight z ++ rest)) 8 ≡ false = le-ltb _ _ (omega (arith, length-append (signed_eight z) rest)) in
+    rw (long, big_number-signed_eight z rest fits, drop_at (signed_eight z) rest 8 size) refl
+
+abbrev pair_bytes : ℕ × ℕ → List ℕ
+pair_bytes pair = two pair.0 ++ two pair.1
+
+abbrev PairFits : ℕ × ℕ → Type 0
+PairFits pair = FitsTwo pair.0 × FitsTwo pair.1
+
+pair_takes : (bytes : List ℕ) (x : (ℕ × ℕ) × List ℕ) → AreBytes bytes → pair_at bytes ≡ Some x → Takes bytes (pair_bytes x.0) x.1 × PairFits x.0
+unfolding pair_at
+pair_takes bytes x fits e =
+    let a = bind_some (number_at 2 bytes) (λ first. number_at 2 first.1 >>= λ second. Some ((first.0, second.0), second.1)) x e in
+    let b = bind_some (number_at 2 a.0.1) (λ second. Some ((a.0.0, second.0), second.1)) x a.2 in
+    let t0 = two_piece.takes bytes a.0 fits a.1 in
+    let t1 = two_piece.takes a.0.1 b.0 t0.0.rest_fits b.1 in
+    subst (λ (y : (ℕ × ℕ) × List ℕ). Takes bytes (pair_bytes y.0) y.1 × PairFits y.0) (some_is ((a.0.0, b.0.0), b.0.1) x b.2)
+    (Takes-then bytes (two a.0.0) a.0.1 (two b.0.0) b.0.1 t0.0 t1.0, (t0.1, t1.1))
+
+pair_again : (a b : ℕ) (rest : List ℕ) → FitsTwo a → FitsTwo b → pair_at ((two a ++ two b) ++ rest) ≡ Some ((a, b), rest)
+unfolding pair_at
+pair_again a b rest a_fits b_fits =
+    ap pair_at (append_assoc (two a) (two b) rest) ∙ rw (two_piece.again a (two b ++ rest) a_fits, two_piece.again b rest b_fits) refl
+
 -- ---- entries
 
--- what a first-form entry other than the one at index 0 is
-abbrev pub IsReadEntry : Entry → Type 0
-IsReadEntry (entry.Utf8 name) = IsFirstText name
-IsReadEntry (entry.Class name) = FitsTwo name
-IsReadEntry e = ⊥
+-- an entry of the first form that is spelled
+pub record IsReadEntry (e : Entry) : Type 0 where
+  pub fits : EntryFits e
+  pub first : IsFirstEntry e
+  pub spelled : IsSpelledEntry e
 
-chosen : {A : Type 0} (b : Bool) (x y z : A) → cond b x y ≡ z → ((b ≡ true) × (x ≡ z)) ⊎ ((b ≡ false) × (y ≡ z))
-chosen true x y z e = inl (refl, e)
-chosen false x y z e = inr (refl, e)
+-- the entry, behind its tag
+abbrev TakesEntry : List ℕ → Entry × List ℕ → Type 0
+TakesEntry bytes x = Takes bytes (entry_bytes x.0) x.1 × IsReadEntry x.0
 
-named_takes : (bytes : List ℕ) (x : Entry × List ℕ) → AreBytes bytes → named_at bytes ≡ Some x → Takes (1 ∷ bytes) (entry_bytes x.0) x.1 × IsReadEntry x.0
-unfolding named_at entry_bytes
-named_takes bytes x fits e =
-    let a = bind_some (text_at bytes) (λ text. Some (entry.Utf8 text.0, text.1)) x e in
-    let t = text_takes bytes a.0 fits a.1 in
-    subst (λ (y : Entry × List ℕ). Takes (1 ∷ bytes) (entry_bytes y.0) y.1 × IsReadEntry y.0) (some_is (entry.Utf8 a.0.0, a.0.1) x a.2)
-    (record { parts = ap (λ (w : List ℕ). 1 ∷ w) t.0.parts; rest_fits = t.0.rest_fits }, t.1)
+-- what a step behind a tag gives, made into an entry
+made : {A : Type 0} (tag : ℕ) (bytes : List ℕ) (reading : Option (A × List ℕ)) (make : A → Entry) (spell : A → List ℕ) (x : Entry × List ℕ)
+    → ((a : A) → entry_bytes (make a) ≡ tag ∷ spell a)
+    → ((a : A × List ℕ) → reading ≡ Some a → Takes bytes (spell a.0) a.1 × IsReadEntry (make a.0))
+    → (reading >>= λ a. Some (make a.0, a.1)) ≡ Some x → TakesEntry (tag ∷ bytes) x
+made tag bytes reading make spell x spelled takes e =
+    let a = bind_some reading (λ a. Some (make a.0, a.1)) x e in
+    let t = takes a.0 a.1 in
+    subst (TakesEntry (tag ∷ bytes)) (some_is (make a.0.0, a.0.1) x a.2)
+    (record { parts = ap (λ (w : List ℕ). tag ∷ w) t.0.parts ∙ ap (λ (w : List ℕ). w ++ a.0.1) (sym (spelled a.0.0)); rest_fits = t.0.rest_fits }, t.1)
 
-class_takes : (bytes : List ℕ) (x : Entry × List ℕ) → AreBytes bytes → class_entry_at bytes ≡ Some x → Takes (7 ∷ bytes) (entry_bytes x.0) x.1 × IsReadEntry x.0
-unfolding class_entry_at entry_bytes
-class_takes bytes x fits e =
-    let a = bind_some (number_at 2 bytes) (λ name. Some (entry.Class name.0, name.1)) x e in
-    let t = two_piece.takes bytes a.0 fits a.1 in
-    subst (λ (y : Entry × List ℕ). Takes (7 ∷ bytes) (entry_bytes y.0) y.1 × IsReadEntry y.0) (some_is (entry.Class a.0.0, a.0.1) x a.2)
-    (record { parts = ap (λ (w : List ℕ). 7 ∷ w) t.0.parts; rest_fits = t.0.rest_fits }, t.1)
-
-behind : (bytes rest : List ℕ) (tag : ℕ) (x : Entry × List ℕ) → bytes ≡ tag ∷ rest → Takes (tag ∷ rest) (entry_bytes x.0) x.1 × IsReadEntry x.0 → Takes bytes (entry_bytes x.0) x.1 × IsReadEntry x.0
-behind bytes rest tag x e h = (record { parts = e ∙ h.0.parts; rest_fits = h.0.rest_fits }, h.1)
-
-entry_takes : (bytes : List ℕ) (x : Entry × List ℕ) → AreBytes bytes → entry_at_front bytes ≡ Some x → Takes bytes (entry_bytes x.0) x.1 × IsReadEntry x.0
-unfolding entry_at_front
-entry_takes bytes x fits e =
-    let a = bind_some (number_at 1 bytes) (λ tag. cond (eqb tag.0 1) (named_at tag.1) (cond (eqb tag.0 7) (class_entry_at tag.1) None)) x e in
-    let t = one_piece.takes bytes a.0 fits a.1 in
-    elim (chosen (eqb a.0.0 1) (named_at a.0.1) (cond (eqb a.0.0 7) (class_entry_at a.0.1) None) (Some x) a.2) [
-      | inl h ↦ behind bytes a.0.1 1 x (t.0.parts ∙ ap (λ (n : ℕ). n ∷ a.0.1) (eqb-true _ _ h.0)) (named_takes a.0.1 x t.0.rest_fits h.1)
-      | inr h ↦ let g = guard_holds (eqb a.0.0 7) (class_entry_at a.0.1) x h.1 in
-          behind bytes a.0.1 7 x (t.0.parts ∙ ap (λ (n : ℕ). n ∷ a.0.1) (eqb-true _ _ g.0)) (class_takes a.0.1 x t.0.rest_fits g.1)
+-- one more tag
+by_tag : {A : Type 0} (tag known : ℕ) (here there : Option A) (x : A) (P : ℕ → Type 0) → (here ≡ Some x → P known) → (there ≡ Some x → P tag) → cond (eqb tag known) here there ≡ Some x → P tag
+by_tag tag known here there x P known_tag other e =
+    elim (cases_Bool (eqb tag known)) [
+      | inl same ↦ subst P (sym (eqb-true tag known same)) (known_tag (rw same at e))
+      | inr apart ↦ other (rw apart at e)
     ]
 
+entry_behind_takes : (tag : ℕ) (bytes : List ℕ) (x : Entry × List ℕ) → AreBytes bytes → entry_behind tag bytes ≡ Some x → TakesEntry (tag ∷ bytes) x
+unfolding entry_behind entry_bytes
+entry_behind_takes tag bytes x fits e =
+    let P : ℕ → Type 0 = λ t. TakesEntry (t ∷ bytes) x in
+    by_tag tag 1 _ _ x P (made 1 bytes (text_at bytes) entry.Utf8 text_bytes x (λ a. refl) (λ a h. let t = text_takes bytes a fits h in (t.0, record { fits = (t.1.0, first_bytes a.0 t.1.1); first = t.1.1; spelled = tt })))
+    (λ no1. by_tag tag 3 _ _ x P (made 3 bytes (number_at 4 bytes) (λ n. entry.Integer (cast_signed w32 n)) (λ n. signed_four (cast_signed w32 n)) x (λ a. refl) (λ a h. let t = four_takes bytes a fits h in (t.0, record { fits = t.1; first = tt; spelled = tt })))
+    (λ no3. by_tag tag 5 _ _ x P (made 5 bytes (number_at 8 bytes) (λ n. entry.Long (cast_signed w64 n)) (λ n. signed_eight (cast_signed w64 n)) x (λ a. refl) (λ a h. let t = eight_takes bytes a fits h in (t.0, record { fits = t.1; first = tt; spelled = tt })))
+    (λ no5. by_tag tag 7 _ _ x P (made 7 bytes (number_at 2 bytes) entry.Class two x (λ a. refl) (λ a h. let t = two_piece.takes bytes a fits h in (t.0, record { fits = t.1; first = tt; spelled = tt })))
+    (λ no7. by_tag tag 9 _ _ x P (made 9 bytes (pair_at bytes) (λ a. entry.Field a.0 a.1) pair_bytes x (λ a. refl) (λ a h. let t = pair_takes bytes a fits h in (t.0, record { fits = t.1; first = tt; spelled = tt })))
+    (λ no9. by_tag tag 10 _ _ x P (made 10 bytes (pair_at bytes) (λ a. entry.Method a.0 a.1) pair_bytes x (λ a. refl) (λ a h. let t = pair_takes bytes a fits h in (t.0, record { fits = t.1; first = tt; spelled = tt })))
+    (λ no10. by_tag tag 12 _ _ x P (made 12 bytes (pair_at bytes) (λ a. entry.NameAndType a.0 a.1) pair_bytes x (λ a. refl) (λ a h. let t = pair_takes bytes a fits h in (t.0, record { fits = t.1; first = tt; spelled = tt })))
+    (λ no12. absurd cc) no10) no9) no7) no5) no3) no1) e
+
+entry_takes : (bytes : List ℕ) (x : Entry × List ℕ) → AreBytes bytes → entry_at_front bytes ≡ Some x → TakesEntry bytes x
+unfolding entry_at_front
+entry_takes bytes x fits e =
+    let a = bind_some (number_at 1 bytes) (λ tag. entry_behind tag.0 tag.1) x e in
+    let t = one_piece.takes bytes a.0 fits a.1 in
+    let behind = entry_behind_takes a.0.0 a.0.1 x t.0.rest_fits a.2 in
+    (record { parts = t.0.parts ∙ behind.0.parts; rest_fits = behind.0.rest_fits }, behind.1)
+
 entry_again : (e : Entry) (rest : List ℕ) → IsReadEntry e → entry_at_front (entry_bytes e ++ rest) ≡ Some (e, rest)
-unfolding entry_at_front named_at class_entry_at entry_bytes
-entry_again (entry.Utf8 name) rest h = rw (one_piece.again 1 (text_bytes name ++ rest) (omega arith), text_again name rest h) refl
-entry_again (entry.Class name) rest h = rw (one_piece.again 7 (two name ++ rest) (omega arith), two_piece.again name rest h) refl
-entry_again (entry.Integer n) rest h = absurd h
-entry_again (entry.Float n) rest h = absurd h
-entry_again (entry.Long n) rest h = absurd h
-entry_again (entry.Double n) rest h = absurd h
-entry_again (entry.Text n) rest h = absurd h
-entry_again (entry.Field n m) rest h = absurd h
-entry_again (entry.Method n m) rest h = absurd h
-entry_again (entry.InterfaceMethod n m) rest h = absurd h
-entry_again (entry.NameAndType n m) rest h = absurd h
-entry_again entry.Second rest h = absurd h
+unfolding entry_at_front entry_behind entry_bytes
+entry_again (entry.Utf8 name) rest h = rw (one_piece.again 1 (text_bytes name ++ rest) (omega arith), text_again name rest (h.fits.0, h.first)) refl
+entry_again (entry.Integer z) rest h = rw (one_piece.again 3 (signed_four z ++ rest) (omega arith)) (four_again z rest h.fits)
+entry_again (entry.Long z) rest h = rw (one_piece.again 5 (signed_eight z ++ rest) (omega arith)) (eight_again z rest h.fits)
+entry_again (entry.Class name) rest h = rw (one_piece.again 7 (two name ++ rest) (omega arith), two_piece.again name rest h.fits) refl
+entry_again (entry.Field n m) rest h = rw (one_piece.again 9 ((two n ++ two m) ++ rest) (omega arith), pair_again n m rest h.fits.0 h.fits.1) refl
+entry_again (entry.Method n m) rest h = rw (one_piece.again 10 ((two n ++ two m) ++ rest) (omega arith), pair_again n m rest h.fits.0 h.fits.1) refl
+entry_again (entry.NameAndType n m) rest h = rw (one_piece.again 12 ((two n ++ two m) ++ rest) (omega arith), pair_again n m rest h.fits.0 h.fits.1) refl
+entry_again (entry.Float n) rest h = absurd h.first
+entry_again (entry.Double n) rest h = absurd h.first
+entry_again (entry.Text n) rest h = absurd h.first
+entry_again (entry.InterfaceMethod n m) rest h = absurd h.first
+entry_again entry.Second rest h = absurd h.spelled
 
-pub entry_piece : IsPiece entry_at_front entry_bytes IsReadEntry
-entry_piece = record { takes = entry_takes; again = entry_again }
-
--- ---- the pool
-
--- nothing at index 0, and behind it texts and classes
-abbrev pub IsReadPool : List Entry → Type 0
-IsReadPool [] = ⊥
-IsReadPool (entry.Second ∷ entries) = FitsTwo (suc (length entries)) × AllByRecursion IsReadEntry entries
-IsReadPool (e ∷ entries) = ⊥
+-- ---- what stands at the indices
 
 second_nil : entry_bytes entry.Second ≡ []
 unfolding entry_bytes
 second_nil = refl
 
+pub record AreReadSlots (due : Bool) (entries : List Entry) : Type 0 where
+  pub fits : AllByRecursion EntryFits entries
+  pub first : AllByRecursion IsFirstEntry entries
+  pub slots : AreSlots due entries
+
+spelled_slots : (e : Entry) (entries : List Entry) → IsSpelledEntry e → AreSlots (takes_two e) entries → AreSlots false (e ∷ entries)
+spelled_slots entry.Second entries spelled slots = absurd spelled
+spelled_slots e entries spelled slots = slots
+
+-- an entry or nothing, and those behind it
+slot_takes : (due : Bool) (bytes : List ℕ) (x : Entry × List ℕ) (entries : List Entry) → AreBytes bytes → slot_at due bytes ≡ Some x → AreReadSlots (takes_two x.0) entries → Takes bytes (entry_bytes x.0) x.1 × AreReadSlots due (x.0 ∷ entries)
+slot_takes true bytes x entries fits e rest =
+    let same = some_is (entry.Second, bytes) x e in
+    subst (λ (y : Entry × List ℕ). AreReadSlots (takes_two y.0) entries → Takes bytes (entry_bytes y.0) y.1 × AreReadSlots true (y.0 ∷ entries)) same
+    (λ behind. (record { parts = ap (λ (w : List ℕ). w ++ bytes) (sym second_nil); rest_fits = fits }, record { fits = (tt, behind.fits); first = (tt, behind.first); slots = behind.slots })) rest
+slot_takes false bytes x entries fits e rest =
+    let t = entry_takes bytes x fits e in
+    (t.0, record { fits = (t.1.fits, rest.fits); first = (t.1.first, rest.first); slots = spelled_slots x.0 entries t.1.spelled rest.slots })
+
+-- what follows a slot fits in itself
+slot_rest : (due : Bool) (bytes : List ℕ) (x : Entry × List ℕ) → AreBytes bytes → slot_at due bytes ≡ Some x → AreBytes x.1
+slot_rest true bytes x fits e = subst (λ (y : Entry × List ℕ). AreBytes y.1) (some_is (entry.Second, bytes) x e) fits
+slot_rest false bytes x fits e = (entry_takes bytes x fits e).0.rest_fits
+
+slots_takes : (due : Bool) (count : ℕ) (bytes : List ℕ) (x : List Entry × List ℕ) → AreBytes bytes → slots_at due count bytes ≡ Some x → Takes bytes (flat_map entry_bytes x.0) x.1 × (length x.0 ≡ count) × AreReadSlots due x.0
+unfolding slots_at
+slots_takes true zero bytes x fits e = absurd cc
+slots_takes false zero bytes x fits e =
+    subst (λ (y : List Entry × List ℕ). Takes bytes (flat_map entry_bytes y.0) y.1 × (length y.0 ≡ 0) × AreReadSlots false y.0) (some_is ([], bytes) x e)
+    (record { parts = refl; rest_fits = fits }, refl, record { fits = tt; first = tt; slots = tt })
+slots_takes due (suc count) bytes x fits e =
+    let a = bind_some (slot_at due bytes) (λ first. slots_at (takes_two first.0) count first.1 >>= λ others. Some (first.0 ∷ others.0, others.1)) x e in
+    let b = bind_some (slots_at (takes_two a.0.0) count a.0.1) (λ others. Some (a.0.0 ∷ others.0, others.1)) x a.2 in
+    let second = slots_takes (takes_two a.0.0) count a.0.1 b.0 (slot_rest due bytes a.0 fits a.1) b.1 in
+    let first = slot_takes due bytes a.0 b.0.0 fits a.1 second.2 in
+    let both = Takes-then bytes (entry_bytes a.0.0) a.0.1 (flat_map entry_bytes b.0.0) b.0.1 first.0 second.0 in
+    subst (λ (y : List Entry × List ℕ). Takes bytes (flat_map entry_bytes y.0) y.1 × (length y.0 ≡ suc count) × AreReadSlots due y.0) (some_is (a.0.0 ∷ b.0.0, b.0.1) x b.2)
+    (rw flat_map-cons both, ap suc second.1, first.1)
+
+slots_again : (due : Bool) (entries : List Entry) (rest : List ℕ) → AreReadSlots due entries → slots_at due (length entries) (flat_map entry_bytes entries ++ rest) ≡ Some (entries, rest)
+unfolding slots_at
+slots_again true [] rest h = absurd h.slots
+slots_again false [] rest h = refl
+slots_again true (entry.Second ∷ entries) rest h =
+    let behind : AreReadSlots false entries = record { fits = h.fits.1; first = h.first.1; slots = h.slots } in
+    let nothing : flat_map entry_bytes (entry.Second ∷ entries) ++ rest ≡ flat_map entry_bytes entries ++ rest =
+    ap (λ (bytes : List ℕ). bytes ++ rest) (flat_map-cons entry_bytes entry.Second entries) ∙ ap (λ (w : List ℕ). (w ++ flat_map entry_bytes entries) ++ rest) second_nil in
+    ap (slots_at true (suc (length entries))) nothing ∙ rw (slots_again false entries rest behind) refl
+slots_again true (e ∷ entries) rest h = absurd h.slots
+slots_again false (e ∷ entries) rest h =
+    let here = slots_spelled e entries h.slots in
+    let behind : AreReadSlots (takes_two e) entries = record { fits = h.fits.1; first = h.first.1; slots = here.1 } in
+    let regrouped : flat_map entry_bytes (e ∷ entries) ++ rest ≡ entry_bytes e ++ (flat_map entry_bytes entries ++ rest) =
+    ap (λ (bytes : List ℕ). bytes ++ rest) (flat_map-cons entry_bytes e entries) ∙ append_assoc (entry_bytes e) (flat_map entry_bytes entries) rest in
+    let slot : entry_at_front (flat_map entry_bytes (e ∷ entries) ++ rest) ≡ Some (e, flat_map entry_bytes entries ++ rest) =
+    ap entry_at_front regrouped ∙ entry_again e (flat_map entry_bytes entries ++ rest) (record { fits = h.fits.0; first = h.first.0; spelled = here.0 }) in
+    rw (slot, slots_again (takes_two e) entries rest behind) refl
+
+-- ---- the pool
+
+-- the pool of a record of the first form
+pub record IsReadPool (entries : List Entry) : Type 0 where
+  pub fits : CountedFits EntryFits entries
+  pub first : AllByRecursion IsFirstEntry entries
+  pub slots : AreSlots true entries
+
 pool_takes : (bytes : List ℕ) (x : List Entry × List ℕ) → AreBytes bytes → pool_at bytes ≡ Some x → Takes bytes (counted entry_bytes x.0) x.1 × IsReadPool x.0
 unfolding pool_at
 pool_takes bytes x fits e =
-    let a = bind_some (number_at 2 bytes) (λ count. cond (eqb count.0 0) None (with_front (entry.Second ∷ []) (several_at entry_at_front (count.0 - 1) count.1))) x e in
-    let g = guard_fails (eqb a.0.0 0) (with_front (entry.Second ∷ []) (several_at entry_at_front (a.0.0 - 1) a.0.1)) x a.2 in
-    let b = bind_some (several_at entry_at_front (a.0.0 - 1) a.0.1) (λ y. Some ((entry.Second ∷ []) ++ y.0, y.1)) x g.1 in
+    let a = bind_some (number_at 2 bytes) (λ count. slots_at true count.0 count.1) x e in
     let t0 = two_piece.takes bytes a.0 fits a.1 in
-    let t1 = several_takes entry_at_front entry_bytes IsReadEntry entry_piece (a.0.0 - 1) a.0.1 b.0 t0.0.rest_fits b.1 in
-    let both = Takes-then bytes (two a.0.0) a.0.1 (flat_map entry_bytes b.0.0) b.0.1 t0.0 t1.0 in
-    let size : a.0.0 ≡ suc (length b.0.0) = nonzero_size a.0.0 (length b.0.0) g.0 t1.1 in
-    let whole : Takes bytes (counted entry_bytes (entry.Second ∷ b.0.0)) b.0.1 = rw second_nil (subst (λ (n : ℕ). Takes bytes (two n ++ flat_map entry_bytes b.0.0) b.0.1) size both) in
-    subst (λ (y : List Entry × List ℕ). Takes bytes (counted entry_bytes y.0) y.1 × IsReadPool y.0) (some_is (entry.Second ∷ b.0.0, b.0.1) x b.2) (whole, (subst FitsTwo size t0.1, t1.2)) where
-      nonzero_size : (n k : ℕ) → eqb n 0 ≡ false → k ≡ n - 1 → n ≡ suc k
-      nonzero_size zero k h e = absurd cc
-      nonzero_size (suc n) k h e = omega arith
+    let t1 = slots_takes true a.0.0 a.0.1 x t0.0.rest_fits a.2 in
+    let both = Takes-then bytes (two a.0.0) a.0.1 (flat_map entry_bytes x.0) x.1 t0.0 t1.0 in (
+      subst (λ (n : ℕ). Takes bytes (two n ++ flat_map entry_bytes x.0) x.1) (sym t1.1) both,
+      record { fits = record { count = subst FitsTwo (sym t1.1) t0.1; each = t1.2.fits }; first = t1.2.first; slots = t1.2.slots },
+    )
 
 pool_again : (entries : List Entry) (rest : List ℕ) → IsReadPool entries → pool_at (counted entry_bytes entries ++ rest) ≡ Some (entries, rest)
 unfolding pool_at
-pool_again [] rest h = absurd h
-pool_again (entry.Second ∷ entries) rest h =
-    let regrouped : counted entry_bytes (entry.Second ∷ entries) ++ rest ≡ two (suc (length entries)) ++ (flat_map entry_bytes entries ++ rest) = rw second_nil (append_assoc (two (suc (length entries))) (flat_map entry_bytes entries) rest) in
-    let count : suc (length entries) - 1 ≡ length entries = omega arith in
-    let nonzero : eqb (suc (length entries)) 0 ≡ false = ne_eqb (suc (length entries)) 0 (omega arith) in
-    ap pool_at regrouped ∙ rw (two_piece.again (suc (length entries)) (flat_map entry_bytes entries ++ rest) h.0, nonzero, count, several_again entry_at_front entry_bytes IsReadEntry entry_piece entries rest h.1) refl
-pool_again (entry.Utf8 n ∷ entries) rest h = absurd h
-pool_again (entry.Class n ∷ entries) rest h = absurd h
-pool_again (entry.Integer n ∷ entries) rest h = absurd h
-pool_again (entry.Float n ∷ entries) rest h = absurd h
-pool_again (entry.Long n ∷ entries) rest h = absurd h
-pool_again (entry.Double n ∷ entries) rest h = absurd h
-pool_again (entry.Text n ∷ entries) rest h = absurd h
-pool_again (entry.Field n m ∷ entries) rest h = absurd h
-pool_again (entry.Method n m ∷ entries) rest h = absurd h
-pool_again (entry.InterfaceMethod n m ∷ entries) rest h = absurd h
-pool_again (entry.NameAndType n m ∷ entries) rest h = absurd h
+pool_again entries rest h =
+    let slots : AreReadSlots true entries = record { fits = h.fits.each; first = h.first; slots = h.slots } in
+    ap pool_at (append_assoc (two (length entries)) (flat_map entry_bytes entries) rest)
+    ∙ rw (two_piece.again (length entries) (flat_map entry_bytes entries ++ rest) h.fits.count) (slots_again true entries rest slots)
 
 pub pool_piece : IsPiece pool_at (counted entry_bytes) IsReadPool
 pool_piece = record { takes = pool_takes; again = pool_again }

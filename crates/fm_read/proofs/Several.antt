@@ -5,7 +5,8 @@ use Rattle.fm_read.specs.declared.failure.FirstFail.{FirstFail}
 use Rattle.fm_read.specs.declared.failure.FirstFail.TheVariants as fail
 use Rattle.fm_read.specs.Reading.{◌>>=◌, Fails, several_at, with_front}
 
-regroup : {X : Type 0} (front : List X) (x : X) (reading : Option (List X × List ℕ)) → with_front front (reading >>= λ others. Some (x ∷ others.0, others.1)) ≡ with_front (front ++ x ∷ []) reading
+-- a piece that was read goes to the front
+pub regroup : {X : Type 0} (front : List X) (x : X) (reading : Option (List X × List ℕ)) → with_front front (reading >>= λ others. Some (x ∷ others.0, others.1)) ≡ with_front (front ++ x ∷ []) reading
 regroup front x (Some others) = ap (λ (xs : List _). Some (xs, others.1)) (simp append_assoc)
 regroup front x None = refl
 

@@ -5,4 +5,5 @@ pub mod Parts
 pub mod Reading
 pub mod PartsRules
 pub mod TextNumbers
+pub mod Operands
 pub mod MainClass

@@ -1,11 +1,43 @@
--- The parts of names.
-use Rattle.std.specs.Prelude.{◌≡◌, ℕ, ◌==◌, ◌||◌, not, Bool, List}
-use Rattle.fm_code.specs.Names.{BaseType, IsBaseType, base_descriptor}
+-- The parts of names and of descriptors.
+use Rattle.std.specs.Prelude.{◌≡◌, ℕ, ◌==◌, ◌||◌, not, Bool, true, List, [], ◌∷◌, ◌++◌, codes, Option, IfSome, if◌then◌else◌}
+use Rattle.std.specs.Str.{bytes_eq}
+use Rattle.fm_code.specs.Names.{is_binary_name, BaseType, IsBaseType, base_descriptor, FieldType, IsFieldType, field_descriptor, result_descriptor}
 
 -- neither < nor >
 abbrev pub is_plain : ℕ → Bool
 is_plain c = not ((c == 60) || (c == 62))
 
--- a letter, or a class between L and ;
-abbrev pub IsBaseDescriptor : List ℕ → Type 0
-IsBaseDescriptor descriptor = (base : BaseType) × (IsBaseType base × (descriptor ≡ base_descriptor base))
+-- I or J
+abbrev pub is_number_letter : ℕ → Bool
+is_number_letter c = (c == 73) || (c == 74)
+
+-- ) and the letter of an int, of a long or of no result
+abbrev pub is_number_end : List ℕ → Bool
+is_number_end bytes = bytes_eq bytes (codes ")I") || bytes_eq bytes (codes ")J") || bytes_eq bytes (codes ")V")
+
+-- a class's name and the ; behind it, at the front of the bytes
+pub record StartsWithClass (bytes rest : List ℕ) : Type 0 where
+  pub name : List ℕ
+  pub is_name : is_binary_name name ≡ true
+  pub bytes_are : bytes ≡ name ++ 59 ∷ rest
+
+-- the descriptor of a type that isn't an array, at the front of the bytes
+pub record StartsWithBase (bytes rest : List ℕ) : Type 0 where
+  pub base : BaseType
+  pub is_base : IsBaseType base
+  pub bytes_are : bytes ≡ base_descriptor base ++ rest
+
+-- the descriptor of a field, at the front of the bytes
+pub record StartsWithField (bytes rest : List ℕ) : Type 0 where
+  pub type : FieldType
+  pub is_type : IsFieldType type
+  pub bytes_are : bytes ≡ field_descriptor type ++ rest
+
+-- the words of the field whose descriptor begins with these bytes: two for J and D, and one for all else
+abbrev pub first_words : List ℕ → ℕ
+first_words [] = 1
+first_words (c ∷ rest) = if (c == 74) || (c == 68) then 2 else 1
+
+-- what a method's descriptor has behind the )
+abbrev pub IsResultDescriptor : List ℕ → Type 0
+IsResultDescriptor descriptor = (result : Option FieldType) × (IfSome result IsFieldType × (descriptor ≡ result_descriptor result))

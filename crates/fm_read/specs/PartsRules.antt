@@ -1,9 +1,9 @@
 -- The rules that the parts of a class of the first form meet beside their spelling, and the record that they make.
-use Rattle.std.specs.Prelude.{◌≡◌, ◌≤◌, ◌==◌, ◌⊎◌, not, ℕ, true, false, List, [], ◌∷◌, length, map, codes, Some, IsSomeAnd}
+use Rattle.std.specs.Prelude.{◌≡◌, ◌==◌, ◌⊎◌, not, ℕ, true, false, List, [], ◌∷◌, map, codes, Some, IsSomeAnd}
 use Rattle.std.specs.List.{list_all, AllByRecursion}
-use Rattle.fm_code.specs.Names.{is_method_name, is_binary_name}
+use Rattle.fm_code.specs.Names.{is_method_name, is_binary_name, IsMethodDescriptor}
 use Rattle.fm_code.specs.Rules.{utf8_at, class_name_at, is_static, is_native, is_abstract, is_interface, EntryIsValid, AreDistinct}
-use Rattle.fm_code.specs.FirstForm.{is_int_descriptor}
+use Rattle.fm_code.specs.FirstForm.{is_number_descriptor}
 use Rattle.fm_code.specs.declared.constant_pool.Entry.{Entry}
 use Rattle.fm_code.specs.declared.class_file.ClassDef.{ClassDef}
 use Rattle.fm_code.specs.declared.class_file.Member.{Member}
@@ -25,12 +25,11 @@ pub record IsFirstName (name : List ℕ) : Type 0 where
   pub valid : is_method_name name ≡ true
   pub no_start : list_all (λ c. not (c == 60)) name ≡ true
 
--- main's name and descriptor, or ints, of which there are at most 255 between ( and the two last characters
-abbrev pub IsFirstSignature : List ℕ → List ℕ → Type 0
-IsFirstSignature name descriptor =
-    ((name ≡ codes "main") × (descriptor ≡ codes "([Ljava/lang/String;)V")) ⊎ ((is_int_descriptor descriptor ≡ true) × (length descriptor ≤ 258))
+-- a method's descriptor without a receiver: main's, with main's name, or one of numbers alone
+pub record IsFirstSignature (name descriptor : List ℕ) : Type 0 where
+  pub valid : IsMethodDescriptor 0 descriptor
+  pub first : ((name ≡ codes "main") × (descriptor ≡ codes "([Ljava/lang/String;)V")) ⊎ (is_number_descriptor descriptor ≡ true)
 
--- what is asked of one method beside its spelling
 pub record MethodMeetsRules (entries : List Entry) (m : Method) : Type 0 where
   pub flags : HasFirstFlags m.flags
   pub name : IsSomeAnd (utf8_at entries m.name) IsFirstName
@@ -54,7 +53,6 @@ pub record NamesMeetRules (entries : List Entry) (this super : ℕ) : Type 0 whe
   pub this_class : IsSomeAnd (class_name_at entries this) (λ name. is_binary_name name ≡ true)
   pub superclass : class_name_at entries super ≡ Some (codes "java/lang/Object")
 
--- what is asked of a class beside its spelling, but that its methods differ
 pub record MeetsRules (c : Class) : Type 0 where
   pub entries : AllByRecursion (EntryIsValid c.entries) c.entries
   pub names : NamesMeetRules c.entries c.this_class c.super_class
@@ -63,22 +61,9 @@ pub record MeetsRules (c : Class) : Type 0 where
 
 -- ---- the record of the parts
 
--- the method with its code
 abbrev pub member_of : Method → Code → Member
 member_of m code = record { flags = m.flags; name = m.name; descriptor = m.descriptor; attributes = attribute.Coded m.attribute code ∷ [] }
 
--- the member has the numbers of the method, and the code that the body spells
-abbrev pub IsMemberOf : Method → Member → Type 0
-IsMemberOf m x = (code : Code) × (IsFirstBody m.body code × (x ≡ member_of m code))
-
--- the members are the methods with their code, in order
-abbrev pub AreMembersOf : List Method → List Member → Type 0
-AreMembersOf [] [] = Unit {0}
-AreMembersOf [] (x ∷ members) = ⊥
-AreMembersOf (m ∷ methods) [] = ⊥
-AreMembersOf (m ∷ methods) (x ∷ members) = IsMemberOf m x × AreMembersOf methods members
-
--- the class file of the parts and of the methods with their code
 abbrev pub class_of_parts : Class → List Member → ClassDef
 class_of_parts c members =
     record {
@@ -93,3 +78,17 @@ class_of_parts c members =
       methods = members;
       attributes = [];
     }
+
+-- the class with its methods' code left out, which is all that an instruction of the first form is asked to name
+abbrev pub bare_class : Class → ClassDef
+bare_class c = class_of_parts c (map bare_member c.methods)
+
+-- the member has the numbers of the method, and the code of the class that the body spells
+abbrev pub IsMemberOf : ClassDef → Method → Member → Type 0
+IsMemberOf c m x = (code : Code) × (IsFirstBody c m.body code × (x ≡ member_of m code))
+
+abbrev pub AreMembersOf : ClassDef → List Method → List Member → Type 0
+AreMembersOf c [] [] = Unit {0}
+AreMembersOf c [] (x ∷ members) = ⊥
+AreMembersOf c (m ∷ methods) [] = ⊥
+AreMembersOf c (m ∷ methods) (x ∷ members) = IsMemberOf c m x × AreMembersOf c methods members

@@ -1,24 +1,24 @@
 -- Reading a class file of the first form from left to right. A piece is read to its value and the bytes behind it.
-use Rattle.std.specs.Prelude.{◌≡◌, ℕ, zero, suc, ◌-◌, ◌==◌, ◌&&◌, nat_lt, List, [], ◌∷◌, ◌++◌, length, take, drop, Option, Some, None, option_and_then, Result, Ok, Err, if◌then◌else◌}
+use Rattle.std.specs.Prelude.{◌≡◌, ℕ, zero, suc, ◌-◌, ◌<◌, ◌==◌, ◌&&◌, Bool, true, false, nat_lt, List, [], ◌∷◌, ◌++◌, length, take, drop, Option, Some, None, option_and_then, Result, Ok, Err, if◌then◌else◌}
 use Rattle.std.specs.List.{list_all}
+use Rattle.std.specs.Int.{w32, w64, cast_signed}
 use Rattle.byteorder.specs.Endian.{big_number}
+use Rattle.fm_code.specs.Rules.{takes_two}
 use Rattle.fm_code.specs.declared.constant_pool.Entry.{Entry}
 use Rattle.fm_code.specs.declared.constant_pool.Entry.TheVariants as entry
 use Rattle.fm_read.specs.Parts.{Method, Class}
 use Rattle.fm_read.specs.declared.failure.FirstFail.{FirstFail}
 use Rattle.fm_read.specs.declared.failure.FirstFail.TheVariants as fail
 
--- the next step, unless an earlier one read nothing
 infixl 10 ◌>>=◌
 abbrev pub ◌>>=◌ : {A B : Type 0} → Option A → (A → Option B) → Option B
 o >>= f = option_and_then f o
 
--- a refusal says that nothing is read; want of memory says nothing
+-- what a function returned, seen by view, is what reading gives, unless memory ran out
 abbrev pub Fails : {Y : Type 0} → FirstFail → Option Y → Type 0
 Fails fail.NotYet reading = reading ≡ None
 Fails fail.NoMemory reading = Unit {0}
 
--- what a function returned, seen by view, is what reading gives, unless memory ran out
 abbrev pub Gives : {X Y : Type 0} → (X → Y) → Result X FirstFail → Option Y → Type 0
 Gives view (Ok x) reading = reading ≡ Some (view x)
 Gives view (Err e) reading = Fails e reading
@@ -41,7 +41,6 @@ fixed_at size value bytes = do
 
 -- ---- pieces one behind the other
 
--- so many pieces
 unfoldable pub several_at : {X : Type 0} → (List ℕ → Option (X × List ℕ)) → ℕ → List ℕ → Option (List X × List ℕ)
 several_at piece_at zero bytes = Some ([], bytes)
 several_at piece_at (suc count) bytes = do
@@ -62,29 +61,47 @@ text_at bytes = do
   text ← bytes_at size.0 size.1
   if list_all (λ b. nat_lt 0 b && nat_lt b 128) text.0 then Some text else None
 
--- behind the tag 1
-unfoldable pub named_at : List ℕ → Option (Entry × List ℕ)
-named_at bytes = do
-  text ← text_at bytes
-  Some (entry.Utf8 text.0, text.1)
+-- two indices
+unfoldable pub pair_at : List ℕ → Option ((ℕ × ℕ) × List ℕ)
+pair_at bytes = do
+  first ← number_at 2 bytes
+  second ← number_at 2 first.1
+  Some ((first.0, second.0), second.1)
 
--- behind the tag 7
-unfoldable pub class_entry_at : List ℕ → Option (Entry × List ℕ)
-class_entry_at bytes = do
-  name ← number_at 2 bytes
-  Some (entry.Class name.0, name.1)
+-- what is behind a tag of the first form
+unfoldable pub entry_behind : ℕ → List ℕ → Option (Entry × List ℕ)
+entry_behind tag bytes =
+    if tag == 1 then (text_at bytes >>= λ text. Some (entry.Utf8 text.0, text.1)) else
+    if tag == 3 then (number_at 4 bytes >>= λ value. Some (entry.Integer (cast_signed w32 value.0), value.1)) else
+    if tag == 5 then (number_at 8 bytes >>= λ value. Some (entry.Long (cast_signed w64 value.0), value.1)) else
+    if tag == 7 then (number_at 2 bytes >>= λ name. Some (entry.Class name.0, name.1)) else
+    if tag == 9 then (pair_at bytes >>= λ pair. Some (entry.Field pair.0.0 pair.0.1, pair.1)) else
+    if tag == 10 then (pair_at bytes >>= λ pair. Some (entry.Method pair.0.0 pair.0.1, pair.1)) else
+    if tag == 12 then (pair_at bytes >>= λ pair. Some (entry.NameAndType pair.0.0 pair.0.1, pair.1)) else None
 
--- an entry behind its tag: 1 for a text, 7 for a class
 unfoldable pub entry_at_front : List ℕ → Option (Entry × List ℕ)
 entry_at_front bytes = do
   tag ← number_at 1 bytes
-  if tag.0 == 1 then named_at tag.1 else if tag.0 == 7 then class_entry_at tag.1 else None
+  entry_behind tag.0 tag.1
 
--- the count is one more than the entries that are spelled, as nothing is spelled at index 0
+-- what stands at the next index; the flag tells whether nothing is due there
+abbrev pub slot_at : Bool → List ℕ → Option (Entry × List ℕ)
+slot_at true bytes = Some (entry.Second, bytes)
+slot_at false bytes = entry_at_front bytes
+
+-- what stands at so many indices; a long may not be the last of them
+unfoldable pub slots_at : Bool → ℕ → List ℕ → Option (List Entry × List ℕ)
+slots_at due zero bytes = if due then None else Some ([], bytes)
+slots_at due (suc count) bytes = do
+  first ← slot_at due bytes
+  others ← slots_at (takes_two first.0) count first.1
+  Some (first.0 ∷ others.0, others.1)
+
+-- the count is that of all indices, from 0 on, where nothing is spelled
 unfoldable pub pool_at : List ℕ → Option (List Entry × List ℕ)
 pool_at bytes = do
   count ← number_at 2 bytes
-  if count.0 == 0 then None else with_front (entry.Second ∷ []) (several_at entry_at_front (count.0 - 1) count.1)
+  slots_at true count.0 count.1
 
 -- ---- methods
 
@@ -97,7 +114,6 @@ attribute_at bytes = do
   body ← bytes_at size.0 size.1
   Some ((name.0, body.0), body.1)
 
--- a method's numbers, and its one attribute
 unfoldable pub method_at : List ℕ → Option (Method × List ℕ)
 method_at bytes = do
   flags ← number_at 2 bytes
@@ -129,7 +145,6 @@ ends_at bytes = do
   rest ← fixed_at 2 0 bytes
   if length rest == 0 then Some rest else None
 
--- the parts of a class, which are all of the bytes
 unfoldable pub class_at : List ℕ → Option Class
 class_at bytes = do
   header ← header_at bytes

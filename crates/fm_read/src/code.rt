@@ -1,32 +1,41 @@
 // The bodies of Code attributes of the first form (class file chapter, section 4.7.3, and the
 // instruction chapter, section 6.5).
 
-ghost use Rattle.std.specs.Prelude.{◌≡◌, ◌≢◌, ◌↔◌, ℕ, ◌+◌, ◌<◌, ◌≤◌, List, length, drop, IsTrue, IfOk, IfSome, IfNone, MatchResult};
+ghost use Rattle.std.specs.Prelude.{◌≡◌, ◌≢◌, ◌↔◌, ℕ, ◌+◌, ◌<◌, ◌≤◌, List, ◌∷◌, length, drop, IsTrue, IfOk, IfSome, IfNone, MatchResult};
 ghost use Rattle.fm_code.specs.SpellsCode.{LocalsFit, LocalFits};
 ghost use Rattle.fm_code.specs.declared.code_array.Code.{Code};
 ghost use Rattle.fm_code.specs.declared.code_array.Item.{Item};
+ghost use Rattle.fm_read.specs.Parts.{class_view};
+ghost use Rattle.fm_read.specs.PartsRules.{bare_class};
 ghost use Rattle.fm_read.specs.CodeBody.{IsFirstBody, HasParts};
-ghost use Rattle.fm_read.specs.CodeItems.{front_insn, bare_insn, IsFront, AreFirstItems};
+ghost use Rattle.fm_read.specs.CodeItems.{front_insn, IsFront, AreDrafts, AreFirstItems};
 
 use crate::failure::FirstFail;
+use crate::opcodes::{bare_insn_of, byte_insn_of, operand_count, short_insn_of};
+use crate::operands::name_first_operands;
+use crate::parts::ClassParts;
+use crate::targets::{numbered_items, offsets_of};
 use byteorder::{BigEndian, ByteOrder};
 use fm_base::Seq;
-use fm_code::{Code, Conv, Insn, Item, Op, Reg, Shift};
+use fm_code::{Code, Insn, Item, Reg};
 use std::alloc::Global;
 
-/// The code of the first form whose Code attribute has these bytes behind its length. `NotYet` comes
-/// exactly where there is none. No memory is taken for a length that the bytes only claim.
-pub(crate) fn code_of(alloc: Global, body: &[u8]) -> Result<Code, FirstFail>
+/// The code of the first form whose Code attribute has these bytes behind its length, in a method of the
+/// class. `NotYet` comes exactly where there is none. No memory is taken for a length that the bytes only claim.
+pub(crate) fn code_of(alloc: Global, class: &ClassParts<'_>, body: &[u8]) -> Result<Code, FirstFail>
     // What is read is spelled by the bytes.
-    ensures found { IfOk result (λ code. IsFirstBody body.now code) }
+    ensures found { IfOk result (λ code. IsFirstBody (bare_class (class_view class.now)) body.now code) }
     // What is spelled by the bytes is read, unless memory runs out.
-    ensures read { (code : Code) → IsFirstBody body.now code → MatchResult result (λ d. d ≡ code) (λ e. e ≡ FirstFail.NoMemory) }
-    ensures not_yet { result ≡ Err FirstFail.NotYet → (code : Code) → ¬ IsFirstBody body.now code }
+    ensures read { (code : Code) → IsFirstBody (bare_class (class_view class.now)) body.now code → MatchResult result (λ d. d ≡ code) (λ e. e ≡ FirstFail.NoMemory) }
+    ensures not_yet { result ≡ Err FirstFail.NotYet → (code : Code) → ¬ IsFirstBody (bare_class (class_view class.now)) body.now code }
 {
     let Some((max_stack, max_locals, code)) = parts_of(body) else {
         return Err(FirstFail::NotYet);
     };
     let items = items_of(alloc, max_locals, code)?;
+    if !name_first_operands(class, items.as_slice()) {
+        return Err(FirstFail::NotYet);
+    }
     Ok(Code {
         max_stack,
         max_locals,
@@ -68,14 +77,26 @@ fn items_of(alloc: Global, max_locals: u16, code: &[u8]) -> Result<Vec<Item>, Fi
     ensures read { (items : List Item) → AreFirstItems max_locals code.now items
         → MatchResult result (λ found. found.items ≡ items) (λ e. e ≡ FirstFail.NoMemory) }
 {
-    let mut items = Vec::new(alloc);
+    let drafts = drafts_of(alloc, max_locals, code)?;
+    let offsets = offsets_of(alloc, drafts.as_slice())?;
+    numbered_items(alloc, offsets.as_slice(), drafts)
+}
+
+/// The items of a code array with offsets for targets.
+fn drafts_of(alloc: Global, max_locals: u16, code: &[u8]) -> Result<Vec<Item>, FirstFail>
+    requires { length code.now ≤ 65535 }
+    ensures found { IfOk result (λ drafts. AreDrafts max_locals code.now drafts.items) }
+    ensures read { (drafts : List Item) → AreDrafts max_locals code.now drafts
+        → MatchResult result (λ found. found.items ≡ drafts) (λ e. e ≡ FirstFail.NoMemory) }
+{
+    let mut drafts = Vec::new(alloc);
     let mut at = 0;
     while at < code.len() {
         let item = item_of(alloc, max_locals, code, at)?;
         at += item.bytes.as_slice().len();
-        items.push(item)?;
+        drafts.push(item)?;
     }
-    Ok(items)
+    Ok(drafts)
 }
 
 /// The item that stands at an offset of a code array.
@@ -122,70 +143,35 @@ fn local_fits(max_locals: u16, kind: Reg, local: u16) -> bool
 }
 
 /// The instruction at an offset of a code array, and how many bytes it takes there.
-#[tactic(auto, unfolding(crate::specs::CodeItems::front_insn, fm_code::specs::InstructionTable::insn_at))]
+#[tactic(auto, unfolding(crate::specs::CodeItems::front_insn))]
 fn insn_of(code: &[u8], at: usize) -> Option<(Insn, usize)>
-    requires { at ≤ length code.now }
+    requires short { length code.now ≤ 65535 }
+    requires within { at ≤ length code.now }
     ensures front { result ≡ front_insn at (drop at code.now) }
     ensures within { IfSome result (λ found. (0 < found.1) × (at + found.1 ≤ length code.now)) }
 {
-    let (opcode, operands) = code[at..].split_first()?;
-    match *opcode {
-        // bipush, sipush, iload, istore and iinc
-        16 => Some((Insn::Const(i32::from(operands.first()?.cast_signed())), 2)),
-        17 => match operands {
-            [_, _, ..] => Some((Insn::Const(i32::from(BigEndian::read_i16(operands))), 3)),
-            _ => None,
-        },
-        21 => Some((Insn::Load(Reg::Int, u16::from(*operands.first()?)), 2)),
-        54 => Some((Insn::Store(Reg::Int, u16::from(*operands.first()?)), 2)),
-        132 => match operands {
-            [local, by, ..] => Some((Insn::Inc(u16::from(*local), i16::from(by.cast_signed())), 3)),
-            _ => None,
-        },
-        opcode => Some((bare_insn_of(opcode)?, 1)),
+    match &code[at..] {
+        [opcode, operands @ ..] => front_insn_of(at, *opcode, operands),
+        [] => None,
     }
 }
 
-/// The instruction of an opcode that has no operands.
-#[tactic(auto, unfolding(crate::specs::CodeItems::bare_insn, fm_code::specs::InstructionTable::insn_at))]
-fn bare_insn_of(opcode: u8) -> Option<Insn>
-    ensures { (offset : ℕ) → result ≡ bare_insn offset opcode }
+/// The instruction of an opcode at an offset with what is behind it, and how many bytes it takes.
+fn front_insn_of(at: usize, opcode: u8, operands: &[u8]) -> Option<(Insn, usize)>
+    requires { at ≤ 65535 }
+    ensures front { result ≡ front_insn at (opcode ∷ operands.now) }
+    ensures within { IfSome result (λ found. (0 < found.1) × (found.1 ≤ length operands.now + 1)) }
 {
-    match opcode {
-        0 => Some(Insn::Nop),
-        2 => Some(Insn::Const(-1)),
-        3 => Some(Insn::Const(0)),
-        4 => Some(Insn::Const(1)),
-        5 => Some(Insn::Const(2)),
-        6 => Some(Insn::Const(3)),
-        7 => Some(Insn::Const(4)),
-        8 => Some(Insn::Const(5)),
-        26 => Some(Insn::Load(Reg::Int, 0)),
-        27 => Some(Insn::Load(Reg::Int, 1)),
-        28 => Some(Insn::Load(Reg::Int, 2)),
-        29 => Some(Insn::Load(Reg::Int, 3)),
-        59 => Some(Insn::Store(Reg::Int, 0)),
-        60 => Some(Insn::Store(Reg::Int, 1)),
-        61 => Some(Insn::Store(Reg::Int, 2)),
-        62 => Some(Insn::Store(Reg::Int, 3)),
-        87 => Some(Insn::Pop),
-        89 => Some(Insn::Dup),
-        96 => Some(Insn::IntOp(Op::Add)),
-        100 => Some(Insn::IntOp(Op::Sub)),
-        104 => Some(Insn::IntOp(Op::Mul)),
-        116 => Some(Insn::IntNeg),
-        120 => Some(Insn::IntShift(Shift::Left)),
-        122 => Some(Insn::IntShift(Shift::Right)),
-        124 => Some(Insn::IntShift(Shift::RightZero)),
-        126 => Some(Insn::IntOp(Op::And)),
-        128 => Some(Insn::IntOp(Op::Or)),
-        130 => Some(Insn::IntOp(Op::Xor)),
-        145 => Some(Insn::Convert(Conv::IntToByte)),
-        146 => Some(Insn::Convert(Conv::IntToChar)),
-        147 => Some(Insn::Convert(Conv::IntToShort)),
-        172 => Some(Insn::Return(Some(Reg::Int))),
-        177 => Some(Insn::Return(None)),
-        _ => None,
+    match operand_count(opcode) {
+        0 => Some((bare_insn_of(opcode)?, 1)),
+        1 => match operands {
+            [operand, ..] => Some((byte_insn_of(opcode, *operand)?, 2)),
+            [] => None,
+        },
+        _ => match operands {
+            [high, low, ..] => Some((short_insn_of(at, opcode, *high, *low)?, 3)),
+            _ => None,
+        },
     }
 }
 

@@ -33,7 +33,7 @@ pub fn read_first(alloc: Global, bytes: &[u8]) -> Result<ClassDef, FirstFail>
     if !methods_are_distinct(alloc, class.entries.as_slice(), methods)? {
         return Err(FirstFail::NotYet);
     }
-    let members = members_with_code(alloc, methods)?;
+    let members = members_with_code(alloc, &class)?;
     Ok(class_def(alloc, class, members))
 }
 

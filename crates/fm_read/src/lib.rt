@@ -13,9 +13,12 @@ mod members;
 mod methods;
 mod names;
 mod numbers;
+mod opcodes;
+mod operands;
 mod parts;
 mod pool;
 mod rules;
+mod targets;
 
 pub use failure::FirstFail;
 pub use first::read_first;

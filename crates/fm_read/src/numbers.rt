@@ -36,6 +36,16 @@ pub(crate) fn u32_at(bytes: &[u8]) -> Result<(u32, &[u8]), FirstFail>
     Ok((BigEndian::read_u32(bytes), &bytes[4..]))
 }
 
+/// The number in the first eight bytes, and the bytes behind it.
+pub(crate) fn u64_at(bytes: &[u8]) -> Result<(u64, &[u8]), FirstFail>
+    ensures { Gives (λ x. (x.0, x.1.now)) result (number_at 8 bytes.now) }
+{
+    if bytes.len() < 8 {
+        return Err(FirstFail::NotYet);
+    }
+    Ok((BigEndian::read_u64(bytes), &bytes[8..]))
+}
+
 /// The first `size` bytes, and the bytes behind them.
 pub(crate) fn bytes_of(size: usize, bytes: &[u8]) -> Result<(&[u8], &[u8]), FirstFail>
     ensures { Gives (λ x. (x.0.now, x.1.now)) result (bytes_at size bytes.now) }

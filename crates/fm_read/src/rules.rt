@@ -3,12 +3,16 @@
 
 ghost use Rattle.std.specs.Prelude.{◌≡◌, ◌↔◌, ◌<◌, ◌==◌, not, true, map, codes, Some, IsSomeAnd, IsTrue, option_copied};
 ghost use Rattle.std.specs.List.{list_all, AllByRecursion};
-ghost use Rattle.fm_code.specs.Rules.{utf8_at, class_name_at, has_flag, EntryIsValid};
+ghost use Rattle.std.specs.Option.{option_map};
+ghost use Rattle.fm_code.specs.Rules.{utf8_at, class_name_at, named_and_typed_at, has_flag, EntryIsValid, IsFieldPair, IsMethodPair};
 ghost use Rattle.fm_code.specs.Names.{is_binary_name};
 ghost use Rattle.fm_read.specs.Parts.{class_view, method_view};
 ghost use Rattle.fm_read.specs.PartsRules.{HasFirstFlags, IsFirstName, IsEmptyInterface, IsFirstSignature, MeetsRules, MethodMeetsRules, NamesMeetRules};
 
-use crate::names::{is_binary_name, is_class_name, is_int_descriptor, is_method_name};
+use crate::names::{
+    is_binary_name, is_class_name, is_field_descriptor, is_method_descriptor, is_method_name,
+    is_number_descriptor, is_unqualified,
+};
 use crate::parts::{ClassParts, MethodParts};
 use fm_code::Entry;
 
@@ -22,7 +26,7 @@ const INTERFACE: u32 = 9;
 const ABSTRACT: u32 = 10;
 
 /// The bytes of the text at an index.
-fn utf8_at(entries: &[Entry], index: u16) -> Option<&[u8]>
+pub(crate) fn utf8_at(entries: &[Entry], index: u16) -> Option<&[u8]>
     ensures { option_copied result ≡ utf8_at entries.now index }
 {
     match entries.get(index as usize)? {
@@ -32,7 +36,7 @@ fn utf8_at(entries: &[Entry], index: u16) -> Option<&[u8]>
 }
 
 /// The name of the class at an index.
-fn class_name_at(entries: &[Entry], index: u16) -> Option<&[u8]>
+pub(crate) fn class_name_at(entries: &[Entry], index: u16) -> Option<&[u8]>
     ensures { option_copied result ≡ class_name_at entries.now index }
 {
     match entries.get(index as usize)? {
@@ -41,15 +45,92 @@ fn class_name_at(entries: &[Entry], index: u16) -> Option<&[u8]>
     }
 }
 
-/// Whether a class entry names a text, and that text a class.
+/// The name and the descriptor at an index.
+pub(crate) fn named_and_typed_at(entries: &[Entry], index: u16) -> Option<(&[u8], &[u8])>
+    ensures { option_map (λ x. (x.0.now, x.1.now)) result ≡ named_and_typed_at entries.now index }
+{
+    match entries.get(index as usize)? {
+        Entry::NameAndType(name, descriptor) => {
+            Some((utf8_at(entries, *name)?, utf8_at(entries, *descriptor)?))
+        }
+        _ => None,
+    }
+}
+
+/// Whether these are the name and the descriptor of a field.
+fn is_field_pair(name: &[u8], descriptor: &[u8]) -> bool
+    ensures { IsTrue result ↔ IsFieldPair (name.now, descriptor.now) }
+{
+    is_unqualified(name) && is_field_descriptor(descriptor)
+}
+
+/// Whether these are the name and the descriptor of a method.
+fn is_method_pair(name: &[u8], descriptor: &[u8]) -> bool
+    ensures { IsTrue result ↔ IsMethodPair (name.now, descriptor.now) }
+{
+    is_method_name(name) && is_method_descriptor(descriptor)
+}
+
+/// Whether a class entry names a class.
+fn class_is_valid(entries: &[Entry], name: u16) -> bool
+    ensures { IsTrue result ↔ EntryIsValid entries.now (Entry.Class name) }
+{
+    match utf8_at(entries, name) {
+        Some(name) => is_class_name(name),
+        None => false,
+    }
+}
+
+/// Whether a field's entry names a class, and a field's name and descriptor.
+fn field_is_valid(entries: &[Entry], class: u16, member: u16) -> bool
+    ensures { IsTrue result ↔ EntryIsValid entries.now (Entry.Field class member) }
+{
+    match (
+        class_name_at(entries, class),
+        named_and_typed_at(entries, member),
+    ) {
+        (Some(_), Some((name, descriptor))) => is_field_pair(name, descriptor),
+        _ => false,
+    }
+}
+
+/// Whether a method's entry names a class, and a method's name and descriptor.
+fn method_is_valid(entries: &[Entry], class: u16, member: u16) -> bool
+    ensures { IsTrue result ↔ EntryIsValid entries.now (Entry.Method class member) }
+{
+    match (
+        class_name_at(entries, class),
+        named_and_typed_at(entries, member),
+    ) {
+        (Some(_), Some((name, descriptor))) => is_method_pair(name, descriptor),
+        _ => false,
+    }
+}
+
+/// Whether an entry names the name and the descriptor of a field or of a method.
+fn name_and_type_is_valid(entries: &[Entry], name: u16, descriptor: u16) -> bool
+    ensures { IsTrue result ↔ EntryIsValid entries.now (Entry.NameAndType name descriptor) }
+{
+    match (utf8_at(entries, name), utf8_at(entries, descriptor)) {
+        (Some(name), Some(descriptor)) => {
+            is_field_pair(name, descriptor) || is_method_pair(name, descriptor)
+        }
+        _ => false,
+    }
+}
+
+/// Whether an entry names what it has to: a class entry a class, a member's entry a class with a name
+/// and a descriptor of its kind.
 fn entry_is_valid(entries: &[Entry], entry: &Entry) -> bool
     ensures { IsTrue result ↔ EntryIsValid entries.now entry.now }
 {
     match entry {
-        Entry::Class(name) => match utf8_at(entries, *name) {
-            Some(name) => is_class_name(name),
-            None => false,
-        },
+        Entry::Class(name) => class_is_valid(entries, *name),
+        Entry::Field(class, member) => field_is_valid(entries, *class, *member),
+        Entry::Method(class, member) => method_is_valid(entries, *class, *member),
+        Entry::NameAndType(name, descriptor) => {
+            name_and_type_is_valid(entries, *name, *descriptor)
+        }
         _ => true,
     }
 }
@@ -90,12 +171,20 @@ fn has_no_start(name: &[u8]) -> bool
     name.iter().all(|c| *c != b'<')
 }
 
-/// Whether these are main's name and descriptor, or the descriptor has ints alone.
+/// Whether the descriptor is that of a method without a receiver, and these are main's name and
+/// descriptor or the descriptor has numbers alone.
 fn is_first_signature(name: &[u8], descriptor: &[u8]) -> bool
     ensures { IsTrue result ↔ IsFirstSignature name.now descriptor.now }
 {
-    (name == b"main".as_slice() && descriptor == b"([Ljava/lang/String;)V".as_slice())
-        || (is_int_descriptor(descriptor) && descriptor.len() <= 258)
+    is_method_descriptor(descriptor)
+        && (is_main(name, descriptor) || is_number_descriptor(descriptor))
+}
+
+/// Whether these are main's name and descriptor.
+fn is_main(name: &[u8], descriptor: &[u8]) -> bool
+    ensures { IsTrue result ↔ ((name.now ≡ codes "main") × (descriptor.now ≡ codes "([Ljava/lang/String;)V")) }
+{
+    name == b"main".as_slice() && descriptor == b"([Ljava/lang/String;)V".as_slice()
 }
 
 /// Whether a method meets the rules that don't look at other methods.
@@ -169,3 +258,6 @@ pub(crate) fn class_meets_rules(class: &ClassParts<'_>) -> bool
         && methods_meet_rules(entries, methods)
         && is_empty_interface(class.flags, methods)
 }
+
+#[cfg(test)]
+mod tests;

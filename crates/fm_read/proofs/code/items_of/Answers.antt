@@ -1,36 +1,35 @@
-use Rattle.std.proofs.Common.{◌≡◌, ℕ, ◌+◌, ◌++◌, ◌∷◌, [], length, List, sym, ap, subst, arith, length-drop}
+use Rattle.std.proofs.Common.{◌≡◌, ℕ, List, map, sym, ap, subst, ◌∙◌}
 use Rattle.std.proofs.lemmas.Result.{err_from_is_err_and}
 use Rattle.fm_code.specs.declared.code_array.Item.{Item}
-use Rattle.fm_read.proofs.CodeWalk.{IsReadUpTo, read_more, read_all, read_only, read_next, front_takes, is_memory}
+use Rattle.fm_read.specs.CodeItems.{AreRising, AreFirstItems, item_offset, numbered_items}
+use Rattle.fm_read.proofs.CodeTargets.{offsets_of, drafts_of, drafts_rise, drafts_take, items_drafts, items_again_of, gives_found, gives_read}
 use Rattle.fm_read.proofs.code.items_of.Goals as goal
 
-pub returns-in_err-item-clause-read : goal.returns-in_err-item-clause-read
-returns-in_err-item-clause-read c = λ items are.
-    let next = read_next c.args.max_locals c.args.code.now c.loop-at.items.items c.loop-at.at c.loop-at-test.true c.loop-at.invariant.read items are in
+pub returns-in_err-drafts-clause-read : goal.returns-in_err-drafts-clause-read
+returns-in_err-drafts-clause-read c = λ items are.
     let p = err_from_is_err_and c.from_residual.result c.from_residual.ensures.1 in
-    rw (p.1, p.2) (is_memory {T = Item} c.in_err-item.field-0.0 (c.in_err-item.ensures.not_yet next.0 next.1))
+    rw (p.1, p.2) (c.in_err-drafts.ensures.read (drafts_of items items) (items_drafts c.args.max_locals c.args.code.now items are))
 
-pub loop-at-smaller : goal.loop-at-smaller
-loop-at-smaller c =
-    let takes = front_takes c.loop-at.at _ _ _ c.in_ok-item.ensures.found.insn_is in
-    let size : length c.as_slice.result.now ≡ length c.in_ok-item.item.bytes = ap length c.as_slice.ensures in
-    omega (arith, takes.some, takes.within, length-drop c.loop-at.at c.args.code.now)
+-- the slice of offsets has those of the drafts
+slice_is : (c : goal.After-as_slice-2) → c.as_slice-2.result.now ≡ offsets_of c.in_ok-drafts.drafts.items
+slice_is c = c.as_slice-2.ensures.value ∙ c.in_ok-offsets.ensures.ok ∙ ap (map item_offset) c.as_slice.ensures.value
 
-pub loop-at-preserved : goal.loop-at-preserved
-loop-at-preserved c =
-    let takes = front_takes c.loop-at.at _ _ _ c.in_ok-item.ensures.found.insn_is in
-    let size : length c.as_slice.result.now ≡ length c.in_ok-item.item.bytes = ap length c.as_slice.ensures in
-    let at = c.loop-at.at in
-    let items = c.loop-at.items.items ++ c.in_ok-item.item ∷ [] in
-    let more = read_more c.args.max_locals c.args.code.now c.loop-at.items.items at c.in_ok-item.item c.loop-at.invariant.read c.in_ok-item.ensures.found in
-    let further = subst (λ (n : ℕ). IsReadUpTo c.args.max_locals c.args.code.now items (at + n)) (sym size) more in
-    record {
-      within = omega (arith, takes.some, takes.within, length-drop at c.args.code.now);
-      read = subst (λ (all : List Item). IsReadUpTo c.args.max_locals c.args.code.now all (at + length c.as_slice.result.now)) (sym c.in_ok-push.ensures.items) further;
-    }
+pub numbered_items-requires : goal.numbered_items-requires
+numbered_items-requires c = record {
+  rising = subst AreRising (sym (slice_is c)) (drafts_rise c.args.max_locals c.args.code.now c.in_ok-drafts.drafts.items c.in_ok-drafts.ensures.found);
+}
 
 pub returns-clause-found : goal.returns-clause-found
-returns-clause-found c = read_all c.args.max_locals c.args.code.now c.loop-at.items.items c.loop-at.at c.loop-at-test.false c.loop-at.invariant.read
+returns-clause-found c =
+    let slice : c.as_slice-2.result.now ≡ offsets_of c.in_ok-drafts.drafts.items = c.as_slice-2.ensures.value ∙ c.in_ok-offsets.ensures.ok ∙ ap (map item_offset) c.as_slice.ensures.value in
+    gives_found (λ v. v.items) c.numbered_items.result _ (AreFirstItems c.args.max_locals c.args.code.now) c.numbered_items.ensures
+    (λ items e. drafts_take c.args.max_locals c.args.code.now c.in_ok-drafts.drafts.items items c.in_ok-drafts.ensures.found (ap (λ (os : List ℕ). numbered_items os c.in_ok-drafts.drafts.items) (sym slice) ∙ e))
 
 pub returns-clause-read : goal.returns-clause-read
-returns-clause-read c = read_only c.args.max_locals c.args.code.now c.loop-at.items.items c.loop-at.at c.loop-at-test.false c.loop-at.invariant.read
+returns-clause-read c = λ items are.
+    let slice : c.as_slice-2.result.now ≡ offsets_of c.in_ok-drafts.drafts.items = c.as_slice-2.ensures.value ∙ c.in_ok-offsets.ensures.ok ∙ ap (map item_offset) c.as_slice.ensures.value in
+    let drafts = items_drafts c.args.max_locals c.args.code.now items are in
+    let same : c.in_ok-drafts.drafts.items ≡ drafts_of items items = c.in_ok-drafts.ensures.read (drafts_of items items) drafts in
+    gives_read (λ v. v.items) c.numbered_items.result _ items c.numbered_items.ensures
+    (ap (λ (os : List ℕ). numbered_items os c.in_ok-drafts.drafts.items) slice ∙ ap (λ (ds : List Item). numbered_items (offsets_of ds) ds) same
+    ∙ items_again_of c.args.max_locals c.args.code.now items are)

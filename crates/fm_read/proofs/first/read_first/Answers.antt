@@ -1,7 +1,11 @@
-use Rattle.std.proofs.Common.{◌≡◌, false, map, ap, ◌∙◌, arith, rules}
+use Rattle.std.proofs.Common.{◌≡◌, ℕ, ◌<◌, List, Bool, true, false, Ok, Err, map, refl, sym, ap, subst, ◌∙◌, arith, rules}
 use Rattle.std.proofs.lemmas.Result.{err_from_is_err_and}
+use Rattle.fm_code.specs.Spells.{Spells}
+use Rattle.fm_code.specs.FirstForm.{IsFirstForm}
+use Rattle.fm_code.specs.declared.class_file.ClassDef.{ClassDef}
+use Rattle.fm_read.specs.declared.parts.MethodParts.{MethodParts}
 use Rattle.fm_read.specs.Parts.{method_view, class_view}
-use Rattle.fm_read.specs.PartsRules.{MeetsRules, AreMethodsDistinct, AreMembersOf, class_of_parts}
+use Rattle.fm_read.specs.PartsRules.{MeetsRules, AreMethodsDistinct, AreMembersOf, bare_class, class_of_parts}
 use Rattle.fm_read.proofs.ClassPieces.{class_takes}
 use Rattle.fm_read.proofs.FirstFound.{is_found}
 use Rattle.fm_read.proofs.FirstRead.{all_bytes, has_parts, only_no_memory, parts_are, not_refused, refuted}
@@ -39,8 +43,7 @@ pub returns-in_err-members-clause-read : goal.returns-in_err-members-clause-read
 returns-in_err-members-clause-read c = λ d first spells.
     let p = err_from_is_err_and c.from_residual-in_err-members.result c.from_residual-in_err-members.ensures.1 in
     let of_d = parts_are c.args.bytes.now (class_view c.in_ok-class.class) d c.in_ok-class.ensures first spells in
-    let methods_are = c.as_slice-methods.ensures.value in
-    rw (p.1, p.2) (c.in_err-members.ensures.read d.methods (rw methods_are of_d.members_of))
+    rw (p.1, p.2) (c.in_err-members.ensures.read d.methods of_d.members_of)
 
 pub returns-in_err-members-clause-not_yet : goal.returns-in_err-members-clause-not_yet
 returns-in_err-members-clause-not_yet c = λ e d first spells. not_refused c.from_residual-in_err-members.result d (returns-in_err-members-clause-read c d first spells) e
@@ -54,12 +57,11 @@ returns-clause-found c =
     let entries_are = c.as_slice.ensures.value in
     let methods_are = c.as_slice-methods.ensures.value in
     let distinct : AreMethodsDistinct class.entries class.methods = rw (← entries_are, ← methods_are) (c.in_ok-methods_are_distinct.ensures.ok.0 (search rules)) in
-    let members : AreMembersOf class.methods c.in_ok-members.members.items = rw (← methods_are) c.in_ok-members.ensures.found in
+    let members : AreMembersOf (bare_class class) class.methods c.in_ok-members.members.items = c.in_ok-members.ensures.found in
     rw c.class_def.ensures (is_found bytes class c.in_ok-members.members.items taken.0 taken.1 rules_hold distinct members)
 
 pub returns-clause-read : goal.returns-clause-read
 returns-clause-read c = λ d first spells.
     let of_d = parts_are c.args.bytes.now (class_view c.in_ok-class.class) d c.in_ok-class.ensures first spells in
-    let methods_are = c.as_slice-methods.ensures.value in
-    let same = c.in_ok-members.ensures.read d.methods (rw methods_are of_d.members_of) in
+    let same = c.in_ok-members.ensures.read d.methods of_d.members_of in
     c.class_def.ensures ∙ ap (class_of_parts (class_view c.in_ok-class.class)) same ∙ of_d.made_of

@@ -1,0 +1,11 @@
+use Rattle.std.proofs.Common.{◌-◌, ◌≡◌}
+use Rattle.fmrun.proofs.RunLemmas.{IsAt}
+use Rattle.fmrun.proofs.machine.run_program.Given as goal
+
+abbrev pub invariant-loop-steps : goal.invariant-loop-steps
+invariant-loop-steps g l =
+    IsAt l.program l.budget (g.O.Sink.got l.initial.out) (g.O.Sink.got l.out) l.steps l.frames
+    × (g.O.Sink.faults l.out ≡ g.O.Sink.faults l.initial.out)
+
+abbrev pub decreases-loop-steps : goal.decreases-loop-steps
+decreases-loop-steps g l = l.budget - l.steps

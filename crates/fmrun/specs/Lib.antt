@@ -1,0 +1,9 @@
+pub mod Programs
+pub mod States
+pub mod Rows
+pub mod Steps
+pub mod Progress
+pub mod Runs
+pub mod Reports
+pub mod Jobs
+pub mod TopCall
