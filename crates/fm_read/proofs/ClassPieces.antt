@@ -1,14 +1,13 @@
 -- The parts of a class of the first form: what is read is spelled so, and what is spelled so is read.
-use Rattle.std.proofs.Common.{◌≡◌, ℕ, Bool, true, false, cond, eqb, List, [], ◌∷◌, ◌++◌, length, Option, Some, None, refl, sym, ap, subst, ◌∙◌, append_assoc, arith}
+use Rattle.std.proofs.Common.{◌≡◌, ℕ, cond, eqb, List, [], ◌++◌, length, Some, None, refl, ap, subst, ◌∙◌, append_assoc, arith}
 use Rattle.std.proofs.lemmas.Bool.{eqb-true}
 use Rattle.std.proofs.lemmas.List.{append-nil, nil_from_length}
 use Rattle.fm_code.specs.Numbers.{two, four}
 use Rattle.fm_code.specs.ClassBytes.{entry_bytes, counted}
 use Rattle.fm_code.specs.Fits.{AreBytes, FitsTwo, FitsFour}
-use Rattle.fm_code.specs.declared.constant_pool.Entry.{Entry}
-use Rattle.fm_read.specs.Parts.{Method, Class}
+use Rattle.fm_read.specs.Parts.{Class}
 use Rattle.fm_read.specs.Reading.{◌>>=◌, number_at, fixed_at, header_at, pool_at, members_at, ends_at, class_at}
-use Rattle.fm_read.proofs.Pieces.{bind_some, guard_holds, some_is, Takes, Takes-then, IsPiece, two_piece, four_piece, fixed_takes, fixed_again}
+use Rattle.fm_read.proofs.Pieces.{bind_some, guard_holds, some_is, Takes, Takes-then, two_piece, four_piece, fixed_takes, fixed_again}
 use Rattle.fm_read.proofs.PoolPieces.{IsReadPool, pool_piece}
 use Rattle.fm_read.proofs.MethodPieces.{members_bytes, MembersFit, members_piece}
 

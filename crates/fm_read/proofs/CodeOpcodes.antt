@@ -1,12 +1,10 @@
 -- The instructions of the first form by their opcodes: each takes the bytes that its opcode asks for, and none is a switch.
-use Rattle.std.proofs.Common.{◌≡◌, ℕ, ◌<◌, ◌≤◌, ◌||◌, not, Bool, true, false, eqb, ltb, List, [], ◌∷◌, length, Option, Some, None, refl, sym, ap, subst, ◌∙◌, inl, inr, ℤ, pos, negsuc, ◌+ℤ◌}
+use Rattle.std.proofs.Common.{◌≡◌, ℕ, ◌<◌, ◌≤◌, ◌||◌, not, Bool, true, false, eqb, ltb, List, [], ◌∷◌, length, Some, refl, sym, ap, subst, ◌∙◌, inl, inr, ℤ, pos, negsuc, ◌+ℤ◌}
 use Rattle.fm_code.specs.Numbers.{signed_one, signed_two, number_of_two}
 use Rattle.std.specs.List.{AllByRecursion, list_any, slice_index_or}
 use Rattle.std.proofs.lemmas.Bool.{cases_Bool, eqb-true, eq-eqb, le-ltb, agree_below, agree_below_at}
 use Rattle.fm_code.specs.InstructionTable.{Reading, bare, byte, two_bytes, jump_to, jump, readings, malformed, insn_at}
 use Rattle.fm_code.specs.FirstForm.{first_opcodes}
-use Rattle.fm_code.specs.declared.operations.Reg.TheVariants as reg
-use Rattle.fm_code.specs.declared.operations.Test.TheVariants as test
 use Rattle.fm_code.specs.declared.instructions.Insn.{Insn}
 use Rattle.fm_code.specs.declared.instructions.Insn.TheVariants as insn
 use Rattle.fm_read.specs.CodeItems.{is_among, is_first_opcode, operand_count, insn_among}

@@ -1,5 +1,5 @@
 -- What `any` answers of the methods of a class, by the record of the class.
-use Rattle.std.proofs.Common.{◌≡◌, ◌↔◌, ℕ, ◌<◌, Bool, true, false, List, [], map, length, get_or, Some, refl, sym, ap, subst, ◌∙◌, IsTrue, MatchBool, arith, rules}
+use Rattle.std.proofs.Common.{◌≡◌, ◌↔◌, ℕ, ◌<◌, Bool, true, false, List, [], map, length, get_or, Some, sym, ap, ◌∙◌, IsTrue, MatchBool, arith, rules}
 use Rattle.std.specs.Prelude.{Contains}
 use Rattle.std.specs.List.{AllWithin, HoldsAt}
 use Rattle.std.proofs.lemmas.Bool.{false≢true}
@@ -8,7 +8,7 @@ use Rattle.fm_code.specs.Rules.{utf8_at}
 use Rattle.fm_code.specs.FirstForm.{MemberName}
 use Rattle.fm_code.specs.declared.constant_pool.Entry.{Entry}
 use Rattle.fm_code.specs.declared.class_file.Member.{Member}
-use Rattle.fm_read.specs.Parts.{Method, method_view}
+use Rattle.fm_read.specs.Parts.{method_view}
 use Rattle.fm_read.specs.PartsRules.{bare_member}
 use Rattle.fm_read.specs.Operands.{Agrees}
 use Rattle.fm_read.specs.declared.parts.MethodParts.{MethodParts}

@@ -1,5 +1,5 @@
 -- Targets that are told by offsets are told by the numbers of items, and the other way round.
-use Rattle.std.proofs.Common.{◌≡◌, ℕ, zero, suc, ◌+◌, ◌<◌, ◌≤◌, Bool, true, false, eqb, List, [], ◌∷◌, ◌++◌, map, length, get_or, Option, Some, None, option_and_then, refl, sym, ap, subst, ◌∙◌, arith, inl, inr, append_assoc}
+use Rattle.std.proofs.Common.{◌≡◌, ℕ, zero, suc, ◌+◌, ◌<◌, ◌≤◌, true, false, eqb, List, [], ◌∷◌, ◌++◌, map, length, get_or, Option, Some, None, option_and_then, refl, sym, ap, subst, ◌∙◌, arith, inl, inr, append_assoc}
 use Rattle.std.specs.Prelude.{Result, Ok, Err, IfOk, MatchResult}
 use Rattle.std.specs.List.Sorted.{IsBinarySearchResult}
 use Rattle.std.specs.Ordering.{nat_cmp}
@@ -10,7 +10,7 @@ use Rattle.std.proofs.lemmas.Bool.{cases_Bool, cases_lt, eqb-true, eq-eqb, ne_eq
 use Rattle.std.proofs.lemmas.List.{append-nil}
 use Rattle.fm_code.specs.ClassBytes.{item_bytes, offset_in}
 use Rattle.fm_code.specs.InstructionTable.{insn_at}
-use Rattle.fm_code.specs.SpellsCode.{targets_of, with_targets, AreOffsets, IsSpelled, SpellsCode, LocalsFit}
+use Rattle.fm_code.specs.SpellsCode.{targets_of, with_targets, AreOffsets, IsSpelled, LocalsFit}
 use Rattle.fm_code.specs.declared.instructions.Insn.{Insn}
 use Rattle.fm_code.specs.declared.instructions.Insn.TheVariants as insn
 use Rattle.fm_code.specs.declared.code_array.Item.{Item}

@@ -1,5 +1,5 @@
 -- Items one after the other, as they are read, are the items that the bytes spell with offsets for targets.
-use Rattle.std.proofs.Common.{◌≡◌, ℕ, zero, suc, ◌+◌, ◌*◌, ◌≤◌, ◌<◌, Bool, true, false, List, [], ◌∷◌, ◌++◌, length, get_or, take, drop, Option, Some, None, refl, sym, ap, subst, ◌∙◌, arith, inl, inr, append_assoc, length-take, length-drop}
+use Rattle.std.proofs.Common.{◌≡◌, ℕ, suc, ◌+◌, ◌≤◌, ◌<◌, true, false, List, [], ◌∷◌, ◌++◌, length, get_or, take, drop, Option, Some, None, refl, sym, ap, subst, ◌∙◌, arith, inl, inr, append_assoc, length-take, length-drop}
 use Rattle.std.specs.List.{flat_map, AllByRecursion}
 use Rattle.std.specs.Option.{option_map}
 use Rattle.std.proofs.lemmas.Bool.{cases_Bool}
@@ -8,7 +8,7 @@ use Rattle.std.proofs.lemmas.Option.{none-some, some_pair_parts}
 use Rattle.fm_code.specs.InstructionTable.{insn_at}
 use Rattle.fm_code.specs.ClassBytes.{item_bytes}
 use Rattle.fm_code.specs.SpellsCode.{AreOffsets, LocalsFit}
-use Rattle.fm_code.specs.FirstForm.{first_opcodes, opcode_of}
+use Rattle.fm_code.specs.FirstForm.{first_opcodes}
 use Rattle.fm_code.specs.declared.instructions.Insn.{Insn}
 use Rattle.fm_code.specs.declared.code_array.Item.{Item}
 use Rattle.std.specs.Prelude.{Result, Err}

@@ -1,27 +1,23 @@
 -- The parts of a class with the code of its methods are a record of the first form, and the bytes of the parts spell it.
-use Rattle.std.proofs.Common.{◌≡◌, ℕ, zero, suc, ◌+◌, ◌<◌, ◌≤◌, ◌⊎◌, inl, inr, Bool, true, false, cond, ◌||◌, List, [], ◌∷◌, ◌++◌, length, map, Option, Some, None, refl, sym, ap, subst, ◌∙◌, append_assoc, arith, IsTrue}
-use Rattle.std.specs.Prelude.{IsSomeAnd, IsSome, codes}
+use Rattle.std.proofs.Common.{◌≡◌, ℕ, suc, inl, inr, Bool, true, false, List, [], ◌∷◌, length, map, Option, Some, None, refl, sym, ap, subst, ◌∙◌, append_assoc, arith}
+use Rattle.std.specs.Prelude.{IsSomeAnd, IsSome}
 use Rattle.std.specs.List.{flat_map, AllByRecursion}
 use Rattle.std.proofs.lemmas.Bool.{false≢true}
 use Rattle.std.proofs.lemmas.List.{append-nil}
-use Rattle.fm_code.specs.Numbers.{two, four}
-use Rattle.fm_code.specs.ClassBytes.{magic, counted, entry_bytes, pool_bytes, attribute_bytes, code_bytes, member_attribute_bytes, member_bytes, class_bytes}
-use Rattle.fm_code.specs.Fits.{AreBytes, IsByte, FitsTwo, FitsFour, CountedFits, MemberFits, MemberAttrFits, ClassFits}
-use Rattle.fm_code.specs.Names.{is_method_name, is_binary_name, IsMethodDescriptor}
-use Rattle.fm_code.specs.Rules.{EntryIsValid, MethodIsValid, MethodAttrIsValid, AreDifferent, AreDistinct, utf8_at, class_name_at, is_static, is_native, is_abstract, is_interface, receiver_words}
+use Rattle.fm_code.specs.Numbers.{four}
+use Rattle.fm_code.specs.ClassBytes.{magic, pool_bytes, code_bytes, member_attribute_bytes, member_bytes, class_bytes}
+use Rattle.fm_code.specs.Fits.{FitsTwo, CountedFits, MemberFits, ClassFits}
+use Rattle.fm_code.specs.Names.{IsMethodDescriptor}
+use Rattle.fm_code.specs.Rules.{MethodIsValid, AreDifferent, AreDistinct, utf8_at, class_name_at, is_interface, receiver_words}
 use Rattle.fm_code.specs.Spells.{Spells}
-use Rattle.fm_code.specs.FirstForm.{IsFirstMethod, IsFirstForm, IsMain, is_number_descriptor}
+use Rattle.fm_code.specs.FirstForm.{IsFirstMethod, IsFirstForm, is_number_descriptor}
 use Rattle.fm_code.specs.declared.constant_pool.Entry.{Entry}
-use Rattle.fm_code.specs.declared.constant_pool.Entry.TheVariants as entry
 use Rattle.fm_code.specs.declared.class_file.ClassDef.{ClassDef}
 use Rattle.fm_code.specs.declared.class_file.Member.{Member}
-use Rattle.fm_code.specs.declared.class_file.MemberAttr.{MemberAttr}
-use Rattle.fm_code.specs.declared.class_file.MemberAttr.TheVariants as attribute
 use Rattle.fm_code.specs.declared.code_array.Code.{Code}
 use Rattle.fm_read.specs.Parts.{Method, Class}
 use Rattle.fm_read.specs.CodeBody.{IsFirstBody}
-use Rattle.fm_read.specs.PartsRules.{MethodMeetsRules, MeetsRules, AreMethodsDistinct, IsMemberOf, AreMembersOf, member_of, bare_member, bare_class, class_of_parts}
-use Rattle.fm_read.proofs.PoolPieces.{IsReadPool}
+use Rattle.fm_read.specs.PartsRules.{MethodMeetsRules, MeetsRules, AreMethodsDistinct, AreMembersOf, member_of, bare_member, bare_class, class_of_parts}
 use Rattle.fm_read.proofs.MethodPieces.{method_bytes, MethodFits}
 use Rattle.fm_read.proofs.ClassPieces.{parts_bytes, PartsFit}
 use Rattle.fm_read.proofs.SameNames.{SameNames, AreSameNames, names_of_members, SameDeclared, members_kept}

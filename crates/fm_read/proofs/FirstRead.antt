@@ -1,34 +1,32 @@
 -- A record of the first form is made of its parts, which meet the rules of parts.
-use Rattle.std.proofs.Common.{◌≡◌, ◌↔◌, IsTrue, rules, ℕ, zero, suc, ◌+◌, ◌<◌, ◌≤◌, ◌⊎◌, inl, inr, Bool, true, false, cond, List, [], ◌∷◌, ◌++◌, length, get_or, map, Result, Ok, Err, Option, Some, None, refl, sym, ap, subst, ◌∙◌, arith}
+use Rattle.std.proofs.Common.{◌≡◌, ◌↔◌, IsTrue, rules, ℕ, ◌<◌, ◌⊎◌, inl, inr, Bool, true, false, List, [], ◌∷◌, length, get_or, Result, Ok, Err, Option, Some, None, refl, sym, ap, subst, ◌∙◌}
 use Rattle.std.specs.Prelude.{MatchResult, IsSomeAnd, codes, ◌==◌, not}
 use Rattle.std.specs.List.{list_all, AllByRecursion}
 use Rattle.std.proofs.lemmas.Bool.{false≢true}
 use Rattle.std.proofs.lemmas.List.Elements.{recursion_from_All, All-from_get_or}
 use Rattle.fm_code.specs.ClassBytes.{code_bytes, class_bytes}
-use Rattle.fm_code.specs.Fits.{AreBytes, IsByte, FitsTwo, FitsFour, CodeFits, MemberFits, MemberAttrFits}
+use Rattle.fm_code.specs.Fits.{AreBytes, IsByte, FitsTwo, MemberFits, MemberAttrFits}
 use Rattle.fm_code.specs.Names.{is_method_name, IsMethodDescriptor}
-use Rattle.fm_code.specs.Rules.{CodeAttrIsValid, CodeIsValid, MethodIsValid, MethodAttrIsValid, utf8_at, is_static, is_abstract, is_interface, receiver_words}
+use Rattle.fm_code.specs.Rules.{CodeAttrIsValid, CodeIsValid, MethodIsValid, MethodAttrIsValid, utf8_at, is_static, is_interface, receiver_words}
 use Rattle.fm_code.specs.Spells.{Spells}
 use Rattle.fm_code.specs.FirstForm.{IsFirstCode, AreFirstAttributes, IsFirstMethod, IsFirstForm, IsMain, is_number_descriptor}
 use Rattle.fm_code.specs.declared.constant_pool.Entry.{Entry}
-use Rattle.fm_code.specs.declared.constant_pool.Entry.TheVariants as entry
 use Rattle.fm_code.specs.declared.class_file.ClassDef.{ClassDef}
 use Rattle.fm_code.specs.declared.class_file.Member.{Member}
 use Rattle.fm_code.specs.declared.class_file.MemberAttr.{MemberAttr}
 use Rattle.fm_code.specs.declared.class_file.MemberAttr.TheVariants as attribute
 use Rattle.fm_code.specs.declared.class_file.Raw.{Raw}
 use Rattle.fm_code.specs.declared.code_array.Code.{Code}
-use Rattle.fm_code.specs.declared.code_array.CodeAttr.{CodeAttr}
 use Rattle.fm_read.specs.Parts.{Method, Class}
 use Rattle.fm_read.specs.CodeBody.{IsFirstBody}
-use Rattle.fm_read.specs.PartsRules.{HasFirstFlags, IsFirstName, IsFirstSignature, MethodMeetsRules, MeetsRules, AreMethodsDistinct, IsMemberOf, AreMembersOf, member_of, bare_class, class_of_parts}
+use Rattle.fm_read.specs.PartsRules.{IsFirstName, IsFirstSignature, MethodMeetsRules, MeetsRules, AreMethodsDistinct, IsMemberOf, AreMembersOf, member_of, bare_class, class_of_parts}
 use Rattle.fm_read.specs.Reading.{Fails, class_at}
 use Rattle.fm_read.specs.declared.failure.FirstFail.{FirstFail}
 use Rattle.fm_read.specs.declared.failure.FirstFail.TheVariants as fail
 use Rattle.fm_read.proofs.MethodPieces.{MethodFits}
 use Rattle.fm_read.proofs.ClassPieces.{parts_bytes, PartsFit, class_again}
 use Rattle.fm_read.proofs.SameNames.{names_of_members, SameDeclared, members_kept}
-use Rattle.fm_read.proofs.FirstFound.{someAnd_is, is_someAnd, someAnd_weaker, members_spelled, class_spelled, distinct_methods}
+use Rattle.fm_read.proofs.FirstFound.{someAnd_is, is_someAnd, members_spelled, class_spelled, distinct_methods}
 
 -- ---- methods
 

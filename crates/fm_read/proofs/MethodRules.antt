@@ -1,11 +1,9 @@
 -- What `all` answers of methods, seen without where they lie in memory.
-use Rattle.std.proofs.Common.{◌≡◌, ℕ, ◌<◌, Bool, true, false, List, [], ◌∷◌, map, length, ◌↔◌, IsTrue, MatchBool, arith, rules}
+use Rattle.std.proofs.Common.{ℕ, ◌<◌, Bool, true, false, List, [], ◌∷◌, map, length, ◌↔◌, IsTrue, MatchBool, arith, rules}
 use Rattle.std.specs.List.{AllByRecursion, AllWithin, HoldsAt}
 use Rattle.std.proofs.lemmas.List.Elements.{All-get_or, All-from_recursion, recursion_from_All, All-from_all_within}
-use Rattle.fm_code.specs.declared.constant_pool.Entry.{Entry}
 use Rattle.fm_read.specs.declared.parts.MethodParts.{MethodParts}
 use Rattle.fm_read.specs.Parts.{Method, method_view}
-use Rattle.fm_read.specs.PartsRules.{MethodMeetsRules}
 
 by_view : (P : Method → Type 0) (methods : List MethodParts) → AllByRecursion (λ m. P (method_view m)) methods → AllByRecursion P (map method_view methods)
 by_view P [] h = tt

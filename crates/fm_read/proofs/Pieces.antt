@@ -1,12 +1,12 @@
 -- What a piece that is read has: its spelling is what was taken from the front, and its spelling is read as it.
-use Rattle.std.proofs.Common.{◌≡◌, ℕ, zero, suc, ◌+◌, ◌≤◌, ◌<◌, Bool, true, false, cond, eqb, ltb, List, [], ◌∷◌, ◌++◌, length, take, drop, Option, Some, None, refl, sym, ap, subst, ◌∙◌, append_assoc, arith}
+use Rattle.std.proofs.Common.{◌≡◌, ℕ, zero, suc, ◌≤◌, Bool, true, false, cond, eqb, ltb, List, [], ◌∷◌, ◌++◌, length, take, drop, Option, Some, None, refl, sym, ap, subst, ◌∙◌, append_assoc, arith}
 use Rattle.std.specs.List.{flat_map, AllByRecursion}
 use Rattle.std.proofs.lemmas.Bool.{eqb-true, eq-eqb, ltb-false, le-ltb}
 use Rattle.std.proofs.lemmas.List.{take_at, drop_at, take-append-drop, length-append, length-take}
 use Rattle.std.proofs.lemmas.List.Concat.{flat_map-cons}
 use Rattle.byteorder.specs.Endian.{big_number}
 use Rattle.fm_code.specs.Numbers.{two, four}
-use Rattle.fm_code.specs.Fits.{AreBytes, FitsTwo, FitsFour, IsByte, CountedFits}
+use Rattle.fm_code.specs.Fits.{AreBytes, FitsTwo, FitsFour, IsByte}
 use Rattle.fm_code.proofs.Bytes.{AreBytes-take, AreBytes-drop, length-two, length-four, big_number-two, big_number-four, two-big_number, four-big_number, FitsTwo-big_number, FitsFour-big_number}
 use Rattle.fm_read.specs.Reading.{◌>>=◌, number_at, bytes_at, fixed_at, several_at}
 

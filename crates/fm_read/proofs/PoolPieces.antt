@@ -1,5 +1,5 @@
 -- The constant pool as a piece.
-use Rattle.std.proofs.Common.{inl, inr, ◌≡◌, ℕ, zero, suc, ◌≤◌, ◌<◌, Bool, true, false, cond, eqb, ltb, ◌&&◌, List, [], ◌∷◌, ◌++◌, length, take, drop, Option, Some, None, refl, sym, ap, subst, ◌∙◌, append_assoc, arith, ◌^◌, ℤ}
+use Rattle.std.proofs.Common.{inl, inr, ◌≡◌, ℕ, zero, suc, ◌<◌, Bool, true, false, cond, eqb, ltb, ◌&&◌, List, [], ◌∷◌, ◌++◌, length, take, Option, Some, None, refl, sym, ap, subst, ◌∙◌, append_assoc, arith, ◌^◌, ℤ}
 use Rattle.std.specs.Prelude.{FitsSigned}
 use Rattle.std.proofs.lemmas.Int.{ints}
 use Rattle.std.specs.List.{list_all, flat_map, AllByRecursion}
@@ -7,7 +7,6 @@ use Rattle.std.specs.Int.{w32, w64, cast_signed}
 use Rattle.std.proofs.lemmas.Bool.{eqb-true, ltb-true, lt-ltb, le-ltb, cases_Bool}
 use Rattle.std.proofs.lemmas.List.{drop_at, take-append-drop, length-append}
 use Rattle.std.proofs.lemmas.List.Concat.{flat_map-cons}
-use Rattle.byteorder.specs.Endian.{big_number}
 use Rattle.fm_code.specs.Numbers.{two, signed_four, signed_eight}
 use Rattle.fm_code.specs.ClassBytes.{entry_bytes, counted}
 use Rattle.fm_code.specs.Fits.{AreBytes, FitsTwo, CountedFits, EntryFits}

@@ -1,5 +1,5 @@
 -- Members of classes by their names, as they are looked up in a constant pool.
-use Rattle.std.specs.Prelude.{◌≡◌, ℕ, List, Some}
+use Rattle.std.specs.Prelude.{◌≡◌, List, Some}
 use Rattle.fm_code.specs.Rules.{utf8_at}
 use Rattle.fm_code.specs.FirstForm.{MemberName}
 use Rattle.fm_code.specs.declared.constant_pool.Entry.{Entry}

@@ -1,12 +1,11 @@
 -- How a call comes out, from what its parts say.
-use Rattle.std.proofs.Common.{◌≡◌, ◌≢◌, ◌<◌, ◌⊎◌, ℕ, List, [], ◌∷◌, Option, Some, None, IsSomeAnd, Contains, sym, ap, ◌∙◌, subst, refl, inl, inr, ⊎_elim, arith}
+use Rattle.std.proofs.Common.{◌≡◌, ◌≢◌, ◌⊎◌, ℕ, List, Option, Some, None, IsSomeAnd, sym, ◌∙◌, subst, refl, inl, inr, ⊎_elim, arith}
 use Rattle.fm_files.specs.Files.{Contents, Counts, Holds}
 use Rattle.fm_code.specs.declared.class_file.ClassDef.{ClassDef}
-use Rattle.fmrun.specs.Jobs.{Job, Asks, AskNothing, IsAccepted}
+use Rattle.fmrun.specs.Jobs.{Job, Asks, IsAccepted}
 use Rattle.fmrun.specs.TopCall.{Output, AcceptsAs, ClassComesTo, ComesTo, Tells, Reports, status_of, line_of, IsStatus, IsForWords}
 use Rattle.fmrun.specs.declared.ends.End.{End}
 use Rattle.fmrun.specs.declared.ends.End.TheVariants as ends
-use Rattle.fmrun.specs.declared.ends.Ended.{Ended}
 use Rattle.fmrun.specs.Reports.{exit_status}
 use Rattle.fmrun.specs.declared.outcome.JobOutcome.{JobOutcome}
 use Rattle.fmrun.specs.declared.outcome.JobOutcome.TheVariants as outcome

@@ -1,4 +1,4 @@
-use Rattle.std.proofs.Common.{◌≡◌, ℕ, sym, ap, ◌∙◌, arith}
+use Rattle.std.proofs.Common.{◌≡◌, sym, ap, ◌∙◌, arith}
 use Rattle.fm_read.specs.CodeItems.{operand_count}
 use Rattle.fm_read.proofs.CodeWalk.{sized, front_bare, front_byte, front_short, front_cut, two_operands}
 use Rattle.fm_read.proofs.code.front_insn_of.Goals as goal

@@ -1,5 +1,4 @@
 use Rattle.std.proofs.Common.{◌↔◌, map, IsTrue}
-use Rattle.std.specs.Prelude.{IfOk}
 use Rattle.std.proofs.lemmas.Result.{IfOk-weaker}
 use Rattle.fm_read.specs.Parts.{method_view}
 use Rattle.fm_read.specs.PartsRules.{AreMethodsDistinct}

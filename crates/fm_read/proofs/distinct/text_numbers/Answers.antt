@@ -1,9 +1,8 @@
-use Rattle.std.proofs.Common.{◌≡◌, ◌+◌, ◌++◌, ◌∷◌, [], ℕ, List, Option, Some, None, take, length, refl, subst, sym, ap, ◌∙◌}
+use Rattle.std.proofs.Common.{◌≡◌, ◌+◌, ℕ, List, Option, Some, None, take, length, refl, subst, sym, ap, ◌∙◌}
 use Rattle.std.specs.Prelude.{option_copied}
 use Rattle.std.proofs.lemmas.List.{take_all}
 use Rattle.std.proofs.lemmas.Map.Text.{btree_map_updates_str}
 use Rattle.fm_code.specs.declared.constant_pool.Entry.{Entry}
-use Rattle.fm_code.specs.declared.constant_pool.Entry.TheVariants as entry
 use Rattle.fm_read.proofs.TextsInTurn.{HasNumbers, HasNumbers-known, HasNumbers-new, HasNumbers-turn, HasNumbers-all, no_text, Learns, Learns-from_update, IsNumbered, text_of, known_of}
 use Rattle.fm_read.proofs.distinct.text_numbers.Goals as goal
 use Rattle.fm_read.proofs.distinct.text_numbers.Goals.{in-Utf8+in-Some, in-Utf8+in-None+in_ok-insert-in-None, in_default}

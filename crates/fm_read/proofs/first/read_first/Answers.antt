@@ -1,9 +1,5 @@
-use Rattle.std.proofs.Common.{◌≡◌, ℕ, ◌<◌, List, Bool, true, false, Ok, Err, map, refl, sym, ap, subst, ◌∙◌, arith, rules}
+use Rattle.std.proofs.Common.{◌≡◌, false, map, ap, ◌∙◌, arith, rules}
 use Rattle.std.proofs.lemmas.Result.{err_from_is_err_and}
-use Rattle.fm_code.specs.Spells.{Spells}
-use Rattle.fm_code.specs.FirstForm.{IsFirstForm}
-use Rattle.fm_code.specs.declared.class_file.ClassDef.{ClassDef}
-use Rattle.fm_read.specs.declared.parts.MethodParts.{MethodParts}
 use Rattle.fm_read.specs.Parts.{method_view, class_view}
 use Rattle.fm_read.specs.PartsRules.{MeetsRules, AreMethodsDistinct, AreMembersOf, bare_class, class_of_parts}
 use Rattle.fm_read.proofs.ClassPieces.{class_takes}

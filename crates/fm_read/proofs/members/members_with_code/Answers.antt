@@ -1,4 +1,4 @@
-use Rattle.std.proofs.Common.{◌∷◌, [], ◌+◌, List, map, drop, get_or, sym, subst}
+use Rattle.std.proofs.Common.{[], ◌+◌, List, map, drop, get_or, sym, subst}
 use Rattle.std.proofs.Math.ListN.{drop_of_length-le}
 use Rattle.std.proofs.lemmas.Result.{err_from_is_err_and}
 use Rattle.fm_read.specs.Parts.{Method, class_view, method_view}

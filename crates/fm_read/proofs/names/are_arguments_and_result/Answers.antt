@@ -1,4 +1,4 @@
-use Rattle.std.proofs.Common.{◌≡◌, ◌+◌, ◌∷◌, List, ℕ, Some, refl, sym, ap, subst, ◌∙◌, arith, get_or}
+use Rattle.std.proofs.Common.{◌+◌, List, ℕ, refl, sym, ap, subst, ◌∙◌, arith, get_or}
 use Rattle.fm_read.specs.NamesParts.{first_words, IsResultDescriptor}
 use Rattle.fm_read.proofs.NamesLaws.{cons_is, tails, field_takes, found}
 use Rattle.fm_read.proofs.NamesMethods.{IsMethodRest, method_start, method_next, method_many, method_ends, method_done}

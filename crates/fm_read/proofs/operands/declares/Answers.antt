@@ -1,4 +1,4 @@
-use Rattle.std.proofs.Common.{◌≡◌, ◌↔◌, IsTrue, rules, ◌<◌, Some}
+use Rattle.std.proofs.Common.{rules}
 use Rattle.std.proofs.lemmas.Iterator.{cases_from_any, YieldsList-from_slice}
 use Rattle.fm_read.specs.Parts.{method_view}
 use Rattle.fm_read.specs.Operands.{Agrees, member_view}

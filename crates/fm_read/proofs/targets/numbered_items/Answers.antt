@@ -1,8 +1,8 @@
-use Rattle.std.proofs.Common.{◌≡◌, ◌∷◌, [], ◌++◌, List, length, Option, Some, None, refl, sym, ap, subst, ◌∙◌, arith}
-use Rattle.std.specs.Vec.Iter.{into_iter_items, into_iter_len}
+use Rattle.std.proofs.Common.{◌≡◌, ◌∷◌, [], List, length, refl, sym, ap, ◌∙◌, arith}
+use Rattle.std.specs.Vec.Iter.{into_iter_items}
 use Rattle.fm_code.specs.declared.code_array.Item.{Item}
-use Rattle.fm_read.specs.CodeItems.{numbered_items, numbered_item}
-use Rattle.fm_read.proofs.CodeTargets.{behind, behind-none, one_more, none_here, none_left}
+use Rattle.fm_read.specs.CodeItems.{numbered_items}
+use Rattle.fm_read.proofs.CodeTargets.{behind, one_more, none_here, none_left}
 use Rattle.fm_read.proofs.targets.numbered_items.Goals as goal
 
 nothing_left : (items : List Item) → 0 ≡ length items → items ≡ []

@@ -1,4 +1,4 @@
-use Rattle.std.proofs.Common.{◌≡◌, List, [], ◌∷◌, ℕ, length, sym, ap, ◌∙◌, arith, codes, string_bytes}
+use Rattle.std.proofs.Common.{◌≡◌, length, ap, ◌∙◌, arith, codes, string_bytes}
 use Rattle.fmrun.specs.Jobs.{job_of, texts}
 use Rattle.fmrun.proofs.JobLemmas.{four_words, same_text, nothing_without_budget, asks_with_budget}
 use Rattle.fmrun.proofs.request.request_of.Goals as goal

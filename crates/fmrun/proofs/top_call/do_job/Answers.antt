@@ -1,4 +1,4 @@
-use Rattle.std.proofs.Common.{◌≡◌, ◌≤◌, ℕ, List, length, subst, sym, arith}
+use Rattle.std.proofs.Common.{◌≤◌, ℕ, List, length, subst, arith}
 use Rattle.fm_base.specs.declared.limits.TheConstants.{MAX_FILE_BYTES}
 use Rattle.fm_read.specs.MainClass.{IsMainClass}
 use Rattle.fmrun.specs.Jobs.{job_of}

@@ -1,6 +1,6 @@
-use Rattle.std.proofs.Common.{◌≡◌, ℕ, List, subst, ◌∙◌}
+use Rattle.std.proofs.Common.{◌∙◌}
 use Rattle.fmrun.specs.Jobs.{job_of}
-use Rattle.fmrun.specs.TopCall.{Output, Tells, output_of}
+use Rattle.fmrun.specs.TopCall.{output_of}
 use Rattle.fmrun.proofs.TopLemmas.{reports, tells_same}
 use Rattle.fmrun.proofs.top_call.tell.Goals as goal
 
