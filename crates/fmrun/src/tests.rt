@@ -163,80 +163,80 @@ const SUM: Case<'static> = Case {
     reported: b"returned; steps 6\n",
 };
 
-fn cases() -> [Case<'static>; 12] {
+fn cases<'a>(sum: Case<'a>) -> [Case<'a>; 12] {
     [
-        SUM,
+        sum,
         Case {
             words: "--steps 6 M M.class",
-            ..SUM
+            ..sum
         },
         Case {
             words: "--steps 0 M M.class",
             status: 80,
             printed: b"",
             reported: b"running; steps 0\n",
-            ..SUM
+            ..sum
         },
         Case {
             words: "--steps 5 M M.class",
             status: 80,
             reported: b"running; steps 5\n",
-            ..SUM
+            ..sum
         },
         Case {
             file: &CALLS_ITSELF,
             status: 82,
             printed: b"",
             reported: b"deep 1024; steps 1023\n",
-            ..SUM
+            ..sum
         },
         Case {
             file: &DIVIDES_BY_ZERO,
             status: 77,
             printed: b"",
             reported: b"refused: not-yet M.class\n",
-            ..SUM
+            ..sum
         },
         Case {
             words: "M",
             status: 64,
             printed: b"",
             reported: b"refused: words\n",
-            ..SUM
+            ..sum
         },
         Case {
             words: "--steps 2147483649 M M.class",
             status: 64,
             printed: b"",
             reported: b"refused: words\n",
-            ..SUM
+            ..sum
         },
         Case {
             words: "N M.class",
             status: 77,
             printed: b"",
             reported: b"refused: not-yet M.class\n",
-            ..SUM
+            ..sum
         },
         Case {
             failing_read: 1,
             status: 65,
             printed: b"",
             reported: b"refused: read M.class\n",
-            ..SUM
+            ..sum
         },
         Case {
             failing_put: 1,
             status: 75,
             printed: b"",
             reported: b"",
-            ..SUM
+            ..sum
         },
         Case {
             failing_report: 1,
             status: 75,
             reported: b"",
-            ..SUM
+            ..sum
         },
     ]
 }
@@ -253,7 +253,7 @@ fn words_of(alloc: Global, text: &str) -> Result<Vec<String>, AllocError> {
 #[test]
 fn each_status_has_its_output_and_its_report(rt: HostRuntime) -> Result<(), Fail> {
     let alloc = rt.alloc();
-    for case in cases() {
+    for case in cases(SUM) {
         let mut files = MemFiles::new(alloc, vec![in alloc; case.failing_read]?);
         files.add("M.class", case.file)?;
         let mut out = MemSink::new(alloc, vec![in alloc; case.failing_put]?);
