@@ -12,7 +12,7 @@ pub record Outcome : Type 0 where
   pub steps : ℕ
   pub output : List ℕ
 
--- main's frame has no value in any local
+-- main's frame alone, which has no value in any local (5.2)
 abbrev pub opening : Program → State
 opening p = main_frames p.main where
   main_frames : Option ℕ → State

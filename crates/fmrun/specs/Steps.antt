@@ -1,4 +1,4 @@
--- One step of the machine: what comes after a state.
+-- One step of the machine: what comes after a state (2.6, 2.11, and instruction chapter, 6.5).
 use Rattle.std.specs.Prelude.{ℕ, ◌+◌, ◌-◌, ◌==◌, ◌||◌, ◌&&◌, nat_lt, not, Bool, true, false, List, [], ◌∷◌, ◌++◌, length, take, drop, reverse, replicate, slice_get, Option, Some, None, if◌then◌else◌}
 use Rattle.std.specs.Fmt.{signed_decimal}
 use Rattle.fm_code.specs.declared.code_array.Item.{Item}
@@ -22,7 +22,7 @@ pub data Turn : Type 0 where
   TooDeep : ℕ → Turn
   Stuck : Turn
 
--- the most frames that may be there
+-- the most frames that may be there (2.5.2)
 abbrev pub max_frames : ℕ
 max_frames = 1024
 
@@ -35,7 +35,7 @@ goes_to (Some f) callers printed = Goes (f ∷ callers) printed
 abbrev pub goes_on : Option Frame → List Frame → List ℕ → Turn
 goes_on next callers printed = goes_to (within next) callers printed
 
--- ---- calls (invokestatic)
+-- ---- calls (6.5, invokestatic)
 
 -- the words of the arguments: two for J
 abbrev pub argument_words : List ℕ → ℕ
@@ -67,6 +67,7 @@ after_call number m f callers =
     else (if length (f ∷ callers) == max_frames then TooDeep max_frames
     else Goes (new_frame number m (reverse (take words f.stack)) ∷ with_stack f (drop words f.stack) ∷ callers) [])
 
+-- the method that the entry of the pool stands for is called; another entry is none
 abbrev pub after_invoke_static : Program → Constant → Frame → List Frame → Turn
 after_invoke_static p (constant.Method number) f callers = call (slice_get p.methods number) where
   call : Option Method → Turn
@@ -74,7 +75,7 @@ after_invoke_static p (constant.Method number) f callers = call (slice_get p.met
   call None = Stuck
 after_invoke_static p c f callers = Stuck
 
--- ---- returns
+-- ---- returns (2.6.4; 6.5, ireturn, lreturn and return)
 
 -- the words that a return of this kind takes from the stack
 abbrev pub returned_words : Option Reg → List Value → Option (List Value)
@@ -96,16 +97,18 @@ after_return_of None callers = Stuck
 after_return_of (Some words) [] = Returned
 after_return_of (Some words) (caller ∷ callers) = goes_on (Some (with_stack caller (words ++ caller.stack))) callers []
 
+-- a return of another kind than its method's can't be done
 abbrev pub after_return : Option Reg → Option Reg → Frame → List Frame → Turn
 after_return kind returns f callers = if is_same_kind kind returns then after_return_of (returned_words kind f.stack) callers else Stuck
 
--- ---- println(I)V
+-- ---- println(I)V (6.5, invokevirtual)
 
 -- the number in decimal, and a line end
 abbrev pub after_println : List Value → Frame → List Frame → Turn
 after_println (Int n ∷ Output ∷ below) f callers = goes_on (Some (with_stack f below)) callers (signed_decimal n ++ 10 ∷ [])
 after_println stack f callers = Stuck
 
+-- println(I)V is the one method of another class that is run
 abbrev pub after_invoke_virtual : Constant → Frame → List Frame → Turn
 after_invoke_virtual constant.Println f callers = after_println f.stack f callers
 after_invoke_virtual c f callers = Stuck
@@ -124,10 +127,12 @@ abbrev pub after_item : Program → Method → Option Item → Frame → List Fr
 after_item p m (Some item) f callers = after_insn p m item.insn (record f { item = f.item + 1 }) callers
 after_item p m None f callers = Stuck
 
+-- the frame's method has to be there
 abbrev pub after_frame : Program → Option Method → Frame → List Frame → Turn
 after_frame p (Some m) f callers = after_item p m (slice_get m.items f.item) f callers
 after_frame p None f callers = Stuck
 
+-- the topmost frame does the step
 abbrev pub step : Program → State → Turn
 step p [] = Stuck
 step p (f ∷ callers) = after_frame p (slice_get p.methods f.method) f callers
