@@ -1,3 +1,3 @@
-pub mod GraphWalkLaws
-pub mod RowLaws
-pub mod JoinedWords
+pub mod GraphLemmas
+pub mod RowsLemmas
+pub mod RowsUnion

@@ -10,13 +10,13 @@ abbrev pub ArePaired : List (ℕ × ℕ) → ℕ → ℕ → Type 0
 ArePaired pairs a b = Contains pairs (a, b) ⊎ Contains pairs (b, a)
 
 -- the nodes lead from one end to the other, each paired with the next
-abbrev pub IsChain : List (ℕ × ℕ) → ℕ → List ℕ → ℕ → Type 0
-IsChain pairs a [] b = a ≡ b
-IsChain pairs a (next ∷ rest) b = ArePaired pairs a next × IsChain pairs next rest b
+abbrev pub IsPath : List (ℕ × ℕ) → ℕ → List ℕ → ℕ → Type 0
+IsPath pairs a [] b = a ≡ b
+IsPath pairs a (next ∷ rest) b = ArePaired pairs a next × IsPath pairs next rest b
 
--- a chain of pairs leads from the one node to the other; the empty chain from each node to itself
+-- a path of pairs leads from the one node to the other; the empty path from each node to itself
 abbrev pub AreJoined : List (ℕ × ℕ) → ℕ → ℕ → Type 0
-AreJoined pairs a b = (chain : List ℕ) × IsChain pairs a chain b
+AreJoined pairs a b = (path : List ℕ) × IsPath pairs a path b
 
 -- the least of all nodes that are joined with a
 pub record IsLeastJoined (pairs : List (ℕ × ℕ)) (a least : ℕ) : Type 0 where

@@ -1,4 +1,3 @@
-pub mod Row
-pub mod RowWords
+pub mod Rows
 pub mod Graph
-pub mod GraphWalk
+pub mod inner

@@ -3,20 +3,19 @@
 ghost use Rattle.std.specs.Prelude.{◌≡◌, ◌<◌, ◌+◌, ◌*◌, ◌∷◌, length, IfOk, OnOk};
 ghost use Rattle.std.specs.VecDeque.{deque_len};
 ghost use Rattle.fm_base.specs.Graph.{AreLeastJoined, AreNodes};
-ghost use Rattle.fm_base.specs.GraphWalk.{node_at, other_at, AreLinked, AreReached, Spreading, unreached};
+ghost use Rattle.fm_base.specs.inner.Graph.{node_at, other_at, HasEachEnd, AreReached, Spreading, unreached};
 
-use crate::memory::NoMemory;
+use crate::error::NoMemory;
 use std::alloc::Global;
 use std::collections::VecDeque;
 
-/// For each node from 0 on the least node that a chain of pairs joins to it, itself among them. A pair
-/// joins its two nodes in both directions. Takes time and memory linear in the number of nodes and
-/// pairs.
+/// For each node from 0 on the least node to which a path of pairs leads, itself among them. A pair
+/// leads in both directions. Takes time and memory linear in the number of nodes and pairs.
 pub fn components(alloc: Global, n: u32, pairs: &[(u32, u32)]) -> Result<Vec<u32>, NoMemory>
     requires { AreNodes n pairs.now }
     ensures { IfOk result (λ least. AreLeastJoined pairs.now n least.items) }
 {
-    let ends = Ends::of(alloc, n, pairs)?;
+    let adjacency = Adjacency::of(alloc, n, pairs)?;
     let mut least = vec![in alloc; n; n as usize]?;
     let mut queue = VecDeque::new(alloc);
     for start in 0..n {
@@ -24,7 +23,7 @@ pub fn components(alloc: Global, n: u32, pairs: &[(u32, u32)]) -> Result<Vec<u32
             least[start as usize] = start;
             queue.push_back(start)?;
             while let Some(node) = queue.pop_front() {
-                ends.reach(pairs, n, start, node, &mut least, &mut queue)?;
+                adjacency.reach(pairs, n, start, node, &mut least, &mut queue)?;
             }
         }
     }
@@ -49,19 +48,19 @@ fn other_node(pairs: &[(u32, u32)], end: usize) -> u32
     if end % 2 == 0 { second } else { first }
 }
 
-// The ends of the pairs as a list for each node, linked from the node's last end to its first.
+// The ends of the pairs as a list for each node, adjacent from the node's last end to its first.
 #[derive(Drop)]
-struct Ends {
+struct Adjacency {
     // for each node one more than its last end, or 0
     last: Vec<usize>,
     // for each end one more than the end of the same node before it, or 0
     before: Vec<usize>,
 }
 
-impl Ends {
-    fn of(alloc: Global, n: u32, pairs: &[(u32, u32)]) -> Result<Ends, NoMemory>
+impl Adjacency {
+    fn of(alloc: Global, n: u32, pairs: &[(u32, u32)]) -> Result<Adjacency, NoMemory>
         requires { AreNodes n pairs.now }
-        ensures { IfOk result (λ ends. AreLinked pairs.now n (2 * length pairs.now) ends.last.items ends.before.items) }
+        ensures { IfOk result (HasEachEnd n pairs.now) }
     {
         let mut last = vec![in alloc; 0usize; n as usize]?;
         let mut before = Vec::new(alloc);
@@ -70,7 +69,7 @@ impl Ends {
             before.push(last[node])?;
             last[node] = end + 1;
         }
-        Ok(Ends { last, before })
+        Ok(Adjacency { last, before })
     }
 
     // Gives each node that is paired with this one, and isn't reached yet, the number of the start, and
@@ -85,23 +84,28 @@ impl Ends {
         queue: &mut VecDeque<u32>,
     ) -> Result<(), NoMemory>
         requires nodes { AreNodes n pairs.now }
-        requires linked { AreLinked pairs.now n (2 * length pairs.now) self.now.last.items self.now.before.items }
+        requires adjacent { HasEachEnd n pairs.now self.now }
         requires start_is_node { start < n }
         requires reached { AreReached n least.old.items (start + 1) }
         requires spreading { Spreading pairs.now n start least.old.items (node ∷ queue.old.items) }
         ensures reached { OnOk result (AreReached n least.new.items (start + 1)) }
-        ensures spreading { OnOk result (Spreading pairs.now n start least.new.items queue.new.items) }
-        ensures work { OnOk result (unreached n least.new.items + deque_len queue.new ≡ unreached n least.old.items + deque_len queue.old) }
+        ensures spreading {
+            OnOk result (Spreading pairs.now n start least.new.items queue.new.items)
+        }
+        ensures work {
+            OnOk result (unreached n least.new.items + deque_len queue.new
+                ≡ unreached n least.old.items + deque_len queue.old)
+        }
     {
-        let mut link = self.last[node as usize];
-        while link > 0 {
-            let end = link - 1;
+        let mut next = self.last[node as usize];
+        while next > 0 {
+            let end = next - 1;
             let other = other_node(pairs, end);
             if least[other as usize] == n {
                 queue.push_back(other)?;
                 least[other as usize] = start;
             }
-            link = self.before[end];
+            next = self.before[end];
         }
         Ok(())
     }

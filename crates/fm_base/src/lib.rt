@@ -2,25 +2,26 @@
 //
 // The lowest layer: the numbers of classes, methods, fields and types, the texts of class files, the
 // kinds of values, the limits of both programs, sets kept as rows of bits, and `components`. The
-// layers above use that a `Row` is a set, and that two nodes have one number exactly where a chain of
+// layers above use that a `Row` is a set, and that two nodes have one number exactly where a path of
 // pairs joins them.
 #![tactic(auto)]
 
+pub mod characters;
+mod error;
 mod graph;
 mod ids;
 mod kinds;
 pub mod limits;
-mod memory;
 mod rows;
 mod sequence;
 #[cfg(test)]
 mod tests;
 mod texts;
 
+pub use error::NoMemory;
 pub use graph::components;
 pub use ids::{ClassId, FieldId, MethodId, TypeId};
 pub use kinds::{Base, Kind, TypeRef};
-pub use memory::NoMemory;
 pub use rows::Row;
 pub use sequence::Seq;
 pub use texts::{Name, Units};

@@ -1,5 +1,7 @@
 // The limits of both programs. Each is the greatest number that is still accepted.
 
+ghost use Rattle.std.specs.Prelude.{◌≡◌};
+
 /// Class files in one call; at least one is wanted.
 pub const MAX_CLASS_FILES: u32 = 4_096;
 
@@ -44,3 +46,23 @@ pub const DEFAULT_FRAMES: u32 = 1_024;
 
 /// Words of all cells that a store may ever make, each rounded to its size class.
 pub const MAX_MADE_WORDS: u64 = 536_870_912;
+
+/// The value of each limit and default.
+pub fn law_limits()
+    ensures class_files { MAX_CLASS_FILES ≡ 4096 }
+    ensures file_bytes { MAX_FILE_BYTES ≡ 8388608 }
+    ensures all_class_files_bytes { MAX_ALL_CLASS_FILES_BYTES ≡ 16777216 }
+    ensures stack_words { MAX_STACK_WORDS ≡ 1024 }
+    ensures local_words { MAX_LOCAL_WORDS ≡ 2048 }
+    ensures handlers { MAX_HANDLERS ≡ 1024 }
+    ensures arguments { MAX_ARGUMENTS ≡ 1024 }
+    ensures command_line_value_bytes { MAX_COMMAND_LINE_VALUE_BYTES ≡ 8388608 }
+    ensures steps { MAX_STEPS ≡ 2147483648 }
+    ensures default_steps { DEFAULT_STEPS ≡ 100000000 }
+    ensures live_words { MAX_LIVE_WORDS ≡ 134217728 }
+    ensures default_live_words { DEFAULT_LIVE_WORDS ≡ 4194304 }
+    ensures frames { MAX_FRAMES ≡ 100000 }
+    ensures default_frames { DEFAULT_FRAMES ≡ 1024 }
+    ensures made_words { MAX_MADE_WORDS ≡ 536870912 }
+{
+}

@@ -1,11 +1,11 @@
 // Rows of bits, for the sets of a fixed number of members that the analyses compute with.
 
-ghost use Rattle.std.specs.Prelude.{◌≡◌, ◌<◌, ◌↔◌, ℕ, false, true, length, replicate, slice_index, slice_set, bit_or, IfOk, IsTrue, MatchBool};
+ghost use Rattle.std.specs.Prelude.{◌≡◌, ◌<◌, ◌↔◌, false, true, length, replicate, slice_set, IfOk, IsTrue, MatchBool};
 ghost use Rattle.std.specs.Bool.{OnFalse};
-ghost use Rattle.fm_base.specs.Row.{has, IsUnion, AddsBit};
-ghost use Rattle.fm_base.specs.RowWords.{GainsBit};
+ghost use Rattle.fm_base.specs.Rows.{has, IsUnion, AddsBit};
+ghost use Rattle.fm_base.specs.inner.Rows.{GainsBit, Joins};
 
-use crate::memory::NoMemory;
+use crate::error::NoMemory;
 use std::alloc::Global;
 use std::marker::Model;
 
@@ -18,7 +18,7 @@ pub struct Row {
 
 impl Model for Row {
     ghost use Rattle.std.specs.Prelude.{Bool, List};
-    ghost use Rattle.fm_base.specs.RowWords.{bits_of, IsRow};
+    ghost use Rattle.fm_base.specs.inner.Rows.{bits_of, IsRow};
 
     ghost Value = { List Bool };
 
@@ -73,7 +73,7 @@ impl Row {
 // Joins each word with the other's, and tells whether one of them changed.
 fn unite(words: &mut [u64], other: &[u64]) -> bool
     requires { length words.old ≡ length other.now }
-    ensures joined { (k : ℕ) → slice_index words.new k ≡ bit_or (slice_index words.old k) (slice_index other.now k) }
+    ensures joined { Joins words.old other.now words.new }
     ensures changed { MatchBool result (GainsBit words.old words.new) (words.new ≡ words.old) }
 {
     let mut grown = false;

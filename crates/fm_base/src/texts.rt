@@ -1,13 +1,17 @@
 // The texts of class files: names as bytes, and literals as 16-bit units.
 
-ghost use Rattle.std.specs.Prelude.{◌≡◌, IfOk};
+ghost use Rattle.std.specs.Prelude.{◌≡◌, ◌^◌, ◌<◌, ◌↔◌, ◌==◌, ℕ, [], ◌∷◌, ◌++◌, length, IsTrue, IfOk, OnOk, OnErr};
+ghost use Rattle.std.specs.Cmp.{partial_equiv_from_equiv};
+ghost use Rattle.std.specs.Cmp.Lexicographic.{pointwise, nat_list_eq_equiv};
+ghost use Rattle.std.specs.Iterator.Adapters.{IterYieldsInOrder};
+ghost use Rattle.std.specs.Slice.Iter.{iter_rest};
 
-use crate::memory::NoMemory;
+use crate::error::NoMemory;
 use std::alloc::Global;
 use std::marker::Model;
+use std::slice;
 
-/// The bytes of a text in modified UTF-8 (class file chapter, section 4.4.7). Contracts see the list
-/// of the bytes.
+/// The bytes of a text in modified UTF-8 (JVMS 4.4.7). Contracts see the list of the bytes.
 #[derive(Debug, Drop)]
 pub struct Name {
     bytes: Vec<u8>,
@@ -29,7 +33,30 @@ impl Name {
         Name { bytes }
     }
 
-    /// The bytes.
+    /// The number of bytes.
+    pub fn len(&self) -> usize
+        ensures { result ≡ length self.now }
+    {
+        self.bytes.len()
+    }
+
+    /// Whether there is no byte.
+    pub fn is_empty(&self) -> bool
+        ensures { IsTrue result ↔ (self.now ≡ []) }
+    {
+        self.bytes.is_empty()
+    }
+
+    /// The bytes one after the other.
+    pub fn iter(&self) -> slice::Iter<'_, u8>
+        ensures rest { iter_rest result ≡ self.now }
+        ensures bound { length (iter_rest result) < 2 ^ 64 }
+        ensures runs { IterYieldsInOrder ℕ }
+    {
+        self.bytes.as_slice().iter()
+    }
+
+    /// The bytes as a slice.
     pub fn as_slice(&self) -> &[u8]
         ensures { result.now ≡ self.now }
     {
@@ -43,12 +70,49 @@ impl Name {
         self.bytes
     }
 
+    /// Puts a byte behind the last one. After `NoMemory` the bytes are as before.
+    pub fn push(&mut self, byte: u8) -> Result<(), NoMemory>
+        ensures pushed { OnOk result (self.new ≡ self.old ++ byte ∷ []) }
+        ensures kept { OnErr result (self.new ≡ self.old) }
+    {
+        self.bytes.push(byte)?;
+        Ok(())
+    }
+
     /// An equal name.
     pub fn copy(&self, alloc: Global) -> Result<Name, NoMemory>
         ensures { IfOk result (λ name. name ≡ self.now) }
     {
         let bytes = Vec::from_slice(alloc, self.bytes.as_slice())?;
         Ok(Name { bytes })
+    }
+}
+
+impl PartialEq for Name {
+    ghost eq = { pointwise ◌==◌ };
+
+    ghost laws = { partial_equiv_from_equiv nat_list_eq_equiv };
+
+    fn eq(&self, other: &Name) -> bool {
+        self.bytes.as_slice() == other.bytes.as_slice()
+    }
+}
+
+impl Eq for Name {
+    ghost laws = { nat_list_eq_equiv };
+}
+
+impl<'a> IntoIterator for &'a Name {
+    type Item = &'a u8;
+
+    type IntoIter = slice::Iter<'a, u8>;
+
+    ghost into_iter_gives = { λ name it. (iter_rest it ≡ name.now)
+        × (length (iter_rest it) < 2 ^ 64)
+        × IterYieldsInOrder ℕ };
+
+    fn into_iter(self) -> slice::Iter<'a, u8> {
+        self.iter()
     }
 }
 
@@ -75,7 +139,30 @@ impl Units {
         Units { units }
     }
 
-    /// The units.
+    /// The number of units.
+    pub fn len(&self) -> usize
+        ensures { result ≡ length self.now }
+    {
+        self.units.len()
+    }
+
+    /// Whether there is no unit.
+    pub fn is_empty(&self) -> bool
+        ensures { IsTrue result ↔ (self.now ≡ []) }
+    {
+        self.units.is_empty()
+    }
+
+    /// The units one after the other.
+    pub fn iter(&self) -> slice::Iter<'_, u16>
+        ensures rest { iter_rest result ≡ self.now }
+        ensures bound { length (iter_rest result) < 2 ^ 64 }
+        ensures runs { IterYieldsInOrder ℕ }
+    {
+        self.units.as_slice().iter()
+    }
+
+    /// The units as a slice.
     pub fn as_slice(&self) -> &[u16]
         ensures { result.now ≡ self.now }
     {
@@ -89,11 +176,48 @@ impl Units {
         self.units
     }
 
+    /// Puts a unit behind the last one. After `NoMemory` the units are as before.
+    pub fn push(&mut self, unit: u16) -> Result<(), NoMemory>
+        ensures pushed { OnOk result (self.new ≡ self.old ++ unit ∷ []) }
+        ensures kept { OnErr result (self.new ≡ self.old) }
+    {
+        self.units.push(unit)?;
+        Ok(())
+    }
+
     /// An equal text.
     pub fn copy(&self, alloc: Global) -> Result<Units, NoMemory>
         ensures { IfOk result (λ units. units ≡ self.now) }
     {
         let units = Vec::from_slice(alloc, self.units.as_slice())?;
         Ok(Units { units })
+    }
+}
+
+impl PartialEq for Units {
+    ghost eq = { pointwise ◌==◌ };
+
+    ghost laws = { partial_equiv_from_equiv nat_list_eq_equiv };
+
+    fn eq(&self, other: &Units) -> bool {
+        self.units.as_slice() == other.units.as_slice()
+    }
+}
+
+impl Eq for Units {
+    ghost laws = { nat_list_eq_equiv };
+}
+
+impl<'a> IntoIterator for &'a Units {
+    type Item = &'a u16;
+
+    type IntoIter = slice::Iter<'a, u16>;
+
+    ghost into_iter_gives = { λ units it. (iter_rest it ≡ units.now)
+        × (length (iter_rest it) < 2 ^ 64)
+        × IterYieldsInOrder ℕ };
+
+    fn into_iter(self) -> slice::Iter<'a, u16> {
+        self.iter()
     }
 }

@@ -1,7 +1,7 @@
 use Rattle.std.proofs.Common.{◌≡◌, ℕ, ◌<◌, ◌+◌, ◌∷◌, [], length, get_or, List, arith, sym, subst, ◌∙◌}
 use Rattle.std.proofs.lemmas.List.{get_or_read, nil_from_length}
-use Rattle.fm_base.specs.GraphWalk.{AreReached, Spreading}
-use Rattle.fm_base.proofs.GraphWalkLaws.{AreReached_start, AreReached_more, Spreading-restart, Spreading-start, AreLeastJoined_all}
+use Rattle.fm_base.specs.inner.Graph.{AreReached, Spreading}
+use Rattle.fm_base.proofs.GraphLemmas.{AreReached_start, AreReached_more, Spreading-restart, Spreading-start, AreLeastJoined_all}
 use Rattle.fm_base.proofs.graph.components.Goals.{then-index-n+in_ok-push_back+in_default, else-index-n}
 use Rattle.fm_base.proofs.graph.components.Goals as goal
 

@@ -1,6 +1,6 @@
 use Rattle.std.proofs.Common.{◌≡◌, ◌+◌, []}
 use Rattle.std.specs.VecDeque.{deque_len}
-use Rattle.fm_base.specs.GraphWalk.{AreReached, Spreading, unreached}
+use Rattle.fm_base.specs.inner.Graph.{AreReached, Spreading, unreached}
 use Rattle.fm_base.proofs.graph.components.Given as goal
 
 abbrev pub invariant-loop-start : goal.invariant-loop-start

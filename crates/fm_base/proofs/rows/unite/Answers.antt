@@ -1,5 +1,5 @@
 use Rattle.std.proofs.Common.{◌<◌, get_or, bit_or, arith, refl, length, set, ◌+◌}
-use Rattle.fm_base.proofs.JoinedWords.{Joining_more, Changed, Changed_here, Changed_before, JoinsWords_all, Changed_all}
+use Rattle.fm_base.proofs.RowsUnion.{Joining_more, Changed, Changed_here, Changed_before, JoinsWords_all, Changed_all}
 use Rattle.fm_base.proofs.rows.unite.Goals.{then-joined-words, else-joined-words}
 use Rattle.fm_base.proofs.rows.unite.Goals as goal
 

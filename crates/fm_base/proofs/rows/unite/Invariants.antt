@@ -1,4 +1,4 @@
-use Rattle.fm_base.proofs.JoinedWords.{Joining}
+use Rattle.fm_base.proofs.RowsUnion.{Joining}
 use Rattle.fm_base.proofs.rows.unite.Given as goal
 
 abbrev pub invariant-loop-i : goal.invariant-loop-i

@@ -1,5 +1,5 @@
 use Rattle.std.proofs.Common.{sym, ◌∙◌, ap, length}
-use Rattle.fm_base.proofs.RowLaws.{length-bits_of}
+use Rattle.fm_base.proofs.RowsLemmas.{length-bits_of}
 use Rattle.fm_base.proofs.rows.Row.bits.Goals as goal
 
 pub returns : goal.returns

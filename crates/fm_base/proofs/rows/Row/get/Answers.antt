@@ -2,8 +2,8 @@ use Rattle.std.proofs.Common.{sym, ◌∙◌, ◌≡◌, ap, length, arith, ◌<
 use Rattle.std.specs.Int.{bit_at}
 use Rattle.std.proofs.lemmas.List.{get_or_default}
 use Rattle.std.proofs.lemmas.Nat.Bits.{shr_and_one}
-use Rattle.fm_base.specs.Row.{has}
-use Rattle.fm_base.proofs.RowLaws.{length-bits_of, word_within, has-row, bit_of-word}
+use Rattle.fm_base.specs.Rows.{has}
+use Rattle.fm_base.proofs.RowsLemmas.{length-bits_of, word_within, has-row, bit_of-word}
 use Rattle.fm_base.proofs.rows.Row.get.Goals as goal
 
 pub index-requires : goal.index-requires

@@ -1,6 +1,6 @@
 use Rattle.std.proofs.Common.{◌∙◌, ◌≡◌, ap, length, get_or}
 use Rattle.std.proofs.lemmas.List.{length-replicate}
-use Rattle.fm_base.proofs.RowLaws.{IsRow-zeros, bits_of-zeros, get_or-zeros}
+use Rattle.fm_base.proofs.RowsLemmas.{IsRow-zeros, bits_of-zeros, get_or-zeros}
 use Rattle.fm_base.proofs.rows.Row.new.Goals as goal
 
 pub invariant_of-result : goal.invariant_of-result

@@ -1,6 +1,6 @@
 use Rattle.std.proofs.Common.{◌∙◌, ◌≡◌, ap, length, arith, ◌<◌, ◌/◌, get_or, set, true}
 use Rattle.std.proofs.lemmas.List.{get_or_default}
-use Rattle.fm_base.proofs.RowLaws.{length-bits_of, word_within, IsRow-set, bits_of-set}
+use Rattle.fm_base.proofs.RowsLemmas.{length-bits_of, word_within, IsRow-set, bits_of-set}
 use Rattle.fm_base.proofs.rows.Row.set.Goals as goal
 
 pub index_mut-requires : goal.index_mut-requires

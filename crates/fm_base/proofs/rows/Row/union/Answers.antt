@@ -1,10 +1,10 @@
 use Rattle.std.proofs.Common.{sym, ◌∙◌, ◌≡◌, ◌↔◌, ap, length, take, drop, ◌++◌, ℕ, List, Bool, subst, IsTrue, MatchBool, arith}
 use Rattle.std.specs.Bool.{OnFalse}
 use Rattle.std.specs.Int.{div_ceil}
-use Rattle.fm_base.specs.Row.{IsUnion, AddsBit}
-use Rattle.fm_base.specs.RowWords.{IsRow, bits_of, GainsBit}
-use Rattle.fm_base.proofs.RowLaws.{length-bits_of, written_whole, JoinsWords, IsRow-joined, IsUnion-joined}
-use Rattle.fm_base.proofs.JoinedWords.{AddsBit_iff, unchanged_row}
+use Rattle.fm_base.specs.Rows.{IsUnion, AddsBit}
+use Rattle.fm_base.specs.inner.Rows.{IsRow, bits_of, GainsBit}
+use Rattle.fm_base.proofs.RowsLemmas.{length-bits_of, written_whole, JoinsWords, IsRow-joined, IsUnion-joined}
+use Rattle.fm_base.proofs.RowsUnion.{AddsBit_iff, unchanged_row}
 use Rattle.fm_base.proofs.rows.Row.union.Goals as goal
 
 pub unite-requires : goal.unite-requires

@@ -1,5 +1,5 @@
 -- How a row of bits lies in words of 64 bits.
-use Rattle.std.specs.Prelude.{◌≡◌, ℕ, ◌/◌, ◌%◌, ◌≤◌, ◌==◌, Bool, true, false, List, length, map, slice_index}
+use Rattle.std.specs.Prelude.{◌≡◌, ℕ, ◌/◌, ◌%◌, ◌≤◌, ◌==◌, Bool, true, false, List, length, map, slice_index, bit_or}
 use Rattle.std.specs.List.{range_with_len}
 use Rattle.std.specs.Int.{bit_at, div_ceil}
 
@@ -19,3 +19,7 @@ pub record IsRow (words : List ℕ) (bits : ℕ) : Type 0 where
 -- some bit is set in the new words and not in the old ones
 abbrev pub GainsBit : List ℕ → List ℕ → Type 0
 GainsBit old new = (i : ℕ) × ((bit_of old i ≡ false) × (bit_of new i ≡ true))
+
+-- each new word has the bits of the old one and of the other one
+abbrev pub Joins : List ℕ → List ℕ → List ℕ → Type 0
+Joins old other new = (k : ℕ) → slice_index new k ≡ bit_or (slice_index old k) (slice_index other k)

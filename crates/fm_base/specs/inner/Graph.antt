@@ -1,6 +1,7 @@
--- How the walk over a graph stands: the ends of the pairs as linked lists, and the nodes reached so far.
-use Rattle.std.specs.Prelude.{◌≡◌, ◌≢◌, ℕ, ◌+◌, ◌/◌, ◌%◌, ◌≤◌, ◌<◌, ◌⊎◌, ◌==◌, List, length, Contains, slice_index, count_by, if◌then◌else◌}
+-- How the walk over a graph stands: the ends of the pairs as a list for each node, and the nodes reached so far.
+use Rattle.std.specs.Prelude.{◌≡◌, ◌≢◌, ℕ, ◌+◌, ◌*◌, ◌/◌, ◌%◌, ◌≤◌, ◌<◌, ◌⊎◌, ◌==◌, List, length, Contains, slice_index, count_by, if◌then◌else◌}
 use Rattle.std.specs.List.{slice_index_or}
+use Rattle.fm_base.specs.declared.graph.Adjacency.{Adjacency}
 use Rattle.fm_base.specs.Graph.{ArePaired, AreJoined}
 
 -- the node at an end: the pair k has the ends 2 k and 2 k + 1
@@ -12,13 +13,18 @@ abbrev pub other_at : List (ℕ × ℕ) → ℕ → ℕ
 other_at pairs end = let pair = slice_index_or pairs (end / 2) (0, 0) in if end % 2 == 0 then pair.1 else pair.0
 
 -- the first ends of the pairs as a list for each node, from its last end on, numbers raised by one and 0 at the list's end
-pub record AreLinked (pairs : List (ℕ × ℕ)) (n ends : ℕ) (last before : List ℕ) : Type 0 where
+pub record IsAdjacency (pairs : List (ℕ × ℕ)) (n ends : ℕ) (last before : List ℕ) : Type 0 where
   pub nodes : length last ≡ n
-  pub links : length before ≡ ends
+  pub count : length before ≡ ends
   pub last_is : (node end : ℕ) → slice_index last node ≡ end + 1 → (end < ends) × (node_at pairs end ≡ node)
   pub last_all : (node end : ℕ) → end < ends → node_at pairs end ≡ node → end < slice_index last node
   pub before_is : (later end : ℕ) → later < ends → slice_index before later ≡ end + 1 → (end < later) × (node_at pairs end ≡ node_at pairs later)
   pub before_all : (later end : ℕ) → later < ends → end < later → node_at pairs end ≡ node_at pairs later → end < slice_index before later
+
+-- the lists have both ends of each pair
+abbrev pub HasEachEnd : ℕ → List (ℕ × ℕ) → Adjacency → Type 0
+HasEachEnd n pairs adjacency =
+    IsAdjacency pairs n (2 * length pairs) adjacency.last.items adjacency.before.items
 
 -- a node is reached once its number isn't n
 abbrev pub IsReached : ℕ → List ℕ → ℕ → Type 0

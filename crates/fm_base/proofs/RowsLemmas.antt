@@ -8,8 +8,8 @@ use Rattle.std.proofs.lemmas.Grind.{div_ceil_times}
 use Rattle.std.proofs.lemmas.Bool.{cases_lt, cases_eq, false≢true}
 use Rattle.std.proofs.lemmas.Nat.{or_lt}
 use Rattle.std.proofs.Math.ListN.{length-set}
-use Rattle.fm_base.specs.Row.{has, IsUnion, AddsBit}
-use Rattle.fm_base.specs.RowWords.{bit_of, bits_of, IsRow, GainsBit}
+use Rattle.fm_base.specs.Rows.{has, IsUnion, AddsBit}
+use Rattle.fm_base.specs.inner.Rows.{bit_of, bits_of, IsRow, GainsBit}
 
 pub length-bits_of : (words : List ℕ) (bits : ℕ) → length (bits_of words bits) ≡ bits
 unfolding bits_of

@@ -1,12 +1,12 @@
-// Want of memory, the one answer that needs no cause.
+// The one error that needs no cause.
 
 use std::alloc::{AllocError, AllocFailed};
 use thiserror::Error;
 
-/// Memory for the answer couldn't be had. What was lent by `&mut` is then as before, unless the call
-/// says otherwise.
+/// The call ran out of memory. What was lent by `&mut` is then as before, unless the call says
+/// otherwise.
 #[derive(Clone, Copy, Debug, PartialEq, Eq, Error)]
-#[error("want of memory")]
+#[error("out of memory")]
 pub struct NoMemory;
 
 impl From<AllocError> for NoMemory {

@@ -3,9 +3,9 @@ use Rattle.std.proofs.Common.{◌≡◌, ◌≢◌, ℕ, ◌+◌, ◌<◌, ◌�
 use Rattle.std.proofs.lemmas.Bool.{cases_lt, cases_eq, false≢true}
 use Rattle.std.proofs.lemmas.List.{ext_get_or, get_or_past, get_or-set_same, get_or-set_other}
 use Rattle.std.specs.Bool.{OnFalse}
-use Rattle.fm_base.specs.Row.{AddsBit}
-use Rattle.fm_base.specs.RowWords.{bits_of, IsRow, GainsBit}
-use Rattle.fm_base.proofs.RowLaws.{JoinsWords, GainsBit-changed, AddsBit-GainsBit, no-AddsBit}
+use Rattle.fm_base.specs.Rows.{AddsBit}
+use Rattle.fm_base.specs.inner.Rows.{bits_of, IsRow, GainsBit}
+use Rattle.fm_base.proofs.RowsLemmas.{JoinsWords, GainsBit-changed, AddsBit-GainsBit, no-AddsBit}
 
 -- whether one of the words below i has changed
 abbrev pub Changed : List ℕ → List ℕ → ℕ → Bool → Type 0

@@ -1,11 +1,11 @@
--- How the walk over a graph goes on: an end more is linked, a node more is reached, a node is done with.
+-- How the walk over a graph goes on: an end more is adjacent, a node more is reached, a node is done with.
 use Rattle.std.proofs.Common.{◌≡◌, ◌≢◌, ℕ, zero, suc, ◌+◌, ◌*◌, ◌<◌, ◌≤◌, ◌/◌, ◌%◌, ◌⊎◌, Bool, true, false, cond, eqb, List, [], ◌∷◌, ◌++◌, length, get_or, set, Contains, refl, ap, sym, ◌∙◌, subst, inl, inr, ⊎_elim, arith, length-set, ne_eqb, eq-eqb}
 use Rattle.std.proofs.lemmas.Bool.{cases_eq, cases_lt}
 use Rattle.std.proofs.lemmas.List.{get_or-set_same, get_or-set_other, get_or_append_left, get_or_push, get_or_default, length_push}
 use Rattle.std.proofs.lemmas.List.Elements.{Contains-get_or, Contains-append_left, Contains-append_right, Contains-push, Contains-push_cases}
 use Rattle.std.proofs.lemmas.List.Sums.{sum_by-set}
-use Rattle.fm_base.specs.Graph.{AreNodes, ArePaired, IsChain, AreJoined, AreLeastJoined}
-use Rattle.fm_base.specs.GraphWalk.{node_at, other_at, AreLinked, IsReached, AreReached, unreached, IsClosed, Spreading}
+use Rattle.fm_base.specs.Graph.{AreNodes, ArePaired, IsPath, AreJoined, AreLeastJoined}
+use Rattle.fm_base.specs.inner.Graph.{node_at, other_at, IsAdjacency, IsReached, AreReached, unreached, IsClosed, Spreading}
 
 -- ---- the ends of the pairs
 
@@ -43,20 +43,20 @@ end_of_paired pairs a b (inr (k, within, there)) =
     let pair : get_or pairs k (0, 0) ≡ (b, a) = get_or_default pairs k (0, 0) (b, a) within ∙ there in
     record { end = 2 * k + 1; inside = omega arith; node = rw (quotient, remainder, pair) refl; other = rw (quotient, remainder, pair) refl }
 
--- one end more is linked
-pub AreLinked_more : (pairs : List (ℕ × ℕ)) (n ends : ℕ) (last before : List ℕ) → AreLinked pairs n ends last before →
-    (node : ℕ) → node < n → node ≡ node_at pairs ends → AreLinked pairs n (ends + 1) (set last node (ends + 1)) (before ++ get_or last node 0 ∷ [])
-AreLinked_more pairs n ends last before so_far node below at =
+-- one end more is adjacent
+pub IsAdjacency_more : (pairs : List (ℕ × ℕ)) (n ends : ℕ) (last before : List ℕ) → IsAdjacency pairs n ends last before →
+    (node : ℕ) → node < n → node ≡ node_at pairs ends → IsAdjacency pairs n (ends + 1) (set last node (ends + 1)) (before ++ get_or last node 0 ∷ [])
+IsAdjacency_more pairs n ends last before so_far node below at =
     let nodes = so_far.nodes in
-    let links = so_far.links in
+    let count = so_far.count in
     let here : get_or (set last node (ends + 1)) node 0 ≡ ends + 1 = get_or-set_same last node (ends + 1) 0 (omega arith) in
     let elsewhere : (a : ℕ) → a ≢ node → get_or (set last node (ends + 1)) a 0 ≡ get_or last a 0 = λ a apart. get_or-set_other last node a (ends + 1) 0 apart in
-    let newest : get_or (before ++ get_or last node 0 ∷ []) ends 0 ≡ get_or last node 0 = get_or_push before (get_or last node 0) 0 ends links in
+    let newest : get_or (before ++ get_or last node 0 ∷ []) ends 0 ≡ get_or last node 0 = get_or_push before (get_or last node 0) 0 ends count in
     let earlier : (later : ℕ) → later < ends → get_or (before ++ get_or last node 0 ∷ []) later 0 ≡ get_or before later 0 =
     λ later inside. get_or_append_left before (get_or last node 0 ∷ []) 0 later (omega arith) in
     record {
       nodes = length-set last node (ends + 1) ∙ nodes;
-      links = length_push before (get_or last node 0) ∙ ap (λ k. k + 1) links;
+      count = length_push before (get_or last node 0) ∙ ap (λ k. k + 1) count;
       last_is = λ a end is.
           ⊎_elim
           (λ (same : a ≡ node).
@@ -230,13 +230,13 @@ PassesTo-new pairs n start node other least queue nodes so_far first start_below
     ⊎_elim (λ (before : other < start + 1). absurd (first other before unreached)) (λ (after : start + 1 ≤ other). omega arith) (cases_lt other (start + 1)) in
     let stands = so_far.at_start node (Contains-head node queue) in
     let P : ℕ → Type 0 = λ number. AreJoined pairs node number in
-    let chain : AreJoined pairs node start = subst P stands.1 (so_far.joined node stands.0 (λ e. apart (sym stands.1 ∙ e))).0 in
+    let path : AreJoined pairs node start = subst P stands.1 (so_far.joined node stands.0 (λ e. apart (sym stands.1 ∙ e))).0 in
     let here : get_or (set least other start) other 0 ≡ start = get_or-set_same least other start 0 inside in
     let fewer = unreached-set n least other start inside unreached apart in
     let longer = length_push queue other in
     record {
       spreading = Spreading-set pairs n start least (node ∷ queue) other so_far other_below start_below unreached
-          (node ∷ chain.0, (paired_back pairs node other paired, chain.1)) after;
+          (node ∷ path.0, (paired_back pairs node other paired, path.1)) after;
       first = AreReached-set n (start + 1) least other start inside apart first;
       here = here;
       kept = λ a was.
@@ -287,13 +287,13 @@ Spreading-done pairs n start node least queue so_far all_reached =
 
 -- ---- at the end
 
--- where no node waits, the nodes along a chain have one number
+-- where no node waits, the nodes along a path have one number
 same_along : (pairs : List (ℕ × ℕ)) (n start : ℕ) (least : List ℕ) → AreNodes n pairs → Spreading pairs n start least [] → AreReached n least n →
-    (chain : List ℕ) (a b : ℕ) → a < n → IsChain pairs a chain b → (b < n) × (get_or least b 0 ≡ get_or least a 0)
+    (path : List ℕ) (a b : ℕ) → a < n → IsPath pairs a path b → (b < n) × (get_or least b 0 ≡ get_or least a 0)
 same_along pairs n start least nodes spread reached [] a b below same =
     (omega arith, ap (λ k. get_or least k 0) (sym same))
-same_along pairs n start least nodes spread reached (next ∷ rest) a b below (paired, chain) =
-    let onward = same_along pairs n start least nodes spread reached rest next b (paired_below n pairs a next nodes paired).1 chain in
+same_along pairs n start least nodes spread reached (next ∷ rest) a b below (paired, path) =
+    let onward = same_along pairs n start least nodes spread reached rest next b (paired_below n pairs a next nodes paired).1 path in
     let step : get_or least next 0 ≡ get_or least a 0 =
     ⊎_elim (λ ((k, inside, there) : Contains [] a). absurd (omega arith))
     (λ (closed : IsClosed pairs least a). closed next paired)
@@ -307,8 +307,8 @@ AreLeastJoined_all pairs n start least nodes spread reached = record {
   one_each = spread.nodes;
   each = λ a below. record {
     joined = (spread.joined a below (reached a below)).0;
-    no_less = λ b (chain, leads).
-        let along = same_along pairs n start least nodes spread reached chain a b below leads in
+    no_less = λ b (path, leads).
+        let along = same_along pairs n start least nodes spread reached path a b below leads in
         let bound = (spread.joined b along.0 (reached b along.0)).1 in
         omega (arith, along.1);
   };
