@@ -1,4 +1,4 @@
--- How the walk over a graph goes on: an end more is adjacent, a node more is reached, a node is done with.
+-- How the walk over a graph goes on: an end more is listed, a node more is reached, a node is done with.
 use Rattle.std.proofs.Common.{◌≡◌, ◌≢◌, ℕ, zero, suc, ◌+◌, ◌*◌, ◌<◌, ◌≤◌, ◌/◌, ◌%◌, ◌⊎◌, Bool, true, false, cond, eqb, List, [], ◌∷◌, ◌++◌, length, get_or, set, Contains, refl, ap, sym, ◌∙◌, subst, inl, inr, ⊎_elim, arith, length-set, ne_eqb, eq-eqb}
 use Rattle.std.proofs.lemmas.Bool.{cases_eq, cases_lt}
 use Rattle.std.proofs.lemmas.List.{get_or-set_same, get_or-set_other, get_or_append_left, get_or_push, get_or_default, length_push}
@@ -43,7 +43,7 @@ end_of_paired pairs a b (inr (k, within, there)) =
     let pair : get_or pairs k (0, 0) ≡ (b, a) = get_or_default pairs k (0, 0) (b, a) within ∙ there in
     record { end = 2 * k + 1; inside = omega arith; node = rw (quotient, remainder, pair) refl; other = rw (quotient, remainder, pair) refl }
 
--- one end more is adjacent
+-- one end more is listed
 pub IsAdjacency_more : (pairs : List (ℕ × ℕ)) (n ends : ℕ) (last before : List ℕ) → IsAdjacency pairs n ends last before →
     (node : ℕ) → node < n → node ≡ node_at pairs ends → IsAdjacency pairs n (ends + 1) (set last node (ends + 1)) (before ++ get_or last node 0 ∷ [])
 IsAdjacency_more pairs n ends last before so_far node below at =

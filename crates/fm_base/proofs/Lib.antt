@@ -1,3 +1,7 @@
 pub mod GraphLemmas
+pub mod ListFacts
+pub mod OptionFacts
+pub mod ResultFacts
 pub mod RowsLemmas
 pub mod RowsUnion
+pub mod TestFacts

@@ -92,5 +92,4 @@ pub fn law_characters()
     ensures short_letter { SHORT_LETTER ≡ 83 }
     ensures void_letter { VOID_LETTER ≡ 86 }
     ensures boolean_letter { BOOLEAN_LETTER ≡ 90 }
-{
-}
+{}

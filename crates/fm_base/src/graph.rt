@@ -89,13 +89,10 @@ impl Adjacency {
         requires reached { AreReached n least.old.items (start + 1) }
         requires spreading { Spreading pairs.now n start least.old.items (node ∷ queue.old.items) }
         ensures reached { OnOk result (AreReached n least.new.items (start + 1)) }
-        ensures spreading {
-            OnOk result (Spreading pairs.now n start least.new.items queue.new.items)
-        }
-        ensures work {
-            OnOk result (unreached n least.new.items + deque_len queue.new
-                ≡ unreached n least.old.items + deque_len queue.old)
-        }
+        ensures spreading { OnOk result
+            (Spreading pairs.now n start least.new.items queue.new.items) }
+        ensures work { OnOk result (unreached n least.new.items + deque_len queue.new
+            ≡ unreached n least.old.items + deque_len queue.old) }
     {
         let mut next = self.last[node as usize];
         while next > 0 {

@@ -64,5 +64,4 @@ pub fn law_limits()
     ensures frames { MAX_FRAMES ≡ 100000 }
     ensures default_frames { DEFAULT_FRAMES ≡ 1024 }
     ensures made_words { MAX_MADE_WORDS ≡ 536870912 }
-{
-}
+{}
