@@ -1,4 +1,4 @@
-// The types of values, as descriptors name them (class file chapter, section 4.3).
+// The types of values, as descriptors name them (JVMS 4.3.2).
 
 use crate::ids::ClassId;
 

@@ -3,29 +3,80 @@
 use crate::{Name, Row, Seq, Units, components};
 use std::test::Fail;
 
+// A record that holds lists, as those of class files do.
+#[derive(Debug, Drop, PartialEq, Eq)]
+struct Entry {
+    name: Name,
+    units: Units,
+    numbers: Seq<u16>,
+}
+
 #[test]
-fn texts_and_sequences_give_back_what_they_hold(rt: HostRuntime) -> Result<(), Fail> {
-    let name = Name::new(vec![in rt.alloc(); 0x41, 0xc0, 0x80]?);
-    assert_eq!(rt; name.as_slice(), [0x41, 0xc0, 0x80].as_slice());
-    let name_copy = name.copy(rt.alloc())?;
-    assert_eq!(rt;
-        name_copy.into_vec().as_slice(),
-        [0x41, 0xc0, 0x80].as_slice()
-    );
-
-    let units = Units::new(vec![in rt.alloc(); 0x41, 0xd800]?);
-    assert_eq!(rt; units.as_slice(), [0x41, 0xd800].as_slice());
-    let units_copy = units.copy(rt.alloc())?;
-    assert_eq!(rt; units_copy.into_vec().as_slice(), [0x41, 0xd800].as_slice());
-
-    let seq = Seq::new(vec![in rt.alloc(); true, false]?);
+fn a_sequence_reads_like_a_rust_collection(rt: HostRuntime) -> Result<(), Fail> {
+    let mut seq = Seq::empty(rt.alloc());
+    assert!(rt; seq.is_empty() && seq.iter().next().is_none());
+    seq.push(true)?;
+    seq.push(false)?;
+    assert!(rt; seq.len() == 2 && !seq.is_empty());
+    assert_eq!(rt; seq.get(1), Some(&false));
+    assert_eq!(rt; seq.get(2), None);
+    let mut last = true;
+    for value in &seq {
+        last = *value;
+    }
+    assert!(rt; !last, "the second value comes last");
     assert_eq!(rt; seq.as_slice(), [true, false].as_slice());
+    assert_eq!(rt; seq, Seq::new(vec![in rt.alloc(); true, false]?));
     assert_eq!(rt; seq.into_vec().as_slice(), [true, false].as_slice());
     Ok(())
 }
 
 #[test]
-fn a_row_keeps_the_bits_set(rt: HostRuntime) -> Result<(), Fail> {
+fn a_name_reads_like_a_rust_collection(rt: HostRuntime) -> Result<(), Fail> {
+    let mut name = Name::new(vec![in rt.alloc(); 0x41, 0xc0]?);
+    name.push(0x80)?;
+    assert!(rt; name.len() == 3 && !name.is_empty());
+    assert_eq!(rt; name.iter().next(), Some(&0x41));
+    assert_eq!(rt; (&name).into_iter().next(), Some(&0x41));
+    assert_eq!(rt; name.as_slice(), [0x41, 0xc0, 0x80].as_slice());
+    assert_eq!(rt; name.copy(rt.alloc())?, name);
+    assert_eq!(rt; name.into_vec().as_slice(), [0x41, 0xc0, 0x80].as_slice());
+    Ok(())
+}
+
+#[test]
+fn units_read_like_a_rust_collection(rt: HostRuntime) -> Result<(), Fail> {
+    let mut units = Units::new(vec![in rt.alloc(); 0x41]?);
+    units.push(0xd800)?;
+    assert!(rt; units.len() == 2 && !units.is_empty());
+    assert_eq!(rt; units.iter().next(), Some(&0x41));
+    assert_eq!(rt; (&units).into_iter().next(), Some(&0x41));
+    assert_eq!(rt; units.as_slice(), [0x41, 0xd800].as_slice());
+    assert_eq!(rt; units.copy(rt.alloc())?, units);
+    assert_eq!(rt; units.into_vec().as_slice(), [0x41, 0xd800].as_slice());
+    Ok(())
+}
+
+#[test]
+fn a_record_that_holds_lists_is_compared_by_them(rt: HostRuntime) -> Result<(), Fail> {
+    let entry = Entry {
+        name: Name::new(vec![in rt.alloc(); 1]?),
+        units: Units::new(vec![in rt.alloc(); 2]?),
+        numbers: Seq::new(vec![in rt.alloc(); 3, 4]?),
+    };
+    let mut other = Entry {
+        name: entry.name.copy(rt.alloc())?,
+        units: entry.units.copy(rt.alloc())?,
+        numbers: Seq::new(vec![in rt.alloc(); 3]?),
+    };
+    assert!(rt; entry != other, "the second number is missing");
+    other.numbers.push(4)?;
+    assert_eq!(rt; entry, other);
+    Ok(())
+}
+
+#[test]
+fn a_row_keeps_the_bits_that_were_set(rt: HostRuntime) -> Result<(), Fail> {
     let mut row = Row::new(rt.alloc(), 70)?;
     assert_eq!(rt; row.bits(), 70);
     row.set(69);
