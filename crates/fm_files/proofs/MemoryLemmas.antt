@@ -4,10 +4,10 @@ use Rattle.std.specs.FinMap.{get}
 use Rattle.fm_files.specs.Files.{Bytes}
 use Rattle.fm_files.specs.Memory.{MemFilesState, after_read, after_write}
 use Rattle.fm_files.specs.Tally.{no_tally, tally_of, tallies_after_read}
-use Rattle.fm_files.specs.declared.faults.FileFail.{FileFail}
-use Rattle.fm_files.specs.declared.faults.FileFail.TheVariants as file_fail
-use Rattle.fm_files.specs.declared.faults.WriteFail.{WriteFail}
-use Rattle.fm_files.specs.declared.faults.WriteFail.TheVariants as write_fail
+use Rattle.fm_files.specs.declared.error.FileFail.{FileFail}
+use Rattle.fm_files.specs.declared.error.FileFail.TheVariants as file_fail
+use Rattle.fm_files.specs.declared.error.WriteFail.{WriteFail}
+use Rattle.fm_files.specs.declared.error.WriteFail.TheVariants as write_fail
 use Rattle.fm_files.proofs.NameLemmas.{get-insert_same, get-insert_other}
 use Rattle.fm_files.proofs.SettingLemmas.{IsSetAt, IsSetAt-insert, IsSetAt-none}
 use Rattle.fm_files.proofs.TallyLemmas.{tally_after_write}

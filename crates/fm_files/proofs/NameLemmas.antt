@@ -11,7 +11,8 @@ use Rattle.std.specs.String.{string_cmp}
 use Rattle.std.proofs.lemmas.Bool.{false_from_ne_true}
 use Rattle.std.proofs.lemmas.Slice.Eq.{bytes_eq-Decides}
 use Rattle.std.proofs.lemmas.Map.Text.{is_eq-slice_cmp, btree_map_updates_text}
-use Rattle.fm_files.specs.Names.{ByName, by_bytes}
+use Rattle.fm_files.specs.inner.Entries.{by_bytes}
+use Rattle.fm_files.specs.Names.{ByName}
 
 -- looking a name up among the bytes is looking its text up
 find-by_bytes : {Y V : Type 0} (es : List (String Y × V)) (q : List ℕ) → find (slice_cmp nat_cmp) q (by_bytes es) ≡ lookup (is_at (λ k. slice_cmp nat_cmp q (string_bytes k))) es

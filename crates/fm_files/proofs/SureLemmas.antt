@@ -3,9 +3,9 @@ use Rattle.std.proofs.Common.{◌≡◌, ◌≢◌, ◌+◌, ◌<◌, ◌≤◌,
 use Rattle.std.specs.FinMap.{insert}
 use Rattle.fm_files.specs.Files.{Bytes, RisesAt}
 use Rattle.fm_files.specs.Memory.{SureFilesState, held_by, widest_of, after_sure_read}
-use Rattle.fm_files.specs.declared.faults.FileFail.{FileFail}
-use Rattle.fm_files.specs.declared.faults.FileFail.TheVariants as file_fail
-use Rattle.fm_files.specs.declared.faults.WriteFail.{WriteFail}
+use Rattle.fm_files.specs.declared.error.FileFail.{FileFail}
+use Rattle.fm_files.specs.declared.error.FileFail.TheVariants as file_fail
+use Rattle.fm_files.specs.declared.error.WriteFail.{WriteFail}
 use Rattle.fm_files.proofs.SettingLemmas.{IsSetAt-insert, IsSetAt-none, rises}
 
 -- what a read says of the widest reads

@@ -5,10 +5,10 @@ use Rattle.fm_files.specs.Files.{Bytes, AreKept, RisesAt}
 use Rattle.fm_files.specs.Names.{ByName}
 use Rattle.fm_files.specs.Tally.{no_tally, tally_of, tally_after_read, tallies_after_read, tally_after_failed_write, read_faults_of, write_faults_of, widest_read_of}
 use Rattle.fm_files.specs.declared.tally.Tally.{Tally}
-use Rattle.fm_files.specs.declared.faults.FileFail.{FileFail}
-use Rattle.fm_files.specs.declared.faults.FileFail.TheVariants as file_fail
-use Rattle.fm_files.specs.declared.faults.WriteFail.{WriteFail}
-use Rattle.fm_files.specs.declared.faults.WriteFail.TheVariants as write_fail
+use Rattle.fm_files.specs.declared.error.FileFail.{FileFail}
+use Rattle.fm_files.specs.declared.error.FileFail.TheVariants as file_fail
+use Rattle.fm_files.specs.declared.error.WriteFail.{WriteFail}
+use Rattle.fm_files.specs.declared.error.WriteFail.TheVariants as write_fail
 use Rattle.fm_files.proofs.SettingLemmas.{IsSetAt, IsSetAt-insert, IsSetAt-none, IsSetAt-again, kept, rises}
 
 -- a read sets the numbers of its own name

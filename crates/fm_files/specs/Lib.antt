@@ -1,8 +1,10 @@
-pub mod Calls
-pub mod Codes
+pub mod inner
+pub mod Attempts
 pub mod Files
+pub mod Folder
 pub mod Memory
 pub mod Names
 pub mod Sink
 pub mod Streams
+pub mod Sure
 pub mod Tally

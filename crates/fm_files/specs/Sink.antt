@@ -1,14 +1,43 @@
--- A sink's bytes, as the trait `Sink` speaks of them, and what one call adds.
-use Rattle.std.specs.Prelude.{◌≡◌, ℕ, List, ◌++◌, take, Option, option_map}
+-- A sink of bytes, as the trait `Sink` shows it, and what puts change.
+use Rattle.std.specs.Prelude.{◌≡◌, ◌<◌, ℕ, List, [], ◌∷◌, ◌++◌, take, slice_get, Option, Some, option_map}
+use Rattle.std.specs.List.{concat}
 
--- what is told of the bytes that a sink got: nothing, or all of them
-abbrev pub Got : Type 0
-Got = Option (List ℕ)
+-- what a sink got: the pieces that were put whole, and all bytes that came in, among them the first bytes
+-- of pieces whose put failed
+pub record Got : Type 0 where
+  pub pieces : List (List ℕ)
+  pub bytes : List ℕ
 
--- where it is told, the sink got the piece after what it had
-abbrev pub Appends : List ℕ → Got → Got → Type 0
-Appends piece old new = new ≡ option_map (λ had. had ++ piece) old
+-- a sink: how many puts failed, and what it got, where that is known
+pub record Output : Type 0 where
+  pub faults : ℕ
+  pub got : Option Got
 
--- where it is told, the sink got the first bytes of the piece, maybe none, after what it had
-abbrev pub AppendsPart : List ℕ → Got → Got → Type 0
-AppendsPart piece old new = (n : ℕ) × Appends (take n piece) old new
+-- what was got, and one piece more
+abbrev pub got_piece : Got → List ℕ → Got
+got_piece got piece = record { pieces = got.pieces ++ piece ∷ []; bytes = got.bytes ++ piece }
+
+-- after these pieces were put one after the other
+abbrev pub with_pieces : List (List ℕ) → Output → Output
+with_pieces pieces output =
+    record output { got = option_map (λ (got : Got). record { pieces = got.pieces ++ pieces; bytes = got.bytes ++ concat pieces }) output.got }
+
+-- after one piece was put
+abbrev pub with_piece : List ℕ → Output → Output
+with_piece piece output = record output { got = option_map (λ got. got_piece got piece) output.got }
+
+-- the put of the piece failed: the faults rose, and the first bytes of the piece came in, maybe none
+pub record FailsPut (piece : List ℕ) (old new : Output) : Type 0 where
+  pub fault : old.faults < new.faults
+  pub part : (n : ℕ) × (new.got ≡ option_map (λ (got : Got). record got { bytes = got.bytes ++ take n piece }) old.got)
+
+-- the first of these pieces were put, maybe none or all, and nothing else
+abbrev pub PutsPrefix : List (List ℕ) → Output → Output → Type 0
+PutsPrefix pieces old new = (n : ℕ) × (new ≡ with_pieces (take n pieces) old)
+
+-- the first of these pieces were put, and the put of the next one failed
+pub record FailsAmong (pieces : List (List ℕ)) (old new : Output) : Type 0 where
+  pub done : ℕ
+  pub piece : List ℕ
+  pub next : slice_get pieces done ≡ Some piece
+  pub fails : FailsPut piece (with_pieces (take done pieces) old) new

@@ -1,11 +1,11 @@
 -- The three numbers of a name, and what each answer makes of them.
-use Rattle.std.specs.Prelude.{ℕ, ◌+◌, max, Result, Ok, Err, Vec, vec_len, unwrap_or}
+use Rattle.std.specs.Prelude.{ℕ, ◌+◌, max, Result, Ok, Err, Option, Vec, vec_len, unwrap_or}
 use Rattle.std.specs.FinMap.{get, insert}
-use Rattle.fm_files.specs.Files.{Bytes, Counts}
+use Rattle.fm_files.specs.Files.{Bytes, Contents, Disk}
 use Rattle.fm_files.specs.Names.{ByName}
 use Rattle.fm_files.specs.declared.tally.Tally.{Tally}
-use Rattle.fm_files.specs.declared.faults.FileFail.{FileFail}
-use Rattle.fm_files.specs.declared.faults.FileFail.TheVariants as file_fail
+use Rattle.fm_files.specs.declared.error.FileFail.{FileFail}
+use Rattle.fm_files.specs.declared.error.FileFail.TheVariants as file_fail
 
 -- the numbers of a name that wasn't asked for
 abbrev pub no_tally : Tally
@@ -15,15 +15,14 @@ no_tally = record { read_faults = 0; write_faults = 0; widest_read = 0 }
 abbrev pub tally_of : ByName Tally → Bytes → Tally
 tally_of tallies name = unwrap_or (get tallies name) no_tally
 
--- the three numbers of all names
-abbrev pub read_faults_of : ByName Tally → Counts
-read_faults_of tallies name = (tally_of tallies name).read_faults
-
-abbrev pub write_faults_of : ByName Tally → Counts
-write_faults_of tallies name = (tally_of tallies name).write_faults
-
-abbrev pub widest_read_of : ByName Tally → Counts
-widest_read_of tallies name = (tally_of tallies name).widest_read
+-- the disk of these numbers and contents
+abbrev pub disk_of : ByName Tally → Contents → Disk
+disk_of tallies contents = record {
+  read_faults = λ name. (tally_of tallies name).read_faults;
+  write_faults = λ name. (tally_of tallies name).write_faults;
+  widest_read = λ name. (tally_of tallies name).widest_read;
+  contents = contents;
+}
 
 -- a name's numbers after a read of at most `limit` bytes, by its answer
 abbrev pub tally_after_read : {Y : Type 0} → Tally → ℕ → Result (Vec ℕ Y) FileFail → Tally
@@ -32,7 +31,7 @@ tally_after_read tally limit (Err file_fail.Failed) = record tally { read_faults
 tally_after_read tally limit (Err file_fail.TooLong) = record tally { widest_read = max tally.widest_read (limit + 1) }
 tally_after_read tally limit (Err file_fail.NoMemory) = tally
 
--- the numbers of all names after such a read
+-- the numbers of all names after such a read. One that is out of memory leaves them as they were
 abbrev pub tallies_after_read : {Y : Type 0} → ByName Tally → Bytes → ℕ → Result (Vec ℕ Y) FileFail → ByName Tally
 tallies_after_read tallies name limit (Err file_fail.NoMemory) = tallies
 tallies_after_read tallies name limit answer = insert tallies name (tally_after_read (tally_of tallies name) limit answer)

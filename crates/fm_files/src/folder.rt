@@ -2,12 +2,12 @@
 
 ghost use Rattle.std.specs.Prelude.{◌≡◌, ◌≤◌, None, vec_len, IfOk};
 ghost use Rattle.std.specs.FinMap as map;
-ghost use Rattle.fm_files.specs.Tally.{read_faults_of, write_faults_of, widest_read_of};
+ghost use Rattle.fm_files.specs.Tally.{disk_of};
 
-use crate::faults::{FileFail, WriteFail};
+use crate::error::{FileFail, WriteFail};
+use crate::files::Files;
 use crate::names::NameMap;
 use crate::tally::Tally;
-use crate::traits::Files;
 use crate::transfer::{read_within, write_whole};
 use std::alloc::Global;
 use std::marker::Model;
@@ -24,7 +24,7 @@ pub struct FolderFiles<R> {
 }
 
 impl<R> Model for FolderFiles<R> {
-    ghost use Rattle.fm_files.specs.Codes.{coded_by_name, coded_tally};
+    ghost use Rattle.fm_files.specs.inner.Codes.{coded_by_name, coded_tally};
     ghost use Rattle.fm_files.specs.Names.{ByName};
     ghost use Rattle.fm_files.specs.declared.tally.Tally.{Tally};
 
@@ -48,13 +48,7 @@ impl<R> FolderFiles<R> {
 }
 
 impl<R: FileSystem + Drop> Files for FolderFiles<R> {
-    ghost read_faults = { read_faults_of };
-
-    ghost write_faults = { write_faults_of };
-
-    ghost widest_read = { widest_read_of };
-
-    ghost contents = { λ _. None };
+    ghost disk = { λ tallies. disk_of tallies None };
 
     /// A path that is missing, that names a folder or that the system doesn't take is Failed.
     fn read(&mut self, alloc: Global, name: &str, limit: u32) -> Result<Vec<u8>, FileFail> {

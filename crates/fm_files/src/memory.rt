@@ -1,60 +1,62 @@
-// Files and sinks in memory, with calls that are to fail.
+// Files and sinks in memory, of whose calls some are to fail.
 
 ghost use Rattle.std.specs.Prelude.{◌≡◌, ◌≢◌, ◌↔◌, [], Some, option_copied, OnOk, OnErr, IsErrOf};
 ghost use Rattle.std.specs.FinMap as map;
-ghost use Rattle.fm_files.specs.Calls.{IsToFail, no_calls};
+ghost use Rattle.fm_files.specs.Attempts.{IsToFail, no_attempts};
 ghost use Rattle.fm_files.specs.Memory.{AnswersRead, after_read, after_write, after_put};
-ghost use Rattle.fm_files.specs.Tally.{read_faults_of, write_faults_of, widest_read_of};
+ghost use Rattle.fm_files.specs.Tally.{disk_of};
 
-use crate::calls::CountedCalls;
-use crate::faults::{FileFail, PutFail, WriteFail};
+use crate::attempts::CountedAttempts;
+use crate::error::{FileFail, PutFail, WriteFail};
+use crate::files::Files;
 use crate::names::NameMap;
+use crate::pieces::Pieces;
+use crate::sink::Sink;
 use crate::tally::Tally;
-use crate::traits::{Files, Sink};
 use fm_base::{NoMemory, Seq};
 use std::alloc::Global;
 use std::marker::Model;
 
-/// Files in memory, of whose reads and writes some are to fail. A call that answers NoMemory isn't
-/// counted. Contracts see what each name holds, the numbers of each name, and the calls.
+/// Files in memory, of whose reads and writes some are to fail. One that answers NoMemory isn't
+/// counted. Contracts see what each name holds, the numbers of each name, and the reads and writes.
 #[derive(Debug, Drop)]
 pub struct MemFiles {
     alloc: Global,
     held: NameMap<Seq<u8>>,
     tallies: NameMap<Tally>,
-    calls: CountedCalls,
+    attempts: CountedAttempts,
 }
 
 impl Model for MemFiles {
-    ghost use Rattle.fm_files.specs.Codes.{coded_mem_files};
+    ghost use Rattle.fm_files.specs.inner.Codes.{coded_mem_files};
     ghost use Rattle.fm_files.specs.Memory.{MemFilesState};
 
     ghost Value = { MemFilesState };
 
     ghost coded = { coded_mem_files };
 
-    ghost view = { λ f. record { held = f.held; tallies = f.tallies; calls = f.calls } };
+    ghost view = { λ f. record { held = f.held; tallies = f.tallies; attempts = f.attempts } };
 }
 
 impl MemFiles {
-    /// Files that hold no name. `failing` has the numbers of the calls that are to fail, where reads
+    /// Files that hold no name. `failing` has the numbers of those that are to fail, where reads
     /// and writes are counted together, from 1. Takes no memory.
     pub fn new(alloc: Global, failing: Vec<u32>) -> MemFiles
         ensures { result ≡ record {
           held = map.empty;
           tallies = map.empty;
-          calls = no_calls failing.items;
+          attempts = no_attempts failing.items;
         } }
     {
         MemFiles {
             alloc,
             held: NameMap::new(alloc),
             tallies: NameMap::new(alloc),
-            calls: CountedCalls::new(failing),
+            attempts: CountedAttempts::new(failing),
         }
     }
 
-    /// Gives a name its bytes. This is no call, and can't fail but for want of memory.
+    /// Gives a name its bytes. This isn't counted, and fails only where it is out of memory.
     pub fn add(&mut self, name: &str, bytes: &[u8]) -> Result<(), NoMemory>
         ensures ok { OnOk result
             (self.new ≡ record self.old { held = map.insert self.old.held name.now bytes.now }) }
@@ -78,7 +80,7 @@ impl MemFiles {
     fn look_up(&self, alloc: Global, name: &str, limit: u32) -> Result<Vec<u8>, FileFail>
         ensures { AnswersRead self.now name.now limit result }
     {
-        if self.calls.is_to_fail() {
+        if self.attempts.is_to_fail() {
             return Err(FileFail::Failed);
         }
         match self.bytes(name) {
@@ -90,13 +92,7 @@ impl MemFiles {
 }
 
 impl Files for MemFiles {
-    ghost read_faults = { λ f. read_faults_of f.tallies };
-
-    ghost write_faults = { λ f. write_faults_of f.tallies };
-
-    ghost widest_read = { λ f. widest_read_of f.tallies };
-
-    ghost contents = { λ f. Some (map.get f.held) };
+    ghost disk = { λ f. disk_of f.tallies (Some (map.get f.held)) };
 
     fn read(&mut self, alloc: Global, name: &str, limit: u32) -> Result<Vec<u8>, FileFail>
         ensures after { self.new ≡ after_read self.old name.now limit result }
@@ -105,35 +101,35 @@ impl Files for MemFiles {
         let answer = self.look_up(alloc, name, limit);
         let tally = self.tallies.tally(name).after_read(limit, &answer)?;
         self.tallies.insert(name, tally)?;
-        self.calls.count();
+        self.attempts.count();
         answer
     }
 
     fn write(&mut self, alloc: Global, name: &str, bytes: &[u8]) -> Result<(), WriteFail>
         ensures after { self.new ≡ after_write self.old name.now bytes.now result }
         ensures fails { result ≢ Err WriteFail.NoMemory
-            → (IsErrOf result WriteFail.Failed ↔ IsToFail self.old.calls) }
+            → (IsErrOf result WriteFail.Failed ↔ IsToFail self.old.attempts) }
     {
-        if self.calls.is_to_fail() {
+        if self.attempts.is_to_fail() {
             let tally = self.tallies.tally(name).after_failed_write()?;
             self.tallies.insert(name, tally)?;
-            self.calls.count();
+            self.attempts.count();
             return Err(WriteFail::Failed);
         }
         let content = Vec::from_slice(alloc, bytes)?;
         self.held.insert(name, Seq::new(content))?;
-        self.calls.count();
+        self.attempts.count();
         Ok(())
     }
 }
 
-/// A sink in memory, of whose puts some are to fail. A call that answers NoMemory isn't counted.
-/// Contracts see what it got, how many puts failed, and the calls.
+/// A sink in memory, of whose puts some are to fail. One that answers NoMemory isn't counted.
+/// Contracts see what it got, how many puts failed, and the puts.
 #[derive(Debug, Drop)]
 pub struct MemSink {
-    got: Vec<u8>,
+    got: Pieces,
     faults: u64,
-    calls: CountedCalls,
+    attempts: CountedAttempts,
 }
 
 impl Model for MemSink {
@@ -141,47 +137,56 @@ impl Model for MemSink {
 
     ghost Value = { MemSinkState };
 
-    ghost view = { λ s. record { got = s.got.items; faults = s.faults; calls = s.calls } };
+    ghost view = { λ s. record { got = s.got; faults = s.faults; attempts = s.attempts } };
 }
 
 impl MemSink {
     /// A sink that got nothing. `failing` has the numbers of the puts that are to fail, from 1.
     /// Takes no memory.
     pub fn new(alloc: Global, failing: Vec<u32>) -> MemSink
-        ensures { result ≡ record { got = []; faults = 0; calls = no_calls failing.items } }
+        ensures { result ≡ record {
+          got = record { pieces = []; bytes = [] };
+          faults = 0;
+          attempts = no_attempts failing.items;
+        } }
     {
         MemSink {
-            got: Vec::new(alloc),
+            got: Pieces::new(alloc),
             faults: 0,
-            calls: CountedCalls::new(failing),
+            attempts: CountedAttempts::new(failing),
         }
     }
 
-    /// What it got.
+    /// The bytes that it got.
     pub fn bytes(&self) -> &[u8]
-        ensures { result.now ≡ self.now.got }
+        ensures { result.now ≡ self.now.got.bytes }
+    {
+        self.got.bytes()
+    }
+
+    /// The pieces that it got, in order.
+    pub fn pieces(&self) -> &[Seq<u8>]
+        ensures { result.now ≡ self.now.got.pieces }
     {
         self.got.as_slice()
     }
 }
 
 impl Sink for MemSink {
-    ghost faults = { λ s. s.faults };
+    ghost output = { λ s. record { faults = s.faults; got = Some s.got } };
 
-    ghost got = { λ s. Some s.got };
-
-    fn put(&mut self, _alloc: Global, bytes: &[u8]) -> Result<(), PutFail>
+    fn put(&mut self, alloc: Global, bytes: &[u8]) -> Result<(), PutFail>
         ensures after { self.new ≡ after_put self.old bytes.now result }
         ensures fails { result ≢ Err PutFail.NoMemory
-            → (IsErrOf result PutFail.SinkFailed ↔ IsToFail self.old.calls) }
+            → (IsErrOf result PutFail.SinkFailed ↔ IsToFail self.old.attempts) }
     {
-        if self.calls.is_to_fail() {
+        if self.attempts.is_to_fail() {
             self.faults = self.faults.checked_add(1).ok_or(PutFail::NoMemory)?;
-            self.calls.count();
+            self.attempts.count();
             return Err(PutFail::SinkFailed);
         }
-        self.got.extend_from_slice(bytes)?;
-        self.calls.count();
+        self.got.push(alloc, bytes)?;
+        self.attempts.count();
         Ok(())
     }
 }

@@ -1,9 +1,10 @@
 // The standard streams.
 
-ghost use Rattle.std.specs.Prelude.{◌≡◌, None};
+ghost use Rattle.std.specs.Prelude.{◌≡◌, ◌-◌, ◌^◌, None};
+ghost use Rattle.fm_files.specs.Streams.{after_std_put};
 
-use crate::faults::PutFail;
-use crate::traits::Sink;
+use crate::error::PutFail;
+use crate::sink::Sink;
 use crate::transfer::write_whole;
 use std::alloc::Global;
 use std::io;
@@ -48,11 +49,12 @@ impl StdSink {
 }
 
 impl Sink for StdSink {
-    ghost faults = { λ s. s.faults };
+    ghost output = { λ s. record { faults = s.faults; got = None } };
 
-    ghost got = { λ _. None };
-
-    fn put(&mut self, _alloc: Global, bytes: &[u8]) -> Result<(), PutFail> {
+    fn put(&mut self, _alloc: Global, bytes: &[u8]) -> Result<(), PutFail>
+        ensures after { self.new ≡ after_std_put self.old result }
+        ensures no_memory { result ≡ Err PutFail.NoMemory → self.old.faults ≡ 2 ^ 64 - 1 }
+    {
         let after_failure = self.faults.checked_add(1).ok_or(PutFail::NoMemory)?;
         if self.write(bytes).is_err() {
             self.faults = after_failure;

@@ -2,11 +2,14 @@
 
 ghost use Rattle.std.specs.Prelude.{◌≡◌, ◌≢◌, ◌<◌, ◌≤◌, [], ◌++◌, Some, length, vec_len, max, option_copied, IfOk, OnOk, OnErr, IsErrOf, IsOkUnless};
 ghost use Rattle.std.specs.FinMap as map;
-ghost use Rattle.fm_files.specs.Memory.{held_by, widest_of, after_sure_read};
+ghost use Rattle.fm_files.specs.Sink.{got_piece};
+ghost use Rattle.fm_files.specs.Sure.{held_by, widest_of, sure_disk, after_sure_read};
 
-use crate::faults::{FileFail, PutFail, WriteFail};
+use crate::error::{FileFail, PutFail, WriteFail};
+use crate::files::Files;
 use crate::names::NameMap;
-use crate::traits::{Files, Sink};
+use crate::pieces::Pieces;
+use crate::sink::Sink;
 use fm_base::{NoMemory, Seq};
 use std::alloc::Global;
 use std::marker::Model;
@@ -21,8 +24,8 @@ pub struct SureFiles {
 }
 
 impl Model for SureFiles {
-    ghost use Rattle.fm_files.specs.Codes.{coded_sure_files};
-    ghost use Rattle.fm_files.specs.Memory.{SureFilesState};
+    ghost use Rattle.fm_files.specs.inner.Codes.{coded_sure_files};
+    ghost use Rattle.fm_files.specs.Sure.{SureFilesState};
 
     ghost Value = { SureFilesState };
 
@@ -81,13 +84,7 @@ impl SureFiles {
 }
 
 impl Files for SureFiles {
-    ghost read_faults = { λ _ _. 0 };
-
-    ghost write_faults = { λ _ _. 0 };
-
-    ghost widest_read = { widest_of };
-
-    ghost contents = { λ f. Some (λ name. Some (held_by f name)) };
+    ghost disk = { sure_disk };
 
     fn read(&mut self, alloc: Global, name: &str, limit: u32) -> Result<Vec<u8>, FileFail>
         ensures after { self.new ≡ after_sure_read self.old name.now limit result }
@@ -117,49 +114,53 @@ impl Files for SureFiles {
     }
 }
 
-/// A sink in memory that never fails. Contracts see the list of the bytes that it got.
+/// A sink in memory that never fails. Contracts see what it got.
 #[derive(Debug, Drop)]
 pub struct SureSink {
-    got: Vec<u8>,
+    got: Pieces,
 }
 
 impl Model for SureSink {
-    ghost use Rattle.std.specs.Prelude.{ℕ, List};
+    ghost use Rattle.fm_files.specs.Sink.{Got};
 
-    ghost Value = { List ℕ };
+    ghost Value = { Got };
 
-    ghost view = { λ s. s.got.items };
+    ghost view = { λ s. s.got };
 }
 
 impl SureSink {
     /// A sink that got nothing. Takes no memory.
     pub fn new(alloc: Global) -> SureSink
-        ensures { result ≡ [] }
+        ensures { result ≡ record { pieces = []; bytes = [] } }
     {
         SureSink {
-            got: Vec::new(alloc),
+            got: Pieces::new(alloc),
         }
     }
 
-    /// What it got.
+    /// The bytes that it got.
     pub fn bytes(&self) -> &[u8]
-        ensures { result.now ≡ self.now }
+        ensures { result.now ≡ self.now.bytes }
+    {
+        self.got.bytes()
+    }
+
+    /// The pieces that it got, in order.
+    pub fn pieces(&self) -> &[Seq<u8>]
+        ensures { result.now ≡ self.now.pieces }
     {
         self.got.as_slice()
     }
 }
 
 impl Sink for SureSink {
-    ghost faults = { λ _. 0 };
+    ghost output = { λ s. record { faults = 0; got = Some s } };
 
-    ghost got = { λ s. Some s };
-
-    fn put(&mut self, _alloc: Global, bytes: &[u8]) -> Result<(), PutFail>
-        ensures ok { OnOk result (self.new ≡ self.old ++ bytes.now) }
+    fn put(&mut self, alloc: Global, bytes: &[u8]) -> Result<(), PutFail>
+        ensures ok { OnOk result (self.new ≡ got_piece self.old bytes.now) }
         ensures err { OnErr result (self.new ≡ self.old) }
         ensures sure { result ≢ Err PutFail.SinkFailed }
     {
-        self.got.extend_from_slice(bytes)?;
-        Ok(())
+        Ok(self.got.push(alloc, bytes)?)
     }
 }

@@ -4,7 +4,7 @@ ghost use Rattle.std.specs.Prelude.{◌≡◌, ◌≢◌, ◌⊎◌, IfOk, OnOk,
 ghost use Rattle.std.specs.FinMap as map;
 ghost use Rattle.fm_files.specs.Tally.{tally_of, tally_after_read, tallies_after_read, tally_after_failed_write};
 
-use crate::faults::FileFail;
+use crate::error::FileFail;
 use crate::names::NameMap;
 use fm_base::NoMemory;
 

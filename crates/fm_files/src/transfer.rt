@@ -3,7 +3,7 @@
 ghost use Rattle.std.specs.Prelude.{ℕ, ◌≡◌, ◌<◌, ◌≤◌, take, length, vec_len, IfOk, IfSome, OnOk, OnErr, IsErrOf};
 ghost use Rattle.std.specs.Io.KnownBytes.{Appends};
 
-use crate::faults::FileFail;
+use crate::error::FileFail;
 use std::alloc::Global;
 use std::io;
 use std::io::{ErrorKind, Read, Write};

@@ -1,5 +1,5 @@
 use Rattle.std.proofs.Common.{Ok, Err, refl, ap, ◌∙◌, rules}
-use Rattle.fm_files.specs.declared.faults.WriteFail.TheVariants.{Failed}
+use Rattle.fm_files.specs.declared.error.WriteFail.TheVariants.{Failed}
 use Rattle.fm_files.specs.Tally.{tally_after_failed_write}
 use Rattle.fm_files.proofs.NameLemmas.{IsSome-insert}
 use Rattle.fm_files.proofs.SettingLemmas.{IsSetAt-insert}

@@ -2,10 +2,11 @@
 use Rattle.std.specs.Prelude.{ℕ, List, refl}
 use Rattle.std.specs.Coded.{Coded, code_by, coded×, coded_ℕ, coded_list}
 use Rattle.std.specs.FinMap.{code}
-use Rattle.fm_files.specs.Calls.{Calls}
+use Rattle.fm_files.specs.Attempts.{Attempts}
 use Rattle.fm_files.specs.Files.{Bytes}
-use Rattle.fm_files.specs.Memory.{MemFilesState, SureFilesState}
+use Rattle.fm_files.specs.Memory.{MemFilesState}
 use Rattle.fm_files.specs.Names.{ByName}
+use Rattle.fm_files.specs.Sure.{SureFilesState}
 use Rattle.fm_files.specs.declared.tally.Tally.{Tally}
 
 abbrev pub coded_bytes : Coded Bytes
@@ -14,9 +15,9 @@ coded_bytes = coded_list coded_ℕ
 abbrev pub coded_by_name : {V : Type 0} → Coded V → Coded (ByName V)
 coded_by_name value = code coded_bytes value
 
-abbrev pub coded_calls : Coded Calls
-coded_calls =
-    code_by (ℕ × List ℕ) (coded× coded_ℕ (coded_list coded_ℕ)) (λ c. (c.made, c.failing)) (λ p. record { made = p.0; failing = p.1 }) (λ _. refl)
+abbrev pub coded_attempts : Coded Attempts
+coded_attempts =
+    code_by (ℕ × List ℕ) (coded× coded_ℕ (coded_list coded_ℕ)) (λ a. (a.made, a.failing)) (λ p. record { made = p.0; failing = p.1 }) (λ _. refl)
 
 abbrev pub coded_tally : Coded Tally
 coded_tally =
@@ -24,7 +25,7 @@ coded_tally =
 
 abbrev pub coded_mem_files : Coded MemFilesState
 coded_mem_files =
-    code_by (ByName Bytes × (ByName Tally × Calls)) (coded× (coded_by_name coded_bytes) (coded× (coded_by_name coded_tally) coded_calls)) (λ f. (f.held, (f.tallies, f.calls))) (λ p. record { held = p.0; tallies = p.1.0; calls = p.1.1 }) (λ _. refl)
+    code_by (ByName Bytes × (ByName Tally × Attempts)) (coded× (coded_by_name coded_bytes) (coded× (coded_by_name coded_tally) coded_attempts)) (λ f. (f.held, (f.tallies, f.attempts))) (λ p. record { held = p.0; tallies = p.1.0; attempts = p.1.1 }) (λ _. refl)
 
 abbrev pub coded_sure_files : Coded SureFilesState
 coded_sure_files =

@@ -1,9 +1,9 @@
-// Why a call on the outside gave up.
+// Why a call on the outside failed.
 
 ghost use Rattle.std.specs.Prelude.{◌≡◌};
-ghost use Rattle.fm_files.specs.declared.faults.FileFail.TheVariants as file_fail;
-ghost use Rattle.fm_files.specs.declared.faults.PutFail.TheVariants as put_fail;
-ghost use Rattle.fm_files.specs.declared.faults.WriteFail.TheVariants as write_fail;
+ghost use Rattle.fm_files.specs.declared.error.FileFail.TheVariants as file_fail;
+ghost use Rattle.fm_files.specs.declared.error.PutFail.TheVariants as put_fail;
+ghost use Rattle.fm_files.specs.declared.error.WriteFail.TheVariants as write_fail;
 
 use fm_base::NoMemory;
 use std::alloc::AllocError;
@@ -18,8 +18,8 @@ pub enum FileFail {
     /// The file has more bytes than were asked for.
     #[error("the file is too long")]
     TooLong,
-    /// Memory for the answer couldn't be had.
-    #[error("want of memory")]
+    /// There was no memory for the answer.
+    #[error("out of memory")]
     NoMemory,
 }
 
@@ -29,8 +29,8 @@ pub enum WriteFail {
     /// The file couldn't be written, or not wholly.
     #[error("the file can't be written")]
     Failed,
-    /// Memory couldn't be had.
-    #[error("want of memory")]
+    /// There was no memory.
+    #[error("out of memory")]
     NoMemory,
 }
 
@@ -40,8 +40,8 @@ pub enum PutFail {
     /// The sink took no more.
     #[error("the sink can't be written")]
     SinkFailed,
-    /// Memory couldn't be had.
-    #[error("want of memory")]
+    /// There was no memory.
+    #[error("out of memory")]
     NoMemory,
 }
 

@@ -1,0 +1,35 @@
+-- Files and a sink in memory that never fail, and what each answer leaves there.
+use Rattle.std.specs.Prelude.{ℕ, ◌+◌, max, List, [], Result, Ok, Err, Some, Vec, vec_len, unwrap_or}
+use Rattle.std.specs.FinMap.{get, insert}
+use Rattle.fm_files.specs.Files.{Bytes, Disk}
+use Rattle.fm_files.specs.Names.{ByName}
+use Rattle.fm_files.specs.declared.error.FileFail.{FileFail}
+use Rattle.fm_files.specs.declared.error.FileFail.TheVariants as file_fail
+
+-- files that never fail: what was given to names, and the widest read of each name
+pub record SureFilesState : Type 0 where
+  pub given : ByName Bytes
+  pub widest : ByName ℕ
+
+-- what a name holds: what it was given, and else nothing
+abbrev pub held_by : SureFilesState → Bytes → Bytes
+held_by files name = unwrap_or (get files.given name) []
+
+-- the widest read of a name
+abbrev pub widest_of : SureFilesState → Bytes → ℕ
+widest_of files name = unwrap_or (get files.widest name) 0
+
+-- their disk: no name ever has a fault, and each name is there
+abbrev pub sure_disk : SureFilesState → Disk
+sure_disk files = record {
+  read_faults = λ _. 0;
+  write_faults = λ _. 0;
+  widest_read = widest_of files;
+  contents = Some (λ name. Some (held_by files name));
+}
+
+-- what a read leaves, by its answer
+abbrev pub after_sure_read : {Y : Type 0} → SureFilesState → Bytes → ℕ → Result (Vec ℕ Y) FileFail → SureFilesState
+after_sure_read files name limit (Ok bytes) = record files { widest = insert files.widest name (max (widest_of files name) (vec_len bytes)) }
+after_sure_read files name limit (Err file_fail.TooLong) = record files { widest = insert files.widest name (max (widest_of files name) (limit + 1)) }
+after_sure_read files name limit (Err _) = files
