@@ -1,4 +1,5 @@
 pub mod AnswerLemmas
+pub mod FolderLemmas
 pub mod MemoryLemmas
 pub mod NameLemmas
 pub mod SettingLemmas

@@ -1,10 +1,10 @@
 -- What a map keyed by texts says of the finite map from their bytes.
-use Rattle.std.proofs.Common.{◌≡◌, ◌≢◌, ◌⊎◌, ℕ, Bool, true, false, List, [], ◌∷◌, Some, IsSome, cond, String, string_bytes, sym, refl, ap, ◌∙◌, inl, inr}
+use Rattle.std.proofs.Common.{◌≡◌, ◌≢◌, ◌⊎◌, ℕ, Bool, true, false, List, [], ◌∷◌, Option, Some, None, IsSome, is_none, unwrap_or, cond, String, string_bytes, sym, refl, ap, ◌∙◌, inl, inr, ⊎_elim}
 use Rattle.std.specs.Ordering.{nat_cmp, is_eq, eq_by_cmp}
 use Rattle.std.specs.Cmp.{eq_by_cmp_equiv}
 use Rattle.std.specs.Cmp.Lexicographic.{slice_cmp, nat_list_cmp_total}
 use Rattle.std.specs.BTreeMap.{BTreeMap, UpdatesBy, get_by_text, is_at}
-use Rattle.std.specs.FinMap.{get, insert, find, from_entries, get-from_entries, get-insert, same_map, nat_cmp-IsAntisymmetric, slice_cmp-IsAntisymmetric}
+use Rattle.std.specs.FinMap.{get, insert, remove, find, from_entries, get-from_entries, get-insert, get-remove, same_map, nat_cmp-IsAntisymmetric, slice_cmp-IsAntisymmetric}
 use Rattle.std.specs.Map.{lookup}
 use Rattle.std.specs.Str.{bytes_eq}
 use Rattle.std.specs.String.{string_cmp}
@@ -35,6 +35,15 @@ insert-by_bytes k m n v u = same_map nat_list_cmp_total (slice_cmp-IsAntisymmetr
     ∙ sym (get-insert nat_list_cmp_total (from_entries (by_bytes m.entries)) k v q
     ∙ ap (cond (eq_by_cmp (slice_cmp nat_cmp) q k) (Some v)) (get-by_bytes m q)))
 
+-- a map keyed by texts with one entry taken out is the finite map with that name removed
+pub remove-by_bytes : {Y V : Type 0} (k : List ℕ) (m n : BTreeMap (String Y) V) → UpdatesBy string_cmp (λ x. slice_cmp nat_cmp k (string_bytes x)) m n None → from_entries {R = slice_cmp nat_cmp} (by_bytes n.entries) ≡ remove (from_entries (by_bytes m.entries)) k
+remove-by_bytes k m n u = same_map nat_list_cmp_total (slice_cmp-IsAntisymmetric nat_cmp-IsAntisymmetric) _ _ (λ q.
+    get-by_bytes n q
+    ∙ btree_map_updates_text k m n None u q
+    ∙ ap (λ b. cond b None (get_by_text m q)) (same_test k q)
+    ∙ sym (get-remove nat_list_cmp_total (from_entries (by_bytes m.entries)) k q
+    ∙ ap (cond (eq_by_cmp (slice_cmp nat_cmp) q k) None) (get-by_bytes m q)))
+
 -- two names are one or they aren't
 pub same_or_other : (q k : List ℕ) → (q ≡ k) ⊎ (q ≢ k)
 same_or_other q k = go (bytes_eq q k) refl
@@ -58,3 +67,43 @@ get-insert_other m k v q other =
 -- a name at which a value was inserted is there
 pub IsSome-insert : {V : Type 0} (m : ByName V) (k : List ℕ) (v : V) → IsSome (get (insert m k v) k)
 IsSome-insert m k v = rw get-insert_same refl
+
+-- what was removed isn't there
+pub get-remove_same : {V : Type 0} (m : ByName V) (k : List ℕ) → get (remove m k) k ≡ None
+get-remove_same m k =
+    get-remove nat_list_cmp_total m k k
+    ∙ ap (λ b. cond b None (get m k)) (sym (same_test k k) ∙ (bytes_eq-Decides k k).1 refl)
+
+-- at every other name nothing changed
+pub get-remove_other : {V : Type 0} (m : ByName V) (k q : List ℕ) → q ≢ k → get (remove m k) q ≡ get m q
+get-remove_other m k q other =
+    get-remove nat_list_cmp_total m k q
+    ∙ ap (λ b. cond b None (get m q)) (sym (same_test k q) ∙ false_from_ne_true _ (λ same. other (sym ((bytes_eq-Decides k q).0 same))))
+
+-- two maps are one where they have the same at a name and at every other name
+same_by_name : {V : Type 0} (m n : ByName V) (k : List ℕ) → get m k ≡ get n k → ((q : List ℕ) → q ≢ k → get m q ≡ get n q) → m ≡ n
+same_by_name m n k here others = same_map nat_list_cmp_total (slice_cmp-IsAntisymmetric nat_cmp-IsAntisymmetric) m n (λ q.
+    ⊎_elim (λ (is : q ≡ k). ap (get m) is ∙ here ∙ ap (get n) (sym is)) (others q) (same_or_other q k))
+
+-- of two values inserted at one name the last one stays
+pub insert-again : {V : Type 0} (m : ByName V) (k : List ℕ) (v w : V) → insert (insert m k v) k w ≡ insert m k w
+insert-again m k v w = same_by_name _ _ k
+    (get-insert_same _ k w ∙ sym (get-insert_same m k w))
+    (λ q other. get-insert_other _ k w q other ∙ get-insert_other m k v q other ∙ sym (get-insert_other m k w q other))
+
+-- a value that was kept at a name and released again leaves the map as it was
+pub kept_and_released : {V : Type 0} (m : ByName V) (k : List ℕ) (d : V) (is_new : Bool) → is_new ≡ is_none (get m k) → cond is_new (remove (insert m k (unwrap_or (get m k) d)) k) (insert m k (unwrap_or (get m k) d)) ≡ m
+kept_and_released {V} m k d true new = same_by_name _ _ k
+    (get-remove_same _ k ∙ sym (none (get m k) new))
+    (λ q other. get-remove_other _ k q other ∙ get-insert_other m k _ q other)
+  where
+    none : (o : Option V) → true ≡ is_none o → o ≡ None
+    none None e = refl
+    none (Some v) e = absurd (cc)
+kept_and_released {V} m k d false old = same_by_name _ _ k
+    (get-insert_same m k _ ∙ some (get m k) old)
+    (λ q other. get-insert_other m k _ q other)
+  where
+    some : (o : Option V) → false ≡ is_none o → Some (unwrap_or o d) ≡ o
+    some None e = absurd (cc)
+    some (Some v) e = refl

@@ -24,11 +24,6 @@ module _ {V : Type 0} (default : V) where
   pub IsSetAt-none : (old : ByName V) (this : Bytes) → IsSetAt old old this (value_of default old this)
   IsSetAt-none old this = record { here = refl; others = λ name other. refl }
 
-  -- the last of two values that were set stays
-  pub IsSetAt-again : (old middle new : ByName V) (this : Bytes) (first last : V) → IsSetAt old middle this first → IsSetAt middle new this last → IsSetAt old new this last
-  IsSetAt-again old middle new this first last set again =
-      record { here = again.here; others = λ name other. again.others name other ∙ set.others name other }
-
   module _ (f : V → ℕ) (old new : ByName V) (this : Bytes) (value : V) (set : IsSetAt old new this value) where
     -- a number that is as before at the name is as before everywhere
     pub kept : f value ≡ f (value_of default old this) → (name : Bytes) → f (value_of default new name) ≡ f (value_of default old name)

@@ -2,7 +2,7 @@
 use Rattle.std.proofs.Common.{◌≡◌, ◌≢◌, ◌+◌, ◌<◌, ◌≤◌, Result, Ok, Err, Vec, ℕ, IfOk, OnOk, OnErr, IsErrOf, vec_len, max, [], ap, ◌∙◌, arith}
 use Rattle.std.specs.FinMap.{insert}
 use Rattle.fm_files.specs.Files.{Bytes, RisesAt}
-use Rattle.fm_files.specs.Memory.{SureFilesState, held_by, widest_of, after_sure_read}
+use Rattle.fm_files.specs.Sure.{SureFilesState, held_by, widest_of, after_sure_read}
 use Rattle.fm_files.specs.declared.error.FileFail.{FileFail}
 use Rattle.fm_files.specs.declared.error.FileFail.TheVariants as file_fail
 use Rattle.fm_files.specs.declared.error.WriteFail.{WriteFail}
@@ -11,29 +11,32 @@ use Rattle.fm_files.proofs.SettingLemmas.{IsSetAt-insert, IsSetAt-none, rises}
 -- what a read says of the widest reads
 pub record SeesAt {Y : Type 0} (old new : SureFilesState) (this : Bytes) (limit : ℕ) (answer : Result (Vec ℕ Y) FileFail) : Type 0 where
   pub widest_read_rises : RisesAt this (widest_of old) (widest_of new)
+  pub widest_read_within : widest_of new this ≤ max (widest_of old this) (limit + 1)
   pub seen : IfOk answer (λ bytes. vec_len bytes ≤ widest_of new this)
   pub too_long : IsErrOf answer file_fail.TooLong → limit < widest_of new this
 
 module _ (files : SureFilesState) (this : Bytes) where
-  pub sees-after_sure_read : {Y : Type 0} (limit : ℕ) (answer : Result (Vec ℕ Y) FileFail) → SeesAt files (after_sure_read files this limit answer) this limit answer
-  sees-after_sure_read limit (Ok bytes) =
+  pub sees-after_sure_read : {Y : Type 0} (limit : ℕ) (answer : Result (Vec ℕ Y) FileFail) → IfOk answer (λ bytes. vec_len bytes ≤ limit) → SeesAt files (after_sure_read files this limit answer) this limit answer
+  sees-after_sure_read limit (Ok bytes) within =
       let set = IsSetAt-insert 0 files.widest this (max (widest_of files this) (vec_len bytes)) in
       record {
         widest_read_rises = rises 0 (λ n. n) _ _ this _ set (omega arith);
+        widest_read_within = omega (arith, set.here, within);
         seen = omega (arith, set.here);
         too_long = λ e. absurd (cc);
       }
-  sees-after_sure_read limit (Err file_fail.Failed) =
-      record { widest_read_rises = rises 0 (λ n. n) files.widest _ this _ (IsSetAt-none 0 _ this) (omega arith); seen = tt; too_long = λ e. absurd (cc) }
-  sees-after_sure_read limit (Err file_fail.TooLong) =
+  sees-after_sure_read limit (Err file_fail.Failed) within =
+      record { widest_read_rises = rises 0 (λ n. n) files.widest _ this _ (IsSetAt-none 0 _ this) (omega arith); widest_read_within = omega arith; seen = tt; too_long = λ e. absurd (cc) }
+  sees-after_sure_read limit (Err file_fail.TooLong) within =
       let set = IsSetAt-insert 0 files.widest this (max (widest_of files this) (limit + 1)) in
       record {
         widest_read_rises = rises 0 (λ n. n) _ _ this _ set (omega arith);
+        widest_read_within = omega (arith, set.here);
         seen = tt;
         too_long = λ e. omega (arith, set.here);
       }
-  sees-after_sure_read limit (Err file_fail.NoMemory) =
-      record { widest_read_rises = rises 0 (λ n. n) files.widest _ this _ (IsSetAt-none 0 _ this) (omega arith); seen = tt; too_long = λ e. absurd (cc) }
+  sees-after_sure_read limit (Err file_fail.NoMemory) within =
+      record { widest_read_rises = rises 0 (λ n. n) files.widest _ this _ (IsSetAt-none 0 _ this) (omega arith); widest_read_within = omega arith; seen = tt; too_long = λ e. absurd (cc) }
 
 -- a write that was done gave the name its bytes
 pub written-sure_write : {A : Type 0} (old new : SureFilesState) (this bytes : Bytes) (answer : Result A WriteFail) → OnOk answer (new ≡ record old { given = insert old.given this bytes }) → OnOk answer (held_by new this ≡ bytes)

@@ -2,18 +2,25 @@
 
 ghost use Rattle.std.specs.Prelude.{◌≡◌, ◌≤◌, None, vec_len, IfOk};
 ghost use Rattle.std.specs.FinMap as map;
-ghost use Rattle.fm_files.specs.Tally.{disk_of};
+ghost use Rattle.fm_files.specs.Folder.{after_folder_write};
+ghost use Rattle.fm_files.specs.Tally.{disk_of, tallies_after_read};
 
 use crate::error::{FileFail, WriteFail};
 use crate::files::Files;
 use crate::names::NameMap;
 use crate::tally::Tally;
 use crate::transfer::{read_within, write_whole};
+use fm_base::NoMemory;
 use std::alloc::Global;
+use std::fs;
+use std::fs::File;
+use std::io::ErrorKind;
 use std::marker::Model;
-use std::path::Path;
+use std::path::{Path, PathBuf};
 use std::rt::Files as FileSystem;
-use std::{fs, io};
+
+// The most names that are tried for a new file.
+const MAX_NAMES: u32 = 1000;
 
 /// The files of the system: a name is a path. Contracts see the numbers of each name, and nothing of
 /// what the files hold.
@@ -51,22 +58,40 @@ impl<R: FileSystem + Drop> Files for FolderFiles<R> {
     ghost disk = { λ tallies. disk_of tallies None };
 
     /// A path that is missing, that names a folder or that the system doesn't take is Failed.
-    fn read(&mut self, alloc: Global, name: &str, limit: u32) -> Result<Vec<u8>, FileFail> {
-        self.tallies.keep(name)?;
+    fn read(&mut self, alloc: Global, name: &str, limit: u32) -> Result<Vec<u8>, FileFail>
+        ensures after { self.new ≡ tallies_after_read self.old name.now limit result }
+        ensures within_limit { IfOk result (λ bytes. vec_len bytes ≤ limit) }
+    {
+        let is_new = self.tallies.keep(name)?;
         let answer = read_file(&self.rt, alloc, name, limit);
-        self.tallies.count_read(name, limit, answer)
+        match self.tallies.tally(name).after_read(limit, &answer) {
+            Ok(tally) => {
+                self.tallies.replace(name, tally);
+                answer
+            }
+            Err(NoMemory) => {
+                self.tallies.release(name, is_new);
+                Err(FileFail::NoMemory)
+            }
+        }
     }
 
-    /// Makes the folders of the path that are missing, and puts the bytes in place of what the file
-    /// held.
-    fn write(&mut self, _alloc: Global, name: &str, bytes: &[u8]) -> Result<(), WriteFail> {
+    /// Makes the folders of the path that are missing, and puts a file of the bytes in the place of what
+    /// was there. Until the bytes are written that stays, and it stays after Failed and NoMemory.
+    fn write(&mut self, alloc: Global, name: &str, bytes: &[u8]) -> Result<(), WriteFail>
+        ensures after { self.new ≡ after_folder_write self.old name.now result }
+    {
         let after_failure = self.tallies.tally(name).after_failed_write()?;
-        self.tallies.keep(name)?;
-        match write_file(&self.rt, name, bytes) {
+        let is_new = self.tallies.keep(name)?;
+        match write_file(&self.rt, alloc, name, bytes) {
             Ok(()) => Ok(()),
-            Err(_) => {
+            Err(WriteFail::Failed) => {
                 self.tallies.replace(name, after_failure);
                 Err(WriteFail::Failed)
+            }
+            Err(WriteFail::NoMemory) => {
+                self.tallies.release(name, is_new);
+                Err(WriteFail::NoMemory)
             }
         }
     }
@@ -86,10 +111,43 @@ fn read_file<R: FileSystem>(
     }
 }
 
-fn write_file<R: FileSystem>(rt: &R, path: &str, bytes: &[u8]) -> io::Result<()> {
-    if let Some(folder) = Path::new(path).parent() {
-        fs::create_dir_all(rt, folder)?;
+// Writes the bytes to a new file in the folder of the path, and gives it the path's name. Where that
+// fails the new file is removed.
+fn write_file<R: FileSystem>(
+    rt: &R,
+    alloc: Global,
+    path: &str,
+    bytes: &[u8],
+) -> Result<(), WriteFail> {
+    let folder = Path::new(path).parent().unwrap_or(Path::new(""));
+    let (mut file, unfinished) = create_unfinished(rt, alloc, folder)?;
+    let written = write_whole(&mut file, bytes);
+    drop(file);
+    if written.is_ok() && fs::rename(rt, unfinished.as_path(), path).is_ok() {
+        return Ok(());
     }
-    let mut file = fs::create(rt, path)?;
-    write_whole(&mut file, bytes)
+    let _ = fs::remove_file(rt, unfinished.as_path());
+    Err(WriteFail::Failed)
+}
+
+// A new file in the folder, which is made where it is missing, and the path of the file. No file had
+// this name before, and no class file has such a name.
+fn create_unfinished<R: FileSystem>(
+    rt: &R,
+    alloc: Global,
+    folder: Path<'_>,
+) -> Result<(R::File, PathBuf), WriteFail> {
+    for number in 0..MAX_NAMES {
+        let name = format!(in alloc; "{number}.unfinished")?;
+        let path = folder.join(alloc, name.as_str())?;
+        if fs::create_dir_all(rt, folder).is_err() {
+            return Err(WriteFail::Failed);
+        }
+        match File::create_new(rt, path.as_path()) {
+            Ok(file) => return Ok((file, path)),
+            Err(error) if error.kind() == ErrorKind::AlreadyExists => {}
+            Err(_) => return Err(WriteFail::Failed),
+        }
+    }
+    Err(WriteFail::Failed)
 }

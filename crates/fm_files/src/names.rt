@@ -75,4 +75,13 @@ impl<V> NameMap<V> {
             *old = value;
         }
     }
+
+    /// Takes the name out of the map, where the map has it.
+    pub(crate) fn remove(&mut self, name: &str)
+    where
+        V: Drop,
+        ensures { self.new ≡ map.remove self.old name.now }
+    {
+        self.entries.remove(name);
+    }
 }

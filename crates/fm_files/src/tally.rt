@@ -1,8 +1,8 @@
 // The faults of a name, and the widest read of it.
 
-ghost use Rattle.std.specs.Prelude.{◌≡◌, ◌≢◌, ◌⊎◌, IfOk, OnOk, OnErr, IsSome};
+ghost use Rattle.std.specs.Prelude.{◌≡◌, ◌≢◌, IfOk, OnOk, OnErr, is_none, if◌then◌else◌};
 ghost use Rattle.std.specs.FinMap as map;
-ghost use Rattle.fm_files.specs.Tally.{tally_of, tally_after_read, tallies_after_read, tally_after_failed_write};
+ghost use Rattle.fm_files.specs.Tally.{tally_of, tally_after_read, tally_after_failed_write};
 
 use crate::error::FileFail;
 use crate::names::NameMap;
@@ -61,30 +61,26 @@ impl NameMap<Tally> {
         })
     }
 
-    /// Keeps the numbers of a name, so that they can be set again without memory.
-    pub(crate) fn keep(&mut self, name: &str) -> Result<(), NoMemory>
+    /// Keeps the numbers of a name, so that they can be set again without memory. True where none were
+    /// kept before.
+    pub(crate) fn keep(&mut self, name: &str) -> Result<bool, NoMemory>
+        ensures is_new { IfOk result (λ is_new. is_new ≡ is_none (map.get self.old name.now)) }
         ensures ok { OnOk result
             (self.new ≡ map.insert self.old name.now (tally_of self.old name.now)) }
         ensures err { OnErr result (self.new ≡ self.old) }
     {
+        let is_new = self.get(name).is_none();
         let tally = self.tally(name);
-        self.insert(name, tally)
+        self.insert(name, tally)?;
+        Ok(is_new)
     }
 
-    /// Counts a read of at most `limit` bytes of a name whose numbers are kept, and hands its answer
-    /// on. NoMemory where a count would pass its end.
-    pub(crate) fn count_read(
-        &mut self,
-        name: &str,
-        limit: u32,
-        answer: Result<Vec<u8>, FileFail>,
-    ) -> Result<Vec<u8>, FileFail>
-        requires { IsSome (map.get self.old name.now) }
-        ensures after { self.new ≡ tallies_after_read self.old name.now limit result }
-        ensures answered { (result ≡ answer) ⊎ (result ≡ Err FileFail.NoMemory) }
+    /// Takes out the numbers of a name that is new, as they were before they were kept.
+    pub(crate) fn release(&mut self, name: &str, is_new: bool)
+        ensures { self.new ≡ (if is_new then map.remove self.old name.now else self.old) }
     {
-        let tally = self.tally(name).after_read(limit, &answer)?;
-        self.replace(name, tally);
-        answer
+        if is_new {
+            self.remove(name);
+        }
     }
 }

@@ -8,18 +8,19 @@ use Rattle.fm_files.proofs.memory.MemFilesFiles.TheImpl.Goals as goal
 pub read-tells : goal.read-tells
 read-tells c =
     let old = c.args.self.now in
-    let numbers = read_numbers old.tallies c.new.self.now.tallies c.args.name.now c.args.limit c.result (rw (c.ensures.after, tallies-after_read) (IsSetAt-after_read old.tallies c.args.name.now c.args.limit c.result)) in
+    let numbers = read_numbers old.tallies c.new.self.now.tallies c.args.name.now c.args.limit c.result c.ensures.answers.within_limit (rw (c.ensures.after, tallies-after_read) (IsSetAt-after_read old.tallies c.args.name.now c.args.limit c.result)) in
     record {
       contents_kept = ap (λ (f : MemFilesState). Some (get f.held)) c.ensures.after ∙ ap (λ h. Some (get h)) (held-after_read old c.args.name.now c.args.limit c.result);
       write_faults_kept = numbers.write_faults_kept;
       read_faults_rise = numbers.read_faults_rise;
       widest_read_rises = numbers.widest_read_rises;
+      widest_read_within = numbers.widest_read_within;
       within_limit = c.ensures.answers.within_limit;
       seen = numbers.seen;
-      told = c.ensures.answers.held;
+      known = c.ensures.answers.held;
       failed = numbers.failed;
       too_long = numbers.too_long;
-      too_long_told = c.ensures.answers.too_long;
+      too_long_known = c.ensures.answers.too_long;
       no_memory = numbers.no_memory;
     }
 

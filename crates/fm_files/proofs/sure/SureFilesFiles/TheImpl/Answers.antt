@@ -4,18 +4,19 @@ use Rattle.fm_files.proofs.sure.SureFilesFiles.TheImpl.Goals as goal
 
 pub read-tells : goal.read-tells
 read-tells c =
-    let sees = rw (← c.ensures.after) at (sees-after_sure_read c.args.self.now c.args.name.now c.args.limit c.result) in
+    let sees = rw (← c.ensures.after) at (sees-after_sure_read c.args.self.now c.args.name.now c.args.limit c.result c.ensures.within_limit) in
     record {
       contents_kept = search rules;
       write_faults_kept = search rules;
       read_faults_rise = search rules;
       widest_read_rises = sees.widest_read_rises;
+      widest_read_within = sees.widest_read_within;
       within_limit = search rules;
       seen = sees.seen;
-      told = search rules;
+      known = search rules;
       failed = search rules;
       too_long = sees.too_long;
-      too_long_told = search rules;
+      too_long_known = search rules;
       no_memory = search rules;
     }
 

@@ -1,0 +1,38 @@
+use Rattle.std.proofs.Common.{ap, refl, rules}
+use Rattle.fm_files.proofs.AnswerLemmas.{on_any}
+use Rattle.fm_files.proofs.FolderLemmas.{IsSetAt-after_folder_write}
+use Rattle.fm_files.proofs.TallyLemmas.{IsSetAt-after_read, read_numbers, write_numbers}
+use Rattle.fm_files.proofs.folder.FolderFilesFiles.TheImpl.Goals as goal
+
+pub read-tells : goal.read-tells
+read-tells g c =
+    let old = c.args.self.now in
+    let numbers = read_numbers old c.new.self.now c.args.name.now c.args.limit c.result c.ensures.within_limit (rw c.ensures.after (IsSetAt-after_read old c.args.name.now c.args.limit c.result)) in
+    record {
+      contents_kept = refl;
+      write_faults_kept = numbers.write_faults_kept;
+      read_faults_rise = numbers.read_faults_rise;
+      widest_read_rises = numbers.widest_read_rises;
+      widest_read_within = numbers.widest_read_within;
+      within_limit = c.ensures.within_limit;
+      seen = numbers.seen;
+      known = on_any c.result (λ _. tt);
+      failed = numbers.failed;
+      too_long = numbers.too_long;
+      too_long_known = λ _. tt;
+      no_memory = numbers.no_memory;
+    }
+
+pub write-tells : goal.write-tells
+write-tells g c =
+    let old = c.args.self.now in
+    let numbers = write_numbers old c.new.self.now c.args.name.now c.result (rw c.ensures.after (IsSetAt-after_folder_write old c.args.name.now c.result)) in
+    record {
+      read_faults_kept = numbers.read_faults_kept;
+      widest_read_kept = numbers.widest_read_kept;
+      write_faults_rise = numbers.write_faults_rise;
+      others_kept = refl;
+      written = search rules;
+      failed = numbers.failed;
+      no_memory = λ e. (refl, numbers.no_memory e);
+    }
