@@ -7,7 +7,7 @@ use Rattle.fm_files.specs.Tally.{no_tally, tally_of}
 use Rattle.fm_files.specs.declared.tally.Tally.{Tally}
 use Rattle.fm_files.specs.declared.error.WriteFail.{WriteFail}
 use Rattle.fm_files.specs.declared.error.WriteFail.TheVariants as write_fail
-use Rattle.fm_files.proofs.SettingLemmas.{IsSetAt, IsSetAt-insert, IsSetAt-none}
+use Rattle.fm_files.proofs.NamesLemmas.{IsSetAt, IsSetAt-insert, IsSetAt-none}
 use Rattle.fm_files.proofs.TallyLemmas.{tally_after_write}
 
 -- a write sets the numbers of its own name

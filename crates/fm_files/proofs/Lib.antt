@@ -1,8 +1,7 @@
-pub mod AnswerLemmas
 pub mod FolderLemmas
 pub mod MemoryLemmas
-pub mod NameLemmas
-pub mod SettingLemmas
+pub mod NamesLemmas
+pub mod SinkLemmas
 pub mod SureLemmas
 pub mod TallyLemmas
 pub mod TransferLemmas

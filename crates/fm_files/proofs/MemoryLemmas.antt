@@ -8,8 +8,7 @@ use Rattle.fm_files.specs.declared.error.FileFail.{FileFail}
 use Rattle.fm_files.specs.declared.error.FileFail.TheVariants as file_fail
 use Rattle.fm_files.specs.declared.error.WriteFail.{WriteFail}
 use Rattle.fm_files.specs.declared.error.WriteFail.TheVariants as write_fail
-use Rattle.fm_files.proofs.NameLemmas.{get-insert_same, get-insert_other}
-use Rattle.fm_files.proofs.SettingLemmas.{IsSetAt, IsSetAt-insert, IsSetAt-none}
+use Rattle.fm_files.proofs.NamesLemmas.{get-insert_same, get-insert_other, IsSetAt, IsSetAt-insert, IsSetAt-none}
 use Rattle.fm_files.proofs.TallyLemmas.{tally_after_write}
 
 module _ (files : MemFilesState) (name : Bytes) where

@@ -6,7 +6,7 @@ use Rattle.fm_files.specs.Sure.{SureFilesState, held_by, widest_of, after_sure_r
 use Rattle.fm_files.specs.declared.error.FileFail.{FileFail}
 use Rattle.fm_files.specs.declared.error.FileFail.TheVariants as file_fail
 use Rattle.fm_files.specs.declared.error.WriteFail.{WriteFail}
-use Rattle.fm_files.proofs.SettingLemmas.{IsSetAt-insert, IsSetAt-none, rises}
+use Rattle.fm_files.proofs.NamesLemmas.{IsSetAt-insert, IsSetAt-none, rises}
 
 -- what a read says of the widest reads
 pub record SeesAt {Y : Type 0} (old new : SureFilesState) (this : Bytes) (limit : ℕ) (answer : Result (Vec ℕ Y) FileFail) : Type 0 where

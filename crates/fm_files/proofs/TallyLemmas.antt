@@ -9,8 +9,7 @@ use Rattle.fm_files.specs.declared.error.FileFail.{FileFail}
 use Rattle.fm_files.specs.declared.error.FileFail.TheVariants as file_fail
 use Rattle.fm_files.specs.declared.error.WriteFail.{WriteFail}
 use Rattle.fm_files.specs.declared.error.WriteFail.TheVariants as write_fail
-use Rattle.fm_files.proofs.NameLemmas.{insert-again}
-use Rattle.fm_files.proofs.SettingLemmas.{IsSetAt, IsSetAt-insert, IsSetAt-none, kept, rises}
+use Rattle.fm_files.proofs.NamesLemmas.{insert-again, IsSetAt, IsSetAt-insert, IsSetAt-none, kept, rises}
 
 -- the three numbers of all names
 abbrev pub read_faults_of : ByName Tally → Counts

@@ -1,12 +1,12 @@
--- What a writer took part by part is a front of the bytes.
+-- What a writer took part by part is a prefix of the bytes.
 use Rattle.std.proofs.Common.{◌≡◌, ℕ, ◌-◌, List, ◌++◌, length, take, drop, Option, sym, ap, ◌∙◌, subst, append_assoc, take-append-drop}
 use Rattle.std.proofs.Math.Seq.{take-append_seam}
 use Rattle.std.proofs.lemmas.List.{take_rest}
 use Rattle.std.specs.Io.KnownBytes.{Appends}
 
--- bytes of which a front is done
-pub front_done : (old new : Option (List ℕ)) (bytes done rest : List ℕ) → bytes ≡ done ++ rest → Appends old new done → (n : ℕ) × Appends old new (take n bytes)
-front_done old new bytes done rest split appended =
+-- bytes of which a prefix is done
+pub prefix_done : (old new : Option (List ℕ)) (bytes done rest : List ℕ) → bytes ≡ done ++ rest → Appends old new done → (n : ℕ) × Appends old new (take n bytes)
+prefix_done old new bytes done rest split appended =
     (length done, subst (Appends old new) (sym (ap (take (length done)) split ∙ take-append_seam done rest)) appended)
 
 -- the next part moves from the rest to what is done

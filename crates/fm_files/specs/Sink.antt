@@ -17,10 +17,13 @@ pub record Output : Type 0 where
 abbrev pub got_piece : Got → List ℕ → Got
 got_piece got piece = record { pieces = got.pieces ++ piece ∷ []; bytes = got.bytes ++ piece }
 
+-- what was got, and these pieces more
+abbrev pub got_pieces : Got → List (List ℕ) → Got
+got_pieces got pieces = record { pieces = got.pieces ++ pieces; bytes = got.bytes ++ concat pieces }
+
 -- after these pieces were put one after the other
 abbrev pub with_pieces : List (List ℕ) → Output → Output
-with_pieces pieces output =
-    record output { got = option_map (λ (got : Got). record { pieces = got.pieces ++ pieces; bytes = got.bytes ++ concat pieces }) output.got }
+with_pieces pieces output = record output { got = option_map (λ got. got_pieces got pieces) output.got }
 
 -- after one piece was put
 abbrev pub with_piece : List ℕ → Output → Output

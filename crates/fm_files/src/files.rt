@@ -21,10 +21,8 @@ pub trait Files {
         // Of its own name a read may raise the read faults and the widest read. It changes nothing else.
         ensures contents_kept { (disk self.new).contents ≡ (disk self.old).contents }
         ensures write_faults_kept { AreKept (disk self.old).write_faults (disk self.new).write_faults }
-        ensures read_faults_rise {
-            RisesAt name.now (disk self.old).read_faults (disk self.new).read_faults }
-        ensures widest_read_rises {
-            RisesAt name.now (disk self.old).widest_read (disk self.new).widest_read }
+        ensures read_faults_rise { RisesAt name.now (disk self.old).read_faults (disk self.new).read_faults }
+        ensures widest_read_rises { RisesAt name.now (disk self.old).widest_read (disk self.new).widest_read }
 
         // No more is read than tells that the name holds too many bytes.
         ensures widest_read_within { (disk self.new).widest_read name.now
@@ -53,10 +51,8 @@ pub trait Files {
         // nothing else.
         ensures read_faults_kept { AreKept (disk self.old).read_faults (disk self.new).read_faults }
         ensures widest_read_kept { AreKept (disk self.old).widest_read (disk self.new).widest_read }
-        ensures write_faults_rise {
-            RisesAt name.now (disk self.old).write_faults (disk self.new).write_faults }
-        ensures others_kept {
-            OthersAreKept name.now (disk self.old).contents (disk self.new).contents }
+        ensures write_faults_rise { RisesAt name.now (disk self.old).write_faults (disk self.new).write_faults }
+        ensures others_kept { OthersAreKept name.now (disk self.old).contents (disk self.new).contents }
 
         // What each answer says.
         ensures written { OnOk result (Holds (disk self.new).contents name.now bytes.now) }

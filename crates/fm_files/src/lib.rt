@@ -14,6 +14,8 @@ mod attempts;
 mod error;
 mod files;
 mod folder;
+#[cfg(test)]
+mod full_disk;
 mod memory;
 mod names;
 mod pieces;

@@ -20,7 +20,7 @@ impl<V> Model for NameMap<V> {
     ghost use Rattle.std.specs.Ordering.{nat_cmp};
     ghost use Rattle.std.specs.Cmp.Lexicographic.{slice_cmp};
     ghost use Rattle.std.specs.Coded.{coded_ℕ, coded_list};
-    ghost use Rattle.fm_files.specs.inner.Entries.{by_bytes};
+    ghost use Rattle.fm_files.specs.inner.Names.{by_bytes};
 
     ghost Value = { map.FinMap (slice_cmp nat_cmp) V };
 

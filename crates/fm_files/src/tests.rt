@@ -1,12 +1,15 @@
 // What no clause says: that calls succeed where there is memory, and what the system does.
 
+use crate::full_disk::FullDisk;
 use crate::transfer::{read_within, write_whole};
 use crate::{
     FileFail, Files, FolderFiles, MemFiles, MemSink, PutFail, Sink, StdSink, SureFiles, SureSink,
     WriteFail,
 };
+use fm_base::Seq;
 use std::alloc::Global;
 use std::io::{Read, Write};
+use std::path::{Path, PathBuf};
 use std::process::Abort;
 use std::test::Fail;
 use std::{env, fs, io, process};
@@ -41,8 +44,17 @@ fn puts<S: Sink>(sink: &mut S, alloc: Global, bytes: &[u8], want: Result<(), Put
     sink.put(alloc, bytes) == want
 }
 
+// Whether the pieces are these.
+fn are_pieces(pieces: &[Seq<u8>], want: &[&[u8]]) -> bool {
+    pieces.len() == want.len()
+        && pieces
+            .iter()
+            .zip(want)
+            .all(|(piece, want)| piece.as_slice() == *want)
+}
+
 #[test]
-fn files_in_memory_fail_at_the_named_calls_alone(rt: HostRuntime) -> Result<(), Fail> {
+fn files_in_memory_fail_at_the_named_reads_and_writes_alone(rt: HostRuntime) -> Result<(), Fail> {
     let alloc = rt.alloc();
     let mut files = MemFiles::new(alloc, vec![in alloc; 2, 5]?);
     files.add("a", b"abc")?;
@@ -71,7 +83,9 @@ fn files_in_memory_fail_at_the_named_calls_alone(rt: HostRuntime) -> Result<(), 
 }
 
 #[test]
-fn a_sink_in_memory_fails_at_the_named_puts_alone(rt: HostRuntime) -> Result<(), Fail> {
+fn a_sink_in_memory_keeps_each_piece_and_fails_at_the_named_puts_alone(
+    rt: HostRuntime,
+) -> Result<(), Fail> {
     let alloc = rt.alloc();
     let mut sink = MemSink::new(alloc, vec![in alloc; 2]?);
     assert!(rt; puts(&mut sink, alloc, b"ab", Ok(())), "1");
@@ -81,6 +95,7 @@ fn a_sink_in_memory_fails_at_the_named_puts_alone(rt: HostRuntime) -> Result<(),
     );
     assert!(rt; puts(&mut sink, alloc, b"ef", Ok(())), "3");
     assert!(rt; sink.bytes() == b"abef".as_slice());
+    assert!(rt; are_pieces(sink.pieces(), &[b"ab", b"ef"]));
     Ok(())
 }
 
@@ -99,6 +114,7 @@ fn sure_files_and_a_sure_sink_hold_what_they_were_given(rt: HostRuntime) -> Resu
     let mut sink = SureSink::new(alloc);
     assert!(rt; puts(&mut sink, alloc, b"ab", Ok(())));
     assert!(rt; sink.bytes() == b"ab".as_slice());
+    assert!(rt; are_pieces(sink.pieces(), &[b"ab"]));
     Ok(())
 }
 
@@ -166,55 +182,119 @@ fn a_read_that_breaks_off_fails(rt: HostRuntime) {
     }
 }
 
-// A file that isn't there yet, nor its folder.
-fn expect_a_file(rt: &impl Abort, files: &mut impl Files, alloc: Global, name: &str, long: &[u8]) {
-    assert!(rt;
-        reads(files, alloc, name, 9, Err(FileFail::Failed)),
-        "missing"
-    );
-    assert!(rt;
-        writes(files, alloc, name, long, Ok(())),
-        "with its folders"
-    );
-    assert!(rt;
-        reads(files, alloc, name, 10_000, Ok(long)),
-        "the whole file"
-    );
-    assert!(rt;
-        reads(files, alloc, name, 9_999, Err(FileFail::TooLong)),
-        "limit + 1 bytes"
-    );
-    assert!(rt; writes(files, alloc, name, b"ab", Ok(())), "in its place");
-    assert!(rt;
-        reads(files, alloc, name, 9_999, Ok(b"ab")),
-        "nothing is left of it"
-    );
-}
-
-// A name under which there can't be a file.
-fn expect_faults(rt: &impl Abort, files: &mut impl Files, alloc: Global, name: &str) {
-    assert!(rt;
-        reads(files, alloc, name, 9, Err(FileFail::Failed)),
-        "{name:?}"
-    );
-    assert!(rt;
-        writes(files, alloc, name, b"ab", Err(WriteFail::Failed)),
-        "{name:?}"
-    );
+// A folder for one test, which isn't there yet.
+fn test_folder(rt: HostRuntime, test: &str) -> Result<PathBuf, Fail> {
+    let alloc = rt.alloc();
+    let own = format!(in alloc; "fm_files_{test}_{}", process::id(rt.process()))?;
+    Ok(env::temp_dir(&rt)?.join(alloc, own.as_str())?)
 }
 
 #[test]
-fn a_folder_of_the_system_is_read_and_written(rt: HostRuntime) -> Result<(), Fail> {
+fn a_file_is_made_with_its_folders_and_replaced_whole(rt: HostRuntime) -> Result<(), Fail> {
     let alloc = rt.alloc();
-    let own = format!(in alloc; "fm_files_test_{}", process::id(rt.process()))?;
-    let top = env::temp_dir(&rt)?.join(alloc, own.as_str())?;
-    let file = top.join(alloc, "made/on/the/way/Main.class")?;
+    let top = test_folder(rt, "replaced")?;
+    let path = top.join(alloc, "made/on/the/way/Main.class")?;
+    let name = path.as_str();
     let long = vec![in alloc; 7; 10_000]?;
     let mut files = FolderFiles::new(rt, alloc);
-    expect_a_file(&rt, &mut files, alloc, file.as_str(), &long);
-    expect_faults(&rt, &mut files, alloc, top.as_str());
-    expect_faults(&rt, &mut files, alloc, "");
-    expect_faults(&rt, &mut files, alloc, "a\0b");
+    assert!(rt;
+        reads(&mut files, alloc, name, 9, Err(FileFail::Failed)),
+        "missing"
+    );
+    assert!(rt;
+        writes(&mut files, alloc, name, &long, Ok(())),
+        "with its folders"
+    );
+    assert!(rt;
+        reads(&mut files, alloc, name, 10_000, Ok(&long)),
+        "the whole file"
+    );
+    assert!(rt;
+        reads(&mut files, alloc, name, 9_999, Err(FileFail::TooLong)),
+        "limit + 1 bytes"
+    );
+    assert!(rt;
+        writes(&mut files, alloc, name, b"ab", Ok(())),
+        "in its place"
+    );
+    assert!(rt;
+        reads(&mut files, alloc, name, 9_999, Ok(b"ab")),
+        "nothing is left of it"
+    );
+    fs::remove_dir_all(&rt, top.as_path())?;
+    Ok(())
+}
+
+// Under these names there can't be a file.
+#[test]
+fn a_name_that_the_system_refuses_is_a_fault(rt: HostRuntime) -> Result<(), Fail> {
+    let alloc = rt.alloc();
+    let top = test_folder(rt, "refused")?;
+    fs::create_dir_all(&rt, top.as_path())?;
+    let mut files = FolderFiles::new(rt, alloc);
+    for name in [top.as_str(), "", "a\0b", "/dev/null/Main.class"] {
+        assert!(rt;
+            reads(&mut files, alloc, name, 9, Err(FileFail::Failed)),
+            "{name:?}"
+        );
+        assert!(rt;
+            writes(&mut files, alloc, name, b"ab", Err(WriteFail::Failed)),
+            "{name:?}"
+        );
+    }
+    fs::remove_dir_all(&rt, top.as_path())?;
+    Ok(())
+}
+
+// How many files and folders the folder holds.
+fn count_in(rt: HostRuntime, folder: Path<'_>) -> io::Result<usize> {
+    let mut count = 0usize;
+    for entry in fs::read_dir(&rt, folder)? {
+        entry?;
+        count = count.saturating_add(1);
+    }
+    Ok(count)
+}
+
+#[test]
+fn a_write_that_fails_leaves_the_old_file_and_no_other(rt: HostRuntime) -> Result<(), Fail> {
+    let alloc = rt.alloc();
+    let top = test_folder(rt, "failed")?;
+    let folder = top.join(alloc, "folder")?;
+    let path = top.join(alloc, "Main.class")?;
+    let name = path.as_str();
+    let other = top.join(alloc, "0.unfinished")?;
+    fs::create_dir_all(&rt, folder.as_path())?;
+    fs::write(&rt, path.as_path(), "old")?;
+    fs::write(&rt, other.as_path(), "other")?;
+    let mut files = FolderFiles::new(FullDisk { rt, room: 5 }, alloc);
+    assert!(rt;
+        writes(&mut files, alloc, name, b"abcdef", Err(WriteFail::Failed)),
+        "half way"
+    );
+    assert!(rt;
+        reads(&mut files, alloc, name, 9, Ok(b"old")),
+        "what was there"
+    );
+    let taken = folder.as_str();
+    assert!(rt;
+        writes(&mut files, alloc, taken, b"ab", Err(WriteFail::Failed)),
+        "a folder"
+    );
+    assert!(rt; count_in(rt, top.as_path())? == 3, "no new file");
+    assert!(rt;
+        writes(&mut files, alloc, name, b"abcde", Ok(())),
+        "as much as has room"
+    );
+    assert!(rt;
+        reads(&mut files, alloc, name, 9, Ok(b"abcde")),
+        "the new bytes"
+    );
+    assert!(rt;
+        reads(&mut files, alloc, other.as_str(), 9, Ok(b"other")),
+        "not touched"
+    );
+    assert!(rt; count_in(rt, top.as_path())? == 3, "no new file");
     fs::remove_dir_all(&rt, top.as_path())?;
     Ok(())
 }

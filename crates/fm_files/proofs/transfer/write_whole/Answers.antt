@@ -1,14 +1,14 @@
 use Rattle.std.proofs.Common.{◌++◌, take, drop}
 use Rattle.std.proofs.KnownBytes.{Appends-trans, Appends-kept}
-use Rattle.fm_files.proofs.AnswerLemmas.{on_err}
-use Rattle.fm_files.proofs.TransferLemmas.{front_done, part_moved, part_moved_slice}
+use Rattle.fm_base.proofs.ResultFacts.{OnErr-anyway}
+use Rattle.fm_files.proofs.TransferLemmas.{prefix_done, part_moved, part_moved_slice}
 use Rattle.fm_files.proofs.transfer.write_whole.Goals as goal
 use Rattle.fm_files.proofs.transfer.write_whole.Goals.{in-Ok, in-Err}
 
 pub returns-then-is_empty-clause-part : goal.returns-then-is_empty-clause-part
 returns-then-is_empty-clause-part g c =
     let (done, split, appended) = c.loop.invariant in
-    on_err c.flush.result (front_done _ _ _ done _ split (Appends-kept _ _ _ done appended c.flush.ensures.bytes))
+    OnErr-anyway c.flush.result (prefix_done _ _ _ done _ split (Appends-kept _ _ _ done appended c.flush.ensures.bytes))
 
 pub returns-in-Ok-eq0-clause-part : goal.returns-in-Ok-eq0-clause-part
 returns-in-Ok-eq0-clause-part g c =
@@ -16,12 +16,12 @@ returns-in-Ok-eq0-clause-part g c =
     let rest = c.loop.rest.now in
     let n = c.in-Ok-eq0.field-0 in
     let more = rw c.in-Ok-eq0.is at c.write.ensures.bytes in
-    front_done _ _ _ (done ++ take n rest) (drop n rest) (part_moved _ done rest n split) (Appends-trans _ _ _ done _ appended more)
+    prefix_done _ _ _ (done ++ take n rest) (drop n rest) (part_moved _ done rest n split) (Appends-trans _ _ _ done _ appended more)
 
 pub returns-in-Err-2-clause-part : goal.returns-in-Err-2-clause-part
 returns-in-Err-2-clause-part g c =
     let (done, split, appended) = c.loop.invariant in
-    front_done _ _ _ done _ split (Appends-kept _ _ _ done appended c.in-Err.ensures.bytes)
+    prefix_done _ _ _ done _ split (Appends-kept _ _ _ done appended c.in-Err.ensures.bytes)
 
 pub loop-preserved : goal.loop-preserved
 loop-preserved g c =
@@ -35,4 +35,4 @@ loop-preserved g c =
 pub returns-clause-part : goal.returns-clause-part
 returns-clause-part g c =
     let (done, split, appended) = c.loop.invariant in
-    front_done _ _ _ done _ split appended
+    prefix_done _ _ _ done _ split appended

@@ -1,4 +1,4 @@
--- What was taken so far is what is gone from the front of the bytes.
+-- What was taken so far is what is gone from the head of the bytes.
 use Rattle.std.proofs.Common.{ℕ, ◌≡◌, List, ◌++◌}
 use Rattle.std.specs.Io.KnownBytes.{Appends}
 use Rattle.fm_files.proofs.transfer.write_whole.Given as goal

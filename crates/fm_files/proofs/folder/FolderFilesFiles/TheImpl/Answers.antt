@@ -1,5 +1,5 @@
 use Rattle.std.proofs.Common.{ap, refl, rules}
-use Rattle.fm_files.proofs.AnswerLemmas.{on_any}
+use Rattle.fm_base.proofs.ResultFacts.{IfOk-from_every}
 use Rattle.fm_files.proofs.FolderLemmas.{IsSetAt-after_folder_write}
 use Rattle.fm_files.proofs.TallyLemmas.{IsSetAt-after_read, read_numbers, write_numbers}
 use Rattle.fm_files.proofs.folder.FolderFilesFiles.TheImpl.Goals as goal
@@ -16,7 +16,7 @@ read-tells g c =
       widest_read_within = numbers.widest_read_within;
       within_limit = c.ensures.within_limit;
       seen = numbers.seen;
-      known = on_any c.result (λ _. tt);
+      known = IfOk-from_every c.result (λ _. tt);
       failed = numbers.failed;
       too_long = numbers.too_long;
       too_long_known = λ _. tt;

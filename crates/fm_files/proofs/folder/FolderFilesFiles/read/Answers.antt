@@ -1,10 +1,9 @@
-use Rattle.std.proofs.Common.{is_none, ap, ◌∙◌}
+use Rattle.std.proofs.Common.{◌≡◌, rules, is_none, ap, ◌∙◌}
 use Rattle.std.specs.FinMap.{get}
 use Rattle.fm_files.specs.Tally.{no_tally}
-use Rattle.fm_files.proofs.NameLemmas.{IsSome-insert, kept_and_released}
+use Rattle.fm_files.proofs.NamesLemmas.{IsSome-insert, kept_and_released}
 use Rattle.fm_files.proofs.TallyLemmas.{kept_and_read}
 use Rattle.fm_files.proofs.folder.FolderFilesFiles.read.Goals as goal
-use Rattle.fm_files.proofs.folder.FolderFilesFiles.read.Goals.{in-Ok-1, in-Err-1}
 
 pub replace-requires : goal.replace-requires
 replace-requires g c = rw c.in_ok-is_new.ensures.ok (IsSome-insert _ _ _)
@@ -12,14 +11,11 @@ replace-requires g c = rw c.in_ok-is_new.ensures.ok (IsSome-insert _ _ _)
 pub returns-in-Ok-clause-after : goal.returns-in-Ok-clause-after
 returns-in-Ok-clause-after g c =
     rw (c.replace.ensures, c.in-Ok.ensures.ok, c.tally.ensures, c.in_ok-is_new.ensures.ok, c.self.view_is)
-        (kept_and_read c.args.self.now c.args.name.now c.args.limit c.read_file-answer.result c.in-Ok.ensures.answered)
+    (kept_and_read c.args.self.now c.args.name.now c.args.limit c.read_file-answer.result c.in-Ok.ensures.answered)
 
 pub returns-in-Err-clause-after : goal.returns-in-Err-clause-after
 returns-in-Err-clause-after g c =
     let name = c.args.name.now in
     let new = c.in_ok-is_new.ensures.is_new ∙ ap (λ m. is_none (get m name)) c.self.view_is in
-    let as_before = kept_and_released c.args.self.now name no_tally c.in_ok-is_new.is_new new in
-    elim c.match-answer.branch [
-      | in-Ok-1 w ↦ rw (w.self-is, c.release.ensures, c.in_ok-is_new.ensures.ok, c.self.view_is) as_before
-      | in-Err-1 w ↦ rw (w.self-is, c.release.ensures, c.in_ok-is_new.ensures.ok, c.self.view_is) as_before
-    ]
+    let as_before : c.release.new.self ≡ c.args.self.now = rw (c.release.ensures, c.in_ok-is_new.ensures.ok, c.self.view_is) (kept_and_released c.args.self.now name no_tally c.in_ok-is_new.is_new new) in
+    search (rules, as_before)

@@ -1,7 +1,7 @@
 use Rattle.std.proofs.Common.{is_none, ap, ◌∙◌}
 use Rattle.std.specs.FinMap.{get}
 use Rattle.fm_files.specs.Tally.{no_tally}
-use Rattle.fm_files.proofs.NameLemmas.{IsSome-insert, insert-again, kept_and_released}
+use Rattle.fm_files.proofs.NamesLemmas.{IsSome-insert, insert-again, kept_and_released}
 use Rattle.fm_files.proofs.folder.FolderFilesFiles.write.Goals as goal
 
 pub replace-requires : goal.replace-requires

@@ -1,6 +1,6 @@
 use Rattle.std.proofs.Common.{sym, ap, ◌∙◌}
 use Rattle.std.specs.FinMap.{get}
-use Rattle.fm_files.proofs.NameLemmas.{get-by_bytes}
+use Rattle.fm_files.proofs.NamesLemmas.{get-by_bytes}
 use Rattle.fm_files.proofs.names.NameMap.get.Goals as goal
 
 pub returns : goal.returns

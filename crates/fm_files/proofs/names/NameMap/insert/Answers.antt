@@ -1,4 +1,4 @@
-use Rattle.fm_files.proofs.NameLemmas.{insert-by_bytes}
+use Rattle.fm_files.proofs.NamesLemmas.{insert-by_bytes}
 use Rattle.fm_files.proofs.names.NameMap.insert.Goals as goal
 
 pub returns-clause-ok : goal.returns-clause-ok

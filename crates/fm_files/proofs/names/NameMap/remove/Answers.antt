@@ -1,4 +1,4 @@
-use Rattle.fm_files.proofs.NameLemmas.{remove-by_bytes}
+use Rattle.fm_files.proofs.NamesLemmas.{remove-by_bytes}
 use Rattle.fm_files.proofs.names.NameMap.remove.Goals as goal
 
 pub returns : goal.returns

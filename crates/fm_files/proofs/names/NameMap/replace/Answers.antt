@@ -1,4 +1,4 @@
-use Rattle.fm_files.proofs.NameLemmas.{insert-by_bytes, get-by_bytes}
+use Rattle.fm_files.proofs.NamesLemmas.{insert-by_bytes, get-by_bytes}
 use Rattle.fm_files.proofs.names.NameMap.replace.Goals as goal
 use Rattle.fm_files.proofs.names.NameMap.replace.Goals.{in-Some, in_default}
 

@@ -1,5 +1,6 @@
--- What a map keyed by texts says of the finite map from their bytes.
-use Rattle.std.proofs.Common.{◌≡◌, ◌≢◌, ◌⊎◌, ℕ, Bool, true, false, List, [], ◌∷◌, Option, Some, None, IsSome, is_none, unwrap_or, cond, String, string_bytes, sym, refl, ap, ◌∙◌, inl, inr, ⊎_elim}
+-- Maps from names: what a map keyed by texts says of the finite map from their bytes, and what setting one name
+-- changes.
+use Rattle.std.proofs.Common.{◌≡◌, ◌≢◌, ◌≤◌, ℕ, Bool, true, false, List, [], ◌∷◌, Option, Some, None, IsSome, is_none, unwrap_or, cond, String, string_bytes, sym, refl, ap, ◌∙◌, ⊎_elim}
 use Rattle.std.specs.Ordering.{nat_cmp, is_eq, eq_by_cmp}
 use Rattle.std.specs.Cmp.{eq_by_cmp_equiv}
 use Rattle.std.specs.Cmp.Lexicographic.{slice_cmp, nat_list_cmp_total}
@@ -8,11 +9,12 @@ use Rattle.std.specs.FinMap.{get, insert, remove, find, from_entries, get-from_e
 use Rattle.std.specs.Map.{lookup}
 use Rattle.std.specs.Str.{bytes_eq}
 use Rattle.std.specs.String.{string_cmp}
-use Rattle.std.proofs.lemmas.Bool.{false_from_ne_true}
 use Rattle.std.proofs.lemmas.Slice.Eq.{bytes_eq-Decides}
 use Rattle.std.proofs.lemmas.Map.Text.{is_eq-slice_cmp, btree_map_updates_text}
-use Rattle.fm_files.specs.inner.Entries.{by_bytes}
+use Rattle.fm_base.proofs.TestFacts.{same_or_other, bytes_eq-other}
+use Rattle.fm_files.specs.Files.{Bytes, RisesAt}
 use Rattle.fm_files.specs.Names.{ByName}
+use Rattle.fm_files.specs.inner.Names.{by_bytes}
 
 -- looking a name up among the bytes is looking its text up
 find-by_bytes : {Y V : Type 0} (es : List (String Y × V)) (q : List ℕ) → find (slice_cmp nat_cmp) q (by_bytes es) ≡ lookup (is_at (λ k. slice_cmp nat_cmp q (string_bytes k))) es
@@ -44,14 +46,6 @@ remove-by_bytes k m n u = same_map nat_list_cmp_total (slice_cmp-IsAntisymmetric
     ∙ sym (get-remove nat_list_cmp_total (from_entries (by_bytes m.entries)) k q
     ∙ ap (cond (eq_by_cmp (slice_cmp nat_cmp) q k) None) (get-by_bytes m q)))
 
--- two names are one or they aren't
-pub same_or_other : (q k : List ℕ) → (q ≡ k) ⊎ (q ≢ k)
-same_or_other q k = go (bytes_eq q k) refl
-  where
-    go : (b : Bool) → bytes_eq q k ≡ b → (q ≡ k) ⊎ (q ≢ k)
-    go true e = inl ((bytes_eq-Decides q k).0 e)
-    go false e = inr (λ same. let yes = (bytes_eq-Decides q k).1 same in cc)
-
 -- what was inserted at a name
 pub get-insert_same : {V : Type 0} (m : ByName V) (k : List ℕ) (v : V) → get (insert m k v) k ≡ Some v
 get-insert_same m k v =
@@ -62,7 +56,7 @@ get-insert_same m k v =
 pub get-insert_other : {V : Type 0} (m : ByName V) (k : List ℕ) (v : V) (q : List ℕ) → q ≢ k → get (insert m k v) q ≡ get m q
 get-insert_other m k v q other =
     get-insert nat_list_cmp_total m k v q
-    ∙ ap (λ b. cond b (Some v) (get m q)) (sym (same_test k q) ∙ false_from_ne_true _ (λ same. other (sym ((bytes_eq-Decides k q).0 same))))
+    ∙ ap (λ b. cond b (Some v) (get m q)) (sym (same_test k q) ∙ bytes_eq-other k q (λ same. other (sym same)))
 
 -- a name at which a value was inserted is there
 pub IsSome-insert : {V : Type 0} (m : ByName V) (k : List ℕ) (v : V) → IsSome (get (insert m k v) k)
@@ -78,7 +72,7 @@ get-remove_same m k =
 pub get-remove_other : {V : Type 0} (m : ByName V) (k q : List ℕ) → q ≢ k → get (remove m k) q ≡ get m q
 get-remove_other m k q other =
     get-remove nat_list_cmp_total m k q
-    ∙ ap (λ b. cond b None (get m q)) (sym (same_test k q) ∙ false_from_ne_true _ (λ same. other (sym ((bytes_eq-Decides k q).0 same))))
+    ∙ ap (λ b. cond b None (get m q)) (sym (same_test k q) ∙ bytes_eq-other k q (λ same. other (sym same)))
 
 -- two maps are one where they have the same at a name and at every other name
 same_by_name : {V : Type 0} (m n : ByName V) (k : List ℕ) → get m k ≡ get n k → ((q : List ℕ) → q ≢ k → get m q ≡ get n q) → m ≡ n
@@ -107,3 +101,39 @@ kept_and_released {V} m k d false old = same_by_name _ _ k
     some : (o : Option V) → false ≡ is_none o → Some (unwrap_or o d) ≡ o
     some None e = absurd (cc)
     some (Some v) e = refl
+
+-- ---- a map of which one name was set
+
+-- what a map has at a name, and else a default
+abbrev pub value_of : {V : Type 0} → V → ByName V → Bytes → V
+value_of default map name = unwrap_or (get map name) default
+
+module _ {V : Type 0} (default : V) where
+  -- new has this value at the name, and at every other name what old has
+  pub record IsSetAt (old new : ByName V) (this : Bytes) (value : V) : Type 0 where
+    pub here : value_of default new this ≡ value
+    pub others : (name : Bytes) → name ≢ this → value_of default new name ≡ value_of default old name
+
+  pub IsSetAt-insert : (old : ByName V) (this : Bytes) (value : V) → IsSetAt old (insert old this value) this value
+  IsSetAt-insert old this value = record {
+    here = ap (λ v. unwrap_or v default) (get-insert_same old this value);
+    others = λ name other. ap (λ v. unwrap_or v default) (get-insert_other old this value name other);
+  }
+
+  pub IsSetAt-none : (old : ByName V) (this : Bytes) → IsSetAt old old this (value_of default old this)
+  IsSetAt-none old this = record { here = refl; others = λ name other. refl }
+
+  module _ (f : V → ℕ) (old new : ByName V) (this : Bytes) (value : V) (set : IsSetAt old new this value) where
+    -- a number that is as before at the name is as before everywhere
+    pub kept : f value ≡ f (value_of default old this) → (name : Bytes) → f (value_of default new name) ≡ f (value_of default old name)
+    kept same name =
+        ⊎_elim (λ (is : name ≡ this). ap (λ n. f (value_of default new n)) is ∙ ap f set.here ∙ same ∙ ap (λ n. f (value_of default old n)) (sym is))
+        (λ (other : name ≢ this). ap f (set.others name other))
+        (same_or_other name this)
+
+    -- a number that grew at the name rose there alone
+    pub rises : f (value_of default old this) ≤ f value → RisesAt this (λ name. f (value_of default old name)) (λ name. f (value_of default new name))
+    rises grows = record {
+      never_falls = rw set.here grows;
+      others = λ name other. ap f (set.others name other);
+    }
