@@ -3,7 +3,7 @@ use Rattle.std.proofs.Common.{◌≡◌, ◌≢◌, ℕ, zero, suc, ◌+◌, ◌
 use Rattle.std.proofs.lemmas.Bool.{cases_lt}
 use Rattle.std.proofs.lemmas.Nat.{pow_pos, pow-add, shr-shr, mod-pow-add, and_mask, shr_high, mod_low, field_of, shl_whole, shr_split, mod_below, shr_below, mul-add-lt}
 use Rattle.fm_cells.specs.Sizes.{IsPack}
-use Rattle.fm_cells.specs.Words.{digit, with_digit}
+use Rattle.fm_cells.specs.inner.Words.{digit, with_digit}
 
 less_one : (p q : ℕ) → 0 < p → 0 < q → (p - 1) * q + (q - 1) ≡ p * q - 1
 less_one zero q h k = absurd (omega arith)

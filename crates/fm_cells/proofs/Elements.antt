@@ -51,6 +51,13 @@ put_by-some store cell place element object e = ap (λ o. on_object o (λ x. wit
 pub chained_by-some : (store : Store) (cell to : ℕ) (object : Object) → object_at store cell ≡ Some object → chained_by store cell to ≡ with_object store cell (with_chain object to)
 chained_by-some store cell to object e = ap (λ o. on_object o (λ x. with_object store cell (with_chain x to)) store) e
 
+-- where no cell is held they change nothing
+pub put_by-none : (store : Store) (cell place element : ℕ) → object_at store cell ≡ None → put_by store cell place element ≡ store
+put_by-none store cell place element none = ap (λ o. on_object o (λ x. with_object store cell (with_element x place element)) store) none
+
+pub chained_by-none : (store : Store) (cell to : ℕ) → object_at store cell ≡ None → chained_by store cell to ≡ store
+chained_by-none store cell to none = ap (λ o. on_object o (λ x. with_object store cell (with_chain x to)) store) none
+
 -- a cell that has elements is held
 pub held_of_elements : (store : Store) (cell place : ℕ) → place < length (elements_at store cell) → IsSome (object_at store cell)
 held_of_elements store cell place h = let found = has_object store cell place h in ap is_some found.1

@@ -5,14 +5,14 @@ use Rattle.std.specs.Cmp.{nat_cmp_total}
 use Rattle.std.specs.FinMap as fin
 use Rattle.std.proofs.lemmas.List.{ext_get_or}
 use Rattle.std.proofs.lemmas.List.FromFn.{length-map-range_with_len, get_or-map-range_with_len}
-use Rattle.fm_cells.specs.Objects.{object_size_class}
+use Rattle.fm_cells.specs.Objects.{size_class_of}
 use Rattle.fm_cells.specs.Stores.{Store, object_at, free_cells}
 use Rattle.fm_cells.specs.Soundness.{IsLastReused}
-use Rattle.fm_cells.specs.Tables.{map_of}
-use Rattle.fm_cells.specs.Words.{marked_object}
-use Rattle.fm_cells.specs.Layouts.{linked_cells, free_lists, words_store, IsLinked, Keeps}
+use Rattle.fm_cells.specs.inner.Tables.{map_of}
+use Rattle.fm_cells.specs.inner.Words.{marked_object}
+use Rattle.fm_cells.specs.inner.Layouts.{linked_cells, free_lists, words_store, IsLinked, Keeps}
 use Rattle.fm_cells.proofs.Lists.{apart-nat_eq, same-nat_eq}
-use Rattle.fm_cells.proofs.MapsOf.{get-map_of}
+use Rattle.fm_cells.proofs.Tables.{get-map_of}
 use Rattle.fm_cells.proofs.Tiles.{tile-within}
 
 -- a list that is linked is what a walk from its head finds
@@ -31,7 +31,7 @@ kept-past words marks heads store keeps cell h =
     elim (object_at store cell) as (λ o. object_at store cell ≡ o → marked_object words marks cell ≡ None) [
       | None ↦ λ e. keeps.held cell ∙ e
       | Some object ↦ λ e.
-          let within = tile-within 1 keeps.tiles (store.made_words + 1) cell (object_size_class object) keeps.tiling (keeps.held_tile cell object e) in
+          let within = tile-within 1 keeps.tiles (store.made_words + 1) cell (size_class_of object) keeps.tiling (keeps.held_tile cell object e) in
           absurd (omega (arith, within.0, within.1, within.2, keeps.words_made))
     ] refl
 

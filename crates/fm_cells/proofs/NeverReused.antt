@@ -3,19 +3,19 @@
 use Rattle.std.proofs.Common.{◌≡◌, ℕ, ◌+◌, ◌-◌, ◌^◌, ◌<◌, ◌≤◌, Bool, true, false, ◌∷◌, refl, sym, ap, subst, nat_eq, arith, inl, inr}
 use Rattle.std.specs.Prelude.{Option, Some, slice_set}
 use Rattle.std.proofs.lemmas.Bool.{cases_eq}
-use Rattle.fm_cells.specs.Objects.{Object, IsObject, object_words, object_size_class, request_size_class, Request, IsRequest}
-use Rattle.fm_cells.specs.Stores.{Store, opened, no_lists, object_at, free_cells, words_needed, passes_limit}
+use Rattle.fm_cells.specs.Objects.{Object, size_class_of, request_size_class, Request}
+use Rattle.fm_cells.specs.Stores.{Store, opened, no_lists, object_at, free_cells, passes_limit}
 use Rattle.fm_cells.specs.Changes.{Take, without, made_by, without_object, with_object}
 use Rattle.fm_cells.specs.Choices.{MayReuse}
 use Rattle.fm_cells.specs.Soundness.{IsNeverReused}
 use Rattle.fm_cells.proofs.Held.{within_limit, zero_within_limit, not_held, held_if, nothing_held, held_after, held_before}
-use Rattle.fm_cells.proofs.Laws.{object_at-made_by, object_at-without_object, object_at-with_object}
-use Rattle.fm_cells.proofs.Sound.{IsSound-opened, IsSound-made_by, IsSound-without_object, IsSound-with_object}
+use Rattle.fm_cells.proofs.Changes.{object_at-made_by, object_at-without_object, object_at-with_object}
+use Rattle.fm_cells.proofs.Soundness.{IsOrderly-opened, IsOrderly-made_by, IsOrderly-without_object, IsOrderly-with_object}
 
 -- an opened store
 pub IsNeverReused-opened : (budget : ℕ) (limit : Option ℕ) → IsNeverReused (opened budget limit no_lists)
 IsNeverReused-opened budget limit = record {
-  sound = IsSound-opened budget limit no_lists;
+  orderly = IsOrderly-opened budget limit no_lists;
   within = λ cell h. absurd (nothing_held cell h);
   no_lists = refl;
   made_within_limit = zero_within_limit limit;
@@ -26,9 +26,9 @@ pub MayReuse-next : (store : Store) (request : Request) (grows : Bool) → IsNev
 MayReuse-next store request grows never = (omega arith, not_held (object_at store (store.births + 1)) (λ h. absurd (omega (arith, never.within (store.births + 1) h))))
 
 -- a make leads from a store that is never reused to one
-pub IsNeverReused-made_by : (store : Store) (request : Request) → IsNeverReused store → IsRequest request → store.births < 2 ^ 32 - 1 → words_needed store request ≤ store.budget → passes_limit store request ≡ false → IsNeverReused (made_by store request (Take (store.births + 1) true))
-IsNeverReused-made_by store request never asked fits within limit = record {
-  sound = IsSound-made_by store request (store.births + 1) true never.sound asked fits within (MayReuse-next store request true never);
+pub IsNeverReused-made_by : (store : Store) (request : Request) → IsNeverReused store → passes_limit store request ≡ false → IsNeverReused (made_by store request (Take (store.births + 1) true))
+IsNeverReused-made_by store request never limit = record {
+  orderly = IsOrderly-made_by store request (store.births + 1) true never.orderly (MayReuse-next store request true never);
   within = λ q h. elim (cases_eq q (store.births + 1)) as (λ _. q ≤ store.births + 1) [
     | inl e ↦ omega arith
     | inr e ↦ omega (arith, never.within q (held_after q (store.births + 1) _ _ _ (object_at-made_by store request (store.births + 1) true q) h e))
@@ -38,18 +38,18 @@ IsNeverReused-made_by store request never asked fits within limit = record {
 }
 
 -- and so does a free
-pub IsNeverReused-without_object : (store : Store) (cell : ℕ) (object : Object) → IsNeverReused store → object_at store cell ≡ Some object → IsNeverReused (without_object store cell object)
-IsNeverReused-without_object store cell object never held = record {
-  sound = IsSound-without_object store cell object never.sound held;
+pub IsNeverReused-without_object : (store : Store) (cell : ℕ) (object : Object) → IsNeverReused store → IsNeverReused (without_object store cell object)
+IsNeverReused-without_object store cell object never = record {
+  orderly = IsOrderly-without_object store cell object never.orderly;
   within = λ q h. never.within q (held_before (nat_eq q cell) _ _ (object_at-without_object store cell object q) h);
-  no_lists = ap (λ lists. slice_set lists (object_size_class object) (cell ∷ free_cells store (object_size_class object))) never.no_lists;
+  no_lists = ap (λ lists. slice_set lists (size_class_of object) (cell ∷ free_cells store (size_class_of object))) never.no_lists;
   made_within_limit = never.made_within_limit;
 }
 
 -- and a put, or a change of a chain
-pub IsNeverReused-with_object : (store : Store) (cell : ℕ) (old object : Object) → IsNeverReused store → object_at store cell ≡ Some old → IsObject object → object.birth ≡ old.birth → object_words object ≡ object_words old → IsNeverReused (with_object store cell object)
-IsNeverReused-with_object store cell old object never held fits same_birth same_words = record {
-  sound = IsSound-with_object store cell old object never.sound held fits same_birth same_words;
+pub IsNeverReused-with_object : (store : Store) (cell : ℕ) (old object : Object) → IsNeverReused store → object_at store cell ≡ Some old → object.birth ≡ old.birth → IsNeverReused (with_object store cell object)
+IsNeverReused-with_object store cell old object never held same_birth = record {
+  orderly = IsOrderly-with_object store cell old object never.orderly held same_birth;
   within = λ q h. elim (cases_eq q cell) as (λ _. q ≤ store.births) [
     | inl e ↦ subst (λ c. c ≤ store.births) (sym e) (never.within cell (held_if (object_at store cell) old held))
     | inr e ↦ never.within q (held_after q cell _ _ _ (object_at-with_object store cell object q) h e)

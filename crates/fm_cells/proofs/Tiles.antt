@@ -1,7 +1,7 @@
 -- Cells that tile the words: each lies within them, no two share a word, and one more may be added at the end.
 use Rattle.std.proofs.Common.{◌≡◌, ℕ, ◌+◌, ◌≤◌, List, [], ◌∷◌, ◌++◌, refl, sym, ◌∙◌, ap, arith, inl, inr, ◌⊎◌}
 use Rattle.fm_cells.specs.Sizes.{class_words}
-use Rattle.fm_cells.specs.Layouts.{IsTiling, IsTile}
+use Rattle.fm_cells.specs.inner.Layouts.{IsTiling, IsTile}
 
 tiling-le : (from : ℕ) (tiles : List (ℕ × ℕ)) (to : ℕ) → IsTiling from tiles to → from ≤ to
 tiling-le from [] to h = omega arith

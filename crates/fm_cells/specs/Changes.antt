@@ -4,7 +4,7 @@ use Rattle.std.specs.Prelude.{Option, Some, None}
 use Rattle.std.specs.List.{filter}
 use Rattle.std.specs.FinMap as map
 use Rattle.fm_cells.specs.Sizes.{cell_words}
-use Rattle.fm_cells.specs.Objects.{Object, object_size_class, Request, request_words, request_size_class, new_object}
+use Rattle.fm_cells.specs.Objects.{Object, size_class_of, Request, request_words, request_size_class, new_object}
 use Rattle.fm_cells.specs.Stores.{Store, object_at, words_needed, made_count, free_cells}
 
 -- how a request within the word budget is met: an object is made in a cell, for which the made words rise by the words
@@ -47,7 +47,7 @@ abbrev pub without_object : Store → ℕ → Object → Store
 without_object store cell object =
     record store {
       held = map.remove store.held cell;
-      free = slice_set store.free (object_size_class object) (cell ∷ free_cells store (object_size_class object));
+      free = slice_set store.free (size_class_of object) (cell ∷ free_cells store (size_class_of object));
     }
 
 -- the store with another object in a cell

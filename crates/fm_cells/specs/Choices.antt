@@ -1,8 +1,9 @@
--- Which choices a memory may make.
-use Rattle.std.specs.Prelude.{◌≡◌, ℕ, ◌+◌, ◌<◌, Bool, true, false, List, [], ◌∷◌, if◌then◌else◌, IsTrue}
+-- How a memory meets a request: its choice is a function of the store and the request.
+use Rattle.std.specs.Prelude.{◌≡◌, ℕ, ◌+◌, ◌<◌, ◌≤◌, ◌&&◌, Bool, true, false, not, max, nat_lt, is_some, List, [], ◌∷◌, if◌then◌else◌}
 use Rattle.std.specs.Prelude.{None}
-use Rattle.fm_cells.specs.Objects.{Request, request_size_class}
-use Rattle.fm_cells.specs.Stores.{Store, object_at, passes_limit, free_cells}
+use Rattle.std.specs.FinMap as map
+use Rattle.fm_cells.specs.Objects.{Object, Request, request_size_class}
+use Rattle.fm_cells.specs.Stores.{Store, object_at, words_needed, passes_limit, free_cells}
 use Rattle.fm_cells.specs.Changes.{Choice, Take, RefuseStore, made_by}
 
 -- memory that reuses cells in any way: it takes any cell above 0 that isn't held, and refuses only where a new cell
@@ -27,25 +28,31 @@ last_choice_among (cell ∷ _) store request = Take cell false
 abbrev pub last_choice : Store → Request → Choice
 last_choice store request = last_choice_among (free_cells store (request_size_class request)) store request
 
-abbrev pub MayNever : Store → Request → Choice → Type 0
-MayNever store request choice = choice ≡ never_choice store request
+-- the choice takes a cell
+abbrev pub TakesCell : Choice → ℕ → Type 0
+TakesCell choice cell = (grows : Bool) × (choice ≡ Take cell grows)
 
-abbrev pub MayLast : Store → Request → Choice → Type 0
-MayLast store request choice = choice ≡ last_choice store request
+-- the request is within the word budget, and the choice is to refuse it
+abbrev pub IsRefused : (Store → Request → Choice) → Store → Request → Type 0
+IsRefused choose store request =
+    (words_needed store request ≤ store.budget) × (choose store request ≡ RefuseStore)
 
--- the request would need a new cell that passes the store limit, where each cell is new, and where freed cells of the
--- size class come first
-abbrev pub IsFullNever : Store → Request → Type 0
-IsFullNever store request = IsTrue (passes_limit store request)
+-- the greatest of the cells in a list of entries, 0 if there are none
+abbrev pub greatest_cell : List (ℕ × Object) → ℕ
+greatest_cell [] = 0
+greatest_cell (entry ∷ entries) = max entry.0 (greatest_cell entries)
 
-abbrev pub IsFullLast : Store → Request → Type 0
-IsFullLast store request = (free_cells store (request_size_class request) ≡ []) × IsTrue (passes_limit store request)
+-- a cell above all that are held
+abbrev pub cell_above : Store → ℕ
+cell_above store = greatest_cell (map.entries store.held) + 1
 
--- a choice that the memory may make, and so may memory that reuses cells in any way
-abbrev pub Chooses : (Store → Request → Choice → Type 0) → Store → Request → Choice → Type 0
-Chooses may_choose store request choice = may_choose store request choice × MayReuse store request choice
+-- a choice as it is where memory that reuses cells in any way may make it, and else a cell above all that are held
+abbrev pub lawful_choice : Store → Request → Choice → Choice
+lawful_choice store request (Take cell grows) =
+    (if nat_lt 0 cell && not (is_some (object_at store cell)) then Take cell grows else Take (cell_above store) true)
+lawful_choice store request RefuseStore =
+    (if passes_limit store request then RefuseStore else Take (cell_above store) true)
 
--- the request was met in a cell by such a choice
-abbrev pub IsMade : (Store → Request → Choice → Type 0) → Store → Request → ℕ → Store → Type 0
-IsMade may_choose old request cell new =
-    (grows : Bool) × Chooses may_choose old request (Take cell grows) × (new ≡ made_by old request (Take cell grows))
+-- every function of choices, made one of memory that reuses cells in any way
+abbrev pub lawful : (Store → Request → Choice) → (Store → Request → Choice)
+lawful choose store request = lawful_choice store request (choose store request)

@@ -5,9 +5,5 @@ pub mod Changes
 pub mod Choices
 pub mod Soundness
 pub mod Answers
-pub mod Tables
-pub mod SlotObjects
-pub mod Slots
-pub mod Words
-pub mod Layouts
-pub mod WordStores
+pub mod Laws
+pub mod inner

@@ -2,7 +2,7 @@
 use Rattle.std.specs.Prelude.{ℕ, ◌^◌, ◌<◌, Bool, List, length, replicate, refl}
 use Rattle.std.specs.List.{All}
 use Rattle.std.specs.Coded.{Coded, code_by, coded×, coded_ℕ, coded_bool, coded_list}
-use Rattle.fm_cells.specs.Sizes.{IsPack, element_bits, words_of, size_class}
+use Rattle.fm_cells.specs.Sizes.{IsPack, element_bits, packed_words, size_class}
 
 -- an object: the number of its type, how many were made before it, the elements in a word, whether it lives for
 -- ever, the cell that it is chained to (0 for none), and its elements
@@ -25,11 +25,11 @@ object_code =
 
 -- the words of an object
 abbrev pub object_words : Object → ℕ
-object_words object = words_of (length object.elements) object.pack
+object_words object = packed_words (length object.elements) object.pack
 
 -- the size class of an object
-abbrev pub object_size_class : Object → ℕ
-object_size_class object = size_class (object_words object)
+abbrev pub size_class_of : Object → ℕ
+size_class_of object = size_class (object_words object)
 
 -- each number of an object lies in its range
 pub record IsObject (object : Object) : Type 0 where
@@ -52,7 +52,7 @@ request_of class len pack fixed = record { class = class; len = len; pack = pack
 
 -- the words that a request needs
 abbrev pub request_words : Request → ℕ
-request_words request = words_of request.len request.pack
+request_words request = packed_words request.len request.pack
 
 -- the size class of the cell that a request needs
 abbrev pub request_size_class : Request → ℕ

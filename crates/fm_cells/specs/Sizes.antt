@@ -14,8 +14,8 @@ abbrev pub body_words : ℕ → ℕ → ℕ
 body_words len pack = (len + (pack - 1)) / pack
 
 -- the words of an object: two of header, and its body
-abbrev pub words_of : ℕ → ℕ → ℕ
-words_of len pack = 2 + body_words len pack
+abbrev pub packed_words : ℕ → ℕ → ℕ
+packed_words len pack = 2 + body_words len pack
 
 -- the words of a cell of a size class: up to 32 as many as its number says, and then 64, 128, 256 and so on
 abbrev pub class_words : ℕ → ℕ

@@ -5,12 +5,17 @@ use Rattle.std.specs.List.{sum, AllByRecursion, IsDistinct}
 use Rattle.fm_cells.specs.Objects.{Object, IsObject}
 use Rattle.fm_cells.specs.Stores.{Store, opened, object_at, IsHeld, live_words, held_count, made_count, free_cells}
 
--- a store of any memory
-pub record IsSound (store : Store) : Type 0 where
+-- cells and births are in order, whatever the ranges of numbers: null isn't held, each held object was born before now,
+-- and no two have one birth number
+pub record IsOrderly (store : Store) : Type 0 where
   pub null_not_held : object_at store 0 ≡ None
-  pub objects_fit : (cell : ℕ) (object : Object) → object_at store cell ≡ Some object → IsObject object
   pub born : (cell : ℕ) (object : Object) → object_at store cell ≡ Some object → object.birth < store.births
   pub births_apart : (cell other : ℕ) (object second : Object) → object_at store cell ≡ Some object → object_at store other ≡ Some second → object.birth ≡ second.birth → cell ≡ other
+
+-- a store of any memory
+pub record IsSound (store : Store) : Type 0 where
+  pub orderly : IsOrderly store
+  pub objects_fit : (cell : ℕ) (object : Object) → object_at store cell ≡ Some object → IsObject object
   pub live_within_peak : live_words store ≤ store.peak
   pub peak_within_budget : store.peak ≤ store.budget
   pub classes : length store.made ≡ 64
@@ -20,7 +25,7 @@ pub record IsSound (store : Store) : Type 0 where
 
 -- a store of memory that is never reused: its cells are numbered by births
 pub record IsNeverReused (store : Store) : Type 0 where
-  pub sound : IsSound store
+  pub orderly : IsOrderly store
   pub within : (cell : ℕ) → IsHeld store cell → cell ≤ store.births
   pub no_lists : store.free ≡ []
   pub made_within_limit : IfSome store.limit (λ limit. store.made_words ≤ limit)
@@ -36,9 +41,10 @@ SharesNoCell cells others = AllByRecursion (λ cell. AllByRecursion (λ other. n
 -- a store of memory that takes the last freed cell: each freed cell is listed once, and the cells made of a size
 -- class are those that are held and those that are free
 pub record IsLastReused (store : Store) : Type 0 where
-  pub sound : IsSound store
+  pub orderly : IsOrderly store
   pub within : (cell : ℕ) → IsHeld store cell → cell ≤ store.made_words
   pub made_within_limit : IfSome store.limit (λ limit. store.made_words ≤ limit)
+  pub counts : length store.made ≡ 64
   pub lists : length store.free ≡ 64
   pub free_not_held : (size_class : ℕ) → AllByRecursion (IsFree store) (free_cells store size_class)
   pub listed_once : (size_class : ℕ) → IsDistinct nat_eq (free_cells store size_class)

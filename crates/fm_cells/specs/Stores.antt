@@ -8,7 +8,7 @@ use Rattle.std.specs.Ordering.{nat_cmp}
 use Rattle.std.specs.FinMap as map
 use Rattle.std.specs.Coded.{Coded, code_by, coded×, coded_ℕ, coded_list, coded_option}
 use Rattle.fm_cells.specs.Sizes.{cell_words}
-use Rattle.fm_cells.specs.Objects.{Object, object_code, object_words, object_size_class, Request, request_words}
+use Rattle.fm_cells.specs.Objects.{Object, object_code, object_words, size_class_of, Request, request_words}
 
 -- held: the object in each cell that is held
 -- budget, limit: how many words may live, and how many words of cells may be made, where that is limited
@@ -72,7 +72,7 @@ live_words store = sum_by object_words (map.values store.held)
 
 -- how many held objects lie in cells of a size class
 abbrev pub held_count : Store → ℕ → ℕ
-held_count store size_class = count_by (λ object. nat_eq (object_size_class object) size_class) (map.values store.held)
+held_count store size_class = count_by (λ object. nat_eq (size_class_of object) size_class) (map.values store.held)
 
 -- how many cells of a size class were made
 abbrev pub made_count : Store → ℕ → ℕ

@@ -2,7 +2,7 @@
 
 ghost use Rattle.std.specs.Prelude.{◌≡◌, ℕ, ◌≢◌, ◌+◌, ◌-◌, ◌/◌, ◌%◌, ◌^◌, ◌<◌, ◌≤◌, length, slice_index, slice_set};
 ghost use Rattle.fm_cells.specs.Sizes.{IsPack, element_bits};
-ghost use Rattle.fm_cells.specs.Words as spec;
+ghost use Rattle.fm_cells.specs.inner.Words as spec;
 
 use crate::digits::{digit, with_digit};
 

@@ -1,7 +1,7 @@
 // Groups of bits of a word, the lowest first.
 
 ghost use Rattle.std.specs.Prelude.{◌≡◌, ◌+◌, ◌*◌, ◌^◌, ◌<◌, ◌≤◌};
-ghost use Rattle.fm_cells.specs.Words as spec;
+ghost use Rattle.fm_cells.specs.inner.Words as spec;
 
 /// The group of so many bits at a place of a word. Takes no memory.
 pub fn digit(word: u64, bits: u32, place: u32) -> u64

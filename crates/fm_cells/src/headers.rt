@@ -5,7 +5,7 @@
 
 ghost use Rattle.std.specs.Prelude.{◌≡◌, ◌^◌, ◌<◌};
 ghost use Rattle.fm_cells.specs.Sizes.{IsPack};
-ghost use Rattle.fm_cells.specs.Words as spec;
+ghost use Rattle.fm_cells.specs.inner.Words as spec;
 
 /// The exponent of a pack, which is a power of two.
 fn exponent(pack: u8) -> u64
@@ -25,9 +25,9 @@ fn exponent(pack: u8) -> u64
 pub fn identity_word(class: u32, birth: u32, pack: u8, fixed: bool) -> u64
     requires class_fits { class < 2 ^ 28 }
     requires pack_is { IsPack pack }
-    ensures class { spec.class_of result ≡ class }
-    ensures birth { spec.birth_of result ≡ birth }
-    ensures pack { spec.pack_of result ≡ pack }
+    ensures class { spec.class_in result ≡ class }
+    ensures birth { spec.birth_in result ≡ birth }
+    ensures pack { spec.pack_in result ≡ pack }
     ensures fixed { spec.is_fixed result ≡ fixed }
 {
     let kind = (fixed as u64) << 2 | exponent(pack);
@@ -43,22 +43,22 @@ pub fn extent_word(len: u32, chain: u32) -> u64
 }
 
 /// The number of the type in the first header word.
-pub fn class_of(identity: u64) -> u32
-    ensures { result ≡ spec.class_of identity }
+pub fn class_in(identity: u64) -> u32
+    ensures { result ≡ spec.class_in identity }
 {
     (identity & 0xfff_ffff) as u32
 }
 
 /// The birth number in the first header word.
-pub fn birth_of(identity: u64) -> u32
-    ensures { result ≡ spec.birth_of identity }
+pub fn birth_in(identity: u64) -> u32
+    ensures { result ≡ spec.birth_in identity }
 {
     (identity >> 28 & 0xffff_ffff) as u32
 }
 
 /// The pack in the first header word.
-pub fn pack_of(identity: u64) -> u8
-    ensures value { result ≡ spec.pack_of identity }
+pub fn pack_in(identity: u64) -> u8
+    ensures value { result ≡ spec.pack_in identity }
     ensures pack { IsPack result }
 {
     1 << (identity >> 60 & 3)
@@ -72,15 +72,15 @@ pub fn is_fixed(identity: u64) -> bool
 }
 
 /// The number of elements in the second header word.
-pub fn len_of(extent: u64) -> u32
-    ensures { result ≡ spec.len_of extent }
+pub fn len_in(extent: u64) -> u32
+    ensures { result ≡ spec.len_in extent }
 {
     (extent & 0x7fff_ffff) as u32
 }
 
 /// The chain in the second header word.
-pub fn chain_of(extent: u64) -> u32
-    ensures { result ≡ spec.chain_of extent }
+pub fn chain_in(extent: u64) -> u32
+    ensures { result ≡ spec.chain_in extent }
 {
     (extent >> 31 & 0xffff_ffff) as u32
 }

@@ -11,6 +11,7 @@ mod answers;
 mod bodies;
 mod digits;
 mod headers;
+mod laws;
 mod marks;
 mod memories;
 mod plain_cells;
@@ -20,6 +21,7 @@ mod tests;
 mod word_cells;
 
 pub use answers::{Cell, Freed, Head, MakeFail, NotHeld};
+pub use laws::{law_last_reused, law_lawful, law_never_reused, law_orderly};
 pub use memories::Memory;
 pub use plain_cells::PlainCells;
 pub use sizes::{cell_words, size_class};

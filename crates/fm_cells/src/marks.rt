@@ -1,7 +1,7 @@
 // One bit for each word of memory, 64 in a word: those at which held cells begin are set.
 
 ghost use Rattle.std.specs.Prelude.{◌≡◌, ◌+◌, ◌*◌, ◌/◌, ◌%◌, ◌<◌, ◌≤◌, ◌↔◌, ℕ, length, slice_index, slice_set, IsTrue, OnOk};
-ghost use Rattle.fm_cells.specs.Words as spec;
+ghost use Rattle.fm_cells.specs.inner.Words as spec;
 
 use crate::digits::{digit, with_digit};
 use std::alloc::AllocError;

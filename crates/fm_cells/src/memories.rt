@@ -3,13 +3,14 @@
 // A memory is seen as a store: the map from held cells to objects, with the numbers beside it. Code that
 // is generic over `Memory` is proved once for every memory.
 
-ghost use Rattle.std.specs.Prelude.{◌≡◌, ℕ, ◌+◌, ◌-◌, ◌^◌, ◌<◌, ◌≤◌, ◌↔◌, ◌≢◌, length, slice_index, IfOk, OnErr, sum};
+ghost use Rattle.std.specs.Prelude.{◌≡◌, ◌-◌, ◌^◌, ◌<◌, ◌↔◌, length, slice_index, IfOk, OnOk, OnErr};
 ghost use Rattle.fm_cells.specs.Sizes.{IsPack, element_bits};
 ghost use Rattle.fm_cells.specs.Objects.{Request, request_of};
 ghost use Rattle.fm_cells.specs.Stores as spec;
-ghost use Rattle.fm_cells.specs.Stores.{Store, IsHeld, IsOverBudget, elements_at, pack_at, opened};
-ghost use Rattle.fm_cells.specs.Changes.{Choice, RefuseStore, freed_by, put_by, chained_by};
-ghost use Rattle.fm_cells.specs.Choices.{Chooses, IsMade};
+ghost use Rattle.fm_cells.specs.Stores.{Store, IsHeld, IsOverBudget, elements_at, pack_at};
+ghost use Rattle.fm_cells.specs.Changes.{Choice, made_by, freed_by, put_by, chained_by};
+ghost use Rattle.fm_cells.specs.Choices.{MayReuse, TakesCell, IsRefused};
+ghost use Rattle.fm_cells.specs.Soundness.{IsSound};
 ghost use Rattle.fm_cells.specs.Answers.{head_at, free_answer};
 
 use crate::answers::{Cell, Freed, Head, MakeFail, NotHeld};
@@ -18,19 +19,38 @@ use crate::answers::{Cell, Freed, Head, MakeFail, NotHeld};
 pub trait Memory {
     ghost store: { Self → Store };
 
-    ghost may_choose: { Store → Request → Choice → Type 0 };
+    ghost choose: { Store → Request → Choice };
 
     /// Makes an object of `len` elements that are 0, with the next birth number and the chain 0, and
-    /// answers its cell, which isn't null and wasn't held. A refusal changes nothing.
+    /// answers its cell, which isn't null and wasn't held. `choose` says in which cell it is made, or
+    /// that the store is full. A refusal changes nothing.
     fn make(&mut self, class: u32, len: u32, pack: u8, fixed: bool) -> Result<Cell, MakeFail>
         requires class_fits { class < 2 ^ 28 }
         requires len_fits { len < 2 ^ 31 }
         requires pack_is { IsPack pack }
         requires birth_fits { (store self.old).births < 2 ^ 32 - 1 }
-        ensures made { IfOk result (λ cell. IsMade may_choose (store self.old) (request_of class len pack fixed) cell.0 (store self.new)) }
-        ensures budget { (result ≡ Err MakeFail.Budget) ↔ IsOverBudget (store self.old) (request_of class len pack fixed) }
-        ensures full { result ≡ Err MakeFail.Store → Chooses may_choose (store self.old) (request_of class len pack fixed) RefuseStore }
-        ensures refused { OnErr result (store self.new ≡ store self.old) };
+        ensures taken {
+          let request = request_of class len pack fixed in
+          IfOk result (λ cell. TakesCell (choose (store self.old) request) cell.0)
+        }
+        ensures made {
+          let request = request_of class len pack fixed in
+          let choice = choose (store self.old) request in
+          OnOk result (store self.new ≡ made_by (store self.old) request choice)
+        }
+        ensures budget {
+          let request = request_of class len pack fixed in
+          (result ≡ Err MakeFail.Budget) ↔ IsOverBudget (store self.old) request
+        }
+        ensures full {
+          let request = request_of class len pack fixed in
+          (result ≡ Err MakeFail.Store) ↔ IsRefused choose (store self.old) request
+        }
+        ensures refused { OnErr result (store self.new ≡ store self.old) }
+        ensures may_reuse {
+          let request = request_of class len pack fixed in
+          MayReuse (store self.old) request (choose (store self.old) request)
+        };
 
     /// Frees the object in a cell. Null and fixed objects are skipped. Takes no memory.
     fn free(&mut self, cell: Cell) -> Result<Freed, NotHeld>
@@ -75,11 +95,11 @@ pub trait Memory {
     fn peak_words(&self) -> u64
         ensures { result ≡ (store self.now).peak };
 
-    /// How many objects were made so far. Where there are none, the store is as it was opened.
+    /// How many objects were made so far. The store is sound, as each store of a memory is.
     /// Takes no memory.
     fn births(&self) -> u64
         ensures value { result ≡ (store self.now).births }
-        ensures untouched { result ≡ 0 → store self.now ≡ opened (store self.now).budget (store self.now).limit (store self.now).free };
+        ensures sound { IsSound (store self.now) };
 
     /// The words of all cells made so far. Takes no memory.
     fn made_words(&self) -> u64
@@ -88,6 +108,5 @@ pub trait Memory {
     /// How many cells of a size class were made so far; 0 for a number that is no size class.
     /// Takes no memory.
     fn made(&self, size_class: u8) -> u64
-        ensures value { result ≡ spec.made_count (store self.now) size_class }
-        ensures within_births { sum (store self.now).made ≤ (store self.now).births };
+        ensures { result ≡ spec.made_count (store self.now) size_class };
 }

@@ -1,13 +1,10 @@
 // A memory whose cells are never reused: a list of optional objects.
 
-ghost use Rattle.std.specs.Prelude.{◌≡◌, ◌-◌, ◌^◌, ◌<◌, ◌≤◌, ◌↔◌, IfOk, OnErr, Err, Some, replicate};
+ghost use Rattle.std.specs.Prelude.{◌≡◌, ◌-◌, ◌^◌, ◌≤◌, IfOk, Some, replicate};
 ghost use Rattle.std.specs.Option.{option_map, option_copied};
-ghost use Rattle.fm_cells.specs.SlotObjects.{slot_object, object_in};
-ghost use Rattle.fm_cells.specs.Sizes.{IsPack};
-ghost use Rattle.fm_cells.specs.Objects.{request_of};
+ghost use Rattle.fm_cells.specs.inner.Residents.{resident_object, object_in};
 ghost use Rattle.fm_cells.specs.Stores as spec;
-ghost use Rattle.fm_cells.specs.Changes.{RefuseStore};
-ghost use Rattle.fm_cells.specs.Choices.{MayNever, Chooses, IsFullNever, IsMade};
+ghost use Rattle.fm_cells.specs.Choices.{never_choice};
 
 use crate::answers::{Cell, Freed, Head, MakeFail, NotHeld};
 use crate::memories::Memory;
@@ -15,9 +12,9 @@ use crate::sizes::{cell_words, object_words, size_class};
 use std::alloc::{AllocError, Global};
 use std::marker::Model;
 
-/// An object in its cell.
+/// An object that lives in a cell.
 #[derive(Drop)]
-struct Slot {
+struct Resident {
     class: u32,
     birth: u32,
     pack: u8,
@@ -30,7 +27,7 @@ struct Slot {
 #[derive(Drop)]
 pub struct PlainCells {
     alloc: Global,
-    slots: Vec<Option<Slot>>,
+    residents: Vec<Option<Resident>>,
     budget: u64,
     limit: u64,
     live: u64,
@@ -46,7 +43,7 @@ impl Model for PlainCells {
 
     ghost coded = { store_code };
 
-    ghost use Rattle.fm_cells.specs.Slots.{plain_store, IsPlain};
+    ghost use Rattle.fm_cells.specs.inner.PlainStores.{plain_store, IsPlain};
 
     ghost view = { plain_store };
 
@@ -61,7 +58,7 @@ impl PlainCells {
     {
         PlainCells {
             alloc,
-            slots: Vec::new(alloc),
+            residents: Vec::new(alloc),
             budget,
             limit: store,
             live: 0,
@@ -81,15 +78,15 @@ fn zeros(alloc: Global, len: u32) -> Result<Vec<u64>, AllocError>
     Ok(elements)
 }
 
-/// The slot of a cell, if the cell is held.
-fn slot_of(slots: &[Option<Slot>], cell: Cell) -> Option<&Slot>
-    ensures { option_map slot_object (option_copied result) ≡ object_in slots.now cell.0 }
+/// What lives in a cell, if the cell is held.
+fn resident_at(residents: &[Option<Resident>], cell: Cell) -> Option<&Resident>
+    ensures { option_map resident_object (option_copied result) ≡ object_in residents.now cell.0 }
 {
     if cell.0 == 0 {
         return None;
     }
-    match slots.get(cell.0 as usize - 1) {
-        Some(Some(slot)) => Some(slot),
+    match residents.get(cell.0 as usize - 1) {
+        Some(Some(resident)) => Some(resident),
         _ => None,
     }
 }
@@ -97,21 +94,9 @@ fn slot_of(slots: &[Option<Slot>], cell: Cell) -> Option<&Slot>
 impl Memory for PlainCells {
     ghost store = { λ s. s };
 
-    ghost may_choose = { MayNever };
+    ghost choose = { never_choice };
 
-    fn make(&mut self, class: u32, len: u32, pack: u8, fixed: bool) -> Result<Cell, MakeFail>
-        requires class_fits { class < 2 ^ 28 }
-        requires len_fits { len < 2 ^ 31 }
-        requires pack_is { IsPack pack }
-        requires birth_fits { self.old.births < 2 ^ 32 - 1 }
-        ensures made { IfOk result (λ cell. IsMade MayNever self.old (request_of class len pack fixed) cell.0 self.new) }
-        ensures budget { (result ≡ Err MakeFail.Budget) ↔ spec.IsOverBudget self.old (request_of class len pack fixed) }
-        ensures full { result ≡ Err MakeFail.Store → Chooses MayNever self.old (request_of class len pack fixed) RefuseStore }
-        ensures refused { OnErr result (self.new ≡ self.old) }
-
-        // The store is full exactly where the words of a new cell would pass its limit.
-        ensures store { (result ≡ Err MakeFail.Store) ↔ ((spec.words_needed self.old (request_of class len pack fixed) ≤ self.old.budget) × IsFullNever self.old (request_of class len pack fixed)) }
-    {
+    fn make(&mut self, class: u32, len: u32, pack: u8, fixed: bool) -> Result<Cell, MakeFail> {
         let words = object_words(len, pack);
         if words as u64 > self.budget - self.live {
             return Err(MakeFail::Budget);
@@ -121,8 +106,8 @@ impl Memory for PlainCells {
             return Err(MakeFail::Store);
         }
         let elements = zeros(self.alloc, len)?;
-        let birth = self.slots.len() as u32;
-        self.slots.push(Some(Slot {
+        let birth = self.residents.len() as u32;
+        self.residents.push(Some(Resident {
             class,
             birth,
             pack,
@@ -138,10 +123,10 @@ impl Memory for PlainCells {
     }
 
     fn free(&mut self, cell: Cell) -> Result<Freed, NotHeld> {
-        let (words, fixed) = match slot_of(self.slots.as_slice(), cell) {
-            Some(slot) => (
-                object_words(slot.elements.len() as u32, slot.pack),
-                slot.fixed,
+        let (words, fixed) = match resident_at(self.residents.as_slice(), cell) {
+            Some(resident) => (
+                object_words(resident.elements.len() as u32, resident.pack),
+                resident.fixed,
             ),
             None if cell.0 == 0 => return Ok(Freed::Skipped),
             None => return Err(NotHeld),
@@ -149,45 +134,45 @@ impl Memory for PlainCells {
         if fixed {
             return Ok(Freed::Skipped);
         }
-        self.slots[cell.0 as usize - 1] = None;
+        self.residents[cell.0 as usize - 1] = None;
         self.live -= words as u64;
         Ok(Freed::Done)
     }
 
     fn head(&self, cell: Cell) -> Option<Head> {
-        let slot = slot_of(self.slots.as_slice(), cell)?;
+        let resident = resident_at(self.residents.as_slice(), cell)?;
         Some(Head {
-            class: slot.class,
-            birth: slot.birth,
-            len: slot.elements.len() as u32,
-            pack: slot.pack,
-            fixed: slot.fixed,
+            class: resident.class,
+            birth: resident.birth,
+            len: resident.elements.len() as u32,
+            pack: resident.pack,
+            fixed: resident.fixed,
         })
     }
 
     fn get(&self, cell: Cell, place: u32) -> u64 {
-        match slot_of(self.slots.as_slice(), cell) {
-            Some(slot) => slot.elements[place as usize],
+        match resident_at(self.residents.as_slice(), cell) {
+            Some(resident) => resident.elements[place as usize],
             None => unreachable!(),
         }
     }
 
     fn put(&mut self, cell: Cell, place: u32, element: u64) {
-        if let Some(slot) = &mut self.slots[cell.0 as usize - 1] {
-            slot.elements[place as usize] = element;
+        if let Some(resident) = &mut self.residents[cell.0 as usize - 1] {
+            resident.elements[place as usize] = element;
         }
     }
 
     fn chain(&self, cell: Cell) -> Cell {
-        match slot_of(self.slots.as_slice(), cell) {
-            Some(slot) => Cell(slot.chain),
+        match resident_at(self.residents.as_slice(), cell) {
+            Some(resident) => Cell(resident.chain),
             None => unreachable!(),
         }
     }
 
     fn set_chain(&mut self, cell: Cell, to: Cell) {
-        if let Some(slot) = &mut self.slots[cell.0 as usize - 1] {
-            slot.chain = to.0;
+        if let Some(resident) = &mut self.residents[cell.0 as usize - 1] {
+            resident.chain = to.0;
         }
     }
 
@@ -204,7 +189,7 @@ impl Memory for PlainCells {
     }
 
     fn births(&self) -> u64 {
-        self.slots.len() as u64
+        self.residents.len() as u64
     }
 
     fn made_words(&self) -> u64 {

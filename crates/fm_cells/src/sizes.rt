@@ -43,7 +43,7 @@ pub fn cell_words(words: u32) -> u64
 pub fn object_words(len: u32, pack: u8) -> u32
     requires len_fits { len < 2 ^ 31 }
     requires pack_is { spec.IsPack pack }
-    ensures { result ≡ spec.words_of len pack }
+    ensures { result ≡ spec.packed_words len pack }
 {
     2 + (len + (pack as u32 - 1)) / pack as u32
 }

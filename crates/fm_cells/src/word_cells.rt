@@ -18,13 +18,13 @@ ghost use Rattle.std.specs.Prelude.{◌≡◌, ◌+◌, ◌-◌, ◌^◌, ◌<�
 ghost use Rattle.fm_cells.specs.Sizes.{IsPack};
 ghost use Rattle.fm_cells.specs.Objects.{request_of, request_size_class};
 ghost use Rattle.fm_cells.specs.Stores as spec;
-ghost use Rattle.fm_cells.specs.Changes.{Take, RefuseStore, made_by};
-ghost use Rattle.fm_cells.specs.Choices.{MayLast, Chooses, IsFullLast, IsMade};
+ghost use Rattle.fm_cells.specs.Changes.{Take, made_by};
+ghost use Rattle.fm_cells.specs.Choices.{MayReuse, TakesCell, IsRefused, last_choice};
 
 use crate::answers::{Cell, Freed, Head, MakeFail, NotHeld};
 use crate::bodies::{element, set_element, write_object};
 use crate::headers::{
-    birth_of, chain_of, class_of, extent_word, identity_word, is_fixed, len_of, pack_of,
+    birth_in, chain_in, class_in, extent_word, identity_word, is_fixed, len_in, pack_in,
 };
 use crate::marks::{is_marked, reserve_marks, set_mark};
 use crate::memories::Memory;
@@ -53,7 +53,7 @@ impl Model for WordCells {
 
     ghost coded = { store_code };
 
-    ghost use Rattle.fm_cells.specs.WordStores.{word_store, IsWords};
+    ghost use Rattle.fm_cells.specs.inner.WordStores.{word_store, IsWords};
 
     ghost view = { word_store };
 
@@ -155,23 +155,41 @@ impl WordCells {
 impl Memory for WordCells {
     ghost store = { λ s. s };
 
-    ghost may_choose = { MayLast };
+    ghost choose = { last_choice };
 
     fn make(&mut self, class: u32, len: u32, pack: u8, fixed: bool) -> Result<Cell, MakeFail>
         requires class_fits { class < 2 ^ 28 }
         requires len_fits { len < 2 ^ 31 }
         requires pack_is { IsPack pack }
         requires birth_fits { self.old.births < 2 ^ 32 - 1 }
-        ensures made { IfOk result (λ cell. IsMade MayLast self.old (request_of class len pack fixed) cell.0 self.new) }
-        ensures budget { (result ≡ Err MakeFail.Budget) ↔ spec.IsOverBudget self.old (request_of class len pack fixed) }
-        ensures full { result ≡ Err MakeFail.Store → Chooses MayLast self.old (request_of class len pack fixed) RefuseStore }
+        ensures taken {
+          let request = request_of class len pack fixed in
+          IfOk result (λ cell. TakesCell (last_choice self.old request) cell.0)
+        }
+        ensures made {
+          let request = request_of class len pack fixed in
+          OnOk result (self.new ≡ made_by self.old request (last_choice self.old request))
+        }
+        ensures budget {
+          let request = request_of class len pack fixed in
+          (result ≡ Err MakeFail.Budget) ↔ spec.IsOverBudget self.old request
+        }
+        ensures full {
+          let request = request_of class len pack fixed in
+          (result ≡ Err MakeFail.Store) ↔ IsRefused last_choice self.old request
+        }
         ensures refused { OnErr result (self.new ≡ self.old) }
-
-        // The store is full exactly where no cell of the size class is free, and the words of a new one would pass its limit.
-        ensures store { (result ≡ Err MakeFail.Store) ↔ ((spec.words_needed self.old (request_of class len pack fixed) ≤ self.old.budget) × IsFullLast self.old (request_of class len pack fixed)) }
+        ensures may_reuse {
+          let request = request_of class len pack fixed in
+          MayReuse self.old request (last_choice self.old request)
+        }
 
         // Of the size class as many cells were made as were held at once; of each other one as many as before.
-        ensures most_held { OnOk result (self.new.made ≡ slice_set self.old.made (request_size_class (request_of class len pack fixed)) (max (spec.made_count self.old (request_size_class (request_of class len pack fixed))) (spec.held_count self.new (request_size_class (request_of class len pack fixed))))) }
+        ensures most_held {
+          let size_class = request_size_class (request_of class len pack fixed) in
+          let most = max (spec.made_count self.old size_class) (spec.held_count self.new size_class) in
+          OnOk result (self.new.made ≡ slice_set self.old.made size_class most)
+        }
     {
         let words = object_words(len, pack);
         if words as u64 > self.budget - self.live {
@@ -199,7 +217,7 @@ impl Memory for WordCells {
         if is_fixed(identity) {
             return Ok(Freed::Skipped);
         }
-        let words = object_words(len_of(self.words[at + 1]), pack_of(identity));
+        let words = object_words(len_in(self.words[at + 1]), pack_in(identity));
         let size = size_class(words) as usize;
         self.words[at] = self.heads[size] as u64;
         self.heads[size] = cell.0;
@@ -215,10 +233,10 @@ impl Memory for WordCells {
         let at = cell.0 as usize;
         let identity = self.words[at];
         Some(Head {
-            class: class_of(identity),
-            birth: birth_of(identity),
-            len: len_of(self.words[at + 1]),
-            pack: pack_of(identity),
+            class: class_in(identity),
+            birth: birth_in(identity),
+            len: len_in(self.words[at + 1]),
+            pack: pack_in(identity),
             fixed: is_fixed(identity),
         })
     }
@@ -228,24 +246,24 @@ impl Memory for WordCells {
         element(
             self.words.as_slice(),
             at + 2,
-            pack_of(self.words[at]),
+            pack_in(self.words[at]),
             place,
         )
     }
 
     fn put(&mut self, cell: Cell, place: u32, element: u64) {
         let at = cell.0 as usize;
-        let pack = pack_of(self.words[at]);
+        let pack = pack_in(self.words[at]);
         set_element(self.words.as_mut_slice(), at + 2, pack, place, element);
     }
 
     fn chain(&self, cell: Cell) -> Cell {
-        Cell(chain_of(self.words[cell.0 as usize + 1]))
+        Cell(chain_in(self.words[cell.0 as usize + 1]))
     }
 
     fn set_chain(&mut self, cell: Cell, to: Cell) {
         let at = cell.0 as usize + 1;
-        self.words[at] = extent_word(len_of(self.words[at]), to.0);
+        self.words[at] = extent_word(len_in(self.words[at]), to.0);
     }
 
     fn budget(&self) -> u64 {

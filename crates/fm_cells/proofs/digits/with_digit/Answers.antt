@@ -1,5 +1,5 @@
 use Rattle.std.proofs.Common.{◌≡◌, ◌+◌, ◌-◌, ◌*◌, ◌%◌, ◌^◌, ap, ◌∙◌, arith}
-use Rattle.fm_cells.specs.Words.{digit}
+use Rattle.fm_cells.specs.inner.Words.{digit}
 use Rattle.fm_cells.proofs.DigitLaws.{shifted-is, digit-lt, with_digit-lt}
 use Rattle.fm_cells.proofs.digits.with_digit.Goals as goal
 

@@ -1,5 +1,5 @@
 use Rattle.std.proofs.Common.{◌-◌, ◌^◌, ◌<◌, arith}
-use Rattle.fm_cells.proofs.CellSizes.{size_class-up_to_32, size_class-power, exponent_below, pow-next}
+use Rattle.fm_cells.proofs.SizeLaws.{size_class-up_to_32, size_class-power, exponent_below, pow-next}
 use Rattle.fm_cells.proofs.sizes.size_class.Goals as goal
 
 pub returns-then-words-le32 : goal.returns-then-words-le32

@@ -2,11 +2,11 @@ use Rattle.std.proofs.Common.{◌≡◌, ◌+◌, ◌/◌, ◌%◌, false, ap, s
 use Rattle.std.specs.Vec.{with_items}
 use Rattle.fm_cells.specs.Changes.{Take, made_by}
 use Rattle.fm_cells.specs.Objects.{request_of, IsRequest}
-use Rattle.fm_cells.specs.WordStores.{word_store, IsWords}
-use Rattle.fm_cells.specs.Words.{with_digit}
+use Rattle.fm_cells.specs.inner.WordStores.{word_store, IsWords}
+use Rattle.fm_cells.specs.inner.Words.{with_digit}
 use Rattle.fm_cells.specs.declared.word_cells.WordCells.TheInside.{Inside}
 use Rattle.fm_cells.proofs.WordMakes.{IsWritten, head_within, head-done, rewritten}
-use Rattle.fm_cells.proofs.WordState.{with_items-all, word-read}
+use Rattle.fm_cells.proofs.WordStores.{with_items-all, word-read}
 use Rattle.fm_cells.proofs.word_cells.WordCells.make_in_freed_cell.Goals as goal
 
 asked_for : (c : goal.After-index-arg-1) → IsRequest (request_of c.args.class c.args.len c.args.pack c.args.fixed)

@@ -5,18 +5,18 @@ use Rattle.std.proofs.lemmas.List.{get_or_past}
 use Rattle.fm_cells.specs.Changes.{Take, made_by}
 use Rattle.fm_cells.specs.Objects.{request_of, Request, IsRequest, request_words}
 use Rattle.fm_cells.specs.Sizes.{class_words, cell_words, size_class}
-use Rattle.fm_cells.specs.WordStores.{word_store, IsWords}
-use Rattle.fm_cells.specs.Words.{with_digit}
+use Rattle.fm_cells.specs.inner.WordStores.{word_store, IsWords}
+use Rattle.fm_cells.specs.inner.Words.{with_digit}
 use Rattle.fm_cells.specs.declared.word_cells.WordCells.TheInside.{Inside}
-use Rattle.fm_cells.proofs.CellSizes.{class_words-mono}
+use Rattle.fm_cells.proofs.SizeLaws.{class_words-mono}
 use Rattle.fm_cells.proofs.Held.{at_error}
-use Rattle.fm_cells.proofs.Sound.{request_size_class-lt}
+use Rattle.fm_cells.proofs.Soundness.{request_size_class-lt}
 use Rattle.fm_cells.proofs.WordMakes.{IsWritten, same-marks, fresh-done, rewritten, next_cell, within-passes, request-fits}
-use Rattle.fm_cells.proofs.WordState.{with_items-all}
+use Rattle.fm_cells.proofs.WordStores.{with_items-all}
 use Rattle.fm_cells.proofs.word_cells.WordCells.make_in_new_cell.Goals as goal
 
 few : (class words : ℕ) (request : Request) → IsRequest request → words ≡ request_words request → class ≡ size_class words → class < 64
-few class words request asked is_words is_class = subst (λ n. n < 64) (sym (is_class ∙ ap size_class is_words)) (request_size_class-lt request asked)
+few class words request asked is_words is_class = subst (λ n. n < 64) (sym (is_class ∙ ap size_class is_words)) (request_size_class-lt request)
 
 pub class_words-requires : goal.class_words-requires
 class_words-requires c =

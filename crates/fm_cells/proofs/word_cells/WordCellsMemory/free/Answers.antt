@@ -3,13 +3,13 @@ use Rattle.std.specs.Vec.{with_item, with_items}
 use Rattle.fm_cells.specs.Changes.{without_object}
 use Rattle.fm_cells.specs.Objects.{object_words}
 use Rattle.fm_cells.specs.Sizes.{size_class}
-use Rattle.fm_cells.specs.Words.{is_fixed, with_digit, object_from}
-use Rattle.fm_cells.specs.WordStores.{word_store, IsWords}
+use Rattle.fm_cells.specs.inner.Words.{is_fixed, with_digit, object_from}
+use Rattle.fm_cells.specs.inner.WordStores.{word_store, IsWords}
 use Rattle.fm_cells.specs.declared.word_cells.WordCells.TheInside.{Inside}
 use Rattle.fm_cells.specs.declared.answers.Freed.TheVariants.{Done, Skipped}
 use Rattle.fm_cells.proofs.Elements.{free_answer-some, freed_by-some}
 use Rattle.fm_cells.proofs.Held.{held_if}
-use Rattle.fm_cells.proofs.WordState.{size_from, class_from, with_items-all, held-found, first_within, second_within, word-read, mark_within, marked-above, size-le-live, free-done}
+use Rattle.fm_cells.proofs.WordStores.{size_from, class_from, with_items-all, held-found, first_within, second_within, word-read, mark_within, marked-above, size-le-live, free-done}
 use Rattle.fm_cells.proofs.word_cells.WordCellsMemory.free.Goals as goal
 
 pub index-identity-requires : goal.index-identity-requires
@@ -41,7 +41,7 @@ index-requires c =
 pub bounds-self-inside-size : goal.bounds-self-inside-size
 bounds-self-inside-size c =
     let held = held-found c.self.inside c.args.self.now c.args.cell.0 _ c.self.view_is c.self.invariant c.as_slice.ensures.value (c.is_marked.ensures.0 c.if-not-is_marked.false) in
-    let size : c.object_words-words.result ≡ object_words (object_from c.self.inside.words.items c.args.cell.0) = size_from c.self.inside c.args.self.now c.args.cell.0 c.index-identity.result.now c.index.result.now c.len_of.result c.pack_of.result c.object_words-words.result c.self.view_is c.self.invariant held c.index-identity.ensures c.index.ensures c.len_of.ensures c.pack_of.ensures.value c.object_words-words.ensures in
+    let size : c.object_words-words.result ≡ object_words (object_from c.self.inside.words.items c.args.cell.0) = size_from c.self.inside c.args.self.now c.args.cell.0 c.index-identity.result.now c.index.result.now c.len_in.result c.pack_in.result c.object_words-words.result c.self.view_is c.self.invariant held c.index-identity.ensures c.index.ensures c.len_in.ensures c.pack_in.ensures.value c.object_words-words.ensures in
     class_from c.self.inside c.args.self.now c.args.cell.0 c.object_words-words.result c.size_class-size.result c.self.view_is c.self.invariant held size c.size_class-size.ensures
 
 pub index_mut-requires : goal.index_mut-requires
@@ -52,7 +52,7 @@ index_mut-requires c =
 pub bounds-self-inside-size-2 : goal.bounds-self-inside-size-2
 bounds-self-inside-size-2 c =
     let held = held-found c.self.inside c.args.self.now c.args.cell.0 _ c.self.view_is c.self.invariant c.as_slice.ensures.value (c.is_marked.ensures.0 c.if-not-is_marked.false) in
-    let size : c.object_words-words.result ≡ object_words (object_from c.self.inside.words.items c.args.cell.0) = size_from c.self.inside c.args.self.now c.args.cell.0 c.index-identity.result.now c.index.result.now c.len_of.result c.pack_of.result c.object_words-words.result c.self.view_is c.self.invariant held c.index-identity.ensures c.index.ensures c.len_of.ensures c.pack_of.ensures.value c.object_words-words.ensures in
+    let size : c.object_words-words.result ≡ object_words (object_from c.self.inside.words.items c.args.cell.0) = size_from c.self.inside c.args.self.now c.args.cell.0 c.index-identity.result.now c.index.result.now c.len_in.result c.pack_in.result c.object_words-words.result c.self.view_is c.self.invariant held c.index-identity.ensures c.index.ensures c.len_in.ensures c.pack_in.ensures.value c.object_words-words.ensures in
     class_from c.self.inside c.args.self.now c.args.cell.0 c.object_words-words.result c.size_class-size.result c.self.view_is c.self.invariant held size c.size_class-size.ensures
 
 pub set_mark-requires-clause-within : goal.set_mark-requires-clause-within
@@ -63,7 +63,7 @@ set_mark-requires-clause-within c =
 pub overflow_sub-self : goal.overflow_sub-self
 overflow_sub-self c =
     let held = held-found c.self.inside c.args.self.now c.args.cell.0 _ c.self.view_is c.self.invariant c.as_slice.ensures.value (c.is_marked.ensures.0 c.if-not-is_marked.false) in
-    let size : c.object_words-words.result ≡ object_words (object_from c.self.inside.words.items c.args.cell.0) = size_from c.self.inside c.args.self.now c.args.cell.0 c.index-identity.result.now c.index.result.now c.len_of.result c.pack_of.result c.object_words-words.result c.self.view_is c.self.invariant held c.index-identity.ensures c.index.ensures c.len_of.ensures c.pack_of.ensures.value c.object_words-words.ensures in
+    let size : c.object_words-words.result ≡ object_words (object_from c.self.inside.words.items c.args.cell.0) = size_from c.self.inside c.args.self.now c.args.cell.0 c.index-identity.result.now c.index.result.now c.len_in.result c.pack_in.result c.object_words-words.result c.self.view_is c.self.invariant held c.index-identity.ensures c.index.ensures c.len_in.ensures c.pack_in.ensures.value c.object_words-words.ensures in
     size-le-live c.self.inside c.args.self.now c.args.cell.0 c.object_words-words.result _ c.self.view_is c.self.invariant held size
 
 -- the fields at the end
@@ -78,7 +78,7 @@ after c = record c.self.inside {
 both : (c : goal.After-self-3-1) → (word_store (after c) ≡ without_object c.args.self.now c.args.cell.0 (object_from c.self.inside.words.items c.args.cell.0)) × IsWords (after c)
 both c =
     let held = held-found c.self.inside c.args.self.now c.args.cell.0 _ c.self.view_is c.self.invariant c.as_slice.ensures.value (c.is_marked.ensures.0 c.if-not-is_marked.false) in
-    let size : c.object_words-words.result ≡ object_words (object_from c.self.inside.words.items c.args.cell.0) = size_from c.self.inside c.args.self.now c.args.cell.0 c.index-identity.result.now c.index.result.now c.len_of.result c.pack_of.result c.object_words-words.result c.self.view_is c.self.invariant held c.index-identity.ensures c.index.ensures c.len_of.ensures c.pack_of.ensures.value c.object_words-words.ensures in
+    let size : c.object_words-words.result ≡ object_words (object_from c.self.inside.words.items c.args.cell.0) = size_from c.self.inside c.args.self.now c.args.cell.0 c.index-identity.result.now c.index.result.now c.len_in.result c.pack_in.result c.object_words-words.result c.self.view_is c.self.invariant held c.index-identity.ensures c.index.ensures c.len_in.ensures c.pack_in.ensures.value c.object_words-words.ensures in
     let bit = with_digit 1 (c.args.cell.0 % 64) 0 (get_or c.self.inside.marks.items (c.args.cell.0 / 64) 0) in
     let marked : c.set_mark.new.marks ≡ set c.self.inside.marks.items (c.args.cell.0 / 64) bit = c.set_mark.ensures ∙ ap (λ all. set all (c.args.cell.0 / 64) (with_digit 1 (c.args.cell.0 % 64) 0 (get_or all (c.args.cell.0 / 64) 0))) c.as_mut_slice.ensures.value in
     let long : length c.set_mark.new.marks ≡ length c.self.inside.marks.items = ap length marked ∙ length-set c.self.inside.marks.items (c.args.cell.0 / 64) bit in

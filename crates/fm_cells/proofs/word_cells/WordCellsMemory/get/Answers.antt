@@ -1,29 +1,29 @@
 use Rattle.std.proofs.Common.{◌≡◌, ◌<◌, ◌+◌, ◌/◌, ap, sym, ◌∙◌, get_or, subst, length}
 use Rattle.fm_cells.specs.Stores.{elements_at}
-use Rattle.fm_cells.specs.Words.{pack_of, element_in}
+use Rattle.fm_cells.specs.inner.Words.{pack_in, element_in}
 use Rattle.fm_cells.proofs.Elements.{held_of_elements, element-fits}
-use Rattle.fm_cells.proofs.WordState.{first_within, word-read, get_within, get_value}
+use Rattle.fm_cells.proofs.WordStores.{first_within, word-read, get_within, get_value}
 use Rattle.fm_cells.proofs.word_cells.WordCellsMemory.get.Goals as goal
 
 pub index-requires : goal.index-requires
 index-requires c = first_within c.self.inside c.args.self.now c.args.cell.0 c.self.view_is c.self.invariant (held_of_elements c.args.self.now c.args.cell.0 c.args.place c.requires)
 
 -- the pack that was read
-pack_is : (c : goal.After-pack_of) → c.pack_of.result ≡ pack_of (get_or c.self.inside.words.items c.args.cell.0 0)
+pack_is : (c : goal.After-pack_in) → c.pack_in.result ≡ pack_in (get_or c.self.inside.words.items c.args.cell.0 0)
 pack_is c =
-    c.pack_of.ensures.value ∙ ap pack_of (word-read c.self.inside.words c.args.cell.0 c.index.result.now (first_within c.self.inside c.args.self.now c.args.cell.0 c.self.view_is c.self.invariant (held_of_elements c.args.self.now c.args.cell.0 c.args.place c.requires)) c.index.ensures)
+    c.pack_in.ensures.value ∙ ap pack_in (word-read c.self.inside.words c.args.cell.0 c.index.result.now (first_within c.self.inside c.args.self.now c.args.cell.0 c.self.view_is c.self.invariant (held_of_elements c.args.self.now c.args.cell.0 c.args.place c.requires)) c.index.ensures)
 
 pub element-requires-clause-within : goal.element-requires-clause-within
 element-requires-clause-within c =
     subst (λ n. n < length c.as_slice.result.now) (ap (λ p. c.args.cell.0 + 2 + c.args.place / p) (sym (pack_is c)))
-    (subst (λ all. c.args.cell.0 + 2 + c.args.place / pack_of (get_or c.self.inside.words.items c.args.cell.0 0) < length all) (sym c.as_slice.ensures.value) (get_within c.self.inside c.args.self.now c.args.cell.0 c.args.place c.self.view_is c.self.invariant c.requires))
+    (subst (λ all. c.args.cell.0 + 2 + c.args.place / pack_in (get_or c.self.inside.words.items c.args.cell.0 0) < length all) (sym c.as_slice.ensures.value) (get_within c.self.inside c.args.self.now c.args.cell.0 c.args.place c.self.view_is c.self.invariant c.requires))
 
 value_is : (c : goal.After-element) → c.element.result ≡ get_or (elements_at c.args.self.now c.args.cell.0) c.args.place 0
 value_is c =
-    let pack : c.pack_of.result ≡ pack_of (get_or c.self.inside.words.items c.args.cell.0 0) =
-    c.pack_of.ensures.value ∙ ap pack_of (word-read c.self.inside.words c.args.cell.0 c.index.result.now (first_within c.self.inside c.args.self.now c.args.cell.0 c.self.view_is c.self.invariant (held_of_elements c.args.self.now c.args.cell.0 c.args.place c.requires)) c.index.ensures) in
+    let pack : c.pack_in.result ≡ pack_in (get_or c.self.inside.words.items c.args.cell.0 0) =
+    c.pack_in.ensures.value ∙ ap pack_in (word-read c.self.inside.words c.args.cell.0 c.index.result.now (first_within c.self.inside c.args.self.now c.args.cell.0 c.self.view_is c.self.invariant (held_of_elements c.args.self.now c.args.cell.0 c.args.place c.requires)) c.index.ensures) in
     c.element.ensures
-    ∙ ap (λ all. element_in all (c.args.cell.0 + 2) c.pack_of.result c.args.place) c.as_slice.ensures.value
+    ∙ ap (λ all. element_in all (c.args.cell.0 + 2) c.pack_in.result c.args.place) c.as_slice.ensures.value
     ∙ ap (λ p. element_in c.self.inside.words.items (c.args.cell.0 + 2) p c.args.place) pack
     ∙ get_value c.self.inside c.args.self.now c.args.cell.0 c.args.place c.self.view_is c.self.invariant c.requires
 
@@ -31,4 +31,4 @@ pub returns-clause-value : goal.returns-clause-value
 returns-clause-value c = value_is c
 
 pub returns-clause-fits : goal.returns-clause-fits
-returns-clause-fits c = element-fits _ c.args.self.now c.args.cell.0 c.args.place c.element.result c.self.view_is c.self.invariant.last_reused.sound c.requires (value_is c)
+returns-clause-fits c = element-fits _ c.args.self.now c.args.cell.0 c.args.place c.element.result c.self.view_is c.self.invariant.sound c.requires (value_is c)

@@ -10,23 +10,30 @@ use Rattle.std.proofs.lemmas.List.Elements.{All-set}
 use Rattle.std.proofs.lemmas.Bool.{cases_eq}
 use Rattle.std.proofs.lemmas.Bool.Decides.{nat_tests}
 use Rattle.std.proofs.lemmas.Nat.{pow_pos}
-use Rattle.fm_cells.specs.Sizes.{IsPack, element_bits, words_of}
-use Rattle.fm_cells.specs.Objects.{Object, IsObject, object_words, object_size_class, Request, IsRequest, request_words, request_size_class, new_object}
+use Rattle.fm_cells.specs.Sizes.{IsPack, element_bits, packed_words}
+use Rattle.fm_cells.specs.Objects.{Object, IsObject, object_words, size_class_of, Request, IsRequest, request_words, request_size_class, new_object}
 use Rattle.fm_cells.specs.Stores.{Store, opened, object_at, made_count, words_needed}
 use Rattle.fm_cells.specs.Changes.{Take, made_by, made_after, without_object, with_object, with_element, with_chain}
 use Rattle.fm_cells.specs.Choices.{MayReuse}
-use Rattle.fm_cells.specs.Soundness.{IsSound}
-use Rattle.fm_cells.proofs.CellSizes.{size_class-lt}
-use Rattle.fm_cells.proofs.Laws.{live_words-opened, object_at-made_by, object_at-without_object, object_at-with_object, live_words-made_by, live_words-without_object, live_words-with_object}
+use Rattle.fm_cells.specs.Soundness.{IsOrderly, IsSound}
+use Rattle.fm_cells.proofs.SizeLaws.{size_class-lt}
+use Rattle.fm_cells.proofs.Changes.{live_words-opened, object_at-made_by, object_at-without_object, object_at-with_object, live_words-made_by, live_words-without_object, live_words-with_object}
 
--- an opened store is sound
+-- an opened store is in order
+pub IsOrderly-opened : (budget : ℕ) (limit : Option ℕ) (free : List (List ℕ)) → IsOrderly (opened budget limit free)
+IsOrderly-opened budget limit free =
+    record {
+      null_not_held = grind (arith, gets, nat_tests);
+      born = λ cell object h. grind (arith, gets, nat_tests);
+      births_apart = λ cell other object second h k e. grind (arith, gets, nat_tests);
+    }
+
+-- and sound
 pub IsSound-opened : (budget : ℕ) (limit : Option ℕ) (free : List (List ℕ)) → IsSound (opened budget limit free)
 IsSound-opened budget limit free =
     record {
-      null_not_held = grind (arith, gets, nat_tests);
+      orderly = IsOrderly-opened budget limit free;
       objects_fit = λ cell object h. grind (arith, gets, nat_tests);
-      born = λ cell object h. grind (arith, gets, nat_tests);
-      births_apart = λ cell other object second h k e. grind (arith, gets, nat_tests);
       live_within_peak = omega (arith, live_words-opened budget limit free);
       peak_within_budget = omega arith;
       classes = refl;
@@ -36,11 +43,11 @@ IsSound-opened budget limit free =
     }
 
 -- the words of an object and of a request are far below those of the largest size class
-pub body_words_bound : (len pack : ℕ) → len < 2 ^ 31 → IsPack pack → words_of len pack ≤ 2 ^ 31 + 1
-body_words_bound len pack h (inl e) = subst (λ p. words_of len p ≤ 2 ^ 31 + 1) (sym e) (omega arith)
-body_words_bound len pack h (inr (inl e)) = subst (λ p. words_of len p ≤ 2 ^ 31 + 1) (sym e) (omega arith)
-body_words_bound len pack h (inr (inr (inl e))) = subst (λ p. words_of len p ≤ 2 ^ 31 + 1) (sym e) (omega arith)
-body_words_bound len pack h (inr (inr (inr e))) = subst (λ p. words_of len p ≤ 2 ^ 31 + 1) (sym e) (omega arith)
+pub body_words_bound : (len pack : ℕ) → len < 2 ^ 31 → IsPack pack → packed_words len pack ≤ 2 ^ 31 + 1
+body_words_bound len pack h (inl e) = subst (λ p. packed_words len p ≤ 2 ^ 31 + 1) (sym e) (omega arith)
+body_words_bound len pack h (inr (inl e)) = subst (λ p. packed_words len p ≤ 2 ^ 31 + 1) (sym e) (omega arith)
+body_words_bound len pack h (inr (inr (inl e))) = subst (λ p. packed_words len p ≤ 2 ^ 31 + 1) (sym e) (omega arith)
+body_words_bound len pack h (inr (inr (inr e))) = subst (λ p. packed_words len p ≤ 2 ^ 31 + 1) (sym e) (omega arith)
 
 pub request_words_bound : (request : Request) → IsRequest request → request_words request ≤ 2 ^ 31 + 1
 request_words_bound request h = body_words_bound request.len request.pack h.len_fits h.pack_is
@@ -49,11 +56,11 @@ pub object_words_bound : (object : Object) → IsObject object → object_words 
 object_words_bound object h = body_words_bound (length object.elements) object.pack h.length_fits h.pack_is
 
 -- their size classes are among the 64
-pub request_size_class-lt : (request : Request) → IsRequest request → request_size_class request < 64
-request_size_class-lt request h = size_class-lt (request_words request) (omega (arith, request_words_bound request h))
+pub request_size_class-lt : (request : Request) → request_size_class request < 64
+request_size_class-lt request = size_class-lt (request_words request)
 
-pub object_size_class-lt : (object : Object) → IsObject object → object_size_class object < 64
-object_size_class-lt object h = size_class-lt (object_words object) (omega (arith, object_words_bound object h))
+pub size_class_of-lt : (object : Object) → size_class_of object < 64
+size_class_of-lt object = size_class-lt (object_words object)
 
 -- the object that is made lies in its ranges
 pub IsObject-new_object : (birth : ℕ) (request : Request) → birth < 2 ^ 32 → IsRequest request → IsObject (new_object birth request)
@@ -84,8 +91,8 @@ kept_object true before after object e h = absurd (none-some object (sym e ∙ h
 kept_object false before after object e h = sym e ∙ h
 
 -- births stay apart where the changed object's birth is no other's
-apart_after : (store next : Store) (cell : ℕ) (changed : Object) → ((q : ℕ) → object_at next q ≡ cond (nat_eq q cell) (Some changed) (object_at store q)) → IsSound store → ((other : ℕ) (second : Object) → object_at store other ≡ Some second → changed.birth ≡ second.birth → cell ≡ other) → (q other : ℕ) (object second : Object) → object_at next q ≡ Some object → object_at next other ≡ Some second → object.birth ≡ second.birth → q ≡ other
-apart_after store next cell changed at sound fresh q other object second h k e =
+apart_after : (store next : Store) (cell : ℕ) (changed : Object) → ((q : ℕ) → object_at next q ≡ cond (nat_eq q cell) (Some changed) (object_at store q)) → IsOrderly store → ((other : ℕ) (second : Object) → object_at store other ≡ Some second → changed.birth ≡ second.birth → cell ≡ other) → (q other : ℕ) (object second : Object) → object_at next q ≡ Some object → object_at next other ≡ Some second → object.birth ≡ second.birth → q ≡ other
+apart_after store next cell changed at orderly fresh q other object second h k e =
     elim (cases_eq q cell) as (λ _. q ≡ other) [
       | inl p ↦ elim (cases_eq other cell) as (λ _. q ≡ other) [
         | inl r ↦ p ∙ sym r
@@ -104,12 +111,12 @@ apart_after store next cell changed at sound fresh q other object second h k e =
                 sym (fresh q object old (ap (λ o. o.birth) same ∙ sym e)) ∙ sym r
             | inr r ↦
                 let older : object_at store other ≡ Some second = grind (arith, nat_tests, at other) in
-                sound.births_apart q other object second old older e
+                orderly.births_apart q other object second old older e
           ]
     ]
 
 -- the counts after a choice are those of 64 classes, and rise by no more than one
-made_after-length : (store : Store) (request : Request) (grows : Bool) → length (made_after store request grows) ≡ length store.made
+pub made_after-length : (store : Store) (request : Request) (grows : Bool) → length (made_after store request grows) ≡ length store.made
 made_after-length store request true = length-set store.made (request_size_class request) (made_count store (request_size_class request) + 1)
 made_after-length store request false = refl
 
@@ -117,17 +124,26 @@ made_after-sum : (store : Store) (request : Request) (grows : Bool) → request_
 made_after-sum store request true h = omega (arith, sum-one_more store.made (request_size_class request) h)
 made_after-sum store request false h = omega arith
 
--- a make leads from a sound store to a sound store
+-- a make leads from a store in order to one
+pub IsOrderly-made_by : (store : Store) (request : Request) (cell : ℕ) (grows : Bool) → IsOrderly store → MayReuse store request (Take cell grows) → IsOrderly (made_by store request (Take cell grows))
+IsOrderly-made_by store request cell grows orderly may =
+    let at = object_at-made_by store request cell grows in
+    let made = new_object store.births request in
+    record {
+      null_not_held = grind (arith, nat_tests, at 0, orderly.null_not_held, may.0);
+      born = λ q object h. changed_object (λ o. o.birth < store.births + 1) (nat_eq q cell) made (object_at store q) _ object (at q) (omega arith) (λ e. omega (arith, orderly.born q object e)) h;
+      births_apart = apart_after store (made_by store request (Take cell grows)) cell made at orderly (λ other second e same. absurd (omega (arith, orderly.born other second e)));
+    }
+
+-- and from a sound store to a sound store
 pub IsSound-made_by : (store : Store) (request : Request) (cell : ℕ) (grows : Bool) → IsSound store → IsRequest request → store.births < 2 ^ 32 - 1 → words_needed store request ≤ store.budget → MayReuse store request (Take cell grows) → IsSound (made_by store request (Take cell grows))
 IsSound-made_by store request cell grows sound asked fits within may =
     let at = object_at-made_by store request cell grows in
     let made = new_object store.births request in
-    let class : request_size_class request < length store.made = omega (arith, request_size_class-lt request asked, sound.classes) in
+    let class : request_size_class request < length store.made = omega (arith, request_size_class-lt request, sound.classes) in
     record {
-      null_not_held = grind (arith, nat_tests, at 0, sound.null_not_held, may.0);
+      orderly = IsOrderly-made_by store request cell grows sound.orderly may;
       objects_fit = λ q object h. changed_object (λ o. IsObject o) (nat_eq q cell) made (object_at store q) _ object (at q) (IsObject-new_object store.births request (omega arith) asked) (sound.objects_fit q object) h;
-      born = λ q object h. changed_object (λ o. o.birth < store.births + 1) (nat_eq q cell) made (object_at store q) _ object (at q) (omega arith) (λ e. omega (arith, sound.born q object e)) h;
-      births_apart = apart_after store (made_by store request (Take cell grows)) cell made at sound (λ other second e same. absurd (omega (arith, sound.born other second e)));
       live_within_peak = omega (arith, live_words-made_by store request cell grows may.1);
       peak_within_budget = omega (arith, sound.peak_within_budget);
       classes = made_after-length store request grows ∙ sound.classes;
@@ -136,42 +152,59 @@ IsSound-made_by store request cell grows sound asked fits within may =
       untouched = λ h. absurd (omega arith);
     }
 
--- a free leads from a sound store to a sound store
+-- a free leads from a store in order to one
+pub IsOrderly-without_object : (store : Store) (cell : ℕ) (object : Object) → IsOrderly store → IsOrderly (without_object store cell object)
+IsOrderly-without_object store cell object orderly =
+    let at = object_at-without_object store cell object in
+    let left = λ (q : ℕ) (o : Object) (h : object_at (without_object store cell object) q ≡ Some o). kept_object (nat_eq q cell) (object_at store q) _ o (at q) h in
+    record {
+      null_not_held = grind (arith, nat_tests, at 0, orderly.null_not_held);
+      born = λ q o h. orderly.born q o (left q o h);
+      births_apart = λ q other o second h k e. orderly.births_apart q other o second (left q o h) (left other second k) e;
+    }
+
+-- and from a sound store to a sound store
 pub IsSound-without_object : (store : Store) (cell : ℕ) (object : Object) → IsSound store → object_at store cell ≡ Some object → IsSound (without_object store cell object)
 IsSound-without_object store cell object sound held =
     let at = object_at-without_object store cell object in
     let left = λ (q : ℕ) (o : Object) (h : object_at (without_object store cell object) q ≡ Some o). kept_object (nat_eq q cell) (object_at store q) _ o (at q) h in
     record {
-      null_not_held = grind (arith, nat_tests, at 0, sound.null_not_held);
+      orderly = IsOrderly-without_object store cell object sound.orderly;
       objects_fit = λ q o h. sound.objects_fit q o (left q o h);
-      born = λ q o h. sound.born q o (left q o h);
-      births_apart = λ q other o second h k e. sound.births_apart q other o second (left q o h) (left other second k) e;
       live_within_peak = omega (arith, live_words-without_object store cell object held, sound.live_within_peak);
       peak_within_budget = sound.peak_within_budget;
       classes = sound.classes;
       made_within_births = sound.made_within_births;
       births_fit = sound.births_fit;
-      untouched = λ none. absurd (omega (arith, sound.born cell object held));
+      untouched = λ none. absurd (omega (arith, sound.orderly.born cell object held));
     }
 
--- a put, or a change of a chain, leads from a sound store to a sound store
+-- a put, or a change of a chain, leads from a store in order to one
+pub IsOrderly-with_object : (store : Store) (cell : ℕ) (old object : Object) → IsOrderly store → object_at store cell ≡ Some old → object.birth ≡ old.birth → IsOrderly (with_object store cell object)
+IsOrderly-with_object store cell old object orderly held same_birth =
+    let at = object_at-with_object store cell object in
+    record {
+      null_not_held = elim (cases_eq 0 cell) as (λ _. object_at (with_object store cell object) 0 ≡ None) [
+        | inl e ↦ let none : object_at store cell ≡ None = subst (λ c. object_at store c ≡ None) e orderly.null_not_held in absurd (none-some old (sym none ∙ held))
+        | inr e ↦ grind (arith, nat_tests, at 0, orderly.null_not_held)
+      ];
+      born = λ q o h. changed_object (λ o. o.birth < store.births) (nat_eq q cell) object (object_at store q) _ o (at q) (omega (arith, orderly.born cell old held)) (λ e. orderly.born q o e) h;
+      births_apart = apart_after store (with_object store cell object) cell object at orderly (λ other second e same. orderly.births_apart cell other old second held e (sym same_birth ∙ same));
+    }
+
+-- and from a sound store to a sound store
 pub IsSound-with_object : (store : Store) (cell : ℕ) (old object : Object) → IsSound store → object_at store cell ≡ Some old → IsObject object → object.birth ≡ old.birth → object_words object ≡ object_words old → IsSound (with_object store cell object)
 IsSound-with_object store cell old object sound held fits same_birth same_words =
     let at = object_at-with_object store cell object in
     record {
-      null_not_held = elim (cases_eq 0 cell) as (λ _. object_at (with_object store cell object) 0 ≡ None) [
-        | inl e ↦ let none : object_at store cell ≡ None = subst (λ c. object_at store c ≡ None) e sound.null_not_held in absurd (none-some old (sym none ∙ held))
-        | inr e ↦ grind (arith, nat_tests, at 0, sound.null_not_held)
-      ];
+      orderly = IsOrderly-with_object store cell old object sound.orderly held same_birth;
       objects_fit = λ q o h. changed_object (λ o. IsObject o) (nat_eq q cell) object (object_at store q) _ o (at q) fits (sound.objects_fit q o) h;
-      born = λ q o h. changed_object (λ o. o.birth < store.births) (nat_eq q cell) object (object_at store q) _ o (at q) (omega (arith, sound.born cell old held)) (λ e. sound.born q o e) h;
-      births_apart = apart_after store (with_object store cell object) cell object at sound (λ other second e same. sound.births_apart cell other old second held e (sym same_birth ∙ same));
       live_within_peak = omega (arith, live_words-with_object store cell old object held same_words, sound.live_within_peak);
       peak_within_budget = sound.peak_within_budget;
       classes = sound.classes;
       made_within_births = sound.made_within_births;
       births_fit = sound.births_fit;
-      untouched = λ none. absurd (omega (arith, sound.born cell old held));
+      untouched = λ none. absurd (omega (arith, sound.orderly.born cell old held));
     }
 
 -- an element within its range, or a chain within its own, leaves the object in its ranges

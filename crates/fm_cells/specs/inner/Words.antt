@@ -26,14 +26,14 @@ elements_in words start pack len = map (element_in words start pack) (range_with
 abbrev pub identity_word : ℕ → ℕ → ℕ → Bool → ℕ
 identity_word class birth exponent fixed = (((if fixed then 1 else 0) * 2 ^ 2 + exponent) * 2 ^ 32 + birth) * 2 ^ 28 + class
 
-abbrev pub class_of : ℕ → ℕ
-class_of identity = identity % 2 ^ 28
+abbrev pub class_in : ℕ → ℕ
+class_in identity = identity % 2 ^ 28
 
-abbrev pub birth_of : ℕ → ℕ
-birth_of identity = identity / 2 ^ 28 % 2 ^ 32
+abbrev pub birth_in : ℕ → ℕ
+birth_in identity = identity / 2 ^ 28 % 2 ^ 32
 
-abbrev pub pack_of : ℕ → ℕ
-pack_of identity = 2 ^ (identity / 2 ^ 60 % 2 ^ 2)
+abbrev pub pack_in : ℕ → ℕ
+pack_in identity = 2 ^ (identity / 2 ^ 60 % 2 ^ 2)
 
 abbrev pub is_fixed : ℕ → Bool
 is_fixed identity = nat_eq (identity / 2 ^ 62) 1
@@ -42,11 +42,11 @@ is_fixed identity = nat_eq (identity / 2 ^ 62) 1
 abbrev pub extent_word : ℕ → ℕ → ℕ
 extent_word len chain = chain * 2 ^ 31 + len
 
-abbrev pub len_of : ℕ → ℕ
-len_of extent = extent % 2 ^ 31
+abbrev pub len_in : ℕ → ℕ
+len_in extent = extent % 2 ^ 31
 
-abbrev pub chain_of : ℕ → ℕ
-chain_of extent = extent / 2 ^ 31 % 2 ^ 32
+abbrev pub chain_in : ℕ → ℕ
+chain_in extent = extent / 2 ^ 31 % 2 ^ 32
 
 -- the object whose first header word has this index
 abbrev pub object_from : List ℕ → ℕ → Object
@@ -54,12 +54,12 @@ object_from words cell =
     let identity = slice_index words cell in
     let extent = slice_index words (cell + 1) in
     record {
-      class = class_of identity;
-      birth = birth_of identity;
-      pack = pack_of identity;
+      class = class_in identity;
+      birth = birth_in identity;
+      pack = pack_in identity;
       fixed = is_fixed identity;
-      chain = chain_of extent;
-      elements = elements_in words (cell + 2) (pack_of identity) (len_of extent);
+      chain = chain_in extent;
+      elements = elements_in words (cell + 2) (pack_in identity) (len_in extent);
     }
 
 -- the bit of a word of memory, among marks that hold 64 in a word

@@ -1,20 +1,17 @@
--- The laws of each call as a whole, for the layers above: what a free, a put and a change of a chain leave in each cell,
--- that sound stores lead to sound stores, and that both memories choose as memory that reuses cells in any way may.
-use Rattle.std.proofs.Common.{◌≡◌, ◌≢◌, ℕ, ◌+◌, ◌*◌, ◌^◌, ◌<◌, Bool, true, false, cond, [], ◌∷◌, refl, sym, ◌∙◌, ap, subst, arith, length}
+-- The laws of each call as a whole, for the layers above: what a free, a put and a change of a chain leave in each cell, and
+-- that sound stores lead to sound stores.
+use Rattle.std.proofs.Common.{◌≡◌, ◌≢◌, ℕ, ◌+◌, ◌*◌, ◌^◌, ◌<◌, Bool, true, false, cond, refl, sym, ◌∙◌, ap, subst, arith, length}
 use Rattle.std.specs.Prelude.{Some, None, IsSome}
 use Rattle.fm_cells.specs.Sizes.{element_bits, cell_words}
-use Rattle.fm_cells.specs.Objects.{Object, Request, IsRequest, request_words, request_size_class}
-use Rattle.fm_cells.specs.Stores.{Store, object_at, elements_at, pack_at, passes_limit, free_cells}
-use Rattle.fm_cells.specs.Changes.{Take, RefuseStore, without_object, with_element, with_chain, freed_by, put_by, chained_by}
-use Rattle.fm_cells.specs.Choices.{MayReuse, never_choice, last_choice, new_cell_choice, last_choice_among}
-use Rattle.fm_cells.specs.Soundness.{IsSound, IsNeverReused, IsLastReused}
-use Rattle.fm_cells.proofs.CellSizes.{cell_words-lt-double}
+use Rattle.fm_cells.specs.Objects.{Object, Request, IsRequest, request_words}
+use Rattle.fm_cells.specs.Stores.{Store, object_at, elements_at, pack_at}
+use Rattle.fm_cells.specs.Changes.{without_object, with_element, with_chain, freed_by, put_by, chained_by}
+use Rattle.fm_cells.specs.Soundness.{IsSound}
+use Rattle.fm_cells.proofs.SizeLaws.{cell_words-lt-double}
 use Rattle.fm_cells.proofs.Elements.{has_object, some-object, pack_at-some, freed_by-none, freed_by-some, put_by-some, chained_by-some}
-use Rattle.fm_cells.proofs.LastReused.{MayReuse-head, MayReuse-after}
-use Rattle.fm_cells.proofs.Laws.{object_at-without_object, object_at-with_object, object_words-with_element}
+use Rattle.fm_cells.proofs.Changes.{object_at-without_object, object_at-with_object, object_words-with_element}
 use Rattle.fm_cells.proofs.Lists.{apart-nat_eq}
-use Rattle.fm_cells.proofs.NeverReused.{MayReuse-next}
-use Rattle.fm_cells.proofs.Sound.{IsSound-without_object, IsSound-with_object, IsObject-with_element, IsObject-with_chain, request_words_bound}
+use Rattle.fm_cells.proofs.Soundness.{IsSound-without_object, IsSound-with_object, IsObject-with_element, IsObject-with_chain, request_words_bound}
 
 either_freed : (fixed : Bool) (store : Store) (cell : ℕ) (object : Object) (q : ℕ) → q ≢ cell → object_at (cond fixed store (without_object store cell object)) q ≡ object_at store q
 either_freed true store cell object q apart = refl
@@ -23,14 +20,6 @@ either_freed false store cell object q apart = object_at-without_object store ce
 either_sound : (fixed : Bool) (store : Store) (cell : ℕ) (object : Object) → IsSound store → object_at store cell ≡ Some object → IsSound (cond fixed store (without_object store cell object))
 either_sound true store cell object sound held = sound
 either_sound false store cell object sound held = IsSound-without_object store cell object sound held
-
--- a new cell that may be taken is chosen, or the store is full
-new_cell : (store : Store) (request : Request) (cell : ℕ) → MayReuse store request (Take cell true) → MayReuse store request (new_cell_choice store request cell)
-new_cell store request cell may =
-    elim (passes_limit store request) as (λ b. passes_limit store request ≡ b → MayReuse store request (cond b RefuseStore (Take cell true))) [
-      | true ↦ λ e. e
-      | false ↦ λ e. may
-    ] refl
 
 -- a call leaves each other cell as it was
 pub object_at-freed_by_other : (store : Store) (cell q : ℕ) → q ≢ cell → object_at (freed_by store cell) q ≡ object_at store q
@@ -70,18 +59,6 @@ IsSound-chained_by store cell to sound held fits =
     let found = some-object (object_at store cell) held in
     subst (λ s. IsSound s) (sym (chained_by-some store cell to found.0 found.1))
     (IsSound-with_object store cell found.0 (with_chain found.0 to) sound found.1 (IsObject-with_chain found.0 to (sound.objects_fit cell found.0 found.1) fits) refl refl)
-
--- memory that is never reused chooses as memory that reuses cells in any way may
-pub MayReuse-never_choice : (store : Store) (request : Request) → IsNeverReused store → MayReuse store request (never_choice store request)
-MayReuse-never_choice store request never = new_cell store request (store.births + 1) (MayReuse-next store request true never)
-
--- and so does memory that takes the last freed cell
-pub MayReuse-last_choice : (store : Store) (request : Request) → IsLastReused store → MayReuse store request (last_choice store request)
-MayReuse-last_choice store request last =
-    elim (free_cells store (request_size_class request)) as (λ cells. free_cells store (request_size_class request) ≡ cells → MayReuse store request (last_choice_among cells store request)) [
-      | [] ↦ λ e. new_cell store request (store.made_words + 1) (MayReuse-after store request true last)
-      | cell ∷ rest ↦ λ e. MayReuse-head store request cell rest false last e
-    ] refl
 
 -- the words of the cell of a request are below the double of its words
 pub cell_words-request : (request : Request) → IsRequest request → cell_words (request_words request) < 2 * request_words request

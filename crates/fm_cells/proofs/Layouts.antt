@@ -6,19 +6,19 @@ use Rattle.std.specs.List.{AllByRecursion}
 use Rattle.std.proofs.lemmas.Bool.{cases_eq, cases_Bool}
 use Rattle.std.proofs.lemmas.Option.{none-some, same_Some}
 use Rattle.fm_cells.specs.Sizes.{class_words}
-use Rattle.fm_cells.specs.Objects.{Object, object_words, object_size_class, Request, request_size_class, new_object}
+use Rattle.fm_cells.specs.Objects.{Object, object_words, size_class_of, Request, request_size_class, new_object}
 use Rattle.fm_cells.specs.Stores.{Store, object_at, IsHeld, free_cells}
 use Rattle.fm_cells.specs.Changes.{Take, made_by, without_object, with_object}
 use Rattle.fm_cells.specs.Soundness.{IsSound, IsFree, IsLastReused}
-use Rattle.fm_cells.specs.Words.{object_from, mark_in, marked_object}
-use Rattle.fm_cells.specs.Layouts.{IsTiling, IsTile, IsLinked, IsListed, Keeps}
-use Rattle.fm_cells.proofs.CellSizes.{words-le-cell_words}
+use Rattle.fm_cells.specs.inner.Words.{object_from, mark_in, marked_object}
+use Rattle.fm_cells.specs.inner.Layouts.{IsTiling, IsTile, IsLinked, IsListed, Keeps}
+use Rattle.fm_cells.proofs.SizeLaws.{words-le-cell_words}
 use Rattle.fm_cells.proofs.Held.{held_if}
 use Rattle.fm_cells.proofs.LastReused.{held-apart, held_above, free_cells-set}
-use Rattle.fm_cells.proofs.Laws.{object_size_class-new_object, object_at-made_by, object_at-without_object, object_at-with_object}
+use Rattle.fm_cells.proofs.Changes.{size_class_of-new_object, object_at-made_by, object_at-without_object, object_at-with_object}
 use Rattle.fm_cells.proofs.Lists.{eq-nat_eq, all-map, all-both, apart-nat_eq, same-nat_eq}
-use Rattle.fm_cells.proofs.ObjectWords.{object_from-frame}
-use Rattle.fm_cells.proofs.Sound.{object_words_bound, object_size_class-lt, kept_object}
+use Rattle.fm_cells.proofs.Words.{object_from-frame}
+use Rattle.fm_cells.proofs.Soundness.{object_words_bound, size_class_of-lt, kept_object}
 use Rattle.fm_cells.proofs.Tiles.{tile-within, tile-apart}
 
 -- two lists of words agree outside the words of a cell
@@ -70,9 +70,9 @@ other_held words words' marks marks' heads store tiles to cell k q keeps sound t
       | inl e ↦
           let held : object_at store q ≡ Some (object_from words q) = sym (keeps.held q) ∙ ap (λ b. cond b (Some (object_from words q)) None) e in
           let object = sound.objects_fit q (object_from words q) held in
-          let fits : object_words (object_from words q) ≤ class_words (object_size_class (object_from words q)) = words-le-cell_words (object_words (object_from words q)) (omega (arith, object_words_bound (object_from words q) object)) in
+          let fits : object_words (object_from words q) ≤ class_words (size_class_of (object_from words q)) = words-le-cell_words (object_words (object_from words q)) (omega (arith, object_words_bound (object_from words q) object)) in
           ap (λ b. cond b (Some (object_from words' q)) None) e
-          ∙ ap (λ o. Some o) (other_object words words' tiles to cell k q (object_size_class (object_from words q)) tiling tile (more (object_size_class (object_from words q)) (keeps.held_tile q (object_from words q) held)) apart fits same)
+          ∙ ap (λ o. Some o) (other_object words words' tiles to cell k q (size_class_of (object_from words q)) tiling tile (more (size_class_of (object_from words q)) (keeps.held_tile q (object_from words q) held)) apart fits same)
           ∙ sym held
       | inr e ↦ ap (λ b. cond b (Some (object_from words' q)) None) e ∙ sym (sym (keeps.held q) ∙ ap (λ b. cond b (Some (object_from words q)) None) e)
     ]
@@ -87,10 +87,10 @@ either_held true object before h = refl
 either_held false object before h = h
 
 -- a put, or a change of a chain
-pub Keeps-with_object : (words words' marks heads : List ℕ) (store : Store) (cell : ℕ) (old object : Object) → Keeps words marks heads store → IsLastReused store → object_at store cell ≡ Some old → object_size_class object ≡ object_size_class old → length words' ≡ length words
-    → SameOutside words words' cell (object_size_class old) → object_from words' cell ≡ object → Keeps words' marks heads (with_object store cell object)
-Keeps-with_object words words' marks heads store cell old object keeps last held class long same is =
-    let k = object_size_class old in
+pub Keeps-with_object : (words words' marks heads : List ℕ) (store : Store) (cell : ℕ) (old object : Object) → Keeps words marks heads store → IsLastReused store → IsSound store → object_at store cell ≡ Some old → size_class_of object ≡ size_class_of old → length words' ≡ length words
+    → SameOutside words words' cell (size_class_of old) → object_from words' cell ≡ object → Keeps words' marks heads (with_object store cell object)
+Keeps-with_object words words' marks heads store cell old object keeps last sound held class long same is =
+    let k = size_class_of old in
     let tile = keeps.held_tile cell old held in
     let at = object_at-with_object store cell object in
     let mark : mark_in marks cell ≡ 1 = (marked-some words marks cell old (keeps.held cell ∙ held)).0 in
@@ -98,15 +98,15 @@ Keeps-with_object words words' marks heads store cell old object keeps last held
     record {
       held = λ q. elim (cases_eq q cell) as (λ _. marked_object words' marks q ≡ object_at (with_object store cell object) q) [
         | inl e ↦ ap (marked_object words' marks) e ∙ own_held words' marks cell object mark is ∙ sym (at q ∙ ap (λ b. cond b (Some object) (object_at store q)) (ap (λ n. nat_eq n cell) e ∙ same-nat_eq cell))
-        | inr e ↦ other_held words words' marks marks heads store keeps.tiles (store.made_words + 1) cell k q keeps last.sound keeps.tiling tile (λ l t. t) e refl same ∙ sym (at q ∙ ap (λ b. cond b (Some object) (object_at store q)) (apart-nat_eq q cell e))
+        | inr e ↦ other_held words words' marks marks heads store keeps.tiles (store.made_words + 1) cell k q keeps sound keeps.tiling tile (λ l t. t) e refl same ∙ sym (at q ∙ ap (λ b. cond b (Some object) (object_at store q)) (apart-nat_eq q cell e))
       ];
       words_made = ap (λ n. n - 1) long ∙ keeps.words_made;
       tiles = keeps.tiles;
       tiling = keeps.tiling;
-      held_tile = λ q o h. elim (cases_eq q cell) as (λ _. IsTile keeps.tiles q (object_size_class o)) [
+      held_tile = λ q o h. elim (cases_eq q cell) as (λ _. IsTile keeps.tiles q (size_class_of o)) [
         | inl e ↦
             let here : Some object ≡ Some o = sym (ap (λ b. cond b (Some object) (object_at store q)) (ap (λ n. nat_eq n cell) e ∙ same-nat_eq cell)) ∙ sym (at q) ∙ h in
-            subst (λ n. IsTile keeps.tiles n (object_size_class o)) (sym e) (subst (λ n. IsTile keeps.tiles cell n) (sym class ∙ ap object_size_class (same_Some object o here)) tile)
+            subst (λ n. IsTile keeps.tiles n (size_class_of o)) (sym e) (subst (λ n. IsTile keeps.tiles cell n) (sym class ∙ ap size_class_of (same_Some object o here)) tile)
         | inr e ↦ keeps.held_tile q o (sym (ap (λ b. cond b (Some object) (object_at store q)) (apart-nat_eq q cell e)) ∙ sym (at q) ∙ h)
       ];
       free_tile = keeps.free_tile;
@@ -118,15 +118,15 @@ Keeps-with_object words words' marks heads store cell old object keeps last held
     }
 
 -- a free: the first word of the cell keeps the old head of its list, and the cell is the new head
-pub Keeps-without_object : (words words' marks marks' heads : List ℕ) (store : Store) (cell : ℕ) (object : Object) → Keeps words marks heads store → IsLastReused store → object_at store cell ≡ Some object → 64 ≤ length heads → length words' ≡ length words
-    → SameOutside words words' cell (object_size_class object) → get_or words' cell 0 ≡ slice_index heads (object_size_class object) → ((q : ℕ) → mark_in marks' q ≡ cond (nat_eq q cell) 0 (mark_in marks q))
-    → Keeps words' marks' (set heads (object_size_class object) cell) (without_object store cell object)
-Keeps-without_object words words' marks marks' heads store cell object keeps last held room long same first marked =
-    let k = object_size_class object in
+pub Keeps-without_object : (words words' marks marks' heads : List ℕ) (store : Store) (cell : ℕ) (object : Object) → Keeps words marks heads store → IsLastReused store → IsSound store → object_at store cell ≡ Some object → 64 ≤ length heads → length words' ≡ length words
+    → SameOutside words words' cell (size_class_of object) → get_or words' cell 0 ≡ slice_index heads (size_class_of object) → ((q : ℕ) → mark_in marks' q ≡ cond (nat_eq q cell) 0 (mark_in marks q))
+    → Keeps words' marks' (set heads (size_class_of object) cell) (without_object store cell object)
+Keeps-without_object words words' marks marks' heads store cell object keeps last sound held room long same first marked =
+    let k = size_class_of object in
     let next = without_object store cell object in
     let tile = keeps.held_tile cell object held in
     let at = object_at-without_object store cell object in
-    let few : k < 64 = object_size_class-lt object (last.sound.objects_fit cell object held) in
+    let few : k < 64 = size_class_of-lt object in
     let below : k < length store.free = omega (arith, last.lists) in
     let after = λ (l : ℕ). free_cells-set store.free k l (cell ∷ free_cells store k) below in
     let here = λ (l : ℕ) (h : l ≡ k). let is : free_cells next l ≡ cell ∷ free_cells store l = after l ∙ ap (λ b. cond b (cell ∷ free_cells store k) (free_cells store l)) (ap (λ n. nat_eq n k) h ∙ same-nat_eq k) ∙ ap (λ j. cell ∷ free_cells store j) (sym h) in is in
@@ -139,7 +139,7 @@ Keeps-without_object words words' marks marks' heads store cell object keeps las
             ap (λ m. cond (nat_eq m 1) (Some (object_from words' q)) None) (marked q ∙ ap (λ b. cond b 0 (mark_in marks q)) (ap (λ n. nat_eq n cell) e ∙ same-nat_eq cell))
             ∙ sym (at q ∙ ap (λ b. cond b None (object_at store q)) (ap (λ n. nat_eq n cell) e ∙ same-nat_eq cell))
         | inr e ↦
-            other_held words words' marks marks' heads store keeps.tiles (store.made_words + 1) cell k q keeps last.sound keeps.tiling tile (λ l t. t) e (marked q ∙ ap (λ b. cond b 0 (mark_in marks q)) (apart-nat_eq q cell e)) same
+            other_held words words' marks marks' heads store keeps.tiles (store.made_words + 1) cell k q keeps sound keeps.tiling tile (λ l t. t) e (marked q ∙ ap (λ b. cond b 0 (mark_in marks q)) (apart-nat_eq q cell e)) same
             ∙ sym (at q ∙ ap (λ b. cond b None (object_at store q)) (apart-nat_eq q cell e))
       ];
       words_made = ap (λ n. n - 1) long ∙ keeps.words_made;
@@ -154,7 +154,7 @@ Keeps-without_object words words' marks marks' heads store cell object keeps las
         | inl h ↦
             let head : slice_index (set heads k cell) l ≡ cell = ap (slice_index (set heads k cell)) h ∙ get_or-set_same heads k cell 0 (omega arith) in
             subst (λ cells. IsLinked words' (slice_index (set heads k cell) l) cells) (sym (here l h))
-            (head, held_above store cell object last.sound held, subst (λ n. IsLinked words' n (free_cells store l)) (sym (first ∙ ap (slice_index heads) (sym h))) (links l below))
+            (head, held_above store cell object last.orderly held, subst (λ n. IsLinked words' n (free_cells store l)) (sym (first ∙ ap (slice_index heads) (sym h))) (links l below))
         | inr h ↦
             subst (λ cells. IsLinked words' (slice_index (set heads k cell) l) cells) (sym (there l h)) (subst (λ n. IsLinked words' n (free_cells store l)) (sym (get_or-set_other heads k l cell 0 h)) (links l below))
       ];
@@ -204,11 +204,11 @@ Keeps-made_by words words' marks marks' heads heads' store request cell grows ti
       words_made = long;
       tiles = tiles';
       tiling = tiling;
-      held_tile = λ q o h. elim (cases_eq q cell) as (λ _. IsTile tiles' q (object_size_class o)) [
+      held_tile = λ q o h. elim (cases_eq q cell) as (λ _. IsTile tiles' q (size_class_of o)) [
         | inl e ↦
             let here : Some object ≡ Some o = sym (ap (λ b. cond b (Some object) (object_at store q)) (ap (λ n. nat_eq n cell) e ∙ same-nat_eq cell)) ∙ sym (at q) ∙ h in
-            subst (λ n. IsTile tiles' n (object_size_class o)) (sym e) (subst (λ n. IsTile tiles' cell n) (sym (object_size_class-new_object store.births request) ∙ ap object_size_class (same_Some object o here)) tile)
-        | inr e ↦ more q (object_size_class o) (keeps.held_tile q o (sym (ap (λ b. cond b (Some object) (object_at store q)) (apart-nat_eq q cell e)) ∙ sym (at q) ∙ h))
+            subst (λ n. IsTile tiles' n (size_class_of o)) (sym e) (subst (λ n. IsTile tiles' cell n) (sym (size_class_of-new_object store.births request) ∙ ap size_class_of (same_Some object o here)) tile)
+        | inr e ↦ more q (size_class_of o) (keeps.held_tile q o (sym (ap (λ b. cond b (Some object) (object_at store q)) (apart-nat_eq q cell e)) ∙ sym (at q) ∙ h))
       ];
       free_tile = λ l. all-map (λ d. IsTile keeps.tiles d l) (λ d. IsTile tiles' d l) (λ d t. more d l t) (free_cells next l) (part (λ d. IsTile keeps.tiles d l) l (keeps.free_tile l));
       linked = λ l below. other_links words words' tiles' (next.made_words + 1) cell k (slice_index heads' l) l (free_cells next l) tiling tile

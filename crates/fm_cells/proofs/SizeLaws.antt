@@ -85,9 +85,38 @@ unfolding size_class
 below-size_class n t h = (first_class-fits 63 0 n h).1 t (omega arith)
 
 -- there are 64 size classes
-pub size_class-lt : (n : ℕ) → n ≤ 2 ^ 36 → size_class n < 64
+first_class-le : (more from n : ℕ) → first_class more from n ≤ from + more
+first_class-le zero from n = omega arith
+first_class-le (suc more) from n = elim (nat_le n (class_words from)) as (λ r. cond r from (first_class more (suc from) n) ≤ from + suc more) [
+  | true ↦ omega arith
+  | false ↦ omega (arith, first_class-le more (suc from) n)
+]
+
+pub size_class-lt : (n : ℕ) → size_class n < 64
 unfolding size_class
-size_class-lt n h = omega (arith, (first_class-fits 63 0 n h).2)
+size_class-lt n = omega (arith, first_class-le 63 0 n)
+
+-- a size class above 1 has cells of two words at least, and two words or more are of such a class
+first_class-ge : (more from n : ℕ) → from ≤ first_class more from n
+first_class-ge zero from n = omega arith
+first_class-ge (suc more) from n = elim (nat_le n (class_words from)) as (λ r. from ≤ cond r from (first_class more (suc from) n)) [
+  | true ↦ omega arith
+  | false ↦ omega (arith, first_class-ge more (suc from) n)
+]
+
+pub size_class-ge : (n : ℕ) → 2 ≤ n → 2 ≤ size_class n
+unfolding size_class
+size_class-ge n h =
+    elim (nat_le n 0) as (λ r. nat_le n 0 ≡ r → 2 ≤ cond r 0 (first_class 62 1 n)) [
+      | true ↦ λ e. let low : n ≤ 0 = leb-true n 0 e in absurd (omega arith)
+      | false ↦ λ _. elim (nat_le n 1) as (λ r. nat_le n 1 ≡ r → 2 ≤ cond r 1 (first_class 61 2 n)) [
+        | true ↦ λ e. let low : n ≤ 1 = leb-true n 1 e in absurd (omega arith)
+        | false ↦ λ _. first_class-ge 61 2 n
+      ] refl
+    ] refl
+
+pub cell_words-ge : (n : ℕ) → 2 ≤ n → 2 ≤ cell_words n
+cell_words-ge n h = let wide : class_words 2 ≤ cell_words n = class_words-mono 2 (size_class n) (size_class-ge n h) in omega arith
 
 -- the words of a size class are below the double of those of the one below it
 class_words-step : (s : ℕ) → 0 < s → class_words (suc s) ≤ 2 * class_words s

@@ -8,7 +8,7 @@ use Rattle.std.specs.FinMap.{gets}
 use Rattle.std.proofs.lemmas.Bool.{cases_eq, cases_lt}
 use Rattle.std.proofs.lemmas.Bool.Decides.{nat_tests}
 use Rattle.fm_cells.specs.Objects.{Object}
-use Rattle.fm_cells.specs.Tables.{with_entry, map_of}
+use Rattle.fm_cells.specs.inner.Tables.{with_entry, map_of}
 
 get-insert_nat : (m : fin.FinMap nat_cmp Object) (cell : ℕ) (object : Object) (q : ℕ) → fin.get (fin.insert m cell object) q ≡ cond (nat_eq q cell) (Some object) (fin.get m q)
 get-insert_nat m cell object q = grind (arith, gets, nat_tests)

@@ -6,9 +6,9 @@ use Rattle.std.proofs.lemmas.List.FromFn.{fill_by_all, length-map-range_with_len
 use Rattle.std.proofs.lemmas.Bool.{cases_eq}
 use Rattle.std.proofs.Math.Nat.{zero-div, zero-mod}
 use Rattle.std.proofs.lemmas.Nat.{mod_below, div-add-mod'}
-use Rattle.fm_cells.specs.Sizes.{IsPack, element_bits, body_words, words_of}
+use Rattle.fm_cells.specs.Sizes.{IsPack, element_bits, body_words, packed_words}
 use Rattle.fm_cells.specs.Objects.{object_words, new_object, request_of}
-use Rattle.fm_cells.specs.Words.{digit, with_digit, element_in, elements_in, class_of, birth_of, pack_of, is_fixed, len_of, chain_of, object_from, mark_in}
+use Rattle.fm_cells.specs.inner.Words.{digit, with_digit, element_in, elements_in, class_in, birth_in, pack_in, is_fixed, len_in, chain_in, object_from, mark_in}
 use Rattle.fm_cells.proofs.DigitLaws.{IsPack-power, digit-with_digit_same, digit-with_digit_other}
 use Rattle.fm_cells.proofs.Lists.{apart-nat_eq, same-nat_eq}
 
@@ -29,31 +29,31 @@ place-in-body place len pack (inr (inr (inl e))) h = subst (λ p. place / p < bo
 place-in-body place len pack (inr (inr (inr e))) h = subst (λ p. place / p < body_words len p) (sym e) (omega arith)
 
 -- the pack that a header says is a pack
-pub IsPack-pack_of : (identity : ℕ) → IsPack (pack_of identity)
-IsPack-pack_of identity = IsPack-power (identity / 2 ^ 60 % 2 ^ 2) (mod_below (identity / 2 ^ 60) 4 (omega arith))
+pub IsPack-pack_in : (identity : ℕ) → IsPack (pack_in identity)
+IsPack-pack_in identity = IsPack-power (identity / 2 ^ 60 % 2 ^ 2) (mod_below (identity / 2 ^ 60) 4 (omega arith))
 
 -- the words of the object are those that its header says
-pub object_words-object_from : (words : List ℕ) (cell : ℕ) → object_words (object_from words cell) ≡ words_of (len_of (get_or words (cell + 1) 0)) (pack_of (get_or words cell 0))
-object_words-object_from words cell = ap (λ n. words_of n (pack_of (get_or words cell 0))) (length-elements_in words (cell + 2) (pack_of (get_or words cell 0)) (len_of (get_or words (cell + 1) 0)))
+pub object_words-object_from : (words : List ℕ) (cell : ℕ) → object_words (object_from words cell) ≡ packed_words (len_in (get_or words (cell + 1) 0)) (pack_in (get_or words cell 0))
+object_words-object_from words cell = ap (λ n. packed_words n (pack_in (get_or words cell 0))) (length-elements_in words (cell + 2) (pack_in (get_or words cell 0)) (len_in (get_or words (cell + 1) 0)))
 
 -- the object rests on its own words alone
 pub object_from-frame : (words words' : List ℕ) (cell n : ℕ) → object_words (object_from words cell) ≤ n → ((i : ℕ) → cell ≤ i → i < cell + n → get_or words' i 0 ≡ get_or words i 0) → object_from words' cell ≡ object_from words cell
 object_from-frame words words' cell n fits same =
-    let bound : words_of (len_of (get_or words (cell + 1) 0)) (pack_of (get_or words cell 0)) ≤ n = omega (arith, object_words-object_from words cell) in
+    let bound : packed_words (len_in (get_or words (cell + 1) 0)) (pack_in (get_or words cell 0)) ≤ n = omega (arith, object_words-object_from words cell) in
     let identity : get_or words' cell 0 ≡ get_or words cell 0 = same cell (omega arith) (omega arith) in
     let extent : get_or words' (cell + 1) 0 ≡ get_or words (cell + 1) 0 = same (cell + 1) (omega arith) (omega arith) in
-    let elements : elements_in words' (cell + 2) (pack_of (get_or words' cell 0)) (len_of (get_or words' (cell + 1) 0)) ≡ elements_in words (cell + 2) (pack_of (get_or words cell 0)) (len_of (get_or words (cell + 1) 0)) =
-    ap (λ w. elements_in words' (cell + 2) (pack_of w) (len_of (get_or words' (cell + 1) 0))) identity
-    ∙ ap (λ w. elements_in words' (cell + 2) (pack_of (get_or words cell 0)) (len_of w)) extent
-    ∙ map-range-ext (element_in words' (cell + 2) (pack_of (get_or words cell 0))) (element_in words (cell + 2) (pack_of (get_or words cell 0))) (len_of (get_or words (cell + 1) 0))
-    (λ place h. ap (λ w. digit (element_bits (pack_of (get_or words cell 0))) (place % pack_of (get_or words cell 0)) w)
-    (same (cell + 2 + place / pack_of (get_or words cell 0)) (omega arith) (omega (arith, place-in-body place (len_of (get_or words (cell + 1) 0)) (pack_of (get_or words cell 0)) (IsPack-pack_of (get_or words cell 0)) h)))) in
+    let elements : elements_in words' (cell + 2) (pack_in (get_or words' cell 0)) (len_in (get_or words' (cell + 1) 0)) ≡ elements_in words (cell + 2) (pack_in (get_or words cell 0)) (len_in (get_or words (cell + 1) 0)) =
+    ap (λ w. elements_in words' (cell + 2) (pack_in w) (len_in (get_or words' (cell + 1) 0))) identity
+    ∙ ap (λ w. elements_in words' (cell + 2) (pack_in (get_or words cell 0)) (len_in w)) extent
+    ∙ map-range-ext (element_in words' (cell + 2) (pack_in (get_or words cell 0))) (element_in words (cell + 2) (pack_in (get_or words cell 0))) (len_in (get_or words (cell + 1) 0))
+    (λ place h. ap (λ w. digit (element_bits (pack_in (get_or words cell 0))) (place % pack_in (get_or words cell 0)) w)
+    (same (cell + 2 + place / pack_in (get_or words cell 0)) (omega arith) (omega (arith, place-in-body place (len_in (get_or words (cell + 1) 0)) (pack_in (get_or words cell 0)) (IsPack-pack_in (get_or words cell 0)) h)))) in
     λ i. record {
-      class = class_of (identity i);
-      birth = birth_of (identity i);
-      pack = pack_of (identity i);
+      class = class_in (identity i);
+      birth = birth_in (identity i);
+      pack = pack_in (identity i);
       fixed = is_fixed (identity i);
-      chain = chain_of (extent i);
+      chain = chain_in (extent i);
       elements = elements i;
     }
 
@@ -61,12 +61,12 @@ pub zero-digit : (bits place : ℕ) → digit bits place 0 ≡ 0
 zero-digit bits place = ap (λ n. n % 2 ^ bits) (zero-div (2 ^ (bits * place))) ∙ zero-mod (2 ^ bits)
 
 -- header words that say what was asked for, and a body of zeros, are the object as it is made
-pub object_from-new : (words : List ℕ) (cell class birth pack len : ℕ) (fixed : Bool) → IsPack pack → class_of (get_or words cell 0) ≡ class → birth_of (get_or words cell 0) ≡ birth → pack_of (get_or words cell 0) ≡ pack → is_fixed (get_or words cell 0) ≡ fixed
-    → len_of (get_or words (cell + 1) 0) ≡ len → chain_of (get_or words (cell + 1) 0) ≡ 0 → ((k : ℕ) → cell + 2 ≤ k → k < cell + words_of len pack → get_or words k 0 ≡ 0)
+pub object_from-new : (words : List ℕ) (cell class birth pack len : ℕ) (fixed : Bool) → IsPack pack → class_in (get_or words cell 0) ≡ class → birth_in (get_or words cell 0) ≡ birth → pack_in (get_or words cell 0) ≡ pack → is_fixed (get_or words cell 0) ≡ fixed
+    → len_in (get_or words (cell + 1) 0) ≡ len → chain_in (get_or words (cell + 1) 0) ≡ 0 → ((k : ℕ) → cell + 2 ≤ k → k < cell + packed_words len pack → get_or words k 0 ≡ 0)
     → object_from words cell ≡ new_object birth (request_of class len pack fixed)
 object_from-new words cell class birth pack len fixed is_pack is_class is_birth same_pack same_fixed is_len is_chain zeros =
-    let elements : elements_in words (cell + 2) (pack_of (get_or words cell 0)) (len_of (get_or words (cell + 1) 0)) ≡ replicate len 0 =
-    ap (λ p. elements_in words (cell + 2) p (len_of (get_or words (cell + 1) 0))) same_pack
+    let elements : elements_in words (cell + 2) (pack_in (get_or words cell 0)) (len_in (get_or words (cell + 1) 0)) ≡ replicate len 0 =
+    ap (λ p. elements_in words (cell + 2) p (len_in (get_or words (cell + 1) 0))) same_pack
     ∙ ap (λ n. elements_in words (cell + 2) pack n) is_len
     ∙ ext_get_or 0 (elements_in words (cell + 2) pack len) (replicate len 0) (length-elements_in words (cell + 2) pack len ∙ sym (length-replicate {A = ℕ} len 0))
     (λ place h.

@@ -2,7 +2,7 @@ use Rattle.std.proofs.Common.{◌/◌, sym, subst, arith, bit_and}
 use Rattle.std.proofs.lemmas.Nat.{and_le_r, one_shl}
 use Rattle.fm_cells.specs.Sizes.{IsPack}
 use Rattle.fm_cells.proofs.DigitLaws.{IsPack-power}
-use Rattle.fm_cells.proofs.headers.pack_of.Goals as goal
+use Rattle.fm_cells.proofs.headers.pack_in.Goals as goal
 
 pub returns-clause-pack : goal.returns-clause-pack
 returns-clause-pack c =

@@ -3,10 +3,10 @@ use Rattle.std.specs.Prelude.{◌≡◌, ℕ, zero, suc, ◌+◌, ◌-◌, ◌<�
 use Rattle.std.specs.Prelude.{Some}
 use Rattle.std.specs.List.{range_with_len, AllByRecursion}
 use Rattle.fm_cells.specs.Sizes.{class_words}
-use Rattle.fm_cells.specs.Objects.{Object, object_size_class}
+use Rattle.fm_cells.specs.Objects.{Object, size_class_of}
 use Rattle.fm_cells.specs.Stores.{Store, object_at, IsHeld, free_cells}
-use Rattle.fm_cells.specs.Tables.{map_of}
-use Rattle.fm_cells.specs.Words.{marked_object}
+use Rattle.fm_cells.specs.inner.Tables.{map_of}
+use Rattle.fm_cells.specs.inner.Words.{marked_object}
 
 -- up to n cells of a list of freed cells, from its head: each keeps the next in its first word, and 0 ends the list
 abbrev pub linked_cells : ℕ → List ℕ → ℕ → List ℕ
@@ -58,7 +58,7 @@ pub record Keeps (words marks heads : List ℕ) (store : Store) : Type 0 where
   pub words_made : length words - 1 ≡ store.made_words
   pub tiles : List (ℕ × ℕ)
   pub tiling : IsTiling 1 tiles (store.made_words + 1)
-  pub held_tile : (cell : ℕ) (object : Object) → object_at store cell ≡ Some object → IsTile tiles cell (object_size_class object)
+  pub held_tile : (cell : ℕ) (object : Object) → object_at store cell ≡ Some object → IsTile tiles cell (size_class_of object)
   pub free_tile : (size_class : ℕ) → AllByRecursion (λ cell. IsTile tiles cell size_class) (free_cells store size_class)
   pub linked : (size_class : ℕ) → size_class < 64 → IsLinked words (slice_index heads size_class) (free_cells store size_class)
   pub covered : (cell size_class : ℕ) → IsTile tiles cell size_class → IsHeld store cell ⊎ IsListed cell (free_cells store size_class)
