@@ -118,3 +118,26 @@ IsPack-power (suc zero) h = inr (inl refl)
 IsPack-power (suc (suc zero)) h = inr (inr (inl refl))
 IsPack-power (suc (suc (suc zero))) h = inr (inr (inr refl))
 IsPack-power (suc (suc (suc (suc n)))) h = absurd (omega arith)
+
+-- the low bits of a place are its index in its word
+pub low_bits : (place exponent : ℕ) → exponent < 4 → bit_and place (1 * 2 ^ exponent % 4294967296 - 1) ≡ place % 2 ^ exponent
+low_bits place zero h = and_mask place 0
+low_bits place (suc zero) h = and_mask place 1
+low_bits place (suc (suc zero)) h = and_mask place 2
+low_bits place (suc (suc (suc zero))) h = and_mask place 3
+low_bits place (suc (suc (suc (suc n)))) h = absurd (omega arith)
+
+-- an element has a bit at least, and lies within its word
+pub bits-some : (exponent : ℕ) → exponent < 4 → 0 < 64 / 2 ^ exponent
+bits-some zero h = omega arith
+bits-some (suc zero) h = omega arith
+bits-some (suc (suc zero)) h = omega arith
+bits-some (suc (suc (suc zero))) h = omega arith
+bits-some (suc (suc (suc (suc n)))) h = absurd (omega arith)
+
+pub bits-within : (place exponent : ℕ) → exponent < 4 → 64 / 2 ^ exponent * (place % 2 ^ exponent) + 64 / 2 ^ exponent ≤ 64
+bits-within place zero h = omega arith
+bits-within place (suc zero) h = omega arith
+bits-within place (suc (suc zero)) h = omega arith
+bits-within place (suc (suc (suc zero))) h = omega arith
+bits-within place (suc (suc (suc (suc n)))) h = absurd (omega arith)

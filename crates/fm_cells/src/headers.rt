@@ -7,21 +7,10 @@ ghost use Rattle.std.specs.Prelude.{◌≡◌, ◌^◌, ◌<◌};
 ghost use Rattle.fm_cells.specs.Sizes.{IsPack};
 ghost use Rattle.fm_cells.specs.inner.Words as spec;
 
-/// The exponent of a pack, which is a power of two.
-fn exponent(pack: u8) -> u64
-    requires { IsPack pack }
-    ensures power { 2 ^ result ≡ pack }
-    ensures small { result < 2 ^ 2 }
-{
-    match pack {
-        1 => 0,
-        2 => 1,
-        4 => 2,
-        _ => 3,
-    }
-}
+use crate::sizes::exponent;
 
 /// The first header word.
+#[inline]
 pub fn identity_word(class: u32, birth: u32, pack: u8, fixed: bool) -> u64
     requires class_fits { class < 2 ^ 28 }
     requires pack_is { IsPack pack }
@@ -30,11 +19,12 @@ pub fn identity_word(class: u32, birth: u32, pack: u8, fixed: bool) -> u64
     ensures pack { spec.pack_in result ≡ pack }
     ensures fixed { spec.is_fixed result ≡ fixed }
 {
-    let kind = (fixed as u64) << 2 | exponent(pack);
+    let kind = (fixed as u64) << 2 | exponent(pack) as u64;
     (kind << 32 | birth as u64) << 28 | class as u64
 }
 
 /// The second header word.
+#[inline]
 pub fn extent_word(len: u32, chain: u32) -> u64
     requires { len < 2 ^ 31 }
     ensures { result ≡ spec.extent_word len chain }
@@ -43,6 +33,7 @@ pub fn extent_word(len: u32, chain: u32) -> u64
 }
 
 /// The number of the type in the first header word.
+#[inline]
 pub fn class_in(identity: u64) -> u32
     ensures { result ≡ spec.class_in identity }
 {
@@ -50,21 +41,33 @@ pub fn class_in(identity: u64) -> u32
 }
 
 /// The birth number in the first header word.
+#[inline]
 pub fn birth_in(identity: u64) -> u32
     ensures { result ≡ spec.birth_in identity }
 {
     (identity >> 28 & 0xffff_ffff) as u32
 }
 
+/// The exponent of the pack in the first header word.
+#[inline]
+pub fn exponent_in(identity: u64) -> u32
+    ensures value { result ≡ spec.exponent_in identity }
+    ensures small { result < 4 }
+{
+    (identity >> 60 & 3) as u32
+}
+
 /// The pack in the first header word.
+#[inline]
 pub fn pack_in(identity: u64) -> u8
     ensures value { result ≡ spec.pack_in identity }
     ensures pack { IsPack result }
 {
-    1 << (identity >> 60 & 3)
+    1 << exponent_in(identity)
 }
 
 /// Whether the first header word says that the object is fixed.
+#[inline]
 pub fn is_fixed(identity: u64) -> bool
     ensures { result ≡ spec.is_fixed identity }
 {
@@ -72,6 +75,7 @@ pub fn is_fixed(identity: u64) -> bool
 }
 
 /// The number of elements in the second header word.
+#[inline]
 pub fn len_in(extent: u64) -> u32
     ensures { result ≡ spec.len_in extent }
 {
@@ -79,6 +83,7 @@ pub fn len_in(extent: u64) -> u32
 }
 
 /// The chain in the second header word.
+#[inline]
 pub fn chain_in(extent: u64) -> u32
     ensures { result ≡ spec.chain_in extent }
 {

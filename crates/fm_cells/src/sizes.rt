@@ -21,14 +21,14 @@ pub fn size_class(words: u32) -> u8
 }
 
 /// The words of a cell of a size class, of which there are 64. Takes no memory.
-pub fn class_words(class: u8) -> u64
-    requires { class < 64 }
-    ensures { result ≡ spec.class_words class }
+pub fn class_words(size_class: u8) -> u64
+    requires { size_class < 64 }
+    ensures { result ≡ spec.class_words size_class }
 {
-    if class <= 32 {
-        class as u64
+    if size_class <= 32 {
+        size_class as u64
     } else {
-        1 << (class - 27)
+        1 << (size_class - 27)
     }
 }
 
@@ -39,11 +39,27 @@ pub fn cell_words(words: u32) -> u64
     class_words(size_class(words))
 }
 
+/// The exponent of a pack, which is a power of two. Takes no memory.
+#[inline]
+pub fn exponent(pack: u8) -> u32
+    requires { spec.IsPack pack }
+    ensures power { 2 ^ result ≡ pack }
+    ensures small { result < 4 }
+{
+    match pack {
+        1 => 0,
+        2 => 1,
+        4 => 2,
+        _ => 3,
+    }
+}
+
 /// The words of an object of so many elements, where a word holds `pack` of them. Takes no memory.
+#[inline]
 pub fn object_words(len: u32, pack: u8) -> u32
     requires len_fits { len < 2 ^ 31 }
     requires pack_is { spec.IsPack pack }
     ensures { result ≡ spec.packed_words len pack }
 {
-    2 + (len + (pack as u32 - 1)) / pack as u32
+    2 + (len + (pack as u32 - 1) >> exponent(pack))
 }

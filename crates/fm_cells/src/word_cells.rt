@@ -22,9 +22,10 @@ ghost use Rattle.fm_cells.specs.Changes.{Take, made_by};
 ghost use Rattle.fm_cells.specs.Choices.{MayReuse, TakesCell, IsRefused, last_choice};
 
 use crate::answers::{Cell, Freed, Head, MakeFail, NotHeld};
-use crate::bodies::{element, set_element, write_object};
+use crate::bodies::{element, set_element, write_header, write_object};
 use crate::headers::{
-    birth_in, chain_in, class_in, extent_word, identity_word, is_fixed, len_in, pack_in,
+    birth_in, chain_in, class_in, exponent_in, extent_word, identity_word, is_fixed, len_in,
+    pack_in,
 };
 use crate::marks::{is_marked, reserve_marks, set_mark};
 use crate::memories::Memory;
@@ -136,12 +137,11 @@ impl WordCells {
         reserve_marks(&mut self.marks, end)?;
         self.words.resize(end, 0)?;
         let identity = identity_word(class, self.births as u32, pack, fixed);
-        write_object(
+        write_header(
             self.words.as_mut_slice(),
             cell,
             identity,
             extent_word(len, 0),
-            words,
         );
         set_mark(self.marks.as_mut_slice(), cell as u32, 1);
         self.made[size as usize] += 1;
@@ -226,6 +226,7 @@ impl Memory for WordCells {
         Ok(Freed::Done)
     }
 
+    #[inline]
     fn head(&self, cell: Cell) -> Option<Head> {
         if !is_marked(self.marks.as_slice(), cell.0) {
             return None;
@@ -241,47 +242,56 @@ impl Memory for WordCells {
         })
     }
 
+    #[inline]
     fn get(&self, cell: Cell, place: u32) -> u64 {
         let at = cell.0 as usize;
         element(
             self.words.as_slice(),
             at + 2,
-            pack_in(self.words[at]),
+            exponent_in(self.words[at]),
             place,
         )
     }
 
+    #[inline]
     fn put(&mut self, cell: Cell, place: u32, element: u64) {
         let at = cell.0 as usize;
-        let pack = pack_in(self.words[at]);
-        set_element(self.words.as_mut_slice(), at + 2, pack, place, element);
+        let exponent = exponent_in(self.words[at]);
+        set_element(self.words.as_mut_slice(), at + 2, exponent, place, element);
     }
 
+    #[inline]
     fn chain(&self, cell: Cell) -> Cell {
         Cell(chain_in(self.words[cell.0 as usize + 1]))
     }
 
+    #[inline]
     fn set_chain(&mut self, cell: Cell, to: Cell) {
         let at = cell.0 as usize + 1;
         self.words[at] = extent_word(len_in(self.words[at]), to.0);
     }
 
+    #[inline]
     fn budget(&self) -> u64 {
         self.budget
     }
 
+    #[inline]
     fn live_words(&self) -> u64 {
         self.live
     }
 
+    #[inline]
     fn peak_words(&self) -> u64 {
         self.peak
     }
 
+    #[inline]
     fn births(&self) -> u64 {
         self.births
     }
 
+    #[inline]
     fn made_words(&self) -> u64 {
         (self.words.len() as u64).saturating_sub(1)
     }

@@ -32,8 +32,11 @@ class_in identity = identity % 2 ^ 28
 abbrev pub birth_in : ℕ → ℕ
 birth_in identity = identity / 2 ^ 28 % 2 ^ 32
 
+abbrev pub exponent_in : ℕ → ℕ
+exponent_in identity = identity / 2 ^ 60 % 2 ^ 2
+
 abbrev pub pack_in : ℕ → ℕ
-pack_in identity = 2 ^ (identity / 2 ^ 60 % 2 ^ 2)
+pack_in identity = 2 ^ exponent_in identity
 
 abbrev pub is_fixed : ℕ → Bool
 is_fixed identity = nat_eq (identity / 2 ^ 62) 1

@@ -1,6 +1,6 @@
-use Rattle.std.proofs.Common.{◌≡◌, ◌<◌, ◌+◌, ◌/◌, ap, sym, ◌∙◌, get_or, subst, length}
+use Rattle.std.proofs.Common.{◌≡◌, ◌<◌, ◌+◌, ◌/◌, ◌^◌, ap, sym, ◌∙◌, get_or, subst, length}
 use Rattle.fm_cells.specs.Stores.{elements_at}
-use Rattle.fm_cells.specs.inner.Words.{pack_in, element_in}
+use Rattle.fm_cells.specs.inner.Words.{exponent_in, pack_in, element_in}
 use Rattle.fm_cells.proofs.Elements.{held_of_elements, element-fits}
 use Rattle.fm_cells.proofs.WordStores.{first_within, word-read, get_within, get_value}
 use Rattle.fm_cells.proofs.word_cells.WordCellsMemory.get.Goals as goal
@@ -9,9 +9,9 @@ pub index-requires : goal.index-requires
 index-requires c = first_within c.self.inside c.args.self.now c.args.cell.0 c.self.view_is c.self.invariant (held_of_elements c.args.self.now c.args.cell.0 c.args.place c.requires)
 
 -- the pack that was read
-pack_is : (c : goal.After-pack_in) → c.pack_in.result ≡ pack_in (get_or c.self.inside.words.items c.args.cell.0 0)
+pack_is : (c : goal.After-exponent_in) → 2 ^ c.exponent_in.result ≡ pack_in (get_or c.self.inside.words.items c.args.cell.0 0)
 pack_is c =
-    c.pack_in.ensures.value ∙ ap pack_in (word-read c.self.inside.words c.args.cell.0 c.index.result.now (first_within c.self.inside c.args.self.now c.args.cell.0 c.self.view_is c.self.invariant (held_of_elements c.args.self.now c.args.cell.0 c.args.place c.requires)) c.index.ensures)
+    ap (λ e. 2 ^ e) (c.exponent_in.ensures.value ∙ ap exponent_in (word-read c.self.inside.words c.args.cell.0 c.index.result.now (first_within c.self.inside c.args.self.now c.args.cell.0 c.self.view_is c.self.invariant (held_of_elements c.args.self.now c.args.cell.0 c.args.place c.requires)) c.index.ensures))
 
 pub element-requires-clause-within : goal.element-requires-clause-within
 element-requires-clause-within c =
@@ -20,10 +20,10 @@ element-requires-clause-within c =
 
 value_is : (c : goal.After-element) → c.element.result ≡ get_or (elements_at c.args.self.now c.args.cell.0) c.args.place 0
 value_is c =
-    let pack : c.pack_in.result ≡ pack_in (get_or c.self.inside.words.items c.args.cell.0 0) =
-    c.pack_in.ensures.value ∙ ap pack_in (word-read c.self.inside.words c.args.cell.0 c.index.result.now (first_within c.self.inside c.args.self.now c.args.cell.0 c.self.view_is c.self.invariant (held_of_elements c.args.self.now c.args.cell.0 c.args.place c.requires)) c.index.ensures) in
+    let pack : 2 ^ c.exponent_in.result ≡ pack_in (get_or c.self.inside.words.items c.args.cell.0 0) =
+    ap (λ e. 2 ^ e) (c.exponent_in.ensures.value ∙ ap exponent_in (word-read c.self.inside.words c.args.cell.0 c.index.result.now (first_within c.self.inside c.args.self.now c.args.cell.0 c.self.view_is c.self.invariant (held_of_elements c.args.self.now c.args.cell.0 c.args.place c.requires)) c.index.ensures)) in
     c.element.ensures
-    ∙ ap (λ all. element_in all (c.args.cell.0 + 2) c.pack_in.result c.args.place) c.as_slice.ensures.value
+    ∙ ap (λ all. element_in all (c.args.cell.0 + 2) (2 ^ c.exponent_in.result) c.args.place) c.as_slice.ensures.value
     ∙ ap (λ p. element_in c.self.inside.words.items (c.args.cell.0 + 2) p c.args.place) pack
     ∙ get_value c.self.inside c.args.self.now c.args.cell.0 c.args.place c.self.view_is c.self.invariant c.requires
 
