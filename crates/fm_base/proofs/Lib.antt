@@ -5,3 +5,4 @@ pub mod ResultFacts
 pub mod RowsLemmas
 pub mod RowsUnion
 pub mod TestFacts
+pub mod TextsLemmas

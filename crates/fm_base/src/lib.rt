@@ -24,4 +24,4 @@ pub use ids::{ClassId, FieldId, MethodId, TypeId};
 pub use kinds::{Base, Kind, TypeRef};
 pub use rows::Row;
 pub use sequence::Seq;
-pub use texts::{Name, Units};
+pub use texts::{Name, Units, law_units};

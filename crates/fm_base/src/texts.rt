@@ -1,10 +1,12 @@
 // The texts of class files: names as bytes, and literals as 16-bit units.
 
-ghost use Rattle.std.specs.Prelude.{◌≡◌, ◌^◌, ◌<◌, ◌↔◌, ◌==◌, ℕ, [], ◌∷◌, ◌++◌, length, IsTrue, IfOk, OnOk, OnErr};
+ghost use Rattle.std.specs.Prelude.{◌≡◌, ◌^◌, ◌<◌, ◌↔◌, ◌==◌, ℕ, List, [], ◌∷◌, ◌++◌, length, IsTrue, IfOk, OnOk, OnErr};
 ghost use Rattle.std.specs.Cmp.{partial_equiv_from_equiv};
 ghost use Rattle.std.specs.Cmp.Lexicographic.{pointwise, nat_list_eq_equiv};
 ghost use Rattle.std.specs.Iterator.Adapters.{IterYieldsInOrder};
+ghost use Rattle.std.specs.List.{flat_map, AllByRecursion};
 ghost use Rattle.std.specs.Slice.Iter.{iter_rest};
+ghost use Rattle.fm_base.specs.Texts.{unit_bytes, units, IsModifiedUtf8};
 
 use crate::error::NoMemory;
 use std::alloc::Global;
@@ -221,3 +223,12 @@ impl<'a> IntoIterator for &'a Units {
         self.iter()
     }
 }
+
+/// 16-bit units, each in its shortest bytes one after the other, are modified UTF-8, and are the units
+/// of these bytes. So a text is modified UTF-8 exactly where some units have it as their bytes.
+pub fn law_units()
+    ensures spelled { (us : List ℕ) → AllByRecursion (λ u. u < 65536) us
+        → IsModifiedUtf8 (flat_map unit_bytes us) }
+    ensures read_back { (us : List ℕ) → AllByRecursion (λ u. u < 65536) us
+        → units (flat_map unit_bytes us) ≡ us }
+{}

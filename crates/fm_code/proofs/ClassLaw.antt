@@ -158,7 +158,7 @@ tells_methods x y c d c_spells d_spells pool =
 
 -- the pool of a class file
 pool_fits : (bytes : List ℕ) (c : ClassDef) → Spells bytes c → PoolFits c.pool
-pool_fits bytes c spells = record { entries = spells.fits.pool; slots = spells.slots }
+pool_fits bytes c spells = record { entries = spells.pool.fits; slots = spells.pool.slots }
 
 -- a class file in front of other bytes is told by the bytes alone
 pub cancel_class : (x y : List ℕ) (c d : ClassDef) (r s : List ℕ) → Spells x c → Spells y d → x ++ r ≡ y ++ s → (c ≡ d) × (r ≡ s)

@@ -3,14 +3,17 @@ use Rattle.std.proofs.Common.{◌≡◌, ℕ, ◌<◌, true, false, ltb, ◌&&�
 use Rattle.std.proofs.lemmas.Bool.{and_parts, ltb-true}
 use Rattle.std.proofs.lemmas.List.{append-nil, append_assoc}
 use Rattle.std.specs.List.{AllByRecursion, list_all, flat_map, concat}
+use Rattle.fm_code.specs.ConstantPool.{AreSlots, SpellsPool}
+use Rattle.fm_base.specs.Texts.{IsModifiedUtf8}
+use Rattle.fm_base.proofs.TextsLemmas.{IsModifiedUtf8-plain}
 use Rattle.fm_code.specs.Numbers.{two, four}
 use Rattle.fm_code.specs.InstructionTable.{insn_at}
 use Rattle.fm_code.specs.ClassBytes.{counted, magic, attribute_bytes, entry_bytes, pool_bytes, raw_bytes, code_bytes, member_attribute_bytes, member_bytes, class_bytes}
-use Rattle.fm_code.specs.Fits.{FitsTwo, FitsFour, MemberAttrFits, MemberFits, CountedFits, AreBytes, ClassFits, CodeFits}
+use Rattle.fm_code.specs.Fits.{FitsTwo, FitsFour, MemberAttrFits, MemberFits, CountedFits, EntryFits, AreBytes, ClassFits, CodeFits}
 use Rattle.fm_code.specs.Names.{object}
 use Rattle.fm_code.specs.Spells.{Spells}
 use Rattle.fm_code.specs.FirstForm.{IsMain, IsFirstForm, IsNamed, DeclaresMain}
-use Rattle.fm_code.specs.Rules.{AreSlots, CodeIsValid, MethodIsValid}
+use Rattle.fm_code.specs.Rules.{CodeIsValid, MethodIsValid}
 use Rattle.fm_code.specs.Example.{example_bytes, example_entries, example_code, example_method, example_record, short_length_bytes, wrong_tag_bytes, longer_bytes}
 use Rattle.fm_code.specs.declared.constant_pool.Entry.{Entry}
 use Rattle.fm_code.specs.declared.constant_pool.Entry.TheVariants as entry
@@ -50,35 +53,75 @@ code_fits = record {
   size = omega arith;
 }
 
-fits : ClassFits example_record
-fits = record {
-  minor = omega arith;
-  major = omega arith;
-  pool = record {
-    count = omega arith;
-    each = (
-      tt,
+-- its pool
+pool_fits : CountedFits EntryFits example_entries
+pool_fits = record {
+  count = omega arith;
+  each = (
+    tt,
+    (
+      (omega arith, are_bytes (codes "M") refl),
       (
-        (omega arith, are_bytes (codes "M") refl),
+        omega arith,
         (
-          omega arith,
+          (omega arith, are_bytes (codes "java/lang/Object") refl),
           (
-            (omega arith, are_bytes (codes "java/lang/Object") refl),
+            omega arith,
             (
-              omega arith,
+              (omega arith, are_bytes (codes "main") refl),
               (
-                (omega arith, are_bytes (codes "main") refl),
-                (
-                  (omega arith, are_bytes (codes "([Ljava/lang/String;)V") refl),
-                  ((omega arith, are_bytes (codes "Code") refl), tt),
-                ),
+                (omega arith, are_bytes (codes "([Ljava/lang/String;)V") refl),
+                ((omega arith, are_bytes (codes "Code") refl), tt),
               ),
             ),
           ),
         ),
       ),
-    );
-  };
+    ),
+  );
+}
+
+-- bytes from 1 to 127, by a test
+are_plain : (bytes : List ℕ) → list_all (λ b. ltb 0 b && ltb b 128) bytes ≡ true → AllByRecursion (λ b. (0 < b) × (b < 128)) bytes
+are_plain [] e = tt
+are_plain (b ∷ bytes) e =
+    let parts = and_parts (ltb 0 b && ltb b 128) (list_all (λ c. ltb 0 c && ltb c 128) bytes) e in
+    let both = and_parts (ltb 0 b) (ltb b 128) parts.0 in
+    ((ltb-true 0 b both.0, ltb-true b 128 both.1), are_plain bytes parts.1)
+
+is_text : (bytes : List ℕ) → list_all (λ b. ltb 0 b && ltb b 128) bytes ≡ true → IsModifiedUtf8 bytes
+is_text bytes e = IsModifiedUtf8-plain bytes (are_plain bytes e)
+
+pool_spelled : SpellsPool (pool_bytes example_record.pool) example_record.pool
+pool_spelled = record {
+  bytes_are = refl;
+  fits = pool_fits;
+  slots = tt;
+  entries = (
+    tt,
+    (
+      is_text (codes "M") refl,
+      (
+        inl refl,
+        (
+          is_text (codes "java/lang/Object") refl,
+          (
+            inl refl,
+            (
+              is_text (codes "main") refl,
+              (is_text (codes "([Ljava/lang/String;)V") refl, (is_text (codes "Code") refl, tt)),
+            ),
+          ),
+        ),
+      ),
+    ),
+  );
+}
+
+fits : ClassFits example_record
+fits = record {
+  minor = omega arith;
+  major = omega arith;
   flags = omega arith;
   this_class = omega arith;
   super_class = omega arith;
@@ -129,8 +172,7 @@ pub example_spelled : Spells example_bytes example_record
 example_spelled = record {
   bytes_are = bytes_are;
   fits = fits;
-  slots = tt;
-  entries = (tt, (tt, (inl refl, (tt, (inl refl, (tt, (tt, (tt, tt))))))));
+  pool = pool_spelled;
   this_class = refl;
   super_class = inr refl;
   interfaces = tt;
@@ -141,14 +183,6 @@ example_spelled = record {
 }
 
 -- ---- the first form
-
--- bytes from 1 to 127, by a test
-are_plain : (bytes : List ℕ) → list_all (λ b. ltb 0 b && ltb b 128) bytes ≡ true → AllByRecursion (λ b. (0 < b) × (b < 128)) bytes
-are_plain [] e = tt
-are_plain (b ∷ bytes) e =
-    let parts = and_parts (ltb 0 b && ltb b 128) (list_all (λ c. ltb 0 c && ltb c 128) bytes) e in
-    let both = and_parts (ltb 0 b) (ltb b 128) parts.0 in
-    ((ltb-true 0 b both.0, ltb-true b 128 both.1), are_plain bytes parts.1)
 
 -- it is main, in a class of that form and that name
 is_main : IsMain example_entries example_method
@@ -251,12 +285,12 @@ wrong_tag_not_spelled c spells =
     tells_same magic magic refl
     then tells_two 0 c.minor (omega arith) fits.minor
     then tells_two 49 c.major (omega arith) fits.major
-    then tells_two 8 (length c.pool.entries) (omega arith) fits.pool.count
+    then tells_two 8 (length c.pool.entries) (omega arith) spells.pool.fits.count
     then tells_nothing in
     let cut : front ++ drop 10 wrong_tag_bytes ≡ wrong_tag_bytes = refl in
     let ((_, (_, (_, (count, _)))), rest) =
     told.cancel (drop 10 wrong_tag_bytes) (flat_map entry_bytes c.pool.entries ++ bytes_behind_pool c) (cut ∙ spells.bytes_are ∙ class_front c) in
-    no_entries_two c.pool.entries (drop 11 wrong_tag_bytes) (bytes_behind_pool c) (sym count) spells.slots rest
+    no_entries_two c.pool.entries (drop 11 wrong_tag_bytes) (bytes_behind_pool c) (sym count) spells.pool.slots rest
 
 -- a list of no elements
 tells_none : {X : Type 0} (spell : X → List ℕ) (xs : List X) → FitsTwo (length xs) → Tells (two 0) (counted spell xs) (Unit {0})
@@ -344,8 +378,8 @@ short_length_not_spelled c spells =
     tells_same magic magic refl
     then tells_two 0 c.minor (omega arith) fits.minor
     then tells_two 49 c.major (omega arith) fits.major
-    then tells pool_bytes PoolFits Cancels-pool example_record.pool c.pool (record { entries = example.fits.pool; slots = example.slots })
-    (record { entries = fits.pool; slots = spells.slots })
+    then tells pool_bytes PoolFits Cancels-pool example_record.pool c.pool (record { entries = example.pool.fits; slots = example.pool.slots })
+    (record { entries = spells.pool.fits; slots = spells.pool.slots })
     then tells_two 33 c.flags (omega arith) fits.flags
     then tells_two 2 c.this_class (omega arith) fits.this_class
     then tells_two 4 c.super_class (omega arith) fits.super_class

@@ -1,10 +1,10 @@
 -- The constant pool is told by its bytes.
 use Rattle.std.proofs.Common.{◌≡◌, ℕ, Bool, true, false, List, [], ◌∷◌, ◌++◌, length, refl, ap, sym, ◌∙◌, arith, subst}
 use Rattle.std.specs.List.{AllByRecursion, flat_map}
+use Rattle.fm_code.specs.ConstantPool.{AreSlots, takes_two}
 use Rattle.fm_code.specs.Numbers.{two}
 use Rattle.fm_code.specs.ClassBytes.{entry_bytes, pool_bytes}
 use Rattle.fm_code.specs.Fits.{FitsTwo, CountedFits, EntryFits}
-use Rattle.fm_code.specs.Rules.{AreSlots, takes_two}
 use Rattle.fm_code.specs.declared.constant_pool.Entry.{Entry}
 use Rattle.fm_code.specs.declared.constant_pool.Entry.TheVariants as entry
 use Rattle.fm_code.specs.declared.constant_pool.Pool.{Pool}

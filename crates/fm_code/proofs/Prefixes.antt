@@ -3,10 +3,10 @@ use Rattle.std.proofs.Common.{◌≡◌, ℕ, ◌^◌, ◌<◌, List, [], ◌∷
 use Rattle.std.proofs.lemmas.List.{append_assoc, take_at, drop_at}
 use Rattle.std.specs.Int.{w32, w64}
 use Rattle.std.specs.List.{AllByRecursion, flat_map}
+use Rattle.fm_code.specs.ConstantPool.{utf8_at}
 use Rattle.fm_code.specs.Numbers.{two, four, eight, signed_four, signed_eight}
 use Rattle.fm_code.specs.ClassBytes.{counted, attribute_bytes, raw_bytes}
 use Rattle.fm_code.specs.Fits.{FitsTwo, FitsFour, CountedFits, RawFits}
-use Rattle.fm_code.specs.Rules.{utf8_at}
 use Rattle.fm_code.specs.declared.constant_pool.Entry.{Entry}
 use Rattle.fm_code.proofs.Elements.{All-both}
 use Rattle.fm_code.proofs.Bytes.{length-two, length-four, length-eight, length-signed_four, length-signed_eight, two_injective, four_injective, eight_injective, signed_four_injective, signed_eight_injective}

@@ -2,6 +2,7 @@
 use Rattle.std.specs.Prelude.{ℕ, suc, zero, ◌-◌, List, [], ◌∷◌, ◌++◌, length}
 use Rattle.std.specs.List.{flat_map, concat}
 use Rattle.fm_code.specs.Numbers.{two, four, eight, signed_four, signed_eight}
+use Rattle.fm_code.specs.declared.constant_pool.TheConstants.{CONSTANT_Utf8, CONSTANT_Integer, CONSTANT_Float, CONSTANT_Long, CONSTANT_Double, CONSTANT_Class, CONSTANT_String, CONSTANT_Fieldref, CONSTANT_Methodref, CONSTANT_InterfaceMethodref, CONSTANT_NameAndType}
 use Rattle.fm_code.specs.declared.constant_pool.Entry.{Entry}
 use Rattle.fm_code.specs.declared.constant_pool.Entry.TheVariants as entry
 use Rattle.fm_code.specs.declared.constant_pool.Pool.{Pool}
@@ -22,21 +23,21 @@ use Rattle.fm_code.specs.declared.code_array.Var.{Var}
 abbrev pub counted : {X : Type 0} → (X → List ℕ) → List X → List ℕ
 counted spell xs = two (length xs) ++ flat_map spell xs
 
--- ---- the constant pool (4.4)
+-- ---- the constant pool (JVMS 4.4)
 
--- an entry: its tag, and what the tag asks for
+-- an entry: its tag (JVMS 4.4, table 4.4-A), and what the tag asks for
 unfoldable pub entry_bytes : Entry → List ℕ
-entry_bytes (entry.Utf8 name) = 1 ∷ (two (length name) ++ name)
-entry_bytes (entry.Integer value) = 3 ∷ signed_four value
-entry_bytes (entry.Float bits) = 4 ∷ four bits
-entry_bytes (entry.Long value) = 5 ∷ signed_eight value
-entry_bytes (entry.Double bits) = 6 ∷ eight bits
-entry_bytes (entry.Class name) = 7 ∷ two name
-entry_bytes (entry.Text units) = 8 ∷ two units
-entry_bytes (entry.Field class member) = 9 ∷ (two class ++ two member)
-entry_bytes (entry.Method class member) = 10 ∷ (two class ++ two member)
-entry_bytes (entry.InterfaceMethod class member) = 11 ∷ (two class ++ two member)
-entry_bytes (entry.NameAndType name descriptor) = 12 ∷ (two name ++ two descriptor)
+entry_bytes (entry.Utf8 name) = CONSTANT_Utf8 ∷ (two (length name) ++ name)
+entry_bytes (entry.Integer value) = CONSTANT_Integer ∷ signed_four value
+entry_bytes (entry.Float bits) = CONSTANT_Float ∷ four bits
+entry_bytes (entry.Long value) = CONSTANT_Long ∷ signed_eight value
+entry_bytes (entry.Double bits) = CONSTANT_Double ∷ eight bits
+entry_bytes (entry.Class name) = CONSTANT_Class ∷ two name
+entry_bytes (entry.Text units) = CONSTANT_String ∷ two units
+entry_bytes (entry.Field class member) = CONSTANT_Fieldref ∷ (two class ++ two member)
+entry_bytes (entry.Method class member) = CONSTANT_Methodref ∷ (two class ++ two member)
+entry_bytes (entry.InterfaceMethod class member) = CONSTANT_InterfaceMethodref ∷ (two class ++ two member)
+entry_bytes (entry.NameAndType name descriptor) = CONSTANT_NameAndType ∷ (two name ++ two descriptor)
 entry_bytes entry.Second = []
 
 unfoldable pub pool_bytes : Pool → List ℕ

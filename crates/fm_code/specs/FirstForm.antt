@@ -1,7 +1,8 @@
 -- The records that are read so far: one class with static methods over ints and longs, which call one another and print ints.
 use Rattle.std.specs.Prelude.{◌≡◌, ℕ, ◌<◌, ◌==◌, ◌||◌, ◌&&◌, ◌⊎◌, not, Bool, true, false, List, [], ◌∷◌, codes, Some, IsSomeAnd, Contains, if◌then◌else◌, slice_index, Option, None, option_and_then}
 use Rattle.std.specs.List.{list_all, list_any, AllByRecursion}
-use Rattle.fm_code.specs.Rules.{entry_at, utf8_at, class_name_at, named_and_typed_at, is_static, is_native, is_abstract}
+use Rattle.fm_code.specs.ConstantPool.{entry_at, utf8_at, class_name_at, MemberName, field_at, method_at}
+use Rattle.fm_code.specs.Rules.{is_static, is_native, is_abstract}
 use Rattle.fm_code.specs.declared.constant_pool.Entry.{Entry}
 use Rattle.fm_code.specs.declared.constant_pool.Entry.TheVariants as entry
 use Rattle.fm_code.specs.declared.class_file.ClassDef.{ClassDef}
@@ -41,29 +42,6 @@ is_number_descriptor (c ∷ rest) = (c == 40) && numbers_and_result rest where
 pub record IsMain (entries : List Entry) (m : Member) : Type 0 where
   pub name : utf8_at entries m.name ≡ Some (codes "main")
   pub descriptor : utf8_at entries m.descriptor ≡ Some (codes "([Ljava/lang/String;)V")
-
--- the class, the name and the descriptor of a member
-pub record MemberName : Type 0 where
-  pub class : List ℕ
-  pub name : List ℕ
-  pub descriptor : List ℕ
-
-abbrev pub member_of : List Entry → ℕ → ℕ → Option MemberName
-member_of entries class member =
-    option_and_then (λ c. option_and_then (λ pair. Some (record { class = c; name = pair.0; descriptor = pair.1 })) (named_and_typed_at entries member)) (class_name_at entries class)
-
--- the field at an index, or the method
-abbrev pub field_at : List Entry → ℕ → Option MemberName
-field_at entries index = of_field (entry_at entries index) where
-  of_field : Entry → Option MemberName
-  of_field (entry.Field class member) = member_of entries class member
-  of_field e = None
-
-abbrev pub method_at : List Entry → ℕ → Option MemberName
-method_at entries index = of_method (entry_at entries index) where
-  of_method : Entry → Option MemberName
-  of_method (entry.Method class member) = member_of entries class member
-  of_method e = None
 
 -- System.out, and its println of an int
 abbrev pub system_out : MemberName

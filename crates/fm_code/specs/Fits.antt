@@ -87,7 +87,6 @@ pub record MemberFits (m : Member) : Type 0 where
 pub record ClassFits (c : ClassDef) : Type 0 where
   pub minor : FitsTwo c.minor
   pub major : FitsTwo c.major
-  pub pool : CountedFits EntryFits c.pool.entries
   pub flags : FitsTwo c.flags
   pub this_class : FitsTwo c.this_class
   pub super_class : FitsTwo c.super_class

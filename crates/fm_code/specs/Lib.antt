@@ -4,6 +4,8 @@ pub mod ClassBytes
 pub mod SpellsCode
 pub mod Names
 pub mod Fits
+pub mod ConstantPool
+pub mod FreeEntries
 pub mod Rules
 pub mod Spells
 pub mod FirstForm

@@ -1,13 +1,13 @@
 -- The rules that the record of a class file meets beside its bytes (class file chapter, sections 4.1 to 4.10).
 -- Written so far are the rules that a record of the first form can break, and those by which the bytes determine the record.
-use Rattle.std.specs.Prelude.{◌≡◌, ◌≢◌, ℕ, ◌<◌, ◌≤◌, ◌==◌, ◌||◌, ◌⊎◌, Bool, true, false, List, [], ◌∷◌, length, codes, Option, Some, None, IsSome, IsSomeAnd, count_by, option_and_then, if◌then◌else◌}
-use Rattle.std.specs.List.{flat_map, slice_index_or, AllByRecursion}
+use Rattle.std.specs.Prelude.{◌≡◌, ◌≢◌, ℕ, ◌<◌, ◌≤◌, ◌==◌, ◌||◌, ◌⊎◌, Bool, true, false, List, [], ◌∷◌, length, codes, Some, IsSomeAnd, count_by, if◌then◌else◌}
+use Rattle.std.specs.List.{flat_map, AllByRecursion}
 use Rattle.std.specs.Int.{bit_at}
 use Rattle.fm_code.specs.ClassBytes.{item_bytes}
 use Rattle.fm_code.specs.SpellsCode.{SpellsCode, LocalsFit}
-use Rattle.fm_code.specs.Names.{IsClassName, is_unqualified, is_method_name, IsFieldDescriptor, IsMethodDescriptor}
+use Rattle.fm_code.specs.ConstantPool.{utf8_at}
+use Rattle.fm_code.specs.Names.{is_method_name, IsMethodDescriptor}
 use Rattle.fm_code.specs.declared.constant_pool.Entry.{Entry}
-use Rattle.fm_code.specs.declared.constant_pool.Entry.TheVariants as entry
 use Rattle.fm_code.specs.declared.class_file.Member.{Member}
 use Rattle.fm_code.specs.declared.class_file.MemberAttr.{MemberAttr}
 use Rattle.fm_code.specs.declared.class_file.MemberAttr.TheVariants as attribute
@@ -18,65 +18,6 @@ use Rattle.fm_code.specs.declared.code_array.CodeAttr.{CodeAttr}
 use Rattle.fm_code.specs.declared.code_array.CodeAttr.TheVariants as code_attribute
 use Rattle.fm_code.specs.declared.code_array.Line.{Line}
 use Rattle.fm_code.specs.declared.code_array.Var.{Var}
-
--- ---- the constant pool (4.4)
-
--- a long or a double takes two indices
-abbrev pub takes_two : Entry → Bool
-takes_two (entry.Long value) = true
-takes_two (entry.Double bits) = true
-takes_two e = false
-
--- nothing is spelled at index 0, nor behind what takes two indices, and all else is; the flag tells whether nothing is due
-abbrev pub AreSlots : Bool → List Entry → Type 0
-AreSlots true (entry.Second ∷ entries) = AreSlots false entries
-AreSlots true entries = ⊥
-AreSlots false [] = Unit {0}
-AreSlots false (entry.Second ∷ entries) = ⊥
-AreSlots false (e ∷ entries) = AreSlots (takes_two e) entries
-
--- what stands at an index; nothing outside the pool
-abbrev pub entry_at : List Entry → ℕ → Entry
-entry_at entries index = slice_index_or entries index entry.Second
-
--- the bytes of the text at an index
-abbrev pub utf8_at : List Entry → ℕ → Option (List ℕ)
-utf8_at entries index = text_of (entry_at entries index) where
-  text_of : Entry → Option (List ℕ)
-  text_of (entry.Utf8 name) = Some name
-  text_of e = None
-
--- the name of the class at an index
-abbrev pub class_name_at : List Entry → ℕ → Option (List ℕ)
-class_name_at entries index = option_and_then (utf8_at entries) (name_of (entry_at entries index)) where
-  name_of : Entry → Option ℕ
-  name_of (entry.Class name) = Some name
-  name_of e = None
-
--- the name and the descriptor at an index
-abbrev pub named_and_typed_at : List Entry → ℕ → Option (List ℕ × List ℕ)
-named_and_typed_at entries index = texts_of (entry_at entries index) where
-  texts_of : Entry → Option (List ℕ × List ℕ)
-  texts_of (entry.NameAndType name descriptor) =
-      option_and_then (λ n. option_and_then (λ d. Some (n, d)) (utf8_at entries descriptor)) (utf8_at entries name)
-  texts_of e = None
-
--- a field's name and descriptor, or a method's; a method's arguments take at most 255 words without a receiver
-abbrev pub IsFieldPair : List ℕ × List ℕ → Type 0
-IsFieldPair pair = (is_unqualified pair.0 ≡ true) × IsFieldDescriptor pair.1
-
-abbrev pub IsMethodPair : List ℕ × List ℕ → Type 0
-IsMethodPair pair = (is_method_name pair.0 ≡ true) × IsMethodDescriptor 0 pair.1
-
--- a class entry names a text, and that text a class (4.4.1); a member's entry names a class, and a name with a descriptor of the
--- member's kind (4.4.2, 4.4.6)
-abbrev pub EntryIsValid : List Entry → Entry → Type 0
-EntryIsValid entries (entry.Class name) = IsSomeAnd (utf8_at entries name) IsClassName
-EntryIsValid entries (entry.Field class member) = IsSome (class_name_at entries class) × IsSomeAnd (named_and_typed_at entries member) IsFieldPair
-EntryIsValid entries (entry.Method class member) = IsSome (class_name_at entries class) × IsSomeAnd (named_and_typed_at entries member) IsMethodPair
-EntryIsValid entries (entry.NameAndType name descriptor) =
-    IsSomeAnd (utf8_at entries name) (λ n. IsSomeAnd (utf8_at entries descriptor) (λ d. IsFieldPair (n, d) ⊎ IsMethodPair (n, d)))
-EntryIsValid entries e = Unit {0}
 
 -- ---- flags (4.1, 4.5, 4.6)
 

@@ -1,10 +1,11 @@
 -- What it means that bytes are the class file of a record.
 use Rattle.std.specs.Prelude.{◌≡◌, ℕ, ◌⊎◌, true, List, IsSome, IsSomeAnd}
 use Rattle.std.specs.List.{AllByRecursion}
-use Rattle.fm_code.specs.ClassBytes.{class_bytes}
+use Rattle.fm_code.specs.ClassBytes.{pool_bytes, class_bytes}
+use Rattle.fm_code.specs.ConstantPool.{SpellsPool, utf8_at, class_name_at}
 use Rattle.fm_code.specs.Fits.{ClassFits}
 use Rattle.fm_code.specs.Names.{is_binary_name}
-use Rattle.fm_code.specs.Rules.{AreSlots, EntryIsValid, utf8_at, class_name_at, is_interface, FieldIsValid, MethodIsValid, AreDistinct}
+use Rattle.fm_code.specs.Rules.{is_interface, FieldIsValid, MethodIsValid, AreDistinct}
 use Rattle.fm_code.specs.declared.class_file.ClassDef.{ClassDef}
 use Rattle.fm_code.specs.declared.class_file.Raw.{Raw}
 
@@ -12,8 +13,7 @@ use Rattle.fm_code.specs.declared.class_file.Raw.{Raw}
 pub record Spells (bytes : List ℕ) (c : ClassDef) : Type 0 where
   pub bytes_are : bytes ≡ class_bytes c
   pub fits : ClassFits c
-  pub slots : AreSlots true c.pool.entries
-  pub entries : AllByRecursion (EntryIsValid c.pool.entries) c.pool.entries
+  pub pool : SpellsPool (pool_bytes c.pool) c.pool
   -- the class names itself, and is no array
   pub this_class : IsSomeAnd (class_name_at c.pool.entries c.this_class) (λ name. is_binary_name name ≡ true)
   -- 0, or a class

@@ -1,9 +1,42 @@
-// The constant pool (class file chapter, section 4.4).
+// The constant pool (JVMS 4.4).
 
 ghost use Rattle.std.specs.Prelude.{◌≡◌, ◌≢◌, IfSome, IfNone, option_copied};
-ghost use Rattle.fm_code.specs.Rules.{entry_at, utf8_at};
+ghost use Rattle.fm_code.specs.ConstantPool.{entry_at, utf8_at};
 
 use fm_base::{Name, Seq};
+
+/// The tag of a text (JVMS 4.4.7).
+pub const CONSTANT_Utf8: u8 = 1;
+
+/// The tag of an int (JVMS 4.4.4).
+pub const CONSTANT_Integer: u8 = 3;
+
+/// The tag of a float (JVMS 4.4.4).
+pub const CONSTANT_Float: u8 = 4;
+
+/// The tag of a long (JVMS 4.4.5).
+pub const CONSTANT_Long: u8 = 5;
+
+/// The tag of a double (JVMS 4.4.5).
+pub const CONSTANT_Double: u8 = 6;
+
+/// The tag of a class (JVMS 4.4.1).
+pub const CONSTANT_Class: u8 = 7;
+
+/// The tag of a constant text (JVMS 4.4.3).
+pub const CONSTANT_String: u8 = 8;
+
+/// The tag of a field of a class (JVMS 4.4.2).
+pub const CONSTANT_Fieldref: u8 = 9;
+
+/// The tag of a method of a class (JVMS 4.4.2).
+pub const CONSTANT_Methodref: u8 = 10;
+
+/// The tag of a method of an interface (JVMS 4.4.2).
+pub const CONSTANT_InterfaceMethodref: u8 = 11;
+
+/// The tag of a name with a descriptor (JVMS 4.4.6).
+pub const CONSTANT_NameAndType: u8 = 12;
 
 /// One entry of a constant pool. The numbers are indices of other entries, but for the numeric
 /// constants: a `Float` and a `Double` are kept as the bits of their value.

@@ -14,7 +14,11 @@ mod operations;
 
 pub use class_file::{ClassDef, Member, MemberAttr, Raw};
 pub use code_array::{Code, CodeAttr, Handler, Item, Line, Var};
-pub use constant_pool::{Entry, Pool};
+pub use constant_pool::{
+    CONSTANT_Class, CONSTANT_Double, CONSTANT_Fieldref, CONSTANT_Float, CONSTANT_Integer,
+    CONSTANT_InterfaceMethodref, CONSTANT_Long, CONSTANT_Methodref, CONSTANT_NameAndType,
+    CONSTANT_String, CONSTANT_Utf8, Entry, Pool,
+};
 pub use instructions::Insn;
 pub use laws::{law_example, law_nothing_follows, law_number_bytes, law_one_code, law_one_record};
 pub use operations::{Conv, Elem, Op, Reg, Shift, Test};

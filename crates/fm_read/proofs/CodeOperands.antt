@@ -4,8 +4,7 @@ use Rattle.std.specs.Prelude.{Contains}
 use Rattle.std.specs.List.{AllWithin, HoldsAt}
 use Rattle.std.proofs.lemmas.Bool.{false≢true}
 use Rattle.std.proofs.lemmas.List.{get_or-map, length-map}
-use Rattle.fm_code.specs.Rules.{utf8_at}
-use Rattle.fm_code.specs.FirstForm.{MemberName}
+use Rattle.fm_code.specs.ConstantPool.{utf8_at, MemberName}
 use Rattle.fm_code.specs.declared.constant_pool.Entry.{Entry}
 use Rattle.fm_code.specs.declared.class_file.Member.{Member}
 use Rattle.fm_read.specs.Parts.{method_view}

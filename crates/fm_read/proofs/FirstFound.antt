@@ -4,11 +4,12 @@ use Rattle.std.specs.Prelude.{IsSomeAnd, IsSome}
 use Rattle.std.specs.List.{flat_map, AllByRecursion}
 use Rattle.std.proofs.lemmas.Bool.{false≢true}
 use Rattle.std.proofs.lemmas.List.{append-nil}
+use Rattle.fm_code.specs.ConstantPool.{utf8_at, class_name_at}
 use Rattle.fm_code.specs.Numbers.{four}
 use Rattle.fm_code.specs.ClassBytes.{magic, pool_bytes, code_bytes, member_attribute_bytes, member_bytes, class_bytes}
 use Rattle.fm_code.specs.Fits.{FitsTwo, CountedFits, MemberFits, ClassFits}
 use Rattle.fm_code.specs.Names.{IsMethodDescriptor}
-use Rattle.fm_code.specs.Rules.{MethodIsValid, AreDifferent, AreDistinct, utf8_at, class_name_at, is_interface, receiver_words}
+use Rattle.fm_code.specs.Rules.{MethodIsValid, AreDifferent, AreDistinct, is_interface, receiver_words}
 use Rattle.fm_code.specs.Spells.{Spells}
 use Rattle.fm_code.specs.FirstForm.{IsFirstMethod, IsFirstForm, is_number_descriptor}
 use Rattle.fm_code.specs.declared.constant_pool.Entry.{Entry}
@@ -17,6 +18,7 @@ use Rattle.fm_code.specs.declared.class_file.Member.{Member}
 use Rattle.fm_code.specs.declared.code_array.Code.{Code}
 use Rattle.fm_read.specs.Parts.{Method, Class}
 use Rattle.fm_read.specs.CodeBody.{IsFirstBody}
+use Rattle.fm_read.proofs.EntryRules.{all_valid}
 use Rattle.fm_read.specs.PartsRules.{MethodMeetsRules, MeetsRules, AreMethodsDistinct, AreMembersOf, member_of, bare_member, bare_class, class_of_parts}
 use Rattle.fm_read.proofs.MethodPieces.{method_bytes, MethodFits}
 use Rattle.fm_read.proofs.ClassPieces.{parts_bytes, PartsFit}
@@ -179,7 +181,6 @@ is_found bytes c members e fits rules distinct members_of =
     let fitting : ClassFits (class_of_parts c members) = record {
       minor = omega arith;
       major = omega arith;
-      pool = fits.entries.fits;
       flags = fits.flags;
       this_class = fits.this_class;
       super_class = fits.super_class;
@@ -192,8 +193,12 @@ is_found bytes c members e fits rules distinct members_of =
       record {
         bytes_are = e ∙ sym (class_spelled d c members h);
         fits = fitting;
-        slots = fits.entries.slots;
-        entries = rules.entries;
+        pool = record {
+          bytes_are = refl;
+          fits = fits.entries.fits;
+          slots = fits.entries.slots;
+          entries = all_valid c.entries c.entries fits.entries.first rules.entries;
+        };
         this_class = rules.names.this_class;
         super_class = inr (some_from (class_name_at c.entries c.super_class) _ rules.names.superclass);
         interfaces = tt;

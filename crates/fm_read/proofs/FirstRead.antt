@@ -4,10 +4,11 @@ use Rattle.std.specs.Prelude.{MatchResult, IsSomeAnd, codes, ◌==◌, not}
 use Rattle.std.specs.List.{list_all, AllByRecursion}
 use Rattle.std.proofs.lemmas.Bool.{false≢true}
 use Rattle.std.proofs.lemmas.List.Elements.{recursion_from_All, All-from_get_or}
+use Rattle.fm_code.specs.ConstantPool.{utf8_at}
 use Rattle.fm_code.specs.ClassBytes.{code_bytes, class_bytes}
 use Rattle.fm_code.specs.Fits.{AreBytes, IsByte, FitsTwo, MemberFits, MemberAttrFits}
 use Rattle.fm_code.specs.Names.{is_method_name, IsMethodDescriptor}
-use Rattle.fm_code.specs.Rules.{CodeAttrIsValid, CodeIsValid, MethodIsValid, MethodAttrIsValid, utf8_at, is_static, is_interface, receiver_words}
+use Rattle.fm_code.specs.Rules.{CodeAttrIsValid, CodeIsValid, MethodIsValid, MethodAttrIsValid, is_static, is_interface, receiver_words}
 use Rattle.fm_code.specs.Spells.{Spells}
 use Rattle.fm_code.specs.FirstForm.{IsFirstCode, AreFirstAttributes, IsFirstMethod, IsFirstForm, IsMain, is_number_descriptor}
 use Rattle.fm_code.specs.declared.constant_pool.Entry.{Entry}
@@ -19,6 +20,7 @@ use Rattle.fm_code.specs.declared.class_file.Raw.{Raw}
 use Rattle.fm_code.specs.declared.code_array.Code.{Code}
 use Rattle.fm_read.specs.Parts.{Method, Class}
 use Rattle.fm_read.specs.CodeBody.{IsFirstBody}
+use Rattle.fm_read.proofs.EntryRules.{all_names}
 use Rattle.fm_read.specs.PartsRules.{IsFirstName, IsFirstSignature, MethodMeetsRules, MeetsRules, AreMethodsDistinct, IsMemberOf, AreMembersOf, member_of, bare_class, class_of_parts}
 use Rattle.fm_read.specs.Reading.{Fails, class_at}
 use Rattle.fm_read.specs.declared.failure.FirstFail.{FirstFail}
@@ -152,14 +154,14 @@ has_parts bytes c first spells =
       parts = parts;
       bytes_are = spells.bytes_are ∙ ap class_bytes (sym same) ∙ class_spelled c parts c.methods m.members_of;
       fits = record {
-        entries = record { fits = spells.fits.pool; first = first.entries; slots = spells.slots };
+        entries = record { fits = spells.pool.fits; first = first.entries; slots = spells.pool.slots };
         flags = spells.fits.flags;
         this_class = spells.fits.this_class;
         super_class = spells.fits.super_class;
         methods = (count, m.fits);
       };
       rules = record {
-        entries = spells.entries;
+        entries = all_names c.pool.entries c.pool.entries spells.pool.entries;
         names = record { this_class = spells.this_class; superclass = first.superclass };
         methods = m.rules;
         interface = interface_empty (is_interface c.flags) c m.methods c.methods m.members_of first.methods spells.methods;

@@ -19,3 +19,4 @@ pub mod FirstFound
 pub mod FirstRead
 pub mod KeysInTurn
 pub mod TextsInTurn
+pub mod EntryRules

@@ -7,10 +7,10 @@ use Rattle.std.specs.Int.{w32, w64, cast_signed}
 use Rattle.std.proofs.lemmas.Bool.{eqb-true, ltb-true, lt-ltb, le-ltb, cases_Bool}
 use Rattle.std.proofs.lemmas.List.{drop_at, take-append-drop, length-append}
 use Rattle.std.proofs.lemmas.List.Concat.{flat_map-cons}
+use Rattle.fm_code.specs.ConstantPool.{takes_two, AreSlots}
 use Rattle.fm_code.specs.Numbers.{two, signed_four, signed_eight}
 use Rattle.fm_code.specs.ClassBytes.{entry_bytes, counted}
 use Rattle.fm_code.specs.Fits.{AreBytes, FitsTwo, CountedFits, EntryFits}
-use Rattle.fm_code.specs.Rules.{takes_two, AreSlots}
 use Rattle.fm_code.specs.FirstForm.{IsFirstEntry}
 use Rattle.fm_code.specs.declared.constant_pool.Entry.{Entry}
 use Rattle.fm_code.specs.declared.constant_pool.Entry.TheVariants as entry

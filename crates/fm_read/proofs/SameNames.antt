@@ -2,8 +2,8 @@
 use Rattle.std.proofs.Common.{◌≡◌, ℕ, zero, suc, ◌<◌, List, [], ◌∷◌, map, length, get_or, Option, Some, None, refl, sym, ap, subst, ◌∙◌, arith}
 use Rattle.std.specs.Prelude.{IsSomeAnd, ◌==◌}
 use Rattle.std.specs.List.{AllByRecursion}
-use Rattle.fm_code.specs.Rules.{entry_at, utf8_at, class_name_at}
-use Rattle.fm_code.specs.FirstForm.{MemberName, field_at, method_at, system_out, println_int, opcode_of, IsConstantOf, Declares, IsFirstOperand}
+use Rattle.fm_code.specs.ConstantPool.{entry_at, utf8_at, class_name_at, MemberName, field_at, method_at}
+use Rattle.fm_code.specs.FirstForm.{system_out, println_int, opcode_of, IsConstantOf, Declares, IsFirstOperand}
 use Rattle.fm_code.specs.declared.constant_pool.Entry.{Entry}
 use Rattle.fm_code.specs.declared.class_file.ClassDef.{ClassDef}
 use Rattle.fm_code.specs.declared.class_file.Member.{Member}

@@ -1,7 +1,6 @@
 -- Members of classes by their names, as they are looked up in a constant pool.
 use Rattle.std.specs.Prelude.{◌≡◌, List, Some}
-use Rattle.fm_code.specs.Rules.{utf8_at}
-use Rattle.fm_code.specs.FirstForm.{MemberName}
+use Rattle.fm_code.specs.ConstantPool.{utf8_at, MemberName}
 use Rattle.fm_code.specs.declared.constant_pool.Entry.{Entry}
 use Rattle.fm_read.specs.Parts.{Method}
 use Rattle.fm_read.specs.declared.operands.NamedMember.{NamedMember}

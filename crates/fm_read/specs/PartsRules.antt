@@ -1,10 +1,12 @@
 -- The rules that the parts of a class of the first form meet beside their spelling, and the record that they make.
 use Rattle.std.specs.Prelude.{◌≡◌, ◌==◌, ◌⊎◌, not, ℕ, true, false, List, [], ◌∷◌, map, codes, Some, IsSomeAnd}
 use Rattle.std.specs.List.{list_all, AllByRecursion}
+use Rattle.fm_code.specs.ConstantPool.{utf8_at, class_name_at, EntryIsValid}
 use Rattle.fm_code.specs.Names.{is_method_name, is_binary_name, IsMethodDescriptor}
-use Rattle.fm_code.specs.Rules.{utf8_at, class_name_at, is_static, is_native, is_abstract, is_interface, EntryIsValid, AreDistinct}
+use Rattle.fm_code.specs.Rules.{is_static, is_native, is_abstract, is_interface, AreDistinct}
 use Rattle.fm_code.specs.FirstForm.{is_number_descriptor}
 use Rattle.fm_code.specs.declared.constant_pool.Entry.{Entry}
+use Rattle.fm_code.specs.declared.constant_pool.Entry.TheVariants as entry
 use Rattle.fm_code.specs.declared.class_file.ClassDef.{ClassDef}
 use Rattle.fm_code.specs.declared.class_file.Member.{Member}
 use Rattle.fm_code.specs.declared.class_file.MemberAttr.TheVariants as attribute
@@ -48,13 +50,21 @@ AreMethodsDistinct entries methods = AreDistinct entries (map bare_member method
 abbrev pub IsEmptyInterface : ℕ → List Method → Type 0
 IsEmptyInterface flags methods = is_interface flags ≡ true → methods ≡ []
 
+-- what an entry of the first form is asked beside its bytes: that what it names is there
+abbrev pub NamesAreValid : List Entry → Entry → Type 0
+NamesAreValid entries (entry.Class name) = EntryIsValid entries (entry.Class name)
+NamesAreValid entries (entry.Field class member) = EntryIsValid entries (entry.Field class member)
+NamesAreValid entries (entry.Method class member) = EntryIsValid entries (entry.Method class member)
+NamesAreValid entries (entry.NameAndType name descriptor) = EntryIsValid entries (entry.NameAndType name descriptor)
+NamesAreValid entries e = Unit {0}
+
 -- the class names itself, and is no array; and it extends java/lang/Object
 pub record NamesMeetRules (entries : List Entry) (this super : ℕ) : Type 0 where
   pub this_class : IsSomeAnd (class_name_at entries this) (λ name. is_binary_name name ≡ true)
   pub superclass : class_name_at entries super ≡ Some (codes "java/lang/Object")
 
 pub record MeetsRules (c : Class) : Type 0 where
-  pub entries : AllByRecursion (EntryIsValid c.entries) c.entries
+  pub entries : AllByRecursion (NamesAreValid c.entries) c.entries
   pub names : NamesMeetRules c.entries c.this_class c.super_class
   pub methods : AllByRecursion (MethodMeetsRules c.entries) c.methods
   pub interface : IsEmptyInterface c.flags c.methods

@@ -3,7 +3,7 @@ use Rattle.std.specs.Prelude.{◌≡◌, ℕ, zero, suc, ◌==◌, ◌&&◌, Boo
 use Rattle.std.specs.List.{list_all}
 use Rattle.std.specs.Int.{w32, w64, cast_signed}
 use Rattle.byteorder.specs.Endian.{big_number}
-use Rattle.fm_code.specs.Rules.{takes_two}
+use Rattle.fm_code.specs.ConstantPool.{takes_two}
 use Rattle.fm_code.specs.declared.constant_pool.Entry.{Entry}
 use Rattle.fm_code.specs.declared.constant_pool.Entry.TheVariants as entry
 use Rattle.fm_read.specs.Parts.{Method, Class}

@@ -1,7 +1,7 @@
 -- Numbers that stand for texts of a constant pool.
 use Rattle.std.specs.Prelude.{◌≡◌, ◌↔◌, ℕ, List, [], ◌∷◌, slice_index}
 use Rattle.std.specs.List.{AllByRecursion}
-use Rattle.fm_code.specs.Rules.{utf8_at}
+use Rattle.fm_code.specs.ConstantPool.{utf8_at}
 use Rattle.fm_code.specs.declared.constant_pool.Entry.{Entry}
 use Rattle.fm_read.specs.Parts.{Method}
 

@@ -1,9 +1,9 @@
 // The class that a program is started with: it has the name that was asked for, and a main method.
 
 ghost use Rattle.std.specs.Prelude.{◌≡◌, ◌↔◌, Some, IfOk, IsTrue, option_copied};
+ghost use Rattle.fm_code.specs.ConstantPool.{utf8_at, class_name_at};
 ghost use Rattle.fm_code.specs.declared.class_file.ClassDef.{ClassDef};
 ghost use Rattle.fm_code.specs.FirstForm.{IsNamed, DeclaresMain, IsMain};
-ghost use Rattle.fm_code.specs.Rules.{utf8_at, class_name_at};
 ghost use Rattle.fm_read.specs.MainClass.{IsMainClass};
 
 use crate::failure::FirstFail;

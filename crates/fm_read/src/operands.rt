@@ -3,8 +3,8 @@
 ghost use Rattle.std.specs.Prelude.{◌≡◌, ◌↔◌, ◌<◌, ◌==◌, Some, IsTrue};
 ghost use Rattle.std.specs.List.{AllByRecursion};
 ghost use Rattle.std.specs.Option.{option_map};
-ghost use Rattle.fm_code.specs.Rules.{entry_at, utf8_at, class_name_at};
-ghost use Rattle.fm_code.specs.FirstForm.{member_of, field_at, method_at, system_out, println_int, opcode_of, IsConstantOf, Declares, IsFirstOperand};
+ghost use Rattle.fm_code.specs.ConstantPool.{entry_at, utf8_at, class_name_at, member_named, field_at, method_at};
+ghost use Rattle.fm_code.specs.FirstForm.{system_out, println_int, opcode_of, IsConstantOf, Declares, IsFirstOperand};
 ghost use Rattle.fm_read.specs.Parts.{class_view, method_view};
 ghost use Rattle.fm_read.specs.PartsRules.{bare_class};
 ghost use Rattle.fm_read.specs.Operands.{member_view, Agrees};
@@ -26,7 +26,7 @@ pub(crate) struct NamedMember<'a> {
 
 /// The member of the class at an index, with the name and the descriptor at another.
 fn member_of(entries: &[Entry], class: u16, member: u16) -> Option<NamedMember<'_>>
-    ensures { option_map member_view result ≡ member_of entries.now class member }
+    ensures { option_map member_view result ≡ member_named entries.now class member }
 {
     let class = class_name_at(entries, class)?;
     let (name, descriptor) = named_and_typed_at(entries, member)?;

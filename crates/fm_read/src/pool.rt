@@ -2,8 +2,8 @@
 // classes.
 
 ghost use Rattle.std.specs.Prelude.{◌≡◌, ◌<◌, ◌&&◌, true, nat_lt, IsTrue};
+ghost use Rattle.fm_code.specs.ConstantPool.{takes_two};
 ghost use Rattle.std.specs.List.{list_all};
-ghost use Rattle.fm_code.specs.Rules.{takes_two};
 ghost use Rattle.fm_read.specs.Reading.{Gives, entry_at_front, entry_behind, pair_at, pool_at, slot_at, slots_at, text_at};
 
 use crate::failure::FirstFail;

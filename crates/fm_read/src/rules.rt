@@ -4,10 +4,11 @@
 ghost use Rattle.std.specs.Prelude.{◌≡◌, ◌↔◌, ◌<◌, ◌==◌, not, true, map, codes, Some, IsSomeAnd, IsTrue, option_copied};
 ghost use Rattle.std.specs.List.{list_all, AllByRecursion};
 ghost use Rattle.std.specs.Option.{option_map};
-ghost use Rattle.fm_code.specs.Rules.{utf8_at, class_name_at, named_and_typed_at, has_flag, EntryIsValid, IsFieldPair, IsMethodPair};
+ghost use Rattle.fm_code.specs.ConstantPool.{utf8_at, class_name_at, named_and_typed_at, EntryIsValid, IsFieldPair, IsMethodPair};
+ghost use Rattle.fm_code.specs.Rules.{has_flag};
 ghost use Rattle.fm_code.specs.Names.{is_binary_name};
 ghost use Rattle.fm_read.specs.Parts.{class_view, method_view};
-ghost use Rattle.fm_read.specs.PartsRules.{HasFirstFlags, IsFirstName, IsEmptyInterface, IsFirstSignature, MeetsRules, MethodMeetsRules, NamesMeetRules};
+ghost use Rattle.fm_read.specs.PartsRules.{HasFirstFlags, IsFirstName, IsEmptyInterface, IsFirstSignature, MeetsRules, MethodMeetsRules, NamesAreValid, NamesMeetRules};
 
 use crate::names::{
     is_binary_name, is_class_name, is_field_descriptor, is_method_descriptor, is_method_name,
@@ -122,7 +123,7 @@ fn name_and_type_is_valid(entries: &[Entry], name: u16, descriptor: u16) -> bool
 /// Whether an entry names what it has to: a class entry a class, a member's entry a class with a name
 /// and a descriptor of its kind.
 fn entry_is_valid(entries: &[Entry], entry: &Entry) -> bool
-    ensures { IsTrue result ↔ EntryIsValid entries.now entry.now }
+    ensures { IsTrue result ↔ NamesAreValid entries.now entry.now }
 {
     match entry {
         Entry::Class(name) => class_is_valid(entries, *name),
@@ -137,7 +138,7 @@ fn entry_is_valid(entries: &[Entry], entry: &Entry) -> bool
 
 /// Whether each entry is valid.
 fn entries_are_valid(entries: &[Entry]) -> bool
-    ensures { IsTrue result ↔ AllByRecursion (EntryIsValid entries.now) entries.now }
+    ensures { IsTrue result ↔ AllByRecursion (NamesAreValid entries.now) entries.now }
 {
     entries.iter().all(|entry| entry_is_valid(entries, entry))
 }

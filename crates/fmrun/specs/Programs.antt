@@ -2,7 +2,7 @@
 use Rattle.std.specs.Prelude.{ℕ, ◌==◌, ◌&&◌, Bool, false, List, [], ◌∷◌, map, codes, Option, Some, None, if◌then◌else◌, nat_eq, drop}
 use Rattle.std.specs.List.{slice_index_or, position, before_first, after_first}
 use Rattle.std.specs.Cmp.Lexicographic.{pointwise}
-use Rattle.fm_code.specs.Rules.{entry_at, utf8_at, class_name_at}
+use Rattle.fm_code.specs.ConstantPool.{entry_at, utf8_at, class_name_at}
 use Rattle.fm_code.specs.declared.constant_pool.Entry.{Entry}
 use Rattle.fm_code.specs.declared.constant_pool.Entry.TheVariants as entry
 use Rattle.fm_code.specs.declared.class_file.ClassDef.{ClassDef}

@@ -1,8 +1,8 @@
 // A class made ready to run.
 
 ghost use Rattle.std.specs.Prelude.{◌≡◌, ◌≤◌, ◌==◌, IfOk, drop, length, map, position};
+ghost use Rattle.fm_code.specs.ConstantPool.{entry_at, utf8_at, class_name_at};
 ghost use Rattle.std.specs.List.{before_first, after_first, position_or_len};
-ghost use Rattle.fm_code.specs.Rules.{entry_at, utf8_at, class_name_at};
 ghost use Rattle.fmrun.specs.Programs.{program_of, method_of, result_kind, constant_of, field_constant, method_constant, is_name_and_type, is_named_by, is_main, numbered};
 ghost use Rattle.fmrun.specs.Steps.{argument_words};
 

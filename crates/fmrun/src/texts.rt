@@ -1,7 +1,7 @@
 // The texts of a constant pool (class file chapter, section 4.4).
 
 ghost use Rattle.std.specs.Prelude.{◌≡◌, None, Some, MatchOption};
-ghost use Rattle.fm_code.specs.Rules.{utf8_at, class_name_at};
+ghost use Rattle.fm_code.specs.ConstantPool.{utf8_at, class_name_at};
 ghost use Rattle.fmrun.specs.Programs.{is_text, is_same_text, is_main};
 
 use fm_code::{Entry, Member, Pool};
