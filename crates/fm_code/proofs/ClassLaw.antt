@@ -5,7 +5,8 @@ use Rattle.std.specs.List.{AllByRecursion}
 use Rattle.fm_code.specs.Numbers.{two}
 use Rattle.fm_code.specs.ClassBytes.{counted, attribute_bytes, raw_bytes, code_bytes, member_attribute_bytes, member_bytes, pool_bytes, magic, class_bytes}
 use Rattle.fm_code.specs.Fits.{FitsTwo, FitsFour, MemberAttrFits, MemberFits, RawFits}
-use Rattle.fm_code.specs.Rules.{FieldAttrIsValid, FieldIsValid, MethodAttrIsValid, MethodIsValid, is_interface}
+use Rattle.fm_code.specs.AccessFlags.{is_interface}
+use Rattle.fm_code.specs.Members.{FieldAttrIsValid, FieldIsValid, MethodAttrIsValid, MethodIsValid}
 use Rattle.fm_code.specs.Spells.{Spells}
 use Rattle.fm_code.specs.declared.constant_pool.Entry.{Entry}
 use Rattle.fm_code.specs.declared.constant_pool.Pool.{Pool}
@@ -70,9 +71,9 @@ same_field_attribute : (entries : List Entry) (a b : MemberAttr) → FieldAttrIs
 same_field_attribute entries (attribute.Constant n v) (attribute.Constant m w) (a_fits, _) (b_fits, _) names bodies =
     let values = told_alone two FitsTwo Cancels-two v w a_fits.1 b_fits.1 bodies in λ k. attribute.Constant (names k) (values k)
 same_field_attribute entries (attribute.Constant n v) (attribute.Other raw) a_right b_right names bodies =
-    absurd (text_meets _ entries n raw.name _ names a_right.1 b_right.1 refl)
+    absurd (text_meets _ entries n raw.name _ names a_right.1.0 b_right.1 refl)
 same_field_attribute entries (attribute.Other raw) (attribute.Constant m w) a_right b_right names bodies =
-    absurd (text_meets _ entries m raw.name _ (sym names) b_right.1 a_right.1 refl)
+    absurd (text_meets _ entries m raw.name _ (sym names) b_right.1.0 a_right.1 refl)
 same_field_attribute entries (attribute.Other raw) (attribute.Other other) a_right b_right names bodies =
     λ k. attribute.Other (record { name = names k; bytes = bodies k })
 same_field_attribute entries (attribute.Coded n c) b a_right b_right names bodies = absurd a_right.1
@@ -135,11 +136,14 @@ tells_fields : (x y : List ℕ) (c d : ClassDef) → Spells x c → Spells y d �
 tells_fields x y c d c_spells d_spells pool =
     let entries = c.pool.entries in
     let Valid : Member → Type 0 = λ m. AllByRecursion (FieldAttrIsValid entries) m.attributes in
-    let valid : (m : Member) → FieldIsValid entries m → Valid m = λ m field. field.attributes in
-    let d_there : AllByRecursion (FieldIsValid entries) d.fields = subst (λ (p : Pool). AllByRecursion (FieldIsValid p.entries) d.fields) (sym pool) d_spells.fields in
+    let valid : (interface : Bool) (m : Member) → FieldIsValid interface entries m → Valid m = λ interface m field. field.attributes in
+    let d_there : AllByRecursion (FieldIsValid (is_interface d.flags) entries) d.fields =
+    subst (λ (p : Pool). AllByRecursion (FieldIsValid (is_interface d.flags) p.entries) d.fields) (sym pool) d_spells.fields in
     tells_counted member_bytes (MemberIsRight (FieldAttrIsValid entries)) (Cancels-field entries) c.fields d.fields
-    (CountedFits-both MemberFits Valid c.fields c_spells.fits.fields (All-weaker (FieldIsValid entries) Valid valid c.fields c_spells.fields))
-    (CountedFits-both MemberFits Valid d.fields d_spells.fits.fields (All-weaker (FieldIsValid entries) Valid valid d.fields d_there))
+    (CountedFits-both MemberFits Valid c.fields c_spells.fits.fields
+    (All-weaker (FieldIsValid (is_interface c.flags) entries) Valid (valid (is_interface c.flags)) c.fields c_spells.fields))
+    (CountedFits-both MemberFits Valid d.fields d_spells.fits.fields
+    (All-weaker (FieldIsValid (is_interface d.flags) entries) Valid (valid (is_interface d.flags)) d.fields d_there))
 
 -- the methods of two class files with one pool
 tells_methods : (x y : List ℕ) (c d : ClassDef) → Spells x c → Spells y d → c.pool ≡ d.pool →

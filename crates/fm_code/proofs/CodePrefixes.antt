@@ -6,7 +6,7 @@ use Rattle.fm_code.specs.Numbers.{two, four}
 use Rattle.fm_code.specs.ClassBytes.{counted, attribute_bytes, raw_bytes, offset_in, offset_of, item_bytes, code_attribute_bytes, code_bytes}
 use Rattle.fm_code.specs.Fits.{FitsTwo, FitsFour, CountedFits, VarFits, CodeAttrFits, CodeFits}
 use Rattle.fm_code.specs.SpellsCode.{SpellsCode}
-use Rattle.fm_code.specs.Rules.{HandlerIsValid, VarIsValid, CodeAttrIsValid, CodeIsValid}
+use Rattle.fm_code.specs.CodeRules.{HandlerIsValid, VarIsValid, CodeAttrIsValid, CodeIsValid}
 use Rattle.fm_code.specs.declared.constant_pool.Entry.{Entry}
 use Rattle.fm_code.specs.declared.code_array.Code.{Code}
 use Rattle.fm_code.specs.declared.code_array.Item.{Item}
@@ -55,11 +55,11 @@ var_by place v = concat (two (place v.start) ∷ two (place v.end - place v.star
 -- ---- the tables
 
 -- an entry of the exception table that fits and is valid, and its bytes tell it
-abbrev HandlerIsRight : ℕ → Handler → Type 0
-HandlerIsRight count h = FitsTwo h.catch_class × HandlerIsValid count h
+abbrev HandlerIsRight : List Entry → ℕ → Handler → Type 0
+HandlerIsRight entries count h = FitsTwo h.catch_class × HandlerIsValid entries count h
 
-Cancels-handler : (place : ℕ → ℕ) (count : ℕ) → ArePlaces place count → Cancels (handler_by place) (HandlerIsRight count)
-Cancels-handler place count places x y r s (x_class, x_valid) (y_class, y_valid) e =
+Cancels-handler : (place : ℕ → ℕ) (entries : List Entry) (count : ℕ) → ArePlaces place count → Cancels (handler_by place) (HandlerIsRight entries count)
+Cancels-handler place entries count places x y r s (x_class, x_valid) (y_class, y_valid) e =
     let x_start : x.start ≤ count = let below = x_valid.not_empty in let end = x_valid.end in omega arith in
     let y_start : y.start ≤ count = let below = y_valid.not_empty in let end = y_valid.end in omega arith in
     let x_handler : x.handler ≤ count = let below = x_valid.handler in omega arith in
@@ -84,8 +84,8 @@ Cancels-line place count places x y r s (x_line, x_item) (y_line, y_item) e =
     (λ k. record { item = item k; line = line k }, rest)
 
 -- the same for a variable
-abbrev VarIsRight : ℕ → Var → Type 0
-VarIsRight count v = VarFits v × VarIsValid count v
+abbrev VarIsRight : List Entry → ℕ → Var → Type 0
+VarIsRight entries count v = VarFits v × VarIsValid entries count v
 
 -- offsets at the end of a range that has the same start and the same length
 same_end : (place : ℕ → ℕ) (count a b c d : ℕ) → ArePlaces place count → a ≤ b → b ≤ count → c ≤ d → d ≤ count →
@@ -102,8 +102,8 @@ same_end place count a b c d places a_b b_in c_d d_in starts sizes =
     let start : place a ≡ place c = ap place starts in
     place_injective place count b d places b_in d_in (omega arith)
 
-Cancels-var : (place : ℕ → ℕ) (count : ℕ) → ArePlaces place count → Cancels (var_by place) (VarIsRight count)
-Cancels-var place count places x y r s (x_fits, x_valid) (y_fits, y_valid) e =
+Cancels-var : (place : ℕ → ℕ) (entries : List Entry) (count : ℕ) → ArePlaces place count → Cancels (var_by place) (VarIsRight entries count)
+Cancels-var place entries count places x y r s (x_fits, x_valid) (y_fits, y_valid) e =
     let x_start : x.start ≤ count = let a = x_valid.start in let b = x_valid.end in omega arith in
     let y_start : y.start ≤ count = let a = y_valid.start in let b = y_valid.end in omega arith in
     let x_size : FitsTwo (place x.end - place x.start) = let a = places.fit x.end in omega arith in
@@ -210,12 +210,12 @@ same_lines place count places xs ys xs_fit xs_valid ys_fit ys_valid e =
     (CountedFits-both LineFits (LineIsValid count) xs xs_fit xs_valid) (CountedFits-both LineFits (LineIsValid count) ys ys_fit ys_valid) e
 
 -- a table of variables is told by its bytes
-same_vars : (place : ℕ → ℕ) (count : ℕ) → ArePlaces place count → (xs ys : List Var) → CountedFits VarFits xs → AllByRecursion (VarIsValid count) xs →
-    CountedFits VarFits ys → AllByRecursion (VarIsValid count) ys → counted (var_by place) xs ≡ counted (var_by place) ys → xs ≡ ys
-same_vars place count places xs ys xs_fit xs_valid ys_fit ys_valid e =
-    let cancels = Cancels-counted (var_by place) (VarIsRight count) (Cancels-var place count places) in
-    told_alone (counted (var_by place)) (CountedFits (VarIsRight count)) cancels xs ys
-    (CountedFits-both VarFits (VarIsValid count) xs xs_fit xs_valid) (CountedFits-both VarFits (VarIsValid count) ys ys_fit ys_valid) e
+same_vars : (place : ℕ → ℕ) (entries : List Entry) (count : ℕ) → ArePlaces place count → (xs ys : List Var) → CountedFits VarFits xs → AllByRecursion (VarIsValid entries count) xs →
+    CountedFits VarFits ys → AllByRecursion (VarIsValid entries count) ys → counted (var_by place) xs ≡ counted (var_by place) ys → xs ≡ ys
+same_vars place entries count places xs ys xs_fit xs_valid ys_fit ys_valid e =
+    let cancels = Cancels-counted (var_by place) (VarIsRight entries count) (Cancels-var place entries count places) in
+    told_alone (counted (var_by place)) (CountedFits (VarIsRight entries count)) cancels xs ys
+    (CountedFits-both VarFits (VarIsValid entries count) xs xs_fit xs_valid) (CountedFits-both VarFits (VarIsValid entries count) ys ys_fit ys_valid) e
 
 -- the name and the body tell the attribute
 same_attribute : (place : ℕ → ℕ) (entries : List Entry) (count : ℕ) → ArePlaces place count → (a b : CodeAttr) →
@@ -237,9 +237,9 @@ same_attribute place entries count places (code_attribute.Vars n false xs) (code
 same_attribute place entries count places (code_attribute.Vars n true xs) (code_attribute.Vars m false ys) a_right b_right names bodies =
     vars_types _ (same_text entries m n _ _ (sym names) b_right.1.0 a_right.1.0)
 same_attribute place entries count places (code_attribute.Vars n false xs) (code_attribute.Vars m false ys) (a_fits, a_valid) (b_fits, b_valid) names bodies =
-    let vars = same_vars place count places xs ys a_fits.1 a_valid.1 b_fits.1 b_valid.1 bodies in λ k. code_attribute.Vars (names k) false (vars k)
+    let vars = same_vars place entries count places xs ys a_fits.1 a_valid.1 b_fits.1 b_valid.1 bodies in λ k. code_attribute.Vars (names k) false (vars k)
 same_attribute place entries count places (code_attribute.Vars n true xs) (code_attribute.Vars m true ys) (a_fits, a_valid) (b_fits, b_valid) names bodies =
-    let vars = same_vars place count places xs ys a_fits.1 a_valid.1 b_fits.1 b_valid.1 bodies in λ k. code_attribute.Vars (names k) true (vars k)
+    let vars = same_vars place entries count places xs ys a_fits.1 a_valid.1 b_fits.1 b_valid.1 bodies in λ k. code_attribute.Vars (names k) true (vars k)
 same_attribute place entries count places (code_attribute.Vars n false xs) (code_attribute.Other raw) a_right b_right names bodies =
     absurd ((text_meets _ entries n raw.name _ names a_right.1.0 b_right.1).1 refl)
 same_attribute place entries count places (code_attribute.Vars n true xs) (code_attribute.Other raw) a_right b_right names bodies =
@@ -321,11 +321,11 @@ one_code_attribute entries c d c_right d_right e =
     let d_fits = d_right.fits in
     let c_valid = c_right.valid in
     let d_valid = d_right.valid in
-    let c_handlers = CountedFits-both CatchFits (HandlerIsValid count) c.handlers c_fits.handlers c_valid.handlers in
-    let d_handlers = CountedFits-both CatchFits (HandlerIsValid (length d.items)) d.handlers d_fits.handlers d_valid.handlers in
+    let c_handlers = CountedFits-both CatchFits (HandlerIsValid entries count) c.handlers c_fits.handlers c_valid.handlers in
+    let d_handlers = CountedFits-both CatchFits (HandlerIsValid entries (length d.items)) d.handlers d_fits.handlers d_valid.handlers in
     let c_attributes = CountedFits-both CodeAttrFits (CodeAttrIsValid entries count) c.attributes c_fits.attributes c_valid.attributes in
     let d_attributes = CountedFits-both CodeAttrFits (CodeAttrIsValid entries (length d.items)) d.attributes d_fits.attributes d_valid.attributes in
-    let handlers = tells_table handler_by HandlerIsRight c d (Cancels-handler place count places) in
+    let handlers = tells_table handler_by (HandlerIsRight entries) c d (Cancels-handler place entries count places) in
     let attributes = tells_table attribute_by (CodeAttrIsRight entries) c d (Cancels-attribute place entries count places) in
     let told =
     tells_two c.max_stack d.max_stack c_fits.max_stack d_fits.max_stack

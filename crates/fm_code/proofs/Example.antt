@@ -13,7 +13,8 @@ use Rattle.fm_code.specs.Fits.{FitsTwo, FitsFour, MemberAttrFits, MemberFits, Co
 use Rattle.fm_code.specs.Names.{object}
 use Rattle.fm_code.specs.Spells.{Spells}
 use Rattle.fm_code.specs.FirstForm.{IsMain, IsFirstForm, IsNamed, DeclaresMain}
-use Rattle.fm_code.specs.Rules.{CodeIsValid, MethodIsValid}
+use Rattle.fm_code.specs.CodeRules.{CodeIsValid}
+use Rattle.fm_code.specs.Members.{MethodIsValid}
 use Rattle.fm_code.specs.Example.{example_bytes, example_entries, example_code, example_method, example_record, short_length_bytes, wrong_tag_bytes, longer_bytes}
 use Rattle.fm_code.specs.declared.constant_pool.Entry.{Entry}
 use Rattle.fm_code.specs.declared.constant_pool.Entry.TheVariants as entry
@@ -150,9 +151,16 @@ code_is_valid = record {
   measured = refl;
   spelled = record { bytes_are = refl; offsets = (refl, tt); spelled = (record { instruction = instruction; targets = tt }, tt) };
   locals = (tt, tt);
+  operands = (tt, tt);
   handlers = tt;
   attributes = tt;
 }
+
+-- main isn't the name of a constructor
+no_constructor : Some (codes "main") ≡ Some (codes "<init>") → ⊥
+no_constructor e = let size : length (codes "main") ≡ length (codes "<init>") = ap length (text_in e) in absurd (omega arith) where
+  text_in : Some (codes "main") ≡ Some (codes "<init>") → codes "main" ≡ codes "<init>"
+  text_in e = cc
 
 method_is_valid : MethodIsValid false example_entries example_method
 method_is_valid = record {
@@ -164,6 +172,7 @@ method_is_valid = record {
   attributes = ((refl, code_is_valid), tt);
   coded = refl;
   abstract_alone = λ e. cc;
+  constructor = λ e. absurd (no_constructor e);
   of_interface = λ e. cc;
 }
 
@@ -177,6 +186,7 @@ example_spelled = record {
   super_class = inr refl;
   interfaces = tt;
   fields = tt;
+  distinct_fields = tt;
   methods = (method_is_valid, tt);
   distinct_methods = (tt, tt);
   attributes = tt;

@@ -1,8 +1,10 @@
 -- The records that are read so far: one class with static methods over ints and longs, which call one another and print ints.
-use Rattle.std.specs.Prelude.{◌≡◌, ℕ, ◌<◌, ◌==◌, ◌||◌, ◌&&◌, ◌⊎◌, not, Bool, true, false, List, [], ◌∷◌, codes, Some, IsSomeAnd, Contains, if◌then◌else◌, slice_index, Option, None, option_and_then}
+use Rattle.std.specs.Prelude.{◌≡◌, ℕ, ◌<◌, ◌==◌, ◌||◌, ◌&&◌, ◌⊎◌, not, Bool, true, false, List, [], ◌∷◌, codes, Some, IsSomeAnd, Contains, if◌then◌else◌}
 use Rattle.std.specs.List.{list_all, list_any, AllByRecursion}
 use Rattle.fm_code.specs.ConstantPool.{entry_at, utf8_at, class_name_at, MemberName, field_at, method_at}
-use Rattle.fm_code.specs.Rules.{is_static, is_native, is_abstract}
+use Rattle.fm_code.specs.AccessFlags.{is_static, is_native, is_abstract}
+use Rattle.fm_code.specs.Operands.{opcode_of}
+use Rattle.fm_code.specs.declared.opcodes.TheConstants.{LDC2_W}
 use Rattle.fm_code.specs.declared.constant_pool.Entry.{Entry}
 use Rattle.fm_code.specs.declared.constant_pool.Entry.TheVariants as entry
 use Rattle.fm_code.specs.declared.class_file.ClassDef.{ClassDef}
@@ -70,18 +72,25 @@ first_opcodes =
     ∷ 87 ∷ 89 ∷ 96 ∷ 97 ∷ 100 ∷ 101 ∷ 104 ∷ 105 ∷ 108 ∷ 109 ∷ 112 ∷ 113 ∷ 116 ∷ 117 ∷ 120 ∷ 121 ∷ 122 ∷ 123 ∷ 124 ∷ 125 ∷ 126 ∷ 127 ∷ 128 ∷ 129 ∷ 130 ∷ 131 ∷ 132 ∷ 133 ∷ 136
     ∷ 145 ∷ 146 ∷ 147 ∷ 148 ∷ 153 ∷ 154 ∷ 155 ∷ 156 ∷ 157 ∷ 158 ∷ 159 ∷ 160 ∷ 161 ∷ 162 ∷ 163 ∷ 164 ∷ 167 ∷ 172 ∷ 173 ∷ 177 ∷ 178 ∷ 182 ∷ 184 ∷ []
 
-abbrev pub opcode_of : Item → ℕ
-opcode_of item = slice_index item.bytes 0
-
 -- ldc of an int, ldc2_w of a long, getstatic of System.out, invokevirtual of println(I)V, and invokestatic of a method that the class
--- declares; other instructions name nothing in the pool
+-- declares; no other instruction names an entry of the pool
 abbrev pub IsFirstOperand : ClassDef → Item → Type 0
 IsFirstOperand c item = asked item.insn where
   asked : Insn → Type 0
-  asked (insn.LoadPool index) = IsConstantOf (opcode_of item == 20) (entry_at c.pool.entries index)
+  asked (insn.LoadPool index) = IsConstantOf (opcode_of item == LDC2_W) (entry_at c.pool.entries index)
   asked (insn.GetStatic index) = field_at c.pool.entries index ≡ Some system_out
   asked (insn.Virtual index) = method_at c.pool.entries index ≡ Some println_int
   asked (insn.Static index) = IsSomeAnd (method_at c.pool.entries index) (Declares c)
+  asked (insn.PutStatic index) = ⊥
+  asked (insn.GetField index) = ⊥
+  asked (insn.PutField index) = ⊥
+  asked (insn.Special index) = ⊥
+  asked (insn.Interface index) = ⊥
+  asked (insn.New index) = ⊥
+  asked (insn.NewRefs index) = ⊥
+  asked (insn.Cast index) = ⊥
+  asked (insn.IsA index) = ⊥
+  asked (insn.MultiArray index dimensions) = ⊥
   asked i = Unit {0}
 
 pub record IsFirstCode (c : ClassDef) (code : Code) : Type 0 where

@@ -4,9 +4,13 @@ pub mod ClassBytes
 pub mod SpellsCode
 pub mod Names
 pub mod Fits
+pub mod AccessFlags
 pub mod ConstantPool
 pub mod FreeEntries
-pub mod Rules
+pub mod Operands
+pub mod CodeRules
+pub mod Members
 pub mod Spells
+pub mod Profile
 pub mod FirstForm
 pub mod Example

@@ -4,6 +4,9 @@ use crate::class_file::Raw;
 use crate::instructions::Insn;
 use fm_base::Seq;
 
+/// The most bytes that a code array has (JVMS 4.7.3).
+pub const MAX_CODE_BYTES: u32 = 65_535;
+
 /// A Code attribute. The places that its tables name are numbers of items and not offsets.
 #[derive(Debug, Drop)]
 pub struct Code {

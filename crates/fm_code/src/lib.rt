@@ -5,15 +5,21 @@
 // that the bytes and the record determine each other.
 #![tactic(auto)]
 
+mod access_flags;
 mod class_file;
 mod code_array;
 mod constant_pool;
 mod instructions;
 mod laws;
+pub mod opcodes;
 mod operations;
+mod profile;
 
+pub use access_flags::{
+    ACC_ABSTRACT, ACC_INTERFACE, ACC_NATIVE, ACC_PRIVATE, ACC_STATIC, has_flag,
+};
 pub use class_file::{ClassDef, Member, MemberAttr, Raw};
-pub use code_array::{Code, CodeAttr, Handler, Item, Line, Var};
+pub use code_array::{Code, CodeAttr, Handler, Item, Line, MAX_CODE_BYTES, Var};
 pub use constant_pool::{
     CONSTANT_Class, CONSTANT_Double, CONSTANT_Fieldref, CONSTANT_Float, CONSTANT_Integer,
     CONSTANT_InterfaceMethodref, CONSTANT_Long, CONSTANT_Methodref, CONSTANT_NameAndType,
@@ -22,3 +28,6 @@ pub use constant_pool::{
 pub use instructions::Insn;
 pub use laws::{law_example, law_nothing_follows, law_number_bytes, law_one_code, law_one_record};
 pub use operations::{Conv, Elem, Op, Reg, Shift, Test};
+pub use profile::{
+    NEWEST_MAJOR, OLDEST_MAJOR, OLDEST_MINOR, OverLimit, Place, Unsupported, What,
+};
