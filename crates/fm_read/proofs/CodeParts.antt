@@ -11,7 +11,6 @@ use Rattle.byteorder.specs.Endian.{big_number}
 use Rattle.fm_code.specs.Numbers.{two, four}
 use Rattle.fm_code.specs.ClassBytes.{code_bytes, item_bytes, counted, handler_bytes, code_attribute_bytes}
 use Rattle.fm_code.specs.Fits.{AreBytes, CodeFits}
-use Rattle.fm_code.specs.Rules.{CodeIsValid, CodeAttrIsValid}
 use Rattle.fm_code.specs.FirstForm.{IsFirstCode, IsFirstOperand}
 use Rattle.fm_code.specs.declared.class_file.ClassDef.{ClassDef}
 use Rattle.fm_code.specs.declared.constant_pool.Entry.{Entry}
@@ -22,6 +21,7 @@ use Rattle.fm_code.specs.declared.code_array.Handler.{Handler}
 use Rattle.fm_code.specs.declared.code_array.CodeAttr.{CodeAttr}
 use Rattle.fm_read.specs.CodeBody.{IsFirstBody, HasParts}
 use Rattle.fm_read.specs.CodeItems.{AreFirstItems}
+use Rattle.fm_read.proofs.OperandRules.{operands_valid}
 use Rattle.fm_read.proofs.CodeBytes.{IsBytes, IsBytes-drop, IsBytes-take, IsBytes-left, IsBytes-right, AreBytes-from, two-big_number, four-big_number, big_number-two, big_number-four}
 
 -- what the parts spell
@@ -146,12 +146,13 @@ IsFirstBody-from c body max_stack max_locals bytes items fits has are operands =
         attributes = record { count = omega arith; each = tt };
         size = omega (arith, has.not_long, tells.size, ap length whole);
       };
-      valid = λ entries. record {
+      valid = record {
         not_empty = has.not_empty;
         not_long = has.not_long;
         measured = ap length spells;
         spelled = record { bytes_are = refl; offsets = are.spelled.offsets; spelled = are.spelled.spelled };
         locals = are.locals;
+        operands = operands_valid c items operands;
         handlers = tt;
         attributes = tt;
       };
@@ -167,13 +168,13 @@ first_bytes : (c : ClassDef) (body : List ℕ) (code : Code) → IsFirstBody c b
 unfolding code_bytes two
 first_bytes c body code is =
     let all : body ≡ with_tables code code.length code.handlers code.attributes = is.bytes_are in
-    all ∙ ap (λ (n : ℕ). with_tables code n code.handlers code.attributes) (is.valid []).measured
+    all ∙ ap (λ (n : ℕ). with_tables code n code.handlers code.attributes) is.valid.measured
     ∙ ap (λ (hs : List Handler). with_tables code (length (flat_map item_bytes code.items)) hs code.attributes) is.first.handlers
     ∙ ap (λ (attrs : List CodeAttr). with_tables code (length (flat_map item_bytes code.items)) [] attrs) is.first.attributes
 
 pub IsFirstBody-parts : (c : ClassDef) (body : List ℕ) (code : Code) → IsFirstBody c body code → HasParts body code.max_stack code.max_locals (flat_map item_bytes code.items)
 IsFirstBody-parts c body code is =
-    let valid = is.valid [] in
+    let valid = is.valid in
     record {
       stack_fits = is.fits.max_stack;
       locals_fit = is.fits.max_locals;
@@ -204,7 +205,7 @@ pub IsFirstBody-items : (c : ClassDef) (body : List ℕ) (max_stack max_locals :
     → AreFirstItems max_locals bytes code.items
 IsFirstBody-items c body max_stack max_locals bytes code has is =
     let same = same_parts body max_stack max_locals bytes code.max_stack code.max_locals (flat_map item_bytes code.items) has (IsFirstBody-parts c body code is) in
-    let valid = is.valid [] in
+    let valid = is.valid in
     record {
       spelled = subst (λ (b : List ℕ). SpellsCode b code.items) (sym same.bytes) valid.spelled;
       locals = subst (λ (n : ℕ). AllByRecursion (λ (item : Item). LocalsFit n item.insn) code.items) (sym same.locals) valid.locals;
@@ -216,30 +217,13 @@ pub IsFirstBody-unique : (c : ClassDef) (body : List ℕ) (max_stack max_locals 
     → plain_code max_stack max_locals (length bytes) code.items ≡ code
 IsFirstBody-unique c body max_stack max_locals bytes code has is =
     let same = same_parts body max_stack max_locals bytes code.max_stack code.max_locals (flat_map item_bytes code.items) has (IsFirstBody-parts c body code is) in
-    let size : length bytes ≡ code.length = ap length same.bytes ∙ sym (is.valid []).measured in
+    let size : length bytes ≡ code.length = ap length same.bytes ∙ sym is.valid.measured in
     ap (λ (n : ℕ). plain_code n max_locals (length bytes) code.items) same.stack ∙ ap (λ (n : ℕ). plain_code code.max_stack n (length bytes) code.items) same.locals
     ∙ ap (λ (n : ℕ). plain_code code.max_stack code.max_locals n code.items) size
     ∙ ap (λ (hs : List Handler). whole_code code hs []) (sym is.first.handlers)
     ∙ ap (λ (attrs : List CodeAttr). whole_code code code.handlers attrs) (sym is.first.attributes) where
       whole_code : Code → List Handler → List CodeAttr → Code
       whole_code c hs attrs = record { max_stack = c.max_stack; max_locals = c.max_locals; items = c.items; length = c.length; handlers = hs; attributes = attrs }
-
--- where there are no tables the pool doesn't matter
-pub IsFirstBody-in_pool : (c : ClassDef) (entries : List Entry) (body : List ℕ) (code : Code) → body ≡ code_bytes code → CodeFits code → CodeIsValid entries code → IsFirstCode c code → IsFirstBody c body code
-IsFirstBody-in_pool c entries body code bytes_are fits valid first = record {
-  bytes_are = bytes_are;
-  fits = fits;
-  valid = λ others. record {
-    not_empty = valid.not_empty;
-    not_long = valid.not_long;
-    measured = valid.measured;
-    spelled = valid.spelled;
-    locals = valid.locals;
-    handlers = valid.handlers;
-    attributes = subst (λ (attrs : List CodeAttr). AllByRecursion (CodeAttrIsValid others (length code.items)) attrs) (sym first.attributes) tt;
-  };
-  first = first;
-}
 
 -- what a comparison with four zeros tells
 pub same_from_ne : (xs zeros : List ℕ) → zeros ≡ 0 ∷ 0 ∷ 0 ∷ 0 ∷ [] → (r : Bool) → r ≡ not (pointwise nat_eq xs zeros) → r ≡ false → xs ≡ 0 ∷ 0 ∷ 0 ∷ 0 ∷ []

@@ -1,7 +1,7 @@
 -- The parts of a class with the code of its methods are a record of the first form, and the bytes of the parts spell it.
 use Rattle.std.proofs.Common.{◌≡◌, ℕ, suc, inl, inr, Bool, true, false, List, [], ◌∷◌, length, map, Option, Some, None, refl, sym, ap, subst, ◌∙◌, append_assoc, arith}
-use Rattle.std.specs.Prelude.{IsSomeAnd, IsSome}
-use Rattle.std.specs.List.{flat_map, AllByRecursion}
+use Rattle.std.specs.Prelude.{IsSomeAnd, IsSome, codes, ◌==◌, not}
+use Rattle.std.specs.List.{flat_map, list_all, AllByRecursion}
 use Rattle.std.proofs.lemmas.Bool.{false≢true}
 use Rattle.std.proofs.lemmas.List.{append-nil}
 use Rattle.fm_code.specs.ConstantPool.{utf8_at, class_name_at}
@@ -9,7 +9,8 @@ use Rattle.fm_code.specs.Numbers.{four}
 use Rattle.fm_code.specs.ClassBytes.{magic, pool_bytes, code_bytes, member_attribute_bytes, member_bytes, class_bytes}
 use Rattle.fm_code.specs.Fits.{FitsTwo, CountedFits, MemberFits, ClassFits}
 use Rattle.fm_code.specs.Names.{IsMethodDescriptor}
-use Rattle.fm_code.specs.Rules.{MethodIsValid, AreDifferent, AreDistinct, is_interface, receiver_words}
+use Rattle.fm_code.specs.AccessFlags.{is_interface}
+use Rattle.fm_code.specs.Members.{MethodIsValid, AreDifferent, AreDistinct, receiver_words}
 use Rattle.fm_code.specs.Spells.{Spells}
 use Rattle.fm_code.specs.FirstForm.{IsFirstMethod, IsFirstForm, is_number_descriptor}
 use Rattle.fm_code.specs.declared.constant_pool.Entry.{Entry}
@@ -19,7 +20,7 @@ use Rattle.fm_code.specs.declared.code_array.Code.{Code}
 use Rattle.fm_read.specs.Parts.{Method, Class}
 use Rattle.fm_read.specs.CodeBody.{IsFirstBody}
 use Rattle.fm_read.proofs.EntryRules.{all_valid}
-use Rattle.fm_read.specs.PartsRules.{MethodMeetsRules, MeetsRules, AreMethodsDistinct, AreMembersOf, member_of, bare_member, bare_class, class_of_parts}
+use Rattle.fm_read.specs.PartsRules.{IsFirstName, MethodMeetsRules, MeetsRules, AreMethodsDistinct, AreMembersOf, member_of, bare_member, bare_class, class_of_parts}
 use Rattle.fm_read.proofs.MethodPieces.{method_bytes, MethodFits}
 use Rattle.fm_read.proofs.ClassPieces.{parts_bytes, PartsFit}
 use Rattle.fm_read.proofs.SameNames.{SameNames, AreSameNames, names_of_members, SameDeclared, members_kept}
@@ -96,17 +97,24 @@ first_method d m code rules body =
       attributes = body.first;
     }
 
-valid_method : (in_interface : Bool) (entries : List Entry) (d : ClassDef) (m : Method) (code : Code) → in_interface ≡ false → MethodMeetsRules entries m → IsFirstBody d m.body code → MethodIsValid in_interface entries (member_of m code)
-valid_method in_interface entries d m code apart rules body =
+-- a name without < isn't that of a constructor
+no_constructor : (o : Option (List ℕ)) → IsSomeAnd o IsFirstName → o ≡ Some (codes "<init>") → ⊥
+no_constructor (Some name) first e = false≢true (subst (λ (v : Option (List ℕ)). IsSomeAnd v (λ name. list_all (λ c. not (c == 60)) name ≡ true)) e first.no_start)
+no_constructor None first e = first
+
+valid_method : (in_interface : Bool) (d : ClassDef) (m : Method) (code : Code) → in_interface ≡ false → MethodMeetsRules d.pool.entries m → IsFirstBody d m.body code → MethodIsValid in_interface d.pool.entries (member_of m code)
+valid_method in_interface d m code apart rules body =
+    let entries = d.pool.entries in
     let name = someAnd_is (utf8_at entries m.name) _ rules.signature in
     let descriptor = someAnd_is (utf8_at entries m.descriptor) _ name.2 in
     let words : receiver_words m.flags ≡ 0 = rw rules.flags.static refl in
     record {
       name = someAnd_weaker (utf8_at entries m.name) _ _ (λ x h. h.valid) rules.name;
       descriptor = subst (λ (n : ℕ). IsSomeAnd (utf8_at entries m.descriptor) (IsMethodDescriptor n)) (sym words) (is_someAnd (utf8_at entries m.descriptor) (IsMethodDescriptor 0) descriptor.0 descriptor.1 descriptor.2.valid);
-      attributes = ((rules.attribute, body.valid entries), tt);
+      attributes = ((rules.attribute, body.valid), tt);
       coded = rw (rules.flags.not_abstract, rules.flags.not_native) refl;
       abstract_alone = λ e. absurd (false≢true (sym rules.flags.not_abstract ∙ e));
+      constructor = λ e. absurd (no_constructor (utf8_at entries m.name) rules.name e);
       of_interface = λ e. absurd (false≢true (sym apart ∙ e));
     }
 
@@ -121,17 +129,17 @@ members_hold d (m ∷ methods) (x ∷ members) rules fits h =
     let code = h.0.0 in
     ((subst MemberFits (sym h.0.1.1) (member_fits d m code fits.0 h.0.1.0), rest.0), (subst (IsFirstMethod d) (sym h.0.1.1) (first_method d m code rules.0 h.0.1.0), rest.1))
 
-members_valid : (in_interface : Bool) (entries : List Entry) (d : ClassDef) (methods : List Method) (members : List Member) → in_interface ≡ false → AllByRecursion (MethodMeetsRules entries) methods → AreMembersOf d methods members → AllByRecursion (MethodIsValid in_interface entries) members
-members_valid in_interface entries d [] [] apart rules h = tt
-members_valid in_interface entries d [] (x ∷ members) apart rules h = absurd h
-members_valid in_interface entries d (m ∷ methods) [] apart rules h = absurd h
-members_valid in_interface entries d (m ∷ methods) (x ∷ members) apart rules h =
-    (subst (MethodIsValid in_interface entries) (sym h.0.1.1) (valid_method in_interface entries d m h.0.0 apart rules.0 h.0.1.0), members_valid in_interface entries d methods members apart rules.1 h.1)
+members_valid : (in_interface : Bool) (d : ClassDef) (methods : List Method) (members : List Member) → in_interface ≡ false → AllByRecursion (MethodMeetsRules d.pool.entries) methods → AreMembersOf d methods members → AllByRecursion (MethodIsValid in_interface d.pool.entries) members
+members_valid in_interface d [] [] apart rules h = tt
+members_valid in_interface d [] (x ∷ members) apart rules h = absurd h
+members_valid in_interface d (m ∷ methods) [] apart rules h = absurd h
+members_valid in_interface d (m ∷ methods) (x ∷ members) apart rules h =
+    (subst (MethodIsValid in_interface d.pool.entries) (sym h.0.1.1) (valid_method in_interface d m h.0.0 apart rules.0 h.0.1.0), members_valid in_interface d methods members apart rules.1 h.1)
 
-members_of_class : (in_interface : Bool) (entries : List Entry) (d : ClassDef) (methods : List Method) (members : List Member) → (in_interface ≡ true → methods ≡ []) → AllByRecursion (MethodMeetsRules entries) methods → AreMembersOf d methods members → AllByRecursion (MethodIsValid in_interface entries) members
-members_of_class false entries d methods members none rules h = members_valid false entries d methods members refl rules h
-members_of_class true entries d methods [] none rules h = tt
-members_of_class true entries d methods (x ∷ members) none rules h = absurd (subst (λ (ms : List Method). AreMembersOf d ms (x ∷ members)) (none refl) h)
+members_of_class : (in_interface : Bool) (d : ClassDef) (methods : List Method) (members : List Member) → (in_interface ≡ true → methods ≡ []) → AllByRecursion (MethodMeetsRules d.pool.entries) methods → AreMembersOf d methods members → AllByRecursion (MethodIsValid in_interface d.pool.entries) members
+members_of_class false d methods members none rules h = members_valid false d methods members refl rules h
+members_of_class true d methods [] none rules h = tt
+members_of_class true d methods (x ∷ members) none rules h = absurd (subst (λ (ms : List Method). AreMembersOf d ms (x ∷ members)) (none refl) h)
 
 -- ---- methods that differ
 
@@ -203,7 +211,8 @@ is_found bytes c members e fits rules distinct members_of =
         super_class = inr (some_from (class_name_at c.entries c.super_class) _ rules.names.superclass);
         interfaces = tt;
         fields = tt;
-        methods = members_of_class (is_interface c.flags) c.entries d c.methods members rules.interface rules.methods h;
+        distinct_fields = tt;
+        methods = members_of_class (is_interface c.flags) d c.methods members rules.interface rules.methods h;
         distinct_methods = distinct_members c.entries d c.methods members h distinct;
         attributes = tt;
       },

@@ -8,7 +8,8 @@ use Rattle.fm_code.specs.ConstantPool.{utf8_at}
 use Rattle.fm_code.specs.ClassBytes.{code_bytes, class_bytes}
 use Rattle.fm_code.specs.Fits.{AreBytes, IsByte, FitsTwo, MemberFits, MemberAttrFits}
 use Rattle.fm_code.specs.Names.{is_method_name, IsMethodDescriptor}
-use Rattle.fm_code.specs.Rules.{CodeAttrIsValid, CodeIsValid, MethodIsValid, MethodAttrIsValid, is_static, is_interface, receiver_words}
+use Rattle.fm_code.specs.AccessFlags.{is_static, is_interface}
+use Rattle.fm_code.specs.Members.{MethodIsValid, MethodAttrIsValid, receiver_words}
 use Rattle.fm_code.specs.Spells.{Spells}
 use Rattle.fm_code.specs.FirstForm.{IsFirstCode, AreFirstAttributes, IsFirstMethod, IsFirstForm, IsMain, is_number_descriptor}
 use Rattle.fm_code.specs.declared.constant_pool.Entry.{Entry}
@@ -40,18 +41,6 @@ coded c (attribute.Coded name code ∷ a ∷ attributes) h = absurd h
 coded c (attribute.Constant n v ∷ attributes) h = absurd h
 coded c (attribute.Other raw ∷ attributes) h = absurd h
 
--- without tables no rule of code names the pool
-valid_anywhere : (here there : List Entry) (code : Code) → code.attributes ≡ [] → CodeIsValid here code → CodeIsValid there code
-valid_anywhere here there code none valid = record {
-  not_empty = valid.not_empty;
-  not_long = valid.not_long;
-  measured = valid.measured;
-  spelled = valid.spelled;
-  locals = valid.locals;
-  handlers = valid.handlers;
-  attributes = subst (AllByRecursion (CodeAttrIsValid there (length code.items))) (sym none) tt;
-}
-
 both_names : (o : Option (List ℕ)) → IsSomeAnd o (λ name. is_method_name name ≡ true) → IsSomeAnd o (λ name. list_all (λ c. not (c == 60)) name ≡ true) → IsSomeAnd o IsFirstName
 both_names (Some name) valid no_start = record { valid = valid; no_start = no_start }
 both_names None valid no_start = absurd valid
@@ -81,7 +70,7 @@ one_member in_interface c m first valid fits =
     let p : Method = record { flags = m.flags; name = m.name; descriptor = m.descriptor; attribute = a.0; body = code_bytes a.1 } in
     let fitting = subst (AllByRecursion MemberAttrFits) a.2 fits.attributes.each in
     let rules = subst (AllByRecursion (MethodAttrIsValid entries)) a.2 valid.attributes in
-    let body : IsFirstBody c (code_bytes a.1) a.1 = record { bytes_are = refl; fits = fitting.0.1; valid = λ there. valid_anywhere entries there a.1 a.3.attributes rules.0.1; first = a.3 } in
+    let body : IsFirstBody c (code_bytes a.1) a.1 = record { bytes_are = refl; fits = fitting.0.1; valid = rules.0.1; first = a.3 } in
     let same : m ≡ member_of p a.1 = ap (λ (each : List MemberAttr). let made : Member = record { flags = m.flags; name = m.name; descriptor = m.descriptor; attributes = each } in made) a.2 in (
       p,
       (a.1, (body, same)),

@@ -7,7 +7,7 @@ use Rattle.std.specs.Ordering.{nat_cmp, ordering_then, is_eq}
 use Rattle.std.specs.Cmp.{Equal-is}
 use Rattle.std.specs.BTreeSet.{BTreeSet, Updates, contains}
 use Rattle.std.proofs.lemmas.Map.Lookups.{exact_pairs, exact_unsigned}
-use Rattle.fm_code.specs.Rules.{AreDifferent}
+use Rattle.fm_code.specs.Members.{AreDifferent}
 use Rattle.fm_code.specs.declared.constant_pool.Entry.{Entry}
 use Rattle.fm_read.specs.Parts.{Method}
 use Rattle.fm_read.specs.PartsRules.{AreMethodsDistinct, bare_member}

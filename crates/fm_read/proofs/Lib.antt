@@ -20,3 +20,4 @@ pub mod FirstRead
 pub mod KeysInTurn
 pub mod TextsInTurn
 pub mod EntryRules
+pub mod OperandRules

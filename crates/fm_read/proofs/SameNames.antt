@@ -3,7 +3,10 @@ use Rattle.std.proofs.Common.{◌≡◌, ℕ, zero, suc, ◌<◌, List, [], ◌�
 use Rattle.std.specs.Prelude.{IsSomeAnd, ◌==◌}
 use Rattle.std.specs.List.{AllByRecursion}
 use Rattle.fm_code.specs.ConstantPool.{entry_at, utf8_at, class_name_at, MemberName, field_at, method_at}
-use Rattle.fm_code.specs.FirstForm.{system_out, println_int, opcode_of, IsConstantOf, Declares, IsFirstOperand}
+use Rattle.fm_code.specs.FirstForm.{system_out, println_int, IsConstantOf, Declares, IsFirstOperand}
+use Rattle.fm_code.specs.Operands.{opcode_of}
+use Rattle.fm_code.specs.CodeRules.{CodeIsValid}
+use Rattle.fm_code.specs.declared.opcodes.TheConstants.{LDC2_W}
 use Rattle.fm_code.specs.declared.constant_pool.Entry.{Entry}
 use Rattle.fm_code.specs.declared.class_file.ClassDef.{ClassDef}
 use Rattle.fm_code.specs.declared.class_file.Member.{Member}
@@ -75,7 +78,7 @@ some_kept (Some x) P Q kept h = kept x h
 operand_kept : (c d : ClassDef) → SameDeclared c d → (offset : ℕ) (bytes : List ℕ) (i : Insn) → IsFirstOperand c (record { offset = offset; bytes = bytes; insn = i })
     → IsFirstOperand d (record { offset = offset; bytes = bytes; insn = i })
 operand_kept c d same offset bytes (insn.LoadPool index) h =
-    subst (λ (entries : List Entry). IsConstantOf (opcode_of (record { offset = offset; bytes = bytes; insn = insn.LoadPool index }) == 20) (entry_at entries index)) same.entries h
+    subst (λ (entries : List Entry). IsConstantOf (opcode_of (record { offset = offset; bytes = bytes; insn = insn.LoadPool index }) == LDC2_W) (entry_at entries index)) same.entries h
 operand_kept c d same offset bytes (insn.GetStatic index) h = subst (λ (entries : List Entry). field_at entries index ≡ Some system_out) same.entries h
 operand_kept c d same offset bytes (insn.Virtual index) h = subst (λ (entries : List Entry). method_at entries index ≡ Some println_int) same.entries h
 operand_kept c d same offset bytes (insn.Static index) h =
@@ -91,7 +94,7 @@ body_kept : (c d : ClassDef) → SameDeclared c d → (body : List ℕ) (code : 
 body_kept c d same body code is = record {
   bytes_are = is.bytes_are;
   fits = is.fits;
-  valid = is.valid;
+  valid = subst (λ (entries : List Entry). CodeIsValid entries code) same.entries is.valid;
   first = record {
     handlers = is.first.handlers;
     attributes = is.first.attributes;

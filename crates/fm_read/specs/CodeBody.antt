@@ -4,18 +4,16 @@ use Rattle.std.specs.List.{concat}
 use Rattle.fm_code.specs.Numbers.{two, four}
 use Rattle.fm_code.specs.ClassBytes.{code_bytes}
 use Rattle.fm_code.specs.Fits.{FitsTwo, CodeFits}
-use Rattle.fm_code.specs.Rules.{CodeIsValid}
+use Rattle.fm_code.specs.CodeRules.{CodeIsValid}
 use Rattle.fm_code.specs.FirstForm.{IsFirstCode}
-use Rattle.fm_code.specs.declared.constant_pool.Entry.{Entry}
 use Rattle.fm_code.specs.declared.class_file.ClassDef.{ClassDef}
 use Rattle.fm_code.specs.declared.code_array.Code.{Code}
 
--- the body is spelled by the code, which is of the first form in the class and meets each rule of a Code attribute; without tables no such
--- rule names the pool
+-- the body is spelled by the code, which is of the first form in the class and meets each rule of a Code attribute
 pub record IsFirstBody (c : ClassDef) (body : List ℕ) (code : Code) : Type 0 where
   pub bytes_are : body ≡ code_bytes code
   pub fits : CodeFits code
-  pub valid : (entries : List Entry) → CodeIsValid entries code
+  pub valid : CodeIsValid c.pool.entries code
   pub first : IsFirstCode c code
 
 -- the parts of a body without tables: behind the code stand no entries of the exception table and no attributes

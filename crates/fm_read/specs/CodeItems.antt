@@ -5,7 +5,8 @@ use Rattle.std.specs.Option.{option_map}
 use Rattle.fm_code.specs.ClassBytes.{item_bytes}
 use Rattle.fm_code.specs.InstructionTable.{insn_at}
 use Rattle.fm_code.specs.SpellsCode.{SpellsCode, AreOffsets, LocalsFit}
-use Rattle.fm_code.specs.FirstForm.{first_opcodes, opcode_of}
+use Rattle.fm_code.specs.FirstForm.{first_opcodes}
+use Rattle.fm_code.specs.Operands.{opcode_of}
 use Rattle.fm_code.specs.declared.instructions.Insn.{Insn}
 use Rattle.fm_code.specs.declared.instructions.Insn.TheVariants as insn
 use Rattle.fm_code.specs.declared.code_array.Item.{Item}

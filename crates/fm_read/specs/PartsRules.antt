@@ -3,7 +3,8 @@ use Rattle.std.specs.Prelude.{◌≡◌, ◌==◌, ◌⊎◌, not, ℕ, true, fa
 use Rattle.std.specs.List.{list_all, AllByRecursion}
 use Rattle.fm_code.specs.ConstantPool.{utf8_at, class_name_at, EntryIsValid}
 use Rattle.fm_code.specs.Names.{is_method_name, is_binary_name, IsMethodDescriptor}
-use Rattle.fm_code.specs.Rules.{is_static, is_native, is_abstract, is_interface, AreDistinct}
+use Rattle.fm_code.specs.AccessFlags.{is_static, is_native, is_abstract, is_interface}
+use Rattle.fm_code.specs.Members.{AreDistinct}
 use Rattle.fm_code.specs.FirstForm.{is_number_descriptor}
 use Rattle.fm_code.specs.declared.constant_pool.Entry.{Entry}
 use Rattle.fm_code.specs.declared.constant_pool.Entry.TheVariants as entry

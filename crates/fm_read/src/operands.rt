@@ -4,17 +4,16 @@ ghost use Rattle.std.specs.Prelude.{◌≡◌, ◌↔◌, ◌<◌, ◌==◌, Som
 ghost use Rattle.std.specs.List.{AllByRecursion};
 ghost use Rattle.std.specs.Option.{option_map};
 ghost use Rattle.fm_code.specs.ConstantPool.{entry_at, utf8_at, class_name_at, member_named, field_at, method_at};
-ghost use Rattle.fm_code.specs.FirstForm.{system_out, println_int, opcode_of, IsConstantOf, Declares, IsFirstOperand};
+ghost use Rattle.fm_code.specs.FirstForm.{system_out, println_int, IsConstantOf, Declares, IsFirstOperand};
+ghost use Rattle.fm_code.specs.Operands.{opcode_of};
 ghost use Rattle.fm_read.specs.Parts.{class_view, method_view};
 ghost use Rattle.fm_read.specs.PartsRules.{bare_class};
 ghost use Rattle.fm_read.specs.Operands.{member_view, Agrees};
 
 use crate::parts::{ClassParts, MethodParts};
 use crate::rules::{class_name_at, named_and_typed_at, utf8_at};
+use fm_code::opcodes::LDC2_W;
 use fm_code::{Entry, Insn, Item};
-
-/// The opcode of ldc2_w.
-const LDC2_W: u8 = 20;
 
 /// A field or a method by its class, its name and its descriptor.
 #[derive(Clone, Copy, Debug)]
@@ -146,6 +145,9 @@ fn names_first_operand(class: &ClassParts<'_>, item: &Item) -> bool
             Some(method) => declares(class, &method),
             None => false,
         },
+        Insn::PutStatic(_) | Insn::GetField(_) | Insn::PutField(_) => false,
+        Insn::Special(_) | Insn::Interface(_) | Insn::New(_) | Insn::NewRefs(_) => false,
+        Insn::Cast(_) | Insn::IsA(_) | Insn::MultiArray(_, _) => false,
         _ => true,
     }
 }

@@ -5,7 +5,6 @@ ghost use Rattle.std.specs.Prelude.{◌≡◌, ◌↔◌, ◌<◌, ◌==◌, not
 ghost use Rattle.std.specs.List.{list_all, AllByRecursion};
 ghost use Rattle.std.specs.Option.{option_map};
 ghost use Rattle.fm_code.specs.ConstantPool.{utf8_at, class_name_at, named_and_typed_at, EntryIsValid, IsFieldPair, IsMethodPair};
-ghost use Rattle.fm_code.specs.Rules.{has_flag};
 ghost use Rattle.fm_code.specs.Names.{is_binary_name};
 ghost use Rattle.fm_read.specs.Parts.{class_view, method_view};
 ghost use Rattle.fm_read.specs.PartsRules.{HasFirstFlags, IsFirstName, IsEmptyInterface, IsFirstSignature, MeetsRules, MethodMeetsRules, NamesAreValid, NamesMeetRules};
@@ -15,16 +14,7 @@ use crate::names::{
     is_number_descriptor, is_unqualified,
 };
 use crate::parts::{ClassParts, MethodParts};
-use fm_code::Entry;
-
-// The numbers of flags' bits.
-const STATIC: u32 = 3;
-
-const NATIVE: u32 = 8;
-
-const INTERFACE: u32 = 9;
-
-const ABSTRACT: u32 = 10;
+use fm_code::{ACC_ABSTRACT, ACC_INTERFACE, ACC_NATIVE, ACC_STATIC, Entry, has_flag};
 
 /// The bytes of the text at an index.
 pub(crate) fn utf8_at(entries: &[Entry], index: u16) -> Option<&[u8]>
@@ -143,19 +133,11 @@ fn entries_are_valid(entries: &[Entry]) -> bool
     entries.iter().all(|entry| entry_is_valid(entries, entry))
 }
 
-/// Whether the bit of that number is set.
-fn has_flag(flags: u16, bit: u32) -> bool
-    requires { bit < 16 }
-    ensures { result ≡ has_flag flags bit }
-{
-    (flags >> bit) & 1 == 1
-}
-
 /// Whether a method with these flags is static and has code.
 fn has_first_flags(flags: u16) -> bool
     ensures { IsTrue result ↔ HasFirstFlags flags }
 {
-    has_flag(flags, STATIC) && !has_flag(flags, NATIVE) && !has_flag(flags, ABSTRACT)
+    has_flag(flags, ACC_STATIC) && !has_flag(flags, ACC_NATIVE) && !has_flag(flags, ACC_ABSTRACT)
 }
 
 /// Whether the bytes are a method's name without `<`.
@@ -245,7 +227,7 @@ fn names_meet_rules(entries: &[Entry], this_class: u16, super_class: u16) -> boo
 fn is_empty_interface(flags: u16, methods: &[MethodParts<'_>]) -> bool
     ensures { IsTrue result ↔ IsEmptyInterface flags (map method_view methods.now) }
 {
-    methods.is_empty() || !has_flag(flags, INTERFACE)
+    methods.is_empty() || !has_flag(flags, ACC_INTERFACE)
 }
 
 /// Whether the parts meet each rule but that on methods that agree.
