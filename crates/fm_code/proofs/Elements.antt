@@ -1,5 +1,5 @@
 -- What holds of each element of a list.
-use Rattle.std.proofs.Common.{ℕ, zero, suc, List, [], ◌∷◌, ◌++◌, get_or}
+use Rattle.std.proofs.Common.{ℕ, zero, suc, List, [], ◌∷◌, ◌++◌, map, get_or}
 use Rattle.std.specs.List.{AllByRecursion}
 
 -- two properties of each element
@@ -22,3 +22,8 @@ pub All-at : {X : Type 0} (P : X → Type 0) (xs : List X) (d : X) → AllByRecu
 All-at P [] d all default k = default
 All-at P (x ∷ xs) d (p, all) default zero = p
 All-at P (x ∷ xs) d (p, all) default (suc k) = All-at P xs d all default k
+
+-- what holds of each image
+pub All-mapped : {X Y : Type 0} (P : Y → Type 0) (f : X → Y) (xs : List X) → AllByRecursion (λ (x : X). P (f x)) xs → AllByRecursion P (map f xs)
+All-mapped P f [] all = tt
+All-mapped P f (x ∷ xs) all = (all.0, All-mapped P f xs all.1)

@@ -1,11 +1,11 @@
 -- The bytes of an instruction tell where it ends.
-use Rattle.std.proofs.Common.{◌≡◌, ℕ, zero, suc, ◌*◌, ◌<◌, ◌≤◌, Bool, true, false, ltb, ◌==◌, List, [], ◌∷◌, ◌++◌, length, drop, Option, Some, None, option_and_then, refl, ap, sym, ◌∙◌, arith, ℤ, pos, negsuc, ◌+ℤ◌, ◌-ℤ◌, if◌then◌else◌}
+use Rattle.std.proofs.Common.{◌≡◌, ℕ, zero, suc, ◌*◌, ◌<◌, ◌≤◌, Bool, true, false, ltb, ◌==◌, List, [], ◌∷◌, ◌++◌, map, length, drop, Option, Some, None, option_and_then, refl, ap, sym, ◌∙◌, arith, ℤ, pos, negsuc, ◌+ℤ◌, ◌-ℤ◌, if◌then◌else◌}
 use Rattle.std.proofs.lemmas.Bool.{eqb-true, ltb-false, and_parts}
 use Rattle.std.proofs.lemmas.List.{drop-append-le, length-drop}
 use Rattle.std.specs.List.{AllByRecursion, slice_index_or}
 use Rattle.std.specs.Option.{option_map}
 use Rattle.fm_code.specs.Numbers.{number_of_two}
-use Rattle.fm_code.specs.InstructionTable.{Reading, malformed, bare, byte, signed_byte, two_bytes, short, signed_short, jump, long_jump, left_out, increment, interface_call, array_of_arrays, new_array, wide_local, wide, padding_at, signed_fours, is_number, table_switch, pairs_of, lookup_switch, switch, constants_and_loads, stores_and_stack, arithmetic, control_and_objects, readings, insn_at}
+use Rattle.fm_code.specs.InstructionTable.{Reading, malformed, bare, byte, signed_byte, two_bytes, short, signed_short, jump, long_jump, left_out, increment, interface_call, array_of_arrays, new_array, wide_local, wide, padding_at, signed_fours, is_number, table_switch, pairs_of, lookup_switch, switch, constants_and_loads, stores_and_stack, arithmetic, control_and_objects, Row, rows, reading_of, insn_at}
 use Rattle.fm_code.specs.declared.operations.Reg.TheVariants as reg
 use Rattle.fm_code.specs.declared.operations.Elem.TheVariants as elem
 use Rattle.fm_code.specs.declared.operations.Test.TheVariants as test
@@ -14,7 +14,7 @@ use Rattle.fm_code.specs.declared.operations.Shift.TheVariants as shift
 use Rattle.fm_code.specs.declared.operations.Conv.TheVariants as conv
 use Rattle.fm_code.specs.declared.instructions.Insn.{Insn}
 use Rattle.fm_code.specs.declared.instructions.Insn.TheVariants as insn
-use Rattle.fm_code.proofs.Elements.{All-joined, All-at}
+use Rattle.fm_code.proofs.Elements.{All-joined, All-mapped, All-at}
 use Rattle.fm_code.proofs.Prefixes.{split_same}
 
 -- operands in front of other bytes are told by the bytes alone
@@ -260,8 +260,12 @@ infixr 45 ◌also◌
 ◌also◌ : {A B : Type 0} → A → B → A × B
 a also b = (a, b)
 
+-- what a row reads is told by the bytes alone
+abbrev RowTellsEnd : Row → Type 0
+RowTellsEnd row = TellsEnd row.1
+
 -- 0 to 53
-TellsEnd-constants_and_loads : AllByRecursion TellsEnd constants_and_loads
+TellsEnd-constants_and_loads : AllByRecursion RowTellsEnd constants_and_loads
 TellsEnd-constants_and_loads =
     TellsEnd-bare insn.Nop also TellsEnd-bare insn.Null also TellsEnd-bare (insn.Const (negsuc 0)) also TellsEnd-bare (insn.Const (pos 0))
     also TellsEnd-bare (insn.Const (pos 1)) also TellsEnd-bare (insn.Const (pos 2)) also TellsEnd-bare (insn.Const (pos 3))
@@ -280,7 +284,7 @@ TellsEnd-constants_and_loads =
     also TellsEnd-bare (insn.ArrayLoad elem.Byte) also TellsEnd-bare (insn.ArrayLoad elem.Char) also TellsEnd-bare (insn.ArrayLoad elem.Short) also tt
 
 -- 54 to 95
-TellsEnd-stores_and_stack : AllByRecursion TellsEnd stores_and_stack
+TellsEnd-stores_and_stack : AllByRecursion RowTellsEnd stores_and_stack
 TellsEnd-stores_and_stack =
     TellsEnd-byte (insn.Store reg.Int) also TellsEnd-byte (insn.Store reg.Long) also TellsEnd-left_out 56 1 also TellsEnd-left_out 57 1
     also TellsEnd-byte (insn.Store reg.Ref) also TellsEnd-bare (insn.Store reg.Int 0) also TellsEnd-bare (insn.Store reg.Int 1)
@@ -296,7 +300,7 @@ TellsEnd-stores_and_stack =
     also TellsEnd-bare insn.Dup2X1 also TellsEnd-bare insn.Dup2X2 also TellsEnd-bare insn.Swap also tt
 
 -- 96 to 152
-TellsEnd-arithmetic : AllByRecursion TellsEnd arithmetic
+TellsEnd-arithmetic : AllByRecursion RowTellsEnd arithmetic
 TellsEnd-arithmetic =
     TellsEnd-bare (insn.IntOp op.Add) also TellsEnd-bare (insn.LongOp op.Add) also TellsEnd-left_out 98 0 also TellsEnd-left_out 99 0
     also TellsEnd-bare (insn.IntOp op.Sub) also TellsEnd-bare (insn.LongOp op.Sub) also TellsEnd-left_out 102 0 also TellsEnd-left_out 103 0
@@ -316,7 +320,7 @@ TellsEnd-arithmetic =
     also TellsEnd-left_out 151 0 also TellsEnd-left_out 152 0 also tt
 
 -- 153 to 201
-TellsEnd-control_and_objects : AllByRecursion TellsEnd control_and_objects
+TellsEnd-control_and_objects : AllByRecursion RowTellsEnd control_and_objects
 TellsEnd-control_and_objects =
     TellsEnd-jump (insn.IfInt test.Eq) also TellsEnd-jump (insn.IfInt test.Ne) also TellsEnd-jump (insn.IfInt test.Lt)
     also TellsEnd-jump (insn.IfInt test.Ge) also TellsEnd-jump (insn.IfInt test.Gt) also TellsEnd-jump (insn.IfInt test.Le)
@@ -335,13 +339,16 @@ TellsEnd-control_and_objects =
     also TellsEnd-array_of_arrays also TellsEnd-jump (insn.IfNull true) also TellsEnd-jump (insn.IfNull false) also TellsEnd-long_jump insn.Goto
     also TellsEnd-left_out 201 4 also tt
 
--- each reading of the table tells its end
-TellsEnd-readings : AllByRecursion TellsEnd readings
-TellsEnd-readings =
-    All-joined TellsEnd ((constants_and_loads ++ stores_and_stack) ++ arithmetic) control_and_objects
-    (All-joined TellsEnd (constants_and_loads ++ stores_and_stack) arithmetic
-    (All-joined TellsEnd constants_and_loads stores_and_stack TellsEnd-constants_and_loads TellsEnd-stores_and_stack) TellsEnd-arithmetic)
+-- each row of the table tells its end
+TellsEnd-rows : AllByRecursion RowTellsEnd rows
+TellsEnd-rows =
+    All-joined RowTellsEnd ((constants_and_loads ++ stores_and_stack) ++ arithmetic) control_and_objects
+    (All-joined RowTellsEnd (constants_and_loads ++ stores_and_stack) arithmetic
+    (All-joined RowTellsEnd constants_and_loads stores_and_stack TellsEnd-constants_and_loads TellsEnd-stores_and_stack) TellsEnd-arithmetic)
     TellsEnd-control_and_objects
+
+TellsEnd-reading_of : (opcode : ℕ) → TellsEnd (reading_of opcode)
+TellsEnd-reading_of opcode = All-at TellsEnd (map (λ (row : Row). row.1) rows) malformed (All-mapped TellsEnd (λ (row : Row). row.1) rows TellsEnd-rows) TellsEnd-malformed opcode
 
 -- an instruction in front of other bytes is told by the bytes alone
 pub insn_at_tells_end : TellsEnd insn_at
@@ -351,8 +358,8 @@ insn_at_tells_end offset (a ∷ x) [] r s i j x_read y_read e = cc
 insn_at_tells_end offset (a ∷ x) (b ∷ y) r s i j x_read y_read e =
     let first : a ≡ b = cc in
     let rest : x ++ r ≡ y ++ s = cc in
-    let y_read' : (slice_index_or readings a malformed) offset y ≡ Some j = ap (λ (n : ℕ). (slice_index_or readings n malformed) offset y) first ∙ y_read in
-    let operands : x ≡ y = All-at TellsEnd readings malformed TellsEnd-readings TellsEnd-malformed a offset x y r s i j x_read y_read' rest in
+    let y_read' : (reading_of a) offset y ≡ Some j = ap (λ (n : ℕ). (reading_of n) offset y) first ∙ y_read in
+    let operands : x ≡ y = TellsEnd-reading_of a offset x y r s i j x_read y_read' rest in
     λ k. first k ∷ operands k
 
 -- an instruction has at least its opcode

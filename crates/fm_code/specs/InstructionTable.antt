@@ -1,9 +1,10 @@
--- What the bytes of an instruction mean: one line for each opcode (instruction chapter, section 6.5).
+-- What the bytes of an instruction mean: one row for each opcode (instruction chapter, section 6.5).
 -- An instruction is read at an offset, and its targets are read as the offsets that they have.
-use Rattle.std.specs.Prelude.{ℕ, zero, suc, ◌-◌, ◌%◌, ◌==◌, ◌||◌, ◌&&◌, Bool, true, false, nat_lt, List, [], ◌∷◌, ◌++◌, length, drop, Option, Some, None, option_and_then, ℤ, pos, negsuc, if◌then◌else◌, ◌+ℤ◌, ◌-ℤ◌, int_lt, int_le}
+use Rattle.std.specs.Prelude.{ℕ, zero, suc, map, ◌-◌, ◌%◌, ◌==◌, ◌||◌, ◌&&◌, Bool, true, false, nat_lt, List, [], ◌∷◌, ◌++◌, length, drop, Option, Some, None, option_and_then, ℤ, pos, negsuc, if◌then◌else◌, ◌+ℤ◌, ◌-ℤ◌, int_lt, int_le}
 use Rattle.std.specs.List.{slice_index_or}
 use Rattle.std.specs.Option.{option_map}
 use Rattle.fm_code.specs.Numbers.{signed_one, number_of_two, signed_two, signed_four_of}
+use Rattle.fm_code.specs.declared.opcodes.TheConstants as opcodes
 use Rattle.fm_code.specs.declared.operations.Reg.TheVariants as reg
 use Rattle.fm_code.specs.declared.operations.Elem.TheVariants as elem
 use Rattle.fm_code.specs.declared.operations.Test.TheVariants as test
@@ -66,24 +67,24 @@ long_jump f offset operands = None
 abbrev pub left_out : ℕ → ℕ → Reading
 left_out opcode count offset operands = if length operands == count then Some (insn.LeftOut opcode) else None
 
--- 132 iinc
+-- iinc: a local and a signed byte
 abbrev pub increment : Reading
 increment = λ offset operands. two_bytes (λ a b. Some (insn.Inc a (signed_one b))) offset operands
 
--- 185 invokeinterface: an index, a count and a byte 0
+-- invokeinterface: an index, a count and a byte 0
 abbrev pub interface_call : Reading
 interface_call offset (a ∷ b ∷ count ∷ zero ∷ []) = Some (insn.Interface (number_of_two a b))
 interface_call offset operands = None
 
--- 197 multianewarray: an index and at least one dimension
+-- multianewarray: an index and at least one dimension
 abbrev pub array_of_arrays : Reading
 array_of_arrays offset (a ∷ b ∷ suc dimensions ∷ []) = Some (insn.MultiArray (number_of_two a b) (suc dimensions))
 array_of_arrays offset operands = None
 
--- 188 newarray: 4 boolean, 5 char, 8 byte, 9 short, 10 int, 11 long; arrays of floats (6) and doubles (7) are left out
+-- newarray: 4 boolean, 5 char, 8 byte, 9 short, 10 int, 11 long; arrays of floats (6) and doubles (7) are left out
 abbrev pub new_array_of : List (Option Insn)
 new_array_of =
-    None ∷ None ∷ None ∷ None ∷ Some (insn.NewArray elem.Boolean) ∷ Some (insn.NewArray elem.Char) ∷ Some (insn.LeftOut 188) ∷ Some (insn.LeftOut 188)
+    None ∷ None ∷ None ∷ None ∷ Some (insn.NewArray elem.Boolean) ∷ Some (insn.NewArray elem.Char) ∷ Some (insn.LeftOut opcodes.NEWARRAY) ∷ Some (insn.LeftOut opcodes.NEWARRAY)
     ∷ Some (insn.NewArray elem.Byte) ∷ Some (insn.NewArray elem.Short) ∷ Some (insn.NewArray elem.Int) ∷ Some (insn.NewArray elem.Long) ∷ []
 
 abbrev pub new_array : Reading
@@ -91,20 +92,20 @@ new_array offset [] = None
 new_array offset (kind ∷ []) = slice_index_or new_array_of kind None
 new_array offset (a ∷ b ∷ rest) = None
 
--- 196 wide: a load or a store of a local above 255, or an iinc with two bytes each; of floats and doubles, and ret, it is left out
+-- wide: a load or a store of a local above 255, or an iinc with two bytes each; of floats and doubles, and ret, it is left out
 abbrev pub wide_local : ℕ → ℕ → Option Insn
 wide_local opcode index =
-    if opcode == 21 then Some (insn.Load reg.Int index) else
-    if opcode == 22 then Some (insn.Load reg.Long index) else
-    if opcode == 25 then Some (insn.Load reg.Ref index) else
-    if opcode == 54 then Some (insn.Store reg.Int index) else
-    if opcode == 55 then Some (insn.Store reg.Long index) else
-    if opcode == 58 then Some (insn.Store reg.Ref index) else
-    if (opcode == 23) || (opcode == 24) || (opcode == 56) || (opcode == 57) || (opcode == 169) then Some (insn.LeftOut 196) else None
+    if opcode == opcodes.ILOAD then Some (insn.Load reg.Int index) else
+    if opcode == opcodes.LLOAD then Some (insn.Load reg.Long index) else
+    if opcode == opcodes.ALOAD then Some (insn.Load reg.Ref index) else
+    if opcode == opcodes.ISTORE then Some (insn.Store reg.Int index) else
+    if opcode == opcodes.LSTORE then Some (insn.Store reg.Long index) else
+    if opcode == opcodes.ASTORE then Some (insn.Store reg.Ref index) else
+    if (opcode == opcodes.FLOAD) || (opcode == opcodes.DLOAD) || (opcode == opcodes.FSTORE) || (opcode == opcodes.DSTORE) || (opcode == opcodes.RET) then Some (insn.LeftOut opcodes.WIDE) else None
 
 abbrev pub wide : Reading
 wide offset (opcode ∷ a ∷ b ∷ []) = wide_local opcode (number_of_two a b)
-wide offset (opcode ∷ a ∷ b ∷ c ∷ d ∷ []) = if opcode == 132 then Some (insn.Inc (number_of_two a b) (signed_two c d)) else None
+wide offset (opcode ∷ a ∷ b ∷ c ∷ d ∷ []) = if opcode == opcodes.IINC then Some (insn.Inc (number_of_two a b) (signed_two c d)) else None
 wide offset operands = None
 
 -- how many bytes stand between the opcode of a switch and the next multiple of four
@@ -134,7 +135,7 @@ abbrev pub is_number : ℤ → ℕ → Bool
 is_number (pos n) k = n == k
 is_number (negsuc n) k = false
 
--- 170 tableswitch: the jump of other keys, the least and the greatest key, a jump for each key from the least to the greatest
+-- tableswitch: the jump of other keys, the least and the greatest key, a jump for each key from the least to the greatest
 abbrev pub table_switch : ℕ → List ℤ → Option Insn
 table_switch offset (others ∷ low ∷ high ∷ jumps) =
     if int_le low high && is_number ((high -ℤ low) +ℤ pos 1) (length jumps)
@@ -154,7 +155,7 @@ pairs_of [] = Some ([], [])
 pairs_of (key ∷ []) = None
 pairs_of (key ∷ jump ∷ rest) = option_map (λ p. (key ∷ p.0, jump ∷ p.1)) (pairs_of rest)
 
--- 171 lookupswitch: the jump of other keys, the number of pairs, and pairs of a key and its jump with rising keys
+-- lookupswitch: the jump of other keys, the number of pairs, and pairs of a key and its jump with rising keys
 abbrev pub lookup_switch : ℕ → List ℤ → Option Insn
 lookup_switch offset (others ∷ count ∷ numbers) =
     option_and_then
@@ -169,431 +170,241 @@ abbrev pub switch : (ℕ → List ℤ → Option Insn) → Reading
 switch f offset operands =
     if nat_lt (length operands) (padding_at offset) then None else option_and_then (f offset) (signed_fours (drop (padding_at offset) operands))
 
--- the readings by opcode; an opcode behind them, as 186, is malformed
-abbrev pub constants_and_loads : List Reading
+-- a row of the table: an opcode, and what its operands mean
+abbrev pub Row : Type 0
+Row = ℕ × Reading
+
+-- the row of an instruction that is left out, with so many operand bytes
+abbrev pub left_out_row : ℕ → ℕ → Row
+left_out_row opcode count = (opcode, left_out opcode count)
+
+abbrev pub constants_and_loads : List Row
 constants_and_loads =
-    -- 0 nop
-    bare insn.Nop
-    -- 1 aconst_null
-    ∷ bare insn.Null
-    -- 2 iconst_m1
-    ∷ bare (insn.Const (negsuc 0))
-    -- 3 iconst_0
-    ∷ bare (insn.Const (pos 0))
-    -- 4 iconst_1
-    ∷ bare (insn.Const (pos 1))
-    -- 5 iconst_2
-    ∷ bare (insn.Const (pos 2))
-    -- 6 iconst_3
-    ∷ bare (insn.Const (pos 3))
-    -- 7 iconst_4
-    ∷ bare (insn.Const (pos 4))
-    -- 8 iconst_5
-    ∷ bare (insn.Const (pos 5))
-    -- 9 lconst_0
-    ∷ bare (insn.LongConst (pos 0))
-    -- 10 lconst_1
-    ∷ bare (insn.LongConst (pos 1))
-    -- 11 fconst_0
-    ∷ left_out 11 0
-    -- 12 fconst_1
-    ∷ left_out 12 0
-    -- 13 fconst_2
-    ∷ left_out 13 0
-    -- 14 dconst_0
-    ∷ left_out 14 0
-    -- 15 dconst_1
-    ∷ left_out 15 0
-    -- 16 bipush
-    ∷ signed_byte insn.Const
-    -- 17 sipush
-    ∷ signed_short insn.Const
-    -- 18 ldc
-    ∷ byte insn.LoadPool
-    -- 19 ldc_w
-    ∷ short insn.LoadPool
-    -- 20 ldc2_w
-    ∷ short insn.LoadPool
-    -- 21 iload
-    ∷ byte (insn.Load reg.Int)
-    -- 22 lload
-    ∷ byte (insn.Load reg.Long)
-    -- 23 fload
-    ∷ left_out 23 1
-    -- 24 dload
-    ∷ left_out 24 1
-    -- 25 aload
-    ∷ byte (insn.Load reg.Ref)
-    -- 26 iload_0
-    ∷ bare (insn.Load reg.Int 0)
-    -- 27 iload_1
-    ∷ bare (insn.Load reg.Int 1)
-    -- 28 iload_2
-    ∷ bare (insn.Load reg.Int 2)
-    -- 29 iload_3
-    ∷ bare (insn.Load reg.Int 3)
-    -- 30 lload_0
-    ∷ bare (insn.Load reg.Long 0)
-    -- 31 lload_1
-    ∷ bare (insn.Load reg.Long 1)
-    -- 32 lload_2
-    ∷ bare (insn.Load reg.Long 2)
-    -- 33 lload_3
-    ∷ bare (insn.Load reg.Long 3)
-    -- 34 fload_0
-    ∷ left_out 34 0
-    -- 35 fload_1
-    ∷ left_out 35 0
-    -- 36 fload_2
-    ∷ left_out 36 0
-    -- 37 fload_3
-    ∷ left_out 37 0
-    -- 38 dload_0
-    ∷ left_out 38 0
-    -- 39 dload_1
-    ∷ left_out 39 0
-    -- 40 dload_2
-    ∷ left_out 40 0
-    -- 41 dload_3
-    ∷ left_out 41 0
-    -- 42 aload_0
-    ∷ bare (insn.Load reg.Ref 0)
-    -- 43 aload_1
-    ∷ bare (insn.Load reg.Ref 1)
-    -- 44 aload_2
-    ∷ bare (insn.Load reg.Ref 2)
-    -- 45 aload_3
-    ∷ bare (insn.Load reg.Ref 3)
-    -- 46 iaload
-    ∷ bare (insn.ArrayLoad elem.Int)
-    -- 47 laload
-    ∷ bare (insn.ArrayLoad elem.Long)
-    -- 48 faload
-    ∷ left_out 48 0
-    -- 49 daload
-    ∷ left_out 49 0
-    -- 50 aaload
-    ∷ bare (insn.ArrayLoad elem.Ref)
-    -- 51 baload
-    ∷ bare (insn.ArrayLoad elem.Byte)
-    -- 52 caload
-    ∷ bare (insn.ArrayLoad elem.Char)
-    -- 53 saload
-    ∷ bare (insn.ArrayLoad elem.Short)
+    (opcodes.NOP, bare insn.Nop)
+    ∷ (opcodes.ACONST_NULL, bare insn.Null)
+    ∷ (opcodes.ICONST_M1, bare (insn.Const (negsuc 0)))
+    ∷ (opcodes.ICONST_0, bare (insn.Const (pos 0)))
+    ∷ (opcodes.ICONST_1, bare (insn.Const (pos 1)))
+    ∷ (opcodes.ICONST_2, bare (insn.Const (pos 2)))
+    ∷ (opcodes.ICONST_3, bare (insn.Const (pos 3)))
+    ∷ (opcodes.ICONST_4, bare (insn.Const (pos 4)))
+    ∷ (opcodes.ICONST_5, bare (insn.Const (pos 5)))
+    ∷ (opcodes.LCONST_0, bare (insn.LongConst (pos 0)))
+    ∷ (opcodes.LCONST_1, bare (insn.LongConst (pos 1)))
+    ∷ left_out_row opcodes.FCONST_0 0
+    ∷ left_out_row opcodes.FCONST_1 0
+    ∷ left_out_row opcodes.FCONST_2 0
+    ∷ left_out_row opcodes.DCONST_0 0
+    ∷ left_out_row opcodes.DCONST_1 0
+    ∷ (opcodes.BIPUSH, signed_byte insn.Const)
+    ∷ (opcodes.SIPUSH, signed_short insn.Const)
+    ∷ (opcodes.LDC, byte insn.LoadPool)
+    ∷ (opcodes.LDC_W, short insn.LoadPool)
+    ∷ (opcodes.LDC2_W, short insn.LoadPool)
+    ∷ (opcodes.ILOAD, byte (insn.Load reg.Int))
+    ∷ (opcodes.LLOAD, byte (insn.Load reg.Long))
+    ∷ left_out_row opcodes.FLOAD 1
+    ∷ left_out_row opcodes.DLOAD 1
+    ∷ (opcodes.ALOAD, byte (insn.Load reg.Ref))
+    ∷ (opcodes.ILOAD_0, bare (insn.Load reg.Int 0))
+    ∷ (opcodes.ILOAD_1, bare (insn.Load reg.Int 1))
+    ∷ (opcodes.ILOAD_2, bare (insn.Load reg.Int 2))
+    ∷ (opcodes.ILOAD_3, bare (insn.Load reg.Int 3))
+    ∷ (opcodes.LLOAD_0, bare (insn.Load reg.Long 0))
+    ∷ (opcodes.LLOAD_1, bare (insn.Load reg.Long 1))
+    ∷ (opcodes.LLOAD_2, bare (insn.Load reg.Long 2))
+    ∷ (opcodes.LLOAD_3, bare (insn.Load reg.Long 3))
+    ∷ left_out_row opcodes.FLOAD_0 0
+    ∷ left_out_row opcodes.FLOAD_1 0
+    ∷ left_out_row opcodes.FLOAD_2 0
+    ∷ left_out_row opcodes.FLOAD_3 0
+    ∷ left_out_row opcodes.DLOAD_0 0
+    ∷ left_out_row opcodes.DLOAD_1 0
+    ∷ left_out_row opcodes.DLOAD_2 0
+    ∷ left_out_row opcodes.DLOAD_3 0
+    ∷ (opcodes.ALOAD_0, bare (insn.Load reg.Ref 0))
+    ∷ (opcodes.ALOAD_1, bare (insn.Load reg.Ref 1))
+    ∷ (opcodes.ALOAD_2, bare (insn.Load reg.Ref 2))
+    ∷ (opcodes.ALOAD_3, bare (insn.Load reg.Ref 3))
+    ∷ (opcodes.IALOAD, bare (insn.ArrayLoad elem.Int))
+    ∷ (opcodes.LALOAD, bare (insn.ArrayLoad elem.Long))
+    ∷ left_out_row opcodes.FALOAD 0
+    ∷ left_out_row opcodes.DALOAD 0
+    ∷ (opcodes.AALOAD, bare (insn.ArrayLoad elem.Ref))
+    ∷ (opcodes.BALOAD, bare (insn.ArrayLoad elem.Byte))
+    ∷ (opcodes.CALOAD, bare (insn.ArrayLoad elem.Char))
+    ∷ (opcodes.SALOAD, bare (insn.ArrayLoad elem.Short))
     ∷ []
 
-abbrev pub stores_and_stack : List Reading
+abbrev pub stores_and_stack : List Row
 stores_and_stack =
-    -- 54 istore
-    byte (insn.Store reg.Int)
-    -- 55 lstore
-    ∷ byte (insn.Store reg.Long)
-    -- 56 fstore
-    ∷ left_out 56 1
-    -- 57 dstore
-    ∷ left_out 57 1
-    -- 58 astore
-    ∷ byte (insn.Store reg.Ref)
-    -- 59 istore_0
-    ∷ bare (insn.Store reg.Int 0)
-    -- 60 istore_1
-    ∷ bare (insn.Store reg.Int 1)
-    -- 61 istore_2
-    ∷ bare (insn.Store reg.Int 2)
-    -- 62 istore_3
-    ∷ bare (insn.Store reg.Int 3)
-    -- 63 lstore_0
-    ∷ bare (insn.Store reg.Long 0)
-    -- 64 lstore_1
-    ∷ bare (insn.Store reg.Long 1)
-    -- 65 lstore_2
-    ∷ bare (insn.Store reg.Long 2)
-    -- 66 lstore_3
-    ∷ bare (insn.Store reg.Long 3)
-    -- 67 fstore_0
-    ∷ left_out 67 0
-    -- 68 fstore_1
-    ∷ left_out 68 0
-    -- 69 fstore_2
-    ∷ left_out 69 0
-    -- 70 fstore_3
-    ∷ left_out 70 0
-    -- 71 dstore_0
-    ∷ left_out 71 0
-    -- 72 dstore_1
-    ∷ left_out 72 0
-    -- 73 dstore_2
-    ∷ left_out 73 0
-    -- 74 dstore_3
-    ∷ left_out 74 0
-    -- 75 astore_0
-    ∷ bare (insn.Store reg.Ref 0)
-    -- 76 astore_1
-    ∷ bare (insn.Store reg.Ref 1)
-    -- 77 astore_2
-    ∷ bare (insn.Store reg.Ref 2)
-    -- 78 astore_3
-    ∷ bare (insn.Store reg.Ref 3)
-    -- 79 iastore
-    ∷ bare (insn.ArrayStore elem.Int)
-    -- 80 lastore
-    ∷ bare (insn.ArrayStore elem.Long)
-    -- 81 fastore
-    ∷ left_out 81 0
-    -- 82 dastore
-    ∷ left_out 82 0
-    -- 83 aastore
-    ∷ bare (insn.ArrayStore elem.Ref)
-    -- 84 bastore
-    ∷ bare (insn.ArrayStore elem.Byte)
-    -- 85 castore
-    ∷ bare (insn.ArrayStore elem.Char)
-    -- 86 sastore
-    ∷ bare (insn.ArrayStore elem.Short)
-    -- 87 pop
-    ∷ bare insn.Pop
-    -- 88 pop2
-    ∷ bare insn.Pop2
-    -- 89 dup
-    ∷ bare insn.Dup
-    -- 90 dup_x1
-    ∷ bare insn.DupX1
-    -- 91 dup_x2
-    ∷ bare insn.DupX2
-    -- 92 dup2
-    ∷ bare insn.Dup2
-    -- 93 dup2_x1
-    ∷ bare insn.Dup2X1
-    -- 94 dup2_x2
-    ∷ bare insn.Dup2X2
-    -- 95 swap
-    ∷ bare insn.Swap
+    (opcodes.ISTORE, byte (insn.Store reg.Int))
+    ∷ (opcodes.LSTORE, byte (insn.Store reg.Long))
+    ∷ left_out_row opcodes.FSTORE 1
+    ∷ left_out_row opcodes.DSTORE 1
+    ∷ (opcodes.ASTORE, byte (insn.Store reg.Ref))
+    ∷ (opcodes.ISTORE_0, bare (insn.Store reg.Int 0))
+    ∷ (opcodes.ISTORE_1, bare (insn.Store reg.Int 1))
+    ∷ (opcodes.ISTORE_2, bare (insn.Store reg.Int 2))
+    ∷ (opcodes.ISTORE_3, bare (insn.Store reg.Int 3))
+    ∷ (opcodes.LSTORE_0, bare (insn.Store reg.Long 0))
+    ∷ (opcodes.LSTORE_1, bare (insn.Store reg.Long 1))
+    ∷ (opcodes.LSTORE_2, bare (insn.Store reg.Long 2))
+    ∷ (opcodes.LSTORE_3, bare (insn.Store reg.Long 3))
+    ∷ left_out_row opcodes.FSTORE_0 0
+    ∷ left_out_row opcodes.FSTORE_1 0
+    ∷ left_out_row opcodes.FSTORE_2 0
+    ∷ left_out_row opcodes.FSTORE_3 0
+    ∷ left_out_row opcodes.DSTORE_0 0
+    ∷ left_out_row opcodes.DSTORE_1 0
+    ∷ left_out_row opcodes.DSTORE_2 0
+    ∷ left_out_row opcodes.DSTORE_3 0
+    ∷ (opcodes.ASTORE_0, bare (insn.Store reg.Ref 0))
+    ∷ (opcodes.ASTORE_1, bare (insn.Store reg.Ref 1))
+    ∷ (opcodes.ASTORE_2, bare (insn.Store reg.Ref 2))
+    ∷ (opcodes.ASTORE_3, bare (insn.Store reg.Ref 3))
+    ∷ (opcodes.IASTORE, bare (insn.ArrayStore elem.Int))
+    ∷ (opcodes.LASTORE, bare (insn.ArrayStore elem.Long))
+    ∷ left_out_row opcodes.FASTORE 0
+    ∷ left_out_row opcodes.DASTORE 0
+    ∷ (opcodes.AASTORE, bare (insn.ArrayStore elem.Ref))
+    ∷ (opcodes.BASTORE, bare (insn.ArrayStore elem.Byte))
+    ∷ (opcodes.CASTORE, bare (insn.ArrayStore elem.Char))
+    ∷ (opcodes.SASTORE, bare (insn.ArrayStore elem.Short))
+    ∷ (opcodes.POP, bare insn.Pop)
+    ∷ (opcodes.POP2, bare insn.Pop2)
+    ∷ (opcodes.DUP, bare insn.Dup)
+    ∷ (opcodes.DUP_X1, bare insn.DupX1)
+    ∷ (opcodes.DUP_X2, bare insn.DupX2)
+    ∷ (opcodes.DUP2, bare insn.Dup2)
+    ∷ (opcodes.DUP2_X1, bare insn.Dup2X1)
+    ∷ (opcodes.DUP2_X2, bare insn.Dup2X2)
+    ∷ (opcodes.SWAP, bare insn.Swap)
     ∷ []
 
-abbrev pub arithmetic : List Reading
+abbrev pub arithmetic : List Row
 arithmetic =
-    -- 96 iadd
-    bare (insn.IntOp op.Add)
-    -- 97 ladd
-    ∷ bare (insn.LongOp op.Add)
-    -- 98 fadd
-    ∷ left_out 98 0
-    -- 99 dadd
-    ∷ left_out 99 0
-    -- 100 isub
-    ∷ bare (insn.IntOp op.Sub)
-    -- 101 lsub
-    ∷ bare (insn.LongOp op.Sub)
-    -- 102 fsub
-    ∷ left_out 102 0
-    -- 103 dsub
-    ∷ left_out 103 0
-    -- 104 imul
-    ∷ bare (insn.IntOp op.Mul)
-    -- 105 lmul
-    ∷ bare (insn.LongOp op.Mul)
-    -- 106 fmul
-    ∷ left_out 106 0
-    -- 107 dmul
-    ∷ left_out 107 0
-    -- 108 idiv
-    ∷ bare (insn.IntOp op.Div)
-    -- 109 ldiv
-    ∷ bare (insn.LongOp op.Div)
-    -- 110 fdiv
-    ∷ left_out 110 0
-    -- 111 ddiv
-    ∷ left_out 111 0
-    -- 112 irem
-    ∷ bare (insn.IntOp op.Rem)
-    -- 113 lrem
-    ∷ bare (insn.LongOp op.Rem)
-    -- 114 frem
-    ∷ left_out 114 0
-    -- 115 drem
-    ∷ left_out 115 0
-    -- 116 ineg
-    ∷ bare insn.IntNeg
-    -- 117 lneg
-    ∷ bare insn.LongNeg
-    -- 118 fneg
-    ∷ left_out 118 0
-    -- 119 dneg
-    ∷ left_out 119 0
-    -- 120 ishl
-    ∷ bare (insn.IntShift shift.Left)
-    -- 121 lshl
-    ∷ bare (insn.LongShift shift.Left)
-    -- 122 ishr
-    ∷ bare (insn.IntShift shift.Right)
-    -- 123 lshr
-    ∷ bare (insn.LongShift shift.Right)
-    -- 124 iushr
-    ∷ bare (insn.IntShift shift.RightZero)
-    -- 125 lushr
-    ∷ bare (insn.LongShift shift.RightZero)
-    -- 126 iand
-    ∷ bare (insn.IntOp op.And)
-    -- 127 land
-    ∷ bare (insn.LongOp op.And)
-    -- 128 ior
-    ∷ bare (insn.IntOp op.Or)
-    -- 129 lor
-    ∷ bare (insn.LongOp op.Or)
-    -- 130 ixor
-    ∷ bare (insn.IntOp op.Xor)
-    -- 131 lxor
-    ∷ bare (insn.LongOp op.Xor)
-    -- 132 iinc
-    ∷ increment
-    -- 133 i2l
-    ∷ bare (insn.Convert conv.IntToLong)
-    -- 134 i2f
-    ∷ left_out 134 0
-    -- 135 i2d
-    ∷ left_out 135 0
-    -- 136 l2i
-    ∷ bare (insn.Convert conv.LongToInt)
-    -- 137 l2f
-    ∷ left_out 137 0
-    -- 138 l2d
-    ∷ left_out 138 0
-    -- 139 f2i
-    ∷ left_out 139 0
-    -- 140 f2l
-    ∷ left_out 140 0
-    -- 141 f2d
-    ∷ left_out 141 0
-    -- 142 d2i
-    ∷ left_out 142 0
-    -- 143 d2l
-    ∷ left_out 143 0
-    -- 144 d2f
-    ∷ left_out 144 0
-    -- 145 i2b
-    ∷ bare (insn.Convert conv.IntToByte)
-    -- 146 i2c
-    ∷ bare (insn.Convert conv.IntToChar)
-    -- 147 i2s
-    ∷ bare (insn.Convert conv.IntToShort)
-    -- 148 lcmp
-    ∷ bare insn.LongCompare
-    -- 149 fcmpl
-    ∷ left_out 149 0
-    -- 150 fcmpg
-    ∷ left_out 150 0
-    -- 151 dcmpl
-    ∷ left_out 151 0
-    -- 152 dcmpg
-    ∷ left_out 152 0
+    (opcodes.IADD, bare (insn.IntOp op.Add))
+    ∷ (opcodes.LADD, bare (insn.LongOp op.Add))
+    ∷ left_out_row opcodes.FADD 0
+    ∷ left_out_row opcodes.DADD 0
+    ∷ (opcodes.ISUB, bare (insn.IntOp op.Sub))
+    ∷ (opcodes.LSUB, bare (insn.LongOp op.Sub))
+    ∷ left_out_row opcodes.FSUB 0
+    ∷ left_out_row opcodes.DSUB 0
+    ∷ (opcodes.IMUL, bare (insn.IntOp op.Mul))
+    ∷ (opcodes.LMUL, bare (insn.LongOp op.Mul))
+    ∷ left_out_row opcodes.FMUL 0
+    ∷ left_out_row opcodes.DMUL 0
+    ∷ (opcodes.IDIV, bare (insn.IntOp op.Div))
+    ∷ (opcodes.LDIV, bare (insn.LongOp op.Div))
+    ∷ left_out_row opcodes.FDIV 0
+    ∷ left_out_row opcodes.DDIV 0
+    ∷ (opcodes.IREM, bare (insn.IntOp op.Rem))
+    ∷ (opcodes.LREM, bare (insn.LongOp op.Rem))
+    ∷ left_out_row opcodes.FREM 0
+    ∷ left_out_row opcodes.DREM 0
+    ∷ (opcodes.INEG, bare insn.IntNeg)
+    ∷ (opcodes.LNEG, bare insn.LongNeg)
+    ∷ left_out_row opcodes.FNEG 0
+    ∷ left_out_row opcodes.DNEG 0
+    ∷ (opcodes.ISHL, bare (insn.IntShift shift.Left))
+    ∷ (opcodes.LSHL, bare (insn.LongShift shift.Left))
+    ∷ (opcodes.ISHR, bare (insn.IntShift shift.Right))
+    ∷ (opcodes.LSHR, bare (insn.LongShift shift.Right))
+    ∷ (opcodes.IUSHR, bare (insn.IntShift shift.RightZero))
+    ∷ (opcodes.LUSHR, bare (insn.LongShift shift.RightZero))
+    ∷ (opcodes.IAND, bare (insn.IntOp op.And))
+    ∷ (opcodes.LAND, bare (insn.LongOp op.And))
+    ∷ (opcodes.IOR, bare (insn.IntOp op.Or))
+    ∷ (opcodes.LOR, bare (insn.LongOp op.Or))
+    ∷ (opcodes.IXOR, bare (insn.IntOp op.Xor))
+    ∷ (opcodes.LXOR, bare (insn.LongOp op.Xor))
+    ∷ (opcodes.IINC, increment)
+    ∷ (opcodes.I2L, bare (insn.Convert conv.IntToLong))
+    ∷ left_out_row opcodes.I2F 0
+    ∷ left_out_row opcodes.I2D 0
+    ∷ (opcodes.L2I, bare (insn.Convert conv.LongToInt))
+    ∷ left_out_row opcodes.L2F 0
+    ∷ left_out_row opcodes.L2D 0
+    ∷ left_out_row opcodes.F2I 0
+    ∷ left_out_row opcodes.F2L 0
+    ∷ left_out_row opcodes.F2D 0
+    ∷ left_out_row opcodes.D2I 0
+    ∷ left_out_row opcodes.D2L 0
+    ∷ left_out_row opcodes.D2F 0
+    ∷ (opcodes.I2B, bare (insn.Convert conv.IntToByte))
+    ∷ (opcodes.I2C, bare (insn.Convert conv.IntToChar))
+    ∷ (opcodes.I2S, bare (insn.Convert conv.IntToShort))
+    ∷ (opcodes.LCMP, bare insn.LongCompare)
+    ∷ left_out_row opcodes.FCMPL 0
+    ∷ left_out_row opcodes.FCMPG 0
+    ∷ left_out_row opcodes.DCMPL 0
+    ∷ left_out_row opcodes.DCMPG 0
     ∷ []
 
-abbrev pub control_and_objects : List Reading
+abbrev pub control_and_objects : List Row
 control_and_objects =
-    -- 153 ifeq
-    jump (insn.IfInt test.Eq)
-    -- 154 ifne
-    ∷ jump (insn.IfInt test.Ne)
-    -- 155 iflt
-    ∷ jump (insn.IfInt test.Lt)
-    -- 156 ifge
-    ∷ jump (insn.IfInt test.Ge)
-    -- 157 ifgt
-    ∷ jump (insn.IfInt test.Gt)
-    -- 158 ifle
-    ∷ jump (insn.IfInt test.Le)
-    -- 159 if_icmpeq
-    ∷ jump (insn.IfPair test.Eq)
-    -- 160 if_icmpne
-    ∷ jump (insn.IfPair test.Ne)
-    -- 161 if_icmplt
-    ∷ jump (insn.IfPair test.Lt)
-    -- 162 if_icmpge
-    ∷ jump (insn.IfPair test.Ge)
-    -- 163 if_icmpgt
-    ∷ jump (insn.IfPair test.Gt)
-    -- 164 if_icmple
-    ∷ jump (insn.IfPair test.Le)
-    -- 165 if_acmpeq
-    ∷ jump (insn.IfSame true)
-    -- 166 if_acmpne
-    ∷ jump (insn.IfSame false)
-    -- 167 goto
-    ∷ jump insn.Goto
-    -- 168 jsr
-    ∷ left_out 168 2
-    -- 169 ret
-    ∷ left_out 169 1
-    -- 170 tableswitch
-    ∷ switch table_switch
-    -- 171 lookupswitch
-    ∷ switch lookup_switch
-    -- 172 ireturn
-    ∷ bare (insn.Return (Some reg.Int))
-    -- 173 lreturn
-    ∷ bare (insn.Return (Some reg.Long))
-    -- 174 freturn
-    ∷ left_out 174 0
-    -- 175 dreturn
-    ∷ left_out 175 0
-    -- 176 areturn
-    ∷ bare (insn.Return (Some reg.Ref))
-    -- 177 return
-    ∷ bare (insn.Return None)
-    -- 178 getstatic
-    ∷ short insn.GetStatic
-    -- 179 putstatic
-    ∷ short insn.PutStatic
-    -- 180 getfield
-    ∷ short insn.GetField
-    -- 181 putfield
-    ∷ short insn.PutField
-    -- 182 invokevirtual
-    ∷ short insn.Virtual
-    -- 183 invokespecial
-    ∷ short insn.Special
-    -- 184 invokestatic
-    ∷ short insn.Static
-    -- 185 invokeinterface
-    ∷ interface_call
-    -- 186 invokedynamic
-    ∷ malformed
-    -- 187 new
-    ∷ short insn.New
-    -- 188 newarray
-    ∷ new_array
-    -- 189 anewarray
-    ∷ short insn.NewRefs
-    -- 190 arraylength
-    ∷ bare insn.Length
-    -- 191 athrow
-    ∷ bare insn.Throw
-    -- 192 checkcast
-    ∷ short insn.Cast
-    -- 193 instanceof
-    ∷ short insn.IsA
-    -- 194 monitorenter
-    ∷ left_out 194 0
-    -- 195 monitorexit
-    ∷ left_out 195 0
-    -- 196 wide
-    ∷ wide
-    -- 197 multianewarray
-    ∷ array_of_arrays
-    -- 198 ifnull
-    ∷ jump (insn.IfNull true)
-    -- 199 ifnonnull
-    ∷ jump (insn.IfNull false)
-    -- 200 goto_w
-    ∷ long_jump insn.Goto
-    -- 201 jsr_w
-    ∷ left_out 201 4
+    (opcodes.IFEQ, jump (insn.IfInt test.Eq))
+    ∷ (opcodes.IFNE, jump (insn.IfInt test.Ne))
+    ∷ (opcodes.IFLT, jump (insn.IfInt test.Lt))
+    ∷ (opcodes.IFGE, jump (insn.IfInt test.Ge))
+    ∷ (opcodes.IFGT, jump (insn.IfInt test.Gt))
+    ∷ (opcodes.IFLE, jump (insn.IfInt test.Le))
+    ∷ (opcodes.IF_ICMPEQ, jump (insn.IfPair test.Eq))
+    ∷ (opcodes.IF_ICMPNE, jump (insn.IfPair test.Ne))
+    ∷ (opcodes.IF_ICMPLT, jump (insn.IfPair test.Lt))
+    ∷ (opcodes.IF_ICMPGE, jump (insn.IfPair test.Ge))
+    ∷ (opcodes.IF_ICMPGT, jump (insn.IfPair test.Gt))
+    ∷ (opcodes.IF_ICMPLE, jump (insn.IfPair test.Le))
+    ∷ (opcodes.IF_ACMPEQ, jump (insn.IfSame true))
+    ∷ (opcodes.IF_ACMPNE, jump (insn.IfSame false))
+    ∷ (opcodes.GOTO, jump insn.Goto)
+    ∷ left_out_row opcodes.JSR 2
+    ∷ left_out_row opcodes.RET 1
+    ∷ (opcodes.TABLESWITCH, switch table_switch)
+    ∷ (opcodes.LOOKUPSWITCH, switch lookup_switch)
+    ∷ (opcodes.IRETURN, bare (insn.Return (Some reg.Int)))
+    ∷ (opcodes.LRETURN, bare (insn.Return (Some reg.Long)))
+    ∷ left_out_row opcodes.FRETURN 0
+    ∷ left_out_row opcodes.DRETURN 0
+    ∷ (opcodes.ARETURN, bare (insn.Return (Some reg.Ref)))
+    ∷ (opcodes.RETURN, bare (insn.Return None))
+    ∷ (opcodes.GETSTATIC, short insn.GetStatic)
+    ∷ (opcodes.PUTSTATIC, short insn.PutStatic)
+    ∷ (opcodes.GETFIELD, short insn.GetField)
+    ∷ (opcodes.PUTFIELD, short insn.PutField)
+    ∷ (opcodes.INVOKEVIRTUAL, short insn.Virtual)
+    ∷ (opcodes.INVOKESPECIAL, short insn.Special)
+    ∷ (opcodes.INVOKESTATIC, short insn.Static)
+    ∷ (opcodes.INVOKEINTERFACE, interface_call)
+    ∷ (opcodes.INVOKEDYNAMIC, malformed)
+    ∷ (opcodes.NEW, short insn.New)
+    ∷ (opcodes.NEWARRAY, new_array)
+    ∷ (opcodes.ANEWARRAY, short insn.NewRefs)
+    ∷ (opcodes.ARRAYLENGTH, bare insn.Length)
+    ∷ (opcodes.ATHROW, bare insn.Throw)
+    ∷ (opcodes.CHECKCAST, short insn.Cast)
+    ∷ (opcodes.INSTANCEOF, short insn.IsA)
+    ∷ left_out_row opcodes.MONITORENTER 0
+    ∷ left_out_row opcodes.MONITOREXIT 0
+    ∷ (opcodes.WIDE, wide)
+    ∷ (opcodes.MULTIANEWARRAY, array_of_arrays)
+    ∷ (opcodes.IFNULL, jump (insn.IfNull true))
+    ∷ (opcodes.IFNONNULL, jump (insn.IfNull false))
+    ∷ (opcodes.GOTO_W, long_jump insn.Goto)
+    ∷ left_out_row opcodes.JSR_W 4
     ∷ []
 
-abbrev pub readings : List Reading
-readings = ((constants_and_loads ++ stores_and_stack) ++ arithmetic) ++ control_and_objects
+-- each opcode up to the last one, in order (law_opcodes)
+abbrev pub rows : List Row
+rows = ((constants_and_loads ++ stores_and_stack) ++ arithmetic) ++ control_and_objects
+
+-- what the operands of an opcode mean; they are malformed behind the last row
+abbrev pub reading_of : ℕ → Reading
+reading_of opcode = slice_index_or (map (λ (row : Row). row.1) rows) opcode malformed
 
 -- the instruction that the bytes spell at an offset, with offsets for targets
 unfoldable pub insn_at : ℕ → List ℕ → Option Insn
 insn_at offset [] = None
-insn_at offset (opcode ∷ operands) = (slice_index_or readings opcode malformed) offset operands
+insn_at offset (opcode ∷ operands) = (reading_of opcode) offset operands

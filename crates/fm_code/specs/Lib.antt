@@ -1,3 +1,4 @@
+pub mod InsnBytes
 pub mod Numbers
 pub mod InstructionTable
 pub mod ClassBytes

@@ -1,8 +1,11 @@
 // The class file as a record that keeps every byte (class file chapter, sections 4.1 and 4.5 to 4.7).
 
+ghost use Rattle.std.specs.Prelude.{◌≡◌, IfOk};
+
 use crate::code_array::Code;
 use crate::constant_pool::Pool;
-use fm_base::Seq;
+use fm_base::{NoMemory, Seq};
+use std::alloc::Global;
 
 /// A class file. Each number is the item of that name in the `ClassFile` structure.
 #[derive(Debug, Drop)]
@@ -46,4 +49,17 @@ pub struct Raw {
     /// The index of its name.
     pub name: u16,
     pub bytes: Seq<u8>,
+}
+
+impl Raw {
+    /// An equal attribute.
+    pub fn copy(&self, alloc: Global) -> Result<Raw, NoMemory>
+        ensures { IfOk result (λ raw. raw ≡ self.now) }
+    {
+        let bytes = Vec::from_slice(alloc, self.bytes.as_slice())?;
+        Ok(Raw {
+            name: self.name,
+            bytes: Seq::new(bytes),
+        })
+    }
 }

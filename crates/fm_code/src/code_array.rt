@@ -1,8 +1,12 @@
 // A method's code as a list of items (class file chapter, sections 4.7.3, 4.7.12 to 4.7.14).
 
+ghost use Rattle.std.specs.Prelude.{◌≡◌, IfOk};
+
 use crate::class_file::Raw;
+use crate::insn_bytes::InsnBytes;
 use crate::instructions::Insn;
-use fm_base::Seq;
+use fm_base::{NoMemory, Seq};
+use std::alloc::Global;
 
 /// The most bytes that a code array has (JVMS 4.7.3).
 pub const MAX_CODE_BYTES: u32 = 65_535;
@@ -19,13 +23,66 @@ pub struct Code {
     pub attributes: Seq<CodeAttr>,
 }
 
+impl Code {
+    /// Equal code.
+    pub fn copy(&self, alloc: Global) -> Result<Code, NoMemory>
+        ensures { IfOk result (λ code. code ≡ self.now) }
+    {
+        Ok(Code {
+            max_stack: self.max_stack,
+            max_locals: self.max_locals,
+            items: Seq::new(items_copy(alloc, self.items.as_slice())?),
+            length: self.length,
+            handlers: Seq::new(Vec::from_slice(alloc, self.handlers.as_slice())?),
+            attributes: Seq::new(attributes_copy(alloc, self.attributes.as_slice())?),
+        })
+    }
+}
+
+/// Equal items.
+fn items_copy(alloc: Global, items: &[Item]) -> Result<Vec<Item>, NoMemory>
+    ensures { IfOk result (λ copies. copies.items ≡ items.now) }
+{
+    let mut copies = Vec::with_capacity(alloc, items.len())?;
+    for item in items {
+        copies.push(item.copy(alloc)?)?;
+    }
+    Ok(copies)
+}
+
+/// Equal attributes.
+fn attributes_copy(alloc: Global, attributes: &[CodeAttr]) -> Result<Vec<CodeAttr>, NoMemory>
+    ensures { IfOk result (λ copies. copies.items ≡ attributes.now) }
+{
+    let mut copies = Vec::with_capacity(alloc, attributes.len())?;
+    for attribute in attributes {
+        copies.push(attribute.copy(alloc)?)?;
+    }
+    Ok(copies)
+}
+
 /// An instruction where it stands, with the bytes that spell it there.
 #[derive(Debug, Drop)]
 pub struct Item {
     /// The offset of its first byte in the code array.
     pub offset: u32,
-    pub bytes: Seq<u8>,
+    pub bytes: InsnBytes,
     pub insn: Insn,
+}
+
+const _: () = prove!(size_of::<Item>() <= 56);
+
+impl Item {
+    /// An equal item.
+    pub fn copy(&self, alloc: Global) -> Result<Item, NoMemory>
+        ensures { IfOk result (λ item. item ≡ self.now) }
+    {
+        Ok(Item {
+            offset: self.offset,
+            bytes: self.bytes.copy(alloc)?,
+            insn: self.insn.copy(alloc)?,
+        })
+    }
 }
 
 /// An entry of the exception table. `start`, `end` and `handler` are numbers of items; `end` may be
@@ -48,6 +105,25 @@ pub enum CodeAttr {
     Vars(u16, bool, Seq<Var>),
     /// Any other attribute.
     Other(Raw),
+}
+
+impl CodeAttr {
+    /// An equal attribute.
+    pub fn copy(&self, alloc: Global) -> Result<CodeAttr, NoMemory>
+        ensures { IfOk result (λ attribute. attribute ≡ self.now) }
+    {
+        match self {
+            CodeAttr::Lines(name, lines) => {
+                let lines = Vec::from_slice(alloc, lines.as_slice())?;
+                Ok(CodeAttr::Lines(*name, Seq::new(lines)))
+            }
+            CodeAttr::Vars(name, types, vars) => {
+                let vars = Vec::from_slice(alloc, vars.as_slice())?;
+                Ok(CodeAttr::Vars(*name, *types, Seq::new(vars)))
+            }
+            CodeAttr::Other(raw) => Ok(CodeAttr::Other(raw.copy(alloc)?)),
+        }
+    }
 }
 
 /// An item at which a line of the source begins.

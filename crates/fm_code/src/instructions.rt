@@ -1,11 +1,15 @@
 // The instructions (instruction chapter, section 6.5).
 
+ghost use Rattle.std.specs.Prelude.{◌≡◌, IfOk};
+
 use crate::operations::{Conv, Elem, Op, Reg, Shift, Test};
-use fm_base::Seq;
+use crate::switch_list::SwitchList;
+use fm_base::NoMemory;
+use std::alloc::Global;
 
 /// An instruction. A `u16` is a pool index or a local variable, and a `u32` the number of the item
 /// that is jumped to.
-#[derive(Debug, Drop)]
+#[derive(Clone, Debug, Drop)]
 pub enum Insn {
     Nop,
     Null,
@@ -45,9 +49,9 @@ pub enum Insn {
     IfNull(bool, u32),
     Goto(u32),
     /// A tableswitch: its least key, the item of all other keys, and those of the keys in order.
-    Table(i32, u32, Seq<u32>),
+    Table(i32, u32, SwitchList<u32>),
     /// A lookupswitch: the item of all other keys, the keys, and their items.
-    Lookup(u32, Seq<i32>, Seq<u32>),
+    Lookup(u32, SwitchList<i32>, SwitchList<u32>),
     /// A return, without a value or with one.
     Return(Option<Reg>),
     GetStatic(u16),
@@ -69,4 +73,21 @@ pub enum Insn {
     MultiArray(u16, u8),
     /// An instruction that is left out of what is supported, by its opcode.
     LeftOut(u8),
+}
+
+impl Insn {
+    /// An equal instruction.
+    pub fn copy(&self, alloc: Global) -> Result<Insn, NoMemory>
+        ensures { IfOk result (λ insn. insn ≡ self.now) }
+    {
+        match self {
+            Insn::Table(low, others, targets) => {
+                Ok(Insn::Table(*low, *others, targets.copy(alloc)?))
+            }
+            Insn::Lookup(others, keys, targets) => {
+                Ok(Insn::Lookup(*others, keys.copy(alloc)?, targets.copy(alloc)?))
+            }
+            insn => Ok(insn.clone()?),
+        }
+    }
 }

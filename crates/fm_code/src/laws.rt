@@ -1,13 +1,16 @@
 // Laws of the definitions, each as the contract of a function that does nothing.
 
-ghost use Rattle.std.specs.Prelude.{◌≡◌, ℕ, ◌≤◌, List, [], ◌++◌, length, take, codes};
+ghost use Rattle.std.specs.Prelude.{◌≡◌, ℕ, ◌+◌, ◌≤◌, List, [], ◌++◌, length, map, take, codes};
+ghost use Rattle.std.specs.List.{range_with_len};
 ghost use Rattle.byteorder.specs.Endian.{big_number, big_bytes};
 ghost use Rattle.fm_code.specs.Fits.{AreBytes};
 ghost use Rattle.fm_code.specs.Example.{example_bytes, example_record, short_length_bytes, wrong_tag_bytes, longer_bytes};
 ghost use Rattle.fm_code.specs.FirstForm.{IsFirstForm, IsNamed, DeclaresMain};
+ghost use Rattle.fm_code.specs.InstructionTable.{Row, rows};
 ghost use Rattle.fm_code.specs.Spells.{Spells};
 ghost use Rattle.fm_code.specs.SpellsCode.{SpellsCode};
 ghost use Rattle.fm_code.specs.declared.class_file.ClassDef.{ClassDef};
+ghost use Rattle.fm_code.specs.declared.opcodes.TheConstants.{JSR_W};
 ghost use Rattle.fm_code.specs.declared.code_array.Item.{Item};
 
 /// The bytes of the number that n bytes make, the highest first, are those n bytes.
@@ -33,6 +36,12 @@ pub fn law_nothing_follows()
 pub fn law_one_code()
     ensures { (bytes : List ℕ) (xs ys : List Item)
         → SpellsCode bytes xs → SpellsCode bytes ys → xs ≡ ys }
+{}
+
+/// The instruction table has a row for each opcode up to the last one, in their order. So the number
+/// of a row is its opcode.
+pub fn law_opcodes()
+    ensures { map (λ (row : Row). row.0) rows ≡ range_with_len 0 (JSR_W + 1) }
 {}
 
 /// The definitions at a class file that is written out by hand: its bytes spell its record, which is

@@ -9,11 +9,13 @@ mod access_flags;
 mod class_file;
 mod code_array;
 mod constant_pool;
+mod insn_bytes;
 mod instructions;
 mod laws;
 pub mod opcodes;
 mod operations;
 mod profile;
+mod switch_list;
 
 pub use access_flags::{
     ACC_ABSTRACT, ACC_INTERFACE, ACC_NATIVE, ACC_PRIVATE, ACC_STATIC, has_flag,
@@ -25,9 +27,13 @@ pub use constant_pool::{
     CONSTANT_InterfaceMethodref, CONSTANT_Long, CONSTANT_Methodref, CONSTANT_NameAndType,
     CONSTANT_String, CONSTANT_Utf8, Entry, Pool,
 };
+pub use insn_bytes::InsnBytes;
 pub use instructions::Insn;
-pub use laws::{law_example, law_nothing_follows, law_number_bytes, law_one_code, law_one_record};
+pub use laws::{
+    law_example, law_nothing_follows, law_number_bytes, law_one_code, law_one_record, law_opcodes,
+};
 pub use operations::{Conv, Elem, Op, Reg, Shift, Test};
 pub use profile::{
     NEWEST_MAJOR, OLDEST_MAJOR, OLDEST_MINOR, OverLimit, Place, Unsupported, What,
 };
+pub use switch_list::SwitchList;

@@ -1,9 +1,9 @@
 -- The instructions of the first form by their opcodes: each takes the bytes that its opcode asks for, and none is a switch.
 use Rattle.std.proofs.Common.{◌≡◌, ℕ, ◌<◌, ◌≤◌, ◌||◌, not, Bool, true, false, eqb, ltb, List, [], ◌∷◌, length, Some, refl, sym, ap, subst, ◌∙◌, inl, inr, ℤ, pos, negsuc, ◌+ℤ◌}
 use Rattle.fm_code.specs.Numbers.{signed_one, signed_two, number_of_two}
-use Rattle.std.specs.List.{AllByRecursion, list_any, slice_index_or}
+use Rattle.std.specs.List.{AllByRecursion, list_any}
 use Rattle.std.proofs.lemmas.Bool.{cases_Bool, eqb-true, eq-eqb, le-ltb, agree_below, agree_below_at}
-use Rattle.fm_code.specs.InstructionTable.{Reading, bare, byte, two_bytes, jump_to, jump, readings, malformed, insn_at}
+use Rattle.fm_code.specs.InstructionTable.{Reading, bare, byte, two_bytes, jump_to, jump, reading_of, insn_at}
 use Rattle.fm_code.specs.FirstForm.{first_opcodes}
 use Rattle.fm_code.specs.declared.instructions.Insn.{Insn}
 use Rattle.fm_code.specs.declared.instructions.Insn.TheVariants as insn
@@ -94,9 +94,6 @@ Takes-jump f none = record { size = size_of; plain = plain_of } where
   plain_of offset (a ∷ []) i e = absurd cc
   plain_of offset (a ∷ b ∷ []) i e = jump_plain f none (pos offset +ℤ signed_two a b) i e
   plain_of offset (a ∷ b ∷ c ∷ rest) i e = absurd cc
-
-abbrev reading_of : ℕ → Reading
-reading_of opcode = slice_index_or readings opcode malformed
 
 -- what holds of each of some numbers holds of a number among them
 at_member : (P : ℕ → Type 0) (xs : List ℕ) (x : ℕ) → AllByRecursion P xs → list_any (λ first. eqb first x) xs ≡ true → P x

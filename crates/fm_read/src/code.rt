@@ -17,7 +17,7 @@ use crate::parts::ClassParts;
 use crate::targets::{numbered_items, offsets_of};
 use byteorder::{BigEndian, ByteOrder};
 use fm_base::Seq;
-use fm_code::{Code, Insn, Item, Reg};
+use fm_code::{Code, Insn, InsnBytes, Item, Reg};
 use std::alloc::Global;
 
 /// The code of the first form whose Code attribute has these bytes behind its length, in a method of the
@@ -112,10 +112,10 @@ fn item_of(alloc: Global, max_locals: u16, code: &[u8], at: usize) -> Result<Ite
     if !locals_fit(max_locals, &insn) {
         return Err(FirstFail::NotYet);
     }
-    let bytes = Vec::from_slice(alloc, &code[at..at + count])?;
+    let bytes = InsnBytes::from_slice(alloc, &code[at..at + count])?;
     Ok(Item {
         offset: at as u32,
-        bytes: Seq::new(bytes),
+        bytes,
         insn,
     })
 }

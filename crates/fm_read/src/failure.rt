@@ -3,6 +3,7 @@
 ghost use Rattle.std.specs.Prelude.{◌≡◌};
 ghost use Rattle.fm_read.specs.declared.failure.FirstFail.TheVariants.{NoMemory as OutOfMemory};
 
+use fm_base::NoMemory;
 use std::alloc::{AllocError, AllocFailed};
 use thiserror::Error;
 
@@ -29,6 +30,14 @@ impl<T: Drop> From<AllocFailed<T>> for FirstFail {
     ghost from_gives = { λ _ e. e ≡ OutOfMemory };
 
     fn from(_error: AllocFailed<T>) -> FirstFail {
+        FirstFail::NoMemory
+    }
+}
+
+impl From<NoMemory> for FirstFail {
+    ghost from_gives = { λ _ e. e ≡ OutOfMemory };
+
+    fn from(_error: NoMemory) -> FirstFail {
         FirstFail::NoMemory
     }
 }

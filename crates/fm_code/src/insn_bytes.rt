@@ -1,0 +1,73 @@
+// The bytes of an instruction, which lie in place where they are few.
+
+ghost use Rattle.std.specs.Prelude.{◌≡◌, IfOk};
+
+use fm_base::NoMemory;
+use std::alloc::Global;
+use std::marker::Model;
+
+/// The most bytes that an instruction has that is no switch: an iinc behind wide.
+const MAX_PLAIN_BYTES: usize = 6;
+
+/// The bytes that spell an instruction. Contracts see the list of the bytes.
+#[derive(Debug, Drop)]
+pub struct InsnBytes {
+    kept: Kept,
+}
+
+// Few bytes in front of others that don't count, or many of them in a box.
+#[derive(Debug, Drop)]
+enum Kept {
+    Few([u8; MAX_PLAIN_BYTES], u8),
+    Many(Box<Vec<u8>>),
+}
+
+impl Model for InsnBytes {
+    ghost use Rattle.std.specs.Prelude.{ℕ, List};
+
+    ghost Value = { List ℕ };
+
+    ghost use Rattle.fm_code.specs.InsnBytes.{kept_bytes};
+
+    ghost view = { λ b. kept_bytes b.kept };
+
+    ghost use Rattle.fm_code.specs.InsnBytes.{IsKept};
+
+    ghost invariant = { λ b. IsKept b.kept };
+}
+
+impl InsnBytes {
+    /// These bytes. Takes memory only where they are more than an instruction has that is no switch.
+    pub fn from_slice(alloc: Global, bytes: &[u8]) -> Result<InsnBytes, NoMemory>
+        ensures { IfOk result (λ b. b ≡ bytes.now) }
+    {
+        if bytes.len() > MAX_PLAIN_BYTES {
+            let many = Box::new(alloc, Vec::from_slice(alloc, bytes)?)?;
+            return Ok(InsnBytes {
+                kept: Kept::Many(many),
+            });
+        }
+        let mut few = [0; MAX_PLAIN_BYTES];
+        few[..bytes.len()].copy_from_slice(bytes);
+        Ok(InsnBytes {
+            kept: Kept::Few(few, bytes.len() as u8),
+        })
+    }
+
+    /// The bytes as a slice.
+    pub fn as_slice(&self) -> &[u8]
+        ensures { result.now ≡ self.now }
+    {
+        match &self.kept {
+            Kept::Few(few, count) => &few[..usize::from(*count)],
+            Kept::Many(many) => many.as_slice(),
+        }
+    }
+
+    /// Equal bytes.
+    pub fn copy(&self, alloc: Global) -> Result<InsnBytes, NoMemory>
+        ensures { IfOk result (λ b. b ≡ self.now) }
+    {
+        InsnBytes::from_slice(alloc, self.as_slice())
+    }
+}

@@ -1,0 +1,50 @@
+// The lists of a switch, which lie in a box so that no instruction takes the room of the few switches.
+
+ghost use Rattle.std.specs.Prelude.{◌≡◌, IfOk};
+
+use fm_base::NoMemory;
+use std::alloc::Global;
+use std::marker::Model;
+
+/// The keys or the targets of a switch. Contracts see the list of the values.
+#[derive(Clone, Debug, Drop)]
+pub struct SwitchList<T> {
+    items: Box<Vec<T>>,
+}
+
+impl<T> Model for SwitchList<T> {
+    ghost use Rattle.std.specs.Prelude.{List};
+
+    ghost Value = { List T };
+
+    ghost view = { λ list. list.items.value.items };
+}
+
+impl<T> SwitchList<T> {
+    /// The list of these values.
+    pub fn new(alloc: Global, items: Vec<T>) -> Result<SwitchList<T>, NoMemory>
+    where
+        T: Drop,
+        ensures { IfOk result (λ list. list ≡ items.items) }
+    {
+        let items = Box::new(alloc, items)?;
+        Ok(SwitchList { items })
+    }
+
+    /// The values as a slice.
+    pub fn as_slice(&self) -> &[T]
+        ensures { result.now ≡ self.now }
+    {
+        self.items.as_slice()
+    }
+
+    /// An equal list.
+    pub fn copy(&self, alloc: Global) -> Result<SwitchList<T>, NoMemory>
+    where
+        T: Copy + Drop,
+        ensures { IfOk result (λ list. list ≡ self.now) }
+    {
+        let items = Vec::from_slice(alloc, self.items.as_slice())?;
+        SwitchList::new(alloc, items)
+    }
+}
