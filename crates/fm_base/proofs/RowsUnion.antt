@@ -81,7 +81,7 @@ Changed_all initial other words true i so_far all same =
 Changed_all initial other words false i so_far all same =
     ext_get_or 0 words initial so_far.same_length (λ k below. so_far.changed k (omega arith))
 
--- whether the row gains a bit is told by the words
+-- whether the row gains a bit is read off the words
 pub AddsBit_iff : (old new : List ℕ) (bits : ℕ) (grown : Bool) → IsRow old bits → IsRow new bits → MatchBool grown (GainsBit old new) (new ≡ old) →
     IsTrue grown ↔ AddsBit (bits_of old bits) (bits_of new bits)
 AddsBit_iff old new bits true first third changed = (λ _. AddsBit-GainsBit old new bits first third changed, λ _. refl)

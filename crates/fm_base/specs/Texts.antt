@@ -13,13 +13,13 @@ unit_bytes unit =
 abbrev pub goes_on : ℕ → Bool
 goes_on byte = nat_le 128 byte && nat_lt byte 192
 
--- what a first byte makes with those that go on behind it
+-- what a first byte makes with those that go on after it
 abbrev pub unit_of : ℕ → List ℕ → ℕ
 unit_of first [] = first
 unit_of first (second ∷ []) = (first - 192) * 64 + (second - 128)
 unit_of first (second ∷ third ∷ rest) = (first - 224) * 4096 + (second - 128) * 64 + (third - 128)
 
--- the bytes in front that go on with a unit which began before them, and the units behind these
+-- the first bytes that go on with a unit which began before them, and the units after these
 pub record Parted : Type 0 where
   pub going_on : List ℕ
   pub units : List ℕ

@@ -14,7 +14,7 @@ pub const MINUS: u8 = b'-';
 /// Stands before the arguments in a method's descriptor.
 pub const LEFT_PARENTHESIS: u8 = b'(';
 
-/// Stands behind the arguments in a method's descriptor.
+/// Stands after the arguments in a method's descriptor.
 pub const RIGHT_PARENTHESIS: u8 = b')';
 
 /// Stands between the parts of a name in the language, and in no part of a name in a class file.

@@ -86,7 +86,7 @@ impl<T> Seq<T> {
 }
 
 impl<T: Drop> Seq<T> {
-    /// Puts a value behind the last one. After `NoMemory` the values are as before, and the value is
+    /// Puts a value after the last one. After `NoMemory` the values are as before, and the value is
     /// dropped.
     pub fn push(&mut self, value: T) -> Result<(), NoMemory>
         ensures pushed { OnOk result (self.new ≡ self.old ++ value ∷ []) }

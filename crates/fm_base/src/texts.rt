@@ -72,7 +72,7 @@ impl Name {
         self.bytes
     }
 
-    /// Puts a byte behind the last one. After `NoMemory` the bytes are as before.
+    /// Puts a byte after the last one. After `NoMemory` the bytes are as before.
     pub fn push(&mut self, byte: u8) -> Result<(), NoMemory>
         ensures pushed { OnOk result (self.new ≡ self.old ++ byte ∷ []) }
         ensures kept { OnErr result (self.new ≡ self.old) }
@@ -178,7 +178,7 @@ impl Units {
         self.units
     }
 
-    /// Puts a unit behind the last one. After `NoMemory` the units are as before.
+    /// Puts a unit after the last one. After `NoMemory` the units are as before.
     pub fn push(&mut self, unit: u16) -> Result<(), NoMemory>
         ensures pushed { OnOk result (self.new ≡ self.old ++ unit ∷ []) }
         ensures kept { OnErr result (self.new ≡ self.old) }

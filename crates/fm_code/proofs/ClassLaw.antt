@@ -22,7 +22,7 @@ use Rattle.fm_code.proofs.CodePrefixes.{one_code_attribute}
 
 -- ---- attributes of members
 
--- the index of an attribute's name, and its bytes behind their number
+-- the index of an attribute's name, and its bytes after their number
 abbrev pub name_of : MemberAttr → ℕ
 name_of (attribute.Constant name value) = name
 name_of (attribute.Coded name code) = name

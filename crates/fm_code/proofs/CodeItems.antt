@@ -37,7 +37,7 @@ start_le start end [] k laid = let total = laid.total in omega arith
 start_le start end (item ∷ items) zero laid = let first = laid.offsets.0 in omega arith
 start_le start end (item ∷ items) (suc k) laid = let later = start_le (start + length item.bytes) end items k (AreLaid-rest start end item items laid) in omega arith
 
--- no item begins behind the end
+-- no item begins after the end
 pub offset_le_end : (start end : ℕ) (items : List Item) (k : ℕ) → AreLaid start items end → offset_in items end k ≤ end
 offset_le_end start end [] k laid = omega arith
 offset_le_end start end (item ∷ items) zero laid = let first = laid.offsets.0 in let total = laid.total in omega arith

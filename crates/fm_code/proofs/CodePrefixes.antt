@@ -121,7 +121,7 @@ Cancels-var place entries count places x y r s (x_fits, x_valid) (y_fits, y_vali
 
 -- ---- the attributes of a Code attribute
 
--- the index of an attribute's name, and its bytes behind their number
+-- the index of an attribute's name, and its bytes after their number
 abbrev name_of : CodeAttr → ℕ
 name_of (code_attribute.Lines name lines) = name
 name_of (code_attribute.Vars name types vars) = name
@@ -311,7 +311,7 @@ code_bytes_by : (code : Code) → code_bytes code ≡ bytes_by (attribute_by (of
 unfolding code_bytes
 code_bytes_by code = λ k. bytes_by (λ a. attribute_by_is code a k) code
 
--- the bytes of a Code attribute behind its length determine it
+-- the bytes of a Code attribute after its length determine it
 pub one_code_attribute : (entries : List Entry) (c d : Code) → CodeIsRight entries c → CodeIsRight entries d → code_bytes c ≡ code_bytes d → c ≡ d
 one_code_attribute entries c d c_right d_right e =
     let count = length c.items in

@@ -12,7 +12,7 @@ pub All-weaker : {X : Type 0} (P Q : X → Type 0) → ((x : X) → P x → Q x)
 All-weaker P Q weaker [] all = tt
 All-weaker P Q weaker (x ∷ xs) (p, all) = (weaker x p, All-weaker P Q weaker xs all)
 
--- one list behind another
+-- one list after another
 pub All-joined : {X : Type 0} (P : X → Type 0) (xs ys : List X) → AllByRecursion P xs → AllByRecursion P ys → AllByRecursion P (xs ++ ys)
 All-joined P [] ys first second = second
 All-joined P (x ∷ xs) ys (p, first) second = (p, All-joined P xs ys first second)

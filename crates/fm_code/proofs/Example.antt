@@ -254,9 +254,9 @@ nil_or_more b bytes e = cc
 pub longer_not_spelled : (c : ClassDef) → Spells longer_bytes c → ⊥
 longer_not_spelled c spells = nil_or_more 0 [] (nothing_follows example_bytes (0 ∷ []) example_record c example_spelled spells)
 
--- the bytes of a class file behind its pool
-abbrev bytes_behind_pool : ClassDef → List ℕ
-bytes_behind_pool c =
+-- the bytes of a class file after its pool
+abbrev bytes_after_pool : ClassDef → List ℕ
+bytes_after_pool c =
     concat (two c.flags ∷ two c.this_class ∷ two c.super_class
     ∷ counted two c.interfaces ∷ counted member_bytes c.fields ∷ counted member_bytes c.methods ∷ counted raw_bytes c.attributes ∷ [])
 
@@ -274,14 +274,14 @@ no_entries_two (x ∷ []) r s count slots e = absurd (omega arith)
 no_entries_two (x ∷ y ∷ entries) r s count slots e =
     let due = slots_due x (y ∷ entries) slots in
     let spelled = slots_spelled y entries due.1 in
-    let behind : 2 ∷ r ≡ (entry_bytes y ++ flat_map entry_bytes entries) ++ s =
+    let after : 2 ∷ r ≡ (entry_bytes y ++ flat_map entry_bytes entries) ++ s =
     e ∙ ap (λ (z : Entry). (entry_bytes z ++ (entry_bytes y ++ flat_map entry_bytes entries)) ++ s) due.0 in
-    no_tag_two y r (flat_map entry_bytes entries ++ s) spelled.0 (behind ∙ append_assoc (entry_bytes y) (flat_map entry_bytes entries) s)
+    no_tag_two y r (flat_map entry_bytes entries ++ s) spelled.0 (after ∙ append_assoc (entry_bytes y) (flat_map entry_bytes entries) s)
 
 -- the class file up to the pool, and the rest
 class_front : (c : ClassDef) →
     class_bytes c ≡
-    concat (magic ∷ two c.minor ∷ two c.major ∷ two (length c.pool.entries) ∷ []) ++ (flat_map entry_bytes c.pool.entries ++ bytes_behind_pool c)
+    concat (magic ∷ two c.minor ∷ two c.major ∷ two (length c.pool.entries) ∷ []) ++ (flat_map entry_bytes c.pool.entries ++ bytes_after_pool c)
 unfolding class_bytes pool_bytes
 class_front c = simp append_assoc
 
@@ -299,8 +299,8 @@ wrong_tag_not_spelled c spells =
     then tells_nothing in
     let cut : front ++ drop 10 wrong_tag_bytes ≡ wrong_tag_bytes = refl in
     let ((_, (_, (_, (count, _)))), rest) =
-    told.cancel (drop 10 wrong_tag_bytes) (flat_map entry_bytes c.pool.entries ++ bytes_behind_pool c) (cut ∙ spells.bytes_are ∙ class_front c) in
-    no_entries_two c.pool.entries (drop 11 wrong_tag_bytes) (bytes_behind_pool c) (sym count) spells.pool.slots rest
+    told.cancel (drop 10 wrong_tag_bytes) (flat_map entry_bytes c.pool.entries ++ bytes_after_pool c) (cut ∙ spells.bytes_are ∙ class_front c) in
+    no_entries_two c.pool.entries (drop 11 wrong_tag_bytes) (bytes_after_pool c) (sym count) spells.pool.slots rest
 
 -- a list of no elements
 tells_none : {X : Type 0} (spell : X → List ℕ) (xs : List X) → FitsTwo (length xs) → Tells (two 0) (counted spell xs) (Unit {0})
@@ -378,7 +378,7 @@ short_class_is : short_class ++ 0 ∷ [] ≡ short_length_bytes
 unfolding two four pool_bytes entry_bytes
 short_class_is = refl
 
--- a byte is left behind the class
+-- a byte is left after the class
 pub short_length_not_spelled : (c : ClassDef) → Spells short_length_bytes c → ⊥
 unfolding class_bytes
 short_length_not_spelled c spells =

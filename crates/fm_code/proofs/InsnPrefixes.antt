@@ -121,7 +121,7 @@ wide_local_is opcode index i e =
       go true is = let none : wide_local 132 index ≡ Some i = ap (λ (n : ℕ). wide_local n index) (sym (eqb-true opcode 132 is)) ∙ e in cc
       go false is = is
 
--- two bytes follow the second opcode, or four behind iinc
+-- two bytes follow the second opcode, or four after iinc
 length-wide : (offset opcode : ℕ) (rest : List ℕ) (i : Insn) → wide offset (opcode ∷ rest) ≡ Some i → length rest ≡ (if opcode == 132 then 4 else 2)
 length-wide offset opcode (a ∷ b ∷ []) i e =
     sym (ap (λ (t : Bool). if t then 4 else 2) (wide_local_is opcode (number_of_two a b) i e))
@@ -229,7 +229,7 @@ AgreeSoFar-signed_fours (a ∷ b ∷ c ∷ d ∷ x) (a' ∷ b' ∷ c' ∷ d' ∷
     (first, AgreeSoFar-signed_fours x y r s zs ws (x_rest ∙ ap Some us_is) (y_rest ∙ ap Some vs_is) rest)
 AgreeSoFar-signed_fours x y r s (z ∷ zs) (w ∷ ws) x_is y_is e = cc
 
--- the padding is there, and behind it numbers of four bytes
+-- the padding is there, and after it numbers of four bytes
 switch_is : (f : ℕ → List ℤ → Option Insn) (offset : ℕ) (x : List ℕ) (i : Insn) → switch f offset x ≡ Some i →
     (padding_at offset ≤ length x) × ((zs : List ℤ) × ((signed_fours (drop (padding_at offset) x) ≡ Some zs) × (f offset zs ≡ Some i)))
 switch_is f offset x i e = go (ltb (length x) (padding_at offset)) refl e where

@@ -69,7 +69,7 @@ pub slots_due : (x : Entry) (xs : List Entry) → AreSlots true (x ∷ xs) → (
 slots_due entry.Second xs slots = (refl, slots)
 slots_due x xs slots = absurd slots
 
--- elsewhere an entry is spelled, and what it takes is due behind it
+-- elsewhere an entry is spelled, and what it takes is due after it
 pub slots_spelled : (x : Entry) (xs : List Entry) → AreSlots false (x ∷ xs) → IsSpelledEntry x × AreSlots (takes_two x) xs
 slots_spelled entry.Second xs slots = absurd slots
 slots_spelled x xs slots = (tt, slots)

@@ -40,7 +40,7 @@ tells_nothing = record { cancel = λ r s e. (tt, e) }
 
 infixr 45 ◌then◌
 infixr 45 ◌so◌
--- a second pair of pieces behind the first, which may rest on what the first has told
+-- a second pair of pieces after the first, which may rest on what the first has told
 pub ◌so◌ : {p q p' q' : List ℕ} {E E' : Type 0} → Tells p q E → (E → Tells p' q' E') → Tells (p ++ p') (q ++ q') (E × E')
 ◌so◌ {p = p} {q = q} {p' = p'} {q' = q'} first second = record {
   cancel = λ r s e.
@@ -49,7 +49,7 @@ pub ◌so◌ : {p q p' q' : List ℕ} {E E' : Type 0} → Tells p q E → (E →
       ((front.0, back.0), back.1);
 }
 
--- a second pair of pieces behind the first
+-- a second pair of pieces after the first
 pub ◌then◌ : {p q p' q' : List ℕ} {E E' : Type 0} → Tells p q E → Tells p' q' E' → Tells (p ++ p') (q ++ q') (E × E')
 first then second = first so (λ _. second)
 
@@ -90,7 +90,7 @@ cancel_elements spell Fits cancels (x ∷ xs) (y ∷ ys) r s same (x_fits, first
     let tail = cancel_elements spell Fits cancels xs ys r s (omega arith) first second head.1 in
     (λ i. head.0 i ∷ tail.0 i, tail.1)
 
--- a list behind its length
+-- a list after its length
 pub Cancels-counted : {X : Type 0} (spell : X → List ℕ) (Fits : X → Type 0) → Cancels spell Fits → Cancels (counted spell) (CountedFits Fits)
 Cancels-counted spell Fits cancels xs ys r s xs_fit ys_fit e =
     let count = Cancels-two (length xs) (length ys) (flat_map spell xs ++ r) (flat_map spell ys ++ s) xs_fit.count ys_fit.count
@@ -137,7 +137,7 @@ tells_same p q same = record { cancel = λ r s e. split_same p q r s same e }
 pub CountedFits-both : {X : Type 0} (P Q : X → Type 0) (xs : List X) → CountedFits P xs → AllByRecursion Q xs → CountedFits (λ x. P x × Q x) xs
 CountedFits-both P Q xs fits all = record { count = fits.count; each = All-both P Q xs fits.each all }
 
--- with nothing behind it
+-- with nothing after it
 pub told_alone : {X : Type 0} (spell : X → List ℕ) (Fits : X → Type 0) → Cancels spell Fits → (x y : X) → Fits x → Fits y → spell x ≡ spell y → x ≡ y
 told_alone spell Fits cancels x y x_fits y_fits e = (cancels x y [] [] x_fits y_fits (ap (λ (bytes : List ℕ). bytes ++ []) e)).0
 

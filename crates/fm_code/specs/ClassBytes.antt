@@ -1,4 +1,4 @@
--- The bytes of a class file, as a function of its record (class file chapter, sections 4.1 to 4.7).
+-- The bytes of a class file, as a function of its record (JVMS 4.1 to 4.7).
 use Rattle.std.specs.Prelude.{ℕ, suc, zero, ◌-◌, List, [], ◌∷◌, ◌++◌, length}
 use Rattle.std.specs.List.{flat_map, concat}
 use Rattle.fm_code.specs.Numbers.{two, four, eight, signed_four, signed_eight}
@@ -19,7 +19,7 @@ use Rattle.fm_code.specs.declared.code_array.CodeAttr.TheVariants as code_attrib
 use Rattle.fm_code.specs.declared.code_array.Line.{Line}
 use Rattle.fm_code.specs.declared.code_array.Var.{Var}
 
--- a list behind its length in two bytes
+-- a list after its length in two bytes
 abbrev pub counted : {X : Type 0} → (X → List ℕ) → List X → List ℕ
 counted spell xs = two (length xs) ++ flat_map spell xs
 
@@ -43,18 +43,18 @@ entry_bytes entry.Second = []
 unfoldable pub pool_bytes : Pool → List ℕ
 pool_bytes pool = counted entry_bytes pool.entries
 
--- ---- attributes (4.7)
+-- ---- attributes (JVMS 4.7)
 
--- an attribute: its name, and its bytes behind their number
+-- an attribute: its name, and its bytes after their number
 abbrev pub attribute_bytes : ℕ → List ℕ → List ℕ
 attribute_bytes name body = two name ++ (four (length body) ++ body)
 
 unfoldable pub raw_bytes : Raw → List ℕ
 raw_bytes raw = attribute_bytes raw.name raw.bytes
 
--- ---- code (4.7.3, 4.7.12 to 4.7.14)
+-- ---- code (JVMS 4.7.3, 4.7.12 to 4.7.14)
 
--- where an item begins, or the code's length behind the last item
+-- where an item begins, or the code's length after the last item
 abbrev pub offset_in : List Item → ℕ → ℕ → ℕ
 offset_in [] end index = end
 offset_in (item ∷ items) end zero = item.offset
@@ -82,13 +82,13 @@ code_attribute_bytes code (code_attribute.Lines name lines) = attribute_bytes na
 code_attribute_bytes code (code_attribute.Vars name types vars) = attribute_bytes name (counted (var_bytes code) vars)
 code_attribute_bytes code (code_attribute.Other raw) = raw_bytes raw
 
--- the bytes of a Code attribute behind its length
+-- the bytes of a Code attribute after its length
 unfoldable pub code_bytes : Code → List ℕ
 code_bytes code =
     concat (two code.max_stack ∷ two code.max_locals ∷ four code.length ∷ flat_map item_bytes code.items
     ∷ counted (handler_bytes code) code.handlers ∷ counted (code_attribute_bytes code) code.attributes ∷ [])
 
--- ---- members (4.5, 4.6)
+-- ---- members (JVMS 4.5, 4.6)
 
 unfoldable pub member_attribute_bytes : MemberAttr → List ℕ
 member_attribute_bytes (attribute.Constant name value) = attribute_bytes name (two value)
@@ -98,7 +98,7 @@ member_attribute_bytes (attribute.Other raw) = raw_bytes raw
 unfoldable pub member_bytes : Member → List ℕ
 member_bytes m = concat (two m.flags ∷ two m.name ∷ two m.descriptor ∷ counted member_attribute_bytes m.attributes ∷ [])
 
--- ---- the class file (4.1)
+-- ---- the class file (JVMS 4.1)
 
 -- cafebabe
 abbrev pub magic : List ℕ

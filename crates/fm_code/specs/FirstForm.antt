@@ -16,7 +16,7 @@ use Rattle.fm_code.specs.declared.code_array.Item.{Item}
 use Rattle.fm_code.specs.declared.instructions.Insn.{Insn}
 use Rattle.fm_code.specs.declared.instructions.Insn.TheVariants as insn
 
--- texts of the bytes from 1 to 127, ints, longs, classes and members of classes; the index 0 and those behind a long have nothing
+-- texts of the bytes from 1 to 127, ints, longs, classes and members of classes; the index 0 and those after a long have nothing
 abbrev pub IsFirstEntry : Entry → Type 0
 IsFirstEntry (entry.Utf8 name) = AllByRecursion (λ b. (0 < b) × (b < 128)) name
 IsFirstEntry (entry.Integer value) = Unit {0}

@@ -1,4 +1,4 @@
--- Each number and each length of a record fits the bytes that it is spelled in (class file chapter, section 4.1).
+-- Each number and each length of a record fits the bytes that it is spelled in (JVMS 4.1).
 use Rattle.std.specs.Prelude.{ℕ, ◌<◌, ◌^◌, List, length, FitsSigned}
 use Rattle.std.specs.Int.{w32, w64}
 use Rattle.std.specs.List.{AllByRecursion}

@@ -1,4 +1,4 @@
--- What the bytes of an instruction mean: one row for each opcode (instruction chapter, section 6.5).
+-- What the bytes of an instruction mean: one row for each opcode (JVMS 6.5).
 -- An instruction is read at an offset, and its targets are read as the offsets that they have.
 use Rattle.std.specs.Prelude.{ℕ, zero, suc, map, ◌-◌, ◌%◌, ◌==◌, ◌||◌, ◌&&◌, Bool, true, false, nat_lt, List, [], ◌∷◌, ◌++◌, length, drop, Option, Some, None, option_and_then, ℤ, pos, negsuc, if◌then◌else◌, ◌+ℤ◌, ◌-ℤ◌, int_lt, int_le}
 use Rattle.std.specs.List.{slice_index_or}
@@ -400,7 +400,7 @@ control_and_objects =
 abbrev pub rows : List Row
 rows = ((constants_and_loads ++ stores_and_stack) ++ arithmetic) ++ control_and_objects
 
--- what the operands of an opcode mean; they are malformed behind the last row
+-- what the operands of an opcode mean; they are malformed after the last row
 abbrev pub reading_of : ℕ → Reading
 reading_of opcode = slice_index_or (map (λ (row : Row). row.1) rows) opcode malformed
 

@@ -1,8 +1,8 @@
--- Names and descriptors as bytes (class file chapter, sections 4.2 and 4.3).
+-- Names and descriptors as bytes (JVMS 4.2, 4.3).
 use Rattle.std.specs.Prelude.{◌≡◌, ℕ, zero, ◌+◌, ◌<◌, ◌≤◌, ◌==◌, ◌||◌, ◌&&◌, ◌⊎◌, not, Bool, true, false, List, [], ◌∷◌, ◌++◌, replicate, codes, Option, Some, None, IfSome, if◌then◌else◌, sum_by}
 use Rattle.std.specs.List.{flat_map, list_all, AllByRecursion}
 
--- ---- names (4.2)
+-- ---- names (JVMS 4.2)
 
 -- a character that may stand in a field's or a method's name, or in a part of a class's name: none of . ; [ /
 abbrev pub is_name_character : ℕ → Bool
@@ -32,7 +32,7 @@ are_parts begun (c ∷ rest) = if c == 47 then begun && are_parts false rest els
 abbrev pub is_binary_name : List ℕ → Bool
 is_binary_name name = are_parts false name
 
--- ---- types (4.3.2)
+-- ---- types (JVMS 4.3.2)
 
 -- what an array's elements are at the innermost dimension, or what isn't an array: a letter, or a class
 pub data BaseType : Type 0 where
@@ -75,14 +75,14 @@ words_of t = words_at t.dimensions t.base where
   words_at zero (primitive letter) = if (letter == 74) || (letter == 68) then 2 else 1
   words_at dimensions base = 1
 
--- a class entry names a class, or an array by its descriptor (4.4.1)
+-- a class entry names a class, or an array by its descriptor (JVMS 4.4.1)
 abbrev pub IsArrayName : List ℕ → Type 0
 IsArrayName name = (t : FieldType) × (IsFieldType t × ((0 < t.dimensions) × (name ≡ field_descriptor t)))
 
 abbrev pub IsClassName : List ℕ → Type 0
 IsClassName name = (is_binary_name name ≡ true) ⊎ IsArrayName name
 
--- ---- methods' types (4.3.3)
+-- ---- methods' types (JVMS 4.3.3)
 
 pub record MethodType : Type 0 where
   pub parameters : List FieldType

@@ -27,7 +27,7 @@ IsConstant two_words e = ⊥
 abbrev pub TakesWords : ℕ → List ℕ → Type 0
 TakesWords words descriptor = (m : MethodType) × (IsMethodType m × ((descriptor ≡ method_descriptor m) × (words ≡ sum_by words_of m.parameters + 1)))
 
--- the byte behind the index of invokeinterface: how many words its arguments take (JVMS 6.5.invokeinterface)
+-- the byte after the index of invokeinterface: how many words its arguments take (JVMS 6.5.invokeinterface)
 abbrev pub count_of : Item → ℕ
 count_of item = slice_index item.bytes 3
 

@@ -47,7 +47,7 @@ pub record SpellsCode (bytes : List ℕ) (items : List Item) : Type 0 where
   pub offsets : AreOffsets 0 items
   pub spelled : AllByRecursion (IsSpelled items) items
 
--- a local variable of this kind lies within max_locals, with its second half if it is a long (4.9.1)
+-- a local variable of this kind lies within max_locals, with its second half if it is a long (JVMS 4.9.1)
 abbrev pub LocalFits : ℕ → Reg → ℕ → Type 0
 LocalFits max_locals reg.Int local = local < max_locals
 LocalFits max_locals reg.Long local = local + 1 < max_locals

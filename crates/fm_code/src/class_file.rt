@@ -1,4 +1,4 @@
-// The class file as a record that keeps every byte (class file chapter, sections 4.1 and 4.5 to 4.7).
+// The class file as a record that keeps every byte (JVMS 4.1, 4.5 to 4.7).
 
 ghost use Rattle.std.specs.Prelude.{◌≡◌, IfOk};
 

@@ -1,4 +1,4 @@
-// A method's code as a list of items (class file chapter, sections 4.7.3, 4.7.12 to 4.7.14).
+// A method's code as a list of items (JVMS 4.7.3, 4.7.12 to 4.7.14).
 
 ghost use Rattle.std.specs.Prelude.{◌≡◌, IfOk};
 

@@ -54,7 +54,7 @@ pub enum Entry {
     Method(u16, u16),
     InterfaceMethod(u16, u16),
     NameAndType(u16, u16),
-    /// The index 0, and the index behind a `Long` or a `Double`: nothing is spelled there.
+    /// The index 0, and the index after a `Long` or a `Double`: nothing is spelled there.
     Second,
 }
 
@@ -66,7 +66,7 @@ pub struct Pool {
 }
 
 impl Pool {
-    /// The entry at an index. `None` where nothing is spelled there: at 0, behind a `Long` or a
+    /// The entry at an index. `None` where nothing is spelled there: at 0, after a `Long` or a
     /// `Double`, and from constant_pool_count on. Takes no memory.
     pub fn entry(&self, index: u16) -> Option<&Entry>
         ensures found { IfSome result (λ e. e.now ≡ entry_at self.now.entries index) }

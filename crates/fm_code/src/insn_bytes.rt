@@ -6,7 +6,7 @@ use fm_base::NoMemory;
 use std::alloc::Global;
 use std::marker::Model;
 
-/// The most bytes that an instruction has that is no switch: an iinc behind wide.
+/// The most bytes that an instruction has that is no switch: an iinc after wide.
 const MAX_PLAIN_BYTES: usize = 6;
 
 /// The bytes that spell an instruction. Contracts see the list of the bytes.

@@ -1,4 +1,4 @@
-// The instructions (instruction chapter, section 6.5).
+// The instructions (JVMS 6.5).
 
 ghost use Rattle.std.specs.Prelude.{◌≡◌, IfOk};
 

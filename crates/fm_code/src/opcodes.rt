@@ -1,4 +1,4 @@
-// The opcodes (instruction chapter, section 6.5). Each has the name of its mnemonic.
+// The opcodes (JVMS 6.5). Each has the name of its mnemonic.
 
 /// The opcode of `nop`.
 pub const NOP: u8 = 0;

@@ -1,4 +1,4 @@
-// The choices that several instructions have in common (instruction chapter).
+// The choices that several instructions have in common (JVMS 6.5).
 
 /// What a local variable or a word of the operand stack holds.
 #[derive(Clone, Copy, Debug, PartialEq, Eq, PartialOrd, Ord, Hash)]

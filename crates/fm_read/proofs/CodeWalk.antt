@@ -114,7 +114,7 @@ front_cut offset opcode operands short = go (front_insn offset (opcode ∷ opera
     few : TakesInsn offset (opcode ∷ operands) i n → n ≡ operand_count opcode + 1 → ⊥
     few takes counts = omega (arith, takes.within, counts)
 
--- items one after the other from an offset on, and nothing behind them
+-- items one after the other from an offset on, and nothing after them
 abbrev pub AreWalked : ℕ → ℕ → List ℕ → List Item → Type 0
 AreWalked max_locals offset bytes [] = bytes ≡ []
 AreWalked max_locals offset bytes (item ∷ items) =
@@ -267,7 +267,7 @@ read_only max_locals code items at end so_far all are =
       ended [] walked = refl
       ended (item ∷ more) walked = let takes = front_takes at [] item.insn (length item.bytes) walked.0.insn_is in absurd (omega (arith, takes.some, takes.within))
 
--- where some item is spelled behind those that were read, one stands there
+-- where some item is spelled after those that were read, one stands there
 pub read_next : (max_locals : ℕ) (code : List ℕ) (items : List Item) (at : ℕ) → at < length code → IsReadUpTo max_locals code items at
     → (all : List Item) → AreDrafts max_locals code all → (item : Item) × IsFront max_locals at (drop at code) item
 read_next max_locals code items at within so_far all are =

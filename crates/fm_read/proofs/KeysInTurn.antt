@@ -68,7 +68,7 @@ HasSeen-more numbers methods m rest seen more fresh adds h =
 pub HasSeen-again : (numbers : List ℕ) (methods : List Method) (m : Method) (rest : List Method) (seen : ℕ × ℕ → Bool) → seen (key_of numbers m) ≡ true → HasSeen numbers methods (m ∷ rest) seen → AreKeysDistinct numbers methods → ⊥
 HasSeen-again numbers methods m rest seen again h all = let l = h.left all in false≢true (sym l.1.0 ∙ again)
 
--- behind the last method
+-- after the last method
 pub HasSeen-all : (numbers : List ℕ) (methods : List Method) (seen : ℕ × ℕ → Bool) → HasSeen numbers methods [] seen → AreKeysDistinct numbers methods
 HasSeen-all numbers methods seen h = h.whole tt tt
 

@@ -28,7 +28,7 @@ HasFront-more c methods m rest front x is only h =
       read = λ members all. let r = h.read members all in others_more c m rest front x members r.0 only r.1.0 r.1.1;
     }
 
--- behind the last method
+-- after the last method
 pub HasFront-found : (c : ClassDef) (methods : List Method) (front : List Member) → HasFront c methods [] front → AreMembersOf c methods front
 HasFront-found c methods front h = subst (AreMembersOf c methods) (append-nil front) (h.found [] tt)
 
@@ -47,6 +47,6 @@ first_member c m rest (x ∷ others) h = (x, h.0)
 pub HasFront-next : (c : ClassDef) (methods : List Method) (m : Method) (rest : List Method) (front : List Member) → HasFront c methods (m ∷ rest) front → (members : List Member) → AreMembersOf c methods members → (x : Member) × IsMemberOf c m x
 HasFront-next c methods m rest front h members all = let r = h.read members all in first_member c m rest r.0 r.1.1
 
--- the method at hand, and those behind it
+-- the method at hand, and those after it
 pub turn : (methods : List MethodParts) (i : ℕ) (d : MethodParts) → i < length methods → map method_view (drop i methods) ≡ method_view (get_or methods i d) ∷ map method_view (drop (i + 1) methods)
 turn methods i d lt = ap (map method_view) (drop-cons methods i d lt) ∙ rw add-one refl

@@ -8,7 +8,7 @@ use Rattle.fm_read.specs.Parts.{Method}
 use Rattle.fm_read.specs.Reading.{◌>>=◌, number_at, bytes_at, fixed_at, several_at, attribute_at, method_at, members_at}
 use Rattle.fm_read.proofs.Pieces.{bind_some, some_is, Takes, Takes-then, IsPiece, two_piece, four_piece, bytes_takes, bytes_again, fixed_takes, fixed_again, several_takes, several_again}
 
--- the one attribute of a method behind their number
+-- the one attribute of a method after their number
 abbrev pub one_attribute_bytes : ℕ × List ℕ → List ℕ
 one_attribute_bytes a = two 1 ++ attribute_bytes a.0 a.1
 
@@ -84,7 +84,7 @@ method_again m rest fits =
 pub method_piece : IsPiece method_at method_bytes MethodFits
 method_piece = record { takes = method_takes; again = method_again }
 
--- no interfaces, no fields, and the methods behind their number
+-- no interfaces, no fields, and the methods after their number
 abbrev pub members_bytes : List Method → List ℕ
 members_bytes methods = two 0 ++ (two 0 ++ counted method_bytes methods)
 

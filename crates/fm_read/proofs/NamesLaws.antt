@@ -50,13 +50,13 @@ one_of : (a b c d : Bool) → (a && (b || c || d)) ≡ ((a && (b && true)) || (a
 one_of true b c d = rw (and_true b, and_true c, and_true d) refl
 one_of false b c d = refl
 
--- behind the ( and before a letter that is no number's
+-- after the ( and before a letter that is no number's
 is_number_descriptor-other : (c : ℕ) (cs : List ℕ) → is_number_letter c ≡ false → is_number_descriptor (40 ∷ c ∷ cs) ≡ is_number_end (c ∷ cs)
 is_number_descriptor-other c [] e = rw (e, and_false (eqb c 41)) refl
 is_number_descriptor-other c (r ∷ []) e = rw e (one_of (eqb c 41) (eqb r 73) (eqb r 74) (eqb r 86))
 is_number_descriptor-other c (r ∷ s ∷ more) e = rw (e, and_false (eqb c 41), and_false (eqb r 73), and_false (eqb r 74), and_false (eqb r 86), and_false (eqb c 41)) refl
 
--- behind the ( stand numbers, and then the end
+-- after the ( stand numbers, and then the end
 is_number_descriptor-numbers : (rest : List ℕ) → is_number_descriptor (40 ∷ rest) ≡ is_number_end (drop (prefix_len is_number_letter rest) rest)
 is_number_descriptor-numbers [] = refl
 is_number_descriptor-numbers (c ∷ cs) =
@@ -103,7 +103,7 @@ pub class_from : (bytes rest : List ℕ) (n : ℕ) → is_binary_name (take n by
 class_from bytes rest n ok behind =
     record { name = take n bytes; is_name = ok; bytes_are = sym (take-append-drop n bytes) ∙ ap (λ (w : List ℕ). take n bytes ++ w) behind }
 
--- what stands behind the bytes before the first ; begins with it
+-- what stands after the bytes before the first ; begins with it
 semicolon : (bytes : List ℕ) (n first : ℕ) (rest : List ℕ) → n ≡ prefix_len is_before bytes → drop n bytes ≡ first ∷ rest → first ≡ 59
 semicolon bytes n first rest is behind =
     let within : n < length bytes = omega (arith, ap length behind, length-drop n bytes) in
@@ -134,7 +134,7 @@ class_nameless bytes front rest n is front_is bad w = both_ways (is_binary_name 
 
 -- ---- types that aren't arrays
 
--- behind an L stand a class and ;
+-- after an L stand a class and ;
 pub base_class : (tail rest : List ℕ) → StartsWithBase (76 ∷ tail) rest ↔ StartsWithClass tail rest
 base_class tail rest = (λ w. there w.base w.is_base w.bytes_are, back) where
   there : (b : BaseType) → IsBaseType b → 76 ∷ tail ≡ base_descriptor b ++ rest → StartsWithClass tail rest
@@ -144,7 +144,7 @@ base_class tail rest = (λ w. there w.base w.is_base w.bytes_are, back) where
   back : StartsWithClass tail rest → StartsWithBase (76 ∷ tail) rest
   back w = record { base = object w.name; is_base = w.is_name; bytes_are = ap (λ (t : List ℕ). 76 ∷ t) (w.bytes_are ∙ sym (append_assoc w.name (59 ∷ []) rest)) }
 
--- behind a primitive type's letter stands the rest
+-- after a primitive type's letter stands the rest
 pub base_letter : (c : ℕ) (tail rest : List ℕ) → is_primitive_letter c ≡ true → StartsWithBase (c ∷ tail) rest ↔ (tail ≡ rest)
 base_letter c tail rest letter = (λ w. there w.base w.is_base w.bytes_are, λ e. record { base = primitive c; is_base = letter; bytes_are = ap (λ (t : List ℕ). c ∷ t) e }) where
   there : (b : BaseType) → IsBaseType b → c ∷ tail ≡ base_descriptor b ++ rest → tail ≡ rest
@@ -241,7 +241,7 @@ pub field_alone : (bytes : List ℕ) → IsFieldDescriptor bytes ↔ StartsWithF
 field_alone bytes =
     (λ w. record { type = w.0; is_type = w.1.0; bytes_are = w.1.1 ∙ sym (append-nil (field_descriptor w.0)) }, λ w. (w.type, (w.is_type, w.bytes_are ∙ append-nil (field_descriptor w.type))))
 
--- a field's descriptor, and nothing behind it
+-- a field's descriptor, and nothing after it
 pub field_decided : (bytes after : List ℕ) (r : Bool) → r ≡ eqb (length after) 0 → ((rest : List ℕ) → StartsWithField bytes rest ↔ (found after ≡ found rest)) → IsTrue r ↔ IsFieldDescriptor bytes
 field_decided bytes after r is decides = (there, back) where
   there : IsTrue r → IsFieldDescriptor bytes

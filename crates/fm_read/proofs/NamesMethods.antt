@@ -20,7 +20,7 @@ pub record IsMethodRest (words : ℕ) (rest : List ℕ) : Type 0 where
   pub spelled : rest ≡ flat_map field_descriptor parameters ++ 41 ∷ result_descriptor result
   pub few : words + sum_by words_of parameters ≤ 255
 
--- behind the ( no argument was read yet
+-- after the ( no argument was read yet
 pub method_start : (bytes : List ℕ) → IsMethodDescriptor 0 (40 ∷ bytes) ↔ IsMethodRest 0 bytes
 method_start bytes = (
   λ w. record { parameters = w.0.parameters; result = w.0.result; are_types = w.1.0.parameters; is_type = w.1.0.result; spelled = tails _ _ _ _ w.1.1.0; few = omega (arith, w.1.1.1) },
@@ -41,7 +41,7 @@ closes t rest more ok e = by t.dimensions t.base ok.base e where
   by zero (primitive letter) ok e = both_ways (is_primitive_letter letter) (ap is_primitive_letter (heads _ _ _ _ e)) ok
   by zero (object name) ok e = omega (arith, heads _ _ _ _ e)
 
--- the first argument, and those behind it
+-- the first argument, and those after it
 argument_apart : (t : FieldType) (ts : List FieldType) (more : List ℕ) → flat_map field_descriptor (t ∷ ts) ++ more ≡ field_descriptor t ++ (flat_map field_descriptor ts ++ more)
 argument_apart t ts more = ap (λ (ys : List ℕ). ys ++ more) (flat_map-cons field_descriptor t ts) ∙ append_assoc (field_descriptor t) (flat_map field_descriptor ts) more
 

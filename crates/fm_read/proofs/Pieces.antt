@@ -47,7 +47,7 @@ pub record IsPiece {X : Type 0} (piece_at : List ℕ → Option (X × List ℕ))
 
 -- ---- numbers and bytes
 
--- enough bytes, their number, and those behind it
+-- enough bytes, their number, and those after it
 pub number_parts : (size : ℕ) (bytes : List ℕ) (x : ℕ × List ℕ) → number_at size bytes ≡ Some x → (size ≤ length bytes) × (big_number size bytes ≡ x.0) × (drop size bytes ≡ x.1)
 number_parts size bytes x e =
     let g = guard_fails (ltb (length bytes) size) (Some (big_number size bytes, drop size bytes)) x e in
@@ -129,7 +129,7 @@ unfolding fixed_at
 fixed_again size value spell Fits piece rest fits =
     rw (piece.again value rest fits, eq-eqb value value refl) refl
 
--- ---- pieces one behind the other
+-- ---- pieces one after the other
 
 pub several_takes : {X : Type 0} (piece_at : List ℕ → Option (X × List ℕ)) (spell : X → List ℕ) (Fits : X → Type 0) → IsPiece piece_at spell Fits
     → (count : ℕ) (bytes : List ℕ) (x : List X × List ℕ) → AreBytes bytes → several_at piece_at count bytes ≡ Some x → Takes bytes (flat_map spell x.0) x.1 × (length x.0 ≡ count) × AllByRecursion Fits x.0

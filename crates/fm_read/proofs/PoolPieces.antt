@@ -40,7 +40,7 @@ passes : (text : List ℕ) → AreFirstCharacters text → list_all is_first_cha
 passes [] h = refl
 passes (b ∷ text) h = rw (lt-ltb _ _ h.0.0, lt-ltb _ _ h.0.1) (passes text h.1)
 
--- a text behind its length
+-- a text after its length
 abbrev pub text_bytes : List ℕ → List ℕ
 text_bytes text = two (length text) ++ text
 
@@ -138,11 +138,11 @@ pub record IsReadEntry (e : Entry) : Type 0 where
   pub first : IsFirstEntry e
   pub spelled : IsSpelledEntry e
 
--- the entry, behind its tag
+-- the entry, after its tag
 abbrev TakesEntry : List ℕ → Entry × List ℕ → Type 0
 TakesEntry bytes x = Takes bytes (entry_bytes x.0) x.1 × IsReadEntry x.0
 
--- what a step behind a tag gives, made into an entry
+-- what a step after a tag gives, made into an entry
 made : {A : Type 0} (tag : ℕ) (bytes : List ℕ) (reading : Option (A × List ℕ)) (make : A → Entry) (spell : A → List ℕ) (x : Entry × List ℕ)
     → ((a : A) → entry_bytes (make a) ≡ tag ∷ spell a)
     → ((a : A × List ℕ) → reading ≡ Some a → Takes bytes (spell a.0) a.1 × IsReadEntry (make a.0))
@@ -212,7 +212,7 @@ spelled_slots : (e : Entry) (entries : List Entry) → IsSpelledEntry e → AreS
 spelled_slots entry.Second entries spelled slots = absurd spelled
 spelled_slots e entries spelled slots = slots
 
--- an entry or nothing, and those behind it
+-- an entry or nothing, and those after it
 slot_takes : (due : Bool) (bytes : List ℕ) (x : Entry × List ℕ) (entries : List Entry) → AreBytes bytes → slot_at due bytes ≡ Some x → AreReadSlots (takes_two x.0) entries → Takes bytes (entry_bytes x.0) x.1 × AreReadSlots due (x.0 ∷ entries)
 slot_takes true bytes x entries fits e rest =
     let same = some_is (entry.Second, bytes) x e in

@@ -1,4 +1,4 @@
--- Reading pieces one behind the other, as a loop does.
+-- Reading pieces one after the other, as a loop does.
 use Rattle.std.proofs.Common.{◌≡◌, ℕ, suc, ◌-◌, ◌+◌, ◌≤◌, ◌<◌, List, [], ◌∷◌, ◌++◌, Option, Some, None, refl, sym, ap, ◌∙◌, append_assoc, arith}
 use Rattle.std.proofs.lemmas.List.{append-nil}
 use Rattle.fm_read.specs.declared.failure.FirstFail.{FirstFail}
@@ -29,7 +29,7 @@ ends piece_at fail.NotYet front count i bytes total lt h so_far =
     let one : with_front front (several_at piece_at (count - i) bytes) ≡ None = rw (k, h) refl in
     sym so_far ∙ one
 
--- behind the last piece
+-- after the last piece
 pub is_done : {X : Type 0} (piece_at : List ℕ → Option (X × List ℕ)) (front : List X) (count i : ℕ) (bytes : List ℕ) (total : Option (List X × List ℕ)) → count ≤ i → with_front front (several_at piece_at (count - i) bytes) ≡ total → total ≡ Some (front, bytes)
 unfolding several_at
 is_done piece_at front count i bytes total le so_far =

@@ -30,7 +30,7 @@ no_slot fail.NotYet front due count i bytes whole lt h so_far =
     let none : with_front front (slots_at due (count - i) bytes) ≡ None = rw (k, h) refl in
     sym so_far ∙ none
 
--- behind the last index nothing may be due
+-- after the last index nothing may be due
 pub last_due : (front : List Entry) (due : Bool) (count i : ℕ) (bytes : List ℕ) (whole : Option (List Entry × List ℕ)) → due ≡ true → count ≤ i → IsWhole front due (count - i) bytes whole → whole ≡ None
 unfolding slots_at
 last_due front due count i bytes whole is le so_far =

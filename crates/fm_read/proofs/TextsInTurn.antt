@@ -125,7 +125,7 @@ HasNumbers-none known none =
       numbered = tt;
     }
 
--- ---- behind the last entry
+-- ---- after the last entry
 
 numbered_at : (known : List ℕ → Option ℕ) (entries : List Entry) (numbers : List ℕ) (i : ℕ) → AreNumbered known entries numbers → IsNumbered known (utf8_at entries i) (slice_index numbers i)
 numbered_at known [] [] i h = refl

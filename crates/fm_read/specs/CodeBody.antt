@@ -1,4 +1,4 @@
--- The bodies of Code attributes of the first form (class file chapter, section 4.7.3).
+-- The bodies of Code attributes of the first form (JVMS 4.7.3).
 use Rattle.std.specs.Prelude.{◌≡◌, ℕ, ◌<◌, ◌≤◌, List, [], ◌∷◌, length}
 use Rattle.std.specs.List.{concat}
 use Rattle.fm_code.specs.Numbers.{two, four}
@@ -16,7 +16,7 @@ pub record IsFirstBody (c : ClassDef) (body : List ℕ) (code : Code) : Type 0 w
   pub valid : CodeIsValid c.pool.entries code
   pub first : IsFirstCode c code
 
--- the parts of a body without tables: behind the code stand no entries of the exception table and no attributes
+-- the parts of a body without tables: after the code stand no entries of the exception table and no attributes
 pub record HasParts (body : List ℕ) (max_stack max_locals : ℕ) (code : List ℕ) : Type 0 where
   pub stack_fits : FitsTwo max_stack
   pub locals_fit : FitsTwo max_locals

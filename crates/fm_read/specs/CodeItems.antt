@@ -36,7 +36,7 @@ return_opcodes = 172 ∷ 173 ∷ 177 ∷ []
 abbrev pub bare_opcodes : List ℕ
 bare_opcodes = ((load_opcodes ++ store_opcodes) ++ arithmetic_opcodes) ++ return_opcodes
 
--- those with one byte behind them
+-- those with one byte after them
 abbrev pub byte_opcodes : List ℕ
 byte_opcodes = 16 ∷ 18 ∷ 21 ∷ 22 ∷ 54 ∷ 55 ∷ []
 

@@ -15,7 +15,7 @@ is_number_letter c = (c == 73) || (c == 74)
 abbrev pub is_number_end : List ℕ → Bool
 is_number_end bytes = bytes_eq bytes (codes ")I") || bytes_eq bytes (codes ")J") || bytes_eq bytes (codes ")V")
 
--- a class's name and the ; behind it, at the front of the bytes
+-- a class's name and the ; after it, at the front of the bytes
 pub record StartsWithClass (bytes rest : List ℕ) : Type 0 where
   pub name : List ℕ
   pub is_name : is_binary_name name ≡ true
@@ -38,6 +38,6 @@ abbrev pub first_words : List ℕ → ℕ
 first_words [] = 1
 first_words (c ∷ rest) = if (c == 74) || (c == 68) then 2 else 1
 
--- what a method's descriptor has behind the )
+-- what a method's descriptor has after the )
 abbrev pub IsResultDescriptor : List ℕ → Type 0
 IsResultDescriptor descriptor = (result : Option FieldType) × (IfSome result IsFieldType × (descriptor ≡ result_descriptor result))

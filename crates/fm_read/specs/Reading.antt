@@ -1,4 +1,4 @@
--- Reading a class file of the first form from left to right. A piece is read to its value and the bytes behind it.
+-- Reading a class file of the first form from left to right. A piece is read to its value and the bytes after it.
 use Rattle.std.specs.Prelude.{◌≡◌, ℕ, zero, suc, ◌==◌, ◌&&◌, Bool, true, false, nat_lt, List, [], ◌∷◌, ◌++◌, length, take, drop, Option, Some, None, option_and_then, Result, Ok, Err, if◌then◌else◌}
 use Rattle.std.specs.List.{list_all}
 use Rattle.std.specs.Int.{w32, w64, cast_signed}
@@ -33,13 +33,13 @@ number_at size bytes = if nat_lt (length bytes) size then None else Some (big_nu
 abbrev pub bytes_at : ℕ → List ℕ → Option (List ℕ × List ℕ)
 bytes_at size bytes = if nat_lt (length bytes) size then None else Some (take size bytes, drop size bytes)
 
--- what is behind the one number that may stand there
+-- what is after the one number that may stand there
 unfoldable pub fixed_at : ℕ → ℕ → List ℕ → Option (List ℕ)
 fixed_at size value bytes = do
   number ← number_at size bytes
   if number.0 == value then Some number.1 else None
 
--- ---- pieces one behind the other
+-- ---- pieces one after the other
 
 unfoldable pub several_at : {X : Type 0} → (List ℕ → Option (X × List ℕ)) → ℕ → List ℕ → Option (List X × List ℕ)
 several_at piece_at zero bytes = Some ([], bytes)
@@ -68,7 +68,7 @@ pair_at bytes = do
   second ← number_at 2 first.1
   Some ((first.0, second.0), second.1)
 
--- what is behind a tag of the first form
+-- what is after a tag of the first form
 unfoldable pub entry_behind : ℕ → List ℕ → Option (Entry × List ℕ)
 entry_behind tag bytes =
     if tag == 1 then (text_at bytes >>= λ text. Some (entry.Utf8 text.0, text.1)) else
@@ -105,7 +105,7 @@ pool_at bytes = do
 
 -- ---- methods
 
--- a method's attribute behind their count, which is 1: its name, and its bytes behind their number
+-- a method's attribute after their count, which is 1: its name, and its bytes after their number
 unfoldable pub attribute_at : List ℕ → Option ((ℕ × List ℕ) × List ℕ)
 attribute_at bytes = do
   rest ← fixed_at 2 1 bytes
@@ -131,7 +131,7 @@ header_at bytes = do
   minor ← fixed_at 2 0 rest
   fixed_at 2 49 minor
 
--- the counts of the interfaces and of the fields, which are 0, and the methods behind their count
+-- the counts of the interfaces and of the fields, which are 0, and the methods after their count
 unfoldable pub members_at : List ℕ → Option (List Method × List ℕ)
 members_at bytes = do
   interfaces ← fixed_at 2 0 bytes
@@ -139,7 +139,7 @@ members_at bytes = do
   count ← number_at 2 fields
   several_at method_at count.0 count.1
 
--- behind the last method the count of the attributes, which is 0, and nothing else
+-- after the last method the count of the attributes, which is 0, and nothing else
 unfoldable pub ends_at : List ℕ → Option (List ℕ)
 ends_at bytes = do
   rest ← fixed_at 2 0 bytes

@@ -1,5 +1,4 @@
-// The bodies of Code attributes of the first form (class file chapter, section 4.7.3, and the
-// instruction chapter, section 6.5).
+// The bodies of Code attributes of the first form (JVMS 4.7.3, 6.5).
 
 ghost use Rattle.std.specs.Prelude.{◌≡◌, ◌≢◌, ◌↔◌, ℕ, ◌+◌, ◌<◌, ◌≤◌, List, ◌∷◌, length, drop, IsTrue, IfOk, IfSome, IfNone, MatchResult};
 ghost use Rattle.fm_code.specs.SpellsCode.{LocalsFit, LocalFits};
@@ -20,7 +19,7 @@ use fm_base::Seq;
 use fm_code::{Code, Insn, InsnBytes, Item, Reg};
 use std::alloc::Global;
 
-/// The code of the first form whose Code attribute has these bytes behind its length, in a method of the
+/// The code of the first form whose Code attribute has these bytes after its length, in a method of the
 /// class. `NotYet` comes exactly where there is none. No memory is taken for a length that the bytes only claim.
 pub(crate) fn code_of(alloc: Global, class: &ClassParts<'_>, body: &[u8]) -> Result<Code, FirstFail>
     // What is read is spelled by the bytes.
@@ -121,7 +120,7 @@ fn item_of(alloc: Global, max_locals: u16, code: &[u8], at: usize) -> Result<Ite
 }
 
 /// Whether the local that an instruction loads, stores or changes is below max_locals, and for a long
-/// the next one too (section 4.9.1).
+/// the next one too (JVMS 4.9.1).
 fn locals_fit(max_locals: u16, insn: &Insn) -> bool
     ensures { IsTrue result ↔ LocalsFit max_locals insn.now }
 {
@@ -156,7 +155,7 @@ fn insn_of(code: &[u8], at: usize) -> Option<(Insn, usize)>
     }
 }
 
-/// The instruction of an opcode at an offset with what is behind it, and how many bytes it takes.
+/// The instruction of an opcode at an offset with what is after it, and how many bytes it takes.
 fn front_insn_of(at: usize, opcode: u8, operands: &[u8]) -> Option<(Insn, usize)>
     requires { at ≤ 65535 }
     ensures front { result ≡ front_insn at (opcode ∷ operands.now) }

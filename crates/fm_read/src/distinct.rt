@@ -42,7 +42,7 @@ fn text_numbers(alloc: Global, entries: &[Entry]) -> Result<Vec<usize>, FirstFai
     Ok(numbers)
 }
 
-/// The number at an index, or 0 behind the last.
+/// The number at an index, or 0 after the last.
 fn number_at(numbers: &[usize], index: u16) -> usize
     ensures { result ≡ slice_index numbers.now index }
 {

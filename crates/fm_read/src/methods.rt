@@ -40,7 +40,7 @@ fn method_of(bytes: &[u8]) -> Result<(MethodParts<'_>, &[u8]), FirstFail>
     Ok((method, rest))
 }
 
-/// That many methods, one behind the other.
+/// That many methods, one after the other.
 fn methods_of(
     alloc: Global,
     count: u16,
@@ -58,7 +58,7 @@ fn methods_of(
     Ok((methods, rest))
 }
 
-/// No interfaces and no fields, and the methods behind their number.
+/// No interfaces and no fields, and the methods after their number.
 #[tactic(auto, unfolding(crate::specs::Reading::members_at))]
 pub(crate) fn members_of(
     alloc: Global,

@@ -1,4 +1,4 @@
-// Names and descriptors (class file chapter, sections 4.2 and 4.3). No call here takes memory.
+// Names and descriptors (JVMS 4.2, 4.3). No call here takes memory.
 
 ghost use Rattle.std.specs.Prelude.{◌≡◌, ◌↔◌, ◌≤◌, ◌==◌, ◌||◌, ◌∷◌, ℕ, List, not, length, codes, IsTrue, option_copied};
 ghost use Rattle.std.specs.List.{prefix_len, list_all};
@@ -8,7 +8,7 @@ ghost use Rattle.fm_code.specs.FirstForm.{is_number_descriptor};
 ghost use Rattle.fm_read.specs.NamesParts.{is_plain, is_number_letter, is_number_end, first_words, IsResultDescriptor, StartsWithBase, StartsWithClass, StartsWithField};
 
 /// Whether the bytes are the name of a class that isn't an array: parts of at least one character
-/// with `/` between them (section 4.2.1).
+/// with `/` between them (JVMS 4.2.1).
 pub(crate) fn is_binary_name(name: &[u8]) -> bool
     ensures { result ≡ is_binary_name name.now }
 {
@@ -29,7 +29,7 @@ pub(crate) fn is_binary_name(name: &[u8]) -> bool
 }
 
 /// Whether the bytes are the name of a method: unqualified and without `<` and `>`, or the name of a
-/// constructor or of a class's start (section 4.2.2).
+/// constructor or of a class's start (JVMS 4.2.2).
 pub(crate) fn is_method_name(name: &[u8]) -> bool
     ensures { result ≡ is_method_name name.now }
 {
@@ -51,7 +51,7 @@ fn is_special_name(name: &[u8]) -> bool
 }
 
 /// Whether the bytes are the descriptor of a method that takes ints and longs alone and returns an
-/// int, a long or nothing (section 4.3.3). How many words the arguments take isn't looked at.
+/// int, a long or nothing (JVMS 4.3.3). How many words the arguments take isn't looked at.
 pub(crate) fn is_number_descriptor(descriptor: &[u8]) -> bool
     ensures { result ≡ is_number_descriptor descriptor.now }
 {
@@ -87,7 +87,7 @@ fn count_numbers(bytes: &[u8]) -> usize
 }
 
 /// Whether the bytes are the descriptor of a method whose arguments take at most 255 words, without a
-/// receiver (section 4.3.3).
+/// receiver (JVMS 4.3.3).
 pub(crate) fn is_method_descriptor(descriptor: &[u8]) -> bool
     ensures { IsTrue result ↔ IsMethodDescriptor 0 descriptor.now }
 {
@@ -123,7 +123,7 @@ fn is_result_descriptor(descriptor: &[u8]) -> bool
     descriptor == b"V".as_slice() || is_field_descriptor(descriptor)
 }
 
-/// Whether the bytes are the descriptor of a field (section 4.3.2).
+/// Whether the bytes are the descriptor of a field (JVMS 4.3.2).
 pub(crate) fn is_field_descriptor(descriptor: &[u8]) -> bool
     ensures { IsTrue result ↔ IsFieldDescriptor descriptor.now }
 {
@@ -134,7 +134,7 @@ pub(crate) fn is_field_descriptor(descriptor: &[u8]) -> bool
 }
 
 /// Whether the bytes are what a class entry of the pool may name: a class, or an array by its
-/// descriptor (section 4.4.1).
+/// descriptor (JVMS 4.4.1).
 pub(crate) fn is_class_name(name: &[u8]) -> bool
     ensures { IsTrue result ↔ IsClassName name.now }
 {
@@ -158,7 +158,7 @@ fn first_words(bytes: &[u8]) -> usize
     }
 }
 
-/// What is behind the descriptor of a field, of at most 255 dimensions, at the front of the bytes.
+/// What is after the descriptor of a field, of at most 255 dimensions, at the front of the bytes.
 fn after_field(bytes: &[u8]) -> Option<&[u8]>
     ensures { (rest : List ℕ) → StartsWithField bytes.now rest ↔ (option_copied result ≡ Some rest) }
 {
@@ -177,7 +177,7 @@ fn count_leading(bytes: &[u8], byte: u8) -> usize
     bytes.iter().take_while(|c| **c == byte).count()
 }
 
-/// What is behind the descriptor of a type that isn't an array, at the front of the bytes.
+/// What is after the descriptor of a type that isn't an array, at the front of the bytes.
 fn after_base(bytes: &[u8]) -> Option<&[u8]>
     ensures { (rest : List ℕ) → StartsWithBase bytes.now rest ↔ (option_copied result ≡ Some rest) }
 {
@@ -188,7 +188,7 @@ fn after_base(bytes: &[u8]) -> Option<&[u8]>
     }
 }
 
-/// What is behind the name of a class and a `;`, at the front of the bytes.
+/// What is after the name of a class and a `;`, at the front of the bytes.
 fn after_class(bytes: &[u8]) -> Option<&[u8]>
     ensures { (rest : List ℕ) → StartsWithClass bytes.now rest ↔ (option_copied result ≡ Some rest) }
 {
@@ -217,7 +217,7 @@ fn is_primitive_letter(c: u8) -> bool
     matches!(c, b'B' | b'C' | b'D' | b'F' | b'I' | b'J' | b'S' | b'Z')
 }
 
-/// Whether the bytes are a name without parts, as that of a field (section 4.2.2).
+/// Whether the bytes are a name without parts, as that of a field (JVMS 4.2.2).
 pub(crate) fn is_unqualified(name: &[u8]) -> bool
     ensures { result ≡ is_unqualified name.now }
 {

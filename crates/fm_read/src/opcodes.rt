@@ -1,4 +1,4 @@
-// The instructions of the first form by their opcodes (instruction chapter, section 6.5).
+// The instructions of the first form by their opcodes (JVMS 6.5).
 
 ghost use Rattle.std.specs.Prelude.{◌≡◌, ℕ, ◌≤◌, [], ◌∷◌, pos, ◌+ℤ◌};
 ghost use Rattle.fm_code.specs.InstructionTable.{offset_from};
@@ -130,7 +130,7 @@ fn return_insn_of(opcode: u8) -> Option<Insn>
     }
 }
 
-/// The instruction of an opcode and the byte behind it.
+/// The instruction of an opcode and the byte after it.
 #[tactic(auto, unfolding(crate::specs::CodeItems::insn_among, fm_code::specs::InstructionTable::insn_at))]
 pub(crate) fn byte_insn_of(opcode: u8, operand: u8) -> Option<Insn>
     ensures { (offset : ℕ) → result ≡ insn_among byte_opcodes offset opcode (operand ∷ []) }
@@ -146,7 +146,7 @@ pub(crate) fn byte_insn_of(opcode: u8, operand: u8) -> Option<Insn>
     }
 }
 
-/// The instruction of an opcode and the two bytes behind it, at its offset. A jump has the offset of
+/// The instruction of an opcode and the two bytes after it, at its offset. A jump has the offset of
 /// its target, and there is none if that is below 0.
 #[tactic(auto, unfolding(crate::specs::CodeItems::insn_among, fm_code::specs::InstructionTable::insn_at))]
 pub(crate) fn short_insn_of(at: usize, opcode: u8, high: u8, low: u8) -> Option<Insn>

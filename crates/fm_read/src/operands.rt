@@ -1,4 +1,4 @@
-// What the instructions of the first form name in the constant pool (instruction chapter, section 6.5).
+// What the instructions of the first form name in the constant pool (JVMS 6.5).
 
 ghost use Rattle.std.specs.Prelude.{◌≡◌, ◌↔◌, ◌<◌, ◌==◌, Some, IsTrue};
 ghost use Rattle.std.specs.List.{AllByRecursion};

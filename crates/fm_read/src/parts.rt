@@ -33,7 +33,7 @@ pub(crate) struct ClassParts<'a> {
     pub methods: Vec<MethodParts<'a>>,
 }
 
-/// The bytes behind the magic number and the version 49.0.
+/// The bytes after the magic number and the version 49.0.
 #[tactic(auto, unfolding(crate::specs::Reading::header_at))]
 fn after_header(bytes: &[u8]) -> Result<&[u8], FirstFail>
     ensures { Gives (λ rest. rest.now) result (header_at bytes.now) }
@@ -43,7 +43,7 @@ fn after_header(bytes: &[u8]) -> Result<&[u8], FirstFail>
     after_u16(49, rest)
 }
 
-/// No attributes, and nothing behind them.
+/// No attributes, and nothing after them.
 #[tactic(auto, unfolding(crate::specs::Reading::ends_at))]
 fn after_end(bytes: &[u8]) -> Result<&[u8], FirstFail>
     ensures { Gives (λ rest. rest.now) result (ends_at bytes.now) }

@@ -19,7 +19,7 @@ fn is_first_text(text: &[u8]) -> bool
     text.iter().all(|b| 0 < *b && *b < 128)
 }
 
-/// A text behind its length.
+/// A text after its length.
 #[tactic(auto, unfolding(crate::specs::Reading::text_at))]
 fn text_of(bytes: &[u8]) -> Result<(&[u8], &[u8]), FirstFail>
     ensures { Gives (λ x. (x.0.now, x.1.now)) result (text_at bytes.now) }
@@ -43,7 +43,7 @@ fn pair_of(bytes: &[u8]) -> Result<((u16, u16), &[u8]), FirstFail>
     Ok(((first, second), rest))
 }
 
-/// What is behind the tag of a text, of an int or a long, of a class, or of a member of a class.
+/// What is after the tag of a text, of an int or a long, of a class, or of a member of a class.
 #[tactic(auto, unfolding(crate::specs::Reading::entry_behind))]
 fn entry_behind(alloc: Global, tag: u8, bytes: &[u8]) -> Result<(Entry, &[u8]), FirstFail>
     ensures { Gives (λ x. (x.0, x.1.now)) result (entry_behind tag bytes.now) }
@@ -82,7 +82,7 @@ fn entry_behind(alloc: Global, tag: u8, bytes: &[u8]) -> Result<(Entry, &[u8]), 
     }
 }
 
-/// An entry behind its tag.
+/// An entry after its tag.
 #[tactic(auto, unfolding(crate::specs::Reading::entry_at_front))]
 fn entry_of(alloc: Global, bytes: &[u8]) -> Result<(Entry, &[u8]), FirstFail>
     ensures { Gives (λ x. (x.0, x.1.now)) result (entry_at_front bytes.now) }
@@ -128,7 +128,7 @@ fn entries_of(alloc: Global, count: u16, bytes: &[u8]) -> Result<(Vec<Entry>, &[
     Ok((entries, rest))
 }
 
-/// The entries of the pool behind the number of their indices.
+/// The entries of the pool after the number of their indices.
 #[tactic(auto, unfolding(crate::specs::Reading::pool_at))]
 pub(crate) fn pool_of(alloc: Global, bytes: &[u8]) -> Result<(Vec<Entry>, &[u8]), FirstFail>
     ensures { Gives (λ x. (x.0.items, x.1.now)) result (pool_at bytes.now) }

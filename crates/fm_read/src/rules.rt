@@ -1,5 +1,4 @@
-// The rules that the parts of a class of the first form meet beside their spelling (class file
-// chapter, sections 4.1, 4.4 and 4.6).
+// The rules that the parts of a class of the first form meet beside their spelling (JVMS 4.1, 4.4, 4.6).
 
 ghost use Rattle.std.specs.Prelude.{◌≡◌, ◌↔◌, ◌<◌, ◌==◌, not, true, map, codes, Some, IsSomeAnd, IsTrue, option_copied};
 ghost use Rattle.std.specs.List.{list_all, AllByRecursion};

@@ -1,5 +1,5 @@
-// The targets of jumps, from offsets in the code array to the numbers of items (class file chapter,
-// section 4.9.1: a target is the opcode of an instruction).
+// The targets of jumps, from offsets in the code array to the numbers of items. A target is the opcode
+// of an instruction (JVMS 4.9.1).
 
 ghost use Rattle.std.specs.Prelude.{◌≡◌, IfErr, IfOk, map};
 ghost use Rattle.fm_read.specs.CodeItems.{AreRising, item_offset, number_of, numbered_insn, numbered_item, numbered_items};

@@ -11,7 +11,7 @@ bit_of words i = bit_at (slice_index words (i / 64)) (i % 64) == 1
 unfoldable pub bits_of : List ℕ → ℕ → List Bool
 bits_of words bits = map (bit_of words) (range_with_len 0 bits)
 
--- as many words as the bits need, and no bit set behind them
+-- as many words as the bits need, and no bit set after them
 pub record IsRow (words : List ℕ) (bits : ℕ) : Type 0 where
   pub words_needed : length words ≡ div_ceil bits 64
   pub rest_unset : (i : ℕ) → bits ≤ i → bit_of words i ≡ false

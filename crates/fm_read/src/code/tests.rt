@@ -1,4 +1,4 @@
-// Bodies written by hand: max_stack, max_locals, the code behind its length, and two empty tables.
+// Bodies written by hand: max_stack, max_locals, the code after its length, and two empty tables.
 
 use super::*;
 use crate::parts::MethodParts;
@@ -40,7 +40,7 @@ fn class_m(alloc: Global) -> Result<ClassParts<'static>, FirstFail> {
     entries.push(Entry::Field(13, 17))?;
     entries.push(Entry::Method(14, 18))?;
     entries.push(Entry::Method(14, 19))?;
-    // 25, and 26 with 27 behind it
+    // 25, and 26 with 27 after it
     entries.push(Entry::Integer(7))?;
     entries.push(Entry::Long(7))?;
     entries.push(Entry::Second)?;

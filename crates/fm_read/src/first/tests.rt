@@ -125,7 +125,7 @@ fn an_array_is_refused(rt: HostRuntime) -> Result<(), Fail> {
     Ok(())
 }
 
-// A second method behind the first, and one more text in the pool.
+// A second method after the first, and one more text in the pool.
 #[test]
 fn methods_differ_by_their_texts(rt: HostRuntime) -> Result<(), Fail> {
     let seconds: [(&[u8], u8, u8, bool, &str); 4] = [

@@ -1,4 +1,4 @@
-// Pools written by hand (class file chapter, section 4.4).
+// Pools written by hand (JVMS 4.4).
 
 use super::*;
 use std::test::Fail;
