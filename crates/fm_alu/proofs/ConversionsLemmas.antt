@@ -9,7 +9,7 @@ use borrow.Author.Tests.{ltb-true, ltb-false}
 use mir.ValLaws.{to_z-neg, to_z-Fits, Fits-wrap, sfits_le}
 use lib.Signed.{mag_shr}
 use Rattle.fm_alu.specs.TwosComplement.{low_bits, signed}
-use Rattle.fm_alu.proofs.Readings.{low_bits-lt, cast_unsigned-mod, doubled}
+use Rattle.fm_alu.proofs.TwosComplementLemmas.{low_bits-lt, cast_unsigned-mod, doubled}
 
 -- the bits m of a number of which h is half of the range, moved g places up to the top of a long and back
 back : (g h m : ℕ) → h * 2 ^ g ≡ 2 ^ 63 → m < h + h → (t : Bool) → ltb m h ≡ t

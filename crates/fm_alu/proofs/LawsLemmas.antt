@@ -13,8 +13,8 @@ use Rattle.fm_alu.specs.TwosComplement.{low_bits, signed}
 use Rattle.fm_alu.specs.Operations.{quotient, remainder, unless_zero, result_of_op}
 use Rattle.fm_alu.specs.Shifts.{floor_quotient}
 use Rattle.fm_alu.specs.Laws.{IsCongruent, bit, IsRemainder, Satisfies, IsFloor}
-use Rattle.fm_alu.proofs.Readings.{low_bits-lt, low_bits-mod, low_bits-signed}
-use Rattle.fm_alu.proofs.Rows.{quotient-is, remainder-is}
+use Rattle.fm_alu.proofs.TwosComplementLemmas.{low_bits-lt, low_bits-mod, low_bits-signed}
+use Rattle.fm_alu.proofs.OperationsLemmas.{quotient-is, remainder-is}
 
 -- ---- congruence
 

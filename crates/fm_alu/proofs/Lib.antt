@@ -1,5 +1,5 @@
-pub mod Readings
-pub mod Rows
-pub mod Shifting
-pub mod Extension
-pub mod Laws
+pub mod ConversionsLemmas
+pub mod LawsLemmas
+pub mod OperationsLemmas
+pub mod ShiftsLemmas
+pub mod TwosComplementLemmas

@@ -10,7 +10,7 @@ use mir.ValLaws.{pow-bits}
 use lib.Signed.{mag}
 use Rattle.fm_alu.specs.TwosComplement.{low_bits, signed}
 use Rattle.fm_alu.specs.Operations.{quotient, remainder}
-use Rattle.fm_alu.proofs.Readings.{low_bits-lt, int_wrap-signed, cast_unsigned-fits, cast_both, cast_signed-pos}
+use Rattle.fm_alu.proofs.TwosComplementLemmas.{low_bits-lt, int_wrap-signed, cast_unsigned-fits, cast_both, cast_signed-pos}
 
 -- ---- division, by the signs of the two numbers
 

@@ -9,7 +9,7 @@ use mir.ValLaws.{sfits_le}
 use lib.Signed.{mag_shr}
 use Rattle.fm_alu.specs.TwosComplement.{low_bits, signed}
 use Rattle.fm_alu.specs.Shifts.{floor_quotient}
-use Rattle.fm_alu.proofs.Readings.{low_bits-lt, int_wrap-signed, cast_unsigned-fits, cast_unsigned-mod, cast_signed-pos}
+use Rattle.fm_alu.proofs.TwosComplementLemmas.{low_bits-lt, int_wrap-signed, cast_unsigned-fits, cast_unsigned-mod, cast_signed-pos}
 
 -- std's shift with copies of the sign rounds down
 floor_quotient-is : (a : ℤ) (k : ℕ) → int_shr a k ≡ floor_quotient a (2 ^ k)

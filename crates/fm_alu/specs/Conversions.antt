@@ -1,14 +1,14 @@
--- What a conversion and a comparison of two longs give (instruction chapter, 6.5).
+-- What a conversion and a comparison of two longs give (JVMS 6.5).
 use Rattle.std.specs.Prelude.{ℤ, pos, negsuc, int_lt, if◌then◌else◌, FitsSigned, ⊤}
 use Rattle.std.specs.Int.{w32}
 use Rattle.fm_code.specs.declared.operations.Conv.{Conv}
 use Rattle.fm_code.specs.declared.operations.Conv.TheVariants.{IntToLong, LongToInt, IntToByte, IntToChar, IntToShort}
 use Rattle.fm_alu.specs.TwosComplement.{low_bits, signed}
 
--- a number that the conversion takes: any long, or one in the range of an int
-abbrev pub Takes : Conv → ℤ → Type 0
-Takes LongToInt a = ⊤
-Takes _ a = FitsSigned w32 a
+-- a number that the conversion is of: any long, or one in the range of an int
+abbrev pub IsOperandOf : Conv → ℤ → Type 0
+IsOperandOf LongToInt a = ⊤
+IsOperandOf _ a = FitsSigned w32 a
 
 -- the result of a conversion
 abbrev pub result_of_conversion : Conv → ℤ → ℤ

@@ -1,4 +1,4 @@
--- What an operation on two ints (w = 32) or two longs (w = 64) gives (instruction chapter, 6.5).
+-- What an operation on two ints (w = 32) or two longs (w = 64) gives (JVMS 6.5).
 use Rattle.std.specs.Prelude.{ℕ, ◌/◌, ◌%◌, ℤ, pos, ◌+ℤ◌, ◌-ℤ◌, ◌*ℤ◌, unsigned_abs, bit_and, bit_or, bit_xor, Option, Some, None, ◌==◌, if◌then◌else◌, ⊤}
 use Rattle.std.specs.Int.{int_signum}
 use Rattle.fm_code.specs.declared.operations.Op.{Op}

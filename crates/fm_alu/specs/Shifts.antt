@@ -1,4 +1,4 @@
--- What a shift of an int (w = 32) or a long (w = 64) gives (instruction chapter, 6.5).
+-- What a shift of an int (w = 32) or a long (w = 64) gives (JVMS 6.5).
 use Rattle.std.specs.Prelude.{ℕ, ◌/◌, ◌^◌, ℤ, pos, negsuc, ◌*ℤ◌}
 use Rattle.fm_code.specs.declared.operations.Shift.{Shift}
 use Rattle.fm_code.specs.declared.operations.Shift.TheVariants.{Left, Right, RightZero}

@@ -1,4 +1,4 @@
--- Two's complement: the numbers that the lowest bits of a whole number make (2.3.1).
+-- Two's complement: the numbers that the lowest bits of a whole number make (JVMS 2.3.1).
 use Rattle.std.specs.Prelude.{ℕ, ◌-◌, ◌%◌, ◌^◌, ℤ, pos, negsuc, ◌-ℤ◌, nat_lt, if◌then◌else◌}
 
 -- z modulo 2 ^ n: the lowest n bits of z, read without a sign. `negsuc a` is −(a + 1)

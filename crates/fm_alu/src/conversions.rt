@@ -3,13 +3,13 @@ ghost use Rattle.std.specs.Prelude.{◌≡◌, ◌↔◌, ◌-◌, ◌^◌, ◌<
 ghost use Rattle.std.specs.Int.{w32};
 ghost use Rattle.fm_alu.specs.TwosComplement.{signed};
 ghost use Rattle.fm_alu.specs.Laws.{IsCongruent};
-ghost use Rattle.fm_alu.specs.Conversions.{Takes, result_of_conversion, result_of_comparison};
+ghost use Rattle.fm_alu.specs.Conversions.{IsOperandOf, result_of_conversion, result_of_comparison};
 
 use fm_code::Conv;
 
-/// A conversion: i2l, l2i, i2b, i2c and i2s (6.5). Each but l2i takes the value of an int.
+/// A conversion: i2l, l2i, i2b, i2c and i2s (JVMS 6.5). Each but l2i takes the value of an int.
 pub fn convert(c: Conv, a: i64) -> i64
-    requires { Takes c a }
+    requires { IsOperandOf c a }
     ensures value { result ≡ result_of_conversion c a }
     ensures int_range { FitsSigned w32 result }
 {
@@ -22,7 +22,7 @@ pub fn convert(c: Conv, a: i64) -> i64
     }
 }
 
-/// The comparison of two longs, lcmp (6.5): 1, 0 or −1 where `a` is greater, equal or less.
+/// The comparison of two longs, lcmp (JVMS 6.5): 1, 0 or −1 where `a` is greater, equal or less.
 pub fn compare(a: i64, b: i64) -> i32
     ensures value { result ≡ result_of_comparison a b }
     ensures equal { (result ≡ pos 0) ↔ (a ≡ b) }

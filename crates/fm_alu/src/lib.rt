@@ -1,5 +1,4 @@
-// The arithmetic of the machine on whole numbers, exact to the instruction chapter of the JVM
-// specification (6.5).
+// The arithmetic of the machine on whole numbers (JVMS 6.5).
 //
 // An int has 32 bits and a long 64, in two's complement, and a result that is out of range keeps its
 // low bits. Each call is proved equal to a definition in specs/ that says over the whole numbers what
@@ -7,11 +6,11 @@
 #![tactic(auto)]
 
 mod conversions;
-mod ints;
-mod longs;
+mod operations;
+mod shifts;
 #[cfg(test)]
 mod tests;
 
 pub use conversions::{compare, convert};
-pub use ints::{int_op, int_shift};
-pub use longs::{long_op, long_shift};
+pub use operations::{int_op, long_op};
+pub use shifts::{int_shift, long_shift};

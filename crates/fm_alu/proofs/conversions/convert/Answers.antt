@@ -1,6 +1,6 @@
 use Rattle.std.proofs.Common.{rules, arith}
-use Rattle.fm_alu.proofs.Readings.{signed-fits}
-use Rattle.fm_alu.proofs.Extension.{low_char}
+use Rattle.fm_alu.proofs.TwosComplementLemmas.{signed-fits}
+use Rattle.fm_alu.proofs.ConversionsLemmas.{low_char}
 use Rattle.fm_alu.proofs.conversions.convert.Goals as goal
 
 pub returns-in-LongToInt-clause-int_range : goal.returns-in-LongToInt-clause-int_range

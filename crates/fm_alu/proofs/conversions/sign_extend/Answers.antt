@@ -2,9 +2,9 @@
 use Rattle.std.proofs.Common.{arith, subst, sym, ◌-◌, ◌^◌, ◌≤ℤ◌, ◌<ℤ◌, pos, neg_ℤ}
 use Rattle.std.proofs.lemmas.Int.{ints}
 use Rattle.fm_alu.specs.Laws.{IsCongruent}
-use Rattle.fm_alu.proofs.Readings.{mag-signed}
-use Rattle.fm_alu.proofs.Extension.{extension}
-use Rattle.fm_alu.proofs.Laws.{signed_congruent}
+use Rattle.fm_alu.proofs.TwosComplementLemmas.{mag-signed}
+use Rattle.fm_alu.proofs.ConversionsLemmas.{extension}
+use Rattle.fm_alu.proofs.LawsLemmas.{signed_congruent}
 use Rattle.fm_alu.proofs.conversions.sign_extend.Goals as goal
 
 pub returns-clause-value : goal.returns-clause-value

@@ -1,8 +1,8 @@
 -- Each row by its lemma, and what the specification says of it from that.
 use Rattle.std.proofs.Common.{rules, sym, w32}
-use Rattle.fm_alu.proofs.Rows.{sum-is, difference-is, product-is, division-is, remainder-is, conjunction-is, disjunction-is, exclusive-is}
-use Rattle.fm_alu.proofs.Laws.{satisfied}
-use Rattle.fm_alu.proofs.ints.int_op.Goals as goal
+use Rattle.fm_alu.proofs.OperationsLemmas.{sum-is, difference-is, product-is, division-is, remainder-is, conjunction-is, disjunction-is, exclusive-is}
+use Rattle.fm_alu.proofs.LawsLemmas.{satisfied}
+use Rattle.fm_alu.proofs.operations.int_op.Goals as goal
 
 pub returns-in-Add-clause-value : goal.returns-in-Add-clause-value
 returns-in-Add-clause-value c = let e = sum-is w32 c.args.a c.args.b c.ranges.a c.ranges.b in search (rules, e)

@@ -3,11 +3,11 @@ use Rattle.std.proofs.Common.{rules, sym, subst, w64, ◌≡◌, ◌^◌, ◌/�
 use Rattle.std.proofs.lemmas.Int.{to_z-of_z}
 use Rattle.fm_alu.specs.TwosComplement.{low_bits, signed}
 use Rattle.fm_alu.specs.Laws.{IsFloor}
-use Rattle.fm_alu.proofs.Laws.{floors}
+use Rattle.fm_alu.proofs.LawsLemmas.{floors}
 use Rattle.std.proofs.lemmas.Nat.{pow_pos}
-use Rattle.fm_alu.proofs.Readings.{low_bits-lt}
-use Rattle.fm_alu.proofs.Shifting.{left-is, right-is, right_with_zeros-is, count_6}
-use Rattle.fm_alu.proofs.longs.long_shift.Goals as goal
+use Rattle.fm_alu.proofs.TwosComplementLemmas.{low_bits-lt}
+use Rattle.fm_alu.proofs.ShiftsLemmas.{left-is, right-is, right_with_zeros-is, count_6}
+use Rattle.fm_alu.proofs.shifts.long_shift.Goals as goal
 
 pub returns-in-Left-clause-value : goal.returns-in-Left-clause-value
 returns-in-Left-clause-value c =

@@ -1,0 +1,16 @@
+// Class files for the tests of the crates above, each written by hand part for part, so that a reader
+// sees what each part is and a test changes one of them.
+#![tactic(auto)]
+
+mod classes;
+mod computes;
+mod samples;
+#[cfg(test)]
+mod tests;
+
+pub use classes::{
+    CALLS_ITSELF, DIVIDES_BY_ZERO, MAIN, MAIN_OF_NO_ARGUMENTS, MAKES_ARRAY, PRINTS_FOREVER,
+    PRINTS_SUM, RETURNS,
+};
+pub use computes::{COMPUTED, COMPUTES};
+pub use samples::{ClassSample, MethodSample};
