@@ -1,13 +1,13 @@
 -- What the calls of a memory keep, whatever the ranges of numbers.
-use Rattle.std.proofs.Common.{◌≡◌, ℕ, ◌+◌, Bool, true, false, cond, [], ◌∷◌, refl, sym, ap, subst}
+use Rattle.std.proofs.Common.{◌≡◌, ℕ, ◌+◌, Bool, true, false, cond, [], ◌∷◌, refl, sym, ◌∙◌, ap, subst}
 use Rattle.std.specs.Prelude.{Some, None}
 use Rattle.fm_cells.specs.Objects.{Object, object_words, Request, request_size_class}
-use Rattle.fm_cells.specs.Stores.{Store, object_at, passes_limit, free_cells}
+use Rattle.fm_cells.specs.Stores.{Store, object_at, live_words, passes_limit, free_cells}
 use Rattle.fm_cells.specs.Changes.{Choice, Take, RefuseStore, made_by, without_object, with_object, with_element, with_chain, freed_by, put_by, chained_by}
 use Rattle.fm_cells.specs.Choices.{MayReuse, never_choice, last_choice, new_cell_choice, last_choice_among}
 use Rattle.fm_cells.specs.Soundness.{IsOrderly, IsNeverReused, IsLastReused}
 use Rattle.fm_cells.specs.Laws.{KeptByMake, KeptByMakeOf, KeptByFree, KeptByPut, KeptByChain}
-use Rattle.fm_cells.proofs.Changes.{object_words-with_element}
+use Rattle.fm_cells.proofs.Changes.{live_words-without_object, live_words-with_object, object_words-with_element}
 use Rattle.fm_cells.proofs.Elements.{freed_by-none, freed_by-some, put_by-none, put_by-some, chained_by-none, chained_by-some}
 use Rattle.fm_cells.proofs.LastReused.{IsLastReused-head, IsLastReused-fresh, IsLastReused-without_object, IsLastReused-with_object}
 use Rattle.fm_cells.proofs.NeverReused.{IsNeverReused-made_by, IsNeverReused-without_object, IsNeverReused-with_object}
@@ -105,3 +105,23 @@ IsLastReused-put = kept_by_put IsLastReused IsLastReused-with_object
 
 pub IsLastReused-chain : KeptByChain IsLastReused
 IsLastReused-chain = kept_by_chain IsLastReused IsLastReused-with_object
+
+-- the live words after each call
+pub live_words-freed_by : (store : Store) (cell : ℕ) (object : Object) → object_at store cell ≡ Some object → object.fixed ≡ false → live_words (freed_by store cell) + object_words object ≡ live_words store
+live_words-freed_by store cell object held loose =
+    let is : freed_by store cell ≡ without_object store cell object = freed_by-some store cell object held ∙ ap (λ b. cond b store (without_object store cell object)) loose in
+    ap (λ s. live_words s + object_words object) is ∙ live_words-without_object store cell object held
+
+pub live_words-put_by : (store : Store) (cell place element : ℕ) → live_words (put_by store cell place element) ≡ live_words store
+live_words-put_by store cell place element =
+    elim (object_at store cell) as (λ o. object_at store cell ≡ o → live_words (put_by store cell place element) ≡ live_words store) [
+      | None ↦ λ e. ap live_words (put_by-none store cell place element e)
+      | Some object ↦ λ e. ap live_words (put_by-some store cell place element object e) ∙ live_words-with_object store cell object (with_element object place element) e (object_words-with_element object place element)
+    ] refl
+
+pub live_words-chained_by : (store : Store) (cell to : ℕ) → live_words (chained_by store cell to) ≡ live_words store
+live_words-chained_by store cell to =
+    elim (object_at store cell) as (λ o. object_at store cell ≡ o → live_words (chained_by store cell to) ≡ live_words store) [
+      | None ↦ λ e. ap live_words (chained_by-none store cell to e)
+      | Some object ↦ λ e. ap live_words (chained_by-some store cell to object e) ∙ live_words-with_object store cell object (with_chain object to) e refl
+    ] refl

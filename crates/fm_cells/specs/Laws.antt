@@ -1,9 +1,10 @@
--- What holds of choices and of stores whatever the ranges of numbers. `law_lawful`, `law_orderly`, `law_never_reused` and
--- `law_last_reused` prove it.
-use Rattle.std.specs.Prelude.{◌≡◌, ℕ, List, Option}
-use Rattle.fm_cells.specs.Objects.{Request}
-use Rattle.fm_cells.specs.Stores.{Store, opened}
-use Rattle.fm_cells.specs.Changes.{Choice, made_by, freed_by, put_by, chained_by}
+-- What holds of choices and of stores whatever the ranges of numbers. The functions of the module `laws` prove it.
+use Rattle.std.specs.Prelude.{◌≡◌, ℕ, ◌+◌, ◌*◌, ◌^◌, ◌<◌, ◌≤◌, Bool, false, List, Option}
+use Rattle.std.specs.Prelude.{Some, None}
+use Rattle.fm_cells.specs.Sizes.{cell_words}
+use Rattle.fm_cells.specs.Objects.{Object, object_words, Request}
+use Rattle.fm_cells.specs.Stores.{Store, opened, object_at, live_words, words_needed}
+use Rattle.fm_cells.specs.Changes.{Choice, Take, made_by, freed_by, put_by, chained_by}
 use Rattle.fm_cells.specs.Choices.{MayReuse, lawful}
 
 -- a choice that may be made is left as it is
@@ -46,3 +47,25 @@ KeptByPut P = (store : Store) (cell place element : ℕ) → P store → P (put_
 
 abbrev pub KeptByChain : (Store → Type 0) → Type 0
 KeptByChain P = (store : Store) (cell to : ℕ) → P store → P (chained_by store cell to)
+
+-- the live words after each call: a make in a cell that isn't held adds those of the request, a free takes those of the
+-- object, and a put or a change of a chain leaves them
+abbrev pub AddsLiveWords : Type 0
+AddsLiveWords =
+    (store : Store) (request : Request) (cell : ℕ) (grows : Bool) → object_at store cell ≡ None
+    → live_words (made_by store request (Take cell grows)) ≡ words_needed store request
+
+abbrev pub TakesLiveWords : Type 0
+TakesLiveWords =
+    (store : Store) (cell : ℕ) (object : Object) → object_at store cell ≡ Some object → object.fixed ≡ false
+    → live_words (freed_by store cell) + object_words object ≡ live_words store
+
+abbrev pub LeavesLiveWords : (Store → Store) → Type 0
+LeavesLiveWords change = (store : Store) → live_words (change store) ≡ live_words store
+
+-- a cell has room for the words that it is made for, and less than twice as many
+abbrev pub HasRoom : Type 0
+HasRoom = (words : ℕ) → words ≤ 2 ^ 36 → words ≤ cell_words words
+
+abbrev pub IsBelowDouble : Type 0
+IsBelowDouble = (words : ℕ) → 0 < words → words ≤ 2 ^ 36 → cell_words words < 2 * words

@@ -24,12 +24,10 @@ pub fn set_element(words: &mut [u64], start: usize, exponent: u32, place: u32, e
     requires small { exponent < 4 }
     requires within { start + place / 2 ^ exponent < length words.old }
     requires fits { element < 2 ^ element_bits (2 ^ exponent) }
-    ensures {
-      let at = start + place / 2 ^ exponent in
-      let bits = element_bits (2 ^ exponent) in
-      let word = spec.with_digit bits (place % 2 ^ exponent) element (slice_index words.old at) in
-      words.new ≡ slice_set words.old at word
-    }
+    ensures { let at = start + place / 2 ^ exponent in
+        let bits = element_bits (2 ^ exponent) in
+        let word = spec.with_digit bits (place % 2 ^ exponent) element (slice_index words.old at) in
+        words.new ≡ slice_set words.old at word }
 {
     let at = start + (place >> exponent) as usize;
     let index = place & ((1 << exponent) - 1);

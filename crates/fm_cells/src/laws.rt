@@ -2,6 +2,7 @@
 
 ghost use Rattle.std.specs.Prelude.{List, ℕ};
 ghost use Rattle.fm_cells.specs.Stores.{no_lists, empty_lists};
+ghost use Rattle.fm_cells.specs.Changes.{put_by, chained_by};
 ghost use Rattle.fm_cells.specs.Choices.{never_choice, last_choice};
 ghost use Rattle.fm_cells.specs.Soundness.{IsOrderly, IsNeverReused, IsLastReused};
 ghost use Rattle.fm_cells.specs.Laws as law;
@@ -16,8 +17,7 @@ pub fn law_lawful()
     ensures never_left { law.IsLeft IsNeverReused never_choice }
     ensures last_may { law.MayChoose IsLastReused last_choice }
     ensures last_left { law.IsLeft IsLastReused last_choice }
-{
-}
+{}
 
 /// Stores are opened in order and stay so, whichever cells are reused.
 pub fn law_orderly()
@@ -26,8 +26,7 @@ pub fn law_orderly()
     ensures freed { law.KeptByFree IsOrderly }
     ensures put { law.KeptByPut IsOrderly }
     ensures chained { law.KeptByChain IsOrderly }
-{
-}
+{}
 
 /// The choices of memory that is never reused lead from one of its stores to another.
 pub fn law_never_reused()
@@ -36,8 +35,7 @@ pub fn law_never_reused()
     ensures freed { law.KeptByFree IsNeverReused }
     ensures put { law.KeptByPut IsNeverReused }
     ensures chained { law.KeptByChain IsNeverReused }
-{
-}
+{}
 
 /// The choices of memory that takes the last freed cell lead from one of its stores to another.
 pub fn law_last_reused()
@@ -46,5 +44,19 @@ pub fn law_last_reused()
     ensures freed { law.KeptByFree IsLastReused }
     ensures put { law.KeptByPut IsLastReused }
     ensures chained { law.KeptByChain IsLastReused }
-{
-}
+{}
+
+/// How the live words change with each call.
+pub fn law_live_words()
+    ensures made { law.AddsLiveWords }
+    ensures freed { law.TakesLiveWords }
+    ensures put { (cell place element : ℕ) →
+        law.LeavesLiveWords (λ store. put_by store cell place element) }
+    ensures chained { (cell to : ℕ) → law.LeavesLiveWords (λ store. chained_by store cell to) }
+{}
+
+/// How many words a cell has.
+pub fn law_cell_words()
+    ensures room { law.HasRoom }
+    ensures below_double { law.IsBelowDouble }
+{}

@@ -21,7 +21,9 @@ mod tests;
 mod word_cells;
 
 pub use answers::{Cell, Freed, Head, MakeFail, NotHeld};
-pub use laws::{law_last_reused, law_lawful, law_never_reused, law_orderly};
+pub use laws::{
+    law_cell_words, law_last_reused, law_lawful, law_live_words, law_never_reused, law_orderly,
+};
 pub use memories::Memory;
 pub use plain_cells::PlainCells;
 pub use sizes::{cell_words, size_class};

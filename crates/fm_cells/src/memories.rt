@@ -29,28 +29,18 @@ pub trait Memory {
         requires len_fits { len < 2 ^ 31 }
         requires pack_is { IsPack pack }
         requires birth_fits { (store self.old).births < 2 ^ 32 - 1 }
-        ensures taken {
-          let request = request_of class len pack fixed in
-          IfOk result (λ cell. TakesCell (choose (store self.old) request) cell.0)
-        }
-        ensures made {
-          let request = request_of class len pack fixed in
-          let choice = choose (store self.old) request in
-          OnOk result (store self.new ≡ made_by (store self.old) request choice)
-        }
-        ensures budget {
-          let request = request_of class len pack fixed in
-          (result ≡ Err MakeFail.Budget) ↔ IsOverBudget (store self.old) request
-        }
-        ensures full {
-          let request = request_of class len pack fixed in
-          (result ≡ Err MakeFail.Store) ↔ IsRefused choose (store self.old) request
-        }
+        ensures taken { let request = request_of class len pack fixed in
+            IfOk result (λ cell. TakesCell (choose (store self.old) request) cell.0) }
+        ensures made { let request = request_of class len pack fixed in
+            let choice = choose (store self.old) request in
+            OnOk result (store self.new ≡ made_by (store self.old) request choice) }
+        ensures budget { let request = request_of class len pack fixed in
+            (result ≡ Err MakeFail.Budget) ↔ IsOverBudget (store self.old) request }
+        ensures full { let request = request_of class len pack fixed in
+            (result ≡ Err MakeFail.Store) ↔ IsRefused choose (store self.old) request }
         ensures refused { OnErr result (store self.new ≡ store self.old) }
-        ensures may_reuse {
-          let request = request_of class len pack fixed in
-          MayReuse (store self.old) request (choose (store self.old) request)
-        };
+        ensures may_reuse { let request = request_of class len pack fixed in
+            MayReuse (store self.old) request (choose (store self.old) request) };
 
     /// Frees the object in a cell. Null and fixed objects are skipped. Takes no memory.
     fn free(&mut self, cell: Cell) -> Result<Freed, NotHeld>

@@ -162,34 +162,22 @@ impl Memory for WordCells {
         requires len_fits { len < 2 ^ 31 }
         requires pack_is { IsPack pack }
         requires birth_fits { self.old.births < 2 ^ 32 - 1 }
-        ensures taken {
-          let request = request_of class len pack fixed in
-          IfOk result (λ cell. TakesCell (last_choice self.old request) cell.0)
-        }
-        ensures made {
-          let request = request_of class len pack fixed in
-          OnOk result (self.new ≡ made_by self.old request (last_choice self.old request))
-        }
-        ensures budget {
-          let request = request_of class len pack fixed in
-          (result ≡ Err MakeFail.Budget) ↔ spec.IsOverBudget self.old request
-        }
-        ensures full {
-          let request = request_of class len pack fixed in
-          (result ≡ Err MakeFail.Store) ↔ IsRefused last_choice self.old request
-        }
+        ensures taken { let request = request_of class len pack fixed in
+            IfOk result (λ cell. TakesCell (last_choice self.old request) cell.0) }
+        ensures made { let request = request_of class len pack fixed in
+            OnOk result (self.new ≡ made_by self.old request (last_choice self.old request)) }
+        ensures budget { let request = request_of class len pack fixed in
+            (result ≡ Err MakeFail.Budget) ↔ spec.IsOverBudget self.old request }
+        ensures full { let request = request_of class len pack fixed in
+            (result ≡ Err MakeFail.Store) ↔ IsRefused last_choice self.old request }
         ensures refused { OnErr result (self.new ≡ self.old) }
-        ensures may_reuse {
-          let request = request_of class len pack fixed in
-          MayReuse self.old request (last_choice self.old request)
-        }
+        ensures may_reuse { let request = request_of class len pack fixed in
+            MayReuse self.old request (last_choice self.old request) }
 
         // Of the size class as many cells were made as were held at once; of each other one as many as before.
-        ensures most_held {
-          let size_class = request_size_class (request_of class len pack fixed) in
-          let most = max (spec.made_count self.old size_class) (spec.held_count self.new size_class) in
-          OnOk result (self.new.made ≡ slice_set self.old.made size_class most)
-        }
+        ensures most_held { let size_class = request_size_class (request_of class len pack fixed) in
+            let most = max (spec.made_count self.old size_class) (spec.held_count self.new size_class) in
+            OnOk result (self.new.made ≡ slice_set self.old.made size_class most) }
     {
         let words = object_words(len, pack);
         if words as u64 > self.budget - self.live {
