@@ -1,0 +1,5 @@
+pub mod Line
+pub mod Outside
+pub mod Refusal
+pub mod Status
+pub mod Words

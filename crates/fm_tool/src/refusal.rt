@@ -1,0 +1,47 @@
+// Why a program refuses what the words of the command line ask for.
+
+ghost use Rattle.std.specs.Prelude.{◌≡◌, IfOk, string_bytes};
+ghost use Rattle.fm_tool.specs.Refusal.{refusal_line, refusal_status};
+
+use crate::status;
+use fm_base::NoMemory;
+use std::alloc::Global;
+
+/// Why both programs refuse.
+#[derive(Clone, Copy, Debug, PartialEq, Eq)]
+pub enum Refusal<'a> {
+    /// The words aren't of the stated form.
+    Words,
+    /// This file couldn't be read.
+    Read(&'a str),
+    /// This class file isn't of a form that is built so far.
+    NotYet(&'a str),
+    /// Memory couldn't be had.
+    OutOfMemory,
+}
+
+impl Refusal<'_> {
+    /// The line that tells it, with its line end.
+    pub fn line(self, alloc: Global) -> Result<String, NoMemory>
+        ensures { IfOk result (λ text. string_bytes text ≡ refusal_line self.entry) }
+    {
+        match self {
+            Refusal::Words => Ok(format!(in alloc; "refused: words\n")?),
+            Refusal::Read(file) => Ok(format!(in alloc; "refused: read {file}\n")?),
+            Refusal::NotYet(file) => Ok(format!(in alloc; "refused: not-yet {file}\n")?),
+            Refusal::OutOfMemory => Ok(format!(in alloc; "refused: memory\n")?),
+        }
+    }
+
+    /// The status that tells it.
+    pub fn status(self) -> u8
+        ensures { result ≡ refusal_status self.entry }
+    {
+        match self {
+            Refusal::Words => status::WORDS,
+            Refusal::Read(_) => status::READ,
+            Refusal::NotYet(_) => status::NOT_YET,
+            Refusal::OutOfMemory => status::OUT_OF_MEMORY,
+        }
+    }
+}

@@ -1,0 +1,40 @@
+// The exit statuses of both programs.
+
+ghost use Rattle.std.specs.Prelude.{◌≡◌};
+
+/// The job is done; of a run, main returned.
+pub const DONE: u8 = 0;
+
+/// The words of the command line aren't of the stated form.
+pub const WORDS: u8 = 64;
+
+/// A file of the words couldn't be read.
+pub const READ: u8 = 65;
+
+/// A file or a line couldn't be written.
+pub const WRITE: u8 = 75;
+
+/// Memory couldn't be had.
+pub const OUT_OF_MEMORY: u8 = 76;
+
+/// A class file, or a step of a run, isn't of a form that is built so far.
+pub const NOT_YET: u8 = 77;
+
+/// The next step of a run would pass its step budget.
+pub const RUNNING: u8 = 80;
+
+/// The next step of a run would pass its frames budget.
+pub const TOO_DEEP: u8 = 82;
+
+/// The value of each status, as its clauses tell.
+pub fn law_statuses()
+    ensures done { DONE ≡ 0 }
+    ensures words { WORDS ≡ 64 }
+    ensures read { READ ≡ 65 }
+    ensures write { WRITE ≡ 75 }
+    ensures out_of_memory { OUT_OF_MEMORY ≡ 76 }
+    ensures not_yet { NOT_YET ≡ 77 }
+    ensures running { RUNNING ≡ 80 }
+    ensures too_deep { TOO_DEEP ≡ 82 }
+{
+}
