@@ -1,2 +1,3 @@
-pub mod WordLaws
-pub mod CauseLaws
+pub mod CauseLemmas
+pub mod JobLemmas
+pub mod RequestLemmas

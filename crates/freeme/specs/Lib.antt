@@ -1,4 +1,4 @@
-pub mod Job
+pub mod Request
 pub mod Outcome
-pub mod Run
+pub mod TopCall
 pub mod Causes

@@ -1,24 +1,27 @@
--- How a call can come out, and the line and the status that tell it.
+-- The line and the status that tell how a call came out.
 use Rattle.std.specs.Prelude.{ℕ, List, [], ◌∷◌, ◌++◌, codes}
-use Rattle.freeme.specs.Job.{Job, written_name}
+use Rattle.fm_tool.specs.Refusal.{refusal_line, refusal_status}
+use Rattle.fm_tool.specs.declared.status.TheConstants.{DONE, WRITE}
+use Rattle.freeme.specs.Request.{job_of, written_name}
 use Rattle.freeme.specs.declared.outcome.Outcome.{Outcome}
 use Rattle.freeme.specs.declared.outcome.Outcome.TheVariants as outcome
 
-abbrev pub status_of : Outcome → ℕ
-status_of outcome.Done = 0
-status_of outcome.Unread = 65
-status_of outcome.Unwritten = 75
-status_of outcome.OutOfMemory = 76
-status_of outcome.NotYet = 77
+-- the line of a class that is written, with its line end
+abbrev pub class_line : List ℕ → List ℕ
+class_line main = main ++ (codes ": 0 sites, 0 frees" ++ 10 ∷ [])
 
--- the line of an outcome, with its line end
-abbrev pub line_of : Job → Outcome → List ℕ
-line_of job outcome.Done = job.main ++ (codes ": 0 sites, 0 frees" ++ 10 ∷ [])
-line_of job outcome.Unread = codes "refused: read " ++ (job.file ++ 10 ∷ [])
-line_of job outcome.Unwritten = codes "refused: write " ++ (written_name job ++ 10 ∷ [])
-line_of job outcome.OutOfMemory = codes "refused: memory" ++ 10 ∷ []
-line_of job outcome.NotYet = codes "refused: not-yet " ++ (job.file ++ 10 ∷ [])
+-- the line of a file that couldn't be written, with its line end
+abbrev pub write_line : List ℕ → List ℕ
+write_line name = codes "refused: write " ++ (name ++ 10 ∷ [])
 
--- the line for words that ask for nothing
-abbrev pub words_line : List ℕ
-words_line = codes "refused: words" ++ 10 ∷ []
+-- the line of an outcome
+abbrev pub outcome_line : Outcome → List ℕ
+outcome_line (outcome.Written request) = class_line (job_of request).main
+outcome_line (outcome.Unwritten request) = write_line (written_name (job_of request))
+outcome_line (outcome.Refused refusal) = refusal_line refusal
+
+-- the status of an outcome
+abbrev pub outcome_status : Outcome → ℕ
+outcome_status (outcome.Written request) = DONE
+outcome_status (outcome.Unwritten request) = WRITE
+outcome_status (outcome.Refused refusal) = refusal_status refusal

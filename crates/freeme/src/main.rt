@@ -7,31 +7,21 @@
 
 mod outcome;
 mod request;
-mod run;
 #[cfg(test)]
 mod tests;
+mod top_call;
 
-use crate::run::freeme_run;
+use crate::top_call::freeme_run;
 use fm_files::{FolderFiles, StdSink};
+use fm_tool::{command_words, status};
 use std::process::ExitCode;
-use std::rt::Env;
-use std::{env, io};
 
 fn main(rt: HostRuntime) -> ExitCode {
     let alloc = rt.alloc();
-    let words = match command_words(&rt) {
-        Ok(words) => words,
-        // A word that isn't text is a word of no form that is taken.
-        Err(error) if error.kind() == io::ErrorKind::InvalidData => Vec::new(alloc),
-        Err(_) => return ExitCode::from(76),
+    let Ok(words) = command_words(&rt) else {
+        return ExitCode::from(status::OUT_OF_MEMORY);
     };
     let mut files = FolderFiles::new(rt, alloc);
     let mut out = StdSink::new(rt, false);
     ExitCode::from(freeme_run(alloc, words.as_slice(), &mut files, &mut out))
-}
-
-// The words of the command line, without the program's name.
-fn command_words(rt: &(impl Env + AllocGlobal)) -> io::Result<Vec<String>> {
-    let words = env::args(rt)?.skip(1).collect(rt.alloc())?;
-    Ok(words)
 }

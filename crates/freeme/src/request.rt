@@ -1,8 +1,11 @@
 // What the words of the command line ask for.
 
-ghost use Rattle.std.specs.Prelude.{MatchOption};
-ghost use Rattle.freeme.specs.Job.{Asks, AskNothing, job_of};
-ghost use Rattle.freeme.specs.Run.{texts};
+ghost use Rattle.std.specs.Prelude.{◌≡◌, MatchOption, IfOk, string_bytes};
+ghost use Rattle.fm_tool.specs.Words.{texts};
+ghost use Rattle.freeme.specs.Request.{Asks, AskNothing, job_of, written_name};
+
+use fm_base::NoMemory;
+use std::alloc::Global;
 
 /// The folder to write into, the main class and the file to read, as the words `--out DIR --main CLASS
 /// FILE` name them.
@@ -11,6 +14,17 @@ pub struct Request<'a> {
     pub folder: &'a str,
     pub main: &'a str,
     pub file: &'a str,
+}
+
+impl Request<'_> {
+    /// The name of the file that is written, DIR/CLASS.class.
+    pub fn written_name(self, alloc: Global) -> Result<String, NoMemory>
+        ensures { IfOk result (λ name. string_bytes name ≡ written_name (job_of self.entry)) }
+    {
+        let folder = self.folder;
+        let main = self.main;
+        Ok(format!(in alloc; "{folder}/{main}.class")?)
+    }
 }
 
 /// What the words ask for, or None where they aren't of that form, or a value is empty.

@@ -1,6 +1,7 @@
 use Rattle.std.proofs.Common.{◌≡◌, length, sym, ap, ◌∙◌, arith, codes}
-use Rattle.freeme.specs.Run.{texts}
-use Rattle.freeme.proofs.WordLaws.{five_words, same_text, not_empty}
+use Rattle.fm_tool.specs.Words.{texts}
+use Rattle.fm_tool.proofs.WordLemmas.{same_text, not_empty}
+use Rattle.freeme.proofs.RequestLemmas.{five_words}
 use Rattle.freeme.proofs.request.request_of.Goals as goal
 
 pub returns : goal.returns
