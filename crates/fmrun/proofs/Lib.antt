@@ -1,5 +1,7 @@
-pub mod FrameLemmas
-pub mod DecimalLemmas
+pub mod FramesLemmas
+pub mod PrintingLemmas
+pub mod PutsLemmas
 pub mod RunLemmas
-pub mod JobLemmas
-pub mod TopLemmas
+pub mod RequestLemmas
+pub mod TopCallLemmas
+pub mod CauseLemmas

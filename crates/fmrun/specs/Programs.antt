@@ -1,4 +1,4 @@
--- A class as the machine runs it: its methods by number, and what the entries of its pool stand for (5.1, 5.4.3).
+-- A class as the machine runs it: its methods by number, and what the entries of its pool stand for (JVMS 5.1, 5.4.3).
 use Rattle.std.specs.Prelude.{ℕ, ◌==◌, ◌&&◌, Bool, false, List, [], ◌∷◌, map, codes, Option, Some, None, if◌then◌else◌, nat_eq, drop}
 use Rattle.std.specs.List.{slice_index_or, position, before_first, after_first}
 use Rattle.std.specs.Cmp.Lexicographic.{pointwise}
@@ -12,11 +12,11 @@ use Rattle.fm_code.specs.declared.class_file.MemberAttr.TheVariants as attribute
 use Rattle.fm_code.specs.declared.code_array.Item.{Item}
 use Rattle.fm_code.specs.declared.operations.Reg.{Reg}
 use Rattle.fm_code.specs.declared.operations.Reg.TheVariants as reg
-use Rattle.fmrun.specs.declared.constants.Constant.{Constant}
-use Rattle.fmrun.specs.declared.constants.Constant.TheVariants as constant
+use Rattle.fmrun.specs.declared.resolved.Resolved.{Resolved}
+use Rattle.fmrun.specs.declared.resolved.Resolved.TheVariants as resolved
 
 -- a method: the letters between ( and ) of its descriptor, what it returns if anything, and its code
-pub record Method : Type 0 where
+pub record CodedMethod : Type 0 where
   pub parameters : List ℕ
   pub returns : Option Reg
   pub max_stack : ℕ
@@ -25,8 +25,8 @@ pub record Method : Type 0 where
 
 -- the methods by number, what the pool's entries stand for by index, and the number of main
 pub record Program : Type 0 where
-  pub methods : List Method
-  pub constants : List Constant
+  pub methods : List CodedMethod
+  pub pool : List Resolved
   pub main : Option ℕ
 
 -- ---- texts of the pool
@@ -54,7 +54,7 @@ result_kind (letter ∷ []) = if letter == 86 then None else (if letter == 73 th
 result_kind letters = Some reg.Ref
 
 -- a method by its descriptor and its Code, which is its first attribute; 41 is )
-abbrev pub method_with : Option (List ℕ) → List MemberAttr → Method
+abbrev pub method_with : Option (List ℕ) → List MemberAttr → CodedMethod
 method_with (Some descriptor) (attribute.Coded name code ∷ others) = record {
   parameters = drop 1 (before_first (λ c. c == 41) descriptor);
   returns = result_kind (after_first (λ c. c == 41) descriptor);
@@ -64,14 +64,14 @@ method_with (Some descriptor) (attribute.Coded name code ∷ others) = record {
 }
 method_with descriptor attributes = record { parameters = []; returns = None; max_stack = 0; max_locals = 0; items = [] }
 
-abbrev pub method_of : List Entry → Member → Method
+abbrev pub method_of : List Entry → Member → CodedMethod
 method_of entries m = method_with (utf8_at entries m.descriptor) m.attributes
 
 -- the method is main([Ljava/lang/String;)V
 abbrev pub is_main : List Entry → Member → Bool
 is_main entries m = is_text (utf8_at entries m.name) (codes "main") && is_text (utf8_at entries m.descriptor) (codes "([Ljava/lang/String;)V")
 
--- ---- constants
+-- ---- what entries are resolved to (JVMS 5.4.3)
 
 -- the method's name and descriptor are those of the entry
 abbrev pub is_named_by : List Entry → Entry → Member → Bool
@@ -80,39 +80,39 @@ is_named_by entries (entry.NameAndType name descriptor) m =
 is_named_by entries e m = false
 
 -- a method by its number, if it is there
-abbrev pub numbered : Option ℕ → Constant
-numbered (Some number) = constant.Method number
-numbered None = constant.Other
+abbrev pub numbered : Option ℕ → Resolved
+numbered (Some number) = resolved.Method number
+numbered None = resolved.Other
 
 -- a method of another class is println(I)V of a PrintStream or nothing that is run; one of this class is the first of its name and descriptor
-abbrev pub method_constant : ClassDef → Option (List ℕ) → Entry → Constant
-method_constant c class named =
+abbrev pub resolved_method : ClassDef → Option (List ℕ) → Entry → Resolved
+resolved_method c class named =
     if is_same_text class (class_name_at c.pool.entries c.this_class) then numbered (position (is_named_by c.pool.entries named) c.methods)
-    else (if is_text class (codes "java/io/PrintStream") && is_name_and_type c.pool.entries named (codes "println") (codes "(I)V") then constant.Println
-    else constant.Other)
+    else (if is_text class (codes "java/io/PrintStream") && is_name_and_type c.pool.entries named (codes "println") (codes "(I)V") then resolved.Println
+    else resolved.Other)
 
 -- the one field is System.out
-abbrev pub field_constant : List Entry → Option (List ℕ) → Entry → Constant
-field_constant entries class named =
-    if is_text class (codes "java/lang/System") && is_name_and_type entries named (codes "out") (codes "Ljava/io/PrintStream;") then constant.Out else constant.Other
+abbrev pub resolved_field : List Entry → Option (List ℕ) → Entry → Resolved
+resolved_field entries class named =
+    if is_text class (codes "java/lang/System") && is_name_and_type entries named (codes "out") (codes "Ljava/io/PrintStream;") then resolved.Out else resolved.Other
 
 -- what an entry of the pool stands for
-abbrev pub constant_of : ClassDef → Entry → Constant
-constant_of c (entry.Integer n) = constant.Int n
-constant_of c (entry.Long n) = constant.Long n
-constant_of c (entry.Field class named) = field_constant c.pool.entries (class_name_at c.pool.entries class) (entry_at c.pool.entries named)
-constant_of c (entry.Method class named) = method_constant c (class_name_at c.pool.entries class) (entry_at c.pool.entries named)
-constant_of c e = constant.Other
+abbrev pub resolved_of : ClassDef → Entry → Resolved
+resolved_of c (entry.Integer n) = resolved.Int n
+resolved_of c (entry.Long n) = resolved.Long n
+resolved_of c (entry.Field class named) = resolved_field c.pool.entries (class_name_at c.pool.entries class) (entry_at c.pool.entries named)
+resolved_of c (entry.Method class named) = resolved_method c (class_name_at c.pool.entries class) (entry_at c.pool.entries named)
+resolved_of c e = resolved.Other
 
 -- ---- the program of a class
 
 abbrev pub program_of : ClassDef → Program
 program_of c = record {
   methods = map (method_of c.pool.entries) c.methods;
-  constants = map (constant_of c) c.pool.entries;
+  pool = map (resolved_of c) c.pool.entries;
   main = position (is_main c.pool.entries) c.methods;
 }
 
 -- what stands at an index of the pool; nothing outside
-abbrev pub constant_at : Program → ℕ → Constant
-constant_at p index = slice_index_or p.constants index constant.Other
+abbrev pub resolved_at : Program → ℕ → Resolved
+resolved_at p index = slice_index_or p.pool index resolved.Other

@@ -1,8 +1,8 @@
-// A frame of the machine: its locals and its operand stack lie in one vector (2.6).
+// A frame of the machine: its locals and its operand stack lie in one vector (JVMS 2.6).
 
 ghost use Rattle.std.specs.Prelude.{◌≡◌, ◌<◌, ◌≤◌, ◌+◌, ◌-◌, [], ◌∷◌, ◌++◌, length, drop, reverse, replicate, slice_get, slice_set, Some, IfOk, vec_len};
 ghost use Rattle.std.specs.Option.{option_map};
-ghost use Rattle.fmrun.specs.Rows.{int_on_top, long_on_top, word_on_top, with_stack, with_locals, with_value, without_long, within};
+ghost use Rattle.fmrun.specs.Instructions.{int_on_top, long_on_top, word_on_top, with_stack, with_locals, with_value, without_long, within};
 ghost use Rattle.fmrun.specs.declared.values.Value.TheVariants.{Top, Int, Long, Output};
 
 use crate::values::Value;
@@ -25,7 +25,7 @@ pub struct StackFrame {
 
 impl Model for StackFrame {
     ghost use Rattle.std.specs.Prelude.{◌-◌, ◌≤◌, length, take, drop};
-    ghost use Rattle.fmrun.specs.States.{Frame};
+    ghost use Rattle.fmrun.specs.Frames.{Frame};
 
     ghost Value = { Frame };
 

@@ -3,12 +3,12 @@
 ghost use Rattle.std.specs.Prelude.{◌≡◌, ◌≤◌, ◌==◌, IfOk, drop, length, map, position};
 ghost use Rattle.fm_code.specs.ConstantPool.{entry_at, utf8_at, class_name_at};
 ghost use Rattle.std.specs.List.{before_first, after_first, position_or_len};
-ghost use Rattle.fmrun.specs.Programs.{program_of, method_of, result_kind, constant_of, field_constant, method_constant, is_name_and_type, is_named_by, is_main, numbered};
-ghost use Rattle.fmrun.specs.Steps.{argument_words};
+ghost use Rattle.fmrun.specs.Programs.{program_of, method_of, result_kind, resolved_of, resolved_field, resolved_method, is_name_and_type, is_named_by, is_main, numbered};
+ghost use Rattle.fmrun.specs.Step.{argument_words};
 
-use crate::constants::Constant;
+use crate::resolved::Resolved;
 use crate::programs::{LinkedMethod, LinkedProgram};
-use crate::texts::{
+use crate::pool_texts::{
     has_class_name, has_same_class_name, has_same_text, has_text, is_main_method, utf8,
 };
 use fm_base::NoMemory;
@@ -22,11 +22,11 @@ pub fn link<'a>(alloc: Global, class: &'a ClassDef) -> Result<LinkedProgram<'a>,
     let pool = &class.pool;
     let members = class.methods.as_slice();
     let methods = linked_methods(alloc, pool, members)?;
-    let constants = constants(alloc, class)?;
+    let pool_entries = resolved_pool(alloc, class)?;
     let main = number_of_main(pool, members);
     Ok(LinkedProgram {
         methods,
-        constants,
+        pool: pool_entries,
         main,
     })
 }
@@ -39,11 +39,11 @@ fn number_of_main(pool: &Pool, members: &[Member]) -> Option<usize>
 }
 
 // What the entries of the pool stand for.
-fn constants(alloc: Global, class: &ClassDef) -> Result<Vec<Constant>, NoMemory>
-    ensures { IfOk result (λ constants. constants.items ≡ map (constant_of class.now) class.now.pool.entries) }
+fn resolved_pool(alloc: Global, class: &ClassDef) -> Result<Vec<Resolved>, NoMemory>
+    ensures { IfOk result (λ found. found.items ≡ map (resolved_of class.now) class.now.pool.entries) }
 {
     let entries = class.pool.entries.as_slice();
-    Ok(entries.iter().map(|e| constant(class, e)).collect(alloc)?)
+    Ok(entries.iter().map(|e| resolve(class, e)).collect(alloc)?)
 }
 
 // The methods of the class.
@@ -150,34 +150,34 @@ fn kind_of_result(letters: &[u8]) -> Option<Reg>
 }
 
 // What an entry of the pool stands for.
-fn constant(class: &ClassDef, entry: &Entry) -> Constant
-    ensures { result ≡ constant_of class.now entry.now }
+fn resolve(class: &ClassDef, entry: &Entry) -> Resolved
+    ensures { result ≡ resolved_of class.now entry.now }
 {
     match entry {
-        Entry::Integer(n) => Constant::Int(*n),
-        Entry::Long(n) => Constant::Long(*n),
+        Entry::Integer(n) => Resolved::Int(*n),
+        Entry::Long(n) => Resolved::Long(*n),
         Entry::Field(owner, named) => field(&class.pool, *owner, *named),
         Entry::Method(owner, named) => method(class, *owner, *named),
-        _ => Constant::Other,
+        _ => Resolved::Other,
     }
 }
 
 // A field: System.out alone.
-fn field(pool: &Pool, owner: u16, named: u16) -> Constant
-    ensures { result ≡ field_constant pool.now.entries (class_name_at pool.now.entries owner) (entry_at pool.now.entries named) }
+fn field(pool: &Pool, owner: u16, named: u16) -> Resolved
+    ensures { result ≡ resolved_field pool.now.entries (class_name_at pool.now.entries owner) (entry_at pool.now.entries named) }
 {
     if has_class_name(pool, owner, b"java/lang/System")
         && is_named_and_typed(pool, named, b"out", b"Ljava/io/PrintStream;")
     {
-        Constant::Out
+        Resolved::Out
     } else {
-        Constant::Other
+        Resolved::Other
     }
 }
 
 // A method: one of the class itself, or println(I)V of a PrintStream.
-fn method(class: &ClassDef, owner: u16, named: u16) -> Constant
-    ensures { result ≡ method_constant class.now (class_name_at class.now.pool.entries owner) (entry_at class.now.pool.entries named) }
+fn method(class: &ClassDef, owner: u16, named: u16) -> Resolved
+    ensures { result ≡ resolved_method class.now (class_name_at class.now.pool.entries owner) (entry_at class.now.pool.entries named) }
 {
     let pool = &class.pool;
     if has_same_class_name(pool, owner, class.this_class) {
@@ -185,19 +185,19 @@ fn method(class: &ClassDef, owner: u16, named: u16) -> Constant
     } else if has_class_name(pool, owner, b"java/io/PrintStream")
         && is_named_and_typed(pool, named, b"println", b"(I)V")
     {
-        Constant::Println
+        Resolved::Println
     } else {
-        Constant::Other
+        Resolved::Other
     }
 }
 
 // The first method of the class with the name and the descriptor of this entry.
-fn own_method(class: &ClassDef, named: u16) -> Constant
+fn own_method(class: &ClassDef, named: u16) -> Resolved
     ensures { result ≡ numbered (position (is_named_by class.now.pool.entries (entry_at class.now.pool.entries named)) class.now.methods) }
 {
     match number_of(&class.pool, class.methods.as_slice(), named) {
-        Some(number) => Constant::Method(number),
-        None => Constant::Other,
+        Some(number) => Resolved::Method(number),
+        None => Resolved::Other,
     }
 }
 

@@ -7,47 +7,36 @@
 // chapter; each step of the code is proved to be theirs.
 #![tactic(auto)]
 
-mod calls;
-mod constants;
 mod ends;
 mod execution;
 mod frames;
+mod instructions;
 mod linking;
-mod machine;
 mod outcome;
+mod pool_texts;
 mod printing;
 mod programs;
-mod reports;
 mod request;
-mod rows;
+mod resolved;
+mod run;
+mod step;
 #[cfg(test)]
 mod tests;
-mod texts;
 mod top_call;
 mod values;
 
 use crate::top_call::fmrun_run;
 use fm_files::{FolderFiles, StdSink};
+use fm_tool::{command_words, status};
 use std::process::ExitCode;
-use std::rt::Env;
-use std::{env, io};
 
 fn main(rt: HostRuntime) -> ExitCode {
     let alloc = rt.alloc();
-    let words = match command_words(&rt) {
-        Ok(words) => words,
-        // A word that isn't text is a word of no form that is taken.
-        Err(error) if error.kind() == io::ErrorKind::InvalidData => Vec::new(alloc),
-        Err(_) => return ExitCode::from(76),
+    let Ok(words) = command_words(&rt) else {
+        return ExitCode::from(status::OUT_OF_MEMORY);
     };
     let mut files = FolderFiles::new(rt, alloc);
     let mut out = StdSink::new(rt, false);
     let mut report = StdSink::new(rt, true);
     ExitCode::from(fmrun_run(alloc, words.as_slice(), &mut files, &mut out, &mut report))
-}
-
-// The words of the command line, without the program's name.
-fn command_words(rt: &(impl Env + AllocGlobal)) -> io::Result<Vec<String>> {
-    let words = env::args(rt)?.skip(1).collect(rt.alloc())?;
-    Ok(words)
 }

@@ -2,10 +2,10 @@
 
 ghost use Rattle.std.specs.Prelude.{◌≡◌, slice_get};
 ghost use Rattle.std.specs.Option.{option_copied};
-ghost use Rattle.fmrun.specs.Programs.{constant_at};
-ghost use Rattle.fmrun.specs.Steps.{argument_words};
+ghost use Rattle.fmrun.specs.Programs.{resolved_at};
+ghost use Rattle.fmrun.specs.Step.{argument_words};
 
-use crate::constants::Constant;
+use crate::resolved::Resolved;
 use fm_code::{Item, Reg};
 use std::marker::Model;
 
@@ -23,11 +23,11 @@ pub struct LinkedMethod<'a> {
 
 impl<'a> Model for LinkedMethod<'a> {
     ghost use Rattle.std.specs.Prelude.{◌≡◌};
-    ghost use Rattle.fmrun.specs.Programs.{Method};
+    ghost use Rattle.fmrun.specs.Programs.{CodedMethod};
 
-    ghost Value = { Method };
+    ghost Value = { CodedMethod };
 
-    ghost use Rattle.fmrun.specs.Steps.{argument_words};
+    ghost use Rattle.fmrun.specs.Step.{argument_words};
 
     ghost view = { λ m. record {
       parameters = m.parameters.now;
@@ -44,7 +44,7 @@ impl<'a> Model for LinkedMethod<'a> {
 #[derive(Debug, Drop)]
 pub struct LinkedProgram<'a> {
     pub(crate) methods: Vec<LinkedMethod<'a>>,
-    pub(crate) constants: Vec<Constant>,
+    pub(crate) pool: Vec<Resolved>,
     pub(crate) main: Option<usize>,
 }
 
@@ -53,7 +53,7 @@ impl<'a> Model for LinkedProgram<'a> {
 
     ghost Value = { Program };
 
-    ghost view = { λ p. record { methods = p.methods.items; constants = p.constants.items; main = p.main } };
+    ghost view = { λ p. record { methods = p.methods.items; pool = p.pool.items; main = p.main } };
 }
 
 impl<'a> LinkedProgram<'a> {
@@ -65,12 +65,12 @@ impl<'a> LinkedProgram<'a> {
     }
 
     /// What stands at an index of the pool. Other outside.
-    pub fn constant(&self, index: u16) -> Constant
-        ensures { result ≡ constant_at self.now index }
+    pub fn resolved(&self, index: u16) -> Resolved
+        ensures { result ≡ resolved_at self.now index }
     {
-        match self.constants.get(usize::from(index)) {
-            Some(constant) => *constant,
-            None => Constant::Other,
+        match self.pool.get(usize::from(index)) {
+            Some(resolved) => *resolved,
+            None => Resolved::Other,
         }
     }
 

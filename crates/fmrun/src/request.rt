@@ -1,7 +1,9 @@
 // What the words of the command line ask for.
 
 ghost use Rattle.std.specs.Prelude.{MatchOption};
-ghost use Rattle.fmrun.specs.Jobs.{Asks, AskNothing, IsBudget, IsNoBudget, IsFilled, IsEmptied, job_of, texts};
+ghost use Rattle.fm_tool.specs.Words.{texts};
+ghost use Rattle.fmrun.specs.Request.{Asks, AskNothing, IsBudget, job_of};
+ghost use Rattle.fmrun.specs.inner.Request.{IsNoBudget, IsFilled, IsEmptied};
 
 use fm_base::limits::{DEFAULT_STEPS, MAX_STEPS};
 

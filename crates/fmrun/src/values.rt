@@ -1,4 +1,4 @@
-// The values that a running program works on (2.3, 2.4).
+// The values that a running program works on (JVMS 2.3, 2.4).
 
 /// A word of the locals or of the operand stack. A long takes two words: its value, and then `Top`.
 #[derive(Clone, Copy, Debug, PartialEq, Eq)]

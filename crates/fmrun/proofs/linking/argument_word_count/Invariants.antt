@@ -1,5 +1,5 @@
 use Rattle.std.proofs.Common.{◌≡◌, ◌+◌, ◌*◌, ◌≤◌, drop}
-use Rattle.fmrun.specs.Steps.{argument_words}
+use Rattle.fmrun.specs.Step.{argument_words}
 use Rattle.fmrun.proofs.linking.argument_word_count.Given as goal
 
 abbrev pub invariant-loop-letter : goal.invariant-loop-letter

@@ -1,7 +1,7 @@
 use Rattle.std.proofs.Common.{◌≤◌, ◌++◌, ap, ◌∙◌, pos, ◌<ℤ◌, arith}
 use Rattle.std.specs.Fmt.{decimal}
 use Rattle.std.proofs.lemmas.Int.{ints, to_z-of_z}
-use Rattle.fmrun.proofs.DecimalLemmas.{length-decimal-int, negative-line}
+use Rattle.fmrun.proofs.PrintingLemmas.{length-decimal-int, negative-line}
 use Rattle.fmrun.proofs.printing.write_number.Goals as goal
 
 pub write_digits-start-requires : goal.write_digits-start-requires

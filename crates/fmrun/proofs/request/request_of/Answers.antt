@@ -1,6 +1,8 @@
 use Rattle.std.proofs.Common.{◌≡◌, length, ap, ◌∙◌, arith, codes, string_bytes}
-use Rattle.fmrun.specs.Jobs.{job_of, texts}
-use Rattle.fmrun.proofs.JobLemmas.{four_words, same_text, nothing_without_budget, asks_with_budget}
+use Rattle.fm_tool.specs.Words.{texts}
+use Rattle.fm_tool.proofs.WordLemmas.{same_text}
+use Rattle.fmrun.specs.Request.{job_of}
+use Rattle.fmrun.proofs.RequestLemmas.{four_words, nothing_without_budget, asks_with_budget}
 use Rattle.fmrun.proofs.request.request_of.Goals as goal
 
 pub returns-in_default-budget_of : goal.returns-in_default-budget_of

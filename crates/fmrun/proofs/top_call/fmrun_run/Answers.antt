@@ -1,12 +1,18 @@
-use Rattle.fmrun.specs.Jobs.{job_of}
-use Rattle.fmrun.proofs.TopLemmas.{status_of_words, status_of_job, words_of_job}
+use Rattle.fm_tool.specs.declared.status.TheConstants.{DONE, RUNNING, TOO_DEEP}
+use Rattle.fmrun.proofs.CauseLemmas.{is_status, for_form, for_end, returned_is_apart, running_is_apart, too_deep_is_apart}
 use Rattle.fmrun.proofs.top_call.fmrun_run.Goals as goal
 
-pub returns-in-None-clause-status : goal.returns-in-None-clause-status
-returns-in-None-clause-status g c = status_of_words _ _ _ _ c.put_line.ensures
+pub returns-clause-status : goal.returns-clause-status
+returns-clause-status g c = is_status _ _ _ _ _ _ _ _ c.do_call.ensures
 
-pub returns-in-Some-clause-status : goal.returns-in-Some-clause-status
-returns-in-Some-clause-status g c = status_of_job (job_of c.in-Some.request) c.do_job-outcome.result _ _ _ c.tell.ensures
+pub returns-clause-form : goal.returns-clause-form
+returns-clause-form g c = for_form _ _ _ _ _ _ _ _ c.do_call.ensures
 
-pub returns-in-Some-clause-words : goal.returns-in-Some-clause-words
-returns-in-Some-clause-words g c = words_of_job _ (job_of c.in-Some.request) c.do_job-outcome.result _ _ _ c.in-Some.ensures c.tell.ensures
+pub returns-clause-returned : goal.returns-clause-returned
+returns-clause-returned g c = for_end DONE returned_is_apart _ _ _ _ _ _ _ _ c.do_call.ensures
+
+pub returns-clause-running : goal.returns-clause-running
+returns-clause-running g c = for_end RUNNING running_is_apart _ _ _ _ _ _ _ _ c.do_call.ensures
+
+pub returns-clause-too_deep : goal.returns-clause-too_deep
+returns-clause-too_deep g c = for_end TOO_DEEP too_deep_is_apart _ _ _ _ _ _ _ _ c.do_call.ensures

@@ -1,6 +1,6 @@
 use Rattle.std.proofs.Common.{◌≡◌, length, reverse, vec_len, arith}
 use Rattle.std.proofs.lemmas.Grind.{common_steps}
-use Rattle.fmrun.proofs.FrameLemmas.{frame_of-new}
+use Rattle.fmrun.proofs.FramesLemmas.{frame_of-new}
 use Rattle.fmrun.proofs.frames.StackFrame.new.Goals as goal
 
 pub returns : goal.returns

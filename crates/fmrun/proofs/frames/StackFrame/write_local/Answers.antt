@@ -1,4 +1,4 @@
-use Rattle.fmrun.proofs.FrameLemmas.{frame_of-set}
+use Rattle.fmrun.proofs.FramesLemmas.{frame_of-set}
 use Rattle.fmrun.proofs.frames.StackFrame.write_local.Goals as goal
 
 pub returns : goal.returns
