@@ -6,7 +6,7 @@ ghost use Rattle.fm_alu.specs.Laws.{Satisfies};
 use fm_code::Op;
 
 // An operation on two numbers of one width.
-macro_rules! operate {
+macro_rules! operated {
     ($op:expr, $a:expr, $b:expr) => {
         match $op {
             Op::Div | Op::Rem if $b == 0 => None,
@@ -30,7 +30,7 @@ pub fn int_op(op: Op, a: i32, b: i32) -> Option<i32>
     ensures law { IfSome result (Satisfies op 32 a b) }
     ensures none { IsNone result ↔ (IsDivision op × (b ≡ pos 0)) }
 {
-    operate!(op, a, b)
+    operated!(op, a, b)
 }
 
 /// The result of an operation on two longs: ladd, lsub, lmul, ldiv, lrem, land, lor and lxor
@@ -41,5 +41,5 @@ pub fn long_op(op: Op, a: i64, b: i64) -> Option<i64>
     ensures law { IfSome result (Satisfies op 64 a b) }
     ensures none { IsNone result ↔ (IsDivision op × (b ≡ pos 0)) }
 {
-    operate!(op, a, b)
+    operated!(op, a, b)
 }
