@@ -209,7 +209,7 @@ for_words words old new out out' report report' result call = record { only = on
 
 -- the read of the job's file failed
 is_read : (words : List Bytes) (old new : Disk) (before after : Output) (o : Outcome) → ComesOf words old new before after o → outcome_status o ≡ READ → IsReadOfJob words old new
-is_read words old new before after o (inl nothing) same = let e : 64 ≡ 65 = sym (words_status o nothing.refused) ∙ same in absurd (omega arith)
+is_read words old new before after o (inl nothing) same = let e : outcome_status o ≡ 64 = words_status o nothing.refused in absurd (omega arith)
 is_read words old new before after o (inr j) same = of_job o j.comes same where
   of_job : (o : Outcome) → ComesTo j.job old new before after o → outcome_status o ≡ READ → IsReadOfJob words old new
   of_job (outcome.Ran ended) comes same = let e : end_status ended.end ≡ 65 = same in absurd (end_is_apart ended.end (omega arith) (omega arith))
@@ -243,7 +243,7 @@ for_read words old new out out' report report' result call = record { only = onl
 -- ---- what the file holds
 
 not_yet_only : (words : List Bytes) (old new : Disk) (before after : Output) (o : Outcome) → ComesOf words old new before after o → outcome_status o ≡ NOT_YET → IsOfJob words old.contents IsNotYet
-not_yet_only words old new before after o (inl nothing) same = let e : 64 ≡ 77 = sym (words_status o nothing.refused) ∙ same in absurd (omega arith)
+not_yet_only words old new before after o (inl nothing) same = let e : outcome_status o ≡ 64 = words_status o nothing.refused in absurd (omega arith)
 not_yet_only words old new before after o (inr j) same = of_job o j.comes same where
   of_job : (o : Outcome) → ComesTo j.job old new before after o → outcome_status o ≡ NOT_YET → IsOfJob words old.contents IsNotYet
   of_job (outcome.Ran ended) comes same = let e : end_status ended.end ≡ 77 = same in absurd (end_is_apart ended.end (omega arith) (omega arith))
