@@ -51,13 +51,6 @@ running_is_apart = end_is_apart ends.Running
 pub too_deep_is_apart : IsEndStatus TOO_DEEP
 too_deep_is_apart = end_is_apart (ends.TooDeep 0)
 
--- of the three statuses of ends
-ended_apart : (s : ℕ) → Contains (DONE ∷ RUNNING ∷ TOO_DEEP ∷ []) s → IsEndStatus s
-ended_apart s (zero, within, same) = subst IsEndStatus same returned_is_apart
-ended_apart s (suc zero, within, same) = subst IsEndStatus same running_is_apart
-ended_apart s (suc (suc zero), within, same) = subst IsEndStatus same too_deep_is_apart
-ended_apart s (suc (suc (suc k)), within, same) = absurd (omega arith)
-
 not_refused : (r : Refusal) (s : ℕ) → IsEndStatus s → s ≡ refusal_status r → ⊥
 not_refused r s apart same = let range = refusal_range r in apart (omega arith) (omega arith)
 
@@ -66,14 +59,6 @@ not_write s apart same = let e : s ≡ 75 = same in apart (omega arith) (omega a
 
 not_memory : (s : ℕ) → IsEndStatus s → s ≡ OUT_OF_MEMORY → ⊥
 not_memory s apart same = let e : s ≡ 76 = same in apart (omega arith) (omega arith)
-
--- no line has the status of a failed put
-unwritten : (o : Outcome) → outcome_status o ≡ WRITE → ⊥
-unwritten (outcome.Ran ended) same = not_write (end_status ended.end) (end_is_apart ended.end) same
-unwritten (outcome.Refused refusal.Words) same = let e : 64 ≡ 75 = same in absurd (omega arith)
-unwritten (outcome.Refused (refusal.Read file)) same = let e : 65 ≡ 75 = same in absurd (omega arith)
-unwritten (outcome.Refused (refusal.NotYet file)) same = let e : 77 ≡ 75 = same in absurd (omega arith)
-unwritten (outcome.Refused refusal.OutOfMemory) same = let e : 76 ≡ 75 = same in absurd (omega arith)
 
 -- ---- what is told
 
@@ -87,14 +72,6 @@ told_apart : (line : List ℕ) (s : ℕ) (old new : Output) (result : ℕ) → T
 told_apart line s old new result (inl (same, put)) apart = same
 told_apart line s old new result (inr (inl (same, fails))) apart = absurd (not_write result apart same)
 told_apart line s old new result (inr (inr (same, kept))) apart = absurd (not_memory result apart same)
-
--- the status or one of two
-one_of_three : (line : List ℕ) (s : ℕ) (old new : Output) (result : ℕ) → Tells line s old new result → Contains (s ∷ WRITE ∷ OUT_OF_MEMORY ∷ []) result
-one_of_three line s old new result tells = elim (told line s old new result tells) [
-  | inl same ↦ (0, omega arith, sym same)
-  | inr (inl same) ↦ (1, omega arith, sym same)
-  | inr (inr same) ↦ (2, omega arith, sym same)
-]
 
 -- the status or one of three
 one_of_four : (line : List ℕ) (s : ℕ) (old new : Output) (result : ℕ) → Tells line s old new result → Contains (s ∷ READ ∷ WRITE ∷ OUT_OF_MEMORY ∷ []) result
@@ -141,104 +118,9 @@ weaker (Some held) file P Q f such = each (held file) such where
 one_class : (job : Job) (bytes : Bytes) (c d : ClassDef) → IsAccepted job bytes c → IsAccepted job bytes d → c ≡ d
 one_class job bytes c d accepted other = one_record bytes c d accepted.1.spells other.1.spells
 
--- ---- faults
-
--- nothing failed, or the read did, and that is told
-faults_of : (job : Job) (old new : Disk) (before after : Output) (o : Outcome) → ComesTo job old new before after o → HasNoFault old new ⊎ ((outcome_status o ≡ READ) × IsUnread job old new before after)
-faults_of job old new before after (outcome.Ran ended) comes = inl comes.faultless
-faults_of job old new before after (outcome.Refused (refusal.Read file)) comes = inr (refl, comes.1)
-faults_of job old new before after (outcome.Refused (refusal.NotYet file)) (inl comes) = inl comes.1.faultless
-faults_of job old new before after (outcome.Refused (refusal.NotYet file)) (inr comes) = inl comes.faultless
-faults_of job old new before after (outcome.Refused refusal.OutOfMemory) (inl comes) = inl comes.faultless
-faults_of job old new before after (outcome.Refused refusal.OutOfMemory) (inr comes) = inl comes.faultless
-faults_of job old new before after (outcome.Refused refusal.Words) comes = absurd comes
-
-no_rise : (old new : Disk) → HasNoFault old new → IsReadOfSome old new → ⊥
-no_rise old new faultless (name, rose) = let same = faultless.reads name in omega arith
-
--- no put to the output failed, whatever is told
-quiet_job : (job : Job) (old new : Disk) (before after : Output) (o : Outcome) → ComesTo job old new before after o → after.faults ≡ before.faults
-quiet_job job old new before after (outcome.Ran ended) comes = ap (λ (o : Output). o.faults) comes.comes.prints
-quiet_job job old new before after (outcome.Refused (refusal.Read file)) comes = ap (λ (o : Output). o.faults) comes.1.silent
-quiet_job job old new before after (outcome.Refused (refusal.NotYet file)) (inl comes) = ap (λ (o : Output). o.faults) comes.1.silent
-quiet_job job old new before after (outcome.Refused (refusal.NotYet file)) (inr comes) = ap (λ (o : Output). o.faults) comes.comes.1.prints
-quiet_job job old new before after (outcome.Refused refusal.OutOfMemory) (inl comes) = ap (λ (o : Output). o.faults) comes.silent
-quiet_job job old new before after (outcome.Refused refusal.OutOfMemory) (inr comes) = ap (λ (o : Output). o.faults) comes.comes.1
-quiet_job job old new before after (outcome.Refused refusal.Words) comes = absurd comes
-
-quiet : (words : List Bytes) (old new : Disk) (before after : Output) (o : Outcome) → ComesOf words old new before after o → after.faults ≡ before.faults
-quiet words old new before after o (inl nothing) = ap (λ (o : Output). o.faults) nothing.silent
-quiet words old new before after o (inr ofjob) = quiet_job ofjob.job old new before after o ofjob.comes
-
--- ---- the clauses
-
 -- the words ask for nothing, which has the status of words
 words_status : (o : Outcome) → o ≡ outcome.Refused refusal.Words → outcome_status o ≡ WORDS
 words_status o same = ap outcome_status same
-
-not_words_of_job : (job : Job) (old new : Disk) (before after : Output) (o : Outcome) → ComesTo job old new before after o → outcome_status o ≡ WORDS → ⊥
-not_words_of_job job old new before after (outcome.Ran ended) comes same = let e : end_status ended.end ≡ 64 = same in end_is_apart ended.end (omega arith) (omega arith)
-not_words_of_job job old new before after (outcome.Refused (refusal.Read file)) comes same = let e : 65 ≡ 64 = same in absurd (omega arith)
-not_words_of_job job old new before after (outcome.Refused (refusal.NotYet file)) comes same = let e : 77 ≡ 64 = same in absurd (omega arith)
-not_words_of_job job old new before after (outcome.Refused refusal.OutOfMemory) comes same = let e : 76 ≡ 64 = same in absurd (omega arith)
-not_words_of_job job old new before after (outcome.Refused refusal.Words) comes same = comes
-
-is_nothing : (words : List Bytes) (old new : Disk) (before after : Output) (o : Outcome) → ComesOf words old new before after o → outcome_status o ≡ WORDS → AskNothing words
-is_nothing words old new before after o (inl nothing) same = nothing.unasked
-is_nothing words old new before after o (inr ofjob) same = absurd (not_words_of_job ofjob.job old new before after o ofjob.comes same)
-
-pub for_words : (words : List Bytes) (old new : Disk) (out out' report report' : Output) (result : ℕ) → IsTopCall words old new out out' report report' result → IsForWords words result
-for_words words old new out out' report report' result call = record { only = only call; there = there call } where
-  only : IsTopCall words old new out out' report report' result → result ≡ WORDS → AskNothing words
-  only (inr unreported) is = let e : 75 ≡ 64 = sym unreported.status ∙ is in absurd (omega arith)
-  only (inl reported) is = elim (told _ _ _ _ _ reported.tells) [
-    | inl same ↦ is_nothing words old new out out' reported.outcome reported.comes (sym same ∙ is)
-    | inr (inl same) ↦ (let e : 75 ≡ 64 = sym same ∙ is in absurd (omega arith))
-    | inr (inr same) ↦ (let e : 76 ≡ 64 = sym same ∙ is in absurd (omega arith))
-  ]
-  of_words : (o : Outcome) (line : List ℕ) → o ≡ outcome.Refused refusal.Words → Tells line (outcome_status o) report report' result → Contains (WORDS ∷ WRITE ∷ OUT_OF_MEMORY ∷ []) result
-  of_words o line refused tells =
-      let P : ℕ → Type 0 = λ s. Contains (s ∷ WRITE ∷ OUT_OF_MEMORY ∷ []) result in
-      subst P (words_status o refused) (one_of_three line (outcome_status o) report report' result tells)
-  there : IsTopCall words old new out out' report report' result → AskNothing words → Contains (WORDS ∷ WRITE ∷ OUT_OF_MEMORY ∷ []) result
-  there (inr unreported) nothing = absurd (nothing unreported.fails.job unreported.fails.asked)
-  there (inl reported) nothing = elim reported.comes [
-    | inl n ↦ of_words reported.outcome _ n.refused reported.tells
-    | inr j ↦ absurd (nothing j.job j.asked)
-  ]
-
--- the read of the job's file failed
-is_read : (words : List Bytes) (old new : Disk) (before after : Output) (o : Outcome) → ComesOf words old new before after o → outcome_status o ≡ READ → IsReadOfJob words old new
-is_read words old new before after o (inl nothing) same = let e : outcome_status o ≡ 64 = words_status o nothing.refused in absurd (omega arith)
-is_read words old new before after o (inr j) same = of_job o j.comes same where
-  of_job : (o : Outcome) → ComesTo j.job old new before after o → outcome_status o ≡ READ → IsReadOfJob words old new
-  of_job (outcome.Ran ended) comes same = let e : end_status ended.end ≡ 65 = same in absurd (end_is_apart ended.end (omega arith) (omega arith))
-  of_job (outcome.Refused (refusal.Read file)) comes same = (j.job, (j.asked, comes.1.fault.rose))
-  of_job (outcome.Refused (refusal.NotYet file)) comes same = let e : 77 ≡ 65 = same in absurd (omega arith)
-  of_job (outcome.Refused refusal.OutOfMemory) comes same = let e : 76 ≡ 65 = same in absurd (omega arith)
-  of_job (outcome.Refused refusal.Words) comes same = absurd comes
-
-pub for_read : (words : List Bytes) (old new : Disk) (out out' report report' : Output) (result : ℕ) → IsTopCall words old new out out' report report' result → IsForRead words old new result
-for_read words old new out out' report report' result call = record { only = only call; there = there call } where
-  only : IsTopCall words old new out out' report report' result → result ≡ READ → IsReadOfJob words old new
-  only (inr unreported) is = let e : 75 ≡ 65 = sym unreported.status ∙ is in absurd (omega arith)
-  only (inl reported) is = elim (told _ _ _ _ _ reported.tells) [
-    | inl same ↦ is_read words old new out out' reported.outcome reported.comes (sym same ∙ is)
-    | inr (inl same) ↦ (let e : 75 ≡ 65 = sym same ∙ is in absurd (omega arith))
-    | inr (inr same) ↦ (let e : 76 ≡ 65 = sym same ∙ is in absurd (omega arith))
-  ]
-  of_read : (s : ℕ) (line : List ℕ) → s ≡ READ → Tells line s report report' result → Contains (READ ∷ WRITE ∷ OUT_OF_MEMORY ∷ []) result
-  of_read s line same tells =
-      let P : ℕ → Type 0 = λ n. Contains (n ∷ WRITE ∷ OUT_OF_MEMORY ∷ []) result in subst P same (one_of_three line s report report' result tells)
-  there : IsTopCall words old new out out' report report' result → IsReadOfSome old new → Contains (READ ∷ WRITE ∷ OUT_OF_MEMORY ∷ []) result
-  there (inr unreported) rose = absurd (no_rise old new unreported.fails.fails.faultless rose)
-  there (inl reported) rose = elim reported.comes [
-    | inl n ↦ (let same = ap (λ (d : Disk). d.read_faults rose.0) n.untouched in let risen = rose.1 in absurd (omega arith))
-    | inr j ↦ (elim (faults_of j.job old new out out' reported.outcome j.comes) [
-        | inl faultless ↦ absurd (no_rise old new faultless rose)
-        | inr unread ↦ of_read (outcome_status reported.outcome) _ unread.0 reported.tells
-      ])
-  ]
 
 -- ---- what the file holds
 
@@ -345,121 +227,6 @@ for_end s apart words old new out out' report report' result call = record { onl
     | inr j ↦ ends_there s j.job old new out out' report report' result reported.outcome j.comes reported.tells
         (known_same old.contents (EndsWith s) job j.job (one_job words job j.job asked j.asked) known)
   ]
-
--- ---- a run that ended
-
-run_told : (words : List Bytes) (job : Job) (old new : Disk) (out out' report report' : Output) (result : ℕ) (o : Outcome) → IsEndStatus result → Asks words job → ComesTo job old new out out' o
-    → Tells (outcome_line o) (outcome_status o) report report' result → IsForRun words old.contents out out' report report' result
-run_told words job old new out out' report report' result (outcome.Ran ended) apart asked comes (inl (same, put)) = record {
-  job = job;
-  asked = asked;
-  class = comes.class;
-  accepted = comes.accepted;
-  ended = ended;
-  run = comes.comes;
-  status = same;
-  line = put;
-}
-run_told words job old new out out' report report' result (outcome.Ran ended) apart asked comes (inr (inl (same, fails))) = absurd (not_write result apart same)
-run_told words job old new out out' report report' result (outcome.Ran ended) apart asked comes (inr (inr (same, kept))) = absurd (not_memory result apart same)
-run_told words job old new out out' report report' result (outcome.Refused r) apart asked comes tells =
-    absurd (not_refused r result apart (told_apart _ (refusal_status r) report report' result tells apart))
-
-pub for_run : (words : List Bytes) (old new : Disk) (out out' report report' : Output) (result : ℕ) → IsTopCall words old new out out' report report' result
-    → Contains (DONE ∷ RUNNING ∷ TOO_DEEP ∷ []) result → IsForRun words old.contents out out' report report' result
-for_run words old new out out' report report' result (inr unreported) ended = absurd (not_write result (ended_apart result ended) unreported.status)
-for_run words old new out out' report report' result (inl reported) ended = elim reported.comes [
-  | inl n ↦ absurd (not_refused refusal.Words result (ended_apart result ended) (told_apart _ _ report report' result reported.tells (ended_apart result ended) ∙ words_status reported.outcome n.refused))
-  | inr j ↦ run_told words j.job old new out out' report report' result reported.outcome (ended_apart result ended) j.asked j.comes reported.tells
-]
-
--- ---- puts
-
-put_told : (words : List Bytes) (old new : Disk) (out out' report report' : Output) (result : ℕ) (o : Outcome) → ComesOf words old new out out' o → Tells (outcome_line o) (outcome_status o) report report' result
-    → result ≡ WRITE → LineFails words old new out out' report report'
-put_told words old new out out' report report' result o comes (inl (same, put)) is = absurd (unwritten o (sym same ∙ is))
-put_told words old new out out' report report' result o comes (inr (inl (same, fails))) is = record { outcome = o; comes = comes; fails = fails }
-put_told words old new out out' report report' result o comes (inr (inr (same, kept))) is = let e : 76 ≡ 75 = sym same ∙ is in absurd (omega arith)
-
--- where the report's faults rose, the status says so
-report_rose : (line : List ℕ) (s : ℕ) (report report' : Output) (result : ℕ) → Tells line s report report' result → report.faults < report'.faults → result ≡ WRITE
-report_rose line s report report' result (inl (same, put)) rose = let kept = ap (λ (o : Output). o.faults) put in absurd (omega arith)
-report_rose line s report report' result (inr (inl (same, fails))) rose = same
-report_rose line s report report' result (inr (inr (same, kept))) rose = let e = ap (λ (o : Output). o.faults) kept in absurd (omega arith)
-
-pub for_put : (words : List Bytes) (old new : Disk) (out out' report report' : Output) (result : ℕ) → IsTopCall words old new out out' report report' result
-    → IsForPut words old new out out' report report' result
-for_put words old new out out' report report' result call = record { only = only call; there = λ rose. (0, omega arith, sym (there call rose)) } where
-  only : IsTopCall words old new out out' report report' result → result ≡ WRITE → (OutputFailsOf words old new out out' × (report' ≡ report)) ⊎ LineFails words old new out out' report report'
-  only (inr unreported) is = inl (unreported.fails, unreported.silent)
-  only (inl reported) is = inr (put_told words old new out out' report report' result reported.outcome reported.comes reported.tells is)
-  there : IsTopCall words old new out out' report report' result → IsPutOfSome out out' report report' → result ≡ WRITE
-  there (inr unreported) rose = unreported.status
-  there (inl reported) (inl rose) = let same = quiet words old new out out' reported.outcome reported.comes in absurd (omega arith)
-  there (inl reported) (inr rose) = report_rose _ _ report report' result reported.tells rose
-
-line_quiet : (line : List ℕ) (s : ℕ) (report report' : Output) (result : ℕ) → Tells line s report report' result → result ≢ WRITE → report'.faults ≡ report.faults
-line_quiet line s report report' result (inl (same, put)) fine = ap (λ (o : Output). o.faults) put
-line_quiet line s report report' result (inr (inl (same, fails))) fine = absurd (fine same)
-line_quiet line s report report' result (inr (inr (same, kept))) fine = ap (λ (o : Output). o.faults) kept
-
-pub no_put_fault : (words : List Bytes) (old new : Disk) (out out' report report' : Output) (result : ℕ) → IsTopCall words old new out out' report report' result
-    → result ≢ WRITE → HasNoPutFault out out' report report'
-no_put_fault words old new out out' report report' result (inr unreported) fine = absurd (fine unreported.status)
-no_put_fault words old new out out' report report' result (inl reported) fine =
-    (quiet words old new out out' reported.outcome reported.comes, line_quiet _ _ report report' result reported.tells fine)
-
--- ---- files
-
-read_told : (line : List ℕ) (s : ℕ) (old new : Disk) (report report' : Output) (result : ℕ) → Tells line s report report' result → s ≡ READ → result ≢ READ → result ≢ WRITE
-    → AreKept old.read_faults new.read_faults ⊎ ((result ≡ OUT_OF_MEMORY) × (report' ≡ report))
-read_told line s old new report report' result (inl (same, put)) is other fine = absurd (other (same ∙ is))
-read_told line s old new report report' result (inr (inl (same, fails))) is other fine = absurd (fine same)
-read_told line s old new report report' result (inr (inr (same, kept))) is other fine = inr (same, kept)
-
-pub no_read_fault : (words : List Bytes) (old new : Disk) (out out' report report' : Output) (result : ℕ) → IsTopCall words old new out out' report report' result
-    → IsReadFaultless old new report report' result
-no_read_fault words old new out out' report report' result (inr unreported) other fine = inl unreported.fails.fails.faultless.reads
-no_read_fault words old new out out' report report' result (inl reported) other fine = elim reported.comes [
-  | inl n ↦ inl (λ name. ap (λ (d : Disk). d.read_faults name) n.untouched)
-  | inr j ↦ (elim (faults_of j.job old new out out' reported.outcome j.comes) [
-      | inl faultless ↦ inl faultless.reads
-      | inr unread ↦ read_told _ _ old new report report' result reported.tells unread.0 other fine
-    ])
-]
-
--- the job that the words ask for is one
-reads_same : (words : List Bytes) (old new : Disk) (a b : Job) → Asks words a → Asks words b → ReadsAlone a.file old new → ReadsAlone b.file old new
-reads_same words old new a b asked also reads = let P : Job → Type 0 = λ job. ReadsAlone job.file old new in subst P (one_job words a b asked also) reads
-
-pub reads_only : (words : List Bytes) (old new : Disk) (out out' report report' : Output) (result : ℕ) → IsTopCall words old new out out' report report' result → ReadsOnly words old new
-reads_only words old new out out' report report' result call = record { asked = asked call; unasked = unasked call } where
-  asked : IsTopCall words old new out out' report report' result → (job : Job) → Asks words job → ReadsAlone job.file old new
-  asked (inr unreported) job asks = reads_same words old new unreported.fails.job job unreported.fails.asked asks unreported.fails.reads.reads
-  asked (inl reported) job asks = elim reported.comes [
-    | inl n ↦ absurd (n.unasked job asks)
-    | inr j ↦ reads_same words old new j.job job j.asked asks j.reads.reads
-  ]
-  unasked : IsTopCall words old new out out' report report' result → AskNothing words → new ≡ old
-  unasked (inr unreported) nothing = absurd (nothing unreported.fails.job unreported.fails.asked)
-  unasked (inl reported) nothing = elim reported.comes [
-    | inl n ↦ n.untouched
-    | inr j ↦ absurd (nothing j.job j.asked)
-  ]
-
-pub contents_kept : (words : List Bytes) (old new : Disk) (out out' report report' : Output) (result : ℕ) → IsTopCall words old new out out' report report' result → new.contents ≡ old.contents
-contents_kept words old new out out' report report' result (inr unreported) = unreported.fails.reads.kept
-contents_kept words old new out out' report report' result (inl reported) = elim reported.comes [
-  | inl n ↦ ap (λ (d : Disk). d.contents) n.untouched
-  | inr j ↦ j.reads.kept
-]
-
-pub no_write_fault : (words : List Bytes) (old new : Disk) (out out' report report' : Output) (result : ℕ) → IsTopCall words old new out out' report report' result → AreKept old.write_faults new.write_faults
-no_write_fault words old new out out' report report' result (inr unreported) = unreported.fails.reads.writes
-no_write_fault words old new out out' report report' result (inl reported) = elim reported.comes [
-  | inl n ↦ (λ name. ap (λ (d : Disk). d.write_faults name) n.untouched)
-  | inr j ↦ j.reads.writes
-]
 
 -- ---- all statuses
 

@@ -126,10 +126,6 @@ pub IsAt-prefix : (p : Program) (budget : ℕ) (old new : Output) (steps : ℕ) 
 IsAt-prefix p budget old new steps frames at =
     puts_prefix at.prints (run_from p (budget - steps) frames).prints (run p budget).prints old new (ap (λ (r : RunResult). r.prints) at.whole) at.put
 
--- nothing was put
-pub nothing_put : (due : List (List ℕ)) (old : Output) → PutsPrefix due old old
-nothing_put due old = puts_prefix [] due due old old refl (sym (with_pieces-nil old))
-
 -- the put of a print fails
 pub IsAt-fails : (p : Program) (budget : ℕ) (old mid new : Output) (steps : ℕ) (frames next : State) (piece : List ℕ) → IsAt p budget old mid steps frames
     → steps < budget → step p frames ≡ Goes next (piece ∷ []) → FailsPut piece mid new → FailsAmong (run p budget).prints old new

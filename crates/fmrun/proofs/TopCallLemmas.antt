@@ -19,14 +19,6 @@ pub no_fault : (file : Bytes) (old new : Disk) → RisesAt file old.read_faults 
     → AreKept old.write_faults new.write_faults → HasNoFault old new
 no_fault file old new rises sure writes = record { reads = kept_unless_risen file old.read_faults new.read_faults rises sure; writes = writes }
 
--- a file that is too long isn't accepted
-pub too_long : (job : Job) (contents : Contents) → HoldsMoreThan contents job.file MAX_FILE_BYTES → HoldsSuch contents job.file (AreRefused job)
-too_long job None more = tt
-too_long job (Some held) more = refused (held job.file) more where
-  refused : (o : Option Bytes) → IsSomeAnd o (λ bytes. MAX_FILE_BYTES < length bytes) → IsSomeAnd o (AreRefused job)
-  refused None more = more
-  refused (Some bytes) more = λ c accepted. let short = accepted.0 in absurd (omega arith)
-
 -- what an accepted class comes to, the job comes to
 pub comes_of_class : (job : Job) (old new : Disk) (before after : Output) (c : ClassDef) (r : Result Outcome OutputFailed) → AcceptsAs job old.contents c → HasNoFault old new
     → MatchResult r (ClassComesTo c job before after) (λ _. FailsAmong (run_of c job.steps).prints before after)
@@ -37,18 +29,3 @@ comes_of_class job old new before after c (Ok (outcome.Refused (refusal.NotYet f
 comes_of_class job old new before after c (Ok (outcome.Refused refusal.OutOfMemory)) accepted faultless comes = inr (record { class = c; accepted = accepted; faultless = faultless; comes = comes })
 comes_of_class job old new before after c (Ok (outcome.Refused refusal.Words)) accepted faultless comes = comes
 comes_of_class job old new before after c (Ok (outcome.Refused (refusal.Read file))) accepted faultless comes = absurd comes
-
--- what the job comes to, the words come to
-pub comes_of_job : (words : List Bytes) (job : Job) (old new : Disk) (before after : Output) (r : Result Outcome OutputFailed) → Asks words job → ReadsFile job old new
-    → MatchResult r (ComesTo job old new before after) (λ _. OutputFails job old new before after)
-    → MatchResult r (ComesOf words old new before after) (λ _. OutputFailsOf words old new before after)
-comes_of_job words job old new before after (Ok o) asked reads comes = inr (record { job = job; asked = asked; reads = reads; comes = comes })
-comes_of_job words job old new before after (Err e) asked reads fails = record { job = job; asked = asked; reads = reads; fails = fails }
-
--- the same line and status are told
-pub tells_same : (line line' : List ℕ) (status status' : ℕ) (old new : Output) (result : ℕ) → line ≡ line' → status ≡ status' → Tells line status old new result
-    → Tells line' status' old new result
-tells_same line line' status status' old new result same_line same_status tells =
-    let P : List ℕ → Type 0 = λ l. Tells l status' old new result in
-    let Q : ℕ → Type 0 = λ s. Tells line s old new result in
-    subst P same_line (subst Q same_status tells)
