@@ -1,4 +1,4 @@
--- The frame that lies in one vector: its locals in front, and its stack behind.
+-- The frame that lies in one vector: its locals in front, and its stack after them.
 use Rattle.std.proofs.Common.{◌≡◌, ℕ, ◌+◌, ◌-◌, ◌<◌, ◌≤◌, List, [], ◌++◌, length, take, drop, set, reverse, replicate, ap, refl, ◌∙◌, take_all, arith}
 use Rattle.std.proofs.Math.Seq.{take-set-lt, take-append-add}
 use Rattle.std.proofs.Math.ListN.{drop_of_length-le}
@@ -40,7 +40,7 @@ same_frame : (method item : ℕ) {l1 l2 s1 s2 : List Value} {m1 m2 : ℕ} → l1
     → ◌≡◌ {A = Frame} (record { method = method; item = item; locals = l1; stack = s1; max_stack = m1 }) (record { method = method; item = item; locals = l2; stack = s2; max_stack = m2 })
 same_frame method item p q r = λ i. record { method = method; item = item; locals = p i; stack = q i; max_stack = r i }
 
--- a new frame, as it is made: the arguments, and behind them words without a value up to the end
+-- a new frame, as it is made: the arguments, and after them words without a value up to the end
 made-new : (method locals more : ℕ) (arguments : List Value) → length arguments ≤ locals
     → frame_of method 0 locals (locals + more) (reverse arguments ++ replicate (locals + more - length (reverse arguments)) Top)
     ≡ record { method = method; item = 0; locals = reverse arguments ++ replicate (locals - length arguments) Top; stack = []; max_stack = more }

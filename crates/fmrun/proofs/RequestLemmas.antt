@@ -13,7 +13,7 @@ four_words (w ∷ x ∷ []) a b c d l p q r s = absurd (omega arith)
 four_words (w ∷ x ∷ y ∷ []) a b c d l p q r s = absurd (omega arith)
 four_words (w ∷ x ∷ y ∷ z ∷ u ∷ us) a b c d l p q r s = absurd (omega arith)
 
--- four words ask only for a job of the values behind the budget, and with a budget
+-- four words ask only for a job of the values after the budget, and with a budget
 values_of_four : (words : List (List ℕ)) (digits main file : List ℕ) (job : Job) → words ≡ codes "--steps" ∷ digits ∷ main ∷ file ∷ [] → AreWords words job →
     (job.main ≡ main) × ((job.file ≡ file) × IsBudget digits job.steps)
 values_of_four words digits main file job are (inl (two, default)) = absurd (not_two job.main job.file digits main file (sym two ∙ are)) where

@@ -9,7 +9,7 @@ use Rattle.fmrun.specs.Programs.{Program}
 use Rattle.fmrun.specs.Frames.{State}
 use Rattle.fmrun.specs.Step.{Turn, Goes, Returned, TooDeep, Stuck, step}
 use Rattle.fmrun.specs.Run.{RunResult, opening, preceded, run_after, run_from, run, ended_of}
-use Rattle.fmrun.proofs.PutsLemmas.{with_pieces-nil, with_pieces-append, puts_prefix, fails_among}
+use Rattle.fm_files.proofs.SinkLemmas.{with_pieces-nil, with_pieces-append, puts_prefix, fails_among}
 
 -- so many steps of the run are done, this was printed, and these frames are left
 pub record IsAt (p : Program) (budget : ℕ) (old new : Output) (steps : ℕ) (frames : State) : Type 0 where

@@ -2,14 +2,15 @@
 use Rattle.std.specs.Prelude.{◌≡◌, ◌≢◌, ℕ, ◌<◌, ◌⊎◌, List, [], ◌∷◌, Contains, Some, None}
 use Rattle.fm_files.specs.Files.{Bytes, Contents, Disk, AreKept}
 use Rattle.fm_files.specs.Sink.{Output, FailsPut, with_piece, with_pieces}
-use Rattle.fm_tool.specs.Outside.{HoldsSuch, IsKnownSuch, ReadsAlone}
+use Rattle.fm_tool.specs.Outside.{HoldsSuch, IsKnownSuch, IsKnownMissing, ReadsAlone}
+use Rattle.fm_tool.specs.Refusal.{memory_line}
 use Rattle.fm_tool.specs.Status.{ComesExactly}
 use Rattle.fm_tool.specs.declared.status.TheConstants.{DONE, WORDS, READ, WRITE, OUT_OF_MEMORY, NOT_YET, RUNNING, TOO_DEEP}
 use Rattle.fm_code.specs.declared.class_file.ClassDef.{ClassDef}
 use Rattle.fmrun.specs.Request.{Job, Asks, AskNothing, IsAccepted}
 use Rattle.fmrun.specs.Run.{ended_of}
 use Rattle.fmrun.specs.Ends.{report_line, end_status}
-use Rattle.fmrun.specs.Outcome.{outcome_line}
+use Rattle.fmrun.specs.Outcome.{outcome_line, outcome_status}
 use Rattle.fmrun.specs.TopCall.{run_of, AreRefused, AcceptsAs, RunsTo, ComesOf, OutputFailsOf}
 use Rattle.fmrun.specs.declared.ends.Ended.{Ended}
 use Rattle.fmrun.specs.declared.outcome.Outcome.{Outcome}
@@ -34,9 +35,15 @@ IsReadOfJob words old new = (job : Job) × (Asks words job × (old.read_faults j
 abbrev pub IsReadOfSome : Disk → Disk → Type 0
 IsReadOfSome old new = (name : Bytes) × (old.read_faults name < new.read_faults name)
 
--- 65 comes exactly where a read of the file failed in this call, and no read of another file fails; but for 75 and 76
+-- contents are known, and the file that the words ask for isn't there
+abbrev pub LacksFile : List Bytes → Contents → Type 0
+LacksFile words contents = (job : Job) × (Asks words job × IsKnownMissing contents job.file)
+
+-- 65 comes exactly where a read of the file failed in this call, as it does where the file isn't there, and no read of another file
+-- fails; but for 75 and 76
 abbrev pub IsForRead : List Bytes → Disk → Disk → ℕ → Type 0
-IsForRead words old new result = ComesExactly READ (WRITE ∷ OUT_OF_MEMORY ∷ []) result (IsReadOfJob words old new) (IsReadOfSome old new)
+IsForRead words old new result =
+    ComesExactly READ (WRITE ∷ OUT_OF_MEMORY ∷ []) result (IsReadOfJob words old new) (IsReadOfSome old new ⊎ LacksFile words old.contents)
 
 -- ---- what the file holds
 
@@ -73,6 +80,22 @@ pub record IsForRun (words : List Bytes) (contents : Contents) (out out' report 
   pub run : RunsTo class job.steps out out' ended
   pub status : result ≡ end_status ended.end
   pub line : report' ≡ with_piece (report_line ended) report
+
+-- ---- what is reported
+
+-- at every status but 75 and 76 the report got one piece, the line of the status, and the files and the output are as this tells
+pub record SaysLine (words : List Bytes) (old new : Disk) (out out' report report' : Output) (result : ℕ) : Type 0 where
+  pub outcome : Outcome
+  pub comes : ComesOf words old new out out' outcome
+  pub status : result ≡ outcome_status outcome
+  pub line : report' ≡ with_piece (outcome_line outcome) report
+
+abbrev pub IsLineFor : List Bytes → Disk → Disk → Output → Output → Output → Output → ℕ → Type 0
+IsLineFor words old new out out' report report' result = result ≢ WRITE → result ≢ OUT_OF_MEMORY → SaysLine words old new out out' report report' result
+
+-- at 76 the report got the line of memory, or nothing
+abbrev pub IsForMemory : Output → Output → ℕ → Type 0
+IsForMemory report report' result = result ≡ OUT_OF_MEMORY → (report' ≡ with_piece memory_line report) ⊎ (report' ≡ report)
 
 -- ---- puts that fail
 

@@ -1,6 +1,7 @@
 -- What is reported of the end of a run: a line, and the exit status.
 use Rattle.std.specs.Prelude.{ℕ, List, [], ◌∷◌, ◌++◌, codes}
 use Rattle.std.specs.Fmt.{decimal}
+use Rattle.fm_base.specs.declared.characters.TheConstants.{LINE_FEED}
 use Rattle.fm_tool.specs.declared.status.TheConstants.{DONE, RUNNING, TOO_DEEP}
 use Rattle.fmrun.specs.declared.ends.End.{End}
 use Rattle.fmrun.specs.declared.ends.End.TheVariants as end
@@ -14,7 +15,7 @@ end_text (end.TooDeep frames) = codes "deep " ++ decimal frames
 
 -- the report line: the end and the steps, and a line end
 abbrev pub report_line : Ended → List ℕ
-report_line ended = end_text ended.end ++ (codes "; steps " ++ (decimal ended.steps ++ 10 ∷ []))
+report_line ended = end_text ended.end ++ (codes "; steps " ++ (decimal ended.steps ++ LINE_FEED ∷ []))
 
 -- the exit status of each end
 abbrev pub end_status : End → ℕ

@@ -165,7 +165,7 @@ after_pair_jump test target f = on_two_ints f.stack (λ a b below. Some (jumped 
 
 -- ---- all together
 
--- what an instruction makes of a frame in which the item behind it is next already, but for calls, returns and prints
+-- what an instruction makes of a frame in which the item after it is next already, but for calls, returns and prints
 abbrev pub frame_after : Program → Insn → Frame → Option Frame
 frame_after p (insn.Goto target) f = Some (record f { item = target })
 frame_after p (insn.IfInt test target) f = after_int_jump test target f

@@ -2,6 +2,7 @@
 use Rattle.std.specs.Prelude.{ℕ, ◌==◌, ◌&&◌, Bool, false, List, [], ◌∷◌, map, codes, Option, Some, None, if◌then◌else◌, nat_eq, drop}
 use Rattle.std.specs.List.{slice_index_or, position, before_first, after_first}
 use Rattle.std.specs.Cmp.Lexicographic.{pointwise}
+use Rattle.fm_base.specs.declared.characters.TheConstants.{RIGHT_PARENTHESIS, INT_LETTER, LONG_LETTER, VOID_LETTER}
 use Rattle.fm_code.specs.ConstantPool.{entry_at, utf8_at, class_name_at}
 use Rattle.fm_code.specs.declared.constant_pool.Entry.{Entry}
 use Rattle.fm_code.specs.declared.constant_pool.Entry.TheVariants as entry
@@ -50,14 +51,14 @@ is_name_and_type entries e wanted of = false
 
 -- an int for I, a long for J, nothing for V, and else a kind of value that no method of the form returns
 abbrev pub result_kind : List ℕ → Option Reg
-result_kind (letter ∷ []) = if letter == 86 then None else (if letter == 73 then Some reg.Int else (if letter == 74 then Some reg.Long else Some reg.Ref))
+result_kind (letter ∷ []) = if letter == VOID_LETTER then None else (if letter == INT_LETTER then Some reg.Int else (if letter == LONG_LETTER then Some reg.Long else Some reg.Ref))
 result_kind letters = Some reg.Ref
 
--- a method by its descriptor and its Code, which is its first attribute; 41 is )
+-- a method by its descriptor and its Code, which is its first attribute (JVMS 4.3.3, 4.7.3)
 abbrev pub method_with : Option (List ℕ) → List MemberAttr → CodedMethod
 method_with (Some descriptor) (attribute.Coded name code ∷ others) = record {
-  parameters = drop 1 (before_first (λ c. c == 41) descriptor);
-  returns = result_kind (after_first (λ c. c == 41) descriptor);
+  parameters = drop 1 (before_first (λ c. c == RIGHT_PARENTHESIS) descriptor);
+  returns = result_kind (after_first (λ c. c == RIGHT_PARENTHESIS) descriptor);
   max_stack = code.max_stack;
   max_locals = code.max_locals;
   items = code.items;

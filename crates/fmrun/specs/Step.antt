@@ -1,6 +1,7 @@
 -- One step of the machine: what comes after a state (JVMS 2.6, 2.11, 6.5).
 use Rattle.std.specs.Prelude.{ℕ, ℤ, ◌+◌, ◌-◌, ◌==◌, ◌||◌, ◌&&◌, nat_lt, not, Bool, true, false, List, [], ◌∷◌, ◌++◌, length, take, drop, reverse, replicate, slice_get, Option, Some, None, if◌then◌else◌}
 use Rattle.std.specs.Fmt.{signed_decimal}
+use Rattle.fm_base.specs.declared.characters.TheConstants.{LINE_FEED, INT_LETTER, LONG_LETTER}
 use Rattle.fm_base.specs.declared.limits.TheConstants.{DEFAULT_FRAMES}
 use Rattle.fm_code.specs.declared.code_array.Item.{Item}
 use Rattle.fm_code.specs.declared.instructions.Insn.{Insn}
@@ -38,13 +39,13 @@ goes_on next callers printed = goes_to (within next) callers printed
 -- the words of the arguments: two for J
 abbrev pub argument_words : List ℕ → ℕ
 argument_words [] = 0
-argument_words (letter ∷ letters) = (if letter == 74 then 2 else 1) + argument_words letters
+argument_words (letter ∷ letters) = (if letter == LONG_LETTER then 2 else 1) + argument_words letters
 
 -- the stack has an int for each I and a long for each J, by the letters from the last parameter on; no value suits another letter
 abbrev pub suit : List ℕ → List Value → Bool
 suit [] stack = true
-suit (letter ∷ letters) (Int n ∷ below) = (letter == 73) && suit letters below
-suit (letter ∷ letters) (Top ∷ Long n ∷ below) = (letter == 74) && suit letters below
+suit (letter ∷ letters) (Int n ∷ below) = (letter == INT_LETTER) && suit letters below
+suit (letter ∷ letters) (Top ∷ Long n ∷ below) = (letter == LONG_LETTER) && suit letters below
 suit (letter ∷ letters) stack = false
 
 -- the frame of a call: its arguments are the first locals, and the others have no value
@@ -103,7 +104,7 @@ after_return kind returns f callers = if is_same_kind kind returns then after_re
 
 -- what a println of a number prints: the number in decimal, and a line end
 abbrev pub println_line : ℤ → List ℕ
-println_line n = signed_decimal n ++ 10 ∷ []
+println_line n = signed_decimal n ++ LINE_FEED ∷ []
 
 -- it prints one piece
 abbrev pub after_println : List Value → Frame → List Frame → Turn
@@ -117,7 +118,7 @@ after_invoke_virtual c f callers = Stuck
 
 -- ---- the step
 
--- what an instruction gives, where the item behind it is next in f already
+-- what an instruction gives, where the item after it is next in f already
 abbrev pub after_insn : Program → CodedMethod → Insn → Frame → List Frame → Turn
 after_insn p m (insn.Static index) f callers = after_invoke_static p (resolved_at p index) f callers
 after_insn p m (insn.Return kind) f callers = after_return kind m.returns f callers

@@ -10,7 +10,7 @@ use crate::instructions;
 use crate::values::Value;
 use fm_code::Insn;
 
-/// Does an instruction that is no call, return or print, in a frame in which the item behind it is
+/// Does an instruction that is no call, return or print, in a frame in which the item after it is
 /// next already. None where it can't be done; nothing is said of the frame then.
 pub fn execute(frame: &mut StackFrame, program: &LinkedProgram, insn: &Insn) -> Option<()>
     ensures { option_map (λ _. frame.new) result ≡ within (frame_after program.now insn.now frame.old) }

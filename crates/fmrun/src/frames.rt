@@ -10,7 +10,7 @@ use fm_base::NoMemory;
 use std::alloc::Global;
 use std::marker::Model;
 
-/// A frame. Its vector has one value for each word of the locals, and behind these room for the
+/// A frame. Its vector has one value for each word of the locals, and after these room for the
 /// operand stack, which grows towards the front: so no call below takes memory.
 #[derive(Debug, Drop)]
 pub struct StackFrame {

@@ -102,7 +102,7 @@ fn parameters_in(descriptor: &[u8]) -> &[u8]
     }
 }
 
-// The letters behind ) in a descriptor.
+// The letters after ) in a descriptor.
 fn result_in(descriptor: &[u8]) -> &[u8]
     ensures { result.now ≡ after_first (λ c. c == 41) descriptor.now }
 {
@@ -137,7 +137,7 @@ fn argument_word_count(letters: &[u8]) -> usize
     words
 }
 
-// What a method returns, by the letters behind ).
+// What a method returns, by the letters after ).
 fn kind_of_result(letters: &[u8]) -> Option<Reg>
     ensures { result ≡ result_kind letters.now }
 {

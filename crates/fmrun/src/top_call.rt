@@ -6,7 +6,7 @@ ghost use Rattle.fm_files.specs.Sink.{FailsAmong};
 ghost use Rattle.fm_tool.specs.Line.{Tells};
 ghost use Rattle.fm_tool.specs.Words.{texts};
 ghost use Rattle.fm_tool.specs.declared.status.TheConstants.{DONE, WRITE, NOT_YET, RUNNING, TOO_DEEP};
-ghost use Rattle.fmrun.specs.Causes.{IsStatus, IsForWords, IsForRead, IsForFile, IsNotYet, EndsWith, IsForRun, IsForPut, HasNoPutFault, IsReadFaultless, ReadsOnly};
+ghost use Rattle.fmrun.specs.Causes.{IsStatus, IsForWords, IsForRead, IsForFile, IsNotYet, EndsWith, IsForRun, IsLineFor, IsForMemory, IsForPut, HasNoPutFault, IsReadFaultless, ReadsOnly};
 ghost use Rattle.fmrun.specs.Outcome.{outcome_line, outcome_status};
 ghost use Rattle.fmrun.specs.Request.{job_of};
 ghost use Rattle.fmrun.specs.TopCall.{run_of, ReadsFile, ClassComesTo, ComesTo, OutputFails, ComesOf, OutputFailsOf, IsTopCall};
@@ -51,7 +51,10 @@ pub fn fmrun_run<F: Files, O: Sink, R: Sink>(
     ensures put { IsForPut (texts words.now) (F.disk files.old) (F.disk files.new)
         (O.output out.old) (O.output out.new) (R.output report.old) (R.output report.new) result }
 
-    // What is printed and reported where the run ended.
+    // What is printed and reported.
+    ensures reported { IsLineFor (texts words.now) (F.disk files.old) (F.disk files.new)
+        (O.output out.old) (O.output out.new) (R.output report.old) (R.output report.new) result }
+    ensures memory { IsForMemory (R.output report.old) (R.output report.new) result }
     ensures ran { Contains (DONE ∷ RUNNING ∷ TOO_DEEP ∷ []) result
         → IsForRun (texts words.now) (F.disk files.old).contents
             (O.output out.old) (O.output out.new) (R.output report.old) (R.output report.new) result }

@@ -5,7 +5,7 @@ use Rattle.fm_files.specs.declared.error.PutFail.TheVariants as put_fail
 use Rattle.fmrun.specs.Frames.{State}
 use Rattle.fmrun.specs.inner.Progress.{turn_of}
 use Rattle.fmrun.specs.Step.{println_line}
-use Rattle.fmrun.proofs.PutsLemmas.{with_pieces-nil, with_piece-is}
+use Rattle.fm_files.proofs.SinkLemmas.{with_pieces-nil, with_piece-is}
 use Rattle.fmrun.proofs.RunLemmas.{IsAt-goes, IsAt-prefix, IsAt-fails, IsAt-returned, IsAt-too_deep, IsAt-stuck, without_frames, same_error}
 use Rattle.fmrun.proofs.run.run_program.Goals as goal
 use Rattle.fmrun.proofs.run.run_program.Goals.{in-Goes, in-Prints+in_ok-print_line-in-Prints}
