@@ -1,15 +1,12 @@
 -- The class file that is written out by hand, and its neighbours.
-use Rattle.std.proofs.Common.{◌≡◌, ℕ, ◌<◌, true, false, ltb, ◌&&◌, List, [], ◌∷◌, ◌++◌, length, take, drop, codes, Some, None, refl, ap, sym, ◌∙◌, arith, inl, inr}
-use Rattle.std.proofs.lemmas.Bool.{and_parts, ltb-true}
+use Rattle.std.proofs.Common.{◌≡◌, ℕ, true, false, List, [], ◌∷◌, ◌++◌, length, take, drop, codes, Some, None, refl, ap, sym, ◌∙◌, arith, inl, inr}
 use Rattle.std.proofs.lemmas.List.{append-nil, append_assoc}
-use Rattle.std.specs.List.{AllByRecursion, list_all, flat_map, concat}
+use Rattle.std.specs.List.{flat_map, concat}
 use Rattle.fm_code.specs.ConstantPool.{AreSlots, SpellsPool}
-use Rattle.fm_base.specs.Texts.{IsModifiedUtf8}
-use Rattle.fm_base.proofs.TextsLemmas.{IsModifiedUtf8-plain}
 use Rattle.fm_code.specs.Numbers.{two, four}
 use Rattle.fm_code.specs.InstructionTable.{insn_at}
 use Rattle.fm_code.specs.ClassBytes.{counted, magic, attribute_bytes, entry_bytes, pool_bytes, raw_bytes, code_bytes, member_attribute_bytes, member_bytes, class_bytes}
-use Rattle.fm_code.specs.Fits.{FitsTwo, FitsFour, MemberAttrFits, MemberFits, CountedFits, EntryFits, AreBytes, ClassFits, CodeFits}
+use Rattle.fm_code.specs.Fits.{FitsTwo, FitsFour, MemberAttrFits, MemberFits, CountedFits, EntryFits, ClassFits, CodeFits}
 use Rattle.fm_code.specs.Names.{object}
 use Rattle.fm_code.specs.Spells.{Spells}
 use Rattle.fm_code.specs.FirstForm.{IsMain, IsFirstForm, IsNamed, DeclaresMain}
@@ -22,6 +19,7 @@ use Rattle.fm_code.specs.declared.class_file.ClassDef.{ClassDef}
 use Rattle.fm_code.specs.declared.class_file.Member.{Member}
 use Rattle.fm_code.specs.declared.class_file.MemberAttr.{MemberAttr}
 use Rattle.fm_code.specs.declared.instructions.Insn.TheVariants as insn
+use Rattle.fm_code.proofs.Tested.{are_bytes, are_plain, entries_fit, entries_valid}
 use Rattle.fm_code.proofs.Prefixes.{Tells, ◌then◌, tells, Cancels-two, cancel_attribute, peel, tells_two, tells_same, tells_nothing}
 use Rattle.fm_code.proofs.PoolPrefixes.{PoolFits, Cancels-pool, IsSpelledEntry, first_of_both, slots_due, slots_spelled}
 use Rattle.fm_code.proofs.ClassLaw.{nothing_follows, name_of, body_of, member_attribute_is, name_fits, body_fits}
@@ -35,11 +33,6 @@ bytes_are = refl
 instruction : insn_at 0 (177 ∷ []) ≡ Some (insn.Return None)
 unfolding insn_at
 instruction = refl
-
--- bytes that pass the test
-are_bytes : (bytes : List ℕ) → list_all (λ b. ltb b 256) bytes ≡ true → AreBytes bytes
-are_bytes [] e = tt
-are_bytes (b ∷ bytes) e = let parts = and_parts (ltb b 256) (list_all (λ c. ltb c 256) bytes) e in (ltb-true b 256 parts.0, are_bytes bytes parts.1)
 
 -- each number and length fits
 code_fits : CodeFits example_code
@@ -58,65 +51,15 @@ code_fits = record {
 pool_fits : CountedFits EntryFits example_entries
 pool_fits = record {
   count = omega arith;
-  each = (
-    tt,
-    (
-      (omega arith, are_bytes (codes "M") refl),
-      (
-        omega arith,
-        (
-          (omega arith, are_bytes (codes "java/lang/Object") refl),
-          (
-            omega arith,
-            (
-              (omega arith, are_bytes (codes "main") refl),
-              (
-                (omega arith, are_bytes (codes "([Ljava/lang/String;)V") refl),
-                ((omega arith, are_bytes (codes "Code") refl), tt),
-              ),
-            ),
-          ),
-        ),
-      ),
-    ),
-  );
+  each = entries_fit example_entries refl;
 }
-
--- bytes from 1 to 127, by a test
-are_plain : (bytes : List ℕ) → list_all (λ b. ltb 0 b && ltb b 128) bytes ≡ true → AllByRecursion (λ b. (0 < b) × (b < 128)) bytes
-are_plain [] e = tt
-are_plain (b ∷ bytes) e =
-    let parts = and_parts (ltb 0 b && ltb b 128) (list_all (λ c. ltb 0 c && ltb c 128) bytes) e in
-    let both = and_parts (ltb 0 b) (ltb b 128) parts.0 in
-    ((ltb-true 0 b both.0, ltb-true b 128 both.1), are_plain bytes parts.1)
-
-is_text : (bytes : List ℕ) → list_all (λ b. ltb 0 b && ltb b 128) bytes ≡ true → IsModifiedUtf8 bytes
-is_text bytes e = IsModifiedUtf8-plain bytes (are_plain bytes e)
 
 pool_spelled : SpellsPool (pool_bytes example_record.pool) example_record.pool
 pool_spelled = record {
   bytes_are = refl;
   fits = pool_fits;
   slots = tt;
-  entries = (
-    tt,
-    (
-      is_text (codes "M") refl,
-      (
-        inl refl,
-        (
-          is_text (codes "java/lang/Object") refl,
-          (
-            inl refl,
-            (
-              is_text (codes "main") refl,
-              (is_text (codes "([Ljava/lang/String;)V") refl, (is_text (codes "Code") refl, tt)),
-            ),
-          ),
-        ),
-      ),
-    ),
-  );
+  entries = entries_valid example_entries example_entries refl;
 }
 
 fits : ClassFits example_record

@@ -2,7 +2,7 @@
 use Rattle.std.proofs.Common.{◌≡◌, ℕ, zero, suc, ◌*◌, ◌<◌, ◌≤◌, Bool, true, false, ltb, ◌==◌, List, [], ◌∷◌, ◌++◌, map, length, drop, Option, Some, None, option_and_then, refl, ap, sym, ◌∙◌, arith, ℤ, pos, negsuc, ◌+ℤ◌, ◌-ℤ◌, if◌then◌else◌}
 use Rattle.std.proofs.lemmas.Bool.{eqb-true, ltb-false, and_parts}
 use Rattle.std.proofs.lemmas.List.{drop-append-le, length-drop}
-use Rattle.std.specs.List.{AllByRecursion, slice_index_or}
+use Rattle.std.specs.List.{AllByRecursion}
 use Rattle.std.specs.Option.{option_map}
 use Rattle.fm_code.specs.Numbers.{number_of_two}
 use Rattle.fm_code.specs.InstructionTable.{Reading, malformed, bare, byte, signed_byte, two_bytes, short, signed_short, jump, long_jump, left_out, increment, interface_call, array_of_arrays, new_array, wide_local, wide, padding_at, signed_fours, is_number, table_switch, pairs_of, lookup_switch, switch, constants_and_loads, stores_and_stack, arithmetic, control_and_objects, Row, rows, reading_of, insn_at}

@@ -1,5 +1,5 @@
 -- The entries of a constant pool by which instructions call the static method FreeMe.free(Ljava/lang/Object;)V.
-use Rattle.std.specs.Prelude.{ℕ, ◌&&◌, not, nat_lt, Bool, true, false, List, [], ◌∷◌, ◌++◌, length, codes, Option, Some, None, if◌then◌else◌}
+use Rattle.std.specs.Prelude.{ℕ, ◌&&◌, not, nat_lt, Bool, false, List, [], ◌∷◌, ◌++◌, length, codes, Option, Some, None, if◌then◌else◌}
 use Rattle.std.specs.List.{prefix_len}
 use Rattle.std.specs.Str.{bytes_eq}
 use Rattle.fm_code.specs.ConstantPool.{utf8_at, class_name_at, named_and_typed_at, MemberName}

@@ -15,3 +15,4 @@ pub mod Spells
 pub mod Profile
 pub mod FirstForm
 pub mod Example
+pub mod CompiledExample

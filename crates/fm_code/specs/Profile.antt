@@ -1,9 +1,10 @@
 -- What is accepted of class files beside their spelling: versions, limits of methods, and what is supported; and where a class fails first.
-use Rattle.std.specs.Prelude.{◌≡◌, ◌≢◌, ℕ, ◌<◌, ◌≤◌, ◌==◌, ◌||◌, ◌&&◌, ◌⊎◌, not, Bool, true, false, List, [], ◌∷◌, ◌++◌, length, take, codes, Option, Some, None, IfSome, IsSomeAnd, slice_get}
+use Rattle.std.specs.Prelude.{◌≡◌, ℕ, ◌<◌, ◌≤◌, ◌==◌, ◌||◌, ◌⊎◌, Bool, true, false, List, ◌++◌, length, take, Option, Some, None, IfSome, IsSomeAnd, slice_get}
 use Rattle.std.specs.List.{list_any, AllByRecursion}
 use Rattle.std.specs.Option.{option_map}
 use Rattle.std.specs.Char.Utf16.{has_unpaired_surrogate}
 use Rattle.fm_base.specs.Texts.{units}
+use Rattle.fm_base.specs.declared.characters.TheConstants.{FLOAT_LETTER, DOUBLE_LETTER}
 use Rattle.fm_base.specs.declared.limits.TheConstants.{MAX_STACK_WORDS, MAX_LOCAL_WORDS, MAX_HANDLERS}
 use Rattle.fm_code.specs.AccessFlags.{is_native}
 use Rattle.fm_code.specs.Numbers.{two}
@@ -91,11 +92,11 @@ pub record IsFirstOverLimit (c : ClassDef) (over : OverLimit) : Type 0 where
 
 -- ---- floats and doubles
 
--- F or D
+-- a float, a double, or an array of these
 abbrev pub is_floating : FieldType → Bool
 is_floating t = is_floating_base t.base where
   is_floating_base : BaseType → Bool
-  is_floating_base (primitive letter) = list_any (λ c. c == letter) (codes "FD")
+  is_floating_base (primitive letter) = (letter == FLOAT_LETTER) || (letter == DOUBLE_LETTER)
   is_floating_base (object name) = false
 
 abbrev pub is_floating_result : Option FieldType → Bool

@@ -5,11 +5,15 @@ ghost use Rattle.std.specs.List.{range_with_len};
 ghost use Rattle.byteorder.specs.Endian.{big_number, big_bytes};
 ghost use Rattle.fm_code.specs.Fits.{AreBytes};
 ghost use Rattle.fm_code.specs.Example.{example_bytes, example_record, short_length_bytes, wrong_tag_bytes, longer_bytes};
+ghost use Rattle.fm_code.specs.CompiledExample.{compiled_bytes, compiled_record};
 ghost use Rattle.fm_code.specs.FirstForm.{IsFirstForm, IsNamed, DeclaresMain};
 ghost use Rattle.fm_code.specs.InstructionTable.{Row, rows};
+ghost use Rattle.fm_code.specs.Profile.{IsFirstOverLimit, IsFirstUnsupported, IsSupported, IsWithinLimits, Profile};
 ghost use Rattle.fm_code.specs.Spells.{Spells};
 ghost use Rattle.fm_code.specs.SpellsCode.{SpellsCode};
 ghost use Rattle.fm_code.specs.declared.class_file.ClassDef.{ClassDef};
+ghost use Rattle.fm_code.specs.declared.profile.OverLimit.{OverLimit};
+ghost use Rattle.fm_code.specs.declared.profile.Unsupported.{Unsupported};
 ghost use Rattle.fm_code.specs.declared.opcodes.TheConstants.{JSR_W};
 ghost use Rattle.fm_code.specs.declared.code_array.Item.{Item};
 
@@ -55,4 +59,24 @@ pub fn law_example()
     ensures short_length { (c : ClassDef) → ¬ (Spells short_length_bytes c) }
     ensures wrong_tag { (c : ClassDef) → ¬ (Spells wrong_tag_bytes c) }
     ensures longer { (c : ClassDef) → ¬ (Spells longer_bytes c) }
+{}
+
+/// The definitions at a class file that a compiler wrote: its bytes spell its record, which is
+/// accepted. It has a field with a value, a long in the pool, an exception table, a switch with
+/// padding, a wide form, tables of lines and of variables, and an attribute that is kept as it is.
+pub fn law_compiled_example()
+    ensures size { length compiled_bytes ≡ 506 }
+    ensures spelled { Spells compiled_bytes compiled_record }
+    ensures accepted { Profile compiled_record }
+{}
+
+/// A count that is first above its limit is one, and there is none within the limits; a place that
+/// is first unsupported is one, and there is none in a class that is supported.
+pub fn law_first_refusals()
+    ensures over_limit { (c : ClassDef) (over : OverLimit) → IsFirstOverLimit c over → ¬ IsWithinLimits c }
+    ensures one_over_limit { (c : ClassDef) (a b : OverLimit)
+        → IsFirstOverLimit c a → IsFirstOverLimit c b → a ≡ b }
+    ensures unsupported { (c : ClassDef) (u : Unsupported) → IsFirstUnsupported c u → ¬ IsSupported c }
+    ensures one_unsupported { (c : ClassDef) (a b : Unsupported)
+        → IsFirstUnsupported c a → IsFirstUnsupported c b → a ≡ b }
 {}

@@ -30,10 +30,9 @@ pub use constant_pool::{
 pub use insn_bytes::InsnBytes;
 pub use instructions::Insn;
 pub use laws::{
-    law_example, law_nothing_follows, law_number_bytes, law_one_code, law_one_record, law_opcodes,
+    law_compiled_example, law_example, law_first_refusals, law_nothing_follows, law_number_bytes,
+    law_one_code, law_one_record, law_opcodes,
 };
 pub use operations::{Conv, Elem, Op, Reg, Shift, Test};
-pub use profile::{
-    NEWEST_MAJOR, OLDEST_MAJOR, OLDEST_MINOR, OverLimit, Place, Unsupported, What,
-};
+pub use profile::{NEWEST_MAJOR, OLDEST_MAJOR, OLDEST_MINOR, OverLimit, Place, Unsupported, What};
 pub use switch_list::SwitchList;
