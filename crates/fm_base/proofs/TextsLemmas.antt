@@ -1,5 +1,5 @@
 -- Units spelled in their shortest bytes are read back.
-use Rattle.std.proofs.Common.{◌≡◌, ℕ, ◌+◌, ◌-◌, ◌*◌, ◌/◌, ◌%◌, ◌<◌, ◌≤◌, inl, inr, Bool, true, false, ltb, ◌&&◌, List, [], ◌∷◌, ◌++◌, refl, sym, ap, ◌∙◌, arith}
+use Rattle.std.proofs.Common.{◌⊎◌, ◌≡◌, ℕ, ◌+◌, ◌-◌, ◌*◌, ◌/◌, ◌%◌, ◌<◌, ◌≤◌, inl, inr, Bool, true, false, ltb, ◌&&◌, List, [], ◌∷◌, ◌++◌, refl, sym, ap, ◌∙◌, arith}
 use Rattle.std.specs.List.{flat_map, AllByRecursion}
 use Rattle.std.proofs.lemmas.Bool.{cases_Bool, lt-ltb, le-ltb, le-leb, lt-leb, ltb-true, ltb-false}
 use Rattle.fm_base.specs.Texts.{unit_bytes, goes_on, unit_of, Parted, parted, units, IsModifiedUtf8}
@@ -45,16 +45,29 @@ three u rest us low bytes e =
 
 -- which of the three forms is the shortest
 pub data Form (u : ℕ) : Type 0 where
-  of_one : 0 < u → u < 128 → Form u
-  of_two : u < 2048 → unit_bytes u ≡ (192 + u / 64) ∷ (128 + u % 64) ∷ [] → Form u
+  of_one : 0 < u → u < 128 → unit_bytes u ≡ u ∷ [] → Form u
+  of_two : (u ≡ 0) ⊎ (128 ≤ u) → u < 2048 → unit_bytes u ≡ (192 + u / 64) ∷ (128 + u % 64) ∷ [] → Form u
   of_three : 2048 ≤ u → unit_bytes u ≡ (224 + u / 4096) ∷ (128 + u / 64 % 64) ∷ (128 + u % 64) ∷ [] → Form u
+
+-- a number outside of 1 to 127
+outside : (u : ℕ) → (ltb 0 u && ltb u 128) ≡ false → (u ≡ 0) ⊎ (128 ≤ u)
+outside u e =
+    elim (cases_Bool (ltb 0 u)) [
+      | inl some ↦ elim (cases_Bool (ltb u 128)) [
+        | inl low ↦ absurd (true≢false (rw (some, low) at e))
+        | inr high ↦ inr (ltb-false u 128 high)
+      ]
+      | inr none ↦ let zero : u ≤ 0 = ltb-false 0 u none in inl (omega (arith, zero))
+    ] where
+      true≢false : true ≡ false → ⊥
+      true≢false p = cc
 
 pub form_of : (u : ℕ) → Form u
 form_of u =
     elim (cases_Bool (ltb 0 u && ltb u 128)) [
-      | inl short ↦ let both = and_parts (ltb 0 u) (ltb u 128) short in of_one (ltb-true 0 u both.0) (ltb-true u 128 both.1)
+      | inl short ↦ let both = and_parts (ltb 0 u) (ltb u 128) short in of_one (ltb-true 0 u both.0) (ltb-true u 128 both.1) (rw short refl)
       | inr long ↦ elim (cases_Bool (ltb u 2048)) [
-        | inl low ↦ of_two (ltb-true u 2048 low) (rw (long, low) refl)
+        | inl low ↦ of_two (outside u long) (ltb-true u 2048 low) (rw (long, low) refl)
         | inr high ↦ of_three (ltb-false u 2048 high) (rw (long, high) refl)
       ]
     ] where
@@ -65,9 +78,29 @@ form_of u =
 unit_parted : (u : ℕ) (rest us : List ℕ) → u < 65536 → parted rest ≡ begun us → parted (unit_bytes u ++ rest) ≡ begun (u ∷ us)
 unit_parted u rest us fits e =
     elim (form_of u) [
-      | of_one some low ↦ one u rest us some low e
-      | of_two low bytes ↦ two u rest us low bytes e
+      | of_one some low bytes ↦ one u rest us some low e
+      | of_two apart low bytes ↦ two u rest us low bytes e
       | of_three high bytes ↦ three u rest us fits bytes e
+    ]
+
+-- each form tells the unit's bytes
+pub unit_bytes-one : (u : ℕ) → 0 < u → u < 128 → unit_bytes u ≡ u ∷ []
+unit_bytes-one u some low = rw (lt-ltb 0 u some, lt-ltb u 128 low) refl
+
+pub unit_bytes-two : (u : ℕ) → (u ≡ 0) ⊎ (128 ≤ u) → u < 2048 → unit_bytes u ≡ (192 + u / 64) ∷ (128 + u % 64) ∷ []
+unit_bytes-two u apart low =
+    elim (form_of u) [
+      | of_one some short bytes ↦ absurd (omega (arith, apart))
+      | of_two _ _ bytes ↦ bytes
+      | of_three high bytes ↦ absurd (omega arith)
+    ]
+
+pub unit_bytes-three : (u : ℕ) → 2048 ≤ u → unit_bytes u ≡ (224 + u / 4096) ∷ (128 + u / 64 % 64) ∷ (128 + u % 64) ∷ []
+unit_bytes-three u high =
+    elim (form_of u) [
+      | of_one some short bytes ↦ absurd (omega arith)
+      | of_two _ low bytes ↦ absurd (omega arith)
+      | of_three _ bytes ↦ bytes
     ]
 
 -- the bytes of units are parted into these

@@ -1,0 +1,9 @@
+pub mod NumbersLemmas
+pub mod EntriesLemmas
+pub mod EntriesInTurn
+pub mod DescriptorsLemmas
+pub mod MethodDescriptors
+pub mod TextsLemmas
+pub mod FactsLemmas
+pub mod RulesLemmas
+pub mod ReadingLemmas

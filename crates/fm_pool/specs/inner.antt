@@ -1,0 +1,4 @@
+pub mod Reading
+pub mod Units
+pub mod NameParts
+pub mod Facts

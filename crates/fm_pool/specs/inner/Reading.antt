@@ -1,0 +1,93 @@
+-- Reading a constant pool from left to right. A piece is read to its value and the bytes after it.
+use Rattle.std.specs.Prelude.{◌≡◌, ℕ, zero, suc, ◌==◌, Bool, true, false, nat_lt, List, [], ◌∷◌, ◌++◌, length, take, drop, Option, Some, None, option_and_then, Result, Ok, Err, if◌then◌else◌}
+use Rattle.std.specs.Int.{w32, w64, cast_signed}
+use Rattle.byteorder.specs.Endian.{big_number}
+use Rattle.fm_code.specs.ConstantPool.{takes_two}
+use Rattle.fm_code.specs.declared.constant_pool.TheConstants.{CONSTANT_Utf8, CONSTANT_Integer, CONSTANT_Float, CONSTANT_Long, CONSTANT_Double, CONSTANT_Class, CONSTANT_String, CONSTANT_Fieldref, CONSTANT_Methodref, CONSTANT_InterfaceMethodref, CONSTANT_NameAndType}
+use Rattle.fm_code.specs.declared.constant_pool.Entry.{Entry}
+use Rattle.fm_code.specs.declared.constant_pool.Entry.TheVariants as entry
+use Rattle.fm_pool.specs.declared.error.PoolFail.{PoolFail}
+use Rattle.fm_pool.specs.declared.error.PoolFail.TheVariants as fail
+
+infixl 10 ◌>>=◌
+abbrev pub ◌>>=◌ : {A B : Type 0} → Option A → (A → Option B) → Option B
+o >>= f = option_and_then f o
+
+-- what a function returned, seen by view, is what reading gives, unless memory ran out
+abbrev pub Fails : {Y : Type 0} → PoolFail → Option Y → Type 0
+Fails fail.Malformed reading = reading ≡ None
+Fails fail.NoMemory reading = Unit {0}
+
+abbrev pub Gives : {X Y : Type 0} → (X → Y) → Result X PoolFail → Option Y → Type 0
+Gives view (Ok x) reading = reading ≡ Some (view x)
+Gives view (Err e) reading = Fails e reading
+
+-- ---- numbers and bytes
+
+-- the number in the first bytes
+abbrev pub number_at : ℕ → List ℕ → Option (ℕ × List ℕ)
+number_at size bytes = if nat_lt (length bytes) size then None else Some (big_number size bytes, drop size bytes)
+
+-- the first bytes themselves
+abbrev pub bytes_at : ℕ → List ℕ → Option (List ℕ × List ℕ)
+bytes_at size bytes = if nat_lt (length bytes) size then None else Some (take size bytes, drop size bytes)
+
+-- what was read before, in front of what is read
+abbrev pub with_prefix : {X : Type 0} → List X → Option (List X × List ℕ) → Option (List X × List ℕ)
+with_prefix prefix reading = reading >>= λ x. Some (prefix ++ x.0, x.1)
+
+-- ---- entries
+
+-- a text's length, and its bytes
+unfoldable pub text_at : List ℕ → Option (List ℕ × List ℕ)
+text_at bytes = do
+  size ← number_at 2 bytes
+  bytes_at size.0 size.1
+
+-- two indices
+unfoldable pub pair_at : List ℕ → Option ((ℕ × ℕ) × List ℕ)
+pair_at bytes = do
+  first ← number_at 2 bytes
+  second ← number_at 2 first.1
+  Some ((first.0, second.0), second.1)
+
+-- what is after a tag
+unfoldable pub entry_after : ℕ → List ℕ → Option (Entry × List ℕ)
+entry_after tag bytes =
+    if tag == CONSTANT_Utf8 then (text_at bytes >>= λ text. Some (entry.Utf8 text.0, text.1)) else
+    if tag == CONSTANT_Integer then (number_at 4 bytes >>= λ value. Some (entry.Integer (cast_signed w32 value.0), value.1)) else
+    if tag == CONSTANT_Float then (number_at 4 bytes >>= λ bits. Some (entry.Float bits.0, bits.1)) else
+    if tag == CONSTANT_Long then (number_at 8 bytes >>= λ value. Some (entry.Long (cast_signed w64 value.0), value.1)) else
+    if tag == CONSTANT_Double then (number_at 8 bytes >>= λ bits. Some (entry.Double bits.0, bits.1)) else
+    if tag == CONSTANT_Class then (number_at 2 bytes >>= λ name. Some (entry.Class name.0, name.1)) else
+    if tag == CONSTANT_String then (number_at 2 bytes >>= λ text. Some (entry.Text text.0, text.1)) else
+    if tag == CONSTANT_Fieldref then (pair_at bytes >>= λ pair. Some (entry.Field pair.0.0 pair.0.1, pair.1)) else
+    if tag == CONSTANT_Methodref then (pair_at bytes >>= λ pair. Some (entry.Method pair.0.0 pair.0.1, pair.1)) else
+    if tag == CONSTANT_InterfaceMethodref then (pair_at bytes >>= λ pair. Some (entry.InterfaceMethod pair.0.0 pair.0.1, pair.1)) else
+    if tag == CONSTANT_NameAndType then (pair_at bytes >>= λ pair. Some (entry.NameAndType pair.0.0 pair.0.1, pair.1)) else None
+
+unfoldable pub entry_at_front : List ℕ → Option (Entry × List ℕ)
+entry_at_front bytes = do
+  tag ← number_at 1 bytes
+  entry_after tag.0 tag.1
+
+-- ---- the pool
+
+-- what stands at the next index; the flag tells whether nothing is due there
+abbrev pub slot_at : Bool → List ℕ → Option (Entry × List ℕ)
+slot_at true bytes = Some (entry.Second, bytes)
+slot_at false bytes = entry_at_front bytes
+
+-- what stands at so many indices; what takes two may not be the last of them
+unfoldable pub slots_at : Bool → ℕ → List ℕ → Option (List Entry × List ℕ)
+slots_at due zero bytes = if due then None else Some ([], bytes)
+slots_at due (suc count) bytes = do
+  first ← slot_at due bytes
+  others ← slots_at (takes_two first.0) count first.1
+  Some (first.0 ∷ others.0, others.1)
+
+-- the count is that of all indices, from 0 on, where nothing is spelled
+unfoldable pub pool_at : List ℕ → Option (List Entry × List ℕ)
+pool_at bytes = do
+  count ← number_at 2 bytes
+  slots_at true count.0 count.1
