@@ -1,5 +1,5 @@
 -- Files and a sink in memory that never fail, and what each answer leaves there.
-use Rattle.std.specs.Prelude.{ℕ, ◌+◌, max, List, [], Result, Ok, Err, Some, Vec, vec_len, unwrap_or}
+use Rattle.std.specs.Prelude.{ℕ, ◌+◌, max, [], Result, Ok, Err, Some, Vec, vec_len, unwrap_or}
 use Rattle.std.specs.FinMap.{get, insert}
 use Rattle.fm_files.specs.Files.{Bytes, Disk}
 use Rattle.fm_files.specs.Names.{ByName}

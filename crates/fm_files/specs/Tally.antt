@@ -1,5 +1,5 @@
 -- The three numbers of a name, and what each answer makes of them.
-use Rattle.std.specs.Prelude.{ℕ, ◌+◌, max, Result, Ok, Err, Option, Vec, vec_len, unwrap_or}
+use Rattle.std.specs.Prelude.{ℕ, ◌+◌, max, Result, Ok, Err, Vec, vec_len, unwrap_or}
 use Rattle.std.specs.FinMap.{get, insert}
 use Rattle.fm_files.specs.Files.{Bytes, Contents, Disk}
 use Rattle.fm_files.specs.Names.{ByName}

@@ -1,6 +1,6 @@
 // Files and a sink in memory that never fail.
 
-ghost use Rattle.std.specs.Prelude.{◌≡◌, ◌≢◌, ◌<◌, ◌≤◌, [], ◌++◌, Some, length, vec_len, max, option_copied, IfOk, OnOk, OnErr, IsErrOf, IsOkUnless};
+ghost use Rattle.std.specs.Prelude.{◌≡◌, ◌≢◌, ◌<◌, ◌≤◌, [], Some, length, vec_len, max, option_copied, IfOk, OnOk, OnErr, IsErrOf};
 ghost use Rattle.std.specs.FinMap as map;
 ghost use Rattle.fm_files.specs.Sink.{got_piece};
 ghost use Rattle.fm_files.specs.Sure.{held_by, widest_of, sure_disk, after_sure_read};

@@ -1,4 +1,4 @@
-use Rattle.std.proofs.Common.{ap, refl, rules}
+use Rattle.std.proofs.Common.{refl, rules}
 use Rattle.fm_base.proofs.ResultFacts.{IfOk-from_every}
 use Rattle.fm_files.proofs.FolderLemmas.{IsSetAt-after_folder_write}
 use Rattle.fm_files.proofs.TallyLemmas.{IsSetAt-after_read, read_numbers, write_numbers}
