@@ -36,7 +36,7 @@ pub enum MakeFail {
     #[error("the store is full")]
     Store,
     /// Memory couldn't be had.
-    #[error("want of memory")]
+    #[error("out of memory")]
     NoMemory,
 }
 

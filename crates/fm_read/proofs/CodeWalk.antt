@@ -276,7 +276,7 @@ read_next max_locals code items at within so_far all are =
       first [] walked = absurd (omega (arith, ap length walked, length-drop at code))
       first (item ∷ more) walked = (item, walked.0)
 
--- a reader fails for want of memory or because there is nothing to read
+-- a reader fails as memory runs out or because there is nothing to read
 pub is_memory : {T : Type 0} (e : FirstFail) → (◌≡◌ {A = Result T FirstFail} (Err e) (Err NotYet) → ⊥) → e ≡ NoMemory
 is_memory NotYet other = absurd (other refl)
 is_memory NoMemory other = refl

@@ -193,7 +193,7 @@ parts_are bytes parts c e first spells =
     let of_c : IsOf p.parts c = record { rules = p.rules; distinct = p.distinct; members_of = p.members_of; made_of = p.made_of } in
     subst (λ (v : Class). IsOf v c) same of_c
 
--- a record that is read or wants memory isn't refused
+-- a record that is read, or for which memory runs out, isn't refused
 pub not_refused : (r : Result ClassDef FirstFail) (c : ClassDef) → MatchResult r (λ d. d ≡ c) (λ e. e ≡ fail.NoMemory) → r ≡ Err fail.NotYet → ⊥
 not_refused (Ok d) c h e = cc
 not_refused (Err fail.NotYet) c h e = cc

@@ -14,7 +14,7 @@ pub enum FirstFail {
     #[error("not of the first form")]
     NotYet,
     /// Memory for the record couldn't be had.
-    #[error("want of memory")]
+    #[error("out of memory")]
     NoMemory,
 }
 
