@@ -1,6 +1,6 @@
 -- The laws of each call as a whole, for the layers above: what a free, a put and a change of a chain leave in each cell, and
 -- that sound stores lead to sound stores.
-use Rattle.std.proofs.Common.{◌≡◌, ◌≢◌, ℕ, ◌+◌, ◌*◌, ◌^◌, ◌<◌, Bool, true, false, cond, refl, sym, ◌∙◌, ap, subst, arith, length}
+use Rattle.std.proofs.Common.{◌≡◌, ◌≢◌, ℕ, ◌*◌, ◌^◌, ◌<◌, Bool, true, false, cond, refl, sym, ◌∙◌, ap, subst, arith, length}
 use Rattle.std.specs.Prelude.{Some, None, IsSome}
 use Rattle.fm_cells.specs.Sizes.{element_bits, cell_words}
 use Rattle.fm_cells.specs.Objects.{Object, Request, IsRequest, request_words}

@@ -1,6 +1,6 @@
 -- Choices that are made lawful: each may be made, and a choice that may be made is left as it is.
-use Rattle.std.proofs.Common.{◌≡◌, ℕ, ◌+◌, ◌<◌, ◌≤◌, ◌&&◌, Bool, true, false, not, cond, List, [], ◌∷◌, max, refl, sym, ◌∙◌, ap, subst, arith, is_some, nat_lt, inl, inr}
-use Rattle.std.specs.Prelude.{Option, Some, None}
+use Rattle.std.proofs.Common.{◌≡◌, ℕ, ◌+◌, ◌<◌, ◌≤◌, ◌&&◌, Bool, true, false, not, cond, List, [], ◌∷◌, max, refl, sym, ◌∙◌, ap, arith, is_some, nat_lt}
+use Rattle.std.specs.Prelude.{Some, None}
 use Rattle.std.specs.Ordering.{nat_cmp, is_eq}
 use Rattle.std.specs.declared.cmp.Ordering.TheVariants.{Less, Equal, Greater}
 use Rattle.std.specs.FinMap as map
@@ -10,7 +10,7 @@ use Rattle.std.proofs.lemmas.Bool.{lt-ltb, ltb-true}
 use Rattle.fm_cells.specs.Objects.{Object, Request, request_size_class}
 use Rattle.fm_cells.specs.Stores.{Store, object_at, passes_limit, free_cells}
 use Rattle.fm_cells.specs.Changes.{Choice, Take, RefuseStore}
-use Rattle.fm_cells.specs.Choices.{MayReuse, never_choice, last_choice, new_cell_choice, last_choice_among, greatest_cell, cell_above, lawful_choice, lawful}
+use Rattle.fm_cells.specs.Choices.{MayReuse, never_choice, last_choice, new_cell_choice, last_choice_among, greatest_cell, cell_above, lawful_choice}
 use Rattle.fm_cells.specs.Soundness.{IsNeverReused, IsLastReused}
 use Rattle.fm_cells.proofs.LastReused.{MayReuse-head, MayReuse-after}
 use Rattle.fm_cells.proofs.NeverReused.{MayReuse-next}

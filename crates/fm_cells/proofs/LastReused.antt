@@ -1,6 +1,6 @@
 -- Memory that takes the last freed cell of a size class: its choices are among those of memory that reuses cells in any
 -- way, its stores stay what they are, and of each size class as many cells are made as were held at once.
-use Rattle.std.proofs.Common.{not, ◌≡◌, ◌≢◌, ℕ, ◌+◌, ◌-◌, ◌^◌, ◌<◌, ◌≤◌, Bool, true, false, cond, List, [], ◌∷◌, length, refl, sym, ◌∙◌, ap, subst, nat_eq, arith, inl, inr, max, length-set, get_or, set, get_or-set_same, get_or-set_other, replicate}
+use Rattle.std.proofs.Common.{not, ◌≡◌, ◌≢◌, ℕ, ◌+◌, ◌<◌, ◌≤◌, Bool, true, false, cond, List, [], ◌∷◌, length, refl, sym, ◌∙◌, ap, subst, nat_eq, arith, inl, inr, max, length-set, get_or, set, get_or-set_same, get_or-set_other, replicate}
 use Rattle.std.specs.Prelude.{Option, Some, None, IfSome, slice_set, slice_index_or}
 use Rattle.std.specs.List.{AllByRecursion, IsDistinct}
 use Rattle.std.proofs.lemmas.List.{length-replicate, set-get_or, get_or-replicate, get_or_past}

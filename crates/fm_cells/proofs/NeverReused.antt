@@ -1,6 +1,6 @@
 -- Memory that is never reused: its choices are among those of memory that reuses cells in any way, and its stores stay
 -- what they are.
-use Rattle.std.proofs.Common.{◌≡◌, ℕ, ◌+◌, ◌-◌, ◌^◌, ◌<◌, ◌≤◌, Bool, true, false, ◌∷◌, refl, sym, ap, subst, nat_eq, arith, inl, inr}
+use Rattle.std.proofs.Common.{◌≡◌, ℕ, ◌+◌, ◌≤◌, Bool, true, false, ◌∷◌, refl, sym, ap, subst, nat_eq, arith, inl, inr}
 use Rattle.std.specs.Prelude.{Option, Some, slice_set}
 use Rattle.std.proofs.lemmas.Bool.{cases_eq}
 use Rattle.fm_cells.specs.Objects.{Object, size_class_of, request_size_class, Request}

@@ -3,8 +3,8 @@ use Rattle.std.proofs.Common.{◌≡◌, ℕ, ◌+◌, Bool, true, false, cond, 
 use Rattle.std.specs.Prelude.{Some, None}
 use Rattle.fm_cells.specs.Objects.{Object, object_words, Request, request_size_class}
 use Rattle.fm_cells.specs.Stores.{Store, object_at, live_words, passes_limit, free_cells}
-use Rattle.fm_cells.specs.Changes.{Choice, Take, RefuseStore, made_by, without_object, with_object, with_element, with_chain, freed_by, put_by, chained_by}
-use Rattle.fm_cells.specs.Choices.{MayReuse, never_choice, last_choice, new_cell_choice, last_choice_among}
+use Rattle.fm_cells.specs.Changes.{Take, RefuseStore, made_by, without_object, with_object, with_element, with_chain, freed_by, put_by, chained_by}
+use Rattle.fm_cells.specs.Choices.{never_choice, last_choice, new_cell_choice, last_choice_among}
 use Rattle.fm_cells.specs.Soundness.{IsOrderly, IsNeverReused, IsLastReused}
 use Rattle.fm_cells.specs.Laws.{KeptByMake, KeptByMakeOf, KeptByFree, KeptByPut, KeptByChain}
 use Rattle.fm_cells.proofs.Changes.{live_words-without_object, live_words-with_object, object_words-with_element}

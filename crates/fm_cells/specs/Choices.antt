@@ -4,7 +4,7 @@ use Rattle.std.specs.Prelude.{None}
 use Rattle.std.specs.FinMap as map
 use Rattle.fm_cells.specs.Objects.{Object, Request, request_size_class}
 use Rattle.fm_cells.specs.Stores.{Store, object_at, words_needed, passes_limit, free_cells}
-use Rattle.fm_cells.specs.Changes.{Choice, Take, RefuseStore, made_by}
+use Rattle.fm_cells.specs.Changes.{Choice, Take, RefuseStore}
 
 -- memory that reuses cells in any way: it takes any cell above 0 that isn't held, and refuses only where a new cell
 -- would pass the store limit
