@@ -52,193 +52,55 @@ fn main_is_read(rt: HostRuntime) -> Result<(), Fail> {
     Ok(())
 }
 
-// The entries of the pool from the third on.
-const FROM_3: &[&[u8]] = &[
-    b"\x01\0\x10java/lang/Object",
-    b"\x07\0\x03",
-    b"\x01\0\x04main",
-    b"\x01\0\x16([Ljava/lang/String;)V",
-    b"\x01\0\x04Code",
-];
+// The pool's entries from the third on, after two that differ.
+const LATER: ClassSample<'static> = ClassSample {
+    more_pool: &[
+        b"\x01\0\x10java/lang/Object",
+        b"\x07\0\x03",
+        b"\x01\0\x04main",
+        b"\x01\0\x16([Ljava/lang/String;)V",
+        b"\x01\0\x04Code",
+    ],
+    ..RETURNS
+};
 
+// What each file is, and the file.
+#[rattlefmt::skip]
 const NEIGHBOURS: [(&str, ClassSample<'static>); 22] = [
-    (
-        "a byte missing",
-        ClassSample {
-            attributes: b"\0",
-            ..RETURNS
-        },
-    ),
-    (
-        "a byte more",
-        ClassSample {
-            attributes: b"\0\0\0",
-            ..RETURNS
-        },
-    ),
-    (
-        "another magic",
-        ClassSample {
-            magic: b"\xca\xfe\xba\xbf",
-            ..RETURNS
-        },
-    ),
-    (
-        "version 48",
-        ClassSample {
-            version: b"\0\0\0\x30",
-            ..RETURNS
-        },
-    ),
-    (
-        "minor version 1",
-        ClassSample {
-            version: b"\0\x01\0\x31",
-            ..RETURNS
-        },
-    ),
-    (
-        "a pool without index 0",
-        ClassSample {
-            pool_count: b"\0\0",
-            ..RETURNS
-        },
-    ),
-    (
-        "a text with the byte 128",
-        ClassSample {
-            pool: &[b"\x01\0\x01\x80", b"\x07\0\x01"],
-            more_pool: FROM_3,
-            ..RETURNS
-        },
-    ),
-    (
-        "a class name without characters",
-        ClassSample {
-            pool: &[b"\x01\0\x01/", b"\x07\0\x01"],
-            more_pool: FROM_3,
-            ..RETURNS
-        },
-    ),
-    (
-        "a String in the pool",
-        ClassSample {
-            pool: &[b"\x01\0\x01M", b"\x08\0\x01"],
-            more_pool: FROM_3,
-            ..RETURNS
-        },
-    ),
-    (
-        "a Class that names a Class",
-        ClassSample {
-            pool: &[b"\x01\0\x01M", b"\x07\0\x02"],
-            more_pool: FROM_3,
-            ..RETURNS
-        },
-    ),
-    (
-        "a Class that names nothing",
-        ClassSample {
-            pool: &[b"\x01\0\x01M", b"\x07\0\x09"],
-            more_pool: FROM_3,
-            ..RETURNS
-        },
-    ),
-    (
-        "an interface with a method",
-        ClassSample {
-            flags: b"\x02\x21",
-            ..RETURNS
-        },
-    ),
-    (
-        "a class that a text names",
-        ClassSample {
-            this_class: b"\0\x01",
-            ..RETURNS
-        },
-    ),
-    (
-        "another superclass",
-        ClassSample {
-            super_class: b"\0\x02",
-            ..RETURNS
-        },
-    ),
-    (
-        "an interface count of 1",
-        ClassSample {
-            interfaces: b"\0\x01",
-            ..RETURNS
-        },
-    ),
-    (
-        "a field count of 1",
-        ClassSample {
-            fields: b"\0\x01",
-            ..RETURNS
-        },
-    ),
-    (
-        "a method that isn't static",
-        ClassSample {
-            methods: &[MethodSample {
-                flags: b"\0\x01",
-                ..MAIN
-            }],
-            ..RETURNS
-        },
-    ),
-    (
-        "a native method",
-        ClassSample {
-            methods: &[MethodSample {
-                flags: b"\x01\x09",
-                ..MAIN
-            }],
-            ..RETURNS
-        },
-    ),
-    (
-        "two attributes",
-        ClassSample {
-            methods: &[MethodSample {
-                attributes_count: b"\0\x02",
-                ..MAIN
-            }],
-            ..RETURNS
-        },
-    ),
-    (
-        "an attribute of another name",
-        ClassSample {
-            methods: &[MethodSample {
-                attribute_name: b"\0\x05",
-                ..MAIN
-            }],
-            ..RETURNS
-        },
-    ),
-    (
-        "a length one short",
-        ClassSample {
-            methods: &[MethodSample {
-                attribute_length: b"\0\0\0\x0c",
-                ..MAIN
-            }],
-            ..RETURNS
-        },
-    ),
-    (
-        "a length of 4 GiB",
-        ClassSample {
-            methods: &[MethodSample {
-                attribute_length: b"\xff\xff\xff\xff",
-                ..MAIN
-            }],
-            ..RETURNS
-        },
-    ),
+    ("a byte missing", ClassSample { attributes: b"\0", ..RETURNS }),
+    ("a byte more", ClassSample { attributes: b"\0\0\0", ..RETURNS }),
+    ("another magic", ClassSample { magic: b"\xca\xfe\xba\xbf", ..RETURNS }),
+    ("version 48", ClassSample { version: b"\0\0\0\x30", ..RETURNS }),
+    ("minor version 1", ClassSample { version: b"\0\x01\0\x31", ..RETURNS }),
+    ("a pool without index 0", ClassSample { pool_count: b"\0\0", ..RETURNS }),
+    ("a text with the byte 128", ClassSample { pool: &[b"\x01\0\x01\x80", b"\x07\0\x01"], ..LATER }),
+    ("a class name without characters", ClassSample { pool: &[b"\x01\0\x01/", b"\x07\0\x01"], ..LATER }),
+    ("a String in the pool", ClassSample { pool: &[b"\x01\0\x01M", b"\x08\0\x01"], ..LATER }),
+    ("a Class that names a Class", ClassSample { pool: &[b"\x01\0\x01M", b"\x07\0\x02"], ..LATER }),
+    ("a Class that names nothing", ClassSample { pool: &[b"\x01\0\x01M", b"\x07\0\x09"], ..LATER }),
+    ("an interface with a method", ClassSample { flags: b"\x02\x21", ..RETURNS }),
+    ("a class that a text names", ClassSample { this_class: b"\0\x01", ..RETURNS }),
+    ("another superclass", ClassSample { super_class: b"\0\x02", ..RETURNS }),
+    ("an interface count of 1", ClassSample { interfaces: b"\0\x01", ..RETURNS }),
+    ("a field count of 1", ClassSample { fields: b"\0\x01", ..RETURNS }),
+    ("a method that isn't static", ClassSample {
+        methods: &[MethodSample { flags: b"\0\x01", ..MAIN }], ..RETURNS
+    }),
+    ("a native method", ClassSample {
+        methods: &[MethodSample { flags: b"\x01\x09", ..MAIN }], ..RETURNS
+    }),
+    ("two attributes", ClassSample {
+        methods: &[MethodSample { attributes_count: b"\0\x02", ..MAIN }], ..RETURNS
+    }),
+    ("an attribute of another name", ClassSample {
+        methods: &[MethodSample { attribute_name: b"\0\x05", ..MAIN }], ..RETURNS
+    }),
+    ("a length one short", ClassSample {
+        methods: &[MethodSample { attribute_length: b"\0\0\0\x0c", ..MAIN }], ..RETURNS
+    }),
+    ("a length of 4 GiB", ClassSample {
+        methods: &[MethodSample { attribute_length: b"\xff\xff\xff\xff", ..MAIN }], ..RETURNS
+    }),
 ];
 
 // The files beside, of one lifetime with what they are called.
