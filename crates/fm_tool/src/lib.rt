@@ -8,6 +8,8 @@
 mod line;
 mod refusal;
 pub mod status;
+#[cfg(test)]
+mod tests;
 mod words;
 
 pub use line::put_line;

@@ -102,10 +102,11 @@ SaysWrite words old new before after = (before.faults < after.faults) ⊎ SaysUn
 abbrev pub FailsToWrite : Disk → Disk → Job → Type 0
 FailsToWrite old new job = old.write_faults (written_name job) < new.write_faults (written_name job)
 
--- exactly where the sink's faults rose in this call, or the write faults of the name that is written, and there unless memory can't be had
-abbrev pub IsForWrite : List Bytes → Disk → Disk → Output → Output → ℕ → Type 0
-IsForWrite words old new before after result =
-    ComesExactly WRITE (OUT_OF_MEMORY ∷ []) result (SaysWrite words old new before after) ((before.faults < after.faults) ⊎ AskFor words (FailsToWrite old new))
+-- only there; exactly there where a put failed, and where a write failed unless memory for its line can't be had
+pub record IsForWrite (words : List Bytes) (old new : Disk) (before after : Output) (result : ℕ) : Type 0 where
+  pub only : result ≡ WRITE → SaysWrite words old new before after
+  pub put : before.faults < after.faults → result ≡ WRITE
+  pub write : AskFor words (FailsToWrite old new) → Contains (WRITE ∷ OUT_OF_MEMORY ∷ []) result
 
 -- ---- 76
 
