@@ -22,7 +22,7 @@ abbrev pub TellsEnd : Reading → Type 0
 TellsEnd read = (offset : ℕ) (x y r s : List ℕ) (i j : Insn) → read offset x ≡ Some i → read offset y ≡ Some j → x ++ r ≡ y ++ s → x ≡ y
 
 -- each instruction that is read has so many operand bytes
-abbrev HasLength : ℕ → Reading → Type 0
+abbrev pub HasLength : ℕ → Reading → Type 0
 HasLength n read = (offset : ℕ) (x : List ℕ) (i : Insn) → read offset x ≡ Some i → length x ≡ n
 
 -- a known number of operand bytes tells the end
@@ -35,14 +35,14 @@ TellsEnd-length n read has_length offset x y r s i j x_read y_read e =
 TellsEnd-malformed : TellsEnd malformed
 TellsEnd-malformed offset x y r s i j x_read y_read e = cc
 
-length-bare : (i : Insn) → HasLength 0 (bare i)
+pub length-bare : (i : Insn) → HasLength 0 (bare i)
 length-bare i offset [] j e = refl
 length-bare i offset (a ∷ rest) j e = cc
 
 TellsEnd-bare : (i : Insn) → TellsEnd (bare i)
 TellsEnd-bare i = TellsEnd-length 0 (bare i) (length-bare i)
 
-length-byte : (f : ℕ → Insn) → HasLength 1 (byte f)
+pub length-byte : (f : ℕ → Insn) → HasLength 1 (byte f)
 length-byte f offset [] j e = cc
 length-byte f offset (a ∷ []) j e = refl
 length-byte f offset (a ∷ b ∷ rest) j e = cc
@@ -53,7 +53,7 @@ TellsEnd-byte f = TellsEnd-length 1 (byte f) (length-byte f)
 TellsEnd-signed_byte : (f : ℤ → Insn) → TellsEnd (signed_byte f)
 TellsEnd-signed_byte f = TellsEnd-length 1 (signed_byte f) (length-byte _)
 
-length-two_bytes : (f : ℕ → ℕ → Option Insn) → HasLength 2 (two_bytes f)
+pub length-two_bytes : (f : ℕ → ℕ → Option Insn) → HasLength 2 (two_bytes f)
 length-two_bytes f offset [] j e = cc
 length-two_bytes f offset (a ∷ []) j e = cc
 length-two_bytes f offset (a ∷ b ∷ []) j e = refl
@@ -71,28 +71,28 @@ TellsEnd-jump f = TellsEnd-length 2 (jump f) (λ offset. length-two_bytes _ offs
 TellsEnd-increment : TellsEnd increment
 TellsEnd-increment = TellsEnd-length 2 increment (length-two_bytes _)
 
-length-long_jump : (f : ℕ → Insn) → HasLength 4 (long_jump f)
+pub length-long_jump : (f : ℕ → Insn) → HasLength 4 (long_jump f)
 length-long_jump f offset (a ∷ b ∷ c ∷ d ∷ []) j e = refl
 length-long_jump f offset operands j e = cc
 
 TellsEnd-long_jump : (f : ℕ → Insn) → TellsEnd (long_jump f)
 TellsEnd-long_jump f = TellsEnd-length 4 (long_jump f) (length-long_jump f)
 
-length-interface_call : HasLength 4 interface_call
+pub length-interface_call : HasLength 4 interface_call
 length-interface_call offset (a ∷ b ∷ count ∷ zero ∷ []) j e = refl
 length-interface_call offset operands j e = cc
 
 TellsEnd-interface_call : TellsEnd interface_call
 TellsEnd-interface_call = TellsEnd-length 4 interface_call length-interface_call
 
-length-array_of_arrays : HasLength 3 array_of_arrays
+pub length-array_of_arrays : HasLength 3 array_of_arrays
 length-array_of_arrays offset (a ∷ b ∷ suc dimensions ∷ []) j e = refl
 length-array_of_arrays offset operands j e = cc
 
 TellsEnd-array_of_arrays : TellsEnd array_of_arrays
 TellsEnd-array_of_arrays = TellsEnd-length 3 array_of_arrays length-array_of_arrays
 
-length-new_array : HasLength 1 new_array
+pub length-new_array : HasLength 1 new_array
 length-new_array offset [] j e = cc
 length-new_array offset (kind ∷ []) j e = refl
 length-new_array offset (a ∷ b ∷ rest) j e = cc
@@ -101,11 +101,11 @@ TellsEnd-new_array : TellsEnd new_array
 TellsEnd-new_array = TellsEnd-length 1 new_array length-new_array
 
 -- a choice that gives something takes its first branch
-cond_some : {X : Type 0} (t : Bool) (o : Option X) (x : X) → (if t then o else None) ≡ Some x → (t ≡ true) × (o ≡ Some x)
+pub cond_some : {X : Type 0} (t : Bool) (o : Option X) (x : X) → (if t then o else None) ≡ Some x → (t ≡ true) × (o ≡ Some x)
 cond_some true o x e = (refl, e)
 cond_some false o x e = cc
 
-length-left_out : (opcode count : ℕ) → HasLength count (left_out opcode count)
+pub length-left_out : (opcode count : ℕ) → HasLength count (left_out opcode count)
 length-left_out opcode count offset x j e = eqb-true (length x) count (cond_some (length x == count) _ j e).0
 
 TellsEnd-left_out : (opcode count : ℕ) → TellsEnd (left_out opcode count)
@@ -122,7 +122,7 @@ wide_local_is opcode index i e =
       go false is = is
 
 -- two bytes follow the second opcode, or four after iinc
-length-wide : (offset opcode : ℕ) (rest : List ℕ) (i : Insn) → wide offset (opcode ∷ rest) ≡ Some i → length rest ≡ (if opcode == 132 then 4 else 2)
+pub length-wide : (offset opcode : ℕ) (rest : List ℕ) (i : Insn) → wide offset (opcode ∷ rest) ≡ Some i → length rest ≡ (if opcode == 132 then 4 else 2)
 length-wide offset opcode (a ∷ b ∷ []) i e =
     sym (ap (λ (t : Bool). if t then 4 else 2) (wide_local_is opcode (number_of_two a b) i e))
 length-wide offset opcode (a ∷ b ∷ c ∷ d ∷ []) i e = sym (ap (λ (t : Bool). if t then 4 else 2) (cond_some (opcode == 132) _ i e).0)
@@ -151,17 +151,17 @@ abbrev TellsCount : (ℕ → List ℤ → Option Insn) → Type 0
 TellsCount f = (offset : ℕ) (zs ws : List ℤ) (i j : Insn) → f offset zs ≡ Some i → f offset ws ≡ Some j → AgreeSoFar zs ws → length zs ≡ length ws
 
 -- what gives something began with something
-and_then_some : {X Y : Type 0} (f : X → Option Y) (o : Option X) (y : Y) → option_and_then f o ≡ Some y → (x : X) × ((o ≡ Some x) × (f x ≡ Some y))
+pub and_then_some : {X Y : Type 0} (f : X → Option Y) (o : Option X) (y : Y) → option_and_then f o ≡ Some y → (x : X) × ((o ≡ Some x) × (f x ≡ Some y))
 and_then_some f None y e = cc
 and_then_some f (Some x) y e = (x, (refl, e))
 
 -- the same for a function of what was there
-map_some : {X Y : Type 0} (f : X → Y) (o : Option X) (y : Y) → option_map f o ≡ Some y → (x : X) × ((o ≡ Some x) × (f x ≡ y))
+pub map_some : {X Y : Type 0} (f : X → Y) (o : Option X) (y : Y) → option_map f o ≡ Some y → (x : X) × ((o ≡ Some x) × (f x ≡ y))
 map_some f None y e = cc
 map_some f (Some x) y e = (x, (refl, cc))
 
 -- the number that is that natural one
-is_number_pos : (z : ℤ) (k : ℕ) → is_number z k ≡ true → z ≡ pos k
+pub is_number_pos : (z : ℤ) (k : ℕ) → is_number z k ≡ true → z ≡ pos k
 is_number_pos (pos n) k e = ap pos (eqb-true n k e)
 is_number_pos (negsuc n) k e = cc
 
@@ -181,7 +181,7 @@ TellsCount-table offset (others ∷ low ∷ high ∷ jumps) (others' ∷ low' �
 TellsCount-table offset zs ws i j first second agree = cc
 
 -- two numbers for each pair
-length-pairs_of : (numbers : List ℤ) (p : List ℤ × List ℤ) → pairs_of numbers ≡ Some p → length numbers ≡ 2 * length p.0
+pub length-pairs_of : (numbers : List ℤ) (p : List ℤ × List ℤ) → pairs_of numbers ≡ Some p → length numbers ≡ 2 * length p.0
 length-pairs_of [] p e = let none : p ≡ ([], []) = cc in ap (λ (q : List ℤ × List ℤ). 2 * length q.0) (sym none)
 length-pairs_of (key ∷ []) p e = cc
 length-pairs_of (key ∷ jump ∷ rest) p e =
@@ -204,7 +204,7 @@ TellsCount-lookup offset (others ∷ count ∷ numbers) (others' ∷ count' ∷ 
 TellsCount-lookup offset zs ws i j first second agree = cc
 
 -- four bytes for each number
-length-signed_fours : (x : List ℕ) (zs : List ℤ) → signed_fours x ≡ Some zs → length x ≡ 4 * length zs
+pub length-signed_fours : (x : List ℕ) (zs : List ℤ) → signed_fours x ≡ Some zs → length x ≡ 4 * length zs
 length-signed_fours [] zs e = let none : zs ≡ [] = cc in ap (λ (us : List ℤ). 4 * length us) (sym none)
 length-signed_fours (a ∷ []) zs e = cc
 length-signed_fours (a ∷ b ∷ []) zs e = cc
@@ -230,7 +230,7 @@ AgreeSoFar-signed_fours (a ∷ b ∷ c ∷ d ∷ x) (a' ∷ b' ∷ c' ∷ d' ∷
 AgreeSoFar-signed_fours x y r s (z ∷ zs) (w ∷ ws) x_is y_is e = cc
 
 -- the padding is there, and after it numbers of four bytes
-switch_is : (f : ℕ → List ℤ → Option Insn) (offset : ℕ) (x : List ℕ) (i : Insn) → switch f offset x ≡ Some i →
+pub switch_is : (f : ℕ → List ℤ → Option Insn) (offset : ℕ) (x : List ℕ) (i : Insn) → switch f offset x ≡ Some i →
     (padding_at offset ≤ length x) × ((zs : List ℤ) × ((signed_fours (drop (padding_at offset) x) ≡ Some zs) × (f offset zs ≡ Some i)))
 switch_is f offset x i e = go (ltb (length x) (padding_at offset)) refl e where
   go : (t : Bool) → ltb (length x) (padding_at offset) ≡ t →
