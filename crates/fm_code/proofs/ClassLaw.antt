@@ -17,7 +17,7 @@ use Rattle.fm_code.specs.declared.class_file.MemberAttr.TheVariants as attribute
 use Rattle.fm_code.proofs.Bytes.{length-two}
 use Rattle.fm_code.proofs.Prefixes.{Cancels, Tells, Cancels-two, Cancels-raw, cancel_attribute, CountedFits-both, ◌then◌, ◌so◌, tells, tells_two, tells_counted, tells_same, tells_nothing, told_alone, text_meets}
 use Rattle.fm_code.proofs.PoolPrefixes.{PoolFits, Cancels-pool}
-use Rattle.fm_code.proofs.Elements.{All-weaker}
+use Rattle.fm_base.proofs.ListFacts.{AllByRecursion-weaker}
 use Rattle.fm_code.proofs.CodePrefixes.{one_code_attribute}
 
 -- ---- attributes of members
@@ -141,9 +141,9 @@ tells_fields x y c d c_spells d_spells pool =
     subst (λ (p : Pool). AllByRecursion (FieldIsValid (is_interface d.flags) p.entries) d.fields) (sym pool) d_spells.fields in
     tells_counted member_bytes (MemberIsRight (FieldAttrIsValid entries)) (Cancels-field entries) c.fields d.fields
     (CountedFits-both MemberFits Valid c.fields c_spells.fits.fields
-    (All-weaker (FieldIsValid (is_interface c.flags) entries) Valid (valid (is_interface c.flags)) c.fields c_spells.fields))
+    (AllByRecursion-weaker (FieldIsValid (is_interface c.flags) entries) Valid (valid (is_interface c.flags)) c.fields c_spells.fields))
     (CountedFits-both MemberFits Valid d.fields d_spells.fits.fields
-    (All-weaker (FieldIsValid (is_interface d.flags) entries) Valid (valid (is_interface d.flags)) d.fields d_there))
+    (AllByRecursion-weaker (FieldIsValid (is_interface d.flags) entries) Valid (valid (is_interface d.flags)) d.fields d_there))
 
 -- the methods of two class files with one pool
 tells_methods : (x y : List ℕ) (c d : ClassDef) → Spells x c → Spells y d → c.pool ≡ d.pool →
@@ -156,9 +156,9 @@ tells_methods x y c d c_spells d_spells pool =
     subst (λ (p : Pool). AllByRecursion (MethodIsValid (is_interface d.flags) p.entries) d.methods) (sym pool) d_spells.methods in
     tells_counted member_bytes (MemberIsRight (MethodAttrIsValid entries)) (Cancels-method entries) c.methods d.methods
     (CountedFits-both MemberFits Valid c.methods c_spells.fits.methods
-    (All-weaker (MethodIsValid (is_interface c.flags) entries) Valid (valid (is_interface c.flags)) c.methods c_spells.methods))
+    (AllByRecursion-weaker (MethodIsValid (is_interface c.flags) entries) Valid (valid (is_interface c.flags)) c.methods c_spells.methods))
     (CountedFits-both MemberFits Valid d.methods d_spells.fits.methods
-    (All-weaker (MethodIsValid (is_interface d.flags) entries) Valid (valid (is_interface d.flags)) d.methods d_there))
+    (AllByRecursion-weaker (MethodIsValid (is_interface d.flags) entries) Valid (valid (is_interface d.flags)) d.methods d_there))
 
 -- the pool of a class file
 pool_fits : (bytes : List ℕ) (c : ClassDef) → Spells bytes c → PoolFits c.pool

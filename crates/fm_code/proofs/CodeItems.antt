@@ -9,7 +9,7 @@ use Rattle.fm_code.specs.SpellsCode.{targets_of, with_targets, AreOffsets, IsSpe
 use Rattle.fm_code.specs.declared.instructions.Insn.{Insn}
 use Rattle.fm_code.specs.declared.instructions.Insn.TheVariants as insn
 use Rattle.fm_code.specs.declared.code_array.Item.{Item}
-use Rattle.fm_code.proofs.Elements.{All-weaker}
+use Rattle.fm_base.proofs.ListFacts.{AllByRecursion-weaker}
 use Rattle.fm_code.proofs.InsnPrefixes.{insn_at_tells_end, insn_at_not_empty}
 
 -- ---- offsets
@@ -159,8 +159,8 @@ same_items xs_all ys_all find found count offsets (x ∷ xs) (y ∷ ys) ((at, by
     let f = offset_in xs_all zero in
     let IsFound : ℕ → Type 0 = λ target. find (f target) ≡ target in
     let found_y : (target : ℕ) → target < length ys_all → IsFound target = λ target inside. found target (omega arith) in
-    let x_back = with_targets_back f find x.insn (All-weaker (λ target. target < length xs_all) IsFound found (targets_of x.insn) x_is.targets) in
-    let y_back = with_targets_back f find y.insn (All-weaker (λ target. target < length ys_all) IsFound found_y (targets_of y.insn) y_is.targets) in
+    let x_back = with_targets_back f find x.insn (AllByRecursion-weaker (λ target. target < length xs_all) IsFound found (targets_of x.insn) x_is.targets) in
+    let y_back = with_targets_back f find y.insn (AllByRecursion-weaker (λ target. target < length ys_all) IsFound found_y (targets_of y.insn) y_is.targets) in
     let both : Some (with_targets f x.insn) ≡ Some (with_targets f y.insn) =
     sym x_is.instruction ∙ (λ k. insn_at (at k) (bytes k)) ∙ y_is.instruction ∙ ap (λ (g : ℕ → ℕ). Some (with_targets g y.insn)) (sym offsets) in
     let named : with_targets f x.insn ≡ with_targets f y.insn = cc in
@@ -178,7 +178,7 @@ AreLaid-code bytes items spells =
     let size : length bytes ≡ length (flat_map item_bytes items) = ap length spells.bytes_are in
     record {
       offsets = spells.offsets;
-      not_empty = All-weaker (IsSpelled items) HasBytes (λ item spelled. IsRead-has_bytes item (IsSpelled-read items item spelled)) items spells.spelled;
+      not_empty = AllByRecursion-weaker (IsSpelled items) HasBytes (λ item spelled. IsRead-has_bytes item (IsSpelled-read items item spelled)) items spells.spelled;
       total = omega arith;
     }
 
@@ -187,7 +187,7 @@ pub one_code : (bytes : List ℕ) (xs ys : List Item) → SpellsCode bytes xs �
 one_code bytes xs ys x_spells y_spells =
     let laid = AreLaid-code bytes xs x_spells in
     let same = same_cuts 0 xs ys x_spells.offsets y_spells.offsets
-    (All-weaker (IsSpelled xs) IsRead (IsSpelled-read xs) xs x_spells.spelled) (All-weaker (IsSpelled ys) IsRead (IsSpelled-read ys) ys y_spells.spelled)
+    (AllByRecursion-weaker (IsSpelled xs) IsRead (IsSpelled-read xs) xs x_spells.spelled) (AllByRecursion-weaker (IsSpelled ys) IsRead (IsSpelled-read ys) ys y_spells.spelled)
     (sym x_spells.bytes_are ∙ y_spells.bytes_are) in
     let found : (target : ℕ) → target < length xs → index_of xs (offset_in xs zero target) ≡ target = λ target inside.
     ap (index_of xs) (offset_of_item xs zero (length bytes) target inside) ∙ index_of-offset_in 0 (length bytes) xs target laid inside in

@@ -14,8 +14,13 @@ use Rattle.fm_code.specs.declared.operations.Shift.TheVariants as shift
 use Rattle.fm_code.specs.declared.operations.Conv.TheVariants as conv
 use Rattle.fm_code.specs.declared.instructions.Insn.{Insn}
 use Rattle.fm_code.specs.declared.instructions.Insn.TheVariants as insn
-use Rattle.fm_code.proofs.Elements.{All-joined, All-mapped, All-at}
+use Rattle.fm_base.proofs.ListFacts.{AllByRecursion-append, AllByRecursion-get_or}
 use Rattle.fm_code.proofs.Prefixes.{split_same}
+
+-- what holds of each image
+All-mapped : {X Y : Type 0} (P : Y → Type 0) (f : X → Y) (xs : List X) → AllByRecursion (λ (x : X). P (f x)) xs → AllByRecursion P (map f xs)
+All-mapped P f [] all = tt
+All-mapped P f (x ∷ xs) all = (all.0, All-mapped P f xs all.1)
 
 -- operands in front of other bytes are told by the bytes alone
 abbrev pub TellsEnd : Reading → Type 0
@@ -342,13 +347,13 @@ TellsEnd-control_and_objects =
 -- each row of the table tells its end
 TellsEnd-rows : AllByRecursion RowTellsEnd rows
 TellsEnd-rows =
-    All-joined RowTellsEnd ((constants_and_loads ++ stores_and_stack) ++ arithmetic) control_and_objects
-    (All-joined RowTellsEnd (constants_and_loads ++ stores_and_stack) arithmetic
-    (All-joined RowTellsEnd constants_and_loads stores_and_stack TellsEnd-constants_and_loads TellsEnd-stores_and_stack) TellsEnd-arithmetic)
+    AllByRecursion-append RowTellsEnd ((constants_and_loads ++ stores_and_stack) ++ arithmetic) control_and_objects
+    (AllByRecursion-append RowTellsEnd (constants_and_loads ++ stores_and_stack) arithmetic
+    (AllByRecursion-append RowTellsEnd constants_and_loads stores_and_stack TellsEnd-constants_and_loads TellsEnd-stores_and_stack) TellsEnd-arithmetic)
     TellsEnd-control_and_objects
 
 TellsEnd-reading_of : (opcode : ℕ) → TellsEnd (reading_of opcode)
-TellsEnd-reading_of opcode = All-at TellsEnd (map (λ (row : Row). row.1) rows) malformed (All-mapped TellsEnd (λ (row : Row). row.1) rows TellsEnd-rows) TellsEnd-malformed opcode
+TellsEnd-reading_of opcode = AllByRecursion-get_or TellsEnd (map (λ (row : Row). row.1) rows) malformed (All-mapped TellsEnd (λ (row : Row). row.1) rows TellsEnd-rows) TellsEnd-malformed opcode
 
 -- an instruction in front of other bytes is told by the bytes alone
 pub insn_at_tells_end : TellsEnd insn_at

@@ -8,7 +8,7 @@ use Rattle.fm_code.specs.Numbers.{two, four, eight, signed_four, signed_eight}
 use Rattle.fm_code.specs.ClassBytes.{counted, attribute_bytes, raw_bytes}
 use Rattle.fm_code.specs.Fits.{FitsTwo, FitsFour, CountedFits, RawFits}
 use Rattle.fm_code.specs.declared.constant_pool.Entry.{Entry}
-use Rattle.fm_code.proofs.Elements.{All-both}
+use Rattle.fm_base.proofs.ListFacts.{AllByRecursion-both}
 use Rattle.fm_code.proofs.Bytes.{length-two, length-four, length-eight, length-signed_four, length-signed_eight, two_injective, four_injective, eight_injective, signed_four_injective, signed_eight_injective}
 
 -- a value and what follows it are told by the bytes
@@ -135,7 +135,7 @@ tells_same p q same = record { cancel = λ r s e. split_same p q r s same e }
 
 -- elements with a second property
 pub CountedFits-both : {X : Type 0} (P Q : X → Type 0) (xs : List X) → CountedFits P xs → AllByRecursion Q xs → CountedFits (λ x. P x × Q x) xs
-CountedFits-both P Q xs fits all = record { count = fits.count; each = All-both P Q xs fits.each all }
+CountedFits-both P Q xs fits all = record { count = fits.count; each = AllByRecursion-both P Q xs fits.each all }
 
 -- with nothing after it
 pub told_alone : {X : Type 0} (spell : X → List ℕ) (Fits : X → Type 0) → Cancels spell Fits → (x y : X) → Fits x → Fits y → spell x ≡ spell y → x ≡ y

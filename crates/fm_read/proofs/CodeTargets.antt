@@ -16,7 +16,7 @@ use Rattle.fm_code.specs.declared.instructions.Insn.TheVariants as insn
 use Rattle.fm_code.specs.declared.code_array.Item.{Item}
 use Rattle.fm_code.proofs.CodeItems.{AreLaid, HasBytes, offset_rises}
 use Rattle.fm_code.proofs.InsnPrefixes.{insn_at_not_empty}
-use Rattle.fm_code.proofs.Elements.{All-weaker}
+use Rattle.fm_base.proofs.ListFacts.{AllByRecursion-weaker}
 use Rattle.fm_read.specs.CodeItems.{is_first_opcode, item_offset, AreRising, number_of, numbered_insn, numbered_item, numbered_items, HasFirstOpcode, AreDrafts, AreFirstItems}
 use Rattle.fm_read.specs.Reading.{Gives}
 use Rattle.fm_read.specs.declared.failure.FirstFail.{FirstFail}
@@ -285,7 +285,7 @@ drafts_rise max_locals bytes drafts are = λ i j before within.
     let size = length-offsets drafts in
     let laid : AreLaid 0 drafts end = record {
       offsets = are.offsets;
-      not_empty = All-weaker IsRead HasBytes (λ item read. insn_at_not_empty item.offset item.bytes item.insn read) drafts are.insns;
+      not_empty = AllByRecursion-weaker IsRead HasBytes (λ item read. insn_at_not_empty item.offset item.bytes item.insn read) drafts are.insns;
       total = omega arith;
     } in
     let rises = offset_rises 0 end drafts i j laid before (omega arith) in
