@@ -1,7 +1,7 @@
 // Cells and heads, and what the calls of a memory answer.
 
 ghost use Rattle.std.specs.Prelude.{◌≡◌};
-ghost use Rattle.fm_cells.specs.declared.answers.MakeFail.TheVariants.{NoMemory as WantOfMemory};
+ghost use Rattle.fm_cells.specs.declared.answers.MakeFail.TheVariants.{NoMemory as OutOfMemory};
 
 use fm_base::NoMemory;
 use std::alloc::{AllocError, AllocFailed};
@@ -41,7 +41,7 @@ pub enum MakeFail {
 }
 
 impl From<AllocError> for MakeFail {
-    ghost from_gives = { λ _ e. e ≡ WantOfMemory };
+    ghost from_gives = { λ _ e. e ≡ OutOfMemory };
 
     fn from(_error: AllocError) -> MakeFail {
         MakeFail::NoMemory
@@ -49,7 +49,7 @@ impl From<AllocError> for MakeFail {
 }
 
 impl<T: Drop> From<AllocFailed<T>> for MakeFail {
-    ghost from_gives = { λ _ e. e ≡ WantOfMemory };
+    ghost from_gives = { λ _ e. e ≡ OutOfMemory };
 
     fn from(_error: AllocFailed<T>) -> MakeFail {
         MakeFail::NoMemory
@@ -57,7 +57,7 @@ impl<T: Drop> From<AllocFailed<T>> for MakeFail {
 }
 
 impl From<NoMemory> for MakeFail {
-    ghost from_gives = { λ _ e. e ≡ WantOfMemory };
+    ghost from_gives = { λ _ e. e ≡ OutOfMemory };
 
     fn from(_error: NoMemory) -> MakeFail {
         MakeFail::NoMemory

@@ -22,7 +22,8 @@ pub fn is_marked(marks: &[u64], cell: u32) -> bool
 pub fn set_mark(marks: &mut [u64], cell: u32, mark: u64)
     requires within { cell / 64 < length marks.old }
     requires bit { mark < 2 }
-    ensures { marks.new ≡ slice_set marks.old (cell / 64) (spec.with_digit 1 (cell % 64) mark (slice_index marks.old (cell / 64))) }
+    ensures { let word = slice_index marks.old (cell / 64) in
+        marks.new ≡ slice_set marks.old (cell / 64) (spec.with_digit 1 (cell % 64) mark word) }
 {
     let at = (cell / 64) as usize;
     marks[at] = with_digit(marks[at], 1, cell % 64, mark);

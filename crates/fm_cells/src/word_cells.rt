@@ -87,7 +87,8 @@ impl WordCells {
         requires pack_is { IsPack pack }
         requires birth_fits { self.old.births < 2 ^ 32 - 1 }
         requires within { spec.words_needed self.old (request_of class len pack fixed) ≤ self.old.budget }
-        requires head { (rest : List ℕ) × (spec.free_cells self.old (request_size_class (request_of class len pack fixed)) ≡ cell ∷ rest) }
+        requires head { let size_class = request_size_class (request_of class len pack fixed) in
+            (rest : List ℕ) × (spec.free_cells self.old size_class ≡ cell ∷ rest) }
         ensures { self.new ≡ made_by self.old (request_of class len pack fixed) (Take cell false) }
     {
         let words = object_words(len, pack);
@@ -120,10 +121,16 @@ impl WordCells {
         requires pack_is { IsPack pack }
         requires birth_fits { self.old.births < 2 ^ 32 - 1 }
         requires within { spec.words_needed self.old (request_of class len pack fixed) ≤ self.old.budget }
-        requires none { spec.free_cells self.old (request_size_class (request_of class len pack fixed)) ≡ [] }
-        ensures made { IfOk result (λ cell. (cell.0 ≡ self.old.made_words + 1) × (self.new ≡ made_by self.old (request_of class len pack fixed) (Take (self.old.made_words + 1) true))) }
-        ensures room { IfOk result (λ _. spec.passes_limit self.old (request_of class len pack fixed) ≡ false) }
-        ensures full { (result ≡ Err MakeFail.Store) ↔ (spec.passes_limit self.old (request_of class len pack fixed) ≡ true) }
+        requires none { let size_class = request_size_class (request_of class len pack fixed) in
+            spec.free_cells self.old size_class ≡ [] }
+        ensures made { let request = request_of class len pack fixed in
+            let next = self.old.made_words + 1 in
+            IfOk result (λ cell.
+            (cell.0 ≡ next) × (self.new ≡ made_by self.old request (Take next true))) }
+        ensures room { let request = request_of class len pack fixed in
+            IfOk result (λ _. spec.passes_limit self.old request ≡ false) }
+        ensures full { let request = request_of class len pack fixed in
+            (result ≡ Err MakeFail.Store) ↔ (spec.passes_limit self.old request ≡ true) }
         ensures no_budget { (result ≡ Err MakeFail.Budget) → ⊥ }
         ensures refused { OnErr result (self.new ≡ self.old) }
     {
