@@ -8,8 +8,8 @@ use Rattle.fm_tool.specs.Outside.{HoldsSuch}
 pub kept_unless_risen : (this : Bytes) (old new : Counts) → RisesAt this old new → ¬ (old this < new this) → AreKept old new
 kept_unless_risen this old new rises not_risen name =
     ⊎_elim (λ e. e) (λ ne. absurd (ne (rises.others name (λ same. ne (let P : Bytes → Type 0 = λ n. new n ≡ old n in subst P (sym same) at_this))))) (cases_eq (new name) (old name)) where
-  at_this : new this ≡ old this
-  at_this = let low = rises.never_falls in let high : ¬ (old this < new this) = not_risen in omega arith
+      at_this : new this ≡ old this
+      at_this = let low = rises.never_falls in let high : ¬ (old this < new this) = not_risen in omega arith
 
 -- what the file holds, where that is known, is such
 pub holds_such : (contents : Contents) (file bytes : Bytes) (P : Bytes → Type 0) → Holds contents file bytes → P bytes → HoldsSuch contents file P

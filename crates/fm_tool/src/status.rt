@@ -36,5 +36,4 @@ pub fn law_statuses()
     ensures not_yet { NOT_YET ≡ 77 }
     ensures running { RUNNING ≡ 80 }
     ensures too_deep { TOO_DEEP ≡ 82 }
-{
-}
+{}

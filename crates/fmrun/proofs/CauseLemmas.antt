@@ -168,6 +168,7 @@ for_form words old new out out' report report' result call = record { only = onl
     | inr (inl same) ↦ (let e : 75 ≡ 77 = sym same ∙ is in absurd (omega arith))
     | inr (inr same) ↦ (let e : 76 ≡ 77 = sym same ∙ is in absurd (omega arith))
   ]
+
   there : IsTopCall words old new out out' report report' result → IsKnownOfJob words old.contents IsNotYet → Contains (NOT_YET ∷ READ ∷ WRITE ∷ OUT_OF_MEMORY ∷ []) result
   there (inr unreported) known = (2, omega arith, sym unreported.status)
   there (inl reported) (job, (asked, known)) = elim reported.comes [
@@ -181,9 +182,14 @@ ends_only : (s : ℕ) → IsEndStatus s → (words : List Bytes) (old new : Disk
 ends_only s apart words old new before after o (inl nothing) same = let e : s ≡ 64 = sym same ∙ words_status o nothing.refused in absurd (apart (omega arith) (omega arith))
 ends_only s apart words old new before after o (inr j) same = of_job o j.comes same where
   of_job : (o : Outcome) → ComesTo j.job old new before after o → outcome_status o ≡ s → IsOfJob words old.contents (EndsWith s)
-  of_job (outcome.Ran ended) comes same =
-      (j.job, (j.asked, weaker old.contents j.job.file (λ bytes. IsAccepted j.job bytes comes.class) (EndsWith s j.job)
-      (λ bytes accepted. (comes.class, (accepted, (ended, (comes.comes.ended_is, same))))) comes.accepted))
+  of_job (outcome.Ran ended) comes same = (
+    j.job,
+    (
+      j.asked,
+      weaker old.contents j.job.file (λ bytes. IsAccepted j.job bytes comes.class) (EndsWith s j.job)
+          (λ bytes accepted. (comes.class, (accepted, (ended, (comes.comes.ended_is, same))))) comes.accepted,
+    ),
+  )
   of_job (outcome.Refused r) comes same = absurd (not_refused r s apart (sym same))
 
 ended_there : (s : ℕ) (job : Job) (bytes : Bytes) (c : ClassDef) (ended : Ended) → IsAccepted job bytes c → ended_of (run_of c job.steps) ≡ Some ended → EndsWith s job bytes → end_status ended.end ≡ s
@@ -220,6 +226,7 @@ for_end s apart words old new out out' report report' result call = record { onl
   only (inl reported) is =
       let P : ℕ → Type 0 = IsEndStatus in
       ends_only s apart words old new out out' reported.outcome reported.comes (sym (told_apart _ _ _ _ result reported.tells (subst P (sym is) apart)) ∙ is)
+
   there : IsTopCall words old new out out' report report' result → IsKnownOfJob words old.contents (EndsWith s) → Contains (s ∷ READ ∷ WRITE ∷ OUT_OF_MEMORY ∷ []) result
   there (inr unreported) known = (2, omega arith, sym unreported.status)
   there (inl reported) (job, (asked, known)) = elim reported.comes [

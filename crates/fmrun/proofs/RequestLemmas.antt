@@ -53,8 +53,10 @@ pub one_job : (words : List (List ℕ)) (a b : Job) → Asks words a → Asks wo
 one_job words a b asked also = same asked.words_are also.words_are where
   fields : a.steps ≡ b.steps → a.main ≡ b.main → a.file ≡ b.file → a ≡ b
   fields p q r = λ i. record { steps = p i; main = q i; file = r i }
+
   not_four : (x y digits main file : List ℕ) → x ∷ y ∷ [] ≡ codes "--steps" ∷ digits ∷ main ∷ file ∷ [] → ⊥
   not_four x y digits main file e = cc
+
   same : AreWords words a → AreWords words b → a ≡ b
   same (inl (two, steps)) (inl (other, also_steps)) =
       let both = sym two ∙ other in

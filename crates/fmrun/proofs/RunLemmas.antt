@@ -115,9 +115,9 @@ without_frames p budget old none ended is =
       ended_is = is ∙ ap (λ s. ended_of (run_from p budget s)) (sym none);
       put = subst Silent (sym none) (silent budget);
     } where
-  silent : (n : ℕ) → old ≡ with_pieces (run_from p n []).prints old
-  silent zero = sym (with_pieces-nil old)
-  silent (suc n) = sym (with_pieces-nil old)
+      silent : (n : ℕ) → old ≡ with_pieces (run_from p n []).prints old
+      silent zero = sym (with_pieces-nil old)
+      silent (suc n) = sym (with_pieces-nil old)
 
 -- ---- runs that are broken off
 

@@ -5,8 +5,8 @@ ghost use Rattle.std.specs.Option.{option_map};
 ghost use Rattle.fmrun.specs.Instructions.{frame_after, within};
 
 use crate::frames::StackFrame;
-use crate::programs::LinkedProgram;
 use crate::instructions;
+use crate::programs::LinkedProgram;
 use crate::values::Value;
 use fm_code::Insn;
 

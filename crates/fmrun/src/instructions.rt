@@ -9,8 +9,8 @@ ghost use Rattle.fm_alu.specs.Conversions.{result_of_comparison};
 ghost use Rattle.fmrun.specs.Instructions.{on_int, on_long, on_word, on_two_ints, on_two_longs, holds, with_stack, within, after_load_resolved, after_get_static, after_conversion, after_load, after_store, after_increment, after_int_jump, after_pair_jump};
 ghost use Rattle.fmrun.specs.declared.values.Value.TheVariants.{Top, Int, Long};
 
-use crate::resolved::Resolved;
 use crate::frames::StackFrame;
+use crate::resolved::Resolved;
 use crate::values::Value;
 use fm_alu::{compare, convert, int_op, int_shift, long_op, long_shift};
 use fm_code::{Conv, Op, Reg, Shift, Test};

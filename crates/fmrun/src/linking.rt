@@ -6,11 +6,11 @@ ghost use Rattle.std.specs.List.{before_first, after_first, position_or_len};
 ghost use Rattle.fmrun.specs.Programs.{program_of, method_of, result_kind, resolved_of, resolved_field, resolved_method, is_name_and_type, is_named_by, is_main, numbered};
 ghost use Rattle.fmrun.specs.Step.{argument_words};
 
-use crate::resolved::Resolved;
-use crate::programs::{LinkedMethod, LinkedProgram};
 use crate::pool_texts::{
     has_class_name, has_same_class_name, has_same_text, has_text, is_main_method, utf8,
 };
+use crate::programs::{LinkedMethod, LinkedProgram};
+use crate::resolved::Resolved;
 use fm_base::NoMemory;
 use fm_code::{ClassDef, Entry, Member, MemberAttr, Pool, Reg};
 use std::alloc::Global;

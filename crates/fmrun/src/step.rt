@@ -9,11 +9,11 @@ ghost use Rattle.fmrun.specs.Run.{opening};
 ghost use Rattle.fmrun.specs.inner.Progress.{turn_of, stack_words};
 ghost use Rattle.fmrun.specs.Instructions.{with_stack, within};
 
-use crate::resolved::Resolved;
 use crate::execution::execute;
 use crate::frames::StackFrame;
-use crate::programs::{LinkedMethod, LinkedProgram};
 use crate::instructions;
+use crate::programs::{LinkedMethod, LinkedProgram};
+use crate::resolved::Resolved;
 use crate::values::Value;
 use fm_base::NoMemory;
 use fm_base::limits::DEFAULT_FRAMES;

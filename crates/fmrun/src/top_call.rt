@@ -57,7 +57,7 @@ pub fn fmrun_run<F: Files, O: Sink, R: Sink>(
     ensures memory { IsForMemory (R.output report.old) (R.output report.new) result }
     ensures ran { Contains (DONE ∷ RUNNING ∷ TOO_DEEP ∷ []) result
         → IsForRun (texts words.now) (F.disk files.old).contents
-            (O.output out.old) (O.output out.new) (R.output report.old) (R.output report.new) result }
+        (O.output out.old) (O.output out.new) (R.output report.old) (R.output report.new) result }
 
     // What is read, and what stays.
     ensures reads { ReadsOnly (texts words.now) (F.disk files.old) (F.disk files.new) }
@@ -67,7 +67,7 @@ pub fn fmrun_run<F: Files, O: Sink, R: Sink>(
         (R.output report.old) (R.output report.new) result }
     ensures no_put_fault { result ≢ WRITE
         → HasNoPutFault
-            (O.output out.old) (O.output out.new) (R.output report.old) (R.output report.new) }
+        (O.output out.old) (O.output out.new) (R.output report.old) (R.output report.new) }
 {
     do_call(alloc, words, files, out, report)
 }
@@ -99,7 +99,7 @@ fn do_words<'a, F: Files, O: Sink>(
     ensures { MatchResult result
         (ComesOf (texts words.now) (F.disk files.old) (F.disk files.new) (O.output out.old) (O.output out.new))
         (λ _. OutputFailsOf (texts words.now)
-            (F.disk files.old) (F.disk files.new) (O.output out.old) (O.output out.new)) }
+        (F.disk files.old) (F.disk files.new) (O.output out.old) (O.output out.new)) }
 {
     match request_of(words) {
         Some(request) => do_job(alloc, request, files, out),
@@ -117,9 +117,9 @@ fn do_job<'a, F: Files, O: Sink>(
     ensures reads { ReadsFile (job_of request.entry) (F.disk files.old) (F.disk files.new) }
     ensures comes { MatchResult result
         (ComesTo (job_of request.entry)
-            (F.disk files.old) (F.disk files.new) (O.output out.old) (O.output out.new))
+        (F.disk files.old) (F.disk files.new) (O.output out.old) (O.output out.new))
         (λ _. OutputFails (job_of request.entry)
-            (F.disk files.old) (F.disk files.new) (O.output out.old) (O.output out.new)) }
+        (F.disk files.old) (F.disk files.new) (O.output out.old) (O.output out.new)) }
 {
     let bytes = match files.read(alloc, request.file, MAX_FILE_BYTES) {
         Ok(bytes) => bytes,

@@ -89,8 +89,8 @@ after_write job old between new read write = record {
     faults = rises_then_kept job.file old.read_faults between.read_faults new.read_faults read.reads.faults write.reads;
     widest = rises_then_kept job.file old.widest_read between.widest_read new.widest_read read.reads.widest write.widest;
     within =
-      let P : ℕ → Type 0 = λ n. n ≤ max (old.widest_read job.file) (MAX_FILE_BYTES + 1) in
-      subst P (sym (write.widest job.file)) read.reads.within;
+        let P : ℕ → Type 0 = λ n. n ≤ max (old.widest_read job.file) (MAX_FILE_BYTES + 1) in
+        subst P (sym (write.widest job.file)) read.reads.within;
   };
   writes = kept_then_rises (written_name job) old.write_faults between.write_faults new.write_faults read.writes write.writes;
   others = let P : Contents → Type 0 = λ c. OthersAreKept (written_name job) c new.contents in subst P read.kept write.others;

@@ -33,10 +33,15 @@ fn case<'a>(words: &'a str, file: ClassSample<'a>, status: u8, line: &'a str) ->
 }
 
 const ASKED: &str = "--out d --main M M.class";
+
 const DONE: &str = "M: 0 sites, 0 frees\n";
+
 const WORDS: &str = "refused: words\n";
+
 const READ: &str = "refused: read M.class\n";
+
 const WRITE: &str = "refused: write d/M.class\n";
+
 const NOT_YET: &str = "refused: not-yet M.class\n";
 
 fn cases<'a>() -> [Case<'a>; 12] {
@@ -70,7 +75,12 @@ fn cases<'a>() -> [Case<'a>; 12] {
         },
         case(ASKED, MAKES_ARRAY, status::NOT_YET, NOT_YET),
         case(ASKED, MAIN_OF_NO_ARGUMENTS, status::NOT_YET, NOT_YET),
-        case("--out d --main N M.class", RETURNS, status::NOT_YET, NOT_YET),
+        case(
+            "--out d --main N M.class",
+            RETURNS,
+            status::NOT_YET,
+            NOT_YET,
+        ),
     ]
 }
 

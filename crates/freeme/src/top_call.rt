@@ -9,8 +9,8 @@ ghost use Rattle.freeme.specs.TopCall.{ComesTo, ComesOf, StaysWithin, IsTopCall}
 
 use crate::outcome::Outcome;
 use crate::request::{Request, request_of};
-use fm_base::limits::MAX_FILE_BYTES;
 use fm_base::NoMemory;
+use fm_base::limits::MAX_FILE_BYTES;
 use fm_files::{FileFail, Files, Sink, WriteFail};
 use fm_read::{FirstFail, read_main_class};
 use fm_tool::{Refusal, put_line, status};
