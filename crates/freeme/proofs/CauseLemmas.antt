@@ -1,16 +1,16 @@
--- When a class is written and when a file isn't accepted, from what a call does.
+-- When a status comes, from what a call does.
 use Rattle.std.proofs.Common.{◌≡◌, ◌⊎◌, ℕ, List, [], ◌∷◌, Contains, refl, sym, ◌∙◌, inl, inr, arith, subst, Option, Some, None, IsSomeAnd}
 use Rattle.fm_files.specs.Files.{Bytes, Contents, Disk}
 use Rattle.fm_files.specs.Sink.{Output, with_piece}
-use Rattle.fm_tool.specs.Line.{Tells}
+use Rattle.fm_tool.specs.Line.{IsPut, Tells}
 use Rattle.fm_tool.specs.Outside.{HoldsSuch, IsKnownSuch}
 use Rattle.fm_tool.specs.Refusal.{not_yet_line}
 use Rattle.fm_tool.specs.declared.refusal.Refusal.TheVariants as refusal
 use Rattle.fm_tool.specs.declared.status.TheConstants.{DONE, WORDS, READ, WRITE, OUT_OF_MEMORY, NOT_YET}
 use Rattle.freeme.specs.Request.{Job, Asks}
 use Rattle.freeme.specs.Outcome.{class_line, outcome_line, outcome_status}
-use Rattle.freeme.specs.TopCall.{AreAccepted, AreRefused, ComesOf}
-use Rattle.freeme.specs.Causes.{IsStatus, AskFor, SaysDone, SaysNotYet, IsKnownAccepted, IsKnownRefused, IsForDone, IsForForm}
+use Rattle.freeme.specs.TopCall.{AreAccepted, AreRefused, IsUntouched, ComesOf}
+use Rattle.freeme.specs.Causes.{IsStatus, AskFor, SaysDone, SaysNotYet, IsKnownAccepted, IsKnownRefused, SaysMemory, LacksLine, IsForDone, IsForForm, IsForMemory}
 use Rattle.freeme.specs.declared.outcome.Outcome.{Outcome}
 use Rattle.freeme.specs.declared.outcome.Outcome.TheVariants as outcome
 
@@ -154,3 +154,36 @@ is_for_form words old new before after result o comes tells = record {
   there = λ cause. among (NOT_YET ∷ READ ∷ WRITE ∷ OUT_OF_MEMORY ∷ []) (outcome_status o) result (of_refused words old new o comes cause) (2, omega arith, refl) (3, omega arith, refl)
       (told (outcome_line o) (outcome_status o) before after result tells);
 }
+
+-- ---- 76
+
+-- files that are as they were are untouched
+untouched : (old new : Disk) → new ≡ old → IsUntouched old new
+untouched old new same = let P : Disk → Type 0 = λ d. IsUntouched old d in subst P (sym same) (record { faultless = record { reads = λ name. refl; writes = λ name. refl }; kept = refl })
+
+-- the line of memory is put
+own_line : (words : List Bytes) (old new : Disk) (before after : Output) (result : ℕ) (o : Outcome) → ComesOf words old new o → IsPut (outcome_line o) (outcome_status o) before after result →
+    result ≡ OUT_OF_MEMORY → SaysMemory old new before after
+own_line words old new before after result (outcome.Written request) comes put is = let e = put.0 in absurd (omega arith)
+own_line words old new before after result (outcome.Unwritten request) comes put is = let e = put.0 in absurd (omega arith)
+own_line words old new before after result (outcome.Refused refusal.Words) comes put is = let e = put.0 in absurd (omega arith)
+own_line words old new before after result (outcome.Refused (refusal.Read file)) comes put is = let e = put.0 in absurd (omega arith)
+own_line words old new before after result (outcome.Refused (refusal.NotYet file)) comes put is = let e = put.0 in absurd (omega arith)
+own_line words old new before after result (outcome.Refused refusal.OutOfMemory) (inl nothing) put is = absurd (let e = nothing.refused in cc)
+own_line words old new before after result (outcome.Refused refusal.OutOfMemory) (inr job) put is = record { untouched = job.comes; line = inl put.1 }
+
+-- memory for the line is lacking
+no_line : (words : List Bytes) (old new : Disk) (before after : Output) (o : Outcome) → ComesOf words old new o → after ≡ before → SaysMemory old new before after ⊎ LacksLine words old new before after
+no_line words old new before after o (inl nothing) silent = inl (record { untouched = untouched old new nothing.kept; line = inr silent })
+no_line words old new before after (outcome.Written request) (inr job) silent = inr (record { job = job.job; asked = job.asked; came = inl job.comes.1; silent = silent })
+no_line words old new before after (outcome.Unwritten request) (inr job) silent = inr (record { job = job.job; asked = job.asked; came = inr (inr (inr job.comes.1)); silent = silent })
+no_line words old new before after (outcome.Refused refusal.Words) (inr job) silent = absurd job.comes
+no_line words old new before after (outcome.Refused (refusal.Read file)) (inr job) silent = inr (record { job = job.job; asked = job.asked; came = inr (inl job.comes.1); silent = silent })
+no_line words old new before after (outcome.Refused (refusal.NotYet file)) (inr job) silent = inr (record { job = job.job; asked = job.asked; came = inr (inr (inl job.comes.1)); silent = silent })
+no_line words old new before after (outcome.Refused refusal.OutOfMemory) (inr job) silent = inl (record { untouched = job.comes; line = inr silent })
+
+pub is_for_memory : (words : List Bytes) (old new : Disk) (before after : Output) (result : ℕ) (o : Outcome) → ComesOf words old new o →
+    Tells (outcome_line o) (outcome_status o) before after result → IsForMemory words old new before after result
+is_for_memory words old new before after result o comes (inl put) is = inl (own_line words old new before after result o comes put is)
+is_for_memory words old new before after result o comes (inr (inl failed)) is = let e = failed.0 in absurd (omega arith)
+is_for_memory words old new before after result o comes (inr (inr lacking)) is = no_line words old new before after o comes lacking.1
