@@ -3,29 +3,32 @@
 use crate::top_call::freeme_run;
 use fm_base::NoMemory;
 use fm_files::{MemFiles, MemSink, SureFiles, SureSink};
-use fm_samples::{ClassSample, MAIN_OF_NO_ARGUMENTS, MAKES_ARRAY, RETURNS};
+use fm_samples::{MAIN_OF_NO_ARGUMENTS, MAKES_ARRAY, RETURNS};
 use fm_tool::status;
 use std::alloc::Global;
 use std::test::Fail;
 
-// A call over files in memory: its words, the file M.class, the number of the call on the files and of
+// A call over files in memory: its words, the file M.class, the numbers of the call on the files and of
 // the put that fail (none is 0), and what came of it: the status, the one line that is put, and whether
 // the class is written.
 #[derive(Clone, Copy)]
 struct Case<'a> {
     words: &'a str,
-    file: ClassSample<'a>,
-    failing: (u32, u32),
+    file: &'a [u8],
+    failing_call: u32,
+    failing_put: u32,
     status: u8,
     line: &'a str,
     is_written: bool,
 }
 
-fn case<'a>(words: &'a str, file: ClassSample<'a>, status: u8, line: &'a str) -> Case<'a> {
+// A case in which nothing fails.
+fn plain_case<'a>(words: &'a str, file: &'a [u8], status: u8, line: &'a str) -> Case<'a> {
     Case {
         words,
         file,
-        failing: (0, 0),
+        failing_call: 0,
+        failing_put: 0,
         status,
         line,
         is_written: status == status::DONE,
@@ -44,40 +47,40 @@ const WRITE: &str = "refused: write d/M.class\n";
 
 const NOT_YET: &str = "refused: not-yet M.class\n";
 
-fn cases<'a>() -> [Case<'a>; 12] {
-    let done = case(ASKED, RETURNS, status::DONE, DONE);
-    let refused = case("", RETURNS, status::WORDS, WORDS);
+fn cases<'a>(returns: &'a [u8], makes_array: &'a [u8], other_main: &'a [u8]) -> [Case<'a>; 12] {
+    let done = plain_case(ASKED, returns, status::DONE, DONE);
+    let refused = plain_case("", returns, status::WORDS, WORDS);
     [
         done,
         Case {
-            failing: (1, 0),
-            ..case(ASKED, RETURNS, status::READ, READ)
+            failing_call: 1,
+            ..plain_case(ASKED, returns, status::READ, READ)
         },
         Case {
-            failing: (2, 0),
-            ..case(ASKED, RETURNS, status::WRITE, WRITE)
+            failing_call: 2,
+            ..plain_case(ASKED, returns, status::WRITE, WRITE)
         },
         Case {
-            failing: (0, 1),
+            failing_put: 1,
             status: status::WRITE,
             line: "",
             ..done
         },
         refused,
-        case("--out d --main M", RETURNS, status::WORDS, WORDS),
-        case("--out d --main  M.class", RETURNS, status::WORDS, WORDS),
-        case("--main M --out d M.class", RETURNS, status::WORDS, WORDS),
+        plain_case("--out d --main M", returns, status::WORDS, WORDS),
+        plain_case("--out d --main  M.class", returns, status::WORDS, WORDS),
+        plain_case("--main M --out d M.class", returns, status::WORDS, WORDS),
         Case {
-            failing: (0, 1),
+            failing_put: 1,
             status: status::WRITE,
             line: "",
             ..refused
         },
-        case(ASKED, MAKES_ARRAY, status::NOT_YET, NOT_YET),
-        case(ASKED, MAIN_OF_NO_ARGUMENTS, status::NOT_YET, NOT_YET),
-        case(
+        plain_case(ASKED, makes_array, status::NOT_YET, NOT_YET),
+        plain_case(ASKED, other_main, status::NOT_YET, NOT_YET),
+        plain_case(
             "--out d --main N M.class",
-            RETURNS,
+            returns,
             status::NOT_YET,
             NOT_YET,
         ),
@@ -96,17 +99,22 @@ fn split_words(alloc: Global, text: &str) -> Result<Vec<String>, NoMemory> {
 #[test]
 fn each_status_has_its_line_and_its_files(rt: HostRuntime) -> Result<(), Fail> {
     let alloc = rt.alloc();
-    for case in cases() {
-        let (failing_call, failing_put) = case.failing;
-        let mut files = MemFiles::new(alloc, vec![in alloc; failing_call]?);
-        let bytes = case.file.bytes(alloc)?;
-        files.add("M.class", bytes.as_slice())?;
-        let mut out = MemSink::new(alloc, vec![in alloc; failing_put]?);
+    let returns = RETURNS.bytes(alloc)?;
+    let makes_array = MAKES_ARRAY.bytes(alloc)?;
+    let other_main = MAIN_OF_NO_ARGUMENTS.bytes(alloc)?;
+    for case in cases(
+        returns.as_slice(),
+        makes_array.as_slice(),
+        other_main.as_slice(),
+    ) {
+        let mut files = MemFiles::new(alloc, vec![in alloc; case.failing_call]?);
+        files.add("M.class", case.file)?;
+        let mut out = MemSink::new(alloc, vec![in alloc; case.failing_put]?);
         let words = split_words(alloc, case.words)?;
         let status = freeme_run(alloc, words.as_slice(), &mut files, &mut out);
         assert_eq!(rt; status, case.status, "{}", case.words);
         assert!(rt; out.bytes() == case.line.as_bytes(), "{}", case.words);
-        let is_copied = files.bytes("d/M.class") == Some(bytes.as_slice());
+        let is_copied = files.bytes("d/M.class") == Some(case.file);
         assert_eq!(rt; is_copied, case.is_written, "{}", case.words);
     }
     Ok(())
