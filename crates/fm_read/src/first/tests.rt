@@ -119,7 +119,10 @@ fn another_pool_is_refused(rt: HostRuntime) -> Result<(), Fail> {
         pool: &[b"\x01\0\x01/", b"\x07\0\x01"],
         ..LATER
     };
-    assert!(rt; is_not_yet(alloc, &slash)?, "a class name without characters");
+    assert!(rt;
+        is_not_yet(alloc, &slash)?,
+        "a class name without characters"
+    );
     let literal = ClassSample {
         pool: &[b"\x01\0\x01M", b"\x08\0\x01"],
         ..LATER
@@ -182,7 +185,10 @@ fn another_kind_of_method_is_refused(rt: HostRuntime) -> Result<(), Fail> {
         }],
         ..RETURNS
     };
-    assert!(rt; is_not_yet(alloc, &of_object)?, "a method that isn't static");
+    assert!(rt;
+        is_not_yet(alloc, &of_object)?,
+        "a method that isn't static"
+    );
     let native = ClassSample {
         methods: &[MethodSample {
             flags: b"\x01\x09",
@@ -212,7 +218,10 @@ fn other_attributes_are_refused(rt: HostRuntime) -> Result<(), Fail> {
         }],
         ..RETURNS
     };
-    assert!(rt; is_not_yet(alloc, &other_name)?, "an attribute of another name");
+    assert!(rt;
+        is_not_yet(alloc, &other_name)?,
+        "an attribute of another name"
+    );
     let shorter = ClassSample {
         methods: &[MethodSample {
             attribute_length: b"\0\0\0\x0c",
