@@ -1,11 +1,10 @@
 // The program over files and sinks in memory.
 
 use crate::top_call::fmrun_run;
+use fm_base::NoMemory;
 use fm_files::{MemFiles, MemSink, SureFiles, SureSink};
-use fm_samples::{
-    CALLS_ITSELF, COMPUTED, COMPUTES, ClassSample, DIVIDES_BY_ZERO, PRINTS_FOREVER, PRINTS_SUM,
-};
-use std::alloc::{AllocError, Global};
+use fm_samples::{CALLS_ITSELF, COMPUTED, COMPUTES, DIVIDES_BY_ZERO, PRINTS_FOREVER, PRINTS_SUM};
+use std::alloc::Global;
 use std::test::Fail;
 
 // A call over files in memory, and what came of it. The number of a call that fails is counted from 1;
@@ -13,7 +12,7 @@ use std::test::Fail;
 #[derive(Clone, Copy)]
 struct Case<'a> {
     words: &'a str,
-    file: ClassSample<'a>,
+    file: &'a [u8],
     failing_read: u32,
     failing_put: u32,
     failing_report: u32,
@@ -22,18 +21,27 @@ struct Case<'a> {
     reported: &'a [u8],
 }
 
-const SUM: Case<'static> = Case {
-    words: "M M.class",
-    file: PRINTS_SUM,
-    failing_read: 0,
-    failing_put: 0,
-    failing_report: 0,
-    status: 0,
-    printed: b"5\n",
-    reported: b"returned; steps 6\n",
-};
+// The case of a main that prints 2 + 3 and returns.
+fn sum_case<'a>(file: &'a [u8]) -> Case<'a> {
+    Case {
+        words: "M M.class",
+        file,
+        failing_read: 0,
+        failing_put: 0,
+        failing_report: 0,
+        status: 0,
+        printed: b"5\n",
+        reported: b"returned; steps 6\n",
+    }
+}
 
-fn cases<'a>(sum: Case<'a>) -> [Case<'a>; 12] {
+fn cases<'a>(
+    prints_sum: &'a [u8],
+    calls_itself: &'a [u8],
+    divides_by_zero: &'a [u8],
+    prints_forever: &'a [u8],
+) -> [Case<'a>; 12] {
+    let sum = sum_case(prints_sum);
     [
         sum,
         Case {
@@ -54,14 +62,14 @@ fn cases<'a>(sum: Case<'a>) -> [Case<'a>; 12] {
             ..sum
         },
         Case {
-            file: CALLS_ITSELF,
+            file: calls_itself,
             status: 82,
             printed: b"",
             reported: b"deep 1024; steps 1023\n",
             ..sum
         },
         Case {
-            file: DIVIDES_BY_ZERO,
+            file: divides_by_zero,
             status: 77,
             printed: b"",
             reported: b"refused: not-yet M.class\n",
@@ -98,7 +106,7 @@ fn cases<'a>(sum: Case<'a>) -> [Case<'a>; 12] {
         // A run of so many prints as could neither be kept nor be waited for, had it gone on.
         Case {
             words: "--steps 2147483648 M M.class",
-            file: PRINTS_FOREVER,
+            file: prints_forever,
             failing_put: 1,
             status: 75,
             printed: b"",
@@ -115,7 +123,7 @@ fn cases<'a>(sum: Case<'a>) -> [Case<'a>; 12] {
 }
 
 // The pieces between single spaces.
-fn split_words(alloc: Global, text: &str) -> Result<Vec<String>, AllocError> {
+fn split_words(alloc: Global, text: &str) -> Result<Vec<String>, NoMemory> {
     let mut words = Vec::new(alloc);
     for word in text.split(' ') {
         words.push(String::from_str(alloc, word)?)?;
@@ -123,20 +131,31 @@ fn split_words(alloc: Global, text: &str) -> Result<Vec<String>, AllocError> {
     Ok(words)
 }
 
+// Whether the call comes out as the case says.
+fn comes_out(alloc: Global, case: Case<'_>) -> Result<bool, NoMemory> {
+    let mut files = MemFiles::new(alloc, vec![in alloc; case.failing_read]?);
+    files.add("M.class", case.file)?;
+    let mut out = MemSink::new(alloc, vec![in alloc; case.failing_put]?);
+    let mut report = MemSink::new(alloc, vec![in alloc; case.failing_report]?);
+    let words = split_words(alloc, case.words)?;
+    let status = fmrun_run(alloc, words.as_slice(), &mut files, &mut out, &mut report);
+    Ok(status == case.status && out.bytes() == case.printed && report.bytes() == case.reported)
+}
+
 #[test]
 fn each_status_has_its_output_and_its_report(rt: HostRuntime) -> Result<(), Fail> {
     let alloc = rt.alloc();
-    for case in cases(SUM) {
-        let file = case.file.bytes(alloc)?;
-        let mut files = MemFiles::new(alloc, vec![in alloc; case.failing_read]?);
-        files.add("M.class", file.as_slice())?;
-        let mut out = MemSink::new(alloc, vec![in alloc; case.failing_put]?);
-        let mut report = MemSink::new(alloc, vec![in alloc; case.failing_report]?);
-        let words = split_words(alloc, case.words)?;
-        let status = fmrun_run(alloc, words.as_slice(), &mut files, &mut out, &mut report);
-        assert_eq!(rt; status, case.status, "{}", case.words);
-        assert!(rt; out.bytes() == case.printed, "{}", case.words);
-        assert!(rt; report.bytes() == case.reported, "{}", case.words);
+    let prints_sum = PRINTS_SUM.bytes(alloc)?;
+    let calls_itself = CALLS_ITSELF.bytes(alloc)?;
+    let divides_by_zero = DIVIDES_BY_ZERO.bytes(alloc)?;
+    let prints_forever = PRINTS_FOREVER.bytes(alloc)?;
+    for case in cases(
+        prints_sum.as_slice(),
+        calls_itself.as_slice(),
+        divides_by_zero.as_slice(),
+        prints_forever.as_slice(),
+    ) {
+        assert!(rt; comes_out(alloc, case)?, "{}", case.words);
     }
     Ok(())
 }
