@@ -1,11 +1,11 @@
 -- What a read and a write leave in the files, each alone and one after the other.
-use Rattle.std.proofs.Common.{◌≡◌, ◌≢◌, ◌<◌, ◌≤◌, ℕ, ◌+◌, max, length, refl, sym, ◌∙◌, subst, arith, Option, Some, None, IsSomeAnd}
+use Rattle.std.proofs.Common.{◌≡◌, ◌≢◌, ◌<◌, ◌≤◌, ℕ, ◌+◌, max, refl, sym, ◌∙◌, subst, arith, Option, Some, None, IsSomeAnd}
 use Rattle.fm_base.specs.declared.limits.TheConstants.{MAX_FILE_BYTES}
-use Rattle.fm_files.specs.Files.{Bytes, Counts, Contents, Disk, AreKept, RisesAt, OthersAreKept, Holds, HoldsMoreThan}
-use Rattle.fm_tool.specs.Outside.{ReadsAlone, HasNoFault, HasReadFault, HasWriteFault, HoldsSuch}
+use Rattle.fm_files.specs.Files.{Bytes, Counts, Contents, Disk, AreKept, RisesAt, OthersAreKept, Holds}
+use Rattle.fm_tool.specs.Outside.{ReadsAlone, HasNoFault, HasWriteFault}
 use Rattle.fm_tool.proofs.OutsideLemmas.{kept_unless_risen}
 use Rattle.freeme.specs.Request.{Job, written_name}
-use Rattle.freeme.specs.TopCall.{StaysWithin, AreRefused, CopiesFile}
+use Rattle.freeme.specs.TopCall.{StaysWithin, CopiesFile}
 
 -- ---- counts and contents
 
@@ -51,23 +51,12 @@ after_read job old new read = record {
   others = others_are_kept (written_name job) old.contents new.contents read.kept;
 }
 
--- a read that didn't fail, and one that did
+-- a read that didn't fail
 pub read_faultless : (file : Bytes) (old new : Disk) → Read file old new → ¬ (old.read_faults file < new.read_faults file) → HasNoFault old new
 read_faultless file old new read not_risen = record {
   reads = kept_unless_risen file old.read_faults new.read_faults read.reads.faults not_risen;
   writes = read.writes;
 }
-
-pub read_fault : (file : Bytes) (old new : Disk) → Read file old new → old.read_faults file < new.read_faults file → HasReadFault file old new
-read_fault file old new read risen = record { rose = risen; reads = read.reads.faults; writes = read.writes }
-
--- a file above the limit isn't accepted
-pub too_long : (job : Job) (contents : Contents) → HoldsMoreThan contents job.file MAX_FILE_BYTES → HoldsSuch contents job.file (AreRefused job)
-too_long job None more = tt
-too_long job (Some held) more = above (held job.file) more where
-  above : (o : Option Bytes) → IsSomeAnd o (λ bytes. MAX_FILE_BYTES < length bytes) → IsSomeAnd o (AreRefused job)
-  above None more = more
-  above (Some bytes) more = λ c accepted. let within = accepted.0 in absurd (omega arith)
 
 -- ---- a write after it
 

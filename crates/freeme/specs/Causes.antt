@@ -8,7 +8,7 @@ use Rattle.fm_tool.specs.Status.{ComesExactly}
 use Rattle.fm_tool.specs.declared.status.TheConstants.{DONE, WORDS, READ, WRITE, OUT_OF_MEMORY, NOT_YET}
 use Rattle.freeme.specs.Request.{Job, Asks, AskNothing, written_name}
 use Rattle.freeme.specs.Outcome.{class_line, write_line}
-use Rattle.freeme.specs.TopCall.{AreAccepted, AreRefused, CopiesFile, StaysWithin, IsWritten, IsUnwritten, IsUnread, IsRefused, IsUntouched}
+use Rattle.freeme.specs.TopCall.{AreAccepted, AreRefused, StaysWithin, IsWritten, IsUnwritten, IsUnread, IsRefused, IsUntouched}
 
 -- there is no other status
 abbrev pub IsStatus : ℕ → Type 0

@@ -7,7 +7,7 @@ use Rattle.fm_tool.proofs.OutsideLemmas.{holds_such}
 use Rattle.fm_read.specs.MainClass.{IsMainClass}
 use Rattle.freeme.specs.Request.{Job, job_of, written_name}
 use Rattle.freeme.specs.TopCall.{AreAccepted, AreRefused}
-use Rattle.freeme.proofs.JobLemmas.{Read, Write, read_of, write_of, after_read, after_write, read_faultless, read_fault, too_long, write_faultless, write_fault, copies}
+use Rattle.freeme.proofs.JobLemmas.{Read, Write, read_of, write_of, after_read, after_write, read_faultless, write_faultless, write_fault, copies}
 use Rattle.freeme.proofs.top_call.do_job.Goals as goal
 
 -- ---- what changes
