@@ -1,8 +1,7 @@
-// The constant pool of a class file: read from its bytes, written, and added to.
+// The constant pool of a class file: read from its bytes, and written.
 //
 // `read_pool` accepts exactly the bytes that begin with a constant pool, and `write_pool` gives these
-// bytes back. `find_or_add_free` makes sure that a pool has the entries by which code calls
-// `FreeMe.free`. The layers above use that bytes and pool determine each other.
+// bytes back. The layers above use that bytes and pool determine each other.
 #![tactic(auto)]
 
 mod descriptors;
@@ -11,9 +10,14 @@ mod error;
 mod facts;
 mod names;
 mod numbers;
+mod put;
 mod reading;
 mod rules;
+#[cfg(test)]
+mod tests;
 mod texts;
+mod writing;
 
 pub use error::PoolFail;
 pub use reading::read_pool;
+pub use writing::write_pool;
