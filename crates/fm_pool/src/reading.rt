@@ -13,7 +13,7 @@ use fm_base::Seq;
 use fm_code::{Entry, Pool};
 use std::alloc::Global;
 
-/// The constant pool at the front of the bytes, from constant_pool_count on, and the number of bytes
+/// The constant pool that the bytes begin with, from constant_pool_count on, and the number of bytes
 /// that spell it (JVMS 4.4). `Malformed` comes exactly where no pool spells a prefix of the bytes. Each
 /// text is judged once, and no memory is taken for a length that the bytes only claim.
 pub fn read_pool(alloc: Global, bytes: &[u8]) -> Result<(Pool, usize), PoolFail>
