@@ -1,15 +1,41 @@
-// The class M with a main that only returns, and files beside it that differ in one part.
+// Class files written by hand: the class M with a main that only returns, and files beside it.
 
 use super::*;
-use fm_base::NoMemory;
 use fm_code::{Entry, Insn, MemberAttr};
-use fm_samples::{ClassSample, MAIN, MAKES_ARRAY, MethodSample, RETURNS};
 use std::test::Fail;
+
+// Its bytes are numbered so: the magic from 0, the version from 4, the pool's count from 8, its entries
+// from 10, the class's numbers from 78, the count of methods at 88, the method from 90, its attribute's
+// length from 100 and its body from 104, and the count of attributes at 117.
+const MAIN: &[u8; 119] =
+    b"\xca\xfe\xba\xbe\0\0\0\x31\0\x08\x01\0\x01M\x07\0\x01\x01\0\x10java/lang/Object\x07\0\x03\x01\0\x04main\x01\0\x16([Ljava/lang/String;)V\x01\0\x04Code\0\x21\0\x02\0\x04\0\0\0\0\0\x01\0\x09\0\x05\0\x06\0\x01\0\x07\0\0\0\x0d\0\0\0\x01\0\0\0\x01\xb1\0\0\0\0\0\0";
+
+// The bytes with so many of them, from a place on, replaced by others.
+fn replaced(
+    alloc: Global,
+    bytes: &[u8],
+    at: usize,
+    count: usize,
+    others: &[u8],
+) -> Result<Vec<u8>, Fail> {
+    let mut all = Vec::new(alloc);
+    for (i, byte) in bytes.iter().enumerate() {
+        if i == at {
+            all.extend_from_slice(others)?;
+        }
+        if i < at || i - at >= count {
+            all.push(*byte)?;
+        }
+    }
+    if at >= bytes.len() {
+        all.extend_from_slice(others)?;
+    }
+    Ok(all)
+}
 
 #[test]
 fn main_is_read(rt: HostRuntime) -> Result<(), Fail> {
-    let bytes = RETURNS.bytes(rt.alloc())?;
-    let class = read_first(rt.alloc(), &bytes)?;
+    let class = read_first(rt.alloc(), MAIN)?;
     assert_eq!(rt; (class.minor, class.major), (0, 49));
     assert_eq!(rt;
         (class.flags, class.this_class, class.super_class),
@@ -25,8 +51,8 @@ fn main_is_read(rt: HostRuntime) -> Result<(), Fail> {
         b"([Ljava/lang/String;)V",
         b"Code",
     ];
-    assert_eq!(rt; class.pool.entries.len(), texts.len());
-    for (entry, text) in class.pool.entries.iter().zip(texts) {
+    assert_eq!(rt; class.pool.entries.as_slice().len(), texts.len());
+    for (entry, text) in class.pool.entries.as_slice().iter().zip(texts) {
         let is = match entry {
             Entry::Utf8(name) => name.as_slice() == text,
             Entry::Class(1 | 3) | Entry::Second => text.is_empty(),
@@ -53,197 +79,48 @@ fn main_is_read(rt: HostRuntime) -> Result<(), Fail> {
     Ok(())
 }
 
-// Whether the file is refused.
-fn is_not_yet(alloc: Global, neighbour: &ClassSample) -> Result<bool, NoMemory> {
-    let bytes = neighbour.bytes(alloc)?;
-    Ok(matches!(&read_first(alloc, &bytes), Err(FirstFail::NotYet)))
-}
-
-// The pool's entries from the third on, after two that differ.
-const LATER: ClassSample<'static> = ClassSample {
-    more_pool: &[
-        b"\x01\0\x10java/lang/Object",
-        b"\x07\0\x03",
-        b"\x01\0\x04main",
-        b"\x01\0\x16([Ljava/lang/String;)V",
-        b"\x01\0\x04Code",
-    ],
-    ..RETURNS
-};
-
 #[test]
-fn another_header_or_end_is_refused(rt: HostRuntime) -> Result<(), Fail> {
-    let alloc = rt.alloc();
-    let shorter = ClassSample {
-        attributes: b"\0",
-        ..RETURNS
-    };
-    assert!(rt; is_not_yet(alloc, &shorter)?, "a byte missing");
-    let longer = ClassSample {
-        attributes: b"\0\0\0",
-        ..RETURNS
-    };
-    assert!(rt; is_not_yet(alloc, &longer)?, "a byte more");
-    let other_magic = ClassSample {
-        magic: b"\xca\xfe\xba\xbf",
-        ..RETURNS
-    };
-    assert!(rt; is_not_yet(alloc, &other_magic)?, "another magic");
-    let earlier = ClassSample {
-        version: b"\0\0\0\x30",
-        ..RETURNS
-    };
-    assert!(rt; is_not_yet(alloc, &earlier)?, "version 48");
-    let minor = ClassSample {
-        version: b"\0\x01\0\x31",
-        ..RETURNS
-    };
-    assert!(rt; is_not_yet(alloc, &minor)?, "minor version 1");
+fn neighbours_are_refused(rt: HostRuntime) -> Result<(), Fail> {
+    let neighbours: [(usize, usize, &[u8], &str); 22] = [
+        (118, 1, &[], "a byte missing"),
+        (119, 0, &[0], "a byte more"),
+        (3, 1, &[0xbf], "another magic"),
+        (7, 1, &[48], "version 48"),
+        (5, 1, &[1], "minor version 1"),
+        (9, 1, &[0], "a pool without index 0"),
+        (13, 1, &[0x80], "a text with the byte 128"),
+        (13, 1, b"/", "a class name without characters"),
+        (14, 1, &[8], "a String in the pool"),
+        (16, 1, &[2], "a Class that names a Class"),
+        (16, 1, &[9], "a Class that names nothing"),
+        (78, 1, &[2], "an interface with a method"),
+        (81, 1, &[1], "a class that a text names"),
+        (83, 1, &[2], "another superclass"),
+        (85, 1, &[1], "an interface count of 1"),
+        (87, 1, &[1], "a field count of 1"),
+        (91, 1, &[1], "a method that isn't static"),
+        (90, 1, &[1], "a native method"),
+        (97, 1, &[2], "two attributes"),
+        (99, 1, &[5], "an attribute of another name"),
+        (100, 4, &[0, 0, 0, 12], "a length one short"),
+        (100, 4, &[255, 255, 255, 255], "a length of 4 GiB"),
+    ];
+    for (at, count, others, what) in neighbours {
+        let bytes = replaced(rt.alloc(), MAIN, at, count, others)?;
+        assert!(rt;
+            matches!(&read_first(rt.alloc(), &bytes), Err(FirstFail::NotYet)),
+            "{what}"
+        );
+    }
     Ok(())
 }
 
-#[test]
-fn another_pool_is_refused(rt: HostRuntime) -> Result<(), Fail> {
-    let alloc = rt.alloc();
-    let empty = ClassSample {
-        pool_count: b"\0\0",
-        ..RETURNS
-    };
-    assert!(rt; is_not_yet(alloc, &empty)?, "a pool without index 0");
-    let wide = ClassSample {
-        pool: &[b"\x01\0\x01\x80", b"\x07\0\x01"],
-        ..LATER
-    };
-    assert!(rt; is_not_yet(alloc, &wide)?, "a text with the byte 128");
-    let slash = ClassSample {
-        pool: &[b"\x01\0\x01/", b"\x07\0\x01"],
-        ..LATER
-    };
-    assert!(rt;
-        is_not_yet(alloc, &slash)?,
-        "a class name without characters"
-    );
-    let literal = ClassSample {
-        pool: &[b"\x01\0\x01M", b"\x08\0\x01"],
-        ..LATER
-    };
-    assert!(rt; is_not_yet(alloc, &literal)?, "a String in the pool");
-    let itself = ClassSample {
-        pool: &[b"\x01\0\x01M", b"\x07\0\x02"],
-        ..LATER
-    };
-    assert!(rt; is_not_yet(alloc, &itself)?, "a Class that names a Class");
-    let nothing = ClassSample {
-        pool: &[b"\x01\0\x01M", b"\x07\0\x09"],
-        ..LATER
-    };
-    assert!(rt; is_not_yet(alloc, &nothing)?, "a Class that names nothing");
-    Ok(())
-}
-
-#[test]
-fn another_class_is_refused(rt: HostRuntime) -> Result<(), Fail> {
-    let alloc = rt.alloc();
-    let interface = ClassSample {
-        flags: b"\x02\x21",
-        ..RETURNS
-    };
-    assert!(rt;
-        is_not_yet(alloc, &interface)?,
-        "an interface with a method"
-    );
-    let text = ClassSample {
-        this_class: b"\0\x01",
-        ..RETURNS
-    };
-    assert!(rt; is_not_yet(alloc, &text)?, "a class that a text names");
-    let below_itself = ClassSample {
-        super_class: b"\0\x02",
-        ..RETURNS
-    };
-    assert!(rt; is_not_yet(alloc, &below_itself)?, "another superclass");
-    let interfaces = ClassSample {
-        interfaces: b"\0\x01",
-        ..RETURNS
-    };
-    assert!(rt; is_not_yet(alloc, &interfaces)?, "an interface count of 1");
-    let fields = ClassSample {
-        fields: b"\0\x01",
-        ..RETURNS
-    };
-    assert!(rt; is_not_yet(alloc, &fields)?, "a field count of 1");
-    Ok(())
-}
-
-#[test]
-fn another_kind_of_method_is_refused(rt: HostRuntime) -> Result<(), Fail> {
-    let alloc = rt.alloc();
-    let of_object = ClassSample {
-        methods: &[MethodSample {
-            flags: b"\0\x01",
-            ..MAIN
-        }],
-        ..RETURNS
-    };
-    assert!(rt;
-        is_not_yet(alloc, &of_object)?,
-        "a method that isn't static"
-    );
-    let native = ClassSample {
-        methods: &[MethodSample {
-            flags: b"\x01\x09",
-            ..MAIN
-        }],
-        ..RETURNS
-    };
-    assert!(rt; is_not_yet(alloc, &native)?, "a native method");
-    Ok(())
-}
-
-#[test]
-fn other_attributes_are_refused(rt: HostRuntime) -> Result<(), Fail> {
-    let alloc = rt.alloc();
-    let two = ClassSample {
-        methods: &[MethodSample {
-            attributes_count: b"\0\x02",
-            ..MAIN
-        }],
-        ..RETURNS
-    };
-    assert!(rt; is_not_yet(alloc, &two)?, "two attributes");
-    let other_name = ClassSample {
-        methods: &[MethodSample {
-            attribute_name: b"\0\x05",
-            ..MAIN
-        }],
-        ..RETURNS
-    };
-    assert!(rt;
-        is_not_yet(alloc, &other_name)?,
-        "an attribute of another name"
-    );
-    let shorter = ClassSample {
-        methods: &[MethodSample {
-            attribute_length: b"\0\0\0\x0c",
-            ..MAIN
-        }],
-        ..RETURNS
-    };
-    assert!(rt; is_not_yet(alloc, &shorter)?, "a length one short");
-    let endless = ClassSample {
-        methods: &[MethodSample {
-            attribute_length: b"\xff\xff\xff\xff",
-            ..MAIN
-        }],
-        ..RETURNS
-    };
-    assert!(rt; is_not_yet(alloc, &endless)?, "a length of 4 GiB");
-    Ok(())
-}
-
+// The method's code makes an array.
 #[test]
 fn an_array_is_refused(rt: HostRuntime) -> Result<(), Fail> {
-    let bytes = MAKES_ARRAY.bytes(rt.alloc())?;
+    let code = b"\0\0\0\x11\0\x01\0\x01\0\0\0\x05\x04\xbc\x0a\x57\xb1";
+    let bytes = replaced(rt.alloc(), MAIN, 100, 13, code)?;
+    assert_eq!(rt; bytes.len(), 123);
     assert!(rt; matches!(&read_first(rt.alloc(), &bytes), Err(FirstFail::NotYet)));
     Ok(())
 }
@@ -251,52 +128,28 @@ fn an_array_is_refused(rt: HostRuntime) -> Result<(), Fail> {
 // A second method after the first, and one more text in the pool.
 #[test]
 fn methods_differ_by_their_texts(rt: HostRuntime) -> Result<(), Fail> {
-    let seconds: [(&[u8], &[u8], &[u8], bool, &str); 4] = [
+    let seconds: [(&[u8], u8, u8, bool, &str); 4] = [
+        (b"\x01\0\x03run", 5, 6, false, "the same indices"),
+        (b"\x01\0\x04main", 8, 6, false, "the same texts"),
+        (b"\x01\0\x03()V", 5, 8, true, "another descriptor"),
         (
             b"\x01\0\x03run",
-            b"\0\x05",
-            b"\0\x06",
-            false,
-            "the same indices",
-        ),
-        (
-            b"\x01\0\x04main",
-            b"\0\x08",
-            b"\0\x06",
-            false,
-            "the same texts",
-        ),
-        (
-            b"\x01\0\x03()V",
-            b"\0\x05",
-            b"\0\x08",
-            true,
-            "another descriptor",
-        ),
-        (
-            b"\x01\0\x03run",
-            b"\0\x08",
-            b"\0\x06",
+            8,
+            6,
             false,
             "another name, with main's descriptor",
         ),
     ];
+    let main = MAIN.as_slice();
     for (text, name, descriptor, is_read, what) in seconds {
-        let two = ClassSample {
-            pool_count: b"\0\x09",
-            more_pool: &[text],
-            methods_count: b"\0\x02",
-            methods: &[
-                MAIN,
-                MethodSample {
-                    name,
-                    descriptor,
-                    ..MAIN
-                },
-            ],
-            ..RETURNS
-        };
-        let bytes = two.bytes(rt.alloc())?;
+        let mut method = main[90..117].to_vec(rt.alloc())?;
+        assert_eq!(rt; method.len(), 27);
+        method[3] = name;
+        method[5] = descriptor;
+        let bytes = replaced(rt.alloc(), MAIN, 117, 0, &method)?;
+        let bytes = replaced(rt.alloc(), &bytes, 89, 1, &[2])?;
+        let bytes = replaced(rt.alloc(), &bytes, 78, 0, text)?;
+        let bytes = replaced(rt.alloc(), &bytes, 9, 1, &[9])?;
         assert_eq!(rt; read_first(rt.alloc(), &bytes).is_ok(), is_read, "{what}");
     }
     Ok(())
