@@ -1,61 +1,69 @@
 // Pools written by hand, one row each: what is read of them, and what is written again (JVMS 4.4).
 
 use crate::{PoolFail, read_pool, write_pool};
-use fm_code::Entry;
+use fm_base::NoMemory;
+use fm_code::{Entry, Pool};
+use std::alloc::Global;
 use std::test::Fail;
 
-#[test]
-fn an_entry_of_each_kind_is_read_and_written_again(rt: HostRuntime) -> Result<(), Fail> {
-    let bytes = [
-        0, 17, // indices 0 to 16
-        1, 0, 1, b'M', // 1
-        3, 0xff, 0xff, 0xff, 0xfe, // 2
-        4, 0x40, 0x49, 0x0f, 0xdb, // 3
-        5, 0xff, 0xff, 0xff, 0xff, 0xff, 0xff, 0xff, 0xfd, // 4 and 5
-        6, 0x40, 0x09, 0x21, 0xfb, 0x54, 0x44, 0x2d, 0x18, // 6 and 7
-        7, 0, 1, // 8
-        8, 0, 1, // 9
-        1, 0, 1, b'I', // 10
-        1, 0, 3, b'(', b')', b'V', // 11
-        12, 0, 1, 0, 10, // 12
-        12, 0, 1, 0, 11, // 13
-        9, 0, 8, 0, 12, // 14
-        10, 0, 8, 0, 13, // 15
-        11, 0, 8, 0, 13, // 16
-        0xaa, // after the pool
-    ];
-    let (pool, size) = read_pool(rt.alloc(), &bytes).map_err(|_| "refused")?;
-    assert_eq!(rt; size, bytes.len() - 1);
-    let [
-        Entry::Second,
-        Entry::Utf8(name),
-        Entry::Integer(int),
-        Entry::Float(0x4049_0fdb),
-        Entry::Long(long),
-        Entry::Second,
-        Entry::Double(0x4009_21fb_5444_2d18),
-        Entry::Second,
-        Entry::Class(1),
-        Entry::Text(1),
-        Entry::Utf8(_),
-        Entry::Utf8(_),
-        Entry::NameAndType(1, 10),
-        Entry::NameAndType(1, 11),
-        Entry::Field(8, 12),
-        Entry::Method(8, 13),
-        Entry::InterfaceMethod(8, 13),
-    ] = pool.entries.as_slice()
-    else {
-        return Err(Fail::from("other entries"));
-    };
-    assert_eq!(rt; name.as_slice(), b"M".as_slice());
-    assert_eq!(rt; *int, -2);
-    assert_eq!(rt; *long, -3);
+// A pool with an entry of each kind.
+#[rattlefmt::skip]
+const EACH_KIND: &[u8] = &[
+    0, 17, // indices 0 to 16
+    1, 0, 1, b'M', // 1
+    3, 0xff, 0xff, 0xff, 0xfe, // 2
+    4, 0x40, 0x49, 0x0f, 0xdb, // 3
+    5, 0xff, 0xff, 0xff, 0xff, 0xff, 0xff, 0xff, 0xfd, // 4 and 5
+    6, 0x40, 0x09, 0x21, 0xfb, 0x54, 0x44, 0x2d, 0x18, // 6 and 7
+    7, 0, 1, // 8
+    8, 0, 1, // 9
+    1, 0, 1, b'I', // 10
+    1, 0, 3, b'(', b')', b'V', // 11
+    12, 0, 1, 0, 10, // 12
+    12, 0, 1, 0, 11, // 13
+    9, 0, 8, 0, 12, // 14
+    10, 0, 8, 0, 13, // 15
+    11, 0, 8, 0, 13, // 16
+];
 
-    let mut out = vec![in rt.alloc(); 0x77]?;
-    write_pool(rt.alloc(), &pool, &mut out)?;
-    assert_eq!(rt; out[0], 0x77);
-    assert_eq!(rt; out.as_slice()[1..], bytes[..size]);
+// Whether the entries of the pool with one of each kind are as they are written above.
+fn are_of_each_kind(pool: &Pool) -> bool {
+    matches!(pool.entry(2), Some(Entry::Integer(-2)))
+        && matches!(pool.entry(3), Some(Entry::Float(0x4049_0fdb)))
+        && matches!(pool.entry(4), Some(Entry::Long(-3)))
+        && matches!(pool.entry(6), Some(Entry::Double(0x4009_21fb_5444_2d18)))
+        && matches!(pool.entry(8), Some(Entry::Class(1)))
+        && matches!(pool.entry(9), Some(Entry::Text(1)))
+        && matches!(pool.entry(12), Some(Entry::NameAndType(1, 10)))
+        && matches!(pool.entry(14), Some(Entry::Field(8, 12)))
+        && matches!(pool.entry(15), Some(Entry::Method(8, 13)))
+        && matches!(pool.entry(16), Some(Entry::InterfaceMethod(8, 13)))
+}
+
+#[test]
+fn an_entry_of_each_kind_is_read(rt: HostRuntime) -> Result<(), Fail> {
+    let mut bytes = Vec::from_slice(rt.alloc(), EACH_KIND)?;
+    bytes.push(0xaa)?;
+    let (pool, size) = read_pool(rt.alloc(), bytes.as_slice()).map_err(|_| "refused")?;
+    assert_eq!(rt; size, EACH_KIND.len());
+    assert!(rt; are_of_each_kind(&pool));
+    Ok(())
+}
+
+// The pool that the bytes begin with, written again; None where there is none.
+fn written_again(alloc: Global, bytes: &[u8]) -> Result<Option<Vec<u8>>, NoMemory> {
+    let Ok((pool, _)) = read_pool(alloc, bytes) else {
+        return Ok(None);
+    };
+    let mut out = Vec::new(alloc);
+    write_pool(alloc, &pool, &mut out)?;
+    Ok(Some(out))
+}
+
+#[test]
+fn a_pool_that_is_read_is_written_as_it_was(rt: HostRuntime) -> Result<(), Fail> {
+    let out = written_again(rt.alloc(), EACH_KIND)?.ok_or("refused")?;
+    assert!(rt; out.as_slice() == EACH_KIND);
     Ok(())
 }
 
