@@ -2,6 +2,7 @@
 use Rattle.std.specs.Prelude.{ℕ, ◌^◌, ◌<◌, Bool, List, length, replicate, refl}
 use Rattle.std.specs.List.{All}
 use Rattle.std.specs.Coded.{Coded, code_by, coded×, coded_ℕ, coded_bool, coded_list}
+use Rattle.fm_cells.specs.declared.headers.TheConstants.{BIRTH_BITS, CHAIN_BITS, CLASS_BITS, LEN_BITS}
 use Rattle.fm_cells.specs.Sizes.{IsPack, element_bits, packed_words, size_class}
 
 -- an object: the number of its type, how many were made before it, the elements in a word, whether it lives for
@@ -33,11 +34,11 @@ size_class_of object = size_class (object_words object)
 
 -- each number of an object lies in its range
 pub record IsObject (object : Object) : Type 0 where
-  pub class_fits : object.class < 2 ^ 28
-  pub birth_fits : object.birth < 2 ^ 32
+  pub class_fits : object.class < 2 ^ CLASS_BITS
+  pub birth_fits : object.birth < 2 ^ BIRTH_BITS
   pub pack_is : IsPack object.pack
-  pub chain_fits : object.chain < 2 ^ 32
-  pub length_fits : length object.elements < 2 ^ 31
+  pub chain_fits : object.chain < 2 ^ CHAIN_BITS
+  pub length_fits : length object.elements < 2 ^ LEN_BITS
   pub elements_fit : All (λ element. element < 2 ^ element_bits object.pack) object.elements
 
 -- what is asked for when an object is made
@@ -60,8 +61,8 @@ request_size_class request = size_class (request_words request)
 
 -- each number of a request lies in its range
 pub record IsRequest (request : Request) : Type 0 where
-  pub class_fits : request.class < 2 ^ 28
-  pub len_fits : request.len < 2 ^ 31
+  pub class_fits : request.class < 2 ^ CLASS_BITS
+  pub len_fits : request.len < 2 ^ LEN_BITS
   pub pack_is : IsPack request.pack
 
 -- the object as it is made: its chain and its elements are 0

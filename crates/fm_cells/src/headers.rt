@@ -9,6 +9,32 @@ ghost use Rattle.fm_cells.specs.inner.Words as spec;
 
 use crate::sizes::exponent;
 
+/// The bits of a type's number.
+pub const CLASS_BITS: u32 = 28;
+
+/// The bits of a birth number.
+pub const BIRTH_BITS: u32 = 32;
+
+/// The bits of the exponent of a pack.
+pub const EXPONENT_BITS: u32 = 2;
+
+/// The bits of a number of elements.
+pub const LEN_BITS: u32 = 31;
+
+/// The bits of a chain.
+pub const CHAIN_BITS: u32 = 32;
+
+// As many low bits as each has.
+const CLASS_MASK: u64 = 0xfff_ffff;
+
+const BIRTH_MASK: u64 = 0xffff_ffff;
+
+const EXPONENT_MASK: u64 = 3;
+
+const LEN_MASK: u64 = 0x7fff_ffff;
+
+const CHAIN_MASK: u64 = 0xffff_ffff;
+
 /// The first header word.
 #[inline]
 pub fn identity_word(class: u32, birth: u32, pack: u8, fixed: bool) -> u64
@@ -19,8 +45,8 @@ pub fn identity_word(class: u32, birth: u32, pack: u8, fixed: bool) -> u64
     ensures pack { spec.pack_in result ≡ pack }
     ensures fixed { spec.is_fixed result ≡ fixed }
 {
-    let kind = (fixed as u64) << 2 | exponent(pack) as u64;
-    (kind << 32 | birth as u64) << 28 | class as u64
+    let kind = (fixed as u64) << EXPONENT_BITS | exponent(pack) as u64;
+    (kind << BIRTH_BITS | birth as u64) << CLASS_BITS | class as u64
 }
 
 /// The second header word.
@@ -29,7 +55,7 @@ pub fn extent_word(len: u32, chain: u32) -> u64
     requires { len < 2 ^ 31 }
     ensures { result ≡ spec.extent_word len chain }
 {
-    (chain as u64) << 31 | len as u64
+    (chain as u64) << LEN_BITS | len as u64
 }
 
 /// The number of the type in the first header word.
@@ -37,7 +63,7 @@ pub fn extent_word(len: u32, chain: u32) -> u64
 pub fn class_in(identity: u64) -> u32
     ensures { result ≡ spec.class_in identity }
 {
-    (identity & 0xfff_ffff) as u32
+    (identity & CLASS_MASK) as u32
 }
 
 /// The birth number in the first header word.
@@ -45,7 +71,7 @@ pub fn class_in(identity: u64) -> u32
 pub fn birth_in(identity: u64) -> u32
     ensures { result ≡ spec.birth_in identity }
 {
-    (identity >> 28 & 0xffff_ffff) as u32
+    (identity >> CLASS_BITS & BIRTH_MASK) as u32
 }
 
 /// The exponent of the pack in the first header word.
@@ -54,7 +80,7 @@ pub fn exponent_in(identity: u64) -> u32
     ensures value { result ≡ spec.exponent_in identity }
     ensures small { result < 4 }
 {
-    (identity >> 60 & 3) as u32
+    (identity >> (CLASS_BITS + BIRTH_BITS) & EXPONENT_MASK) as u32
 }
 
 /// The pack in the first header word.
@@ -71,7 +97,7 @@ pub fn pack_in(identity: u64) -> u8
 pub fn is_fixed(identity: u64) -> bool
     ensures { result ≡ spec.is_fixed identity }
 {
-    identity >> 62 == 1
+    identity >> (CLASS_BITS + BIRTH_BITS + EXPONENT_BITS) == 1
 }
 
 /// The number of elements in the second header word.
@@ -79,7 +105,7 @@ pub fn is_fixed(identity: u64) -> bool
 pub fn len_in(extent: u64) -> u32
     ensures { result ≡ spec.len_in extent }
 {
-    (extent & 0x7fff_ffff) as u32
+    (extent & LEN_MASK) as u32
 }
 
 /// The chain in the second header word.
@@ -87,5 +113,5 @@ pub fn len_in(extent: u64) -> u32
 pub fn chain_in(extent: u64) -> u32
     ensures { result ≡ spec.chain_in extent }
 {
-    (extent >> 31 & 0xffff_ffff) as u32
+    (extent >> LEN_BITS & CHAIN_MASK) as u32
 }

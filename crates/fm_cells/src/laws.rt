@@ -1,11 +1,12 @@
 // Laws of choices and of stores, each the contract of a function that does nothing.
 
-ghost use Rattle.std.specs.Prelude.{List, ℕ};
+ghost use Rattle.std.specs.Prelude.{◌≡◌, List, ℕ};
 ghost use Rattle.fm_cells.specs.Stores.{no_lists, empty_lists};
 ghost use Rattle.fm_cells.specs.Changes.{put_by, chained_by};
 ghost use Rattle.fm_cells.specs.Choices.{never_choice, last_choice};
 ghost use Rattle.fm_cells.specs.Soundness.{IsOrderly, IsNeverReused, IsLastReused};
 ghost use Rattle.fm_cells.specs.Laws as law;
+ghost use Rattle.fm_cells.specs.declared.headers.TheConstants.{BIRTH_BITS, CHAIN_BITS, CLASS_BITS, EXPONENT_BITS, LEN_BITS};
 
 /// Every function of choices can be made lawful: one of memory that reuses cells in any way. A choice
 /// that such memory may make stays as it is, and so do the choices of memory that is never reused and
@@ -59,4 +60,14 @@ pub fn law_live_words()
 pub fn law_cell_words()
     ensures room { law.HasRoom }
     ensures below_double { law.IsBelowDouble }
+{}
+
+/// How many bits of an object's two header words each number takes. So a type's number is below 2^28,
+/// a birth number below 2^32, and a number of elements below 2^31.
+pub fn law_header_bits()
+    ensures class { CLASS_BITS ≡ 28 }
+    ensures birth { BIRTH_BITS ≡ 32 }
+    ensures exponent { EXPONENT_BITS ≡ 2 }
+    ensures len { LEN_BITS ≡ 31 }
+    ensures chain { CHAIN_BITS ≡ 32 }
 {}

@@ -24,7 +24,8 @@ mod word_cells;
 
 pub use answers::{Cell, Freed, Head, MakeFail, NotHeld};
 pub use laws::{
-    law_cell_words, law_last_reused, law_lawful, law_live_words, law_never_reused, law_orderly,
+    law_cell_words, law_header_bits, law_last_reused, law_lawful, law_live_words, law_never_reused,
+    law_orderly,
 };
 pub use memories::Memory;
 pub use plain_cells::PlainCells;

@@ -2,6 +2,7 @@
 use Rattle.std.specs.Prelude.{ℕ, ◌+◌, ◌-◌, ◌*◌, ◌/◌, ◌%◌, ◌^◌, Bool, List, map, nat_eq, if◌then◌else◌, slice_index}
 use Rattle.std.specs.Prelude.{Option, Some, None}
 use Rattle.std.specs.List.{range_with_len}
+use Rattle.fm_cells.specs.declared.headers.TheConstants.{BIRTH_BITS, CHAIN_BITS, CLASS_BITS, EXPONENT_BITS, LEN_BITS}
 use Rattle.fm_cells.specs.Sizes.{element_bits}
 use Rattle.fm_cells.specs.Objects.{Object}
 
@@ -24,32 +25,32 @@ elements_in words start pack len = map (element_in words start pack) (range_with
 -- the first header word, from its highest bits: whether the object is fixed (1 bit), the exponent of its pack (2), its
 -- birth (32) and the number of its type (28)
 abbrev pub identity_word : ℕ → ℕ → ℕ → Bool → ℕ
-identity_word class birth exponent fixed = (((if fixed then 1 else 0) * 2 ^ 2 + exponent) * 2 ^ 32 + birth) * 2 ^ 28 + class
+identity_word class birth exponent fixed = (((if fixed then 1 else 0) * 2 ^ EXPONENT_BITS + exponent) * 2 ^ BIRTH_BITS + birth) * 2 ^ CLASS_BITS + class
 
 abbrev pub class_in : ℕ → ℕ
-class_in identity = identity % 2 ^ 28
+class_in identity = identity % 2 ^ CLASS_BITS
 
 abbrev pub birth_in : ℕ → ℕ
-birth_in identity = identity / 2 ^ 28 % 2 ^ 32
+birth_in identity = identity / 2 ^ CLASS_BITS % 2 ^ BIRTH_BITS
 
 abbrev pub exponent_in : ℕ → ℕ
-exponent_in identity = identity / 2 ^ 60 % 2 ^ 2
+exponent_in identity = identity / 2 ^ (CLASS_BITS + BIRTH_BITS) % 2 ^ EXPONENT_BITS
 
 abbrev pub pack_in : ℕ → ℕ
 pack_in identity = 2 ^ exponent_in identity
 
 abbrev pub is_fixed : ℕ → Bool
-is_fixed identity = nat_eq (identity / 2 ^ 62) 1
+is_fixed identity = nat_eq (identity / 2 ^ (CLASS_BITS + BIRTH_BITS + EXPONENT_BITS)) 1
 
 -- the second header word: the chain (32 bits) above the number of elements (31)
 abbrev pub extent_word : ℕ → ℕ → ℕ
-extent_word len chain = chain * 2 ^ 31 + len
+extent_word len chain = chain * 2 ^ LEN_BITS + len
 
 abbrev pub len_in : ℕ → ℕ
-len_in extent = extent % 2 ^ 31
+len_in extent = extent % 2 ^ LEN_BITS
 
 abbrev pub chain_in : ℕ → ℕ
-chain_in extent = extent / 2 ^ 31 % 2 ^ 32
+chain_in extent = extent / 2 ^ LEN_BITS % 2 ^ CHAIN_BITS
 
 -- the object whose first header word has this index
 abbrev pub object_from : List ℕ → ℕ → Object
