@@ -7,6 +7,7 @@ use Rattle.fm_code.specs.Fits.{CountedFits, EntryFits}
 use Rattle.fm_code.specs.Names.{IsClassName, is_unqualified, is_method_name, IsFieldDescriptor, IsMethodDescriptor}
 use Rattle.fm_code.specs.declared.constant_pool.Entry.{Entry}
 use Rattle.fm_code.specs.declared.constant_pool.Entry.TheVariants as entry
+use Rattle.fm_code.specs.declared.constant_pool.MemberRef.{MemberRef}
 use Rattle.fm_code.specs.declared.constant_pool.Pool.{Pool}
 
 -- ---- indices
@@ -80,6 +81,10 @@ interface_method_at entries index = of_method (entry_at entries index) where
   of_method : Entry → Option MemberName
   of_method (entry.InterfaceMethod class member) = member_named entries class member
   of_method e = None
+
+-- a member that is lent out, as the texts that name it
+abbrev pub member_name : MemberRef → MemberName
+member_name m = record { class = m.class.now; name = m.name.now; descriptor = m.descriptor.now }
 
 -- ---- the rules of entries
 

@@ -1,6 +1,7 @@
 -- The records that are read so far: one class with static methods over ints and longs, which call one another and print ints.
 use Rattle.std.specs.Prelude.{◌≡◌, ℕ, ◌<◌, ◌==◌, ◌||◌, ◌&&◌, ◌⊎◌, not, Bool, true, false, List, [], ◌∷◌, codes, Some, IsSomeAnd, Contains, if◌then◌else◌}
 use Rattle.std.specs.List.{list_all, list_any, AllByRecursion}
+use Rattle.fm_base.specs.declared.characters.TheConstants.{INT_LETTER, LEFT_PARENTHESIS, LESS_THAN, LONG_LETTER, RIGHT_PARENTHESIS, VOID_LETTER}
 use Rattle.fm_code.specs.ConstantPool.{entry_at, utf8_at, class_name_at, MemberName, field_at, method_at}
 use Rattle.fm_code.specs.AccessFlags.{is_static, is_native, is_abstract}
 use Rattle.fm_code.specs.Operands.{opcode_of}
@@ -31,13 +32,13 @@ IsFirstEntry e = ⊥
 -- ints and longs alone between ( and ), and then an int, a long or nothing
 abbrev pub is_number_descriptor : List ℕ → Bool
 is_number_descriptor [] = false
-is_number_descriptor (c ∷ rest) = (c == 40) && numbers_and_result rest where
+is_number_descriptor (c ∷ rest) = (c == LEFT_PARENTHESIS) && numbers_and_result rest where
   numbers_and_result : List ℕ → Bool
   numbers_and_result [] = false
-  numbers_and_result (d ∷ ds) = if (d == 73) || (d == 74) then numbers_and_result ds else (d == 41) && is_result ds where
+  numbers_and_result (d ∷ ds) = if (d == INT_LETTER) || (d == LONG_LETTER) then numbers_and_result ds else (d == RIGHT_PARENTHESIS) && is_result ds where
     is_result : List ℕ → Bool
     is_result [] = false
-    is_result (r ∷ []) = (r == 73) || (r == 74) || (r == 86)
+    is_result (r ∷ []) = (r == INT_LETTER) || (r == LONG_LETTER) || (r == VOID_LETTER)
     is_result (r ∷ s ∷ more) = false
 
 -- main([Ljava/lang/String;)V
@@ -109,7 +110,7 @@ pub record IsFirstMethod (c : ClassDef) (m : Member) : Type 0 where
   pub not_native : is_native m.flags ≡ false
   pub not_abstract : is_abstract m.flags ≡ false
   -- no < in its name
-  pub name : IsSomeAnd (utf8_at c.pool.entries m.name) (λ name. list_all (λ c. not (c == 60)) name ≡ true)
+  pub name : IsSomeAnd (utf8_at c.pool.entries m.name) (λ name. list_all (λ c. not (c == LESS_THAN)) name ≡ true)
   pub descriptor : IsMain c.pool.entries m ⊎ IsSomeAnd (utf8_at c.pool.entries m.descriptor) (λ descriptor. is_number_descriptor descriptor ≡ true)
   pub attributes : AreFirstAttributes c m.attributes
 

@@ -1,6 +1,5 @@
 -- The entries of a constant pool by which instructions call the static method FreeMe.free(Ljava/lang/Object;)V.
-use Rattle.std.specs.Prelude.{ℕ, ◌&&◌, not, nat_lt, Bool, false, List, [], ◌∷◌, ◌++◌, length, codes, Option, Some, None, if◌then◌else◌}
-use Rattle.std.specs.List.{prefix_len}
+use Rattle.std.specs.Prelude.{ℕ, ◌+◌, ◌&&◌, Bool, false, List, [], ◌∷◌, ◌++◌, length, codes, Option, Some, None, position}
 use Rattle.std.specs.Str.{bytes_eq}
 use Rattle.fm_code.specs.ConstantPool.{utf8_at, class_name_at, named_and_typed_at, MemberName}
 use Rattle.fm_code.specs.declared.constant_pool.Entry.{Entry}
@@ -34,22 +33,25 @@ has_content entries (of_method m) (entry.Method class member) =
     is_some_text (class_name_at entries class) m.class && is_some_pair (named_and_typed_at entries member) m.name m.descriptor
 has_content entries content e = false
 
--- the lowest index whose entry has the content, or the number of all indices where none has it
-abbrev pub index_of : List Entry → Content → ℕ
-index_of entries content = prefix_len (λ e. not (has_content entries content e)) entries
+-- the lowest index whose entry has the content, where one has it
+abbrev pub index_of : List Entry → Content → Option ℕ
+index_of entries content = position (has_content entries content) entries
 
--- ---- found, or added
+-- ---- found, or missing
 
--- the entries with one of some content, and its index
-pub record Found : Type 0 where
-  pub entries : List Entry
+-- the index of an entry that is looked for, and the entries that are missing so far
+pub record Sought : Type 0 where
   pub index : ℕ
+  pub missing : List Entry
 
--- the lowest index of the content; where no entry has it, the entry is appended
-abbrev pub found_or_added : Content → Entry → List Entry → Found
-found_or_added content e entries =
-    let index = index_of entries content in
-    record { entries = if nat_lt index (length entries) then entries else entries ++ e ∷ []; index = index }
+-- an entry by where it is found in a pool of so many indices; where it isn't, it is missing too, and its index is the next one
+abbrev pub placed : ℕ → List Entry → Entry → Option ℕ → Sought
+placed count missing e (Some index) = record { index = index; missing = missing }
+placed count missing e None = record { index = count + length missing; missing = missing ++ e ∷ [] }
+
+-- the content is looked for among the entries of the pool alone
+abbrev pub sought : List Entry → List Entry → Content → Entry → Sought
+sought entries missing content e = placed (length entries) missing e (index_of entries content)
 
 abbrev pub free_class : List ℕ
 free_class = codes "FreeMe"
@@ -63,12 +65,29 @@ free_descriptor = codes "(Ljava/lang/Object;)V"
 abbrev pub free_method : MemberName
 free_method = record { class = free_class; name = free_name; descriptor = free_descriptor }
 
--- the index of the Methodref of FreeMe.free; what is missing of the six entries that it takes is appended in this order
-abbrev pub found_or_added_free : List Entry → Found
-found_or_added_free entries =
-    let class_text = found_or_added (of_utf8 free_class) (entry.Utf8 free_class) entries in
-    let class_entry = found_or_added (of_class free_class) (entry.Class class_text.index) class_text.entries in
-    let name = found_or_added (of_utf8 free_name) (entry.Utf8 free_name) class_entry.entries in
-    let descriptor = found_or_added (of_utf8 free_descriptor) (entry.Utf8 free_descriptor) name.entries in
-    let pair = found_or_added (of_name_and_type free_name free_descriptor) (entry.NameAndType name.index descriptor.index) descriptor.entries in
-    found_or_added (of_method free_method) (entry.Method class_entry.index pair.index) pair.entries
+-- ---- the six entries in turn, each with what is missing of it and of those before
+
+unfoldable pub sought_class_text : List Entry → Sought
+sought_class_text entries = sought entries [] (of_utf8 free_class) (entry.Utf8 free_class)
+
+unfoldable pub sought_class : List Entry → Sought
+sought_class entries = let text = sought_class_text entries in sought entries text.missing (of_class free_class) (entry.Class text.index)
+
+unfoldable pub sought_name : List Entry → Sought
+sought_name entries = sought entries (sought_class entries).missing (of_utf8 free_name) (entry.Utf8 free_name)
+
+unfoldable pub sought_descriptor : List Entry → Sought
+sought_descriptor entries = sought entries (sought_name entries).missing (of_utf8 free_descriptor) (entry.Utf8 free_descriptor)
+
+unfoldable pub sought_pair : List Entry → Sought
+sought_pair entries =
+    let descriptor = sought_descriptor entries in
+    sought entries descriptor.missing (of_name_and_type free_name free_descriptor) (entry.NameAndType (sought_name entries).index descriptor.index)
+
+-- the last one is the Methodref of FreeMe.free
+unfoldable pub sought_free : List Entry → Sought
+sought_free entries = let pair = sought_pair entries in sought entries pair.missing (of_method free_method) (entry.Method (sought_class entries).index pair.index)
+
+-- the pool with what was missing
+abbrev pub with_free : List Entry → List Entry
+with_free entries = entries ++ (sought_free entries).missing

@@ -16,3 +16,4 @@ pub mod Profile
 pub mod FirstForm
 pub mod Example
 pub mod CompiledExample
+pub mod inner

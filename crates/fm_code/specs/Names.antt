@@ -1,12 +1,13 @@
 -- Names and descriptors as bytes (JVMS 4.2, 4.3).
 use Rattle.std.specs.Prelude.{◌≡◌, ℕ, zero, ◌+◌, ◌<◌, ◌≤◌, ◌==◌, ◌||◌, ◌&&◌, ◌⊎◌, not, Bool, true, false, List, [], ◌∷◌, ◌++◌, replicate, codes, Option, Some, None, IfSome, if◌then◌else◌, sum_by}
 use Rattle.std.specs.List.{flat_map, list_all, AllByRecursion}
+use Rattle.fm_base.specs.declared.characters.TheConstants.{BOOLEAN_LETTER, BYTE_LETTER, CHAR_LETTER, CLASS_LETTER, DOT, DOUBLE_LETTER, FLOAT_LETTER, GREATER_THAN, INT_LETTER, LEFT_BRACKET, LEFT_PARENTHESIS, LESS_THAN, LONG_LETTER, RIGHT_PARENTHESIS, SEMICOLON, SHORT_LETTER, SLASH, VOID_LETTER}
 
 -- ---- names (JVMS 4.2)
 
 -- a character that may stand in a field's or a method's name, or in a part of a class's name: none of . ; [ /
 abbrev pub is_name_character : ℕ → Bool
-is_name_character c = not ((c == 46) || (c == 59) || (c == 91) || (c == 47))
+is_name_character c = not ((c == DOT) || (c == SEMICOLON) || (c == LEFT_BRACKET) || (c == SLASH))
 
 -- a name without parts: at least one character, and only such
 abbrev pub is_unqualified : List ℕ → Bool
@@ -16,7 +17,7 @@ is_unqualified (c ∷ rest) = list_all is_name_character (c ∷ rest)
 -- a method's name has no < or >, unless it is that of a constructor or of a class's start
 abbrev pub is_method_name : List ℕ → Bool
 is_method_name name =
-    is_unqualified name && (list_all (λ c. not ((c == 60) || (c == 62))) name || is_text name (codes "<init>") || is_text name (codes "<clinit>")) where
+    is_unqualified name && (list_all (λ c. not ((c == LESS_THAN) || (c == GREATER_THAN))) name || is_text name (codes "<init>") || is_text name (codes "<clinit>")) where
       is_text : List ℕ → List ℕ → Bool
       is_text [] [] = true
       is_text [] (d ∷ ds) = false
@@ -26,7 +27,7 @@ is_method_name name =
 -- parts with / between them, each with at least one character; the flag tells whether the part at hand has begun
 abbrev pub are_parts : Bool → List ℕ → Bool
 are_parts begun [] = begun
-are_parts begun (c ∷ rest) = if c == 47 then begun && are_parts false rest else is_name_character c && are_parts true rest
+are_parts begun (c ∷ rest) = if c == SLASH then begun && are_parts false rest else is_name_character c && are_parts true rest
 
 -- the name of a class that isn't an array
 abbrev pub is_binary_name : List ℕ → Bool
@@ -46,7 +47,8 @@ pub record FieldType : Type 0 where
 
 -- B C D F I J S Z
 abbrev pub is_primitive_letter : ℕ → Bool
-is_primitive_letter c = (c == 66) || (c == 67) || (c == 68) || (c == 70) || (c == 73) || (c == 74) || (c == 83) || (c == 90)
+is_primitive_letter c =
+    (c == BYTE_LETTER) || (c == CHAR_LETTER) || (c == DOUBLE_LETTER) || (c == FLOAT_LETTER) || (c == INT_LETTER) || (c == LONG_LETTER) || (c == SHORT_LETTER) || (c == BOOLEAN_LETTER)
 
 abbrev pub IsBaseType : BaseType → Type 0
 IsBaseType (primitive letter) = is_primitive_letter letter ≡ true
@@ -59,11 +61,11 @@ pub record IsFieldType (t : FieldType) : Type 0 where
 
 abbrev pub base_descriptor : BaseType → List ℕ
 base_descriptor (primitive letter) = letter ∷ []
-base_descriptor (object name) = 76 ∷ (name ++ 59 ∷ [])
+base_descriptor (object name) = CLASS_LETTER ∷ (name ++ SEMICOLON ∷ [])
 
 -- one [ for each dimension, and then the letter, or the class between L and ;
 abbrev pub field_descriptor : FieldType → List ℕ
-field_descriptor t = replicate t.dimensions 91 ++ base_descriptor t.base
+field_descriptor t = replicate t.dimensions LEFT_BRACKET ++ base_descriptor t.base
 
 abbrev pub IsFieldDescriptor : List ℕ → Type 0
 IsFieldDescriptor descriptor = (t : FieldType) × (IsFieldType t × (descriptor ≡ field_descriptor t))
@@ -72,7 +74,7 @@ IsFieldDescriptor descriptor = (t : FieldType) × (IsFieldType t × (descriptor 
 abbrev pub words_of : FieldType → ℕ
 words_of t = words_at t.dimensions t.base where
   words_at : ℕ → BaseType → ℕ
-  words_at zero (primitive letter) = if (letter == 74) || (letter == 68) then 2 else 1
+  words_at zero (primitive letter) = if (letter == LONG_LETTER) || (letter == DOUBLE_LETTER) then 2 else 1
   words_at dimensions base = 1
 
 -- a class entry names a class, or an array by its descriptor (JVMS 4.4.1)
@@ -94,11 +96,11 @@ pub record IsMethodType (m : MethodType) : Type 0 where
 
 -- V where nothing is returned
 abbrev pub result_descriptor : Option FieldType → List ℕ
-result_descriptor None = 86 ∷ []
+result_descriptor None = VOID_LETTER ∷ []
 result_descriptor (Some t) = field_descriptor t
 
 abbrev pub method_descriptor : MethodType → List ℕ
-method_descriptor m = 40 ∷ (flat_map field_descriptor m.parameters ++ 41 ∷ result_descriptor m.result)
+method_descriptor m = LEFT_PARENTHESIS ∷ (flat_map field_descriptor m.parameters ++ RIGHT_PARENTHESIS ∷ result_descriptor m.result)
 
 -- the arguments, with the receiver's word if there is one, take at most 255 words
 abbrev pub IsMethodDescriptor : ℕ → List ℕ → Type 0

@@ -13,6 +13,7 @@ use Rattle.fm_code.specs.ClassBytes.{magic}
 use Rattle.fm_code.specs.ConstantPool.{entry_at, utf8_at, class_name_at, field_at, method_at, interface_method_at}
 use Rattle.fm_code.specs.Members.{code_of}
 use Rattle.fm_code.specs.Names.{BaseType, primitive, object, FieldType, IsFieldType, field_descriptor, MethodType, IsMethodType, method_descriptor, IsArrayName}
+use Rattle.fm_code.specs.Spells.{Spells}
 use Rattle.fm_code.specs.declared.constant_pool.Entry.{Entry}
 use Rattle.fm_code.specs.declared.constant_pool.Entry.TheVariants as entry
 use Rattle.fm_code.specs.declared.class_file.ClassDef.{ClassDef}
@@ -46,6 +47,11 @@ pub record HasVersion (bytes : List ℕ) (major minor : ℕ) : Type 0 where
 pub record HasOtherVersion (bytes : List ℕ) (major minor : ℕ) : Type 0 where
   pub version : HasVersion bytes major minor
   pub other : ¬ IsAcceptedVersion major minor
+
+-- no record spells the bytes, and they don't begin with a version that isn't accepted
+pub record IsMalformed (bytes : List ℕ) : Type 0 where
+  pub not_spelled : (c : ClassDef) → ¬ Spells bytes c
+  pub no_other_version : (major minor : ℕ) → ¬ HasOtherVersion bytes major minor
 
 -- ---- limits of methods
 

@@ -25,3 +25,7 @@ pub record Spells (bytes : List ℕ) (c : ClassDef) : Type 0 where
   pub methods : AllByRecursion (MethodIsValid (is_interface c.flags) c.pool.entries) c.methods
   pub distinct_methods : AreDistinct c.pool.entries c.methods
   pub attributes : AllByRecursion (λ (raw : Raw). IsSome (utf8_at c.pool.entries raw.name)) c.attributes
+
+-- some bytes spell the record
+abbrev pub HasSpelling : ClassDef → Type 0
+HasSpelling c = (bytes : List ℕ) × Spells bytes c

@@ -7,8 +7,11 @@ use crate::constant_pool::Pool;
 use fm_base::{NoMemory, Seq};
 use std::alloc::Global;
 
+/// The number in the first four bytes of each class file (JVMS 4.1).
+pub const MAGIC: u32 = 0xcafe_babe;
+
 /// A class file. Each number is the item of that name in the `ClassFile` structure.
-#[derive(Debug, Drop)]
+#[derive(Debug, PartialEq, Eq, Drop)]
 pub struct ClassDef {
     pub minor: u16,
     pub major: u16,
@@ -22,8 +25,51 @@ pub struct ClassDef {
     pub attributes: Seq<Raw>,
 }
 
+impl ClassDef {
+    /// An equal record.
+    pub fn copy(&self, alloc: Global) -> Result<ClassDef, NoMemory>
+        ensures { IfOk result (λ class. class ≡ self.now) }
+    {
+        let interfaces = Vec::from_slice(alloc, self.interfaces.as_slice())?;
+        Ok(ClassDef {
+            minor: self.minor,
+            major: self.major,
+            pool: self.pool.copy(alloc)?,
+            flags: self.flags,
+            this_class: self.this_class,
+            super_class: self.super_class,
+            interfaces: Seq::new(interfaces),
+            fields: Seq::new(members_copy(alloc, self.fields.as_slice())?),
+            methods: Seq::new(members_copy(alloc, self.methods.as_slice())?),
+            attributes: Seq::new(raws_copy(alloc, self.attributes.as_slice())?),
+        })
+    }
+}
+
+/// Equal fields or methods.
+fn members_copy(alloc: Global, members: &[Member]) -> Result<Vec<Member>, NoMemory>
+    ensures { IfOk result (λ copies. copies.items ≡ members.now) }
+{
+    let mut copies = Vec::with_capacity(alloc, members.len())?;
+    for member in members {
+        copies.push(member.copy(alloc)?)?;
+    }
+    Ok(copies)
+}
+
+/// Equal attributes.
+fn raws_copy(alloc: Global, raws: &[Raw]) -> Result<Vec<Raw>, NoMemory>
+    ensures { IfOk result (λ copies. copies.items ≡ raws.now) }
+{
+    let mut copies = Vec::with_capacity(alloc, raws.len())?;
+    for raw in raws {
+        copies.push(raw.copy(alloc)?)?;
+    }
+    Ok(copies)
+}
+
 /// A field or a method (`field_info`, `method_info`).
-#[derive(Debug, Drop)]
+#[derive(Debug, PartialEq, Eq, Drop)]
 pub struct Member {
     pub flags: u16,
     pub name: u16,
@@ -31,9 +77,34 @@ pub struct Member {
     pub attributes: Seq<MemberAttr>,
 }
 
+impl Member {
+    /// An equal field or method.
+    pub fn copy(&self, alloc: Global) -> Result<Member, NoMemory>
+        ensures { IfOk result (λ member. member ≡ self.now) }
+    {
+        Ok(Member {
+            flags: self.flags,
+            name: self.name,
+            descriptor: self.descriptor,
+            attributes: Seq::new(attributes_copy(alloc, self.attributes.as_slice())?),
+        })
+    }
+}
+
+/// Equal attributes of a field or a method.
+fn attributes_copy(alloc: Global, attributes: &[MemberAttr]) -> Result<Vec<MemberAttr>, NoMemory>
+    ensures { IfOk result (λ copies. copies.items ≡ attributes.now) }
+{
+    let mut copies = Vec::with_capacity(alloc, attributes.len())?;
+    for attribute in attributes {
+        copies.push(attribute.copy(alloc)?)?;
+    }
+    Ok(copies)
+}
+
 /// An attribute of a field or a method. The first number of the first two is the index of the
 /// attribute's name.
-#[derive(Debug, Drop)]
+#[derive(Debug, PartialEq, Eq, Drop)]
 pub enum MemberAttr {
     /// A ConstantValue with the index of its value.
     Constant(u16, u16),
@@ -43,8 +114,21 @@ pub enum MemberAttr {
     Other(Raw),
 }
 
+impl MemberAttr {
+    /// An equal attribute.
+    pub fn copy(&self, alloc: Global) -> Result<MemberAttr, NoMemory>
+        ensures { IfOk result (λ attribute. attribute ≡ self.now) }
+    {
+        match self {
+            MemberAttr::Constant(name, value) => Ok(MemberAttr::Constant(*name, *value)),
+            MemberAttr::Coded(name, code) => Ok(MemberAttr::Coded(*name, code.copy(alloc)?)),
+            MemberAttr::Other(raw) => Ok(MemberAttr::Other(raw.copy(alloc)?)),
+        }
+    }
+}
+
 /// An attribute that is kept as it is.
-#[derive(Debug, Drop)]
+#[derive(Debug, PartialEq, Eq, Drop)]
 pub struct Raw {
     /// The index of its name.
     pub name: u16,

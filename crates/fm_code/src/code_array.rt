@@ -12,7 +12,7 @@ use std::alloc::Global;
 pub const MAX_CODE_BYTES: u32 = 65_535;
 
 /// A Code attribute. The places that its tables name are numbers of items and not offsets.
-#[derive(Debug, Drop)]
+#[derive(Debug, PartialEq, Eq, Drop)]
 pub struct Code {
     pub max_stack: u16,
     pub max_locals: u16,
@@ -62,7 +62,7 @@ fn attributes_copy(alloc: Global, attributes: &[CodeAttr]) -> Result<Vec<CodeAtt
 }
 
 /// An instruction where it stands, with the bytes that spell it there.
-#[derive(Debug, Drop)]
+#[derive(Debug, PartialEq, Eq, Drop)]
 pub struct Item {
     /// The offset of its first byte in the code array.
     pub offset: u32,
@@ -97,7 +97,7 @@ pub struct Handler {
 
 /// An attribute of a Code attribute. The first number of the first two is the index of the
 /// attribute's name.
-#[derive(Debug, Drop)]
+#[derive(Debug, PartialEq, Eq, Drop)]
 pub enum CodeAttr {
     /// A LineNumberTable.
     Lines(u16, Seq<Line>),

@@ -1,6 +1,8 @@
 // The bytes of an instruction, which lie in place where they are few.
 
-ghost use Rattle.std.specs.Prelude.{◌≡◌, IfOk};
+ghost use Rattle.std.specs.Prelude.{◌≡◌, ◌==◌, IfOk};
+ghost use Rattle.std.specs.Cmp.{partial_equiv_from_equiv};
+ghost use Rattle.std.specs.Cmp.Lexicographic.{pointwise, nat_list_eq_equiv};
 
 use fm_base::NoMemory;
 use std::alloc::Global;
@@ -70,4 +72,18 @@ impl InsnBytes {
     {
         InsnBytes::from_slice(alloc, self.as_slice())
     }
+}
+
+impl PartialEq for InsnBytes {
+    ghost eq = { pointwise ◌==◌ };
+
+    ghost laws = { partial_equiv_from_equiv nat_list_eq_equiv };
+
+    fn eq(&self, other: &InsnBytes) -> bool {
+        self.as_slice() == other.as_slice()
+    }
+}
+
+impl Eq for InsnBytes {
+    ghost laws = { nat_list_eq_equiv };
 }

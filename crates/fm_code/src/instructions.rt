@@ -9,7 +9,7 @@ use std::alloc::Global;
 
 /// An instruction. A `u16` is a pool index or a local variable, and a `u32` the number of the item
 /// that is jumped to.
-#[derive(Clone, Debug, Drop)]
+#[derive(Clone, Debug, PartialEq, Eq, Drop)]
 pub enum Insn {
     Nop,
     Null,

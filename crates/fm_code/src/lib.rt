@@ -9,24 +9,29 @@ mod access_flags;
 mod class_file;
 mod code_array;
 mod constant_pool;
+mod cursor;
+mod error;
 mod insn_bytes;
 mod instructions;
 mod laws;
 pub mod opcodes;
 mod operations;
 mod profile;
+mod put;
 mod switch_list;
 
 pub use access_flags::{
     ACC_ABSTRACT, ACC_INTERFACE, ACC_NATIVE, ACC_PRIVATE, ACC_STATIC, has_flag,
 };
-pub use class_file::{ClassDef, Member, MemberAttr, Raw};
+pub use class_file::{ClassDef, MAGIC, Member, MemberAttr, Raw};
 pub use code_array::{Code, CodeAttr, Handler, Item, Line, MAX_CODE_BYTES, Var};
 pub use constant_pool::{
     CONSTANT_Class, CONSTANT_Double, CONSTANT_Fieldref, CONSTANT_Float, CONSTANT_Integer,
     CONSTANT_InterfaceMethodref, CONSTANT_Long, CONSTANT_Methodref, CONSTANT_NameAndType,
-    CONSTANT_String, CONSTANT_Utf8, Entry, Pool,
+    CONSTANT_String, CONSTANT_Utf8, Entry, MemberRef, Pool,
 };
+pub use cursor::{take_bytes, take_u8, take_u16, take_u32, take_u64};
+pub use error::PieceFail;
 pub use insn_bytes::InsnBytes;
 pub use instructions::Insn;
 pub use laws::{
@@ -35,4 +40,5 @@ pub use laws::{
 };
 pub use operations::{Conv, Elem, Op, Reg, Shift, Test};
 pub use profile::{NEWEST_MAJOR, OLDEST_MAJOR, OLDEST_MINOR, OverLimit, Place, Unsupported, What};
+pub use put::{put_u16, put_u32, put_u64};
 pub use switch_list::SwitchList;

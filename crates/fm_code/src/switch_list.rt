@@ -1,6 +1,7 @@
 // The lists of a switch, which lie in a box so that no instruction takes the room of the few switches.
 
 ghost use Rattle.std.specs.Prelude.{◌≡◌, IfOk};
+ghost use Rattle.std.specs.Cmp.Lexicographic.{pointwise, lists_per, lists_equiv};
 
 use fm_base::NoMemory;
 use std::alloc::Global;
@@ -47,4 +48,18 @@ impl<T> SwitchList<T> {
         let items = Vec::from_slice(alloc, self.items.as_slice())?;
         SwitchList::new(alloc, items)
     }
+}
+
+impl<T: PartialEq> PartialEq for SwitchList<T> {
+    ghost eq = { pointwise T.eq };
+
+    ghost laws = { lists_per T.laws };
+
+    fn eq(&self, other: &SwitchList<T>) -> bool {
+        self.items.as_slice() == other.items.as_slice()
+    }
+}
+
+impl<T: Eq> Eq for SwitchList<T> {
+    ghost laws = { lists_equiv T.Eq.laws };
 }
