@@ -1,16 +1,13 @@
 -- Reading what stands at the indices of a pool, as a loop does.
-use Rattle.std.proofs.Common.{◌≡◌, ℕ, suc, ◌-◌, ◌+◌, ◌≤◌, ◌<◌, Bool, true, false, List, [], ◌∷◌, ◌++◌, Option, Some, None, refl, sym, ap, ◌∙◌, append_assoc, arith}
+use Rattle.std.proofs.Common.{◌≡◌, ℕ, suc, ◌-◌, ◌+◌, ◌≤◌, ◌<◌, Bool, true, false, List, [], ◌∷◌, ◌++◌, Option, Some, None, refl, sym, ap, ◌∙◌, arith}
 use Rattle.std.proofs.lemmas.List.{append-nil}
 use Rattle.fm_code.specs.ConstantPool.{takes_two}
 use Rattle.fm_code.specs.declared.constant_pool.Entry.{Entry}
-use Rattle.fm_pool.specs.declared.error.PoolFail.{PoolFail}
-use Rattle.fm_pool.specs.declared.error.PoolFail.TheVariants as fail
-use Rattle.fm_pool.specs.inner.Reading.{Fails, slot_at, slots_at, with_prefix, ◌>>=◌}
-
--- what was read goes to the end of the prefix
-regroup : (prefix : List Entry) (x : Entry) (reading : Option (List Entry × List ℕ)) → with_prefix prefix (reading >>= λ others. Some (x ∷ others.0, others.1)) ≡ with_prefix (prefix ++ x ∷ []) reading
-regroup prefix x (Some others) = ap (λ (xs : List Entry). Some (xs, others.1)) (simp append_assoc)
-regroup prefix x None = refl
+use Rattle.fm_code.specs.declared.error.PieceFail.{PieceFail}
+use Rattle.fm_code.specs.declared.error.PieceFail.TheVariants as fail
+use Rattle.fm_code.specs.inner.Reading.{Fails, with_prefix}
+use Rattle.fm_code.proofs.Several.{regroup}
+use Rattle.fm_pool.specs.inner.Reading.{slot_at, slots_at}
 
 -- what the loop has read, in front of what it has yet to read, is the whole
 abbrev pub IsWhole : List Entry → Bool → ℕ → List ℕ → Option (List Entry × List ℕ) → Type 0
@@ -26,7 +23,7 @@ next_slot front due count i bytes x after whole lt h so_far =
     sym one ∙ so_far
 
 -- where a slot isn't read, the whole isn't
-pub no_slot : (e : PoolFail) (front : List Entry) (due : Bool) (count i : ℕ) (bytes : List ℕ) (whole : Option (List Entry × List ℕ)) → i < count → Fails e (slot_at due bytes) → IsWhole front due (count - i) bytes whole → Fails e whole
+pub no_slot : (e : PieceFail) (front : List Entry) (due : Bool) (count i : ℕ) (bytes : List ℕ) (whole : Option (List Entry × List ℕ)) → i < count → Fails e (slot_at due bytes) → IsWhole front due (count - i) bytes whole → Fails e whole
 unfolding slots_at
 no_slot fail.NoMemory front due count i bytes whole lt h so_far = tt
 no_slot fail.Malformed front due count i bytes whole lt h so_far =

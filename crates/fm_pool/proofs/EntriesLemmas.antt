@@ -1,10 +1,10 @@
 -- The constant pool as a piece.
-use Rattle.std.proofs.Common.{inl, inr, ◌≡◌, ℕ, zero, suc, ◌<◌, Bool, true, false, cond, eqb, ltb, ◌&&◌, List, [], ◌∷◌, ◌++◌, length, take, Option, Some, None, refl, sym, ap, subst, ◌∙◌, append_assoc, arith, ◌^◌, ℤ}
+use Rattle.std.proofs.Common.{inl, inr, ◌≡◌, ℕ, zero, suc, ◌<◌, Bool, true, false, cond, eqb, ltb, List, [], ◌∷◌, ◌++◌, length, take, Option, Some, refl, sym, ap, subst, ◌∙◌, append_assoc, arith, ◌^◌, ℤ}
 use Rattle.std.specs.Prelude.{FitsSigned}
 use Rattle.std.proofs.lemmas.Int.{ints}
-use Rattle.std.specs.List.{list_all, flat_map, AllByRecursion}
+use Rattle.std.specs.List.{flat_map, AllByRecursion}
 use Rattle.std.specs.Int.{w32, w64, cast_signed}
-use Rattle.std.proofs.lemmas.Bool.{eqb-true, ltb-true, lt-ltb, le-ltb, cases_Bool}
+use Rattle.std.proofs.lemmas.Bool.{eqb-true, le-ltb, cases_Bool}
 use Rattle.std.proofs.lemmas.List.{drop_at, take-append-drop, length-append}
 use Rattle.std.proofs.lemmas.List.Concat.{flat_map-cons}
 use Rattle.fm_code.specs.ConstantPool.{takes_two, AreSlots}
@@ -16,8 +16,9 @@ use Rattle.fm_code.specs.declared.constant_pool.Entry.{Entry}
 use Rattle.fm_code.specs.declared.constant_pool.Entry.TheVariants as entry
 use Rattle.fm_code.proofs.Bytes.{AreBytes-drop, length-signed_four, length-signed_eight, big_number-lt, big_number-signed_four, big_number-signed_eight, signed_four-big_number, signed_eight-big_number}
 use Rattle.fm_code.proofs.PoolPrefixes.{IsSpelledEntry, slots_spelled}
-use Rattle.fm_pool.specs.inner.Reading.{◌>>=◌, number_at, bytes_at, text_at, pair_at, entry_after, entry_at_front, slot_at, slots_at, pool_at}
-use Rattle.fm_pool.proofs.NumbersLemmas.{bind_some, some_is, Takes, Takes-then, IsPiece, number_parts, one_piece, two_piece, four_piece, eight_piece, bytes_takes, bytes_again}
+use Rattle.fm_code.specs.inner.Reading.{◌>>=◌, number_at, bytes_at}
+use Rattle.fm_pool.specs.inner.Reading.{text_at, pair_at, entry_after, entry_at_front, slot_at, slots_at, pool_at}
+use Rattle.fm_code.proofs.Pieces.{bind_some, some_is, Takes, Takes-then, IsPiece, number_parts, one_piece, two_piece, four_piece, eight_piece, bytes_takes, bytes_again}
 
 -- ---- texts
 

@@ -1,9 +1,11 @@
-pub mod NumbersLemmas
 pub mod EntriesLemmas
 pub mod EntriesInTurn
 pub mod DescriptorsLemmas
 pub mod MethodDescriptors
 pub mod TextsLemmas
 pub mod FactsLemmas
+pub mod GrownPool
+pub mod FreeEntriesLemmas
+pub mod FreeEntriesAdded
 pub mod RulesLemmas
 pub mod ReadingLemmas

@@ -1,22 +1,21 @@
 -- What is read of a pool, and what spells one.
-use Rattle.std.proofs.Common.{◌≡◌, ℕ, ◌-◌, ◌+◌, ◌<◌, ◌≤◌, List, ◌++◌, length, take, drop, get_or, length-append, Option, Some, None, Result, Ok, Err, refl, sym, ap, subst, ◌∙◌, arith}
+use Rattle.std.proofs.Common.{◌≡◌, ℕ, ◌-◌, ◌≤◌, List, ◌++◌, length, take, drop, length-append, Option, Some, None, Result, Ok, Err, refl, sym, ap, subst, ◌∙◌, arith}
 use Rattle.std.specs.Prelude.{MatchResult}
 use Rattle.std.specs.List.{AllByRecursion}
 use Rattle.std.proofs.lemmas.List.{take_at, take-append-drop}
-use Rattle.std.proofs.lemmas.List.Elements.{All-from_get_or, recursion_from_All}
 use Rattle.fm_code.specs.ClassBytes.{counted, entry_bytes, pool_bytes}
 use Rattle.fm_code.specs.ConstantPool.{EntryIsValid, SpellsPool}
-use Rattle.fm_code.specs.Fits.{AreBytes, IsByte}
+use Rattle.fm_code.specs.Fits.{AreBytes}
 use Rattle.fm_code.specs.declared.constant_pool.Entry.{Entry}
 use Rattle.fm_code.specs.declared.constant_pool.Pool.{Pool}
-use Rattle.fm_pool.specs.inner.Reading.{Fails, pool_at}
+use Rattle.fm_code.specs.declared.error.PieceFail.{PieceFail}
+use Rattle.fm_code.specs.declared.error.PieceFail.TheVariants as piece
+use Rattle.fm_code.specs.inner.Reading.{Fails}
+use Rattle.fm_pool.specs.inner.Failures.{pool_failure}
+use Rattle.fm_pool.specs.inner.Reading.{pool_at}
 use Rattle.fm_pool.specs.declared.error.PoolFail.{PoolFail}
 use Rattle.fm_pool.specs.declared.error.PoolFail.TheVariants as fail
-use Rattle.fm_pool.proofs.NumbersLemmas.{Takes}
 use Rattle.fm_pool.proofs.EntriesLemmas.{pool_piece}
-
-pub all_bytes : (bytes : List ℕ) → ((i : ℕ) → get_or bytes i 0 < 256) → AreBytes bytes
-all_bytes bytes h = recursion_from_All IsByte bytes (All-from_get_or IsByte bytes 0 (λ i lt. h i))
 
 pool_bytes_is : (pool : Pool) → pool_bytes pool ≡ counted entry_bytes pool.entries
 unfolding pool_bytes
@@ -36,9 +35,9 @@ is_read bytes pool n spells =
     ap pool_at prefix ∙ pool_piece.again pool.entries (drop n bytes) (record { fits = spells.fits; slots = spells.slots })
 
 -- so where nothing is read, memory ran out
-pub only_no_memory : (bytes : List ℕ) (pool : Pool) (n : ℕ) (e : PoolFail) → Fails e (pool_at bytes) → SpellsPool (take n bytes) pool → e ≡ fail.NoMemory
-only_no_memory bytes pool n fail.NoMemory h spells = refl
-only_no_memory bytes pool n fail.Malformed h spells = absurd (let read = is_read bytes pool n spells in let none : read_as (pool.entries, drop n bytes) ≡ None = sym read ∙ h in cc)
+pub only_no_memory : (bytes : List ℕ) (pool : Pool) (n : ℕ) (e : PieceFail) → Fails e (pool_at bytes) → SpellsPool (take n bytes) pool → pool_failure e ≡ fail.NoMemory
+only_no_memory bytes pool n piece.NoMemory h spells = refl
+only_no_memory bytes pool n piece.Malformed h spells = absurd (let read = is_read bytes pool n spells in let none : read_as (pool.entries, drop n bytes) ≡ None = sym read ∙ h in cc)
 
 -- and what is read are the pool's entries
 pub entries_are : (bytes : List ℕ) (pool : Pool) (n : ℕ) (entries : List Entry) (rest : List ℕ) → pool_at bytes ≡ Some (entries, rest) → SpellsPool (take n bytes) pool → entries ≡ pool.entries

@@ -1,12 +1,12 @@
 -- One unit of modified UTF-8 after the other: what stands at the front decides, and the rest is asked next.
-use Rattle.std.proofs.Common.{◌≡◌, ◌↔◌, ℕ, zero, suc, ◌+◌, ◌-◌, ◌*◌, ◌/◌, ◌%◌, ◌<◌, ◌≤◌, ◌⊎◌, inl, inr, Bool, true, false, eqb, ltb, IsTrue, List, [], ◌∷◌, ◌++◌, length, length-append, Option, Some, None, refl, sym, ap, subst, ◌∙◌, arith}
+use Rattle.std.proofs.Common.{◌≡◌, ◌↔◌, ℕ, ◌+◌, ◌-◌, ◌*◌, ◌/◌, ◌%◌, ◌<◌, ◌≤◌, ◌⊎◌, inl, inr, Bool, eqb, ltb, IsTrue, List, [], ◌∷◌, ◌++◌, length, refl, sym, ap, subst, ◌∙◌, arith}
 use Rattle.std.specs.List.{flat_map, AllByRecursion}
 use Rattle.std.proofs.lemmas.Bool.{cases_Bool, eqb-true, ltb-true, ltb-false}
 use Rattle.std.proofs.lemmas.List.{nil_from_length}
 use Rattle.std.proofs.lemmas.List.Concat.{flat_map-cons}
 use Rattle.fm_base.specs.Texts.{unit_bytes, units, IsModifiedUtf8}
-use Rattle.fm_base.proofs.TextsLemmas.{Form, of_one, of_two, of_three, form_of, unit_bytes-one, unit_bytes-two, unit_bytes-three, IsModifiedUtf8-flat_map}
-use Rattle.fm_pool.specs.inner.Units.{GoesOn, IsPair, IsTriple, StartsWithUnit}
+use Rattle.fm_base.proofs.TextsLemmas.{of_one, of_two, of_three, form_of, unit_bytes-one, unit_bytes-two, unit_bytes-three, IsModifiedUtf8-flat_map}
+use Rattle.fm_pool.specs.inner.Units.{IsPair, IsTriple, StartsWithUnit}
 use Rattle.fm_pool.proofs.DescriptorsLemmas.{heads, tails, found, found_is}
 
 -- ---- a unit by its first bytes

@@ -1,48 +1,71 @@
-// Descriptors of fields and methods (JVMS 4.3), and what a class entry names (JVMS 4.4.1). No call here
-// takes memory.
+// Descriptors of fields and methods (JVMS 4.3). No call here takes memory.
 
 ghost use Rattle.std.specs.Prelude.{◌≡◌, ◌↔◌, ◌≤◌, ◌==◌, ◌∷◌, ℕ, List, Some, not, length, IsTrue, option_copied};
 ghost use Rattle.std.specs.List.{prefix_len};
-ghost use Rattle.fm_code.specs.Names.{is_primitive_letter, IsArrayName, IsClassName, IsFieldDescriptor, IsMethodDescriptor};
-ghost use Rattle.fm_pool.specs.inner.NameParts.{first_words, IsResultDescriptor, StartsWithBase, StartsWithClass, StartsWithField};
+ghost use Rattle.fm_code.specs.Names.{is_primitive_letter, IsArrayName, IsFieldDescriptor};
+ghost use Rattle.fm_pool.specs.declared.descriptors.MethodFacts.{MethodFacts as MethodRecord};
+ghost use Rattle.fm_pool.specs.inner.NameParts.{first_words, AreMethodFacts, AreResultFacts, StartsWithBase, StartsWithClass, StartsWithField};
 
 use crate::names::is_binary_name;
 
-/// Whether the bytes are the descriptor of a method whose arguments take at most 255 words, without a
-/// receiver (JVMS 4.3.3).
-pub(crate) fn is_method_descriptor(descriptor: &[u8]) -> bool
-    ensures { IsTrue result ↔ IsMethodDescriptor 0 descriptor.now }
+/// How many words the arguments of a method may take with its receiver (JVMS 4.3.3).
+pub(crate) const MAX_ARGUMENT_WORDS: u32 = 255;
+
+/// How many dimensions an array may have (JVMS 4.3.2).
+const MAX_DIMENSIONS: usize = 255;
+
+/// What is known of a text that is the descriptor of a method.
+#[derive(Clone, Copy, Debug, PartialEq, Eq)]
+pub(crate) struct MethodFacts {
+    /// How many words the arguments take without a receiver; more than 32 bits count as the most.
+    pub argument_words: u32,
+    /// Whether the method returns nothing.
+    pub returns_nothing: bool,
+}
+
+/// What is known of the bytes as the descriptor of a method, where they are one (JVMS 4.3.3).
+pub(crate) fn method_facts(descriptor: &[u8]) -> Option<MethodFacts>
+    ensures { (m : MethodRecord) → (result ≡ Some m) ↔ AreMethodFacts descriptor.now m }
 {
     match descriptor {
-        [b'(', rest @ ..] => are_arguments_and_result(rest),
-        _ => false,
+        [b'(', rest @ ..] => method_facts_after(rest),
+        _ => None,
     }
 }
 
-/// Whether the bytes are what follows the `(` of such a descriptor.
-fn are_arguments_and_result(bytes: &[u8]) -> bool
-    ensures { IsTrue result ↔ IsMethodDescriptor 0 (40 ∷ bytes.now) }
+/// What is known of the bytes as what follows the `(` of such a descriptor.
+fn method_facts_after(bytes: &[u8]) -> Option<MethodFacts>
+    ensures { (m : MethodRecord) → (result ≡ Some m) ↔ AreMethodFacts (40 ∷ bytes.now) m }
 {
     let mut rest = bytes;
-    let mut words = 0;
+    let mut words: u32 = 0;
     while let Some(after) = after_field(rest) {
-        words += first_words(rest);
-        if words > 255 {
-            return false;
-        }
+        words = words.saturating_add(first_words(rest));
         rest = after;
     }
     match rest {
-        [b')', descriptor @ ..] => is_result_descriptor(descriptor),
-        _ => false,
+        [b')', descriptor @ ..] => result_facts(words, descriptor),
+        _ => None,
     }
 }
 
-/// Whether the bytes are the descriptor of what a method returns.
-fn is_result_descriptor(descriptor: &[u8]) -> bool
-    ensures { IsTrue result ↔ IsResultDescriptor descriptor.now }
+/// What is known where arguments take so many words, and the bytes tell what is returned.
+fn result_facts(argument_words: u32, descriptor: &[u8]) -> Option<MethodFacts>
+    ensures { (m : MethodRecord) → (result ≡ Some m) ↔ AreResultFacts argument_words descriptor.now m }
 {
-    descriptor == b"V".as_slice() || is_field_descriptor(descriptor)
+    if descriptor == b"V".as_slice() {
+        return Some(MethodFacts {
+            argument_words,
+            returns_nothing: true,
+        });
+    }
+    if is_field_descriptor(descriptor) {
+        return Some(MethodFacts {
+            argument_words,
+            returns_nothing: false,
+        });
+    }
+    None
 }
 
 /// Whether the bytes are the descriptor of a field (JVMS 4.3.2).
@@ -55,23 +78,15 @@ pub(crate) fn is_field_descriptor(descriptor: &[u8]) -> bool
     }
 }
 
-/// Whether the bytes are what a class entry of the pool may name: a class, or an array by its
-/// descriptor (JVMS 4.4.1).
-pub(crate) fn is_class_name(name: &[u8]) -> bool
-    ensures { IsTrue result ↔ IsClassName name.now }
-{
-    is_binary_name(name) || is_array_name(name)
-}
-
 /// Whether the bytes are the descriptor of an array.
-fn is_array_name(name: &[u8]) -> bool
+pub(crate) fn is_array_name(name: &[u8]) -> bool
     ensures { IsTrue result ↔ IsArrayName name.now }
 {
     matches!(name, [b'[', ..]) && is_field_descriptor(name)
 }
 
 /// The words of the field whose descriptor begins with these bytes.
-fn first_words(bytes: &[u8]) -> usize
+fn first_words(bytes: &[u8]) -> u32
     ensures { result ≡ first_words bytes.now }
 {
     match bytes {
@@ -85,7 +100,7 @@ fn after_field(bytes: &[u8]) -> Option<&[u8]>
     ensures { (rest : List ℕ) → StartsWithField bytes.now rest ↔ (option_copied result ≡ Some rest) }
 {
     let dimensions = count_leading(bytes, b'[');
-    if dimensions > 255 {
+    if dimensions > MAX_DIMENSIONS {
         return None;
     }
     after_base(&bytes[dimensions..])

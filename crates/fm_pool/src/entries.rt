@@ -2,21 +2,21 @@
 
 ghost use Rattle.std.specs.Prelude.{◌≡◌, true};
 ghost use Rattle.fm_code.specs.ConstantPool.{takes_two};
-ghost use Rattle.fm_pool.specs.inner.Reading.{Gives, entry_at_front, entry_after, pair_at, pool_at, slot_at, slots_at, text_at};
+ghost use Rattle.fm_code.specs.inner.Reading.{Gives};
+ghost use Rattle.fm_pool.specs.inner.Reading.{entry_at_front, entry_after, pair_at, pool_at, slot_at, slots_at, text_at};
 
-use crate::error::PoolFail;
-use crate::numbers::{take_bytes, take_u8, take_u16, take_u32, take_u64};
 use fm_base::Name;
 use fm_code::{
     CONSTANT_Class, CONSTANT_Double, CONSTANT_Fieldref, CONSTANT_Float, CONSTANT_Integer,
     CONSTANT_InterfaceMethodref, CONSTANT_Long, CONSTANT_Methodref, CONSTANT_NameAndType,
-    CONSTANT_String, CONSTANT_Utf8, Entry,
+    CONSTANT_String, CONSTANT_Utf8, Entry, PieceFail, take_bytes, take_u8, take_u16, take_u32,
+    take_u64,
 };
 use std::alloc::Global;
 
 /// The bytes of a text after their number.
 #[tactic(auto, unfolding(crate::specs::inner::Reading::text_at))]
-fn take_text(bytes: &[u8]) -> Result<(&[u8], &[u8]), PoolFail>
+fn take_text(bytes: &[u8]) -> Result<(&[u8], &[u8]), PieceFail>
     ensures { Gives (λ x. (x.0.now, x.1.now)) result (text_at bytes.now) }
 {
     let (size, rest) = take_u16(bytes)?;
@@ -25,7 +25,7 @@ fn take_text(bytes: &[u8]) -> Result<(&[u8], &[u8]), PoolFail>
 
 /// Two indices.
 #[tactic(auto, unfolding(crate::specs::inner::Reading::pair_at))]
-fn take_pair(bytes: &[u8]) -> Result<((u16, u16), &[u8]), PoolFail>
+fn take_pair(bytes: &[u8]) -> Result<((u16, u16), &[u8]), PieceFail>
     ensures { Gives (λ x. (x.0, x.1.now)) result (pair_at bytes.now) }
 {
     let (first, rest) = take_u16(bytes)?;
@@ -35,7 +35,7 @@ fn take_pair(bytes: &[u8]) -> Result<((u16, u16), &[u8]), PoolFail>
 
 /// What is after a tag.
 #[tactic(auto, unfolding(crate::specs::inner::Reading::entry_after))]
-fn take_entry_of(alloc: Global, tag: u8, bytes: &[u8]) -> Result<(Entry, &[u8]), PoolFail>
+fn take_entry_of(alloc: Global, tag: u8, bytes: &[u8]) -> Result<(Entry, &[u8]), PieceFail>
     ensures { Gives (λ x. (x.0, x.1.now)) result (entry_after tag bytes.now) }
 {
     match tag {
@@ -84,13 +84,13 @@ fn take_entry_of(alloc: Global, tag: u8, bytes: &[u8]) -> Result<(Entry, &[u8]),
             let ((name, descriptor), rest) = take_pair(bytes)?;
             Ok((Entry::NameAndType(name, descriptor), rest))
         }
-        _ => Err(PoolFail::Malformed),
+        _ => Err(PieceFail::Malformed),
     }
 }
 
 /// An entry with its tag.
 #[tactic(auto, unfolding(crate::specs::inner::Reading::entry_at_front))]
-fn take_entry(alloc: Global, bytes: &[u8]) -> Result<(Entry, &[u8]), PoolFail>
+fn take_entry(alloc: Global, bytes: &[u8]) -> Result<(Entry, &[u8]), PieceFail>
     ensures { Gives (λ x. (x.0, x.1.now)) result (entry_at_front bytes.now) }
 {
     let (tag, rest) = take_u8(bytes)?;
@@ -98,7 +98,7 @@ fn take_entry(alloc: Global, bytes: &[u8]) -> Result<(Entry, &[u8]), PoolFail>
 }
 
 /// What stands at the next index: nothing where nothing is due, and an entry elsewhere.
-fn take_slot(alloc: Global, is_second: bool, bytes: &[u8]) -> Result<(Entry, &[u8]), PoolFail>
+fn take_slot(alloc: Global, is_second: bool, bytes: &[u8]) -> Result<(Entry, &[u8]), PieceFail>
     ensures { Gives (λ x. (x.0, x.1.now)) result (slot_at is_second bytes.now) }
 {
     if is_second {
@@ -116,7 +116,7 @@ fn takes_two(entry: &Entry) -> bool
 }
 
 /// What stands at that many indices from 0 on. The last one may not be the first of two.
-fn take_slots(alloc: Global, count: u16, bytes: &[u8]) -> Result<(Vec<Entry>, &[u8]), PoolFail>
+fn take_slots(alloc: Global, count: u16, bytes: &[u8]) -> Result<(Vec<Entry>, &[u8]), PieceFail>
     ensures { Gives (λ x. (x.0.items, x.1.now)) result (slots_at true count bytes.now) }
 {
     let mut entries = Vec::new(alloc);
@@ -129,14 +129,14 @@ fn take_slots(alloc: Global, count: u16, bytes: &[u8]) -> Result<(Vec<Entry>, &[
         rest = after;
     }
     if is_second {
-        return Err(PoolFail::Malformed);
+        return Err(PieceFail::Malformed);
     }
     Ok((entries, rest))
 }
 
 /// The entries after the number of their indices.
 #[tactic(auto, unfolding(crate::specs::inner::Reading::pool_at))]
-pub(crate) fn take_entries(alloc: Global, bytes: &[u8]) -> Result<(Vec<Entry>, &[u8]), PoolFail>
+pub(crate) fn take_entries(alloc: Global, bytes: &[u8]) -> Result<(Vec<Entry>, &[u8]), PieceFail>
     ensures { Gives (λ x. (x.0.items, x.1.now)) result (pool_at bytes.now) }
 {
     let (count, rest) = take_u16(bytes)?;

@@ -1,9 +1,12 @@
-// Why a constant pool isn't read.
+// Why a constant pool isn't read, or not added to.
 
 ghost use Rattle.std.specs.Prelude.{◌≡◌};
+ghost use Rattle.fm_pool.specs.declared.error.AddFail.TheVariants.{NoMemory as AddOutOfMemory};
 ghost use Rattle.fm_pool.specs.declared.error.PoolFail.TheVariants.{NoMemory as OutOfMemory};
+ghost use Rattle.fm_pool.specs.inner.Failures.{pool_failure};
 
-use std::alloc::{AllocError, AllocFailed};
+use fm_base::NoMemory;
+use fm_code::PieceFail;
 use thiserror::Error;
 
 /// Why `read_pool` gives no pool.
@@ -17,18 +20,40 @@ pub enum PoolFail {
     NoMemory,
 }
 
-impl From<AllocError> for PoolFail {
+impl From<NoMemory> for PoolFail {
     ghost from_gives = { λ _ e. e ≡ OutOfMemory };
 
-    fn from(_error: AllocError) -> PoolFail {
+    fn from(_error: NoMemory) -> PoolFail {
         PoolFail::NoMemory
     }
 }
 
-impl<T: Drop> From<AllocFailed<T>> for PoolFail {
-    ghost from_gives = { λ _ e. e ≡ OutOfMemory };
+impl From<PieceFail> for PoolFail {
+    ghost from_gives = { λ f e. e ≡ pool_failure f };
 
-    fn from(_error: AllocFailed<T>) -> PoolFail {
-        PoolFail::NoMemory
+    fn from(error: PieceFail) -> PoolFail {
+        match error {
+            PieceFail::Malformed => PoolFail::Malformed,
+            PieceFail::NoMemory => PoolFail::NoMemory,
+        }
+    }
+}
+
+/// Why `find_or_add_free` adds nothing.
+#[derive(Clone, Copy, Debug, PartialEq, Eq, Error)]
+pub enum AddFail {
+    /// The pool would have that many indices, more than 65,535.
+    #[error("constant pool of {0} indices")]
+    Full(u32),
+    /// Memory for the entries couldn't be had.
+    #[error("out of memory")]
+    NoMemory,
+}
+
+impl From<NoMemory> for AddFail {
+    ghost from_gives = { λ _ e. e ≡ AddOutOfMemory };
+
+    fn from(_error: NoMemory) -> AddFail {
+        AddFail::NoMemory
     }
 }

@@ -1,28 +1,80 @@
 // What is known of each text of a pool, found once.
 
-ghost use Rattle.std.specs.Prelude.{◌≡◌, IfOk, IfErr};
-ghost use Rattle.fm_code.specs.ConstantPool.{utf8_at};
+ghost use Rattle.std.specs.Prelude.{◌↔◌, ℕ, List, IfOk, IsTrue};
+ghost use Rattle.fm_code.specs.Members.{ReturnsNothing};
+ghost use Rattle.fm_code.specs.Names.{IsClassName, IsMethodDescriptor};
+ghost use Rattle.fm_code.specs.Operands.{TakesWords};
 ghost use Rattle.fm_pool.specs.inner.Facts.{AreFactsOf, AreFacts, AreFactsAt, own_text};
 
-use crate::descriptors::{is_class_name, is_field_descriptor, is_method_descriptor};
-use crate::error::PoolFail;
-use crate::names::{is_method_name, is_unqualified};
+use crate::descriptors::{
+    MAX_ARGUMENT_WORDS, MethodFacts, is_array_name, is_field_descriptor, method_facts,
+};
+use crate::names::{is_binary_name, is_method_name, is_unqualified};
+use fm_base::NoMemory;
 use fm_code::Entry;
 use std::alloc::Global;
 
-/// What the rules of a pool ask of a text.
+/// What is known of a text.
 #[derive(Clone, Copy, Debug, PartialEq, Eq)]
 pub(crate) struct TextFacts {
-    /// It is the name of a class, or the descriptor of an array (JVMS 4.4.1).
-    pub is_class_name: bool,
+    /// It is the name of a class that isn't an array (JVMS 4.2.1).
+    pub is_binary_name: bool,
+    /// It is the descriptor of an array (JVMS 4.3.2).
+    pub is_array_name: bool,
     /// It is a name without parts, as that of a field (JVMS 4.2.2).
     pub is_unqualified: bool,
     /// It is the name of a method (JVMS 4.2.2).
     pub is_method_name: bool,
     /// It is the descriptor of a field (JVMS 4.3.2).
     pub is_field_descriptor: bool,
-    /// It is the descriptor of a method whose arguments take at most 255 words (JVMS 4.3.3).
-    pub is_method_descriptor: bool,
+    /// What it tells as the descriptor of a method, where it is one (JVMS 4.3.3).
+    pub method: Option<MethodFacts>,
+}
+
+impl TextFacts {
+    /// Whether it is what a class entry may name: a class, or an array by its descriptor (JVMS 4.4.1).
+    pub fn is_class_name(self) -> bool
+        ensures { (text : List ℕ) → AreFactsOf text self → IsTrue result ↔ IsClassName text }
+    {
+        self.is_binary_name || self.is_array_name
+    }
+
+    /// Whether it is the descriptor of a method whose arguments take at most 255 words with so many for
+    /// the receiver (JVMS 4.3.3).
+    pub fn is_method_descriptor(self, receiver_words: u32) -> bool
+        ensures { (text : List ℕ) → AreFactsOf text self
+            → IsTrue result ↔ IsMethodDescriptor receiver_words text }
+    {
+        match self.method {
+            Some(m) => {
+                m.argument_words <= MAX_ARGUMENT_WORDS
+                    && receiver_words <= MAX_ARGUMENT_WORDS - m.argument_words
+            }
+            None => false,
+        }
+    }
+
+    /// Whether it is the descriptor of a method whose arguments take so many words with the receiver's.
+    pub fn takes_words(self, words: u8) -> bool
+        ensures { (text : List ℕ) → AreFactsOf text self → IsTrue result ↔ TakesWords words text }
+    {
+        match self.method {
+            Some(m) => {
+                m.argument_words < MAX_ARGUMENT_WORDS && m.argument_words + 1 == u32::from(words)
+            }
+            None => false,
+        }
+    }
+
+    /// Whether it is the descriptor of a method that returns nothing.
+    pub fn returns_nothing(self) -> bool
+        ensures { (text : List ℕ) → AreFactsOf text self → IsTrue result ↔ ReturnsNothing text }
+    {
+        match self.method {
+            Some(m) => m.returns_nothing,
+            None => false,
+        }
+    }
 }
 
 /// The facts of a text.
@@ -30,11 +82,12 @@ fn facts_of(text: &[u8]) -> TextFacts
     ensures { AreFactsOf text.now result }
 {
     TextFacts {
-        is_class_name: is_class_name(text),
+        is_binary_name: is_binary_name(text),
+        is_array_name: is_array_name(text),
         is_unqualified: is_unqualified(text),
         is_method_name: is_method_name(text),
         is_field_descriptor: is_field_descriptor(text),
-        is_method_descriptor: is_method_descriptor(text),
+        method: method_facts(text),
     }
 }
 
@@ -52,30 +105,12 @@ fn facts_of_entry(entry: &Entry) -> Option<TextFacts>
 pub(crate) fn facts_of_entries(
     alloc: Global,
     entries: &[Entry],
-) -> Result<Vec<Option<TextFacts>>, PoolFail>
-    ensures known { IfOk result (λ facts. AreFacts entries.now facts.items) }
-    ensures no_memory { IfErr result (λ e. e ≡ PoolFail.NoMemory) }
+) -> Result<Vec<Option<TextFacts>>, NoMemory>
+    ensures { IfOk result (λ facts. AreFacts entries.now facts.items) }
 {
-    let mut facts = Vec::new(alloc);
+    let mut facts = Vec::with_capacity(alloc, entries.len())?;
     for entry in entries {
         facts.push(facts_of_entry(entry))?;
     }
     Ok(facts)
-}
-
-/// A pool's entries, with the facts of its texts by their indices.
-#[derive(Clone, Copy, Debug)]
-pub(crate) struct KnownEntries<'a> {
-    pub entries: &'a [Entry],
-    pub facts: &'a [Option<TextFacts>],
-}
-
-impl KnownEntries<'_> {
-    /// The facts of the text at an index.
-    pub fn facts_at(self, index: u16) -> Option<TextFacts>
-        requires { AreFacts self.entries.now self.facts.now }
-        ensures { AreFactsAt (utf8_at self.entry.entries.now index) result }
-    {
-        *self.facts.get(usize::from(index))?
-    }
 }

@@ -1,4 +1,4 @@
-// The constant pool of a class file: read from its bytes, and written.
+// The constant pool of a class file: read from its bytes, asked, added to, and written.
 //
 // `read_pool` accepts exactly the bytes that begin with a constant pool, and `write_pool` gives these
 // bytes back. The layers above use that bytes and pool determine each other.
@@ -8,8 +8,10 @@ mod descriptors;
 mod entries;
 mod error;
 mod facts;
+mod free_entries;
+mod known_entries;
+mod known_pool;
 mod names;
-mod numbers;
 mod put;
 mod reading;
 mod rules;
@@ -18,6 +20,8 @@ mod tests;
 mod texts;
 mod writing;
 
-pub use error::PoolFail;
+pub use error::{AddFail, PoolFail};
+pub use free_entries::find_or_add_free;
+pub use known_pool::KnownPool;
 pub use reading::read_pool;
 pub use writing::write_pool;

@@ -1,15 +1,16 @@
 // A constant pool read from its bytes.
 
-ghost use Rattle.std.specs.Prelude.{◌≡◌, ◌↔◌, ℕ, ◌≤◌, length, take, IfOk, IfErr, IsTrue, MatchResult};
+ghost use Rattle.std.specs.Prelude.{◌≡◌, ◌↔◌, ℕ, ◌≤◌, length, take, IfOk, IsTrue, MatchResult};
 ghost use Rattle.std.specs.List.{AllByRecursion};
 ghost use Rattle.fm_code.specs.ConstantPool.{EntryIsValid, SpellsPool};
 ghost use Rattle.fm_code.specs.declared.constant_pool.Pool.{Pool as PoolRecord};
 
 use crate::entries::take_entries;
 use crate::error::PoolFail;
-use crate::facts::{KnownEntries, facts_of_entries};
+use crate::facts::facts_of_entries;
+use crate::known_entries::KnownEntries;
 use crate::rules::{all_names_are_valid, texts_are_valid};
-use fm_base::Seq;
+use fm_base::{NoMemory, Seq};
 use fm_code::{Entry, Pool};
 use std::alloc::Global;
 
@@ -38,9 +39,8 @@ pub fn read_pool(alloc: Global, bytes: &[u8]) -> Result<(Pool, usize), PoolFail>
 }
 
 /// Whether each entry meets its rule.
-fn are_valid(alloc: Global, entries: &[Entry]) -> Result<bool, PoolFail>
-    ensures decided { IfOk result (λ r. IsTrue r ↔ AllByRecursion (EntryIsValid entries.now) entries.now) }
-    ensures no_memory { IfErr result (λ e. e ≡ PoolFail.NoMemory) }
+fn are_valid(alloc: Global, entries: &[Entry]) -> Result<bool, NoMemory>
+    ensures { IfOk result (λ r. IsTrue r ↔ AllByRecursion (EntryIsValid entries.now) entries.now) }
 {
     if !texts_are_valid(entries) {
         return Ok(false);

@@ -1,12 +1,13 @@
 // The rules of a pool's entries (JVMS 4.4), asked of the facts of its texts.
 
-ghost use Rattle.std.specs.Prelude.{◌≡◌, ◌↔◌, ◌&&◌, ◌⊎◌, ℕ, List, IsTrue, IsSome};
+ghost use Rattle.std.specs.Prelude.{◌↔◌, ◌⊎◌, ℕ, List, IsTrue};
 ghost use Rattle.std.specs.List.{AllByRecursion};
-ghost use Rattle.fm_code.specs.ConstantPool.{utf8_at, class_name_at, named_and_typed_at, EntryIsValid, NamesMember, IsFieldPair, IsMethodPair};
+ghost use Rattle.fm_code.specs.ConstantPool.{EntryIsValid, NamesMember, IsFieldPair, IsMethodPair};
 ghost use Rattle.fm_code.specs.declared.constant_pool.Entry.TheVariants as entry;
-ghost use Rattle.fm_pool.specs.inner.Facts.{AreFacts, AreFactsOf, ArePairFacts, TextIsValid, NamesAreValid};
+ghost use Rattle.fm_pool.specs.inner.Facts.{AreFacts, AreFactsOf, TextIsValid, NamesAreValid};
 
-use crate::facts::{KnownEntries, TextFacts};
+use crate::facts::TextFacts;
+use crate::known_entries::KnownEntries;
 use crate::texts::is_modified_utf8;
 use fm_code::Entry;
 
@@ -27,48 +28,31 @@ pub(crate) fn texts_are_valid(entries: &[Entry]) -> bool
     entries.iter().all(|entry| text_is_valid(entry))
 }
 
-/// Whether a text stands at an index.
-fn is_text(known: KnownEntries<'_>, index: u16) -> bool
-    requires { AreFacts known.entries.now known.facts.now }
-    ensures { IsTrue result ↔ IsSome (utf8_at known.entry.entries.now index) }
-{
-    known.facts_at(index).is_some()
-}
-
-/// Whether a class with a name stands at an index.
-fn is_class(known: KnownEntries<'_>, index: u16) -> bool
-    requires { AreFacts known.entries.now known.facts.now }
-    ensures { IsTrue result ↔ IsSome (class_name_at known.entry.entries.now index) }
-{
-    match known.entries.get(usize::from(index)) {
-        Some(Entry::Class(name)) => is_text(known, *name),
-        _ => false,
-    }
-}
-
 /// Whether a class entry names a class.
 fn names_class(known: KnownEntries<'_>, name: u16) -> bool
     requires { AreFacts known.entries.now known.facts.now }
     ensures { IsTrue result ↔ EntryIsValid known.entry.entries.now (entry.Class name) }
 {
     match known.facts_at(name) {
-        Some(facts) => facts.is_class_name,
+        Some(facts) => facts.is_class_name(),
         None => false,
     }
 }
 
 /// Whether these are the facts of a field's name and of a field's descriptor.
 fn is_field_pair(name: TextFacts, descriptor: TextFacts) -> bool
-    ensures { result ≡ (name.is_unqualified && descriptor.is_field_descriptor) }
+    ensures { (n : List ℕ) (d : List ℕ) → AreFactsOf n name → AreFactsOf d descriptor
+        → IsTrue result ↔ IsFieldPair (n, d) }
 {
     name.is_unqualified && descriptor.is_field_descriptor
 }
 
 /// Whether these are the facts of a method's name and of a method's descriptor.
 fn is_method_pair(name: TextFacts, descriptor: TextFacts) -> bool
-    ensures { result ≡ (name.is_method_name && descriptor.is_method_descriptor) }
+    ensures { (n : List ℕ) (d : List ℕ) → AreFactsOf n name → AreFactsOf d descriptor
+        → IsTrue result ↔ IsMethodPair (n, d) }
 {
-    name.is_method_name && descriptor.is_method_descriptor
+    name.is_method_name && descriptor.is_method_descriptor(0)
 }
 
 /// Whether these are the facts of a field's or of a method's name and descriptor.
@@ -79,27 +63,13 @@ fn is_pair(name: TextFacts, descriptor: TextFacts) -> bool
     is_field_pair(name, descriptor) || is_method_pair(name, descriptor)
 }
 
-/// The facts of the name and of the descriptor at an index.
-fn pair_at(known: KnownEntries<'_>, index: u16) -> Option<(TextFacts, TextFacts)>
-    requires { AreFacts known.entries.now known.facts.now }
-    ensures { ArePairFacts (named_and_typed_at known.entry.entries.now index) result }
-{
-    match known.entries.get(usize::from(index))? {
-        Entry::NameAndType(name, descriptor) => Some((
-            known.facts_at(*name)?,
-            known.facts_at(*descriptor)?,
-        )),
-        _ => None,
-    }
-}
-
 /// Whether a field's entry names a class, and a field's name and descriptor.
 fn names_field(known: KnownEntries<'_>, class: u16, member: u16) -> bool
     requires { AreFacts known.entries.now known.facts.now }
     ensures { IsTrue result ↔ NamesMember IsFieldPair known.entry.entries.now class member }
 {
-    is_class(known, class)
-        && match pair_at(known, member) {
+    known.has_class(class)
+        && match known.pair_at(member) {
             Some((name, descriptor)) => is_field_pair(name, descriptor),
             None => false,
         }
@@ -110,8 +80,8 @@ fn names_method(known: KnownEntries<'_>, class: u16, member: u16) -> bool
     requires { AreFacts known.entries.now known.facts.now }
     ensures { IsTrue result ↔ NamesMember IsMethodPair known.entry.entries.now class member }
 {
-    is_class(known, class)
-        && match pair_at(known, member) {
+    known.has_class(class)
+        && match known.pair_at(member) {
             Some((name, descriptor)) => is_method_pair(name, descriptor),
             None => false,
         }
@@ -135,7 +105,7 @@ fn names_are_valid(known: KnownEntries<'_>, entry: &Entry) -> bool
 {
     match entry {
         Entry::Class(name) => names_class(known, *name),
-        Entry::Text(text) => is_text(known, *text),
+        Entry::Text(text) => known.has_text(*text),
         Entry::Field(class, member) => names_field(known, *class, *member),
         Entry::Method(class, member) => names_method(known, *class, *member),
         Entry::InterfaceMethod(class, member) => names_method(known, *class, *member),

@@ -1,6 +1,7 @@
-// Pools written by hand, one row each: what is read of them, and what is written again (JVMS 4.4).
+// Pools written by hand, one row each: what is read of them, asked and added, and what is written again
+// (JVMS 4.4).
 
-use crate::{PoolFail, read_pool, write_pool};
+use crate::{AddFail, KnownPool, PoolFail, find_or_add_free, read_pool, write_pool};
 use fm_base::NoMemory;
 use fm_code::{Entry, Pool};
 use std::alloc::Global;
@@ -144,4 +145,204 @@ fn texts_in_each_form_are_read(rt: HostRuntime) {
             Err(_) => assert!(rt; false, "{what}"),
         }
     }
+}
+
+// What a pool is asked of an index.
+#[derive(Clone, Copy, Debug)]
+enum Question {
+    Text,
+    Class,
+    BinaryClass,
+    Field,
+    Method,
+    InterfaceMethod(u8),
+    UnqualifiedName,
+    MethodName,
+    FieldDescriptor,
+    MethodDescriptor(u32),
+    DescriptorOfNothing,
+}
+
+fn answer(known: &KnownPool, question: Question, index: u16) -> bool {
+    match question {
+        Question::Text => known.has_text(index),
+        Question::Class => known.has_class(index),
+        Question::BinaryClass => known.has_binary_class(index),
+        Question::Field => known.has_field(index),
+        Question::Method => known.has_method(index),
+        Question::InterfaceMethod(words) => known.has_interface_method(index, words),
+        Question::UnqualifiedName => known.has_unqualified_name(index),
+        Question::MethodName => known.has_method_name(index),
+        Question::FieldDescriptor => known.has_field_descriptor(index),
+        Question::MethodDescriptor(receiver) => known.has_method_descriptor(index, receiver),
+        Question::DescriptorOfNothing => known.has_descriptor_of_nothing(index),
+    }
+}
+
+// A class and an array, a field and methods of them, and texts.
+#[rattlefmt::skip]
+const ASKED: &[u8] = &[
+    0, 14,
+    1, 0, 1, b'M', // 1
+    7, 0, 1, // 2, the class M
+    1, 0, 2, b'[', b'I', // 3
+    7, 0, 3, // 4, the class of int arrays
+    1, 0, 5, b'(', b'J', b'I', b')', b'V', // 5, arguments of three words
+    12, 0, 1, 0, 5, // 6
+    10, 0, 2, 0, 6, // 7
+    11, 0, 2, 0, 6, // 8
+    1, 0, 1, b'I', // 9
+    12, 0, 1, 0, 9, // 10
+    9, 0, 2, 0, 10, // 11
+    1, 0, 6, b'<', b'i', b'n', b'i', b't', b'>', // 12
+    1, 0, 3, b'(', b')', b'I', // 13
+];
+
+#[test]
+fn a_pool_answers_what_it_is_asked(rt: HostRuntime) -> Result<(), Fail> {
+    let (pool, _) = read_pool(rt.alloc(), ASKED).map_err(|_| "refused")?;
+    let known = KnownPool::of(rt.alloc(), pool)?;
+    for (question, indices) in [
+        (Question::Text, [1, 3, 5, 9, 12, 13].as_slice()),
+        (Question::Class, &[2, 4]),
+        (Question::BinaryClass, &[2]),
+        (Question::Field, &[11]),
+        (Question::Method, &[7]),
+        (Question::InterfaceMethod(4), &[8]),
+        (Question::InterfaceMethod(3), &[]),
+        (Question::UnqualifiedName, &[1, 5, 9, 12, 13]),
+        (Question::MethodName, &[1, 5, 9, 12, 13]),
+        (Question::FieldDescriptor, &[3, 9]),
+        (Question::MethodDescriptor(252), &[5, 13]),
+        (Question::MethodDescriptor(253), &[13]),
+        (Question::DescriptorOfNothing, &[5]),
+    ] {
+        for index in 0..15 {
+            let expected = indices.contains(&index);
+            assert_eq!(rt;
+                answer(&known, question, index),
+                expected,
+                "{question:?} at {index}"
+            );
+        }
+    }
+    assert!(rt; known.has_this_text(3, b"[I"));
+    assert!(rt; !known.has_this_text(9, b"[I"));
+    Ok(())
+}
+
+// The six entries of FreeMe.free, in order, from index 1 on.
+#[rattlefmt::skip]
+const SIX_ENTRIES: &[u8] = &[
+    0, 7,
+    1, 0, 6, b'F', b'r', b'e', b'e', b'M', b'e', // 1
+    7, 0, 1, // 2
+    1, 0, 4, b'f', b'r', b'e', b'e', // 3
+    1, 0, 21, b'(', b'L', b'j', b'a', b'v', b'a', b'/', b'l', b'a', b'n', b'g', b'/',
+    b'O', b'b', b'j', b'e', b'c', b't', b';', b')', b'V', // 4
+    12, 0, 3, 0, 4, // 5
+    10, 0, 2, 0, 5, // 6
+];
+
+// The pool in the bytes with the entries of FreeMe.free, written, and the index of the method.
+fn with_free(alloc: Global, bytes: &[u8]) -> Result<(u16, Vec<u8>), &'static str> {
+    let (mut pool, _) = read_pool(alloc, bytes).map_err(|_| "refused")?;
+    let index = find_or_add_free(alloc, &mut pool).map_err(|_| "not added")?;
+    let mut out = Vec::new(alloc);
+    write_pool(alloc, &pool, &mut out).map_err(|_| "not written")?;
+    Ok((index, out))
+}
+
+#[test]
+fn entries_that_are_missing_are_added_in_order(rt: HostRuntime) -> Result<(), Fail> {
+    let (index, bytes) = with_free(rt.alloc(), &[0, 1])?;
+    assert_eq!(rt; index, 6);
+    assert!(rt; bytes.as_slice() == SIX_ENTRIES);
+    Ok(())
+}
+
+#[test]
+fn entries_that_are_there_are_found(rt: HostRuntime) -> Result<(), Fail> {
+    let (index, bytes) = with_free(rt.alloc(), SIX_ENTRIES)?;
+    assert_eq!(rt; index, 6);
+    assert!(rt; bytes.as_slice() == SIX_ENTRIES);
+    Ok(())
+}
+
+// A pool of so many indices, with the first bytes of the six entries and others behind them.
+fn with_others(
+    alloc: Global,
+    count: u8,
+    kept: usize,
+    others: &[u8],
+) -> Result<Vec<u8>, &'static str> {
+    let first = SIX_ENTRIES.get(2..kept).ok_or("no such part")?;
+    let mut bytes = Vec::from_slice(alloc, &[0, count]).map_err(|_| "no memory")?;
+    bytes.extend_from_slice(first).map_err(|_| "no memory")?;
+    bytes.extend_from_slice(others).map_err(|_| "no memory")?;
+    Ok(bytes)
+}
+
+#[test]
+fn entries_are_found_by_their_content(rt: HostRuntime) -> Result<(), Fail> {
+    for (kept, (count, others), (count_after, others_after), index) in [
+        // a second text `free`, which the pair names
+        (
+            45,
+            (
+                8,
+                [
+                    1, 0, 4, b'f', b'r', b'e', b'e', 12, 0, 5, 0, 4, 10, 0, 2, 0, 6,
+                ]
+                .as_slice(),
+            ),
+            (
+                8,
+                [
+                    1, 0, 4, b'f', b'r', b'e', b'e', 12, 0, 5, 0, 4, 10, 0, 2, 0, 6,
+                ]
+                .as_slice(),
+            ),
+            7,
+        ),
+        // a method of an interface
+        (
+            50,
+            (7, &[11, 0, 2, 0, 5]),
+            (8, &[11, 0, 2, 0, 5, 10, 0, 2, 0, 5]),
+            7,
+        ),
+        // the method twice
+        (55, (8, &[10, 0, 2, 0, 5]), (8, &[10, 0, 2, 0, 5]), 6),
+    ] {
+        let bytes = with_others(rt.alloc(), count, kept, others)?;
+        let expected = with_others(rt.alloc(), count_after, kept, others_after)?;
+        let (found, out) = with_free(rt.alloc(), bytes.as_slice())?;
+        assert_eq!(rt; found, index);
+        assert!(rt; out.as_slice() == expected.as_slice());
+    }
+    Ok(())
+}
+
+// The bytes of a pool of so many indices, each with a number.
+fn numbers(alloc: Global, count: u16) -> Result<Vec<u8>, NoMemory> {
+    let mut bytes = Vec::from_slice(alloc, &count.to_be_bytes())?;
+    for _ in 1..count {
+        bytes.extend_from_slice(&[3, 0, 0, 0, 0])?;
+    }
+    Ok(bytes)
+}
+
+#[test]
+fn a_pool_may_be_full(rt: HostRuntime) -> Result<(), Fail> {
+    for (count, answer, count_after) in [
+        (65_529, Ok(65_534), 65_535),
+        (65_530, Err(AddFail::Full(65_536)), 65_530),
+    ] {
+        let bytes = numbers(rt.alloc(), count)?;
+        let (mut pool, _) = read_pool(rt.alloc(), bytes.as_slice()).map_err(|_| "refused")?;
+        assert!(rt; find_or_add_free(rt.alloc(), &mut pool) == answer);
+        assert_eq!(rt; pool.entries.len(), count_after);
+    }
+    Ok(())
 }

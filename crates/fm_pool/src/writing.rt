@@ -5,12 +5,12 @@ ghost use Rattle.fm_code.specs.ClassBytes.{counted, entry_bytes, pool_bytes};
 ghost use Rattle.fm_code.specs.ConstantPool.{SpellsPool};
 ghost use Rattle.fm_code.specs.Fits.{CountedFits, EntryFits};
 
-use crate::put::{put_eight, put_four, put_index, put_pair, put_text, put_u16};
+use crate::put::{put_eight, put_four, put_index, put_pair, put_text};
 use fm_base::NoMemory;
 use fm_code::{
     CONSTANT_Class, CONSTANT_Double, CONSTANT_Fieldref, CONSTANT_Float, CONSTANT_Integer,
     CONSTANT_InterfaceMethodref, CONSTANT_Long, CONSTANT_Methodref, CONSTANT_NameAndType,
-    CONSTANT_String, CONSTANT_Utf8, Entry, Pool,
+    CONSTANT_String, CONSTANT_Utf8, Entry, Pool, put_u16,
 };
 use std::alloc::Global;
 

@@ -1,20 +1,24 @@
 -- What is known of the texts of a pool.
-use Rattle.std.specs.Prelude.{◌≡◌, ◌↔◌, ℕ, true, IsTrue, List, Option, Some, None}
+use Rattle.std.specs.Prelude.{◌≡◌, ◌↔◌, ℕ, IsTrue, List, Option, Some, None}
 use Rattle.std.specs.List.{slice_index_or}
+use Rattle.std.specs.Option.{option_map}
 use Rattle.fm_base.specs.Texts.{IsModifiedUtf8}
-use Rattle.fm_code.specs.ConstantPool.{utf8_at, EntryIsValid}
-use Rattle.fm_code.specs.Names.{IsClassName, is_unqualified, is_method_name, IsFieldDescriptor, IsMethodDescriptor}
+use Rattle.fm_code.specs.ConstantPool.{utf8_at, member_named, EntryIsValid}
+use Rattle.fm_code.specs.Names.{is_binary_name, IsArrayName, is_unqualified, is_method_name, IsFieldDescriptor}
 use Rattle.fm_code.specs.declared.constant_pool.Entry.{Entry}
 use Rattle.fm_code.specs.declared.constant_pool.Entry.TheVariants as entry
+use Rattle.fm_pool.specs.inner.NameParts.{AreMethodFacts}
+use Rattle.fm_pool.specs.declared.descriptors.MethodFacts.{MethodFacts}
 use Rattle.fm_pool.specs.declared.facts.TextFacts.{TextFacts}
 
 -- the facts of a text
 pub record AreFactsOf (text : List ℕ) (facts : TextFacts) : Type 0 where
-  pub class_name : IsTrue facts.is_class_name ↔ IsClassName text
+  pub binary_name : facts.is_binary_name ≡ is_binary_name text
+  pub array_name : IsTrue facts.is_array_name ↔ IsArrayName text
   pub unqualified : facts.is_unqualified ≡ is_unqualified text
   pub method_name : facts.is_method_name ≡ is_method_name text
   pub field_descriptor : IsTrue facts.is_field_descriptor ↔ IsFieldDescriptor text
-  pub method_descriptor : IsTrue facts.is_method_descriptor ↔ IsMethodDescriptor 0 text
+  pub method : (m : MethodFacts) → (facts.method ≡ Some m) ↔ AreMethodFacts text m
 
 -- the facts of the text that may be there
 abbrev pub AreFactsAt : Option (List ℕ) → Option TextFacts → Type 0
@@ -46,3 +50,7 @@ TextIsValid e = Unit {0}
 abbrev pub NamesAreValid : List Entry → Entry → Type 0
 NamesAreValid entries (entry.Utf8 name) = Unit {0}
 NamesAreValid entries e = EntryIsValid entries e
+
+-- the descriptor of the member that two indices name
+abbrev pub descriptor_named : List Entry → ℕ → ℕ → Option (List ℕ)
+descriptor_named entries class member = option_map (λ m. m.descriptor) (member_named entries class member)

@@ -1,6 +1,8 @@
 -- The parts of names and of descriptors.
-use Rattle.std.specs.Prelude.{◌≡◌, ℕ, ◌==◌, ◌||◌, not, Bool, true, List, [], ◌∷◌, ◌++◌, codes, Option, IfSome, if◌then◌else◌}
-use Rattle.fm_code.specs.Names.{is_binary_name, BaseType, IsBaseType, base_descriptor, FieldType, IsFieldType, field_descriptor, result_descriptor}
+use Rattle.std.specs.Prelude.{◌≡◌, ℕ, ◌==◌, ◌||◌, ◌-◌, ◌^◌, min, not, Bool, true, List, [], ◌∷◌, ◌++◌, Option, IfSome, if◌then◌else◌, sum_by}
+use Rattle.std.specs.Option.{is_none}
+use Rattle.fm_code.specs.Names.{is_binary_name, BaseType, IsBaseType, base_descriptor, FieldType, IsFieldType, field_descriptor, result_descriptor, words_of, MethodType, IsMethodType, method_descriptor}
+use Rattle.fm_pool.specs.declared.descriptors.MethodFacts.{MethodFacts}
 
 -- neither < nor >
 abbrev pub is_plain : ℕ → Bool
@@ -29,6 +31,22 @@ abbrev pub first_words : List ℕ → ℕ
 first_words [] = 1
 first_words (c ∷ rest) = if (c == 74) || (c == 68) then 2 else 1
 
--- what a method's descriptor has after the )
-abbrev pub IsResultDescriptor : List ℕ → Type 0
-IsResultDescriptor descriptor = (result : Option FieldType) × (IfSome result IsFieldType × (descriptor ≡ result_descriptor result))
+-- so many words, as far as 32 bits count them
+abbrev pub counted_words : ℕ → ℕ
+counted_words words = min words (2 ^ 32 - 1)
+
+-- what is known of a text that is the descriptor of a method
+pub record AreMethodFacts (text : List ℕ) (facts : MethodFacts) : Type 0 where
+  pub type : MethodType
+  pub is_type : IsMethodType type
+  pub spelled : text ≡ method_descriptor type
+  pub argument_words : facts.argument_words ≡ counted_words (sum_by words_of type.parameters)
+  pub returns_nothing : facts.returns_nothing ≡ is_none type.result
+
+-- what is known where arguments of so many words stand before the ), and the text after it
+pub record AreResultFacts (words : ℕ) (text : List ℕ) (facts : MethodFacts) : Type 0 where
+  pub result : Option FieldType
+  pub is_type : IfSome result IsFieldType
+  pub spelled : text ≡ result_descriptor result
+  pub argument_words : facts.argument_words ≡ words
+  pub returns_nothing : facts.returns_nothing ≡ is_none result

@@ -1,40 +1,11 @@
--- Reading a constant pool from left to right. A piece is read to its value and the bytes after it.
-use Rattle.std.specs.Prelude.{◌≡◌, ℕ, zero, suc, ◌==◌, Bool, true, false, nat_lt, List, [], ◌∷◌, ◌++◌, length, take, drop, Option, Some, None, option_and_then, Result, Ok, Err, if◌then◌else◌}
+-- Reading a constant pool from left to right. It serves the proofs alone.
+use Rattle.std.specs.Prelude.{ℕ, zero, suc, ◌==◌, Bool, true, false, List, [], ◌∷◌, Option, Some, None, if◌then◌else◌}
 use Rattle.std.specs.Int.{w32, w64, cast_signed}
-use Rattle.byteorder.specs.Endian.{big_number}
 use Rattle.fm_code.specs.ConstantPool.{takes_two}
+use Rattle.fm_code.specs.inner.Reading.{◌>>=◌, number_at, bytes_at}
 use Rattle.fm_code.specs.declared.constant_pool.TheConstants.{CONSTANT_Utf8, CONSTANT_Integer, CONSTANT_Float, CONSTANT_Long, CONSTANT_Double, CONSTANT_Class, CONSTANT_String, CONSTANT_Fieldref, CONSTANT_Methodref, CONSTANT_InterfaceMethodref, CONSTANT_NameAndType}
 use Rattle.fm_code.specs.declared.constant_pool.Entry.{Entry}
 use Rattle.fm_code.specs.declared.constant_pool.Entry.TheVariants as entry
-use Rattle.fm_pool.specs.declared.error.PoolFail.{PoolFail}
-use Rattle.fm_pool.specs.declared.error.PoolFail.TheVariants as fail
-
-infixl 10 ◌>>=◌
-abbrev pub ◌>>=◌ : {A B : Type 0} → Option A → (A → Option B) → Option B
-o >>= f = option_and_then f o
-
--- what a function returned, seen by view, is what reading gives, unless memory ran out
-abbrev pub Fails : {Y : Type 0} → PoolFail → Option Y → Type 0
-Fails fail.Malformed reading = reading ≡ None
-Fails fail.NoMemory reading = Unit {0}
-
-abbrev pub Gives : {X Y : Type 0} → (X → Y) → Result X PoolFail → Option Y → Type 0
-Gives view (Ok x) reading = reading ≡ Some (view x)
-Gives view (Err e) reading = Fails e reading
-
--- ---- numbers and bytes
-
--- the number in the first bytes
-abbrev pub number_at : ℕ → List ℕ → Option (ℕ × List ℕ)
-number_at size bytes = if nat_lt (length bytes) size then None else Some (big_number size bytes, drop size bytes)
-
--- the first bytes themselves
-abbrev pub bytes_at : ℕ → List ℕ → Option (List ℕ × List ℕ)
-bytes_at size bytes = if nat_lt (length bytes) size then None else Some (take size bytes, drop size bytes)
-
--- what was read before, in front of what is read
-abbrev pub with_prefix : {X : Type 0} → List X → Option (List X × List ℕ) → Option (List X × List ℕ)
-with_prefix prefix reading = reading >>= λ x. Some (prefix ++ x.0, x.1)
 
 -- ---- entries
 

@@ -3,8 +3,8 @@ use Rattle.std.proofs.lemmas.List.{take_rest}
 use Rattle.fm_pool.proofs.DescriptorsLemmas.{field_parts}
 use Rattle.fm_pool.proofs.descriptors.after_field.Goals as goal
 
-pub returns-then-dimensions-gt255 : goal.returns-then-dimensions-gt255
-returns-then-dimensions-gt255 c = λ rest.
+pub returns-then-dimensions-gt-MAX_DIMENSIONS : goal.returns-then-dimensions-gt-MAX_DIMENSIONS
+returns-then-dimensions-gt-MAX_DIMENSIONS c = λ rest.
     let parts = field_parts c.args.bytes.now rest _ c.count_leading-dimensions.ensures.count in
     (λ w. absurd (let few = (parts.0 w).0 in omega arith), λ e. absurd cc)
 

@@ -1,9 +1,10 @@
-use Rattle.std.proofs.Common.{◌≡◌, false, sym, ◌∙◌, arith, rules}
+use Rattle.std.proofs.Common.{◌≡◌, false, arith, rules}
 use Rattle.std.proofs.lemmas.Result.{err_from_is_err_and}
 use Rattle.std.specs.List.{AllByRecursion}
 use Rattle.fm_base.proofs.TestFacts.{refuted}
 use Rattle.fm_code.specs.ConstantPool.{EntryIsValid}
-use Rattle.fm_pool.proofs.ReadingLemmas.{all_bytes, only_no_memory, same_pool, valid_entries, rest_within, is_spelled, not_refused}
+use Rattle.fm_code.proofs.Pieces.{all_bytes}
+use Rattle.fm_pool.proofs.ReadingLemmas.{only_no_memory, same_pool, valid_entries, rest_within, is_spelled, not_refused}
 use Rattle.fm_pool.proofs.reading.read_pool.Goals as goal
 
 pub returns-in_err-entries-clause-read : goal.returns-in_err-entries-clause-read
@@ -19,7 +20,7 @@ returns-then-not-valid-clause-read c = λ pool n spells.
     let entries = c.in_ok-entries.entries.items in
     let no : c.in_ok-valid.valid ≡ false = search rules in
     let valid = valid_entries c.args.bytes.now pool n entries c.in_ok-entries.rest.now c.in_ok-entries.ensures spells in
-    absurd (refuted c.in_ok-valid.valid (AllByRecursion (EntryIsValid c.as_slice.result.now) c.as_slice.result.now) c.in_ok-valid.ensures.decided no (rw c.as_slice.ensures.value valid))
+    absurd (refuted c.in_ok-valid.valid (AllByRecursion (EntryIsValid c.as_slice.result.now) c.as_slice.result.now) c.in_ok-valid.ensures no (rw c.as_slice.ensures.value valid))
 
 pub returns-then-not-valid-clause-malformed : goal.returns-then-not-valid-clause-malformed
 returns-then-not-valid-clause-malformed c = λ e pool n spells. absurd (let wrong = returns-then-not-valid-clause-read c pool n spells in cc)
@@ -32,7 +33,7 @@ pub returns-clause-found : goal.returns-clause-found
 returns-clause-found c =
     let bytes = c.args.bytes.now in
     let entries = c.in_ok-entries.entries.items in
-    let valid : AllByRecursion (EntryIsValid entries) entries = rw (← c.as_slice.ensures.value) (c.in_ok-valid.ensures.decided.0 (search rules)) in
+    let valid : AllByRecursion (EntryIsValid entries) entries = rw (← c.as_slice.ensures.value) (c.in_ok-valid.ensures.0 (search rules)) in
     rw c.new.ensures (is_spelled bytes entries c.in_ok-entries.rest.now (all_bytes bytes (λ i. omega (arith, c.type_inv.bytes i))) c.in_ok-entries.ensures valid)
 
 pub returns-clause-read : goal.returns-clause-read

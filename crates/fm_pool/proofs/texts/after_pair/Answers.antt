@@ -1,4 +1,3 @@
-use Rattle.std.proofs.Common.{rules}
 use Rattle.fm_pool.proofs.TextsLemmas.{pair_decided}
 use Rattle.fm_pool.proofs.texts.after_pair.Goals as goal
 

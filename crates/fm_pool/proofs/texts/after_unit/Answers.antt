@@ -1,4 +1,4 @@
-use Rattle.std.proofs.Common.{List, ℕ, ◌↔◌, ◌≡◌, Some, sym, subst, arith}
+use Rattle.std.proofs.Common.{List, ℕ, ◌↔◌, ◌≡◌, sym, subst, arith}
 use Rattle.std.specs.Option.{option_copied}
 use Rattle.fm_pool.specs.inner.Units.{StartsWithUnit}
 use Rattle.fm_pool.proofs.DescriptorsLemmas.{found}
