@@ -37,12 +37,12 @@ fn instructions_other_than_switches_are_read(rt: HostRuntime) -> Result<(), Fail
         // into the middle of an instruction, and before the code
         ([167, 0, 1, 177].as_slice(), "malformed"),
         ([167, 255, 255, 177].as_slice(), "malformed"),
-        // a jsr is left out, and its target isn't looked at
+        // a jsr is left out, and its target isn't looked at: the middle of the jsr
         ([168, 0, 1].as_slice(), "0 LeftOut(168);"),
-        // wide forms of iinc, of dload, which is left out, and of nop
+        // wide forms of iinc, of dload, which is left out, and of iadd
         ([196, 132, 1, 0, 255, 255].as_slice(), "0 Inc(256, -1);"),
         ([196, 24, 0, 1].as_slice(), "0 LeftOut(196);"),
-        ([196, 0, 0, 1].as_slice(), "malformed"),
+        ([196, 96, 0, 1].as_slice(), "malformed"),
         // invokeinterface with the byte 0, and without
         ([185, 0, 1, 1, 0].as_slice(), "0 Interface(1);"),
         ([185, 0, 1, 1, 1].as_slice(), "malformed"),
@@ -92,7 +92,7 @@ fn switches_are_read(rt: HostRuntime) -> Result<(), Fail> {
             .as_slice(),
             "0 Lookup(1, SwitchList { items: [-1, 7] }, SwitchList { items: [1, 0] });28 Return(None);",
         ),
-        // the key 7 twice, and more pairs than there are
+        // the key 7 twice, more pairs than there are, and a count of -1
         (
             [
                 171, 0, 0, 0, 0, 0, 0, 28, 0, 0, 0, 2, 0, 0, 0, 7, 0, 0, 0, 28, 0, 0, 0, 7, 0, 0,
@@ -103,6 +103,10 @@ fn switches_are_read(rt: HostRuntime) -> Result<(), Fail> {
         ),
         (
             [171, 0, 0, 0, 0, 0, 0, 0, 127, 255, 255, 255].as_slice(),
+            "malformed",
+        ),
+        (
+            [171, 0, 0, 0, 0, 0, 0, 0, 255, 255, 255, 255].as_slice(),
             "malformed",
         ),
     ] {
