@@ -1,17 +1,18 @@
 -- Texts that get their numbers one after the other, as a loop does.
-use Rattle.std.proofs.Common.{◌≡◌, ◌↔◌, ℕ, zero, suc, ◌+◌, ◌<◌, ◌≤◌, ◌⊎◌, inl, inr, false, cond, List, [], ◌∷◌, ◌++◌, length, take, get_or, Bor, Option, Some, None, refl, sym, ap, subst, ◌∙◌, arith}
+use Rattle.std.proofs.Common.{◌≡◌, ◌↔◌, ℕ, zero, suc, ◌+◌, ◌<◌, ◌≤◌, ◌⊎◌, inl, inr, cond, List, [], ◌∷◌, ◌++◌, length, take, get_or, Bor, Option, Some, None, refl, sym, ap, subst, ◌∙◌, arith}
 use Rattle.std.specs.Prelude.{slice_index}
 use Rattle.std.specs.Ordering.{nat_cmp}
 use Rattle.std.specs.Cmp.Lexicographic.{slice_cmp}
 use Rattle.std.specs.BTreeMap.{BTreeMap, get_by}
 use Rattle.std.proofs.lemmas.List.{take_more}
 use Rattle.std.specs.Str.{bytes_eq}
-use Rattle.std.proofs.lemmas.Bool.{cases_Bool, false≢true}
 use Rattle.std.proofs.lemmas.Slice.Eq.{bytes_eq-Decides}
+use Rattle.fm_base.proofs.OptionFacts.{same_value}
+use Rattle.fm_base.proofs.TestFacts.{same_or_other, bytes_eq-other}
 use Rattle.fm_code.specs.ConstantPool.{utf8_at}
 use Rattle.fm_code.specs.declared.constant_pool.Entry.{Entry}
 use Rattle.fm_code.specs.declared.constant_pool.Entry.TheVariants as entry
-use Rattle.fm_read.specs.TextNumbers.{NumbersTexts}
+use Rattle.fm_read.specs.inner.TextNumbers.{NumbersTexts}
 
 -- the text of an entry
 abbrev pub text_of : Entry → Option (List ℕ)
@@ -66,9 +67,6 @@ pub record Learns (text : List ℕ) (n : ℕ) (known more : List ℕ → Option 
   pub others : (other : List ℕ) → (text ≡ other → ⊥) → more other ≡ known other
   pub same : (other : List ℕ) → (text ≡ other) ⊎ (text ≡ other → ⊥)
 
-number_is : (a b : ℕ) (o : Option ℕ) → o ≡ Some a → o ≡ Some b → a ≡ b
-number_is a b o e f = cc
-
 numbered_still : (text : List ℕ) (n : ℕ) (known more : List ℕ → Option ℕ) (learns : Learns text n known more) (o : Option (List ℕ)) (k : ℕ) → IsNumbered known o k → IsNumbered more o k
 numbered_still text n known more learns None k h = h
 numbered_still text n known more learns (Some other) k h =
@@ -87,7 +85,7 @@ all_numbered_still text n known more learns (e ∷ entries) (k ∷ numbers) h = 
 known_before : (text : List ℕ) (n : ℕ) (known more : List ℕ → Option ℕ) (learns : Learns text n known more) (other : List ℕ) (k : ℕ) → more other ≡ Some k → ((text ≡ other) × (n ≡ k)) ⊎ (known other ≡ Some k)
 known_before text n known more learns other k h =
     elim (learns.same other) [
-      | inl e ↦ inl (e, number_is n k (more text) learns.itself (ap more e ∙ h))
+      | inl e ↦ inl (e, same_value (more text) n k learns.itself (ap more e ∙ h))
       | inr apart ↦ inr (sym (learns.others other apart) ∙ h)
     ]
 
@@ -118,13 +116,6 @@ HasNumbers-new known more entries numbers e text is learns h =
       numbered = numbered_push more entries numbers e fresh (all_numbered_still text fresh known more learns entries numbers h.numbered) numbered;
     }
 
-pub HasNumbers-none : (known : List ℕ → Option ℕ) → ((text : List ℕ) → known text ≡ None) → HasNumbers known [] []
-HasNumbers-none known none =
-    record {
-      so_far = record { above = λ text n e. absurd (let nothing = none text in cc); within = λ text n e. absurd (let nothing = none text in cc); one = λ text other n e f. absurd (let nothing = none text in cc) };
-      numbered = tt;
-    }
-
 -- ---- after the last entry
 
 numbered_at : (known : List ℕ → Option ℕ) (entries : List Entry) (numbers : List ℕ) (i : ℕ) → AreNumbered known entries numbers → IsNumbered known (utf8_at entries i) (slice_index numbers i)
@@ -140,7 +131,7 @@ tells known limit None (Some t) m n h a b = (λ e. absurd (let above = h.above t
 tells known limit (Some t) None m n h a b = (λ e. absurd (let above = h.above t m a in omega (arith, b, e)), λ e. absurd cc)
 tells known limit (Some t) (Some u) m n h a b = (
   λ e. ap (λ (x : List ℕ). Some x) (h.one t u n (subst (λ (k : ℕ). known t ≡ Some k) e a) b),
-  λ e. let same : t ≡ u = cc in number_is m n (known t) a (ap known same ∙ b),
+  λ e. let same : t ≡ u = cc in same_value (known t) m n a (ap known same ∙ b),
 )
 
 pub HasNumbers-all : (known : List ℕ → Option ℕ) (entries : List Entry) (numbers : List ℕ) → HasNumbers known entries numbers → NumbersTexts entries numbers
@@ -149,21 +140,13 @@ HasNumbers-all known entries numbers h = λ i j.
 
 -- ---- a map from texts
 
-text_is : (text other : List ℕ) → (text ≡ other) ⊎ (text ≡ other → ⊥)
-text_is text other =
-    let d = bytes_eq-Decides text other in
-    elim (cases_Bool (bytes_eq text other)) [ inl e ↦ inl (d.0 e) | inr e ↦ inr (λ same. false≢true (sym e ∙ d.1 same)) ]
-
-other_text : (text other : List ℕ) → (text ≡ other → ⊥) → bytes_eq text other ≡ false
-other_text text other apart = elim (cases_Bool (bytes_eq text other)) [ inl e ↦ absurd (apart ((bytes_eq-Decides text other).0 e)) | inr e ↦ e ]
-
 pub Learns-from_update : (text : List ℕ) (n : ℕ) (known more : List ℕ → Option ℕ) → known text ≡ None → ((other : List ℕ) → more other ≡ cond (bytes_eq text other) (Some n) (known other)) → Learns text n known more
 Learns-from_update text n known more none updates =
     record {
       unknown = none;
       itself = updates text ∙ rw ((bytes_eq-Decides text text).1 refl) refl;
-      others = λ other apart. updates other ∙ rw (other_text text other apart) refl;
-      same = λ other. text_is text other;
+      others = λ other apart. updates other ∙ rw (bytes_eq-other text other apart) refl;
+      same = λ other. same_or_other text other;
     }
 
 -- the number that a map has for a text

@@ -1,9 +1,2 @@
-pub mod CodeItems
-pub mod CodeBody
-pub mod NamesParts
-pub mod Parts
-pub mod Reading
-pub mod PartsRules
-pub mod TextNumbers
-pub mod Operands
 pub mod MainClass
+pub mod inner

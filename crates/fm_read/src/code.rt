@@ -1,178 +1,149 @@
-// The bodies of Code attributes of the first form (JVMS 4.7.3, 6.5).
+// Code attributes (JVMS 4.7.3).
 
-ghost use Rattle.std.specs.Prelude.{◌≡◌, ◌≢◌, ◌↔◌, ℕ, ◌+◌, ◌<◌, ◌≤◌, List, ◌∷◌, length, drop, IsTrue, IfOk, IfSome, IfNone, MatchResult};
-ghost use Rattle.fm_code.specs.SpellsCode.{LocalsFit, LocalFits};
-ghost use Rattle.fm_code.specs.declared.code_array.Code.{Code};
-ghost use Rattle.fm_code.specs.declared.code_array.Item.{Item};
-ghost use Rattle.fm_read.specs.Parts.{class_view};
-ghost use Rattle.fm_read.specs.PartsRules.{bare_class};
-ghost use Rattle.fm_read.specs.CodeBody.{IsFirstBody, HasParts};
-ghost use Rattle.fm_read.specs.CodeItems.{front_insn, IsFront, AreDrafts, AreFirstItems};
+ghost use Rattle.std.specs.Prelude.{◌≡◌, ◌≤◌, ◌<◌, ◌^◌, length, List, Err, IfOk};
+ghost use Rattle.fm_code.specs.declared.code_array.Code.{Code as CodeRecord};
+ghost use Rattle.fm_code.specs.declared.code_array.Item.{Item as ItemRecord};
+ghost use Rattle.fm_code.specs.declared.code_array.TheConstants.{MAX_CODE_BYTES};
+ghost use Rattle.fm_code.specs.inner.Reading.{Gives};
+ghost use Rattle.fm_code.specs.SpellsCode.{SpellsCode};
+ghost use Rattle.fm_read.specs.inner.CodeItems.{AreItemsOf};
+ghost use Rattle.fm_read.specs.inner.CodeReading.{head_at, head_view, is_code_length, tables_of, tables_view};
+ghost use Rattle.fm_read.specs.inner.Rules.{IsCodeOf};
 
-use crate::failure::FirstFail;
-use crate::opcodes::{bare_insn_of, byte_insn_of, operand_count, short_insn_of};
-use crate::operands::name_first_operands;
-use crate::parts::ClassParts;
-use crate::targets::{numbered_items, offsets_of};
-use byteorder::{BigEndian, ByteOrder};
+mod attributes;
+mod operands;
+mod places;
+mod tables;
+
+use crate::code::attributes::take_code_attributes;
+use crate::code::operands::items_are_valid;
+use crate::code::places::Places;
+use crate::code::tables::take_handlers;
 use fm_base::Seq;
-use fm_code::{Code, Insn, InsnBytes, Item, Reg};
+use fm_code::{
+    Code, CodeAttr, Handler, Item, MAX_CODE_BYTES, PieceFail, take_bytes, take_u16, take_u32,
+};
+use fm_decode::{DecodeFail, decode};
+use fm_pool::KnownPool;
 use std::alloc::Global;
 
-/// The code of the first form whose Code attribute has these bytes after its length, in a method of the
-/// class. `NotYet` comes exactly where there is none. No memory is taken for a length that the bytes only claim.
-pub(crate) fn code_of(alloc: Global, class: &ClassParts<'_>, body: &[u8]) -> Result<Code, FirstFail>
-    // What is read is spelled by the bytes.
-    ensures found { IfOk result (λ code. IsFirstBody (bare_class (class_view class.now)) body.now code) }
-    // What is spelled by the bytes is read, unless memory runs out.
-    ensures read { (code : Code) → IsFirstBody (bare_class (class_view class.now)) body.now code → MatchResult result (λ d. d ≡ code) (λ e. e ≡ FirstFail.NoMemory) }
-    ensures not_yet { result ≡ Err FirstFail.NotYet → (code : Code) → ¬ IsFirstBody (bare_class (class_view class.now)) body.now code }
+/// What a Code attribute has before its tables.
+#[derive(Clone, Copy, Debug)]
+struct CodeHead<'a> {
+    max_stack: u16,
+    max_locals: u16,
+    code: &'a [u8],
+}
+
+/// What a Code attribute has after its code array.
+#[derive(Debug, Drop)]
+struct CodeTables {
+    handlers: Vec<Handler>,
+    attributes: Vec<CodeAttr>,
+}
+
+/// The code whose Code attribute has these bytes after its length. `Malformed` comes exactly where there
+/// is none. No memory is taken for a length that the bytes only claim.
+pub(crate) fn code_of(alloc: Global, known: &KnownPool, bytes: &[u8]) -> Result<Code, PieceFail>
+    requires { length bytes.now < 2 ^ 32 }
+    ensures found { IfOk result (IsCodeOf known.now.entries bytes.now) }
+    ensures malformed { result ≡ Err PieceFail.Malformed
+        → (code : CodeRecord) → ¬ IsCodeOf known.now.entries bytes.now code }
 {
-    let Some((max_stack, max_locals, code)) = parts_of(body) else {
-        return Err(FirstFail::NotYet);
-    };
-    let items = items_of(alloc, max_locals, code)?;
-    if !name_first_operands(class, items.as_slice()) {
-        return Err(FirstFail::NotYet);
-    }
+    let (head, rest) = take_head(bytes)?;
+    let items = items_of(alloc, known, head.max_locals, head.code)?;
+    let length = head.code.len() as u32;
+    let places = Places::of(alloc, items.as_slice(), length)?;
+    let tables = tables_of(alloc, known, &places, rest)?;
     Ok(Code {
+        max_stack: head.max_stack,
+        max_locals: head.max_locals,
+        items: Seq::new(items),
+        length,
+        handlers: Seq::new(tables.handlers),
+        attributes: Seq::new(tables.attributes),
+    })
+}
+
+/// Whether a code array may have so many bytes.
+fn is_code_length(size: u32) -> bool
+    ensures { result ≡ is_code_length size }
+{
+    size != 0 && size <= MAX_CODE_BYTES
+}
+
+/// max_stack, max_locals and the code array.
+#[tactic(auto, unfolding(crate::specs::inner::CodeReading::head_at))]
+fn take_head(bytes: &[u8]) -> Result<(CodeHead<'_>, &[u8]), PieceFail>
+    ensures { Gives (λ x. (head_view x.0, x.1.now)) result (head_at bytes.now) }
+{
+    let (max_stack, rest) = take_u16(bytes)?;
+    let (max_locals, rest) = take_u16(rest)?;
+    let (size, rest) = take_u32(rest)?;
+    let (code, rest) = take_bytes(size as usize, rest)?;
+    if !is_code_length(size) {
+        return Err(PieceFail::Malformed);
+    }
+    let head = CodeHead {
         max_stack,
         max_locals,
-        items: Seq::new(items),
-        length: code.len() as u32,
-        handlers: Seq::new(Vec::new(alloc)),
-        attributes: Seq::new(Vec::new(alloc)),
-    })
-}
-
-/// max_stack, max_locals and the code array of a body without tables.
-fn parts_of(body: &[u8]) -> Option<(u16, u16, &[u8])>
-    ensures found { IfSome result (λ parts. HasParts body.now parts.0 parts.1 parts.2.now) }
-    ensures none { IfNone result ((max_stack max_locals : ℕ) (code : List ℕ) → ¬ HasParts body.now max_stack max_locals code) }
-{
-    if body.len() < 12 {
-        return None;
-    }
-    let max_stack = BigEndian::read_u16(body);
-    let max_locals = BigEndian::read_u16(&body[2..]);
-    let length = BigEndian::read_u32(&body[4..]) as usize;
-    if length == 0 || length > 65_535 {
-        return None;
-    }
-    if body.len() != length + 12 {
-        return None;
-    }
-    let (code, tables) = body[8..].split_at(length);
-    if tables != [0, 0, 0, 0].as_slice() {
-        return None;
-    }
-    Some((max_stack, max_locals, code))
-}
-
-/// The items of a code array, from the first byte to the last.
-fn items_of(alloc: Global, max_locals: u16, code: &[u8]) -> Result<Vec<Item>, FirstFail>
-    requires { length code.now ≤ 65535 }
-    ensures found { IfOk result (λ items. AreFirstItems max_locals code.now items.items) }
-    ensures read { (items : List Item) → AreFirstItems max_locals code.now items
-        → MatchResult result (λ found. found.items ≡ items) (λ e. e ≡ FirstFail.NoMemory) }
-{
-    let drafts = drafts_of(alloc, max_locals, code)?;
-    let offsets = offsets_of(alloc, drafts.as_slice())?;
-    numbered_items(alloc, offsets.as_slice(), drafts)
-}
-
-/// The items of a code array with offsets for targets.
-fn drafts_of(alloc: Global, max_locals: u16, code: &[u8]) -> Result<Vec<Item>, FirstFail>
-    requires { length code.now ≤ 65535 }
-    ensures found { IfOk result (λ drafts. AreDrafts max_locals code.now drafts.items) }
-    ensures read { (drafts : List Item) → AreDrafts max_locals code.now drafts
-        → MatchResult result (λ found. found.items ≡ drafts) (λ e. e ≡ FirstFail.NoMemory) }
-{
-    let mut drafts = Vec::new(alloc);
-    let mut at = 0;
-    while at < code.len() {
-        let item = item_of(alloc, max_locals, code, at)?;
-        at += item.bytes.as_slice().len();
-        drafts.push(item)?;
-    }
-    Ok(drafts)
-}
-
-/// The item that stands at an offset of a code array.
-fn item_of(alloc: Global, max_locals: u16, code: &[u8], at: usize) -> Result<Item, FirstFail>
-    requires short { length code.now ≤ 65535 }
-    requires within { at < length code.now }
-    ensures found { IfOk result (λ item. IsFront max_locals at (drop at code.now) item) }
-    ensures not_yet { (item : Item) → IsFront max_locals at (drop at code.now) item → result ≢ Err FirstFail.NotYet }
-{
-    let Some((insn, count)) = insn_of(code, at) else {
-        return Err(FirstFail::NotYet);
+        code,
     };
-    if !locals_fit(max_locals, &insn) {
-        return Err(FirstFail::NotYet);
+    Ok((head, rest))
+}
+
+/// The items that the bytes of a code array spell.
+fn decoded(alloc: Global, code: &[u8]) -> Result<Vec<Item>, PieceFail>
+    requires { length code.now ≤ MAX_CODE_BYTES }
+    ensures found { IfOk result (λ items. SpellsCode code.now items.items) }
+    ensures malformed { result ≡ Err PieceFail.Malformed
+        → (items : List ItemRecord) → ¬ SpellsCode code.now items }
+{
+    match decode(alloc, code) {
+        Ok(items) => Ok(items),
+        Err(DecodeFail::Malformed) => Err(PieceFail::Malformed),
+        Err(DecodeFail::NoMemory) => Err(PieceFail::NoMemory),
     }
-    let bytes = InsnBytes::from_slice(alloc, &code[at..at + count])?;
-    Ok(Item {
-        offset: at as u32,
-        bytes,
-        insn,
+}
+
+/// The items of a code array, each of which meets its rules.
+fn items_of(
+    alloc: Global,
+    known: &KnownPool,
+    max_locals: u16,
+    code: &[u8],
+) -> Result<Vec<Item>, PieceFail>
+    requires { length code.now ≤ MAX_CODE_BYTES }
+    ensures found { IfOk result
+        (λ items. AreItemsOf known.now.entries max_locals code.now items.items) }
+    ensures malformed { result ≡ Err PieceFail.Malformed → (items : List ItemRecord)
+        → ¬ AreItemsOf known.now.entries max_locals code.now items }
+{
+    let items = decoded(alloc, code)?;
+    if items_are_valid(known, max_locals, items.as_slice()) {
+        Ok(items)
+    } else {
+        Err(PieceFail::Malformed)
+    }
+}
+
+/// The exception table and the attributes, which are all of the bytes.
+#[tactic(auto, unfolding(crate::specs::inner::CodeReading::tables_of))]
+fn tables_of(
+    alloc: Global,
+    known: &KnownPool,
+    places: &Places,
+    bytes: &[u8],
+) -> Result<CodeTables, PieceFail>
+    ensures { Gives tables_view result (tables_of known.now.entries places.now bytes.now) }
+{
+    let (handlers, rest) = take_handlers(alloc, known, places, bytes)?;
+    let (attributes, rest) = take_code_attributes(alloc, known, places, rest)?;
+    if !rest.is_empty() {
+        return Err(PieceFail::Malformed);
+    }
+    Ok(CodeTables {
+        handlers,
+        attributes,
     })
 }
-
-/// Whether the local that an instruction loads, stores or changes is below max_locals, and for a long
-/// the next one too (JVMS 4.9.1).
-fn locals_fit(max_locals: u16, insn: &Insn) -> bool
-    ensures { IsTrue result ↔ LocalsFit max_locals insn.now }
-{
-    match insn {
-        Insn::Load(kind, local) | Insn::Store(kind, local) => local_fits(max_locals, *kind, *local),
-        Insn::Inc(local, _) => *local < max_locals,
-        _ => true,
-    }
-}
-
-/// Whether a local of this kind is below max_locals.
-fn local_fits(max_locals: u16, kind: Reg, local: u16) -> bool
-    ensures { IsTrue result ↔ LocalFits max_locals kind local }
-{
-    match kind {
-        Reg::Int | Reg::Ref => local < max_locals,
-        Reg::Long => u32::from(local) + 1 < u32::from(max_locals),
-    }
-}
-
-/// The instruction at an offset of a code array, and how many bytes it takes there.
-#[tactic(auto, unfolding(crate::specs::CodeItems::front_insn))]
-fn insn_of(code: &[u8], at: usize) -> Option<(Insn, usize)>
-    requires short { length code.now ≤ 65535 }
-    requires within { at ≤ length code.now }
-    ensures front { result ≡ front_insn at (drop at code.now) }
-    ensures within { IfSome result (λ found. (0 < found.1) × (at + found.1 ≤ length code.now)) }
-{
-    match &code[at..] {
-        [opcode, operands @ ..] => front_insn_of(at, *opcode, operands),
-        [] => None,
-    }
-}
-
-/// The instruction of an opcode at an offset with what is after it, and how many bytes it takes.
-fn front_insn_of(at: usize, opcode: u8, operands: &[u8]) -> Option<(Insn, usize)>
-    requires { at ≤ 65535 }
-    ensures front { result ≡ front_insn at (opcode ∷ operands.now) }
-    ensures within { IfSome result (λ found. (0 < found.1) × (found.1 ≤ length operands.now + 1)) }
-{
-    match operand_count(opcode) {
-        0 => Some((bare_insn_of(opcode)?, 1)),
-        1 => match operands {
-            [operand, ..] => Some((byte_insn_of(opcode, *operand)?, 2)),
-            [] => None,
-        },
-        _ => match operands {
-            [high, low, ..] => Some((short_insn_of(at, opcode, *high, *low)?, 3)),
-            _ => None,
-        },
-    }
-}
-
-#[cfg(test)]
-mod tests;

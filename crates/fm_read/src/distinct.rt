@@ -1,89 +1,75 @@
-// Whether methods differ in their names or in their descriptors, by the texts of these.
+// Whether fields, or methods, differ in their names or in their descriptors, by the texts of these.
 //
 // Equal texts get equal numbers first, so that a text is compared with few others, and not once for each
-// pair of methods that names it.
+// pair of members that names it.
 
-ghost use Rattle.std.specs.Prelude.{◌≡◌, ◌↔◌, map, slice_index, IfErr, IfOk, IsTrue};
-ghost use Rattle.fm_read.specs.Parts.{method_view};
-ghost use Rattle.fm_read.specs.PartsRules.{AreMethodsDistinct};
-ghost use Rattle.fm_read.specs.TextNumbers.{NumbersTexts, AreKeysDistinct};
+ghost use Rattle.std.specs.Prelude.{◌≡◌, ◌↔◌, IfOk, IsTrue, slice_index};
+ghost use Rattle.fm_read.specs.inner.TextNumbers.{AreKeysDistinct, NumbersTexts};
 
-use crate::failure::FirstFail;
-use crate::parts::MethodParts;
-use fm_code::Entry;
+use fm_base::NoMemory;
+use fm_code::{Entry, Member};
 use std::alloc::Global;
 use std::collections::{BTreeMap, BTreeSet};
 
-/// A number for each entry, which is 0 for an entry that is no text. Equal texts have equal numbers, and
-/// different texts have different ones. The only failure is `NoMemory`.
-fn text_numbers(alloc: Global, entries: &[Entry]) -> Result<Vec<usize>, FirstFail>
-    ensures ok { IfOk result (λ v. NumbersTexts entries.now v.items) }
-    ensures err { IfErr result (λ e. e ≡ FirstFail.NoMemory) }
-{
-    let mut known = BTreeMap::new(alloc);
-    let mut numbers = Vec::new(alloc);
-    for entry in entries {
-        let number = match entry {
-            Entry::Utf8(name) => {
-                let text = name.as_slice();
-                match known.get(text) {
-                    Some(number) => *number,
-                    None => {
-                        let fresh = numbers.len() + 1;
-                        known.insert(text, fresh)?;
-                        fresh
+/// For each index of a pool the number of its text: equal texts have equal numbers, and different texts
+/// different ones. The number is 0 where no text is.
+#[derive(Debug, Drop)]
+pub(crate) struct TextNumbers {
+    numbers: Vec<usize>,
+}
+
+impl TextNumbers {
+    /// The numbers of a pool's texts.
+    pub fn of(alloc: Global, entries: &[Entry]) -> Result<TextNumbers, NoMemory>
+        ensures { IfOk result (λ texts. NumbersTexts entries.now texts.numbers.items) }
+    {
+        let mut known = BTreeMap::new(alloc);
+        let mut numbers = Vec::new(alloc);
+        for entry in entries {
+            let number = match entry {
+                Entry::Utf8(name) => {
+                    let text = name.as_slice();
+                    match known.get(text) {
+                        Some(number) => *number,
+                        None => {
+                            let fresh = numbers.len() + 1;
+                            known.insert(text, fresh)?;
+                            fresh
+                        }
                     }
                 }
-            }
-            _ => 0,
-        };
-        numbers.push(number)?;
+                _ => 0,
+            };
+            numbers.push(number)?;
+        }
+        Ok(TextNumbers { numbers })
     }
-    Ok(numbers)
-}
 
-/// The number at an index, or 0 after the last.
-fn number_at(numbers: &[usize], index: u16) -> usize
-    ensures { result ≡ slice_index numbers.now index }
-{
-    match numbers.get(index as usize) {
-        Some(number) => *number,
-        None => 0,
-    }
-}
-
-/// Whether no two methods have the numbers of their names and of their descriptors in common. The only
-/// failure is `NoMemory`.
-fn keys_are_distinct(
-    alloc: Global,
-    numbers: &[usize],
-    methods: &[MethodParts<'_>],
-) -> Result<bool, FirstFail>
-    ensures ok { IfOk result (λ distinct. IsTrue distinct ↔ AreKeysDistinct numbers.now (map method_view methods.now)) }
-    ensures err { IfErr result (λ e. e ≡ FirstFail.NoMemory) }
-{
-    let mut seen = BTreeSet::new(alloc);
-    for method in methods {
-        let key = (
-            number_at(numbers, method.name),
-            number_at(numbers, method.descriptor),
-        );
-        if !seen.insert(key)? {
-            return Ok(false);
+    /// The number at an index, or 0 after the last.
+    pub fn number_at(&self, index: u16) -> usize
+        ensures { result ≡ slice_index self.now.numbers.items index }
+    {
+        match self.numbers.get(usize::from(index)) {
+            Some(number) => *number,
+            None => 0,
         }
     }
-    Ok(true)
-}
 
-/// Whether no two methods agree in name and descriptor. The only failure is `NoMemory`.
-pub(crate) fn methods_are_distinct(
-    alloc: Global,
-    entries: &[Entry],
-    methods: &[MethodParts<'_>],
-) -> Result<bool, FirstFail>
-    ensures ok { IfOk result (λ distinct. IsTrue distinct ↔ AreMethodsDistinct entries.now (map method_view methods.now)) }
-    ensures err { IfErr result (λ e. e ≡ FirstFail.NoMemory) }
-{
-    let numbers = text_numbers(alloc, entries)?;
-    keys_are_distinct(alloc, numbers.as_slice(), methods)
+    /// Whether no two members have the numbers of their names and of their descriptors in common.
+    pub fn are_distinct(&self, alloc: Global, members: &[Member]) -> Result<bool, NoMemory>
+        ensures { IfOk result (λ distinct. IsTrue distinct
+            ↔ AreKeysDistinct self.now.numbers.items members.now) }
+    {
+        let mut seen = BTreeSet::new(alloc);
+        for member in members {
+            let key = (
+                self.number_at(member.name),
+                self.number_at(member.descriptor),
+            );
+            if !seen.insert(key)? {
+                return Ok(false);
+            }
+        }
+        Ok(true)
+    }
 }

@@ -1,25 +1,28 @@
 // Reads class files into records that keep every byte.
 //
-// So far the records of the first form alone are read, and all other bytes are refused. The layer
-// above uses that what is read is spelled by the bytes, and that nothing of the first form is refused.
+// `read_class` reads exactly what is spelled and of an accepted version; `within_limits` and
+// `supported` tell whether what was read is accepted, or where it fails first. The layers above use
+// that bytes and record determine each other.
 #![tactic(auto)]
 
+mod attributes;
+mod class_file;
 mod code;
 mod distinct;
-mod failure;
-mod first;
+mod error;
+mod fields;
+mod first_form;
+mod head;
+mod limits;
 mod main_class;
 mod members;
 mod methods;
-mod names;
-mod numbers;
-mod opcodes;
-mod operands;
 mod parts;
-mod pool;
-mod rules;
-mod targets;
+mod support;
 
-pub use failure::FirstFail;
-pub use first::read_first;
+pub use class_file::read_class;
+pub use error::{FirstFail, ReadFail};
+pub use first_form::{is_first_form, read_first};
+pub use limits::within_limits;
 pub use main_class::read_main_class;
+pub use support::{law_profile, supported};

@@ -1,15 +1,14 @@
 // The class that a program is started with: it has the name that was asked for, and a main method.
 
-ghost use Rattle.std.specs.Prelude.{◌≡◌, ◌↔◌, Some, IfOk, IsTrue, option_copied};
-ghost use Rattle.fm_code.specs.ConstantPool.{utf8_at, class_name_at};
+ghost use Rattle.std.specs.Prelude.{◌≡◌, ◌↔◌, Some, IfOk, IsTrue};
+ghost use Rattle.fm_code.specs.ConstantPool.{utf8_at};
 ghost use Rattle.fm_code.specs.declared.class_file.ClassDef.{ClassDef};
 ghost use Rattle.fm_code.specs.FirstForm.{IsNamed, DeclaresMain, IsMain};
 ghost use Rattle.fm_read.specs.MainClass.{IsMainClass};
 
-use crate::failure::FirstFail;
-use crate::first::read_first;
-use fm_base::Name;
-use fm_code::{ClassDef, Entry, Member, Pool};
+use crate::error::FirstFail;
+use crate::first_form::read_first;
+use fm_code::{ClassDef, Member, Pool};
 use std::alloc::Global;
 
 /// The record of the first form that the bytes spell, where it has this name and declares
@@ -17,7 +16,8 @@ use std::alloc::Global;
 /// compared byte by byte, as class files of the first form have only the characters from 1 to 127.
 pub fn read_main_class(alloc: Global, name: &str, bytes: &[u8]) -> Result<ClassDef, FirstFail>
     ensures found { IfOk result (IsMainClass name.now bytes.now) }
-    ensures not_yet { result ≡ Err FirstFail.NotYet → (c : ClassDef) → ¬ IsMainClass name.now bytes.now c }
+    ensures not_yet { result ≡ Err FirstFail.NotYet
+        → (c : ClassDef) → ¬ IsMainClass name.now bytes.now c }
 {
     let class = read_first(alloc, bytes)?;
     if is_named(&class, name) && declares_main(&class) {
@@ -30,7 +30,7 @@ pub fn read_main_class(alloc: Global, name: &str, bytes: &[u8]) -> Result<ClassD
 fn is_named(class: &ClassDef, name: &str) -> bool
     ensures { IsTrue result ↔ IsNamed class.now name.now }
 {
-    match class_name(&class.pool, class.this_class) {
+    match class.pool.class_name(class.this_class) {
         Some(class_name) => class_name.as_slice() == name.as_bytes(),
         None => false,
     }
@@ -46,7 +46,8 @@ fn declares_main(class: &ClassDef) -> bool
         .any(|m| is_main(&class.pool, m))
 }
 
-fn is_main(pool: &Pool, method: &Member) -> bool
+/// Whether a method is `main([Ljava/lang/String;)V`.
+pub(crate) fn is_main(pool: &Pool, method: &Member) -> bool
     ensures { IsTrue result ↔ IsMain pool.now.entries method.now }
 {
     has_text(pool, method.name, b"main")
@@ -59,14 +60,5 @@ fn has_text(pool: &Pool, index: u16, text: &[u8]) -> bool
     match pool.utf8(index) {
         Some(name) => name.as_slice() == text,
         None => false,
-    }
-}
-
-fn class_name(pool: &Pool, index: u16) -> Option<&Name>
-    ensures { option_copied result ≡ class_name_at pool.now.entries index }
-{
-    match pool.entry(index) {
-        Some(Entry::Class(name)) => pool.utf8(*name),
-        _ => None,
     }
 }

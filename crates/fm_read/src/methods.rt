@@ -1,73 +1,93 @@
-// The methods of a class file of the first form, each with one attribute.
+// The rules of a method but for those of each attribute (JVMS 4.6).
 
-ghost use Rattle.std.specs.Prelude.{◌≡◌, map};
-ghost use Rattle.fm_read.specs.Parts.{method_view};
-ghost use Rattle.fm_read.specs.Reading.{Gives, attribute_at, members_at, method_at, several_at};
+ghost use Rattle.std.specs.Prelude.{◌≡◌, ◌↔◌, ◌||◌, IsTrue};
+ghost use Rattle.fm_code.specs.AccessFlags.{is_abstract, is_native};
+ghost use Rattle.fm_code.specs.Members.{IsConstructor, receiver_words};
+ghost use Rattle.fm_read.specs.inner.MemberRules.{HasItsCode, InitIsConstructor, IsAbstractAlone, MethodMeetsRules, SuitsInterface};
 
-use crate::failure::FirstFail;
-use crate::numbers::{after_u16, bytes_of, u16_at, u32_at};
-use crate::parts::MethodParts;
-use std::alloc::Global;
+use fm_code::{ACC_ABSTRACT, ACC_NATIVE, ACC_PRIVATE, ACC_STATIC, Member, MemberAttr, has_flag};
+use fm_pool::KnownPool;
 
-/// The name and the bytes of the one attribute of a method.
-#[tactic(auto, unfolding(crate::specs::Reading::attribute_at))]
-fn attribute_of(bytes: &[u8]) -> Result<((u16, &[u8]), &[u8]), FirstFail>
-    ensures { Gives (λ x. ((x.0.0, x.0.1.now), x.1.now)) result (attribute_at bytes.now) }
+/// The name of a constructor.
+const INIT: &[u8] = b"<init>";
+
+/// The name of the method that starts its class.
+const CLINIT: &[u8] = b"<clinit>";
+
+/// Whether a method of a class, or of an interface, meets the rules but for those of each attribute.
+pub(crate) fn method_meets_rules(known: &KnownPool, in_interface: bool, method: &Member) -> bool
+    ensures { IsTrue result ↔ MethodMeetsRules in_interface known.now.entries method.now }
 {
-    let rest = after_u16(1, bytes)?;
-    let (name, rest) = u16_at(rest)?;
-    let (size, rest) = u32_at(rest)?;
-    let (body, rest) = bytes_of(size as usize, rest)?;
-    Ok(((name, body), rest))
+    known.has_method_name(method.name)
+        && known.has_method_descriptor(method.descriptor, receiver_words(method.flags))
+        && has_its_code(method)
+        && is_abstract_alone(method.flags)
+        && init_is_constructor(known, method)
+        && suits_interface(known, in_interface, method)
 }
 
-/// A method.
-#[tactic(auto, unfolding(crate::specs::Reading::method_at))]
-fn method_of(bytes: &[u8]) -> Result<(MethodParts<'_>, &[u8]), FirstFail>
-    ensures { Gives (λ x. (method_view x.0, x.1.now)) result (method_at bytes.now) }
+/// The words that the receiver takes.
+fn receiver_words(flags: u16) -> u32
+    ensures { result ≡ receiver_words flags }
 {
-    let (flags, rest) = u16_at(bytes)?;
-    let (name, rest) = u16_at(rest)?;
-    let (descriptor, rest) = u16_at(rest)?;
-    let ((attribute, body), rest) = attribute_of(rest)?;
-    let method = MethodParts {
-        flags,
-        name,
-        descriptor,
-        attribute,
-        body,
-    };
-    Ok((method, rest))
+    if has_flag(flags, ACC_STATIC) { 0 } else { 1 }
 }
 
-/// That many methods, one after the other.
-fn methods_of(
-    alloc: Global,
-    count: u16,
-    bytes: &[u8],
-) -> Result<(Vec<MethodParts<'_>>, &[u8]), FirstFail>
-    ensures { Gives (λ x. (map method_view x.0.items, x.1.now)) result (several_at method_at count bytes.now) }
+/// Whether a method has one Code, or none if it is abstract or native.
+fn has_its_code(method: &Member) -> bool
+    ensures { IsTrue result ↔ HasItsCode method.now }
 {
-    let mut methods = Vec::new(alloc);
-    let mut rest = bytes;
-    for _ in 0..count {
-        let (method, after) = method_of(rest)?;
-        methods.push(method)?;
-        rest = after;
+    let codes = method
+        .attributes
+        .iter()
+        .filter(|attribute| matches!(attribute, MemberAttr::Coded(_, _)))
+        .count();
+    if is_without_code(method.flags) {
+        codes == 0
+    } else {
+        codes == 1
     }
-    Ok((methods, rest))
 }
 
-/// No interfaces and no fields, and the methods after their number.
-#[tactic(auto, unfolding(crate::specs::Reading::members_at))]
-pub(crate) fn members_of(
-    alloc: Global,
-    bytes: &[u8],
-) -> Result<(Vec<MethodParts<'_>>, &[u8]), FirstFail>
-    ensures { Gives (λ x. (map method_view x.0.items, x.1.now)) result (members_at bytes.now) }
+/// Whether these are the flags of a method that is abstract or native.
+fn is_without_code(flags: u16) -> bool
+    ensures { result ≡ (is_abstract flags || is_native flags) }
 {
-    let rest = after_u16(0, bytes)?;
-    let rest = after_u16(0, rest)?;
-    let (count, rest) = u16_at(rest)?;
-    methods_of(alloc, count, rest)
+    has_flag(flags, ACC_ABSTRACT) || has_flag(flags, ACC_NATIVE)
+}
+
+/// Whether these are the flags of a method that is neither static nor private nor native, if it is
+/// abstract.
+fn is_abstract_alone(flags: u16) -> bool
+    ensures { IsTrue result ↔ IsAbstractAlone flags }
+{
+    !has_flag(flags, ACC_ABSTRACT)
+        || !(has_flag(flags, ACC_STATIC)
+            || has_flag(flags, ACC_PRIVATE)
+            || has_flag(flags, ACC_NATIVE))
+}
+
+/// Whether a method is a constructor, if it is named as one.
+fn init_is_constructor(known: &KnownPool, method: &Member) -> bool
+    ensures { IsTrue result ↔ InitIsConstructor known.now.entries method.now }
+{
+    !known.has_this_text(method.name, INIT) || is_constructor(known, method)
+}
+
+/// Whether a method returns nothing, and is neither static nor abstract.
+fn is_constructor(known: &KnownPool, method: &Member) -> bool
+    ensures { IsTrue result ↔ IsConstructor known.now.entries method.now }
+{
+    known.has_descriptor_of_nothing(method.descriptor)
+        && !has_flag(method.flags, ACC_STATIC)
+        && !has_flag(method.flags, ACC_ABSTRACT)
+}
+
+/// Whether a method may be in an interface, if it is in one.
+fn suits_interface(known: &KnownPool, in_interface: bool, method: &Member) -> bool
+    ensures { IsTrue result ↔ SuitsInterface in_interface known.now.entries method.now }
+{
+    !in_interface
+        || has_flag(method.flags, ACC_ABSTRACT)
+        || known.has_this_text(method.name, CLINIT)
 }

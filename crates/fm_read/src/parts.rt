@@ -1,78 +1,143 @@
-// A class file of the first form in its parts, before the code of its methods is read.
+// A class file cut into its parts, before any attribute is read (JVMS 4.1, 4.5 to 4.7).
 
-ghost use Rattle.std.specs.Prelude.{◌≡◌};
-ghost use Rattle.fm_read.specs.Parts.{class_view};
-ghost use Rattle.fm_read.specs.Reading.{Gives, class_at, ends_at, header_at};
+ghost use Rattle.std.specs.Prelude.{◌≡◌, map};
+ghost use Rattle.fm_code.specs.inner.Reading.{Gives, counted_at, number_at};
+ghost use Rattle.fm_read.specs.inner.Parts.{attribute_view, body_view, member_view};
+ghost use Rattle.fm_read.specs.inner.Reading.{body_at, member_at, raw_at};
 
-use crate::failure::FirstFail;
-use crate::methods::members_of;
-use crate::numbers::{after_u16, after_u32, u16_at};
-use crate::pool::pool_of;
-use fm_code::Entry;
+use fm_code::{PieceFail, take_bytes, take_u16, take_u32};
 use std::alloc::Global;
 
-/// A method with one attribute. Each number is the item of that name in the `method_info` structure.
+/// An attribute: the index of its name, and its bytes.
 #[derive(Clone, Copy, Debug)]
-pub(crate) struct MethodParts<'a> {
+pub(crate) struct AttributeParts<'a> {
+    pub name: u16,
+    pub bytes: &'a [u8],
+}
+
+/// A field or a method.
+#[derive(Debug, Drop)]
+pub(crate) struct MemberParts<'a> {
     pub flags: u16,
     pub name: u16,
     pub descriptor: u16,
-    /// The index of the attribute's name.
-    pub attribute: u16,
-    /// The attribute's bytes.
-    pub body: &'a [u8],
+    pub attributes: Vec<AttributeParts<'a>>,
 }
 
-/// A class with no interfaces, no fields and no attributes.
+/// What a class file has after its constant pool.
 #[derive(Debug, Drop)]
-pub(crate) struct ClassParts<'a> {
-    pub entries: Vec<Entry>,
+pub(crate) struct BodyParts<'a> {
     pub flags: u16,
     pub this_class: u16,
     pub super_class: u16,
-    pub methods: Vec<MethodParts<'a>>,
+    pub interfaces: Vec<u16>,
+    pub fields: Vec<MemberParts<'a>>,
+    pub methods: Vec<MemberParts<'a>>,
+    pub attributes: Vec<AttributeParts<'a>>,
 }
 
-/// The bytes after the magic number and the version 49.0.
-#[tactic(auto, unfolding(crate::specs::Reading::header_at))]
-fn after_header(bytes: &[u8]) -> Result<&[u8], FirstFail>
-    ensures { Gives (λ rest. rest.now) result (header_at bytes.now) }
+/// What a class file has after its constant pool, which is all of the bytes. No memory is taken for
+/// a length that the bytes only claim.
+#[tactic(auto, unfolding(crate::specs::inner::Reading::body_at))]
+pub(crate) fn read_body(alloc: Global, bytes: &[u8]) -> Result<BodyParts<'_>, PieceFail>
+    ensures { Gives body_view result (body_at bytes.now) }
 {
-    let rest = after_u32(0xcafebabe, bytes)?;
-    let rest = after_u16(0, rest)?;
-    after_u16(49, rest)
-}
-
-/// No attributes, and nothing after them.
-#[tactic(auto, unfolding(crate::specs::Reading::ends_at))]
-fn after_end(bytes: &[u8]) -> Result<&[u8], FirstFail>
-    ensures { Gives (λ rest. rest.now) result (ends_at bytes.now) }
-{
-    let rest = after_u16(0, bytes)?;
-    if rest.is_empty() {
-        Ok(rest)
-    } else {
-        Err(FirstFail::NotYet)
+    let (flags, rest) = take_u16(bytes)?;
+    let (this_class, rest) = take_u16(rest)?;
+    let (super_class, rest) = take_u16(rest)?;
+    let (interfaces, rest) = take_indices(alloc, rest)?;
+    let (fields, rest) = take_members(alloc, rest)?;
+    let (methods, rest) = take_members(alloc, rest)?;
+    let (attributes, rest) = take_attributes(alloc, rest)?;
+    if !rest.is_empty() {
+        return Err(PieceFail::Malformed);
     }
-}
-
-/// The parts of a class, which are all of the bytes.
-#[tactic(auto, unfolding(crate::specs::Reading::class_at))]
-pub(crate) fn class_of(alloc: Global, bytes: &[u8]) -> Result<ClassParts<'_>, FirstFail>
-    ensures { Gives class_view result (class_at bytes.now) }
-{
-    let rest = after_header(bytes)?;
-    let (entries, rest) = pool_of(alloc, rest)?;
-    let (flags, rest) = u16_at(rest)?;
-    let (this_class, rest) = u16_at(rest)?;
-    let (super_class, rest) = u16_at(rest)?;
-    let (methods, rest) = members_of(alloc, rest)?;
-    let _ = after_end(rest)?;
-    Ok(ClassParts {
-        entries,
+    Ok(BodyParts {
         flags,
         this_class,
         super_class,
+        interfaces,
+        fields,
         methods,
+        attributes,
     })
+}
+
+/// Indices after their number, and the bytes after them.
+#[tactic(auto, unfolding(fm_code::specs::inner::Reading::counted_at))]
+fn take_indices(alloc: Global, bytes: &[u8]) -> Result<(Vec<u16>, &[u8]), PieceFail>
+    ensures { Gives (λ x. (x.0.items, x.1.now)) result (counted_at (number_at 2) bytes.now) }
+{
+    let (count, mut rest) = take_u16(bytes)?;
+    let mut indices = Vec::new(alloc);
+    for _ in 0..count {
+        let (index, after) = take_u16(rest)?;
+        indices.push(index)?;
+        rest = after;
+    }
+    Ok((indices, rest))
+}
+
+/// Fields or methods after their number, and the bytes after them.
+#[tactic(auto, unfolding(fm_code::specs::inner::Reading::counted_at))]
+fn take_members(alloc: Global, bytes: &[u8]) -> Result<(Vec<MemberParts<'_>>, &[u8]), PieceFail>
+    ensures { Gives (λ x. (map member_view x.0.items, x.1.now)) result
+        (counted_at member_at bytes.now) }
+{
+    let (count, mut rest) = take_u16(bytes)?;
+    let mut members = Vec::new(alloc);
+    for _ in 0..count {
+        let (member, after) = take_member(alloc, rest)?;
+        members.push(member)?;
+        rest = after;
+    }
+    Ok((members, rest))
+}
+
+/// A field or a method, and the bytes after it.
+#[tactic(auto, unfolding(crate::specs::inner::Reading::member_at))]
+fn take_member(alloc: Global, bytes: &[u8]) -> Result<(MemberParts<'_>, &[u8]), PieceFail>
+    ensures { Gives (λ x. (member_view x.0, x.1.now)) result (member_at bytes.now) }
+{
+    let (flags, rest) = take_u16(bytes)?;
+    let (name, rest) = take_u16(rest)?;
+    let (descriptor, rest) = take_u16(rest)?;
+    let (attributes, rest) = take_attributes(alloc, rest)?;
+    let member = MemberParts {
+        flags,
+        name,
+        descriptor,
+        attributes,
+    };
+    Ok((member, rest))
+}
+
+/// Attributes after their number, and the bytes after them.
+#[tactic(auto, unfolding(fm_code::specs::inner::Reading::counted_at))]
+fn take_attributes(
+    alloc: Global,
+    bytes: &[u8],
+) -> Result<(Vec<AttributeParts<'_>>, &[u8]), PieceFail>
+    ensures { Gives (λ x. (map attribute_view x.0.items, x.1.now)) result
+        (counted_at raw_at bytes.now) }
+{
+    let (count, mut rest) = take_u16(bytes)?;
+    let mut attributes = Vec::new(alloc);
+    for _ in 0..count {
+        let (attribute, after) = take_attribute(rest)?;
+        attributes.push(attribute)?;
+        rest = after;
+    }
+    Ok((attributes, rest))
+}
+
+/// An attribute, and the bytes after it.
+#[tactic(auto, unfolding(crate::specs::inner::Reading::raw_at))]
+pub(crate) fn take_attribute(bytes: &[u8]) -> Result<(AttributeParts<'_>, &[u8]), PieceFail>
+    ensures { Gives (λ x. (attribute_view x.0, x.1.now)) result (raw_at bytes.now) }
+{
+    let (name, rest) = take_u16(bytes)?;
+    let (size, rest) = take_u32(rest)?;
+    let (bytes, rest) = take_bytes(size as usize, rest)?;
+    Ok((AttributeParts { name, bytes }, rest))
 }

@@ -1,56 +1,76 @@
-use Rattle.std.proofs.Common.{◌≡◌, false, refl, sym, subst, ◌∙◌, arith, rules}
-use Rattle.std.specs.List.{AllByRecursion}
+use Rattle.std.proofs.Common.{◌≡◌, List, length, Err, refl, sym, ap, subst, ◌∙◌, arith}
 use Rattle.std.proofs.lemmas.Result.{err_from_is_err_and}
-use Rattle.fm_code.specs.FirstForm.{IsFirstOperand}
-use Rattle.fm_read.specs.CodeBody.{IsFirstBody}
-use Rattle.fm_read.specs.Parts.{class_view}
-use Rattle.fm_read.specs.PartsRules.{bare_class}
-use Rattle.fm_read.proofs.CodeParts.{IsFirstBody-from, IsFirstBody-parts, IsFirstBody-items, IsFirstBody-unique, plain_code-is}
-use Rattle.fm_read.proofs.CodeOperands.{refuted}
+use Rattle.fm_code.specs.declared.code_array.Code.{Code}
+use Rattle.fm_code.specs.declared.code_array.Item.{Item}
+use Rattle.fm_code.specs.declared.error.PieceFail.TheVariants as fail
+use Rattle.fm_code.proofs.CodeItems.{AreLaid-code}
+use Rattle.fm_code.proofs.Pieces.{all_bytes}
+use Rattle.fm_read.specs.inner.CodePlaces.{AreRising, offsets_of}
+use Rattle.fm_read.specs.inner.CodeReading.{head_at, head_view, tables_of, tables_view}
+use Rattle.fm_read.proofs.CodeLaws.{code_found, head_at-code, head_length, items_there, not_malformed, tables_there, tables_in, tables_bytes, head_of}
+use Rattle.fm_read.proofs.CodePlaceLaws.{AreRising-laid}
 use Rattle.fm_read.proofs.code.code_of.Goals as goal
 
-pub returns-in_default-clause-read : goal.returns-in_default-clause-read
-returns-in_default-clause-read c = λ code first. absurd (c.in_default.ensures.none _ _ _ (IsFirstBody-parts (bare_class (class_view c.args.class.now)) c.args.body.now code first))
-
-pub returns-in_default-clause-not_yet : goal.returns-in_default-clause-not_yet
-returns-in_default-clause-not_yet c = λ e code first. c.in_default.ensures.none _ _ _ (IsFirstBody-parts (bare_class (class_view c.args.class.now)) c.args.body.now code first)
-
-pub returns-in_err-items-clause-read : goal.returns-in_err-items-clause-read
-returns-in_err-items-clause-read c = λ code first.
-    let items = IsFirstBody-items (bare_class (class_view c.args.class.now)) c.args.body.now c.in-Some.max_stack c.in-Some.max_locals c.in-Some.code.now code c.in-Some.ensures.found first in
+pub returns-in_err-head-clause-malformed : goal.returns-in_err-head-clause-malformed
+returns-in_err-head-clause-malformed c = λ e code is.
     let p = err_from_is_err_and c.from_residual.result c.from_residual.ensures.1 in
-    rw (p.1, p.2) (c.in_err-items.ensures.read code.items items)
+    let why : c.in_err-head.field-0.0 ≡ fail.Malformed = cc in
+    not_malformed c.in_err-head.field-0.0 (head_at c.args.bytes.now) (head_of code, tables_bytes code (tables_in code)) c.in_err-head.ensures
+    (head_at-code c.args.known.now.entries c.args.bytes.now code is) why
 
-pub returns-in_err-items-clause-not_yet : goal.returns-in_err-items-clause-not_yet
-returns-in_err-items-clause-not_yet c = λ e code first.
-    let items = IsFirstBody-items (bare_class (class_view c.args.class.now)) c.args.body.now c.in-Some.max_stack c.in-Some.max_locals c.in-Some.code.now code c.in-Some.ensures.found first in
-    let p = err_from_is_err_and c.from_residual.result c.from_residual.ensures.1 in
-    let memory = c.in_err-items.ensures.read code.items items in
-    absurd cc
+pub items_of-requires : goal.items_of-requires
+items_of-requires c =
+    head_length c.args.bytes.now (head_view c.in_ok-head.head) c.in_ok-head.rest.now (all_bytes c.args.bytes.now (λ i. omega (arith, c.type_inv.bytes i))) c.in_ok-head.ensures
 
-pub returns-then-not-name_first_operands-clause-not_yet : goal.returns-then-not-name_first_operands-clause-not_yet
-returns-then-not-name_first_operands-clause-not_yet c = λ e code first.
-    let class = bare_class (class_view c.args.class.now) in
-    let items = IsFirstBody-items class c.args.body.now c.in-Some.max_stack c.in-Some.max_locals c.in-Some.code.now code c.in-Some.ensures.found first in
-    let same = c.as_slice.ensures.value ∙ c.in_ok-items.ensures.read code.items items in
-    let failed : c.name_first_operands.result ≡ false = search rules in
-    refuted c.name_first_operands.result (AllByRecursion (IsFirstOperand class) c.as_slice.result.now) c.name_first_operands.ensures failed (rw same first.first.operands)
+pub returns-in_err-items-clause-malformed : goal.returns-in_err-items-clause-malformed
+returns-in_err-items-clause-malformed c = λ e code is.
+    let p = err_from_is_err_and c.from_residual-in_err-items.result c.from_residual-in_err-items.ensures.1 in
+    let why : c.in_err-items.field-0.0 ≡ fail.Malformed = cc in
+    c.in_err-items.ensures.malformed (ap Err why) code.items
+    (items_there c.args.known.now.entries c.args.bytes.now code (head_view c.in_ok-head.head) c.in_ok-head.rest.now c.in_ok-head.ensures is)
 
-pub returns-then-not-name_first_operands-clause-read : goal.returns-then-not-name_first_operands-clause-read
-returns-then-not-name_first_operands-clause-read c = λ code first. absurd (returns-then-not-name_first_operands-clause-not_yet c refl code first)
+pub overflow_cast-length : goal.overflow_cast-length
+overflow_cast-length c =
+    let short = head_length c.args.bytes.now (head_view c.in_ok-head.head) c.in_ok-head.rest.now (all_bytes c.args.bytes.now (λ i. omega (arith, c.type_inv.bytes i))) c.in_ok-head.ensures in
+    omega arith
+
+pub of-requires : goal.of-requires
+of-requires c =
+    let code = c.in_ok-head.head.code.now in
+    let items = c.in_ok-items.items.items in
+    subst (λ (is : List Item). AreRising (offsets_of is (length code))) (sym c.as_slice.ensures.value) (AreRising-laid items (length code) (AreLaid-code code items c.in_ok-items.ensures.found.spelled))
+
+pub returns-in_err-tables-clause-malformed : goal.returns-in_err-tables-clause-malformed
+returns-in_err-tables-clause-malformed c = λ e code is.
+    let entries = c.args.known.now.entries in
+    let h = head_view c.in_ok-head.head in
+    let rest = c.in_ok-head.rest.now in
+    let items = c.in_ok-items.items.items in
+    let offsets = c.in_ok-places.places in
+    let p = err_from_is_err_and c.from_residual-in_err-tables.result c.from_residual-in_err-tables.ensures.1 in
+    let why : c.in_err-tables.field-0.0 ≡ fail.Malformed = cc in
+    let places : offsets ≡ offsets_of items (length h.code) = c.in_ok-places.ensures.ok ∙ ap (λ (is : List Item). offsets_of is (length h.code)) c.as_slice.ensures.value in
+    not_malformed c.in_err-tables.field-0.0 (tables_of entries offsets rest) (tables_in code) c.in_err-tables.ensures
+    (tables_there entries c.args.bytes.now code h rest items offsets c.in_ok-head.ensures c.in_ok-items.ensures.found places is) why
 
 pub returns-clause-found : goal.returns-clause-found
 returns-clause-found c =
-    let class = bare_class (class_view c.args.class.now) in
-    let operands : AllByRecursion (IsFirstOperand class) c.in_ok-items.items.items = rw (← c.as_slice.ensures.value) (c.name_first_operands.ensures.0 (search rules)) in
-    let is = IsFirstBody-from class c.args.body.now c.in-Some.max_stack c.in-Some.max_locals c.in-Some.code.now c.in_ok-items.items.items (λ i. omega (arith, c.type_inv.body i))
-    c.in-Some.ensures.found c.in_ok-items.ensures.found operands in
-    subst (IsFirstBody class c.args.body.now) (plain_code-is _ _ _ _ _ _ _ c.new.ensures (c.new-3.ensures ∙ c.new-2.ensures.items) (c.new-5.ensures ∙ c.new-4.ensures.items)) is
-
-pub returns-clause-read : goal.returns-clause-read
-returns-clause-read c = λ code first.
-    let class = bare_class (class_view c.args.class.now) in
-    let items = IsFirstBody-items class c.args.body.now c.in-Some.max_stack c.in-Some.max_locals c.in-Some.code.now code c.in-Some.ensures.found first in
-    let same : c.in_ok-items.items.items ≡ code.items = c.in_ok-items.ensures.read code.items items in
-    sym (plain_code-is _ _ _ _ _ _ _ (c.new.ensures ∙ same) (c.new-3.ensures ∙ c.new-2.ensures.items) (c.new-5.ensures ∙ c.new-4.ensures.items))
-    ∙ IsFirstBody-unique class c.args.body.now c.in-Some.max_stack c.in-Some.max_locals c.in-Some.code.now code c.in-Some.ensures.found first
+    let entries = c.args.known.now.entries in
+    let bytes = c.args.bytes.now in
+    let h = head_view c.in_ok-head.head in
+    let rest = c.in_ok-head.rest.now in
+    let items = c.in_ok-items.items.items in
+    let offsets = c.in_ok-places.places in
+    let t = tables_view c.in_ok-tables.tables in
+    let code : Code = record {
+      max_stack = h.max_stack;
+      max_locals = h.max_locals;
+      items = c.new.result;
+      length = length h.code;
+      handlers = c.new-2.result;
+      attributes = c.new-3.result;
+    } in
+    let places : offsets ≡ offsets_of items (length h.code) = c.in_ok-places.ensures.ok ∙ ap (λ (is : List Item). offsets_of is (length h.code)) c.as_slice.ensures.value in
+    let tables : tables_in code ≡ t = λ k. record { handlers = c.new-2.ensures k; attributes = c.new-3.ensures k } in
+    code_found entries bytes code h rest items offsets t (all_bytes bytes (λ i. omega (arith, c.type_inv.bytes i))) c.requires
+    c.in_ok-head.ensures c.in_ok-items.ensures.found places c.in_ok-tables.ensures refl refl c.new.ensures refl tables

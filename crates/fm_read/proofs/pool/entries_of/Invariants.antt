@@ -1,7 +1,0 @@
-use Rattle.std.proofs.Common.{◌-◌, true}
-use Rattle.fm_read.specs.Reading.{slots_at}
-use Rattle.fm_read.proofs.SlotsInTurn.{IsWhole}
-use Rattle.fm_read.proofs.pool.entries_of.Given as goal
-
-abbrev pub invariant-loop : goal.invariant-loop
-invariant-loop l = IsWhole l.entries.items l.is_second (l.count - l.counter) l.rest (slots_at true l.count l.bytes)
