@@ -1,0 +1,21 @@
+use Rattle.fm_code.specs.Numbers.{two}
+use Rattle.fm_code.specs.ClassBytes.{class_bytes, counted, member_bytes, raw_bytes}
+use Rattle.fm_write.proofs.PutLemmas.{first_piece, next_piece, next_list}
+use Rattle.fm_write.proofs.class_file.bytes_of.Goals as goal
+
+-- each call puts its piece after those before
+pub returns : goal.returns
+unfolding class_bytes
+returns c =
+    let magic = first_piece c.in_ok-out.ensures.items in
+    let minor = next_piece magic _ c.in_ok-put_u16.ensures in
+    let major = next_piece minor _ c.in_ok-put_u16-2.ensures in
+    let pool = next_piece major _ c.in_ok-write_pool.ensures.written in
+    let flags = next_piece pool _ c.in_ok-put_u16-3.ensures in
+    let this_class = next_piece flags _ c.in_ok-put_u16-4.ensures in
+    let super_class = next_piece this_class _ c.in_ok-put_u16-5.ensures in
+    let interfaces = next_list super_class (counted two) c.as_slice.ensures c.in_ok-put_indices.ensures in
+    let fields = next_list interfaces (counted member_bytes) c.as_slice-2.ensures c.in_ok-put_members.ensures in
+    let methods = next_list fields (counted member_bytes) c.as_slice-3.ensures c.in_ok-put_members-2.ensures in
+    let attributes = next_list methods (counted raw_bytes) c.as_slice-4.ensures c.in_ok-put_raws.ensures in
+    attributes.bytes_are

@@ -1,0 +1,59 @@
+// The class file whole (JVMS 4.1).
+
+ghost use Rattle.std.specs.Prelude.{◌≡◌, ◌++◌, length, IfOk, OnOk};
+ghost use Rattle.fm_code.specs.ClassBytes.{class_bytes, counted};
+ghost use Rattle.fm_code.specs.Fits.{FitsTwo};
+ghost use Rattle.fm_code.specs.Numbers.{two};
+ghost use Rattle.fm_code.specs.Spells.{HasSpelling, Spells};
+ghost use Rattle.fm_write.specs.inner.Writable.{ClassIsWritable};
+
+use crate::attributes::put_raws;
+use crate::members::put_members;
+use fm_base::NoMemory;
+use fm_code::{ClassDef, put_u16};
+use fm_pool::write_pool;
+use std::alloc::Global;
+
+/// The bytes with which each class file begins (JVMS 4.1).
+const MAGIC: [u8; 4] = [0xca, 0xfe, 0xba, 0xbe];
+
+/// The bytes that spell a record. Some bytes have to spell it, and these are the only ones. Takes
+/// memory for them, and meanwhile for the pool, or for a Code attribute and a table of it.
+pub fn write_class(alloc: Global, class: &ClassDef) -> Result<Vec<u8>, NoMemory>
+    requires { HasSpelling class.now }
+    ensures written { IfOk result (λ bytes. bytes.items ≡ class_bytes class.now) }
+    ensures spells { IfOk result (λ bytes. Spells bytes.items class.now) }
+{
+    bytes_of(alloc, class)
+}
+
+/// The bytes of a record whose counts and lengths fit theirs.
+fn bytes_of(alloc: Global, class: &ClassDef) -> Result<Vec<u8>, NoMemory>
+    requires { ClassIsWritable class.now }
+    ensures { IfOk result (λ bytes. bytes.items ≡ class_bytes class.now) }
+{
+    let mut out = Vec::from_slice(alloc, &MAGIC)?;
+    put_u16(class.minor, &mut out)?;
+    put_u16(class.major, &mut out)?;
+    write_pool(alloc, &class.pool, &mut out)?;
+    put_u16(class.flags, &mut out)?;
+    put_u16(class.this_class, &mut out)?;
+    put_u16(class.super_class, &mut out)?;
+    put_indices(class.interfaces.as_slice(), &mut out)?;
+    put_members(alloc, class.fields.as_slice(), &mut out)?;
+    put_members(alloc, class.methods.as_slice(), &mut out)?;
+    put_raws(class.attributes.as_slice(), &mut out)?;
+    Ok(out)
+}
+
+/// Appends indices after their number. After `NoMemory` only some bytes stand in `out`.
+fn put_indices(indices: &[u16], out: &mut Vec<u8>) -> Result<(), NoMemory>
+    requires { FitsTwo (length indices.now) }
+    ensures { OnOk result (out.new.items ≡ out.old.items ++ counted two indices.now) }
+{
+    put_u16(indices.len() as u16, out)?;
+    for index in indices {
+        put_u16(*index, out)?;
+    }
+    Ok(())
+}

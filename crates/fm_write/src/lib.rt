@@ -1,0 +1,15 @@
+// Class files written from their records.
+//
+// `write_class` gives the bytes that spell a record, so that a class that was read is written as it was.
+// The layers above use that the bytes and the record determine each other.
+#![tactic(auto)]
+
+mod attributes;
+mod class_file;
+mod code;
+mod members;
+mod tables;
+#[cfg(test)]
+mod tests;
+
+pub use class_file::write_class;
