@@ -1,5 +1,7 @@
+pub mod inner
 pub mod Line
 pub mod Outside
+pub mod Printed
 pub mod Refusal
 pub mod Status
 pub mod Words

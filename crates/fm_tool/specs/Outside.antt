@@ -1,5 +1,5 @@
 -- What a call of a program changes of the files, and what is known of a file.
-use Rattle.std.specs.Prelude.{◌≡◌, ℕ, ◌+◌, ◌<◌, ◌≤◌, max, None, IfSome, IsSomeAnd}
+use Rattle.std.specs.Prelude.{◌≡◌, ◌+◌, ◌<◌, ◌≤◌, max, None, IfSome, IsSomeAnd}
 use Rattle.fm_base.specs.declared.limits.TheConstants.{MAX_FILE_BYTES}
 use Rattle.fm_files.specs.Files.{Bytes, Contents, Disk, AreKept, RisesAt}
 

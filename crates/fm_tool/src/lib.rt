@@ -6,6 +6,7 @@
 #![tactic(auto)]
 
 mod line;
+mod printing;
 mod refusal;
 pub mod status;
 #[cfg(test)]
@@ -13,5 +14,6 @@ mod tests;
 mod words;
 
 pub use line::put_line;
+pub use printing::printed;
 pub use refusal::Refusal;
 pub use words::command_words;

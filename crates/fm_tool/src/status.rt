@@ -11,6 +11,18 @@ pub const WORDS: u8 = 64;
 /// A file of the words couldn't be read.
 pub const READ: u8 = 65;
 
+/// A class file that no record spells.
+pub const MALFORMED: u8 = 66;
+
+/// A class file of a version that isn't accepted.
+pub const VERSION: u8 = 67;
+
+/// A count or a length is above its limit.
+pub const LIMIT: u8 = 68;
+
+/// A class has what isn't supported.
+pub const UNSUPPORTED: u8 = 69;
+
 /// A file or a line couldn't be written.
 pub const WRITE: u8 = 75;
 
@@ -31,6 +43,10 @@ pub fn law_statuses()
     ensures done { DONE ≡ 0 }
     ensures words { WORDS ≡ 64 }
     ensures read { READ ≡ 65 }
+    ensures malformed { MALFORMED ≡ 66 }
+    ensures version { VERSION ≡ 67 }
+    ensures limit { LIMIT ≡ 68 }
+    ensures unsupported { UNSUPPORTED ≡ 69 }
     ensures write { WRITE ≡ 75 }
     ensures out_of_memory { OUT_OF_MEMORY ≡ 76 }
     ensures not_yet { NOT_YET ≡ 77 }

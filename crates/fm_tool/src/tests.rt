@@ -1,6 +1,7 @@
 // What no clause says: that lines can be had and put where there is memory, and the words of a process.
 
-use crate::{Refusal, command_words, put_line};
+use crate::{Refusal, command_words, printed, put_line};
+use fm_base::Name;
 use fm_files::MemSink;
 use std::env;
 use std::test::Fail;
@@ -42,5 +43,29 @@ fn the_words_are_those_after_the_name_of_the_program(rt: HostRuntime) -> Result<
     let words = command_words(&rt)?;
     let all = env::args(&rt)?.count();
     assert_eq!(rt; words.len() + 1, all);
+    Ok(())
+}
+
+#[test]
+fn names_are_printed_as_their_characters(rt: HostRuntime) -> Result<(), Fail> {
+    let alloc = rt.alloc();
+    let rows = [
+        (b"".as_slice(), ""),
+        (b"p/Main".as_slice(), "p/Main"),
+        (b"\xC3\xA9".as_slice(), "\u{E9}"),
+        (b"\xE2\x82\xAC".as_slice(), "\u{20AC}"),
+        (b"a\xC0\x80b".as_slice(), "a\0b"),
+        (b"\xED\xA0\xBD\xED\xB8\x80".as_slice(), "\u{1F600}"),
+        (b"\xED\xA0\xBDa".as_slice(), "?a"),
+        (b"a\xED\xB8\x80".as_slice(), "a?"),
+        (
+            b"\xED\xA0\xBD\xED\xA0\xBD\xED\xB8\x80".as_slice(),
+            "?\u{1F600}",
+        ),
+    ];
+    for (bytes, text) in rows {
+        let name = Name::new(Vec::from_slice(alloc, bytes)?);
+        assert_eq!(rt; printed(alloc, &name)?.as_str(), text);
+    }
     Ok(())
 }
