@@ -1,189 +1,506 @@
--- When a status comes, from what a call does.
-use Rattle.std.proofs.Common.{◌≡◌, ◌⊎◌, ℕ, List, [], ◌∷◌, Contains, refl, sym, ◌∙◌, inl, inr, arith, subst, Option, Some, None, IsSomeAnd}
-use Rattle.fm_files.specs.Files.{Bytes, Contents, Disk}
+-- What each status says and when it comes, by what a call does as a whole.
+use Rattle.std.proofs.Common.{◌≡◌, ◌≢◌, ◌<◌, ◌≤◌, ℕ, ◌⊎◌, inl, inr, ⊎_elim, List, [], ◌∷◌, length, Contains, Option, Some, None, Ok, Err, IsSome, IfSome, IsSomeAnd, string_bytes, refl, sym, ap, ◌∙◌, subst, arith}
+use Rattle.std.specs.List.{AllByRecursion, slice_get}
+use Rattle.fm_base.proofs.OptionFacts.{Some-from_is_some, Some-from_some_and, IsSomeAnd-weaker}
+use Rattle.fm_files.specs.Files.{Bytes, Contents, Disk, AreKept}
 use Rattle.fm_files.specs.Sink.{Output, with_piece}
-use Rattle.fm_tool.specs.Line.{IsPut, Tells}
-use Rattle.fm_tool.specs.Outside.{HoldsSuch, IsKnownSuch}
-use Rattle.fm_tool.specs.Refusal.{not_yet_line}
+use Rattle.fm_tool.specs.Line.{Tells}
+use Rattle.fm_tool.specs.Outside.{HasNoFault, HoldsSuch, IsKnownSuch, IsKnownMissing}
 use Rattle.fm_tool.specs.declared.refusal.Refusal.TheVariants as refusal
-use Rattle.fm_tool.specs.declared.status.TheConstants.{DONE, WORDS, READ, WRITE, OUT_OF_MEMORY, NOT_YET}
-use Rattle.freeme.specs.Request.{Job, Asks}
-use Rattle.freeme.specs.Outcome.{class_line, outcome_line, outcome_status}
-use Rattle.freeme.specs.TopCall.{AreAccepted, AreRefused, IsUntouched, ComesOf}
-use Rattle.freeme.specs.Causes.{IsStatus, AskFor, SaysDone, SaysNotYet, IsKnownAccepted, IsKnownRefused, SaysMemory, LacksLine, IsForDone, IsForForm, IsForMemory}
-use Rattle.freeme.specs.declared.outcome.Outcome.{Outcome}
-use Rattle.freeme.specs.declared.outcome.Outcome.TheVariants as outcome
+use Rattle.fm_tool.specs.declared.status.TheConstants.{DONE, WORDS, READ, MALFORMED, VERSION, LIMIT, UNSUPPORTED, WRITE, OUT_OF_MEMORY, NOT_YET}
+use Rattle.fm_code.specs.declared.class_file.ClassDef.{ClassDef}
+use Rattle.freeme.specs.Ahead.{IsBuilt, AreBuilt, IsFirstAhead}
+use Rattle.freeme.specs.ClassRefusal.{class_refusal_status}
+use Rattle.freeme.specs.Causes.{AskFor, FailsARead, FailsAWrite, IsMissing, HasTooMany, IsKnownLong, IsKnownRefused, IsKnownAhead, IsKnownPassed, SaysWords, SaysRead, SaysRefused, SaysMany, SaysLong, SaysLimit, SaysNotYet, SaysDone, SaysUnwritten, SaysWrite, SaysMemory, LacksLine, IsForWords, IsForRead, IsForBytes, IsForLimit, IsForNotYet, IsForDone, IsForWrite, IsForMemory, IsFaultless, KeepsContents, ChangesOnly}
+use Rattle.freeme.specs.Request.{Job, Asks, AskNothing}
+use Rattle.freeme.specs.Taking.{total_bytes, AllTaken, Reaches, IsTooLong, IsRefused}
+use Rattle.freeme.specs.TopCall.{StaysWithin, AreMany, IsUntouched, IsBroken, ComesTo, ComesOfJob, ComesOf, Outcome, outcome_line, outcome_status}
+use Rattle.freeme.specs.declared.refusal.JobRefusal.TheVariants as job_refusal
+use Rattle.freeme.specs.Refusal.{many_line}
+use Rattle.freeme.specs.declared.class_refusal.ClassRefusal.{ClassRefusal}
+use Rattle.fm_tool.specs.Refusal.{memory_line}
+use Rattle.freeme.proofs.JobLemmas.{reads_within}
+use Rattle.freeme.proofs.ReadLemmas.{reads_none}
+use Rattle.freeme.proofs.RequestLemmas.{asks_one}
+use Rattle.freeme.proofs.StatusLemmas.{class_status, among, not_among, one_of}
+use Rattle.freeme.proofs.VerdictLemmas.{FailsAs, Fails, Stops, Passes, Verdict, one_verdict}
 
--- ---- statuses
+-- ---- what a status says
 
--- the result is the status of the line, or that of a failed put or of memory
-told : (line : Bytes) (status : ℕ) (before after : Output) (result : ℕ) → Tells line status before after result → (result ≡ status) ⊎ ((result ≡ WRITE) ⊎ (result ≡ OUT_OF_MEMORY))
-told line status before after result (inl put) = inl put.0
-told line status before after result (inr (inl failed)) = inr (inl failed.0)
-told line status before after result (inr (inr lacking)) = inr (inr lacking.0)
+-- the line of an outcome is put, where the status is neither that of a failed put nor that of memory
+pub put_of : (o : Outcome) (status : ℕ) (before after : Output) (result : ℕ) → Tells (outcome_line o) (outcome_status o) before after result → result ≡ status → status ≢ WRITE → status ≢ OUT_OF_MEMORY →
+    (outcome_status o ≡ status) × (after ≡ with_piece (outcome_line o) before)
+put_of o status before after result (inl put) is write memory = (sym put.0 ∙ is, put.1)
+put_of o status before after result (inr (inl failed)) is write memory = absurd (write (sym is ∙ failed.0))
+put_of o status before after result (inr (inr lacking)) is write memory = absurd (memory (sym is ∙ lacking.0))
 
--- the result is among statuses of which these three are
-among : (statuses : List ℕ) (status result : ℕ) → Contains statuses status → Contains statuses WRITE → Contains statuses OUT_OF_MEMORY →
-    (result ≡ status) ⊎ ((result ≡ WRITE) ⊎ (result ≡ OUT_OF_MEMORY)) → Contains statuses result
-among statuses status result own write memory (inl e) = let P : ℕ → Type 0 = Contains statuses in subst P (sym e) own
-among statuses status result own write memory (inr (inl e)) = let P : ℕ → Type 0 = Contains statuses in subst P (sym e) write
-among statuses status result own write memory (inr (inr e)) = let P : ℕ → Type 0 = Contains statuses in subst P (sym e) memory
+-- the words asked for a job, where the status is neither that of words nor that of memory
+job_of_status : (words : List Bytes) (old new : Disk) (o : Outcome) (status : ℕ) → ComesOf words old new o → outcome_status o ≡ status → status ≢ WORDS → status ≢ OUT_OF_MEMORY → ComesOfJob words old new o
+job_of_status words old new o status (inl job) is unlike_words unlike_memory = job
+job_of_status words old new o status (inr (inl nothing)) is unlike_words unlike_memory = absurd (unlike_words (sym is ∙ ap outcome_status nothing.refused))
+job_of_status words old new o status (inr (inr lacking)) is unlike_words unlike_memory = absurd (unlike_memory (sym is ∙ ap outcome_status lacking.refused))
 
-own_status : (o : Outcome) → IsStatus (outcome_status o)
-own_status (outcome.Written request) = (0, omega arith, refl)
-own_status (outcome.Unwritten request) = (3, omega arith, refl)
-own_status (outcome.Refused refusal.Words) = (1, omega arith, refl)
-own_status (outcome.Refused (refusal.Read file)) = (2, omega arith, refl)
-own_status (outcome.Refused (refusal.NotYet file)) = (5, omega arith, refl)
-own_status (outcome.Refused refusal.OutOfMemory) = (4, omega arith, refl)
+module _ (words : List Bytes) (old new : Disk) (before after : Output) where
+  -- 0
+  done_said : (o : Outcome) → ComesOfJob words old new o → outcome_status o ≡ DONE → after ≡ with_piece (outcome_line o) before → SaysDone words old new before after
+  done_said (Ok lines) j is line = record { job = j.job; asked = j.asked; lines = string_bytes lines; done = j.comes; line = line }
+  done_said (Err (job_refusal.Shared refusal.Words)) j is line = absurd (omega arith)
+  done_said (Err (job_refusal.Shared (refusal.Read file))) j is line = absurd (omega arith)
+  done_said (Err (job_refusal.Shared (refusal.NotYet file))) j is line = absurd (omega arith)
+  done_said (Err (job_refusal.Shared refusal.OutOfMemory)) j is line = absurd (omega arith)
+  done_said (Err (job_refusal.TooManyFiles count)) j is line = absurd (omega arith)
+  done_said (Err (job_refusal.TooLong file)) j is line = absurd (omega arith)
+  done_said (Err (job_refusal.Class file r)) j is line = absurd (let c = class_status r in let low = c.low in let high = c.high in omega arith)
+  done_said (Err (job_refusal.Write name)) j is line = absurd (omega arith)
 
-pub is_status : (o : Outcome) (line : Bytes) (before after : Output) (result : ℕ) → Tells line (outcome_status o) before after result → IsStatus result
-is_status o line before after result tells =
-    among (DONE ∷ WORDS ∷ READ ∷ WRITE ∷ OUT_OF_MEMORY ∷ NOT_YET ∷ []) (outcome_status o) result (own_status o) (3, omega arith, refl) (4, omega arith, refl)
-    (told line (outcome_status o) before after result tells)
+  -- 65
+  read_said : (o : Outcome) → ComesOfJob words old new o → outcome_status o ≡ READ → after ≡ with_piece (outcome_line o) before → SaysRead words old new before after
+  read_said (Ok lines) j is line = absurd (omega arith)
+  read_said (Err (job_refusal.Shared refusal.Words)) j is line = absurd (omega arith)
+  read_said (Err (job_refusal.Shared (refusal.Read file))) j is line = record { job = j.job; asked = j.asked; file = file.now; unread = j.comes; line = line }
+  read_said (Err (job_refusal.Shared (refusal.NotYet file))) j is line = absurd (omega arith)
+  read_said (Err (job_refusal.Shared refusal.OutOfMemory)) j is line = absurd (omega arith)
+  read_said (Err (job_refusal.TooManyFiles count)) j is line = absurd (omega arith)
+  read_said (Err (job_refusal.TooLong file)) j is line = absurd (omega arith)
+  read_said (Err (job_refusal.Class file r)) j is line = absurd (let c = class_status r in let low = c.low in let high = c.high in omega arith)
+  read_said (Err (job_refusal.Write name)) j is line = absurd (omega arith)
 
--- ---- jobs
+  -- 77
+  not_yet_said : (o : Outcome) → ComesOfJob words old new o → outcome_status o ≡ NOT_YET → after ≡ with_piece (outcome_line o) before → SaysNotYet words old new before after
+  not_yet_said (Ok lines) j is line = absurd (omega arith)
+  not_yet_said (Err (job_refusal.Shared refusal.Words)) j is line = absurd (omega arith)
+  not_yet_said (Err (job_refusal.Shared (refusal.Read file))) j is line = absurd (omega arith)
+  not_yet_said (Err (job_refusal.Shared (refusal.NotYet file))) j is line = record { job = j.job; asked = j.asked; file = file.now; ahead = j.comes; line = line }
+  not_yet_said (Err (job_refusal.Shared refusal.OutOfMemory)) j is line = absurd (omega arith)
+  not_yet_said (Err (job_refusal.TooManyFiles count)) j is line = absurd (omega arith)
+  not_yet_said (Err (job_refusal.TooLong file)) j is line = absurd (omega arith)
+  not_yet_said (Err (job_refusal.Class file r)) j is line = absurd (let c = class_status r in let low = c.low in let high = c.high in omega arith)
+  not_yet_said (Err (job_refusal.Write name)) j is line = absurd (omega arith)
 
--- words ask for one job at most
-same_job : (words : List Bytes) (a b : Job) → Asks words a → Asks words b → a ≡ b
-same_job words a b first second =
-    let same = sym first.words_are ∙ second.words_are in
-    let folder : a.folder ≡ b.folder = cc in
-    let main : a.main ≡ b.main = cc in
-    let file : a.file ≡ b.file = cc in
-    let job : Bytes → Bytes → Bytes → Job = λ f m n. record { folder = f; main = m; file = n } in
-    let e : job a.folder a.main a.file ≡ job b.folder b.main b.file = cc in e
+  -- 66, 67 and 69
+  bytes_said : (status : ℕ) → 66 ≤ status → status ≤ 69 → status ≢ LIMIT → (o : Outcome) → ComesOfJob words old new o → outcome_status o ≡ status → after ≡ with_piece (outcome_line o) before → SaysRefused status words old new before after
+  bytes_said status low high other (Ok lines) j is line = absurd (omega arith)
+  bytes_said status low high other (Err (job_refusal.Shared refusal.Words)) j is line = absurd (omega arith)
+  bytes_said status low high other (Err (job_refusal.Shared (refusal.Read file))) j is line = absurd (omega arith)
+  bytes_said status low high other (Err (job_refusal.Shared (refusal.NotYet file))) j is line = absurd (omega arith)
+  bytes_said status low high other (Err (job_refusal.Shared refusal.OutOfMemory)) j is line = absurd (omega arith)
+  bytes_said status low high other (Err (job_refusal.TooManyFiles count)) j is line = absurd (other (sym is))
+  bytes_said status low high other (Err (job_refusal.TooLong file)) j is line = absurd (other (sym is))
+  bytes_said status low high other (Err (job_refusal.Class file r)) j is line = record { job = j.job; asked = j.asked; file = file.now; refusal = r; status_is = is; refused = j.comes; line = line }
+  bytes_said status low high other (Err (job_refusal.Write name)) j is line = absurd (omega arith)
 
--- a file isn't accepted and refused at once
-not_both : (contents : Contents) (job : Job) → HoldsSuch contents job.file (AreAccepted job) → HoldsSuch contents job.file (AreRefused job) → IsSomeAnd contents (λ held. IsSomeAnd (held job.file) (λ bytes. Unit {0})) → ⊥
-not_both None job accepted refused there = there
-not_both (Some held) job accepted refused there = at (held job.file) accepted refused where
-  at : (o : Option Bytes) → IsSomeAnd o (AreAccepted job) → IsSomeAnd o (AreRefused job) → ⊥
-  at None accepted refused = accepted
-  at (Some bytes) accepted refused = refused accepted.0 accepted.1
+  -- 68
+  limit_said : (o : Outcome) → ComesOfJob words old new o → outcome_status o ≡ LIMIT → after ≡ with_piece (outcome_line o) before → SaysLimit words old new before after
+  limit_said (Ok lines) j is line = absurd (omega arith)
+  limit_said (Err (job_refusal.Shared refusal.Words)) j is line = absurd (omega arith)
+  limit_said (Err (job_refusal.Shared (refusal.Read file))) j is line = absurd (omega arith)
+  limit_said (Err (job_refusal.Shared (refusal.NotYet file))) j is line = absurd (omega arith)
+  limit_said (Err (job_refusal.Shared refusal.OutOfMemory)) j is line = absurd (omega arith)
+  limit_said (Err (job_refusal.TooManyFiles count)) j is line = let Many : ℕ → Type 0 = λ n. AreMany j.job.files n old new × (after ≡ with_piece (many_line n) before) in let own = subst Many j.comes.count_is (j.comes, line) in inl (record { job = j.job; asked = j.asked; many = own.0; line = own.1 })
+  limit_said (Err (job_refusal.TooLong file)) j is line = inr (inl (record { job = j.job; asked = j.asked; file = file.now; long = j.comes; line = line }))
+  limit_said (Err (job_refusal.Class file r)) j is line = inr (inr (record { job = j.job; asked = j.asked; file = file.now; refusal = r; status_is = is; refused = j.comes; line = line }))
+  limit_said (Err (job_refusal.Write name)) j is line = absurd (omega arith)
 
--- what is known holds where it is known
-known : (contents : Contents) (file : Bytes) (P : Bytes → Type 0) → IsKnownSuch contents file P → HoldsSuch contents file P
-known None file P such = absurd such
-known (Some held) file P such = such
+  -- 75, where the line is put
+  unwritten_said : (o : Outcome) → ComesOfJob words old new o → outcome_status o ≡ WRITE → after ≡ with_piece (outcome_line o) before → SaysUnwritten words old new before after
+  unwritten_said (Ok lines) j is line = absurd (omega arith)
+  unwritten_said (Err (job_refusal.Shared refusal.Words)) j is line = absurd (omega arith)
+  unwritten_said (Err (job_refusal.Shared (refusal.Read file))) j is line = absurd (omega arith)
+  unwritten_said (Err (job_refusal.Shared (refusal.NotYet file))) j is line = absurd (omega arith)
+  unwritten_said (Err (job_refusal.Shared refusal.OutOfMemory)) j is line = absurd (omega arith)
+  unwritten_said (Err (job_refusal.TooManyFiles count)) j is line = absurd (omega arith)
+  unwritten_said (Err (job_refusal.TooLong file)) j is line = absurd (omega arith)
+  unwritten_said (Err (job_refusal.Class file r)) j is line = absurd (let c = class_status r in let low = c.low in let high = c.high in omega arith)
+  unwritten_said (Err (job_refusal.Write name)) j is line = record { job = j.job; asked = j.asked; name = string_bytes name; unwritten = j.comes; line = line }
 
-there : (contents : Contents) (file : Bytes) (P : Bytes → Type 0) → IsKnownSuch contents file P → IsKnownSuch contents file (λ bytes. Unit {0})
-there None file P such = such
-there (Some held) file P such = at (held file) such where
-  at : (o : Option Bytes) → IsSomeAnd o P → IsSomeAnd o (λ bytes. Unit {0})
-  at None such = such
-  at (Some bytes) such = tt
+  -- 76, where the line is put
+  stopped : (o : Outcome) → ComesOfJob words old new o → outcome_status o ≡ OUT_OF_MEMORY → IsUntouched old new ⊎ AskFor words (λ job. IsBroken job old new)
+  stopped (Ok lines) j is = absurd (omega arith)
+  stopped (Err (job_refusal.Shared refusal.Words)) j is = absurd (omega arith)
+  stopped (Err (job_refusal.Shared (refusal.Read file))) j is = absurd (omega arith)
+  stopped (Err (job_refusal.Shared (refusal.NotYet file))) j is = absurd (omega arith)
+  stopped (Err (job_refusal.Shared refusal.OutOfMemory)) j is = ⊎_elim (λ untouched. inl untouched) (λ broken. inr (j.job, (j.asked, broken))) j.comes
+  stopped (Err (job_refusal.TooManyFiles count)) j is = absurd (omega arith)
+  stopped (Err (job_refusal.TooLong file)) j is = absurd (omega arith)
+  stopped (Err (job_refusal.Class file r)) j is = absurd (let c = class_status r in let low = c.low in let high = c.high in omega arith)
+  stopped (Err (job_refusal.Write name)) j is = absurd (omega arith)
 
--- ---- 0
+  -- the line of memory
+  memory_line_is : (o : Outcome) → outcome_status o ≡ OUT_OF_MEMORY → outcome_line o ≡ memory_line
+  memory_line_is (Ok lines) is = absurd (omega arith)
+  memory_line_is (Err (job_refusal.Shared refusal.Words)) is = absurd (omega arith)
+  memory_line_is (Err (job_refusal.Shared (refusal.Read file))) is = absurd (omega arith)
+  memory_line_is (Err (job_refusal.Shared (refusal.NotYet file))) is = absurd (omega arith)
+  memory_line_is (Err (job_refusal.Shared refusal.OutOfMemory)) is = refl
+  memory_line_is (Err (job_refusal.TooManyFiles count)) is = absurd (omega arith)
+  memory_line_is (Err (job_refusal.TooLong file)) is = absurd (omega arith)
+  memory_line_is (Err (job_refusal.Class file r)) is = absurd (let c = class_status r in let low = c.low in let high = c.high in omega arith)
+  memory_line_is (Err (job_refusal.Write name)) is = absurd (omega arith)
 
-done : (words : List Bytes) (old new : Disk) (before after : Output) (result : ℕ) (o : Outcome) → ComesOf words old new o → Tells (outcome_line o) (outcome_status o) before after result →
-    result ≡ DONE → SaysDone words old new before after
-done words old new before after result o comes (inr (inl failed)) is = let e = failed.0 in absurd (omega arith)
-done words old new before after result o comes (inr (inr lacking)) is = let e = lacking.0 in absurd (omega arith)
-done words old new before after result (outcome.Written request) (inl nothing) (inl put) is = absurd (let e = nothing.refused in cc)
-done words old new before after result (outcome.Written request) (inr job) (inl put) is = record {
-  job = job.job;
-  asked = job.asked;
-  written = job.comes.1;
-  others = job.within.others;
-  line = let P : Job → Type 0 = λ j. after ≡ with_piece (class_line j.main) before in subst P job.comes.0 put.1;
-}
-done words old new before after result (outcome.Unwritten request) comes (inl put) is = let e = put.0 in absurd (omega arith)
-done words old new before after result (outcome.Refused refusal.Words) comes (inl put) is = let e = put.0 in absurd (omega arith)
-done words old new before after result (outcome.Refused (refusal.Read file)) comes (inl put) is = let e = put.0 in absurd (omega arith)
-done words old new before after result (outcome.Refused (refusal.NotYet file)) comes (inl put) is = let e = put.0 in absurd (omega arith)
-done words old new before after result (outcome.Refused refusal.OutOfMemory) comes (inl put) is = let e = put.0 in absurd (omega arith)
+-- ---- what fails and what is kept
 
--- an accepted file isn't refused
-of_accepted : (words : List Bytes) (old new : Disk) (o : Outcome) → ComesOf words old new o → AskFor words (IsKnownAccepted old) → Contains (DONE ∷ READ ∷ WRITE ∷ OUT_OF_MEMORY ∷ []) (outcome_status o)
-of_accepted words old new o (inl nothing) cause = absurd (nothing.unasked cause.0 cause.1.0)
-of_accepted words old new (outcome.Written request) (inr job) cause = (0, omega arith, refl)
-of_accepted words old new (outcome.Unwritten request) (inr job) cause = (2, omega arith, refl)
-of_accepted words old new (outcome.Refused refusal.Words) (inr job) cause = absurd job.comes
-of_accepted words old new (outcome.Refused (refusal.Read file)) (inr job) cause = (1, omega arith, refl)
-of_accepted words old new (outcome.Refused (refusal.NotYet file)) (inr job) cause =
-    let P : Job → Type 0 = λ j. HoldsSuch old.contents j.file (AreRefused j) in
-    let refused = subst P (same_job words job.job cause.0 job.asked cause.1.0) job.comes.1.refused in
-    absurd (not_both old.contents cause.0 (known old.contents cause.0.file (AreAccepted cause.0) cause.1.1) refused (there old.contents cause.0.file (AreAccepted cause.0) cause.1.1))
-of_accepted words old new (outcome.Refused refusal.OutOfMemory) (inr job) cause = (3, omega arith, refl)
+-- nothing failed, or a read did, or a write
+abbrev FailsSo : Disk → Disk → ℕ → Type 0
+FailsSo old new status =
+    HasNoFault old new ⊎ (((status ≡ READ) × AreKept old.write_faults new.write_faults) ⊎ ((status ≡ WRITE) × AreKept old.read_faults new.read_faults))
 
-pub is_for_done : (words : List Bytes) (old new : Disk) (before after : Output) (result : ℕ) (o : Outcome) → ComesOf words old new o →
-    Tells (outcome_line o) (outcome_status o) before after result → IsForDone words old new before after result
-is_for_done words old new before after result o comes tells = record {
-  only = done words old new before after result o comes tells;
-  there = λ cause. among (DONE ∷ READ ∷ WRITE ∷ OUT_OF_MEMORY ∷ []) (outcome_status o) result (of_accepted words old new o comes cause) (2, omega arith, refl) (3, omega arith, refl)
-      (told (outcome_line o) (outcome_status o) before after result tells);
-}
+none_failed : (old new : Disk) → new ≡ old → HasNoFault old new
+none_failed old new same = let P : Disk → Type 0 = λ d. HasNoFault old d in subst P (sym same) (record { reads = λ name. refl; writes = λ name. refl })
 
--- ---- 77
+job_fails : (job : Job) (old new : Disk) (o : Outcome) → ComesTo job old new o → FailsSo old new (outcome_status o)
+job_fails job old new (Ok lines) comes = inl comes.written.faultless
+job_fails job old new (Err (job_refusal.Shared refusal.Words)) comes = absurd comes
+job_fails job old new (Err (job_refusal.Shared (refusal.Read file))) comes = inr (inl (refl, comes.fault.writes))
+job_fails job old new (Err (job_refusal.Shared (refusal.NotYet file))) comes = inl comes.untouched.faultless
+job_fails job old new (Err (job_refusal.Shared refusal.OutOfMemory)) comes = ⊎_elim (λ untouched. inl untouched.faultless) (λ broken. inl broken.written.faultless) comes
+job_fails job old new (Err (job_refusal.TooManyFiles count)) comes = inl (none_failed old new comes.kept)
+job_fails job old new (Err (job_refusal.TooLong file)) comes = inl comes.untouched.faultless
+job_fails job old new (Err (job_refusal.Class file r)) comes = inl comes.untouched.faultless
+job_fails job old new (Err (job_refusal.Write name)) comes = inr (inr (refl, comes.fails.fault.reads))
 
-not_yet : (words : List Bytes) (old new : Disk) (before after : Output) (result : ℕ) (o : Outcome) → ComesOf words old new o → Tells (outcome_line o) (outcome_status o) before after result →
-    result ≡ NOT_YET → SaysNotYet words old new before after
-not_yet words old new before after result o comes (inr (inl failed)) is = let e = failed.0 in absurd (omega arith)
-not_yet words old new before after result o comes (inr (inr lacking)) is = let e = lacking.0 in absurd (omega arith)
-not_yet words old new before after result (outcome.Written request) comes (inl put) is = let e = put.0 in absurd (omega arith)
-not_yet words old new before after result (outcome.Unwritten request) comes (inl put) is = let e = put.0 in absurd (omega arith)
-not_yet words old new before after result (outcome.Refused refusal.Words) comes (inl put) is = let e = put.0 in absurd (omega arith)
-not_yet words old new before after result (outcome.Refused (refusal.Read file)) comes (inl put) is = let e = put.0 in absurd (omega arith)
-not_yet words old new before after result (outcome.Refused (refusal.NotYet file)) (inl nothing) (inl put) is = absurd (let e = nothing.refused in cc)
-not_yet words old new before after result (outcome.Refused (refusal.NotYet file)) (inr job) (inl put) is = record {
-  job = job.job;
-  asked = job.asked;
-  refused = job.comes.1;
-  line = let P : Bytes → Type 0 = λ f. after ≡ with_piece (not_yet_line f) before in subst P job.comes.0 put.1;
-}
-not_yet words old new before after result (outcome.Refused refusal.OutOfMemory) comes (inl put) is = let e = put.0 in absurd (omega arith)
+pub fails_so : (words : List Bytes) (old new : Disk) (o : Outcome) → ComesOf words old new o → FailsSo old new (outcome_status o)
+fails_so words old new o (inl j) = job_fails j.job old new o j.comes
+fails_so words old new o (inr (inl nothing)) = inl (none_failed old new nothing.kept)
+fails_so words old new o (inr (inr lacking)) = inl (none_failed old new lacking.kept)
 
--- a refused file isn't accepted
-of_refused : (words : List Bytes) (old new : Disk) (o : Outcome) → ComesOf words old new o → AskFor words (IsKnownRefused old) → Contains (NOT_YET ∷ READ ∷ WRITE ∷ OUT_OF_MEMORY ∷ []) (outcome_status o)
-of_refused words old new o (inl nothing) cause = absurd (nothing.unasked cause.0 cause.1.0)
-of_refused words old new (outcome.Written request) (inr job) cause =
-    let P : Job → Type 0 = λ j. HoldsSuch old.contents j.file (AreAccepted j) in
-    let accepted = subst P (same_job words job.job cause.0 job.asked cause.1.0) job.comes.1.accepted in
-    absurd (not_both old.contents cause.0 accepted (known old.contents cause.0.file (AreRefused cause.0) cause.1.1) (there old.contents cause.0.file (AreRefused cause.0) cause.1.1))
-of_refused words old new (outcome.Unwritten request) (inr job) cause = (2, omega arith, refl)
-of_refused words old new (outcome.Refused refusal.Words) (inr job) cause = absurd job.comes
-of_refused words old new (outcome.Refused (refusal.Read file)) (inr job) cause = (1, omega arith, refl)
-of_refused words old new (outcome.Refused (refusal.NotYet file)) (inr job) cause = (0, omega arith, refl)
-of_refused words old new (outcome.Refused refusal.OutOfMemory) (inr job) cause = (3, omega arith, refl)
+-- contents are kept but where classes are written
+job_keeps : (job : Job) (old new : Disk) (o : Outcome) → ComesTo job old new o → outcome_status o ≢ DONE → outcome_status o ≢ WRITE → outcome_status o ≢ OUT_OF_MEMORY → new.contents ≡ old.contents
+job_keeps job old new (Ok lines) comes done write memory = absurd (done refl)
+job_keeps job old new (Err (job_refusal.Shared refusal.Words)) comes done write memory = absurd comes
+job_keeps job old new (Err (job_refusal.Shared (refusal.Read file))) comes done write memory = comes.kept
+job_keeps job old new (Err (job_refusal.Shared (refusal.NotYet file))) comes done write memory = comes.untouched.kept
+job_keeps job old new (Err (job_refusal.Shared refusal.OutOfMemory)) comes done write memory = absurd (memory refl)
+job_keeps job old new (Err (job_refusal.TooManyFiles count)) comes done write memory = ap (λ d. d.contents) comes.kept
+job_keeps job old new (Err (job_refusal.TooLong file)) comes done write memory = comes.untouched.kept
+job_keeps job old new (Err (job_refusal.Class file r)) comes done write memory = comes.untouched.kept
+job_keeps job old new (Err (job_refusal.Write name)) comes done write memory = absurd (write refl)
 
-pub is_for_form : (words : List Bytes) (old new : Disk) (before after : Output) (result : ℕ) (o : Outcome) → ComesOf words old new o →
-    Tells (outcome_line o) (outcome_status o) before after result → IsForForm words old new before after result
-is_for_form words old new before after result o comes tells = record {
-  only = not_yet words old new before after result o comes tells;
-  there = λ cause. among (NOT_YET ∷ READ ∷ WRITE ∷ OUT_OF_MEMORY ∷ []) (outcome_status o) result (of_refused words old new o comes cause) (2, omega arith, refl) (3, omega arith, refl)
-      (told (outcome_line o) (outcome_status o) before after result tells);
-}
+keeps : (words : List Bytes) (old new : Disk) (o : Outcome) → ComesOf words old new o → outcome_status o ≢ DONE → outcome_status o ≢ WRITE → outcome_status o ≢ OUT_OF_MEMORY → new.contents ≡ old.contents
+keeps words old new o (inl j) done write memory = job_keeps j.job old new o j.comes done write memory
+keeps words old new o (inr (inl nothing)) done write memory = ap (λ d. d.contents) nothing.kept
+keeps words old new o (inr (inr lacking)) done write memory = ap (λ d. d.contents) lacking.kept
 
--- ---- 76
+-- ---- verdicts, where contents are known
 
--- files that are as they were are untouched
-untouched : (old new : Disk) → new ≡ old → IsUntouched old new
-untouched old new same = let P : Disk → Type 0 = λ d. IsUntouched old d in subst P (sym same) (record { faultless = record { reads = λ name. refl; writes = λ name. refl }; kept = refl })
+-- the first class that isn't built is one of those that aren't
+not_built : (classes : List ClassDef) (place : ℕ) → IsFirstAhead classes place → ¬ AreBuilt classes
+not_built classes place first built =
+    let found = Some-from_some_and (slice_get classes place) _ first.ahead in
+    let P : Option ClassDef → Type 0 = λ x. IfSome x (IsBuilt classes place) in
+    found.2 (subst P found.1 (built place))
 
--- the line of memory is put
-own_line : (words : List Bytes) (old new : Disk) (before after : Output) (result : ℕ) (o : Outcome) → ComesOf words old new o → IsPut (outcome_line o) (outcome_status o) before after result →
-    result ≡ OUT_OF_MEMORY → SaysMemory old new before after
-own_line words old new before after result (outcome.Written request) comes put is = let e = put.0 in absurd (omega arith)
-own_line words old new before after result (outcome.Unwritten request) comes put is = let e = put.0 in absurd (omega arith)
-own_line words old new before after result (outcome.Refused refusal.Words) comes put is = let e = put.0 in absurd (omega arith)
-own_line words old new before after result (outcome.Refused (refusal.Read file)) comes put is = let e = put.0 in absurd (omega arith)
-own_line words old new before after result (outcome.Refused (refusal.NotYet file)) comes put is = let e = put.0 in absurd (omega arith)
-own_line words old new before after result (outcome.Refused refusal.OutOfMemory) (inl nothing) put is = absurd (let e = nothing.refused in cc)
-own_line words old new before after result (outcome.Refused refusal.OutOfMemory) (inr job) put is = record { untouched = job.comes; line = inl put.1 }
+module _ (job : Job) (old new : Disk) (held : Bytes → Option Bytes) (known : old.contents ≡ Some held) where
+  reached : (file : Bytes) (before : List ClassDef) → Reaches old.contents job.files file before → Reaches (Some held) job.files file before
+  reached file before = let P : Contents → Type 0 = λ c. Reaches c job.files file before in subst P known
 
--- memory for the line is lacking
-no_line : (words : List Bytes) (old new : Disk) (before after : Output) (o : Outcome) → ComesOf words old new o → after ≡ before → SaysMemory old new before after ⊎ LacksLine words old new before after
-no_line words old new before after o (inl nothing) silent = inl (record { untouched = untouched old new nothing.kept; line = inr silent })
-no_line words old new before after (outcome.Written request) (inr job) silent = inr (record { job = job.job; asked = job.asked; came = inl job.comes.1; silent = silent })
-no_line words old new before after (outcome.Unwritten request) (inr job) silent = inr (record { job = job.job; asked = job.asked; came = inr (inr (inr job.comes.1)); silent = silent })
-no_line words old new before after (outcome.Refused refusal.Words) (inr job) silent = absurd job.comes
-no_line words old new before after (outcome.Refused (refusal.Read file)) (inr job) silent = inr (record { job = job.job; asked = job.asked; came = inr (inl job.comes.1); silent = silent })
-no_line words old new before after (outcome.Refused (refusal.NotYet file)) (inr job) silent = inr (record { job = job.job; asked = job.asked; came = inr (inr (inl job.comes.1)); silent = silent })
-no_line words old new before after (outcome.Refused refusal.OutOfMemory) (inr job) silent = inl (record { untouched = job.comes; line = inr silent })
+  all_taken : (classes : List ClassDef) → AllTaken old.contents job.files classes → AllTaken (Some held) job.files classes
+  all_taken classes = let P : Contents → Type 0 = λ c. AllTaken c job.files classes in subst P known
 
-pub is_for_memory : (words : List Bytes) (old new : Disk) (before after : Output) (result : ℕ) (o : Outcome) → ComesOf words old new o →
-    Tells (outcome_line o) (outcome_status o) before after result → IsForMemory words old new before after result
-is_for_memory words old new before after result o comes (inl put) is = inl (own_line words old new before after result o comes put is)
-is_for_memory words old new before after result o comes (inr (inl failed)) is = let e = failed.0 in absurd (omega arith)
-is_for_memory words old new before after result o comes (inr (inr lacking)) is = no_line words old new before after o comes lacking.1
+  such : (file : Bytes) (P : Bytes → Type 0) → HoldsSuch old.contents file P → IsSomeAnd (held file) P
+  such file P = let Q : Contents → Type 0 = λ c. HoldsSuch c file P in subst Q known
+
+  -- a file that is too long or refused
+  long_stops : (file : Bytes) (before : List ClassDef) → Reaches (Some held) job.files file before → IsSomeAnd (held file) (IsTooLong (total_bytes before)) → Verdict held job.files LIMIT
+  long_stops file before reaches long = inr (inl (record {
+    file = file;
+    before = before;
+    reaches = reaches;
+    fails = inr (IsSomeAnd-weaker (held file) (IsTooLong (total_bytes before)) (FailsAs LIMIT (total_bytes before)) (λ bytes is. inl (is, refl)) long);
+  }))
+
+  bytes_stop : (status : ℕ) (file : Bytes) (before : List ClassDef) (r : ClassRefusal) → class_refusal_status r ≡ status → Reaches (Some held) job.files file before → IsSomeAnd (held file) (IsRefused r (total_bytes before)) → Verdict held job.files status
+  bytes_stop status file before r is reaches refused = inr (inl (record {
+    file = file;
+    before = before;
+    reaches = reaches;
+    fails = inr (IsSomeAnd-weaker (held file) (IsRefused r (total_bytes before)) (FailsAs status (total_bytes before)) (λ bytes bad. inr (r, bad, sym is)) refused);
+  }))
+
+  -- the verdict of an outcome, unless it is for a fault or for memory
+  abbrev Comes : ℕ → Type 0
+  Comes status = Verdict held job.files status ⊎ ((status ≡ READ) ⊎ ((status ≡ WRITE) ⊎ (status ≡ OUT_OF_MEMORY)))
+
+  verdict_of : (o : Outcome) → ComesTo job old new o → Comes (outcome_status o)
+  verdict_of (Ok lines) comes = inl (inr (inr (record { classes = comes.classes; taken = all_taken comes.classes comes.passed.taken; last = inl (comes.passed.built, refl) })))
+  verdict_of (Err (job_refusal.Shared refusal.Words)) comes = absurd comes
+  verdict_of (Err (job_refusal.Shared (refusal.Read file))) comes = inr (inl refl)
+  verdict_of (Err (job_refusal.Shared (refusal.NotYet file))) comes = inl (inr (inr (record { classes = comes.classes; taken = all_taken comes.classes comes.taken; last = inr (not_built comes.classes comes.place comes.ahead, refl) })))
+  verdict_of (Err (job_refusal.Shared refusal.OutOfMemory)) comes = inr (inr (inr refl))
+  verdict_of (Err (job_refusal.TooManyFiles count)) comes = let count = comes.count_is in let many = comes.many in inl (inl (omega arith, refl))
+  verdict_of (Err (job_refusal.TooLong file)) comes = inl (long_stops file.now comes.before (reached file.now comes.before comes.reaches) (such file.now (IsTooLong (total_bytes comes.before)) comes.long))
+  verdict_of (Err (job_refusal.Class file r)) comes = inl (bytes_stop (class_refusal_status r) file.now comes.before r refl (reached file.now comes.before comes.reaches) (such file.now (IsRefused r (total_bytes comes.before)) comes.refused))
+  verdict_of (Err (job_refusal.Write name)) comes = inr (inr (inl refl))
+
+  -- files of this verdict have its status, unless there was a fault or memory was lacking
+  status_of : (status : ℕ) (o : Outcome) → Verdict held job.files status → ComesTo job old new o → Contains (status ∷ READ ∷ WRITE ∷ OUT_OF_MEMORY ∷ []) (outcome_status o)
+  status_of status o verdict comes = go (verdict_of o comes) where
+    go : Comes (outcome_status o) → Contains (status ∷ READ ∷ WRITE ∷ OUT_OF_MEMORY ∷ []) (outcome_status o)
+    go (inl own) = (0, omega arith, one_verdict held job.files status (outcome_status o) verdict own)
+    go (inr (inl e)) = (1, omega arith, sym e)
+    go (inr (inr (inl e))) = (2, omega arith, sym e)
+    go (inr (inr (inr e))) = (3, omega arith, sym e)
+
+-- ---- the cause of each status
+
+-- too many files have one status, and memory may be lacking
+many_status : (job : Job) (old new : Disk) → HasTooMany job → (o : Outcome) → ComesTo job old new o → Contains (LIMIT ∷ WRITE ∷ OUT_OF_MEMORY ∷ []) (outcome_status o)
+many_status job old new many (Ok lines) comes = absurd (let few = comes.passed.taken.few in omega arith)
+many_status job old new many (Err (job_refusal.Shared refusal.Words)) comes = absurd comes
+many_status job old new many (Err (job_refusal.Shared (refusal.Read file))) comes = absurd (let few = comes.reaches.few in omega arith)
+many_status job old new many (Err (job_refusal.Shared (refusal.NotYet file))) comes = absurd (let few = comes.taken.few in omega arith)
+many_status job old new many (Err (job_refusal.Shared refusal.OutOfMemory)) comes = (2, omega arith, refl)
+many_status job old new many (Err (job_refusal.TooManyFiles count)) comes = (0, omega arith, refl)
+many_status job old new many (Err (job_refusal.TooLong file)) comes = (0, omega arith, refl)
+many_status job old new many (Err (job_refusal.Class file r)) comes = absurd (let few = comes.reaches.few in omega arith)
+many_status job old new many (Err (job_refusal.Write name)) comes = (1, omega arith, refl)
+
+-- a job isn't refused for its words
+not_for_words : (job : Job) (old new : Disk) (o : Outcome) → ComesTo job old new o → outcome_status o ≢ WORDS
+not_for_words job old new (Ok lines) comes is = omega arith
+not_for_words job old new (Err (job_refusal.Shared refusal.Words)) comes is = comes
+not_for_words job old new (Err (job_refusal.Shared (refusal.Read file))) comes is = omega arith
+not_for_words job old new (Err (job_refusal.Shared (refusal.NotYet file))) comes is = omega arith
+not_for_words job old new (Err (job_refusal.Shared refusal.OutOfMemory)) comes is = omega arith
+not_for_words job old new (Err (job_refusal.TooManyFiles count)) comes is = omega arith
+not_for_words job old new (Err (job_refusal.TooLong file)) comes is = omega arith
+not_for_words job old new (Err (job_refusal.Class file r)) comes is = let c = class_status r in let low = c.low in omega arith
+not_for_words job old new (Err (job_refusal.Write name)) comes is = omega arith
+
+-- the statuses at which nothing failed, and those at which contents are kept
+abbrev faultless_statuses : List ℕ
+faultless_statuses = DONE ∷ WORDS ∷ MALFORMED ∷ VERSION ∷ LIMIT ∷ UNSUPPORTED ∷ NOT_YET ∷ []
+
+abbrev keeping_statuses : List ℕ
+keeping_statuses = WORDS ∷ READ ∷ MALFORMED ∷ VERSION ∷ LIMIT ∷ UNSUPPORTED ∷ NOT_YET ∷ []
+
+unlike_read : AllByRecursion (λ s. s ≢ READ) faultless_statuses
+unlike_read = ((λ e. omega arith), ((λ e. omega arith), ((λ e. omega arith), ((λ e. omega arith), ((λ e. omega arith), ((λ e. omega arith), ((λ e. omega arith), tt)))))))
+
+unlike_write : AllByRecursion (λ s. s ≢ WRITE) faultless_statuses
+unlike_write = ((λ e. omega arith), ((λ e. omega arith), ((λ e. omega arith), ((λ e. omega arith), ((λ e. omega arith), ((λ e. omega arith), ((λ e. omega arith), tt)))))))
+
+unlike_memory : AllByRecursion (λ s. s ≢ OUT_OF_MEMORY) faultless_statuses
+unlike_memory = ((λ e. omega arith), ((λ e. omega arith), ((λ e. omega arith), ((λ e. omega arith), ((λ e. omega arith), ((λ e. omega arith), ((λ e. omega arith), tt)))))))
+
+unlike_done : AllByRecursion (λ s. s ≢ DONE) keeping_statuses
+unlike_done = ((λ e. omega arith), ((λ e. omega arith), ((λ e. omega arith), ((λ e. omega arith), ((λ e. omega arith), ((λ e. omega arith), ((λ e. omega arith), tt)))))))
+
+also_unlike_write : AllByRecursion (λ s. s ≢ WRITE) keeping_statuses
+also_unlike_write = ((λ e. omega arith), ((λ e. omega arith), ((λ e. omega arith), ((λ e. omega arith), ((λ e. omega arith), ((λ e. omega arith), ((λ e. omega arith), tt)))))))
+
+also_unlike_memory : AllByRecursion (λ s. s ≢ OUT_OF_MEMORY) keeping_statuses
+also_unlike_memory = ((λ e. omega arith), ((λ e. omega arith), ((λ e. omega arith), ((λ e. omega arith), ((λ e. omega arith), ((λ e. omega arith), ((λ e. omega arith), tt)))))))
+
+module _ (words : List Bytes) (old new : Disk) (o : Outcome) (comes : ComesOf words old new o) where
+  -- the job that was asked for comes out so, or memory was lacking before
+  of_job : (job : Job) → Asks words job → ComesTo job old new o ⊎ (outcome_status o ≡ OUT_OF_MEMORY)
+  of_job job asked = go comes where
+    go : ComesOf words old new o → ComesTo job old new o ⊎ (outcome_status o ≡ OUT_OF_MEMORY)
+    go (inl j) = let P : Job → Type 0 = λ k. ComesTo k old new o in inl (subst P (asks_one words j.job job j.asked asked) j.comes)
+    go (inr (inl nothing)) = absurd (nothing.unasked job asked)
+    go (inr (inr lacking)) = inr (ap outcome_status lacking.refused)
+
+  -- a verdict of its files decides the status, unless there was a fault or memory was lacking
+  decided : (status : ℕ) (job : Job) (held : Bytes → Option Bytes) → old.contents ≡ Some held → Asks words job → Verdict held job.files status → Contains (status ∷ READ ∷ WRITE ∷ OUT_OF_MEMORY ∷ []) (outcome_status o)
+  decided status job held known asked verdict = ⊎_elim
+      (λ (job_comes : ComesTo job old new o). status_of job old new held known status o verdict job_comes)
+      (λ (lacking : outcome_status o ≡ OUT_OF_MEMORY). (3, omega arith, sym lacking))
+      (of_job job asked)
+
+  missing_decides : AskFor words (IsMissing old) → Contains (READ ∷ READ ∷ WRITE ∷ OUT_OF_MEMORY ∷ []) (outcome_status o)
+  missing_decides (job, (asked, cause)) =
+      let found = Some-from_some_and old.contents (λ held. held cause.file ≡ None) cause.missing in
+      decided READ job found.0 found.1 asked (inr (inl (record {
+        file = cause.file;
+        before = cause.before;
+        reaches = reached job old new found.0 found.1 cause.file cause.before cause.reaches;
+        fails = inl (found.2, refl);
+      })))
+
+  long_decides : AskFor words (IsKnownLong old) → Contains (LIMIT ∷ READ ∷ WRITE ∷ OUT_OF_MEMORY ∷ []) (outcome_status o)
+  long_decides (job, (asked, cause)) =
+      let found = Some-from_some_and old.contents (λ held. IsSomeAnd (held cause.file) (IsTooLong (total_bytes cause.before))) cause.long in
+      decided LIMIT job found.0 found.1 asked
+      (long_stops job old new found.0 found.1 cause.file cause.before (reached job old new found.0 found.1 cause.file cause.before cause.reaches) found.2)
+
+  bytes_decide : (status : ℕ) → AskFor words (IsKnownRefused status old) → Contains (status ∷ READ ∷ WRITE ∷ OUT_OF_MEMORY ∷ []) (outcome_status o)
+  bytes_decide status (job, (asked, cause)) =
+      let found = Some-from_some_and old.contents (λ held. IsSomeAnd (held cause.file) (IsRefused cause.refusal (total_bytes cause.before))) cause.refused in
+      decided status job found.0 found.1 asked
+      (bytes_stop job old new found.0 found.1 status cause.file cause.before cause.refusal cause.status_is (reached job old new found.0 found.1 cause.file cause.before cause.reaches) found.2)
+
+  ahead_decides : AskFor words (IsKnownAhead old) → Contains (NOT_YET ∷ READ ∷ WRITE ∷ OUT_OF_MEMORY ∷ []) (outcome_status o)
+  ahead_decides (job, (asked, cause)) =
+      let found = Some-from_is_some old.contents cause.known in
+      decided NOT_YET job found.0 found.1 asked (inr (inr (record {
+        classes = cause.classes;
+        taken = all_taken job old new found.0 found.1 cause.classes cause.taken;
+        last = inr (cause.ahead, refl);
+      })))
+
+  passed_decide : AskFor words (IsKnownPassed old) → Contains (DONE ∷ READ ∷ WRITE ∷ OUT_OF_MEMORY ∷ []) (outcome_status o)
+  passed_decide (job, (asked, cause)) =
+      let found = Some-from_is_some old.contents cause.known in
+      decided DONE job found.0 found.1 asked (inr (inr (record {
+        classes = cause.classes;
+        taken = all_taken job old new found.0 found.1 cause.classes cause.passed.taken;
+        last = inl (cause.passed.built, refl);
+      })))
+
+  many_decide : AskFor words HasTooMany → Contains (LIMIT ∷ WRITE ∷ OUT_OF_MEMORY ∷ []) (outcome_status o)
+  many_decide (job, (asked, many)) = ⊎_elim
+      (λ (job_comes : ComesTo job old new o). many_status job old new many o job_comes)
+      (λ (lacking : outcome_status o ≡ OUT_OF_MEMORY). (2, omega arith, sym lacking))
+      (of_job job asked)
+
+  fault_decides : FailsARead old new → Contains (READ ∷ WRITE ∷ OUT_OF_MEMORY ∷ []) (outcome_status o)
+  fault_decides (name, rose) = go (fails_so words old new o comes) where
+    go : FailsSo old new (outcome_status o) → Contains (READ ∷ WRITE ∷ OUT_OF_MEMORY ∷ []) (outcome_status o)
+    go (inl none) = absurd (let same = none.reads name in omega arith)
+    go (inr (inl read)) = (0, omega arith, sym read.0)
+    go (inr (inr write)) = (1, omega arith, sym write.0)
+
+  write_decides : FailsAWrite old new → Contains (WRITE ∷ OUT_OF_MEMORY ∷ []) (outcome_status o)
+  write_decides (name, rose) = go (fails_so words old new o comes) where
+    go : FailsSo old new (outcome_status o) → Contains (WRITE ∷ OUT_OF_MEMORY ∷ []) (outcome_status o)
+    go (inl none) = absurd (let same = none.writes name in omega arith)
+    go (inr (inl read)) = absurd (let same = read.1 name in omega arith)
+    go (inr (inr write)) = (0, omega arith, sym write.0)
+
+-- one status less that is named twice
+once : (status result : ℕ) (others : List ℕ) → Contains (status ∷ status ∷ others) result → Contains (status ∷ others) result
+once status result others there = ⊎_elim
+    (λ (same : result ≡ status). (0, omega arith, sym same))
+    (λ (rest : Contains (status ∷ others) result). rest)
+    (one_of status result (status ∷ others) there)
+
+-- ---- the clauses
+
+module _ (words : List Bytes) (old new : Disk) (before after : Output) (result : ℕ) (o : Outcome) (comes : ComesOf words old new o) (tells : Tells (outcome_line o) (outcome_status o) before after result) where
+  -- where the line of a job is put
+  put_job : {Said : Type 0} (status : ℕ) → status ≢ WORDS → status ≢ WRITE → status ≢ OUT_OF_MEMORY → (ComesOfJob words old new o → outcome_status o ≡ status → after ≡ with_piece (outcome_line o) before → Said) → result ≡ status → Said
+  put_job status unlike_words write memory said is =
+      let put = put_of o status before after result tells is write memory in
+      said (job_of_status words old new o status comes put.0 unlike_words memory) put.0 put.1
+
+  pub is_for_words : IsForWords words old new before after result
+  is_for_words = record {
+    only = λ is. let put = put_of o WORDS before after result tells is (λ e. omega arith) (λ e. omega arith) in words_said comes put.0 put.1;
+    there = λ unasked. among (WORDS ∷ WRITE ∷ OUT_OF_MEMORY ∷ []) o before after result tells (nothing_decides unasked comes) (1, omega arith, refl) (2, omega arith, refl);
+  } where
+    words_said : ComesOf words old new o → outcome_status o ≡ WORDS → after ≡ with_piece (outcome_line o) before → SaysWords words old new before after
+    words_said (inl j) is line = absurd (not_for_words j.job old new o j.comes is)
+    words_said (inr (inl nothing)) is line = record { unasked = nothing.unasked; kept = nothing.kept; line = let P : Outcome → Type 0 = λ x. after ≡ with_piece (outcome_line x) before in subst P nothing.refused line }
+    words_said (inr (inr lacking)) is line = absurd (let other = sym is ∙ ap outcome_status lacking.refused in omega arith)
+
+    nothing_decides : AskNothing words → ComesOf words old new o → Contains (WORDS ∷ WRITE ∷ OUT_OF_MEMORY ∷ []) (outcome_status o)
+    nothing_decides unasked (inl j) = absurd (unasked j.job j.asked)
+    nothing_decides unasked (inr (inl nothing)) = (0, omega arith, sym (ap outcome_status nothing.refused))
+    nothing_decides unasked (inr (inr lacking)) = (2, omega arith, sym (ap outcome_status lacking.refused))
+
+  pub is_for_read : IsForRead words old new before after result
+  is_for_read = record {
+    only = put_job READ (λ e. omega arith) (λ e. omega arith) (λ e. omega arith) (read_said words old new before after o);
+    there = λ cause. among (READ ∷ WRITE ∷ OUT_OF_MEMORY ∷ []) o before after result tells
+        (⊎_elim (λ (fault : FailsARead old new). fault_decides words old new o comes fault)
+        (λ (missing : AskFor words (IsMissing old)). once READ (outcome_status o) (WRITE ∷ OUT_OF_MEMORY ∷ []) (missing_decides words old new o comes missing)) cause)
+        (1, omega arith, refl) (2, omega arith, refl);
+  }
+
+  pub is_for_bytes : (status : ℕ) → 66 ≤ status → status ≤ 69 → status ≢ LIMIT → IsForBytes status words old new before after result
+  is_for_bytes status low high other = record {
+    only = put_job status (λ e. omega arith) (λ e. omega arith) (λ e. omega arith) (bytes_said words old new before after status low high other o);
+    there = λ cause. among (status ∷ READ ∷ WRITE ∷ OUT_OF_MEMORY ∷ []) o before after result tells (bytes_decide words old new o comes status cause) (2, omega arith, refl) (3, omega arith, refl);
+  }
+
+  pub is_for_limit : IsForLimit words old new before after result
+  is_for_limit = record {
+    only = put_job LIMIT (λ e. omega arith) (λ e. omega arith) (λ e. omega arith) (limit_said words old new before after o);
+    many = λ cause. among (LIMIT ∷ WRITE ∷ OUT_OF_MEMORY ∷ []) o before after result tells (many_decide words old new o comes cause) (1, omega arith, refl) (2, omega arith, refl);
+    long = λ cause. among (LIMIT ∷ READ ∷ WRITE ∷ OUT_OF_MEMORY ∷ []) o before after result tells (long_decides words old new o comes cause) (2, omega arith, refl) (3, omega arith, refl);
+    bytes = λ cause. among (LIMIT ∷ READ ∷ WRITE ∷ OUT_OF_MEMORY ∷ []) o before after result tells (bytes_decide words old new o comes LIMIT cause) (2, omega arith, refl) (3, omega arith, refl);
+  }
+
+  pub is_for_not_yet : IsForNotYet words old new before after result
+  is_for_not_yet = record {
+    only = put_job NOT_YET (λ e. omega arith) (λ e. omega arith) (λ e. omega arith) (not_yet_said words old new before after o);
+    there = λ cause. among (NOT_YET ∷ READ ∷ WRITE ∷ OUT_OF_MEMORY ∷ []) o before after result tells (ahead_decides words old new o comes cause) (2, omega arith, refl) (3, omega arith, refl);
+  }
+
+  pub is_for_done : IsForDone words old new before after result
+  is_for_done = record {
+    only = put_job DONE (λ e. omega arith) (λ e. omega arith) (λ e. omega arith) (done_said words old new before after o);
+    there = λ cause. among (DONE ∷ READ ∷ WRITE ∷ OUT_OF_MEMORY ∷ []) o before after result tells (passed_decide words old new o comes cause) (2, omega arith, refl) (3, omega arith, refl);
+  }
+
+  pub is_for_write : IsForWrite words old new before after result
+  is_for_write = record {
+    only = only tells;
+    put = put tells;
+    write = λ cause. among (WRITE ∷ OUT_OF_MEMORY ∷ []) o before after result tells (write_decides words old new o comes cause) (0, omega arith, refl) (1, omega arith, refl);
+  } where
+    only : Tells (outcome_line o) (outcome_status o) before after result → result ≡ WRITE → SaysWrite words old new before after
+    only (inl own) is =
+        let same : outcome_status o ≡ WRITE = sym own.0 ∙ is in
+        inr (unwritten_said words old new before after o (job_of_status words old new o WRITE comes same (λ e. omega arith) (λ e. omega arith)) same own.1)
+    only (inr (inl failed)) is = inl (record { outcome = o; comes = comes; fails = failed.1 })
+    only (inr (inr lacking)) is = absurd (let e = lacking.0 in omega arith)
+
+    put : Tells (outcome_line o) (outcome_status o) before after result → before.faults < after.faults → result ≡ WRITE
+    put (inl own) rose = absurd (let same = ap (λ (x : Output). x.faults) own.1 in omega arith)
+    put (inr (inl failed)) rose = failed.0
+    put (inr (inr lacking)) rose = absurd (let same = ap (λ (x : Output). x.faults) lacking.1 in omega arith)
+
+  pub is_for_memory : IsForMemory words old new before after result
+  is_for_memory is = go tells where
+    own_line : ComesOf words old new o → outcome_status o ≡ OUT_OF_MEMORY → IsUntouched old new ⊎ AskFor words (λ job. IsBroken job old new)
+    own_line (inl j) same = stopped words old new before after o j same
+    own_line (inr (inl nothing)) same = absurd (let other = sym same ∙ ap outcome_status nothing.refused in omega arith)
+    own_line (inr (inr lacking)) same = inl (record { faultless = none_failed old new lacking.kept; kept = ap (λ (d : Disk). d.contents) lacking.kept })
+
+    go : Tells (outcome_line o) (outcome_status o) before after result → SaysMemory words old new before after ⊎ LacksLine words old new before after
+    go (inl own) =
+        let same : outcome_status o ≡ OUT_OF_MEMORY = sym own.0 ∙ is in
+        inl (record { stopped = own_line comes same; line = own.1 ∙ ap (λ (line : List ℕ). with_piece line before) (memory_line_is words old new before after o same) })
+    go (inr (inl failed)) = absurd (let e = failed.0 in omega arith)
+    go (inr (inr lacking)) = inr (record { outcome = o; comes = comes; silent = lacking.1 })
+
+  -- a result that is neither that of a failed put nor that of memory is the status of the outcome
+  is_own : result ≢ WRITE → result ≢ OUT_OF_MEMORY → (result ≡ outcome_status o) × (after.faults ≡ before.faults)
+  is_own write memory = go tells where
+    go : Tells (outcome_line o) (outcome_status o) before after result → (result ≡ outcome_status o) × (after.faults ≡ before.faults)
+    go (inl own) = (own.0, ap (λ (x : Output). x.faults) own.1)
+    go (inr (inl failed)) = absurd (write failed.0)
+    go (inr (inr lacking)) = absurd (memory lacking.0)
+
+  pub is_faultless : IsFaultless old new before after result
+  is_faultless among_these =
+      let read = not_among READ faultless_statuses result unlike_read among_these in
+      let write = not_among WRITE faultless_statuses result unlike_write among_these in
+      let memory = not_among OUT_OF_MEMORY faultless_statuses result unlike_memory among_these in
+      let own = is_own write memory in (
+        ⊎_elim (λ (none : HasNoFault old new). none)
+            (λ (rest : _). ⊎_elim (λ (p : _). absurd (read (own.0 ∙ p.0))) (λ (p : _). absurd (write (own.0 ∙ p.0))) rest)
+            (fails_so words old new o comes),
+        own.1,
+      )
+
+  pub keeps_contents : KeepsContents old new result
+  keeps_contents among_these =
+      let done = not_among DONE keeping_statuses result unlike_done among_these in
+      let write = not_among WRITE keeping_statuses result also_unlike_write among_these in
+      let memory = not_among OUT_OF_MEMORY keeping_statuses result also_unlike_memory among_these in
+      let own = is_own write memory in
+      keeps words old new o comes (λ e. done (own.0 ∙ e)) (λ e. write (own.0 ∙ e)) (λ e. memory (own.0 ∙ e))
+
+  pub changes_only : ChangesOnly words old new
+  changes_only = record { asked = λ job asked. stays job asked comes; unasked = λ none. unchanged none comes } where
+    stays : (job : Job) → Asks words job → ComesOf words old new o → StaysWithin job old new
+    stays job asked (inl j) = let P : Job → Type 0 = λ k. StaysWithin k old new in subst P (asks_one words j.job job j.asked asked) j.within
+    stays job asked (inr (inl nothing)) = absurd (nothing.unasked job asked)
+    stays job asked (inr (inr lacking)) = let P : Disk → Type 0 = λ d. StaysWithin job old d in subst P (sym lacking.kept) (reads_within job old old (reads_none job.files old))
+
+    unchanged : AskNothing words → ComesOf words old new o → new ≡ old
+    unchanged none (inl j) = absurd (none j.job j.asked)
+    unchanged none (inr (inl nothing)) = nothing.kept
+    unchanged none (inr (inr lacking)) = lacking.kept

@@ -1,106 +1,192 @@
--- What a read and a write leave in the files, each alone and one after the other.
-use Rattle.std.proofs.Common.{◌≡◌, ◌≢◌, ◌<◌, ◌≤◌, ℕ, ◌+◌, max, refl, sym, ◌∙◌, subst, arith, Option, Some, None, IsSomeAnd}
-use Rattle.fm_base.specs.declared.limits.TheConstants.{MAX_FILE_BYTES}
-use Rattle.fm_files.specs.Files.{Bytes, Counts, Contents, Disk, AreKept, RisesAt, OthersAreKept, Holds}
-use Rattle.fm_tool.specs.Outside.{ReadsAlone, HasNoFault, HasWriteFault}
-use Rattle.fm_tool.proofs.OutsideLemmas.{kept_unless_risen}
-use Rattle.freeme.specs.Request.{Job, written_name}
-use Rattle.freeme.specs.TopCall.{StaysWithin, CopiesFile}
+-- What a job leaves after its files are read, and after its classes are written.
+use Rattle.std.proofs.Common.{◌≡◌, ◌≢◌, ◌<◌, ◌≤◌, ℕ, ◌+◌, inr, ⊎_elim, List, [], ◌∷◌, length, map, take, Contains, Option, Some, None, IfSome, IsSomeAnd, Result, Ok, Err, String, string_bytes, refl, sym, ap, ◌∙◌, subst, arith}
+use Rattle.std.specs.List.{AllByRecursion, slice_get}
+use Rattle.std.proofs.lemmas.List.Elements.{All-contains, All-from_recursion}
+use Rattle.std.proofs.lemmas.Option.{slice_get_within}
+use Rattle.fm_base.proofs.ListFacts.{AllByRecursion-weaker}
+use Rattle.fm_base.proofs.OptionFacts.{Some-from_some_and, IsSome-from_some}
+use Rattle.fm_base.proofs.TestFacts.{same_or_other}
+use Rattle.fm_files.specs.Files.{Bytes, Counts, Contents, Disk}
+use Rattle.fm_code.specs.ConstantPool.{class_name_at}
+use Rattle.fm_code.specs.declared.class_file.ClassDef.{ClassDef}
+use Rattle.fm_tool.specs.Outside.{HasNoFault, HasWriteFault}
+use Rattle.fm_tool.specs.declared.refusal.Refusal.TheVariants as refusal
+use Rattle.freeme.specs.Ahead.{IsBuilt, AreBuilt, IsFirstAhead}
+use Rattle.freeme.specs.Changes.{RisesOnlyAt, ChangesOnlyAt}
+use Rattle.freeme.specs.Request.{Job}
+use Rattle.freeme.specs.Taking.{AreTaken, AllTaken}
+use Rattle.freeme.specs.TopCall.{StaysWithin, IsUntouched, IsNotYet, ArePassed, IsDone, IsUnwritten, IsBroken, ComesTo}
+use Rattle.freeme.specs.Writing.{HasName, class_text, file_name, written_name, class_lines, IsClassFileIn, IsFileOf, AreWritten, AllWritten, SomeWritten, FailsToWrite}
+use Rattle.freeme.specs.inner.Reading.{KeepsWrites, ReadsAll, AreRead}
+use Rattle.freeme.specs.inner.Writing.{IsSpelled, AreApart, KeepsReads, ComesOfClasses}
+use Rattle.freeme.specs.declared.refusal.JobRefusal.{JobRefusal}
+use Rattle.freeme.specs.declared.refusal.JobRefusal.TheVariants as job_refusal
+use Rattle.freeme.proofs.ChangesLemmas.{rises_of_kept, rises_then, changes_of_kept, changes_then, faultless_then, write_fault_then}
+use Rattle.freeme.proofs.ReadLemmas.{same_number}
 
--- ---- counts and contents
+-- ---- classes that are taken
 
--- counts that are as before rise at no name
-rises_nowhere : (this : Bytes) (old new : Counts) → AreKept old new → RisesAt this old new
-rises_nowhere this old new kept = record { never_falls = let same = kept this in omega arith; others = λ name _. kept name }
+-- they are spelled
+pub are_spelled : (contents : Contents) (files : List Bytes) (classes : List ClassDef) → AreTaken contents files classes → AllByRecursion IsSpelled classes
+are_spelled contents [] [] taken = tt
+are_spelled contents (f ∷ files) (c ∷ classes) taken = (taken.0.spelled, are_spelled contents files classes taken.1)
+are_spelled contents [] (c ∷ classes) taken = absurd taken
+are_spelled contents (f ∷ files) [] taken = absurd taken
 
--- a rise before or after counts that are as before
-rises_then_kept : (this : Bytes) (old between new : Counts) → RisesAt this old between → AreKept between new → RisesAt this old new
-rises_then_kept this old between new rises kept = record {
-  never_falls = let low = rises.never_falls in let same = kept this in omega arith;
-  others = λ name other. kept name ∙ rises.others name other;
+-- and so they have names
+pub have_names : (classes : List ClassDef) → AllByRecursion IsSpelled classes → AllByRecursion HasName classes
+have_names classes spelled = AllByRecursion-weaker IsSpelled HasName named classes spelled where
+  named : (c : ClassDef) → IsSpelled c → HasName c
+  named c spells = let found = Some-from_some_and (class_name_at c.pool.entries c.this_class) _ spells.this_class in IsSome-from_some (class_name_at c.pool.entries c.this_class) found.0 found.1
+
+-- classes that are built have names of their own
+pub are_apart : (classes : List ClassDef) → AreBuilt classes → AreApart classes
+are_apart classes built place = at (slice_get classes place) (built place) where
+  at : (o : Option ClassDef) → IfSome o (IsBuilt classes place) → IfSome o (λ c. ¬ Contains (map class_text (take place classes)) (class_text c))
+  at None is = tt
+  at (Some c) is = is.new_name
+
+-- the first class that isn't built has a file
+pub has_file : (contents : Contents) (files : List Bytes) (classes : List ClassDef) (place : ℕ) → AreTaken contents files classes → IsFirstAhead classes place → place < length files
+has_file contents files classes place taken first =
+    let found = Some-from_some_and (slice_get classes place) _ first.ahead in
+    let within = slice_get_within classes place found.0 found.1 in
+    omega (arith, same_number contents files classes taken)
+
+-- ---- after the files are read
+
+-- of the same files and the same classes
+pub all_of : (given files : List Bytes) (old new : Disk) → given ≡ files → ReadsAll given old new → ReadsAll files old new
+all_of given files old new same all = let P : List Bytes → Type 0 = λ fs. ReadsAll fs old new in subst P same all
+
+pub read_of : (given files : List Bytes) (items classes : List ClassDef) (old new : Disk) → given ≡ files → classes ≡ items → AreRead given items old new → AreRead files classes old new
+read_of given files items classes old new same lent read =
+    let P : List Bytes → Type 0 = λ fs. AreRead fs classes old new in
+    let Q : List ClassDef → Type 0 = λ cs. AreRead given cs old new in
+    subst P same (subst Q (sym lent) read)
+
+module _ (files : List Bytes) (old new : Disk) (classes : List ClassDef) (read : AreRead files classes old new) (all : ReadsAll files old new) where
+  -- nothing else was done
+  pub read_untouched : IsUntouched old new
+  read_untouched = record { faultless = read.faultless; kept = all.writes.contents }
+
+  -- a class isn't built
+  pub is_not_yet : (place : ℕ) (file : Bytes) → IsFirstAhead classes place → slice_get files place ≡ Some file → IsNotYet files file old new
+  is_not_yet place file first there = record { classes = classes; taken = read.taken; place = place; ahead = first; there = there; untouched = read_untouched }
+
+pub reads_within : (job : Job) (old new : Disk) → ReadsAll job.files old new → StaysWithin job old new
+reads_within job old new all = record {
+  reads = all.reads;
+  writes = rises_of_kept (IsClassFileIn job.folder) old.write_faults new.write_faults all.writes.faults;
+  contents = changes_of_kept (IsClassFileIn job.folder) old.contents new.contents all.writes.contents;
 }
 
-kept_then_rises : (this : Bytes) (old between new : Counts) → AreKept old between → RisesAt this between new → RisesAt this old new
-kept_then_rises this old between new kept rises = record {
-  never_falls = let low = rises.never_falls in let same = kept this in omega arith;
-  others = λ name other. rises.others name other ∙ kept name;
+-- ---- after the classes are written
+
+-- the files of classes are class files of the folder
+in_folder : (folder : Bytes) (classes : List ClassDef) (name : Bytes) → IsFileOf folder classes name → IsClassFileIn folder name
+in_folder folder classes name among = All-contains (IsClassFileIn folder) (map (written_name folder) classes) name (All-from_recursion (IsClassFileIn folder) (map (written_name folder) classes) (each classes)) among where
+  each : (cs : List ClassDef) → AllByRecursion (IsClassFileIn folder) (map (written_name folder) cs)
+  each [] = tt
+  each (c ∷ cs) = ((class_text c, refl), each cs)
+
+changes_in_folder : (folder : Bytes) (classes : List ClassDef) (old new : Contents) → ChangesOnlyAt (IsFileOf folder classes) old new → ChangesOnlyAt (IsClassFileIn folder) old new
+changes_in_folder folder classes old new changes =
+    changes_then (IsFileOf folder classes) (λ _. ⊥) (IsClassFileIn folder) old new new (in_folder folder classes) (λ name none. absurd none) changes (changes_of_kept (λ _. ⊥) new new refl)
+
+-- a write that failed was that of a class file of the folder
+fault_in_folder : (folder : Bytes) (class : ClassDef) (name : Bytes) (old new : Disk) → name ≡ written_name folder class → HasWriteFault name old new → RisesOnlyAt (IsClassFileIn folder) old.write_faults new.write_faults
+fault_in_folder folder class name old new is fault = record {
+  never_fall = λ n. ⊎_elim
+      (λ (same : n ≡ name). let P : Bytes → Type 0 = λ m. old.write_faults m ≤ new.write_faults m in subst P (sym same) fault.writes.never_falls)
+      (λ (other : n ≢ name). let kept = fault.writes.others n other in omega arith)
+      (same_or_other n name);
+  others = λ n outside. fault.writes.others n (λ same. outside (class_text class, same ∙ is));
 }
 
--- contents that are as before are kept at every other name
-others_are_kept : (this : Bytes) (old new : Contents) → new ≡ old → OthersAreKept this old new
-others_are_kept this None new same = same
-others_are_kept this (Some held) new same =
-    let P : Contents → Type 0 = λ c. IsSomeAnd c (λ after. (name : Bytes) → name ≢ this → after name ≡ held name) in subst P (sym same) (λ name _. refl)
+-- what the writes changed
+pub record WritesIn (folder : Bytes) (old new : Disk) : Type 0 where
+  pub faults : RisesOnlyAt (IsClassFileIn folder) old.write_faults new.write_faults
+  pub contents : ChangesOnlyAt (IsClassFileIn folder) old.contents new.contents
 
--- ---- a read
-
--- what each read of the file leaves
-pub record Read (file : Bytes) (old new : Disk) : Type 0 where
-  pub kept : new.contents ≡ old.contents
-  pub writes : AreKept old.write_faults new.write_faults
-  pub reads : ReadsAlone file old new
-
-pub read_of : (file : Bytes) (old new : Disk) → new.contents ≡ old.contents → AreKept old.write_faults new.write_faults → RisesAt file old.read_faults new.read_faults →
-    RisesAt file old.widest_read new.widest_read → new.widest_read file ≤ max (old.widest_read file) (MAX_FILE_BYTES + 1) → Read file old new
-read_of file old new kept writes faults widest within = record { kept = kept; writes = writes; reads = record { faults = faults; widest = widest; within = within } }
-
-pub after_read : (job : Job) (old new : Disk) → Read job.file old new → StaysWithin job old new
-after_read job old new read = record {
-  reads = read.reads;
-  writes = rises_nowhere (written_name job) old.write_faults new.write_faults read.writes;
-  others = others_are_kept (written_name job) old.contents new.contents read.kept;
+pub writes_in : (folder : Bytes) (classes : List ClassDef) (old new : Disk) (r : Result Unit JobRefusal) → ComesOfClasses folder classes old new r → WritesIn folder old new
+writes_in folder classes old new (Ok _) comes = record {
+  faults = rises_of_kept (IsClassFileIn folder) old.write_faults new.write_faults comes.faultless.writes;
+  contents = changes_in_folder folder classes old.contents new.contents comes.written.others;
 }
-
--- a read that didn't fail
-pub read_faultless : (file : Bytes) (old new : Disk) → Read file old new → ¬ (old.read_faults file < new.read_faults file) → HasNoFault old new
-read_faultless file old new read not_risen = record {
-  reads = kept_unless_risen file old.read_faults new.read_faults read.reads.faults not_risen;
-  writes = read.writes;
+writes_in folder classes old new (Err (job_refusal.Write name)) comes = record {
+  faults = fault_in_folder folder comes.class (string_bytes name) old new comes.name_is comes.fault;
+  contents = changes_in_folder folder (take (comes.count + 1) classes) old.contents new.contents comes.written.others;
 }
-
--- ---- a write after it
-
--- what each write of the name leaves
-pub record Write (name : Bytes) (old new : Disk) : Type 0 where
-  pub reads : AreKept old.read_faults new.read_faults
-  pub widest : AreKept old.widest_read new.widest_read
-  pub writes : RisesAt name old.write_faults new.write_faults
-  pub others : OthersAreKept name old.contents new.contents
-
-pub write_of : (given name : Bytes) (old new : Disk) → given ≡ name → AreKept old.read_faults new.read_faults → AreKept old.widest_read new.widest_read →
-    RisesAt given old.write_faults new.write_faults → OthersAreKept given old.contents new.contents → Write name old new
-write_of given name old new same reads widest writes others =
-    let P : Bytes → Type 0 = λ n. Write n old new in subst P same (record { reads = reads; widest = widest; writes = writes; others = others })
-
-pub after_write : (job : Job) (old between new : Disk) → Read job.file old between → Write (written_name job) between new → StaysWithin job old new
-after_write job old between new read write = record {
-  reads = record {
-    faults = rises_then_kept job.file old.read_faults between.read_faults new.read_faults read.reads.faults write.reads;
-    widest = rises_then_kept job.file old.widest_read between.widest_read new.widest_read read.reads.widest write.widest;
-    within =
-        let P : ℕ → Type 0 = λ n. n ≤ max (old.widest_read job.file) (MAX_FILE_BYTES + 1) in
-        subst P (sym (write.widest job.file)) read.reads.within;
-  };
-  writes = kept_then_rises (written_name job) old.write_faults between.write_faults new.write_faults read.writes write.writes;
-  others = let P : Contents → Type 0 = λ c. OthersAreKept (written_name job) c new.contents in subst P read.kept write.others;
+writes_in folder classes old new (Err (job_refusal.Shared refusal.OutOfMemory)) comes = record {
+  faults = rises_of_kept (IsClassFileIn folder) old.write_faults new.write_faults comes.faultless.writes;
+  contents = changes_in_folder folder (take comes.count classes) old.contents new.contents comes.written.others;
 }
+writes_in folder classes old new (Err (job_refusal.Shared refusal.Words)) comes = absurd comes
+writes_in folder classes old new (Err (job_refusal.Shared (refusal.Read file))) comes = absurd comes
+writes_in folder classes old new (Err (job_refusal.Shared (refusal.NotYet file))) comes = absurd comes
+writes_in folder classes old new (Err (job_refusal.TooManyFiles count)) comes = absurd comes
+writes_in folder classes old new (Err (job_refusal.TooLong file)) comes = absurd comes
+writes_in folder classes old new (Err (job_refusal.Class file r)) comes = absurd comes
 
--- a write that didn't fail, and one that did
-pub write_faultless : (name : Bytes) (old between new : Disk) → HasNoFault old between → Write name between new → ¬ (between.write_faults name < new.write_faults name) → HasNoFault old new
-write_faultless name old between new first write not_risen = record {
-  reads = λ n. write.reads n ∙ first.reads n;
-  writes = λ n. kept_unless_risen name between.write_faults new.write_faults write.writes not_risen n ∙ first.writes n;
-}
+module _ (job : Job) (old between new : Disk) (all : ReadsAll job.files old between) (keeps : KeepsReads between new) where
+  same_contents : between.contents ≡ old.contents
+  same_contents = all.writes.contents
 
-pub write_fault : (name : Bytes) (old between new : Disk) → HasNoFault old between → Write name between new → between.write_faults name < new.write_faults name → HasWriteFault name old new
-write_fault name old between new first write risen = record {
-  rose = let same = first.writes name in omega arith;
-  writes = kept_then_rises name old.write_faults between.write_faults new.write_faults first.writes write.writes;
-  reads = λ n. write.reads n ∙ first.reads n;
-}
+  -- reads first, and then writes in the folder
+  pub writes_within : WritesIn job.folder between new → StaysWithin job old new
+  writes_within writes = record {
+    reads = record {
+      faults = rises_then (Contains job.files) (λ _. ⊥) (Contains job.files) old.read_faults between.read_faults new.read_faults (λ n there. there) (λ n none. absurd none) all.reads.faults (rises_of_kept (λ _. ⊥) between.read_faults new.read_faults keeps.faults);
+      widest = rises_then (Contains job.files) (λ _. ⊥) (Contains job.files) old.widest_read between.widest_read new.widest_read (λ n there. there) (λ n none. absurd none) all.reads.widest (rises_of_kept (λ _. ⊥) between.widest_read new.widest_read keeps.widest);
+      within = λ name. let first = all.reads.within name in let same = keeps.widest name in omega arith;
+    };
+    writes = rises_then (λ _. ⊥) (IsClassFileIn job.folder) (IsClassFileIn job.folder) old.write_faults between.write_faults new.write_faults (λ n none. absurd none) (λ n there. there) (rises_of_kept (λ _. ⊥) old.write_faults between.write_faults all.writes.faults) writes.faults;
+    contents = let P : Contents → Type 0 = λ c. ChangesOnlyAt (IsClassFileIn job.folder) c new.contents in subst P same_contents writes.contents;
+  }
 
--- the bytes that were read and written are those of the file
-pub copies : (job : Job) (old new : Contents) (bytes : Bytes) → Holds old job.file bytes → Holds new (written_name job) bytes → CopiesFile job old new
-copies job None new bytes holds written = tt
-copies job (Some held) new bytes holds written =
-    let P : Option Bytes → Type 0 = λ o. IsSomeAnd o (λ b. Holds new (written_name job) b) in subst P (sym holds) written
+  module _ (classes : List ClassDef) (read : AreRead job.files classes old between) (built : AreBuilt classes) where
+    passed : ArePassed job old.contents classes
+    passed = record { taken = read.taken; built = built }
+
+    written : (begun done : List ClassDef) → AreWritten job.folder done begun between.contents new.contents → AreWritten job.folder done begun old.contents new.contents
+    written begun done = let P : Contents → Type 0 = λ c. AreWritten job.folder done begun c new.contents in subst P same_contents
+
+    -- all are written
+    pub is_done : (lines : List ℕ) → lines ≡ class_lines classes → AllWritten job.folder classes between new → IsDone job lines old new
+    is_done lines is now = record {
+      classes = classes;
+      passed = passed;
+      written = record { written = written classes classes now.written; faultless = faultless_then old between new read.faultless now.faultless };
+      lines_are = is;
+    }
+
+    -- a write didn't come off
+    pub write_ended : (r : JobRefusal) → ComesOfClasses job.folder classes between new (Err r) → ComesTo job old new (Err r)
+    write_ended (job_refusal.Write name) now = record {
+      classes = classes;
+      passed = passed;
+      fails = record {
+        count = now.count;
+        class = now.class;
+        next = now.next;
+        name_is = now.name_is;
+        written = written (take (now.count + 1) classes) (take now.count classes) now.written;
+        fault = write_fault_then (string_bytes name) old between new read.faultless now.fault;
+      };
+    }
+    write_ended (job_refusal.Shared refusal.OutOfMemory) now = inr (record {
+      classes = classes;
+      passed = passed;
+      written = record {
+        count = now.count;
+        written = written (take now.count classes) (take now.count classes) now.written;
+        faultless = faultless_then old between new read.faultless now.faultless;
+      };
+    })
+    write_ended (job_refusal.Shared refusal.Words) now = absurd now
+    write_ended (job_refusal.Shared (refusal.Read file)) now = absurd now
+    write_ended (job_refusal.Shared (refusal.NotYet file)) now = absurd now
+    write_ended (job_refusal.TooManyFiles count) now = absurd now
+    write_ended (job_refusal.TooLong file) now = absurd now
+    write_ended (job_refusal.Class file r) now = absurd now

@@ -1,18 +1,25 @@
 -- When each status comes, and what a call leaves then. All this follows from what a call does as a whole; a caller reads it one by one.
-use Rattle.std.specs.Prelude.{◌≡◌, ℕ, ◌<◌, ◌⊎◌, List, [], ◌∷◌, Contains}
-use Rattle.fm_files.specs.Files.{Bytes, Disk, OthersAreKept}
-use Rattle.fm_files.specs.Sink.{Output, with_piece}
+use Rattle.std.specs.Prelude.{◌≡◌, ℕ, ◌<◌, ◌⊎◌, List, [], ◌∷◌, Contains, length, IsSome}
+use Rattle.fm_base.specs.declared.limits.TheConstants.{MAX_CLASS_FILES}
+use Rattle.fm_files.specs.Files.{Bytes, Disk}
+use Rattle.fm_files.specs.Sink.{Output, FailsPut, with_piece}
+use Rattle.fm_code.specs.declared.class_file.ClassDef.{ClassDef}
 use Rattle.fm_tool.specs.Outside.{HasNoFault, IsKnownSuch, IsKnownMissing}
 use Rattle.fm_tool.specs.Refusal.{words_line, read_line, not_yet_line, memory_line}
 use Rattle.fm_tool.specs.Status.{ComesExactly}
-use Rattle.fm_tool.specs.declared.status.TheConstants.{DONE, WORDS, READ, WRITE, OUT_OF_MEMORY, NOT_YET}
-use Rattle.freeme.specs.Request.{Job, Asks, AskNothing, written_name}
-use Rattle.freeme.specs.Outcome.{class_line, write_line}
-use Rattle.freeme.specs.TopCall.{AreAccepted, AreRefused, StaysWithin, IsWritten, IsUnwritten, IsUnread, IsRefused, IsUntouched}
+use Rattle.fm_tool.specs.declared.status.TheConstants.{DONE, WORDS, READ, MALFORMED, VERSION, LIMIT, UNSUPPORTED, WRITE, OUT_OF_MEMORY, NOT_YET}
+use Rattle.freeme.specs.Ahead.{AreBuilt, IsFirstAhead}
+use Rattle.freeme.specs.ClassRefusal.{class_refusal_line, class_refusal_status}
+use Rattle.freeme.specs.Refusal.{many_line, long_line, write_line}
+use Rattle.freeme.specs.Request.{Job, Asks, AskNothing}
+use Rattle.freeme.specs.Taking.{total_bytes, AllTaken, Reaches, IsTooLong, IsRefused}
+use Rattle.freeme.specs.TopCall.{StaysWithin, IsUntouched, ArePassed, IsDone, IsUnwritten, IsBroken, AreMany, IsUnread, IsLong, IsRefusedFile, IsNotYet, Outcome, ComesOf, outcome_line}
+use Rattle.freeme.specs.declared.class_refusal.ClassRefusal.{ClassRefusal}
 
 -- there is no other status
 abbrev pub IsStatus : ℕ → Type 0
-IsStatus result = Contains (DONE ∷ WORDS ∷ READ ∷ WRITE ∷ OUT_OF_MEMORY ∷ NOT_YET ∷ []) result
+IsStatus result =
+    Contains (DONE ∷ WORDS ∷ READ ∷ MALFORMED ∷ VERSION ∷ LIMIT ∷ UNSUPPORTED ∷ WRITE ∷ OUT_OF_MEMORY ∷ NOT_YET ∷ []) result
 
 -- the words ask for a job such as this
 abbrev pub AskFor : List Bytes → (Job → Type 0) → Type 0
@@ -32,115 +39,203 @@ IsForWords words old new before after result = ComesExactly WORDS (WRITE ∷ OUT
 
 -- ---- 65
 
--- the read of the job's file failed, and nothing else, no contents changed, and the sink got one line
+-- the read of a file of the job failed, those before it are taken, nothing else failed, no contents changed, and the sink got one line
 pub record SaysRead (words : List Bytes) (old new : Disk) (before after : Output) : Type 0 where
   pub job : Job
   pub asked : Asks words job
-  pub unread : IsUnread job old new
-  pub line : after ≡ with_piece (read_line job.file) before
+  pub file : Bytes
+  pub unread : IsUnread job.files file old new
+  pub line : after ≡ with_piece (read_line file) before
 
--- a read of the job's file failed in this call, or the file is known not to be there
-abbrev pub LacksFile : Disk → Disk → Job → Type 0
-LacksFile old new job = (old.read_faults job.file < new.read_faults job.file) ⊎ IsKnownMissing old.contents job.file
+-- a read failed in this call
+abbrev pub FailsARead : Disk → Disk → Type 0
+FailsARead old new = (name : Bytes) × (old.read_faults name < new.read_faults name)
+
+-- a file of the job is known not to be there, and those before it are taken
+pub record IsMissing (old : Disk) (job : Job) : Type 0 where
+  pub file : Bytes
+  pub before : List ClassDef
+  pub reaches : Reaches old.contents job.files file before
+  pub missing : IsKnownMissing old.contents file
 
 -- exactly there, unless the put fails or memory can't be had
 abbrev pub IsForRead : List Bytes → Disk → Disk → Output → Output → ℕ → Type 0
 IsForRead words old new before after result =
-    ComesExactly READ (WRITE ∷ OUT_OF_MEMORY ∷ []) result (SaysRead words old new before after) (AskFor words (LacksFile old new))
+    ComesExactly READ (WRITE ∷ OUT_OF_MEMORY ∷ []) result (SaysRead words old new before after) (FailsARead old new ⊎ AskFor words (IsMissing old))
+
+-- ---- 66, 67 and 69
+
+-- a file of the job is refused by its bytes with this status, where contents are known, those before it are taken, nothing failed, no contents
+-- changed, and the sink got one line
+pub record SaysRefused (status : ℕ) (words : List Bytes) (old new : Disk) (before after : Output) : Type 0 where
+  pub job : Job
+  pub asked : Asks words job
+  pub file : Bytes
+  pub refusal : ClassRefusal
+  pub status_is : class_refusal_status refusal ≡ status
+  pub refused : IsRefusedFile job.files file refusal old new
+  pub line : after ≡ with_piece (class_refusal_line file refusal) before
+
+-- a file of the job is known to be refused by its bytes with this status, and those before it are taken
+pub record IsKnownRefused (status : ℕ) (old : Disk) (job : Job) : Type 0 where
+  pub file : Bytes
+  pub refusal : ClassRefusal
+  pub status_is : class_refusal_status refusal ≡ status
+  pub before : List ClassDef
+  pub reaches : Reaches old.contents job.files file before
+  pub refused : IsKnownSuch old.contents file (IsRefused refusal (total_bytes before))
+
+-- exactly there, unless a read or the put fails or memory can't be had
+abbrev pub IsForBytes : ℕ → List Bytes → Disk → Disk → Output → Output → ℕ → Type 0
+IsForBytes status words old new before after result =
+    ComesExactly status (READ ∷ WRITE ∷ OUT_OF_MEMORY ∷ []) result (SaysRefused status words old new before after) (AskFor words (IsKnownRefused status old))
+
+-- ---- 68
+
+-- there are too many files, the files are as they were, and the sink got one line
+pub record SaysMany (words : List Bytes) (old new : Disk) (before after : Output) : Type 0 where
+  pub job : Job
+  pub asked : Asks words job
+  pub many : AreMany job.files (length job.files) old new
+  pub line : after ≡ with_piece (many_line (length job.files)) before
+
+-- a file of the job is too long, or those up to it are, where contents are known; so much was seen of them; those before it are taken, nothing
+-- failed, no contents changed, and the sink got one line
+pub record SaysLong (words : List Bytes) (old new : Disk) (before after : Output) : Type 0 where
+  pub job : Job
+  pub asked : Asks words job
+  pub file : Bytes
+  pub long : IsLong job.files file old new
+  pub line : after ≡ with_piece (long_line file) before
+
+-- there are too many files, or one is too long, or a count of a method is above its limit
+abbrev pub SaysLimit : List Bytes → Disk → Disk → Output → Output → Type 0
+SaysLimit words old new before after =
+    SaysMany words old new before after ⊎ (SaysLong words old new before after ⊎ SaysRefused LIMIT words old new before after)
+
+-- there are too many files
+abbrev pub HasTooMany : Job → Type 0
+HasTooMany job = MAX_CLASS_FILES < length job.files
+
+-- a file of the job is known to be too long, or those up to it, and those before it are taken
+pub record IsKnownLong (old : Disk) (job : Job) : Type 0 where
+  pub file : Bytes
+  pub before : List ClassDef
+  pub reaches : Reaches old.contents job.files file before
+  pub long : IsKnownSuch old.contents file (IsTooLong (total_bytes before))
+
+-- exactly there, unless a read or the put fails or memory can't be had; of too many files none is read
+pub record IsForLimit (words : List Bytes) (old new : Disk) (before after : Output) (result : ℕ) : Type 0 where
+  pub only : result ≡ LIMIT → SaysLimit words old new before after
+  pub many : AskFor words HasTooMany → Contains (LIMIT ∷ WRITE ∷ OUT_OF_MEMORY ∷ []) result
+  pub long : AskFor words (IsKnownLong old) → Contains (LIMIT ∷ READ ∷ WRITE ∷ OUT_OF_MEMORY ∷ []) result
+  pub bytes : AskFor words (IsKnownRefused LIMIT old) → Contains (LIMIT ∷ READ ∷ WRITE ∷ OUT_OF_MEMORY ∷ []) result
 
 -- ---- 77
 
--- the job's file isn't accepted, where contents are known, nothing failed, no contents changed, and the sink got one line
+-- all files of the job are taken, the class of one is the first that isn't built so far, nothing failed, no contents changed, and the sink got one
+-- line
 pub record SaysNotYet (words : List Bytes) (old new : Disk) (before after : Output) : Type 0 where
   pub job : Job
   pub asked : Asks words job
-  pub refused : IsRefused job old new
-  pub line : after ≡ with_piece (not_yet_line job.file) before
+  pub file : Bytes
+  pub ahead : IsNotYet job.files file old new
+  pub line : after ≡ with_piece (not_yet_line file) before
 
--- the file is known to be there and isn't accepted
-abbrev pub IsKnownRefused : Disk → Job → Type 0
-IsKnownRefused old job = IsKnownSuch old.contents job.file (AreRefused job)
+-- contents are known, all files of the job are taken, and a class isn't built so far
+pub record IsKnownAhead (old : Disk) (job : Job) : Type 0 where
+  pub known : IsSome old.contents
+  pub classes : List ClassDef
+  pub taken : AllTaken old.contents job.files classes
+  pub ahead : ¬ AreBuilt classes
 
--- exactly there, unless the read or the put fails or memory can't be had
-abbrev pub IsForForm : List Bytes → Disk → Disk → Output → Output → ℕ → Type 0
-IsForForm words old new before after result =
-    ComesExactly NOT_YET (READ ∷ WRITE ∷ OUT_OF_MEMORY ∷ []) result (SaysNotYet words old new before after) (AskFor words (IsKnownRefused old))
+-- exactly there, unless a read or the put fails or memory can't be had
+abbrev pub IsForNotYet : List Bytes → Disk → Disk → Output → Output → ℕ → Type 0
+IsForNotYet words old new before after result =
+    ComesExactly NOT_YET (READ ∷ WRITE ∷ OUT_OF_MEMORY ∷ []) result (SaysNotYet words old new before after) (AskFor words (IsKnownAhead old))
 
 -- ---- 0
 
--- the job's file is accepted and the class is written, nothing failed, every other name is as before, and the sink got one line
+-- all files of the job are taken, their classes are built and written, nothing failed, every other name is as before, and the sink got their lines
+-- as one piece
 pub record SaysDone (words : List Bytes) (old new : Disk) (before after : Output) : Type 0 where
   pub job : Job
   pub asked : Asks words job
-  pub written : IsWritten job old new
-  pub others : OthersAreKept (written_name job) old.contents new.contents
-  pub line : after ≡ with_piece (class_line job.main) before
+  pub lines : List ℕ
+  pub done : IsDone job lines old new
+  pub line : after ≡ with_piece lines before
 
--- the file is known to be there and is accepted
-abbrev pub IsKnownAccepted : Disk → Job → Type 0
-IsKnownAccepted old job = IsKnownSuch old.contents job.file (AreAccepted job)
+-- contents are known, all files of the job are taken, and their classes are built so far
+pub record IsKnownPassed (old : Disk) (job : Job) : Type 0 where
+  pub known : IsSome old.contents
+  pub classes : List ClassDef
+  pub passed : ArePassed job old.contents classes
 
--- exactly there, unless the read, the write or the put fails or memory can't be had
+-- exactly there, unless a read, a write or the put fails or memory can't be had
 abbrev pub IsForDone : List Bytes → Disk → Disk → Output → Output → ℕ → Type 0
 IsForDone words old new before after result =
-    ComesExactly DONE (READ ∷ WRITE ∷ OUT_OF_MEMORY ∷ []) result (SaysDone words old new before after) (AskFor words (IsKnownAccepted old))
+    ComesExactly DONE (READ ∷ WRITE ∷ OUT_OF_MEMORY ∷ []) result (SaysDone words old new before after) (AskFor words (IsKnownPassed old))
 
 -- ---- 75
 
--- the job's file is accepted and the write of the class failed, and nothing else, and the sink got one line
+-- the first classes of the job are written and the write of the next one failed, and nothing else, and the sink got one line
 pub record SaysUnwritten (words : List Bytes) (old new : Disk) (before after : Output) : Type 0 where
   pub job : Job
   pub asked : Asks words job
-  pub unwritten : IsUnwritten job old new
-  pub line : after ≡ with_piece (write_line (written_name job)) before
+  pub name : Bytes
+  pub unwritten : IsUnwritten job name old new
+  pub line : after ≡ with_piece (write_line name) before
 
--- the put of the line failed, or the write of the class
+-- the words came out in some way, and the put of the lines of that failed
+pub record SaysUnput (words : List Bytes) (old new : Disk) (before after : Output) : Type 0 where
+  pub outcome : Outcome
+  pub comes : ComesOf words old new outcome
+  pub fails : FailsPut (outcome_line outcome) before after
+
+-- one of the two
 abbrev pub SaysWrite : List Bytes → Disk → Disk → Output → Output → Type 0
-SaysWrite words old new before after = (before.faults < after.faults) ⊎ SaysUnwritten words old new before after
+SaysWrite words old new before after = SaysUnput words old new before after ⊎ SaysUnwritten words old new before after
 
--- a write of the name that is written failed in this call
-abbrev pub FailsToWrite : Disk → Disk → Job → Type 0
-FailsToWrite old new job = old.write_faults (written_name job) < new.write_faults (written_name job)
+-- a write failed in this call
+abbrev pub FailsAWrite : Disk → Disk → Type 0
+FailsAWrite old new = (name : Bytes) × (old.write_faults name < new.write_faults name)
 
 -- only there; exactly there where a put failed, and where a write failed unless memory for its line can't be had
 pub record IsForWrite (words : List Bytes) (old new : Disk) (before after : Output) (result : ℕ) : Type 0 where
   pub only : result ≡ WRITE → SaysWrite words old new before after
   pub put : before.faults < after.faults → result ≡ WRITE
-  pub write : AskFor words (FailsToWrite old new) → Contains (WRITE ∷ OUT_OF_MEMORY ∷ []) result
+  pub write : FailsAWrite old new → Contains (WRITE ∷ OUT_OF_MEMORY ∷ []) result
 
 -- ---- 76
 
--- memory couldn't be had for the job: nothing failed, no contents changed, and the sink got the line of that, or nothing
-pub record SaysMemory (old new : Disk) (before after : Output) : Type 0 where
-  pub untouched : IsUntouched old new
-  pub line : (after ≡ with_piece memory_line before) ⊎ (after ≡ before)
+-- memory couldn't be had for the job: nothing failed, the first classes are written, or no contents changed, and the sink got the line of that
+pub record SaysMemory (words : List Bytes) (old new : Disk) (before after : Output) : Type 0 where
+  pub stopped : IsUntouched old new ⊎ AskFor words (λ job. IsBroken job old new)
+  pub line : after ≡ with_piece memory_line before
 
--- the class is written, the read failed, the file is refused, or the write failed
-abbrev pub ComesToLine : Disk → Disk → Job → Type 0
-ComesToLine old new job = IsWritten job old new ⊎ (IsUnread job old new ⊎ (IsRefused job old new ⊎ IsUnwritten job old new))
-
--- memory couldn't be had for the line that tells what became of the job, and the sink is as it was
+-- the words came out in some way, memory couldn't be had for the lines of that, and the sink is as it was
 pub record LacksLine (words : List Bytes) (old new : Disk) (before after : Output) : Type 0 where
-  pub job : Job
-  pub asked : Asks words job
-  pub came : ComesToLine old new job
+  pub outcome : Outcome
+  pub comes : ComesOf words old new outcome
   pub silent : after ≡ before
 
--- one of the two; no other fault than that of the job whose line is lacking
+-- one of the two
 abbrev pub IsForMemory : List Bytes → Disk → Disk → Output → Output → ℕ → Type 0
-IsForMemory words old new before after result = result ≡ OUT_OF_MEMORY → SaysMemory old new before after ⊎ LacksLine words old new before after
+IsForMemory words old new before after result = result ≡ OUT_OF_MEMORY → SaysMemory words old new before after ⊎ LacksLine words old new before after
 
 -- ---- what changes
 
 -- at a status that isn't for a fault or for memory, no count of faults rose in this call
 abbrev pub IsFaultless : Disk → Disk → Output → Output → ℕ → Type 0
-IsFaultless old new before after result = Contains (DONE ∷ WORDS ∷ NOT_YET ∷ []) result → HasNoFault old new × (after.faults ≡ before.faults)
+IsFaultless old new before after result =
+    Contains (DONE ∷ WORDS ∷ MALFORMED ∷ VERSION ∷ LIMIT ∷ UNSUPPORTED ∷ NOT_YET ∷ []) result → HasNoFault old new × (after.faults ≡ before.faults)
 
--- a refusal before the write leaves all contents as they were
+-- a refusal before the first write leaves all contents as they were
 abbrev pub KeepsContents : Disk → Disk → ℕ → Type 0
-KeepsContents old new result = Contains (WORDS ∷ READ ∷ NOT_YET ∷ []) result → new.contents ≡ old.contents
+KeepsContents old new result =
+    Contains (WORDS ∷ READ ∷ MALFORMED ∷ VERSION ∷ LIMIT ∷ UNSUPPORTED ∷ NOT_YET ∷ []) result → new.contents ≡ old.contents
 
--- a job reads its file alone and changes no name but the one that is written, and words that ask for nothing leave the files as they were
+-- a job reads its files alone and changes no name but those of class files in its folder, and words that ask for nothing leave the files as they were
 pub record ChangesOnly (words : List Bytes) (old new : Disk) : Type 0 where
   pub asked : (job : Job) → Asks words job → StaysWithin job old new
   pub unasked : AskNothing words → new ≡ old

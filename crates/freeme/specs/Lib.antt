@@ -1,4 +1,10 @@
+pub mod inner
 pub mod Request
-pub mod Outcome
+pub mod Changes
+pub mod ClassRefusal
+pub mod Refusal
+pub mod Taking
+pub mod Ahead
+pub mod Writing
 pub mod TopCall
 pub mod Causes

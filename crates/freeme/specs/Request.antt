@@ -1,35 +1,73 @@
--- What the words of the command line ask for, and which file is accepted for it.
-use Rattle.std.specs.Prelude.{◌≡◌, ℕ, ◌<◌, ◌≤◌, List, [], ◌∷◌, ◌++◌, length, codes}
-use Rattle.fm_base.specs.declared.limits.TheConstants.{MAX_FILE_BYTES}
-use Rattle.fm_read.specs.MainClass.{IsMainClass}
-use Rattle.fm_code.specs.declared.class_file.ClassDef.{ClassDef}
+-- What the words of the command line ask for.
+use Rattle.std.specs.Prelude.{◌≡◌, ℕ, ◌<◌, ◌≤◌, List, [], ◌∷◌, ◌++◌, Some, true, length, map, codes}
+use Rattle.std.specs.List.{AllByRecursion}
+use Rattle.clap.specs.Lexer.{usize_max}
+use Rattle.clap.specs.Words.{App, Kinds, Row, Rule, all_of, fault_of, first_of, matches_of, new_app, new_rule, with_rule}
+use Rattle.clap.specs.Simple.{Shape, on_top}
+use Rattle.fm_base.specs.declared.limits.TheConstants.{MAX_COMMAND_LINE_VALUE_BYTES}
 use Rattle.freeme.specs.declared.request.Request.{Request}
 
--- the folder to write into, the main class and the file to read
+-- the folder to write into, the main class, and the files to read in order
 pub record Job : Type 0 where
   pub folder : List ℕ
   pub main : List ℕ
-  pub file : List ℕ
+  pub files : List (List ℕ)
 
--- the words are --out DIR --main CLASS FILE, and no value is empty
+-- an option that has to be given, once, with a value, as `--out DIR`
+abbrev pub option_rule : List ℕ → Rule
+option_rule name = record (new_rule name) { long = Some name; required = true }
+
+-- the files, of which there is one or more: what stands among the words without an option before it
+abbrev pub files_rule : Rule
+files_rule = record (new_rule (codes "file")) {
+  range = Some (record { start_inclusive = 1; end_inclusive = usize_max });
+  required = true;
+}
+
+-- the words begin after the program's name, and no word asks for help or for a version
+abbrev pub without_help : Shape → Shape
+without_help s = record s { no_binary_name = true; disable_help_flag = true; disable_version_flag = true }
+
+-- the command `freeme --out DIR --main CLASS FILE...`, as clap reads it
+abbrev pub freeme_command : App
+freeme_command =
+    with_rule (with_rule (with_rule (on_top without_help (new_app (codes "freeme")))
+    (option_rule (codes "out"))) (option_rule (codes "main"))) files_rule
+
+-- the faults that clap finds in the words, and what it matches there
+unfoldable pub faults_in : List (List ℕ) → Kinds
+faults_in words = fault_of freeme_command words
+
+unfoldable pub matched_in : List (List ℕ) → List Row
+matched_in words = matches_of freeme_command words
+
+-- a value has a character, and isn't too long
+abbrev pub IsValue : List ℕ → Type 0
+IsValue value = (0 < length value) × (length value ≤ MAX_COMMAND_LINE_VALUE_BYTES)
+
+-- what clap matched is the job: the values of the two options and all files, each of them a value
+pub record HasValuesOf (matches : List Row) (job : Job) : Type 0 where
+  pub folder : first_of (codes "out") matches ≡ Some job.folder
+  pub main : first_of (codes "main") matches ≡ Some job.main
+  pub files : all_of (codes "file") matches ≡ Some job.files
+  pub some_file : 0 < length job.files
+  pub folder_is_value : IsValue job.folder
+  pub main_is_value : IsValue job.main
+  pub files_are_values : AllByRecursion IsValue job.files
+
+-- what clap matched is no job
+abbrev pub HasNoValues : List Row → Type 0
+HasNoValues matches = (job : Job) → ¬ HasValuesOf matches job
+
+-- clap finds no fault in the words, and what it matches there is the job
 pub record Asks (words : List (List ℕ)) (job : Job) : Type 0 where
-  pub words_are : words ≡ codes "--out" ∷ job.folder ∷ codes "--main" ∷ job.main ∷ job.file ∷ []
-  pub folder : 0 < length job.folder
-  pub main : 0 < length job.main
-  pub file : 0 < length job.file
+  pub faultless : faults_in words ≡ []
+  pub values : HasValuesOf (matched_in words) job
 
 -- the words are of no such form
 abbrev pub AskNothing : List (List ℕ) → Type 0
 AskNothing words = (job : Job) → ¬ Asks words job
 
--- the file is no longer than the limit, and is the main class
-abbrev pub IsAccepted : Job → List ℕ → ClassDef → Type 0
-IsAccepted job bytes c = (length bytes ≤ MAX_FILE_BYTES) × IsMainClass job.main bytes c
-
--- DIR/CLASS.class, the file that is written
-abbrev pub written_name : Job → List ℕ
-written_name job = job.folder ++ (47 ∷ (job.main ++ codes ".class"))
-
 -- the job of a request
 abbrev pub job_of : Request → Job
-job_of r = record { folder = r.folder.now; main = r.main.now; file = r.file.now }
+job_of r = record { folder = r.folder.now; main = r.main.now; files = map (λ file. file.now) r.files.items }

@@ -1,15 +1,20 @@
 // freeme: reads the class files of a program, and writes them again.
 //
-// So far it takes one class file of the first form and writes it as it was read. `freeme_run` is the
-// program over files and sinks of any kind, and carries its theorem; `main` hands it the words of the
-// command line, the files of the system and standard output.
+// So far it writes each class as it was read, and refuses those in which an object could be freed.
+// `freeme_run` is the program over files and sinks of any kind, and carries its theorem; `main` hands it
+// the words of the command line, the files of the system and standard output.
 #![tactic(auto)]
 
-mod outcome;
+mod ahead;
+mod class_refusal;
+mod judging;
+mod reading;
+mod refusal;
 mod request;
 #[cfg(test)]
 mod tests;
 mod top_call;
+mod writing;
 
 use crate::top_call::freeme_run;
 use fm_files::{FolderFiles, StdSink};

@@ -1,55 +1,110 @@
 // What the words of the command line ask for.
 
-ghost use Rattle.std.specs.Prelude.{◌≡◌, MatchOption, IfOk, string_bytes};
+ghost use Rattle.std.specs.Prelude.{◌≡◌, ◌↔◌, false, IfOk, IsTrue, MatchOption};
+ghost use Rattle.std.specs.List.{AllByRecursion};
+ghost use Rattle.clap.specs.Words.{app_of, found_of, rows_of, rule_of};
 ghost use Rattle.fm_tool.specs.Words.{texts};
-ghost use Rattle.freeme.specs.Request.{Asks, AskNothing, job_of, written_name};
+ghost use Rattle.freeme.specs.Request.{Asks, AskNothing, HasValuesOf, HasNoValues, IsValue, option_rule, files_rule, freeme_command, job_of};
 
+#[cfg(test)]
+mod tests;
+
+use clap::error::ErrorKind;
+use clap::{Arg, ArgMatches, Command};
 use fm_base::NoMemory;
+use fm_base::limits::MAX_COMMAND_LINE_VALUE_BYTES;
 use std::alloc::Global;
 
-/// The folder to write into, the main class and the file to read, as the words `--out DIR --main CLASS
-/// FILE` name them.
-#[derive(Clone, Copy)]
+/// The folder to write into, the main class and the files to read, in order, as the words
+/// `--out DIR --main CLASS FILE...` name them.
+#[derive(Drop)]
 pub struct Request<'a> {
     pub folder: &'a str,
     pub main: &'a str,
-    pub file: &'a str,
+    pub files: Vec<&'a str>,
 }
 
-impl Request<'_> {
-    /// The name of the file that is written, DIR/CLASS.class.
-    pub fn written_name(self, alloc: Global) -> Result<String, NoMemory>
-        ensures { IfOk result (λ name. string_bytes name ≡ written_name (job_of self.entry)) }
-    {
-        let folder = self.folder;
-        let main = self.main;
-        Ok(format!(in alloc; "{folder}/{main}.class")?)
-    }
-}
-
-/// What the words ask for, or None where they aren't of that form, or a value is empty.
-pub fn request_of(words: &[String]) -> Option<Request<'_>>
-    ensures { MatchOption result (AskNothing (texts words.now)) (λ r. Asks (texts words.now) (job_of r)) }
+/// What the words ask for, or None where they ask for nothing.
+pub fn request_of(alloc: Global, words: &[String]) -> Result<Option<Request<'_>>, NoMemory>
+    ensures { IfOk result (λ asked. MatchOption asked (AskNothing (texts words.now))
+        (λ r. Asks (texts words.now) (job_of r))) }
 {
-    let [out, folder, main_word, main, file] = words else {
-        return None;
+    let command = freeme_command(alloc)?;
+    match command.try_get_matches_from(words) {
+        Ok(matches) => request_in(alloc, &matches),
+        Err(error) => match error.kind() {
+            ErrorKind::OutOfMemory => Err(NoMemory),
+            _ => Ok(None),
+        },
+    }
+}
+
+// The command `freeme --out DIR --main CLASS FILE...`, which answers no call for help.
+fn freeme_command<'a>(alloc: Global) -> Result<Command<'a>, NoMemory>
+    ensures { IfOk result (λ command. app_of command ≡ freeme_command) }
+{
+    let command = Command::new(alloc, "freeme")
+        .no_binary_name(true)
+        .disable_help_flag(true)
+        .disable_version_flag(true)
+        .arg(option(alloc, "out"))?
+        .arg(option(alloc, "main"))?
+        .arg(files(alloc))?;
+    Ok(command)
+}
+
+// An option that has to be given, with its value.
+fn option<'a>(alloc: Global, name: &'a str) -> Arg<'a>
+    ensures rule { rule_of result ≡ option_rule name.entry.now }
+    ensures local { result.global ≡ false }
+{
+    Arg::new(alloc, name).long(name).required(true)
+}
+
+// The files, of which there is one or more.
+fn files<'a>(alloc: Global) -> Arg<'a>
+    ensures rule { rule_of result ≡ files_rule }
+    ensures local { result.global ≡ false }
+{
+    Arg::new(alloc, "file").num_args(1..).required(true)
+}
+
+// The request that was matched, or None where a value is missing, empty or too long.
+fn request_in<'a>(alloc: Global, matches: &ArgMatches<'a>) -> Result<Option<Request<'a>>, NoMemory>
+    ensures { let rows = rows_of (found_of matches.now) in
+        IfOk result (λ asked. MatchOption asked (HasNoValues rows)
+        (λ r. HasValuesOf rows (job_of r))) }
+{
+    let Some(folder) = matches.get_str("out") else {
+        return Ok(None);
     };
-    if out.as_str() != "--out" || main_word.as_str() != "--main" {
-        return None;
-    }
-    let request = Request {
-        folder: folder.as_str(),
-        main: main.as_str(),
-        file: file.as_str(),
+    let Some(main) = matches.get_str("main") else {
+        return Ok(None);
     };
-    if request.folder.is_empty() {
-        return None;
+    let Some(files) = matches.get_strs("file") else {
+        return Ok(None);
+    };
+    if files.is_empty() || !is_value(folder) || !is_value(main) || !are_values(files) {
+        return Ok(None);
     }
-    if request.main.is_empty() {
-        return None;
-    }
-    if request.file.is_empty() {
-        return None;
-    }
-    Some(request)
+    let files = Vec::from_slice(alloc, files)?;
+    Ok(Some(Request {
+        folder,
+        main,
+        files,
+    }))
+}
+
+// Whether each of the texts may be a value.
+fn are_values(values: &[&str]) -> bool
+    ensures { IsTrue result ↔ AllByRecursion (λ value. IsValue value.now) values.now }
+{
+    values.iter().all(|value| is_value(value))
+}
+
+// Whether the text may be a value: it isn't empty, and not too long.
+fn is_value(value: &str) -> bool
+    ensures { IsTrue result ↔ IsValue value.now }
+{
+    !value.is_empty() && value.len() <= MAX_COMMAND_LINE_VALUE_BYTES as usize
 }

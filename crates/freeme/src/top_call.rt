@@ -1,22 +1,24 @@
-// One call of the program: what it reads and writes, and the line that tells of it.
+// One call of the program: what it reads and writes, and the lines that tell of it.
 
 ghost use Rattle.fm_tool.specs.Line.{Tells};
 ghost use Rattle.fm_tool.specs.Words.{texts};
-ghost use Rattle.freeme.specs.Causes.{IsStatus, IsForDone, IsForWords, IsForRead, IsForForm, IsForWrite, IsForMemory, IsFaultless, KeepsContents, ChangesOnly};
-ghost use Rattle.freeme.specs.Outcome.{outcome_line, outcome_status};
+ghost use Rattle.fm_tool.specs.declared.status.TheConstants.{MALFORMED, UNSUPPORTED, VERSION};
+ghost use Rattle.freeme.specs.Causes.{ChangesOnly, IsFaultless, IsForBytes, IsForDone, IsForLimit, IsForMemory, IsForNotYet, IsForRead, IsForWords, IsForWrite, IsStatus, KeepsContents};
 ghost use Rattle.freeme.specs.Request.{job_of};
-ghost use Rattle.freeme.specs.TopCall.{ComesTo, ComesOf, StaysWithin, IsTopCall};
+ghost use Rattle.freeme.specs.TopCall.{ComesOf, ComesTo, IsTopCall, StaysWithin, outcome_line, outcome_status};
 
-use crate::outcome::Outcome;
+use crate::ahead::first_ahead;
+use crate::reading::read_classes;
+use crate::refusal::JobRefusal;
 use crate::request::{Request, request_of};
+use crate::writing::{class_lines, write_classes};
 use fm_base::NoMemory;
-use fm_base::limits::MAX_FILE_BYTES;
-use fm_files::{FileFail, Files, Sink, WriteFail};
-use fm_read::{FirstFail, read_main_class};
+use fm_base::limits::MAX_CLASS_FILES;
+use fm_files::{Files, Sink};
 use fm_tool::{Refusal, put_line, status};
 use std::alloc::Global;
 
-/// Does what the words of the command line ask for, puts the line that tells of it, and answers the
+/// Does what the words of the command line ask for, puts the lines that tell of it, and answers the
 /// status.
 pub fn freeme_run<F: Files, S: Sink>(
     alloc: Global,
@@ -24,7 +26,7 @@ pub fn freeme_run<F: Files, S: Sink>(
     files: &mut F,
     out: &mut S,
 ) -> u8
-    // The whole: what the words ask for, what becomes of it, and the one line that is put.
+    // The whole: what the words ask for, what becomes of it, and the lines that are put.
     ensures whole { IsTopCall (texts words.now)
         (F.disk files.old) (F.disk files.new) (S.output out.old) (S.output out.new) result }
 
@@ -36,7 +38,15 @@ pub fn freeme_run<F: Files, S: Sink>(
         (F.disk files.old) (F.disk files.new) (S.output out.old) (S.output out.new) result }
     ensures read { IsForRead (texts words.now)
         (F.disk files.old) (F.disk files.new) (S.output out.old) (S.output out.new) result }
-    ensures form { IsForForm (texts words.now)
+    ensures malformed { IsForBytes MALFORMED (texts words.now)
+        (F.disk files.old) (F.disk files.new) (S.output out.old) (S.output out.new) result }
+    ensures version { IsForBytes VERSION (texts words.now)
+        (F.disk files.old) (F.disk files.new) (S.output out.old) (S.output out.new) result }
+    ensures limit { IsForLimit (texts words.now)
+        (F.disk files.old) (F.disk files.new) (S.output out.old) (S.output out.new) result }
+    ensures unsupported { IsForBytes UNSUPPORTED (texts words.now)
+        (F.disk files.old) (F.disk files.new) (S.output out.old) (S.output out.new) result }
+    ensures not_yet { IsForNotYet (texts words.now)
         (F.disk files.old) (F.disk files.new) (S.output out.old) (S.output out.new) result }
     ensures write { IsForWrite (texts words.now)
         (F.disk files.old) (F.disk files.new) (S.output out.old) (S.output out.new) result }
@@ -53,49 +63,53 @@ pub fn freeme_run<F: Files, S: Sink>(
     tell(alloc, outcome, out)
 }
 
-// Does what the words ask for.
-fn do_words<'a, F: Files>(alloc: Global, words: &'a [String], files: &mut F) -> Outcome<'a>
+// Does what the words ask for, and answers the lines that tell of it.
+fn do_words<'a, F: Files>(
+    alloc: Global,
+    words: &'a [String],
+    files: &mut F,
+) -> Result<String, JobRefusal<'a>>
     ensures { ComesOf (texts words.now) (F.disk files.old) (F.disk files.new) result }
 {
-    match request_of(words) {
+    match request_of(alloc, words)? {
         Some(request) => do_job(alloc, request, files),
-        None => Outcome::Refused(Refusal::Words),
+        None => Err(JobRefusal::Shared(Refusal::Words)),
     }
 }
 
-// Reads the class file, and writes it where it is accepted.
-fn do_job<'a, F: Files>(alloc: Global, request: Request<'a>, files: &mut F) -> Outcome<'a>
+// Reads the class files, and writes them where all are taken.
+fn do_job<'a, F: Files>(
+    alloc: Global,
+    request: Request<'a>,
+    files: &mut F,
+) -> Result<String, JobRefusal<'a>>
     ensures within { StaysWithin (job_of request.entry) (F.disk files.old) (F.disk files.new) }
     ensures comes { ComesTo (job_of request.entry) (F.disk files.old) (F.disk files.new) result }
 {
-    let bytes = match files.read(alloc, request.file, MAX_FILE_BYTES) {
-        Ok(bytes) => bytes,
-        Err(FileFail::Failed) => return Outcome::Refused(Refusal::Read(request.file)),
-        Err(FileFail::TooLong) => return Outcome::Refused(Refusal::NotYet(request.file)),
-        Err(FileFail::NoMemory) => return Outcome::Refused(Refusal::OutOfMemory),
-    };
-    match read_main_class(alloc, request.main, bytes.as_slice()) {
-        Ok(_) => {}
-        Err(FirstFail::NotYet) => return Outcome::Refused(Refusal::NotYet(request.file)),
-        Err(FirstFail::NoMemory) => return Outcome::Refused(Refusal::OutOfMemory),
+    let names = request.files.as_slice();
+    if names.len() > MAX_CLASS_FILES as usize {
+        return Err(JobRefusal::TooManyFiles(names.len()));
     }
-    let Ok(name) = request.written_name(alloc) else {
-        return Outcome::Refused(Refusal::OutOfMemory);
-    };
-    match files.write(alloc, name.as_str(), bytes.as_slice()) {
-        Ok(()) => Outcome::Written(request),
-        Err(WriteFail::Failed) => Outcome::Unwritten(request),
-        Err(WriteFail::NoMemory) => Outcome::Refused(Refusal::OutOfMemory),
+    let read = read_classes(alloc, names, files)?;
+    let classes = read.as_slice();
+    if let Some(place) = first_ahead(alloc, classes)? {
+        return Err(JobRefusal::Shared(Refusal::NotYet(names[place])));
     }
+    let lines = class_lines(alloc, classes)?;
+    write_classes(alloc, request.folder, classes, files)?;
+    Ok(lines)
 }
 
-// Puts the line of an outcome, and answers its status, or that of the put.
-fn tell<S: Sink>(alloc: Global, outcome: Outcome<'_>, out: &mut S) -> u8
+// Puts the lines of an outcome, and answers its status, or that of the put.
+fn tell<S: Sink>(alloc: Global, outcome: Result<String, JobRefusal<'_>>, out: &mut S) -> u8
     ensures { Tells (outcome_line outcome.entry) (outcome_status outcome.entry)
         (S.output out.old) (S.output out.new) result }
 {
-    match outcome.line(alloc) {
-        Ok(line) => put_line(alloc, out, line.as_bytes(), outcome.status()),
-        Err(NoMemory) => status::OUT_OF_MEMORY,
+    match outcome {
+        Ok(lines) => put_line(alloc, out, lines.as_bytes(), status::DONE),
+        Err(refusal) => match refusal.line(alloc) {
+            Ok(line) => put_line(alloc, out, line.as_bytes(), refusal.status()),
+            Err(NoMemory) => status::OUT_OF_MEMORY,
+        },
     }
 }

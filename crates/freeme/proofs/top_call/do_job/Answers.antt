@@ -1,179 +1,163 @@
-use Rattle.std.proofs.Common.{◌≡◌, ◌<◌, ◌≤◌, Err, length, refl, ◌∙◌, subst, sym, arith}
-use Rattle.fm_base.specs.declared.limits.TheConstants.{MAX_FILE_BYTES}
-use Rattle.fm_files.specs.Files.{Bytes, Disk, Holds}
-use Rattle.fm_files.specs.declared.error.WriteFail.TheVariants as write_fail
-use Rattle.fm_tool.specs.Outside.{HasNoFault}
-use Rattle.fm_tool.proofs.OutsideLemmas.{holds_such}
-use Rattle.fm_read.specs.MainClass.{IsMainClass}
-use Rattle.freeme.specs.Request.{Job, job_of, written_name}
-use Rattle.freeme.specs.TopCall.{AreAccepted, AreRefused}
-use Rattle.freeme.proofs.JobLemmas.{Read, Write, read_of, write_of, after_read, after_write, read_faultless, write_faultless, write_fault, copies}
+use Rattle.std.proofs.Common.{◌≡◌, ◌<◌, ℕ, ◌*◌, List, length, map, get_or, Option, Some, MatchOption, Bor, sym, ap, ◌∙◌, subst, arith}
+use Rattle.std.specs.List.{AllByRecursion, slice_get}
+use Rattle.std.specs.Option.{option_map}
+use Rattle.std.proofs.lemmas.List.{length-map}
+use Rattle.std.proofs.lemmas.Option.{slice_get-map, slice_get-get_or}
+use Rattle.std.proofs.lemmas.Result.{err_from_is_err_and}
+use Rattle.fm_files.specs.Files.{Bytes, Disk}
+use Rattle.fm_code.specs.declared.class_file.ClassDef.{ClassDef}
+use Rattle.freeme.specs.Ahead.{AreBuilt, IsFirstAhead}
+use Rattle.freeme.specs.Request.{Job, job_of}
+use Rattle.freeme.specs.inner.Reading.{ReadsAll, AreRead}
+use Rattle.freeme.proofs.JobLemmas.{all_of, read_of, are_spelled, have_names, are_apart, has_file, is_not_yet, writes_in, writes_within, is_done, write_ended}
 use Rattle.freeme.proofs.top_call.do_job.Goals as goal
 
--- ---- what changes
+-- the name at a place
+name_at : (names : List (Bor (List ℕ))) (i : ℕ) (d : Bor (List ℕ)) → i < length names → slice_get (map (λ n. n.now) names) i ≡ Some (get_or names i d).now
+name_at names i d within = slice_get-map (λ n. n.now) names i ∙ ap (option_map (λ n. n.now)) (slice_get-get_or names i d within)
 
-pub returns-in-Err-Failed-clause-within : goal.returns-in-Err-Failed-clause-within
-returns-in-Err-Failed-clause-within g c =
-    let job : Job = job_of c.args.request in
+pub first_ahead-requires : goal.first_ahead-requires
+first_ahead-requires g c =
+    let request = c.args.request in
+    let names = c.as_slice-names.result.now in
+    let classes = c.as_slice-classes.result.now in
     let old : Disk = g.F.Files.disk c.args.files.now in
-    let between : Disk = g.F.Files.disk c.read.new.self in
-    let read : Read job.file old between =
-    read_of job.file old between c.read.ensures.contents_kept c.read.ensures.write_faults_kept c.read.ensures.read_faults_rise c.read.ensures.widest_read_rises
-    c.read.ensures.widest_read_within in
-    after_read job old between read
+    let between : Disk = g.F.Files.disk c.read_classes.new.files in
+    let files : map (λ n. n.now) names ≡ map (λ n. n.now) request.files.items = ap (map (λ n. n.now)) c.as_slice-names.ensures.value in
+    let read : AreRead (map (λ n. n.now) request.files.items) classes old between =
+    read_of (map (λ n. n.now) names) (map (λ n. n.now) request.files.items) c.in_ok-read.read.items classes old between files c.as_slice-classes.ensures.value c.in_ok-read.ensures.comes in
+    have_names classes (are_spelled old.contents (map (λ n. n.now) request.files.items) classes read.taken.taken)
 
-pub returns-in-Err-TooLong-clause-within : goal.returns-in-Err-TooLong-clause-within
-returns-in-Err-TooLong-clause-within g c =
-    let job : Job = job_of c.args.request in
+pub bounds-names-place : goal.bounds-names-place
+bounds-names-place g c =
+    let request = c.args.request in
+    let names = c.as_slice-names.result.now in
+    let classes = c.as_slice-classes.result.now in
     let old : Disk = g.F.Files.disk c.args.files.now in
-    let between : Disk = g.F.Files.disk c.read.new.self in
-    let read : Read job.file old between =
-    read_of job.file old between c.read.ensures.contents_kept c.read.ensures.write_faults_kept c.read.ensures.read_faults_rise c.read.ensures.widest_read_rises
-    c.read.ensures.widest_read_within in
-    after_read job old between read
+    let between : Disk = g.F.Files.disk c.read_classes.new.files in
+    let files : map (λ n. n.now) names ≡ map (λ n. n.now) request.files.items = ap (map (λ n. n.now)) c.as_slice-names.ensures.value in
+    let read : AreRead (map (λ n. n.now) request.files.items) classes old between =
+    read_of (map (λ n. n.now) names) (map (λ n. n.now) request.files.items) c.in_ok-read.read.items classes old between files c.as_slice-classes.ensures.value c.in_ok-read.ensures.comes in
+    let Ahead : Option ℕ → Type 0 = λ o. MatchOption o (AreBuilt classes) (IsFirstAhead classes) in
+    let first : IsFirstAhead classes c.in-Some.place = subst Ahead c.in-Some.is c.in_ok-place.ensures in
+    let within = has_file old.contents (map (λ n. n.now) request.files.items) classes c.in-Some.place read.taken.taken first in
+    let same : length names ≡ length (map (λ n. n.now) request.files.items) = sym (length-map names (λ n. n.now)) ∙ ap length files in
+    omega (arith, within, same)
 
-pub returns-in-Err-NoMemory-clause-within : goal.returns-in-Err-NoMemory-clause-within
-returns-in-Err-NoMemory-clause-within g c =
-    let job : Job = job_of c.args.request in
+pub returns-in-Some-clause-comes : goal.returns-in-Some-clause-comes
+returns-in-Some-clause-comes g c =
+    let request = c.args.request in
+    let names = c.as_slice-names.result.now in
+    let classes = c.as_slice-classes.result.now in
     let old : Disk = g.F.Files.disk c.args.files.now in
-    let between : Disk = g.F.Files.disk c.read.new.self in
-    let read : Read job.file old between =
-    read_of job.file old between c.read.ensures.contents_kept c.read.ensures.write_faults_kept c.read.ensures.read_faults_rise c.read.ensures.widest_read_rises
-    c.read.ensures.widest_read_within in
-    after_read job old between read
+    let between : Disk = g.F.Files.disk c.read_classes.new.files in
+    let files : map (λ n. n.now) names ≡ map (λ n. n.now) request.files.items = ap (map (λ n. n.now)) c.as_slice-names.ensures.value in
+    let read : AreRead (map (λ n. n.now) request.files.items) classes old between =
+    read_of (map (λ n. n.now) names) (map (λ n. n.now) request.files.items) c.in_ok-read.read.items classes old between files c.as_slice-classes.ensures.value c.in_ok-read.ensures.comes in
+    let all : ReadsAll (map (λ n. n.now) request.files.items) old between =
+    all_of (map (λ n. n.now) names) (map (λ n. n.now) request.files.items) old between files c.read_classes.ensures.within in
+    let Ahead : Option ℕ → Type 0 = λ o. MatchOption o (AreBuilt classes) (IsFirstAhead classes) in
+    let first : IsFirstAhead classes c.in-Some.place = subst Ahead c.in-Some.is c.in_ok-place.ensures in
+    let within = has_file old.contents (map (λ n. n.now) request.files.items) classes c.in-Some.place read.taken.taken first in
+    let same : length names ≡ length (map (λ n. n.now) request.files.items) = sym (length-map names (λ n. n.now)) ∙ ap length files in
+    is_not_yet (map (λ n. n.now) request.files.items) old between classes read all c.in-Some.place _ first
+    (sym (ap (λ fs. slice_get fs c.in-Some.place) files) ∙ name_at names c.in-Some.place _ (omega (arith, within, same)))
 
-pub returns-in-Err-NotYet-clause-within : goal.returns-in-Err-NotYet-clause-within
-returns-in-Err-NotYet-clause-within g c =
-    let job : Job = job_of c.args.request in
+pub class_lines-requires : goal.class_lines-requires
+class_lines-requires g c =
+    let request = c.args.request in
+    let names = c.as_slice-names.result.now in
+    let classes = c.as_slice-classes.result.now in
     let old : Disk = g.F.Files.disk c.args.files.now in
-    let between : Disk = g.F.Files.disk c.read.new.self in
-    let read : Read job.file old between =
-    read_of job.file old between c.read.ensures.contents_kept c.read.ensures.write_faults_kept c.read.ensures.read_faults_rise c.read.ensures.widest_read_rises
-    c.read.ensures.widest_read_within in
-    after_read job old between read
+    let between : Disk = g.F.Files.disk c.read_classes.new.files in
+    let files : map (λ n. n.now) names ≡ map (λ n. n.now) request.files.items = ap (map (λ n. n.now)) c.as_slice-names.ensures.value in
+    let read : AreRead (map (λ n. n.now) request.files.items) classes old between =
+    read_of (map (λ n. n.now) names) (map (λ n. n.now) request.files.items) c.in_ok-read.read.items classes old between files c.as_slice-classes.ensures.value c.in_ok-read.ensures.comes in
+    have_names classes (are_spelled old.contents (map (λ n. n.now) request.files.items) classes read.taken.taken)
 
-pub returns-in-Err-NoMemory-read_main_class-clause-within : goal.returns-in-Err-NoMemory-read_main_class-clause-within
-returns-in-Err-NoMemory-read_main_class-clause-within g c =
-    let job : Job = job_of c.args.request in
+pub write_classes-requires-clause-spelled : goal.write_classes-requires-clause-spelled
+write_classes-requires-clause-spelled g c =
+    let request = c.args.request in
+    let names = c.as_slice-names.result.now in
+    let classes = c.as_slice-classes.result.now in
     let old : Disk = g.F.Files.disk c.args.files.now in
-    let between : Disk = g.F.Files.disk c.read.new.self in
-    let read : Read job.file old between =
-    read_of job.file old between c.read.ensures.contents_kept c.read.ensures.write_faults_kept c.read.ensures.read_faults_rise c.read.ensures.widest_read_rises
-    c.read.ensures.widest_read_within in
-    after_read job old between read
+    let between : Disk = g.F.Files.disk c.read_classes.new.files in
+    let files : map (λ n. n.now) names ≡ map (λ n. n.now) request.files.items = ap (map (λ n. n.now)) c.as_slice-names.ensures.value in
+    let read : AreRead (map (λ n. n.now) request.files.items) classes old between =
+    read_of (map (λ n. n.now) names) (map (λ n. n.now) request.files.items) c.in_ok-read.read.items classes old between files c.as_slice-classes.ensures.value c.in_ok-read.ensures.comes in
+    are_spelled old.contents (map (λ n. n.now) request.files.items) classes read.taken.taken
 
-pub returns-in_default-clause-within : goal.returns-in_default-clause-within
-returns-in_default-clause-within g c =
-    let job : Job = job_of c.args.request in
+pub write_classes-requires-clause-apart : goal.write_classes-requires-clause-apart
+write_classes-requires-clause-apart g c =
+    let classes = c.as_slice-classes.result.now in
+    let Ahead : Option ℕ → Type 0 = λ o. MatchOption o (AreBuilt classes) (IsFirstAhead classes) in
+    let built : AreBuilt classes = subst Ahead c.in_default.is c.in_ok-place.ensures in
+    are_apart classes built
+
+pub returns-in_err-write_classes-clause-within : goal.returns-in_err-write_classes-clause-within
+returns-in_err-write_classes-clause-within g c =
+    let request = c.args.request in
+    let names = c.as_slice-names.result.now in
+    let classes = c.as_slice-classes.result.now in
     let old : Disk = g.F.Files.disk c.args.files.now in
-    let between : Disk = g.F.Files.disk c.read.new.self in
-    let read : Read job.file old between =
-    read_of job.file old between c.read.ensures.contents_kept c.read.ensures.write_faults_kept c.read.ensures.read_faults_rise c.read.ensures.widest_read_rises
-    c.read.ensures.widest_read_within in
-    after_read job old between read
+    let between : Disk = g.F.Files.disk c.read_classes.new.files in
+    let files : map (λ n. n.now) names ≡ map (λ n. n.now) request.files.items = ap (map (λ n. n.now)) c.as_slice-names.ensures.value in
+    let read : AreRead (map (λ n. n.now) request.files.items) classes old between =
+    read_of (map (λ n. n.now) names) (map (λ n. n.now) request.files.items) c.in_ok-read.read.items classes old between files c.as_slice-classes.ensures.value c.in_ok-read.ensures.comes in
+    let all : ReadsAll (map (λ n. n.now) request.files.items) old between =
+    all_of (map (λ n. n.now) names) (map (λ n. n.now) request.files.items) old between files c.read_classes.ensures.within in
+    let new : Disk = g.F.Files.disk c.write_classes.new.files in
+    writes_within (job_of request) old between new all c.write_classes.ensures.keeps
+    (writes_in request.folder.now classes between new c.write_classes.result c.write_classes.ensures.comes)
 
-pub returns-in-Ok-write-clause-within : goal.returns-in-Ok-write-clause-within
-returns-in-Ok-write-clause-within g c =
-    let job : Job = job_of c.args.request in
+pub returns-in_err-write_classes-clause-comes : goal.returns-in_err-write_classes-clause-comes
+returns-in_err-write_classes-clause-comes g c =
+    let request = c.args.request in
+    let names = c.as_slice-names.result.now in
+    let classes = c.as_slice-classes.result.now in
     let old : Disk = g.F.Files.disk c.args.files.now in
-    let between : Disk = g.F.Files.disk c.read.new.self in
-    let read : Read job.file old between =
-    read_of job.file old between c.read.ensures.contents_kept c.read.ensures.write_faults_kept c.read.ensures.read_faults_rise c.read.ensures.widest_read_rises
-    c.read.ensures.widest_read_within in
-    let new : Disk = g.F.Files.disk c.write.new.self in
-    let name : c.as_str.result.now ≡ written_name job = c.as_str.ensures.value ∙ c.in-Ok-written_name.ensures in
-    let write : Write (written_name job) between new =
-    write_of c.as_str.result.now (written_name job) between new name c.write.ensures.read_faults_kept c.write.ensures.widest_read_kept
-    c.write.ensures.write_faults_rise c.write.ensures.others_kept in
-    after_write job old between new read write
+    let between : Disk = g.F.Files.disk c.read_classes.new.files in
+    let files : map (λ n. n.now) names ≡ map (λ n. n.now) request.files.items = ap (map (λ n. n.now)) c.as_slice-names.ensures.value in
+    let read : AreRead (map (λ n. n.now) request.files.items) classes old between =
+    read_of (map (λ n. n.now) names) (map (λ n. n.now) request.files.items) c.in_ok-read.read.items classes old between files c.as_slice-classes.ensures.value c.in_ok-read.ensures.comes in
+    let all : ReadsAll (map (λ n. n.now) request.files.items) old between =
+    all_of (map (λ n. n.now) names) (map (λ n. n.now) request.files.items) old between files c.read_classes.ensures.within in
+    let Ahead : Option ℕ → Type 0 = λ o. MatchOption o (AreBuilt classes) (IsFirstAhead classes) in
+    let built : AreBuilt classes = subst Ahead c.in_default.is c.in_ok-place.ensures in
+    let new : Disk = g.F.Files.disk c.write_classes.new.files in
+    let handed = err_from_is_err_and c.from_residual-in_err-write_classes.result c.from_residual-in_err-write_classes.ensures.1 in
+    rw (handed.1, handed.2)
+    (write_ended (job_of request) old between new all c.write_classes.ensures.keeps classes read built c.in_err-write_classes.field-0.0 c.in_err-write_classes.ensures.comes)
 
-pub returns-in-Err-Failed-write-clause-within : goal.returns-in-Err-Failed-write-clause-within
-returns-in-Err-Failed-write-clause-within g c =
-    let job : Job = job_of c.args.request in
+pub returns-clause-within : goal.returns-clause-within
+returns-clause-within g c =
+    let request = c.args.request in
+    let names = c.as_slice-names.result.now in
+    let classes = c.as_slice-classes.result.now in
     let old : Disk = g.F.Files.disk c.args.files.now in
-    let between : Disk = g.F.Files.disk c.read.new.self in
-    let read : Read job.file old between =
-    read_of job.file old between c.read.ensures.contents_kept c.read.ensures.write_faults_kept c.read.ensures.read_faults_rise c.read.ensures.widest_read_rises
-    c.read.ensures.widest_read_within in
-    let new : Disk = g.F.Files.disk c.write.new.self in
-    let name : c.as_str.result.now ≡ written_name job = c.as_str.ensures.value ∙ c.in-Ok-written_name.ensures in
-    let write : Write (written_name job) between new =
-    write_of c.as_str.result.now (written_name job) between new name c.write.ensures.read_faults_kept c.write.ensures.widest_read_kept
-    c.write.ensures.write_faults_rise c.write.ensures.others_kept in
-    after_write job old between new read write
+    let between : Disk = g.F.Files.disk c.read_classes.new.files in
+    let files : map (λ n. n.now) names ≡ map (λ n. n.now) request.files.items = ap (map (λ n. n.now)) c.as_slice-names.ensures.value in
+    let read : AreRead (map (λ n. n.now) request.files.items) classes old between =
+    read_of (map (λ n. n.now) names) (map (λ n. n.now) request.files.items) c.in_ok-read.read.items classes old between files c.as_slice-classes.ensures.value c.in_ok-read.ensures.comes in
+    let all : ReadsAll (map (λ n. n.now) request.files.items) old between =
+    all_of (map (λ n. n.now) names) (map (λ n. n.now) request.files.items) old between files c.read_classes.ensures.within in
+    let new : Disk = g.F.Files.disk c.write_classes.new.files in
+    writes_within (job_of request) old between new all c.write_classes.ensures.keeps
+    (writes_in request.folder.now classes between new c.write_classes.result c.write_classes.ensures.comes)
 
--- ---- what the job comes to
-
-pub returns-in-Err-NotYet-clause-comes : goal.returns-in-Err-NotYet-clause-comes
-returns-in-Err-NotYet-clause-comes g c =
-    let job : Job = job_of c.args.request in
+pub returns-clause-comes : goal.returns-clause-comes
+returns-clause-comes g c =
+    let request = c.args.request in
+    let names = c.as_slice-names.result.now in
+    let classes = c.as_slice-classes.result.now in
     let old : Disk = g.F.Files.disk c.args.files.now in
-    let between : Disk = g.F.Files.disk c.read.new.self in
-    let read : Read job.file old between =
-    read_of job.file old between c.read.ensures.contents_kept c.read.ensures.write_faults_kept c.read.ensures.read_faults_rise c.read.ensures.widest_read_rises
-    c.read.ensures.widest_read_within in
-    let first : HasNoFault old between = read_faultless job.file old between read (λ rose. let e = c.in-Ok.ensures.failed.1 rose in cc) in
-    let Is : Bytes → Type 0 = λ b. (class : _) → ¬ IsMainClass job.main b class in
-    let none : Is c.in-Ok.bytes.items = subst Is c.as_slice.ensures.value (c.read_main_class.ensures.not_yet cc) in (
-      refl,
-      record {
-        refused = holds_such old.contents job.file c.in-Ok.bytes.items (AreRefused job) c.in-Ok.ensures.known (λ class accepted. none class accepted.1);
-        faultless = first;
-        kept = read.kept;
-      },
-    )
-
-pub returns-in-Ok-write-clause-comes : goal.returns-in-Ok-write-clause-comes
-returns-in-Ok-write-clause-comes g c =
-    let job : Job = job_of c.args.request in
-    let old : Disk = g.F.Files.disk c.args.files.now in
-    let between : Disk = g.F.Files.disk c.read.new.self in
-    let read : Read job.file old between =
-    read_of job.file old between c.read.ensures.contents_kept c.read.ensures.write_faults_kept c.read.ensures.read_faults_rise c.read.ensures.widest_read_rises
-    c.read.ensures.widest_read_within in
-    let first : HasNoFault old between = read_faultless job.file old between read (λ rose. let e = c.in-Ok.ensures.failed.1 rose in cc) in
-    let new : Disk = g.F.Files.disk c.write.new.self in
-    let name : c.as_str.result.now ≡ written_name job = c.as_str.ensures.value ∙ c.in-Ok-written_name.ensures in
-    let write : Write (written_name job) between new =
-    write_of c.as_str.result.now (written_name job) between new name c.write.ensures.read_faults_kept c.write.ensures.widest_read_kept
-    c.write.ensures.write_faults_rise c.write.ensures.others_kept in
-    let Rises : Bytes → Type 0 = λ n. between.write_faults n < new.write_faults n in
-    let Is : Bytes → Type 0 = λ b. IsMainClass job.main b c.in-Ok-read_main_class.field-0 in
-    let within : length c.in-Ok.bytes.items ≤ MAX_FILE_BYTES = omega (arith, c.in-Ok.ensures.within_limit) in
-    let accepted : AreAccepted job c.in-Ok.bytes.items = (c.in-Ok-read_main_class.field-0, (within, subst Is c.as_slice.ensures.value c.in-Ok-read_main_class.ensures.found)) in
-    let Holding : Bytes → Type 0 = λ n. Holds new.contents n c.as_slice-2.result.now in
-    let Held : Bytes → Type 0 = λ b. Holds new.contents (written_name job) b in
-    let held : Held c.in-Ok.bytes.items = subst Held c.as_slice-2.ensures.value (subst Holding name c.in-Ok-write.ensures.written) in (
-      refl,
-      record {
-        accepted = holds_such old.contents job.file c.in-Ok.bytes.items (AreAccepted job) c.in-Ok.ensures.known accepted;
-        copied = copies job old.contents new.contents c.in-Ok.bytes.items c.in-Ok.ensures.known held;
-        faultless = write_faultless (written_name job) old between new first write (λ rose. let e = c.in-Ok-write.ensures.failed.1 (subst Rises (sym name) rose) in cc);
-      },
-    )
-
-pub returns-in-Err-Failed-write-clause-comes : goal.returns-in-Err-Failed-write-clause-comes
-returns-in-Err-Failed-write-clause-comes g c =
-    let job : Job = job_of c.args.request in
-    let old : Disk = g.F.Files.disk c.args.files.now in
-    let between : Disk = g.F.Files.disk c.read.new.self in
-    let read : Read job.file old between =
-    read_of job.file old between c.read.ensures.contents_kept c.read.ensures.write_faults_kept c.read.ensures.read_faults_rise c.read.ensures.widest_read_rises
-    c.read.ensures.widest_read_within in
-    let first : HasNoFault old between = read_faultless job.file old between read (λ rose. let e = c.in-Ok.ensures.failed.1 rose in cc) in
-    let new : Disk = g.F.Files.disk c.write.new.self in
-    let name : c.as_str.result.now ≡ written_name job = c.as_str.ensures.value ∙ c.in-Ok-written_name.ensures in
-    let write : Write (written_name job) between new =
-    write_of c.as_str.result.now (written_name job) between new name c.write.ensures.read_faults_kept c.write.ensures.widest_read_kept
-    c.write.ensures.write_faults_rise c.write.ensures.others_kept in
-    let Rises : Bytes → Type 0 = λ n. between.write_faults n < new.write_faults n in
-    let Is : Bytes → Type 0 = λ b. IsMainClass job.main b c.in-Ok-read_main_class.field-0 in
-    let within : length c.in-Ok.bytes.items ≤ MAX_FILE_BYTES = omega (arith, c.in-Ok.ensures.within_limit) in
-    let accepted : AreAccepted job c.in-Ok.bytes.items = (c.in-Ok-read_main_class.field-0, (within, subst Is c.as_slice.ensures.value c.in-Ok-read_main_class.ensures.found)) in
-    let failed : c.write.result ≡ Err write_fail.Failed = cc in (
-      refl,
-      record {
-        accepted = holds_such old.contents job.file c.in-Ok.bytes.items (AreAccepted job) c.in-Ok.ensures.known accepted;
-        fault = write_fault (written_name job) old between new first write (subst Rises name (c.write.ensures.failed.0 failed));
-      },
-    )
+    let between : Disk = g.F.Files.disk c.read_classes.new.files in
+    let files : map (λ n. n.now) names ≡ map (λ n. n.now) request.files.items = ap (map (λ n. n.now)) c.as_slice-names.ensures.value in
+    let read : AreRead (map (λ n. n.now) request.files.items) classes old between =
+    read_of (map (λ n. n.now) names) (map (λ n. n.now) request.files.items) c.in_ok-read.read.items classes old between files c.as_slice-classes.ensures.value c.in_ok-read.ensures.comes in
+    let all : ReadsAll (map (λ n. n.now) request.files.items) old between =
+    all_of (map (λ n. n.now) names) (map (λ n. n.now) request.files.items) old between files c.read_classes.ensures.within in
+    let Ahead : Option ℕ → Type 0 = λ o. MatchOption o (AreBuilt classes) (IsFirstAhead classes) in
+    let built : AreBuilt classes = subst Ahead c.in_default.is c.in_ok-place.ensures in
+    let new : Disk = g.F.Files.disk c.write_classes.new.files in
+    is_done (job_of request) old between new all c.write_classes.ensures.keeps classes read built _ c.in_ok-lines.ensures c.in_ok-write_classes.ensures.comes

@@ -1,14 +1,46 @@
-use Rattle.freeme.proofs.CauseLemmas.{is_status, is_for_done, is_for_form, is_for_memory}
+use Rattle.std.proofs.Common.{arith}
+use Rattle.freeme.proofs.CauseLemmas.{is_for_words, is_for_read, is_for_bytes, is_for_limit, is_for_not_yet, is_for_done, is_for_write, is_for_memory, is_faultless, keeps_contents, changes_only}
+use Rattle.freeme.proofs.StatusLemmas.{is_status}
 use Rattle.freeme.proofs.top_call.freeme_run.Goals as goal
 
 pub returns-clause-status : goal.returns-clause-status
-returns-clause-status g c = is_status c.do_words-outcome.result _ _ _ _ c.tell.ensures
+returns-clause-status g c = is_status c.do_words-outcome.result _ _ _ c.tell.ensures
 
 pub returns-clause-done : goal.returns-clause-done
 returns-clause-done g c = is_for_done _ _ _ _ _ _ c.do_words-outcome.result c.do_words-outcome.ensures c.tell.ensures
 
-pub returns-clause-form : goal.returns-clause-form
-returns-clause-form g c = is_for_form _ _ _ _ _ _ c.do_words-outcome.result c.do_words-outcome.ensures c.tell.ensures
+pub returns-clause-words : goal.returns-clause-words
+returns-clause-words g c = is_for_words _ _ _ _ _ _ c.do_words-outcome.result c.do_words-outcome.ensures c.tell.ensures
+
+pub returns-clause-read : goal.returns-clause-read
+returns-clause-read g c = is_for_read _ _ _ _ _ _ c.do_words-outcome.result c.do_words-outcome.ensures c.tell.ensures
+
+pub returns-clause-malformed : goal.returns-clause-malformed
+returns-clause-malformed g c = is_for_bytes _ _ _ _ _ _ c.do_words-outcome.result c.do_words-outcome.ensures c.tell.ensures _ (omega arith) (omega arith) (λ e. omega arith)
+
+pub returns-clause-version : goal.returns-clause-version
+returns-clause-version g c = is_for_bytes _ _ _ _ _ _ c.do_words-outcome.result c.do_words-outcome.ensures c.tell.ensures _ (omega arith) (omega arith) (λ e. omega arith)
+
+pub returns-clause-limit : goal.returns-clause-limit
+returns-clause-limit g c = is_for_limit _ _ _ _ _ _ c.do_words-outcome.result c.do_words-outcome.ensures c.tell.ensures
+
+pub returns-clause-unsupported : goal.returns-clause-unsupported
+returns-clause-unsupported g c = is_for_bytes _ _ _ _ _ _ c.do_words-outcome.result c.do_words-outcome.ensures c.tell.ensures _ (omega arith) (omega arith) (λ e. omega arith)
+
+pub returns-clause-not_yet : goal.returns-clause-not_yet
+returns-clause-not_yet g c = is_for_not_yet _ _ _ _ _ _ c.do_words-outcome.result c.do_words-outcome.ensures c.tell.ensures
+
+pub returns-clause-write : goal.returns-clause-write
+returns-clause-write g c = is_for_write _ _ _ _ _ _ c.do_words-outcome.result c.do_words-outcome.ensures c.tell.ensures
 
 pub returns-clause-memory : goal.returns-clause-memory
 returns-clause-memory g c = is_for_memory _ _ _ _ _ _ c.do_words-outcome.result c.do_words-outcome.ensures c.tell.ensures
+
+pub returns-clause-faultless : goal.returns-clause-faultless
+returns-clause-faultless g c = is_faultless _ _ _ _ _ _ c.do_words-outcome.result c.do_words-outcome.ensures c.tell.ensures
+
+pub returns-clause-kept : goal.returns-clause-kept
+returns-clause-kept g c = keeps_contents _ _ _ _ _ _ c.do_words-outcome.result c.do_words-outcome.ensures c.tell.ensures
+
+pub returns-clause-others : goal.returns-clause-others
+returns-clause-others g c = changes_only _ _ _ _ _ _ c.do_words-outcome.result c.do_words-outcome.ensures c.tell.ensures

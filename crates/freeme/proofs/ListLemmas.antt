@@ -1,0 +1,25 @@
+-- Lists that grow by the element at an index.
+use Rattle.std.proofs.Common.{◌≡◌, ℕ, zero, suc, ◌+◌, ◌<◌, List, [], ◌∷◌, ◌++◌, length, take, get_or, Some, None, IfSome, sym, ap, subst, ◌∙◌, arith}
+use Rattle.std.specs.List.{AllByRecursion, slice_get}
+use Rattle.std.proofs.lemmas.List.{take_more}
+use Rattle.std.proofs.lemmas.Option.{slice_get_within, get_or_from_slice_get, slice_get_read}
+use Rattle.fm_base.proofs.ListFacts.{AllByRecursion-append}
+
+-- the element that a loop has at an index
+pub item_at : {X : Type 0} (xs : List X) (i : ℕ) (x : X) → i < length xs → x ≡ get_or xs i x → slice_get xs i ≡ Some x
+item_at xs i x within is = slice_get_read xs (length xs) i x (λ _. length xs) within is
+
+-- one element more
+pub take_next : {X : Type 0} (xs : List X) (i : ℕ) (x : X) → slice_get xs i ≡ Some x → take (i + 1) xs ≡ take i xs ++ x ∷ []
+take_next xs i x there = take_more xs i x (slice_get_within xs i x there) ∙ ap (λ y. take i xs ++ y ∷ []) (get_or_from_slice_get xs i x x there)
+
+-- what holds of each of the first elements and of the next one
+pub AllByRecursion-next : {X : Type 0} (P : X → Type 0) (xs : List X) (i : ℕ) (x : X) → slice_get xs i ≡ Some x → AllByRecursion P (take i xs) → P x → AllByRecursion P (take (i + 1) xs)
+AllByRecursion-next P xs i x there first next =
+    subst (AllByRecursion P) (sym (take_next xs i x there)) (AllByRecursion-append P (take i xs) (x ∷ []) first (next, tt))
+
+-- what holds of each element holds of the one at an index
+pub AllByRecursion-at : {X : Type 0} (P : X → Type 0) (xs : List X) (i : ℕ) (x : X) → AllByRecursion P xs → slice_get xs i ≡ Some x → P x
+AllByRecursion-at P [] i x all there = absurd (let past = slice_get_within [] i x there in omega arith)
+AllByRecursion-at P (y ∷ xs) zero x all there = let same : y ≡ x = cc in subst P same all.0
+AllByRecursion-at P (y ∷ xs) (suc i) x all there = AllByRecursion-at P xs i x all.1 there

@@ -1,0 +1,60 @@
+use Rattle.std.proofs.Common.{◌≡◌, ◌<◌, ◌≤◌, ℕ, ◌+◌, Bool, true, false, not, List, length, map, take, Some, IfSome, IsSomeAnd, string_bytes, Contains, ⊎_elim, sym, ap, subst, ◌∙◌, arith, rules}
+use Rattle.std.specs.BTreeSet.{contains_text}
+use Rattle.std.specs.List.{list_any, slice_get}
+use Rattle.std.specs.Str.{bytes_eq}
+use Rattle.std.proofs.lemmas.Bool.{not-false, not-true, false≢true}
+use Rattle.std.proofs.lemmas.Cmp.{nat_list_eq_equiv}
+use Rattle.std.proofs.lemmas.Map.Views.{Contains-from_any, list_any-from_Contains}
+use Rattle.std.proofs.lemmas.Option.{slice_get_cases}
+use Rattle.std.proofs.lemmas.Slice.Eq.{bytes_eq-Decides}
+use Rattle.fm_code.specs.declared.class_file.ClassDef.{ClassDef}
+use Rattle.freeme.specs.Ahead.{IsBuilt, IsBuiltAt, IsFirstAhead, class_is_ahead}
+use Rattle.freeme.specs.Writing.{class_text}
+use Rattle.freeme.proofs.AheadLemmas.{built_more, names_more}
+use Rattle.freeme.proofs.ListLemmas.{item_at}
+use Rattle.freeme.proofs.ahead.first_ahead.Goals as goal
+
+-- a name that was seen
+seen_name : (q : List ℕ) (xs : List (List ℕ)) → list_any (bytes_eq q) xs ≡ true → Contains xs q
+seen_name q xs seen = Contains-from_any {eq = bytes_eq} (λ x y. (bytes_eq-Decides x y).0) q xs seen
+
+-- a name that wasn't
+new_name : (q : List ℕ) (xs : List (List ℕ)) → list_any (bytes_eq q) xs ≡ false → ¬ Contains xs q
+new_name q xs unseen there = false≢true (sym unseen ∙ list_any-from_Contains {eq = bytes_eq} nat_list_eq_equiv q xs there)
+
+pub returns-then-not-is_new : goal.returns-then-not-is_new
+returns-then-not-is_new c =
+    let classes = c.args.classes.now in
+    let i = c.loop-place.place in
+    let class = c.index-classes-place.result in
+    let there : slice_get classes i ≡ Some class = item_at classes i class (omega (arith, c.loop-place-test.true)) c.index-classes-place.is in
+    let text : string_bytes c.in_ok-class_text.field-0 ≡ class_text class = c.in_ok-class_text.ensures in
+    let known : contains_text c.loop-place.names (string_bytes c.in_ok-class_text.field-0) ≡ true = not-false _ (sym c.in_ok-is_new.ensures.added ∙ c.if-not-is_new.true) in
+    let seen : Contains (map class_text (take i classes)) (class_text class) = seen_name (class_text class) (map class_text (take i classes)) (ap (λ q. list_any (bytes_eq q) (map class_text (take i classes))) (sym text) ∙ sym (c.loop-place.invariant.names (string_bytes c.in_ok-class_text.field-0)) ∙ known) in
+    record {
+      before = c.loop-place.invariant.built;
+      ahead = subst (λ o. IsSomeAnd o (λ d. ¬ IsBuilt classes i d)) (sym there) (λ built. built.new_name seen);
+    }
+
+pub loop-place-preserved : goal.loop-place-preserved
+loop-place-preserved c =
+    let classes = c.args.classes.now in
+    let i = c.loop-place.place in
+    let class = c.index-classes-place.result in
+    let there : slice_get classes i ≡ Some class = item_at classes i class (omega (arith, c.loop-place-test.true)) c.index-classes-place.is in
+    let text : string_bytes c.in_ok-class_text.field-0 ≡ class_text class = c.in_ok-class_text.ensures in
+    let unknown : contains_text c.loop-place.names (string_bytes c.in_ok-class_text.field-0) ≡ false = not-true _ (sym c.in_ok-is_new.ensures.added ∙ c.if-not-is_new.false) in
+    let unseen : ¬ Contains (map class_text (take i classes)) (class_text class) = new_name (class_text class) (map class_text (take i classes)) (ap (λ q. list_any (bytes_eq q) (map class_text (take i classes))) (sym text) ∙ sym (c.loop-place.invariant.names (string_bytes c.in_ok-class_text.field-0)) ∙ unknown) in
+    let plain : class_is_ahead class ≡ false = sym c.class_is_ahead.ensures ∙ c.if-class_is_ahead.false in
+    record {
+      built = built_more classes i class there (record { plain = plain; new_name = unseen }) c.loop-place.invariant.built;
+      names = names_more c.in_ok-class_text.field-0 c.loop-place.names c.insert.new.self classes i class there text c.in_ok-is_new.ensures.updates c.loop-place.invariant.names;
+    }
+
+pub returns : goal.returns
+returns c = λ place. all_built c.args.classes.now c.loop-place.place place (omega (arith, c.loop-place-test.false)) c.loop-place.invariant.built where
+  all_built : (classes : List ClassDef) (i place : ℕ) → length classes ≤ i → ((k : ℕ) → k < i → IsBuiltAt classes k) → IsBuiltAt classes place
+  all_built classes i place all built = ⊎_elim
+      (λ found. built place (omega (arith, found.1)))
+      (λ past. subst (λ o. IfSome o (IsBuilt classes place)) (sym past.1) tt)
+      (slice_get_cases classes place).1

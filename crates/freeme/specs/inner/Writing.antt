@@ -1,0 +1,49 @@
+-- What the write of classes comes to, of one and of all.
+use Rattle.std.specs.Prelude.{◌≡◌, ℕ, List, map, take, Contains, Result, Ok, Err, IfSome, slice_get, string_bytes}
+use Rattle.fm_files.specs.Files.{Bytes, Disk, AreKept, OthersAreKept, Holds}
+use Rattle.fm_code.specs.ClassBytes.{class_bytes}
+use Rattle.fm_code.specs.Spells.{Spells}
+use Rattle.fm_code.specs.declared.class_file.ClassDef.{ClassDef}
+use Rattle.fm_tool.specs.Outside.{HasNoFault, HasWriteFault}
+use Rattle.fm_tool.specs.declared.refusal.Refusal.TheVariants as refusal
+use Rattle.freeme.specs.TopCall.{IsUntouched}
+use Rattle.freeme.specs.Writing.{class_text, written_name, AllWritten, SomeWritten, FailsToWrite}
+use Rattle.freeme.specs.declared.refusal.JobRefusal.{JobRefusal}
+use Rattle.freeme.specs.declared.refusal.JobRefusal.TheVariants as job_refusal
+
+-- the bytes of the class spell it
+abbrev pub IsSpelled : ClassDef → Type 0
+IsSpelled c = Spells (class_bytes c) c
+
+-- no class has the name of an earlier one
+abbrev pub AreApart : List ClassDef → Type 0
+AreApart classes = (place : ℕ) → IfSome (slice_get classes place) (λ c. ¬ Contains (map class_text (take place classes)) (class_text c))
+
+-- no read failed, and nothing was seen
+pub record KeepsReads (old new : Disk) : Type 0 where
+  pub faults : AreKept old.read_faults new.read_faults
+  pub widest : AreKept old.widest_read new.widest_read
+
+-- one class is written
+pub record IsWritten (name : Bytes) (class : ClassDef) (old new : Disk) : Type 0 where
+  pub holds : Holds new.contents name (class_bytes class)
+  pub others : OthersAreKept name old.contents new.contents
+  pub faultless : HasNoFault old new
+
+-- the write of one failed
+pub record IsWriteFailed (name : Bytes) (old new : Disk) : Type 0 where
+  pub others : OthersAreKept name old.contents new.contents
+  pub fault : HasWriteFault name old new
+
+abbrev pub ComesOfClass : Bytes → ClassDef → Disk → Disk → Result Unit JobRefusal → Type 0
+ComesOfClass folder class old new (Ok _) = IsWritten (written_name folder class) class old new
+ComesOfClass folder class old new (Err (job_refusal.Write name)) = (string_bytes name ≡ written_name folder class) × IsWriteFailed (written_name folder class) old new
+ComesOfClass folder class old new (Err (job_refusal.Shared refusal.OutOfMemory)) = IsUntouched old new
+ComesOfClass folder class old new (Err r) = ⊥
+
+-- all classes, from the first one on
+abbrev pub ComesOfClasses : Bytes → List ClassDef → Disk → Disk → Result Unit JobRefusal → Type 0
+ComesOfClasses folder classes old new (Ok _) = AllWritten folder classes old new
+ComesOfClasses folder classes old new (Err (job_refusal.Write name)) = FailsToWrite folder classes (string_bytes name) old new
+ComesOfClasses folder classes old new (Err (job_refusal.Shared refusal.OutOfMemory)) = SomeWritten folder classes old new
+ComesOfClasses folder classes old new (Err r) = ⊥

@@ -1,0 +1,79 @@
+// Why a job isn't done, and how that is told.
+
+ghost use Rattle.std.specs.Prelude.{◌≡◌, IfOk, string_bytes};
+ghost use Rattle.fm_tool.specs.declared.refusal.Refusal.TheVariants as refusal;
+ghost use Rattle.freeme.specs.Refusal.{refusal_line, refusal_status};
+ghost use Rattle.freeme.specs.declared.refusal.JobRefusal.TheVariants as job_refusal;
+
+use crate::class_refusal::ClassRefusal;
+use fm_base::NoMemory;
+use fm_tool::{Refusal, status};
+use std::alloc::{AllocError, AllocFailed, Global};
+
+/// Why a job isn't done.
+#[derive(Debug, Drop)]
+pub enum JobRefusal<'a> {
+    /// For a reason that the other program has too.
+    Shared(Refusal<'a>),
+    /// There are so many class files, more than the limit.
+    TooManyFiles(usize),
+    /// This class file is too long, or those up to it are too long together.
+    TooLong(&'a str),
+    /// This class file is refused by its bytes.
+    Class(&'a str, ClassRefusal),
+    /// The file of this name couldn't be written.
+    Write(String),
+}
+
+impl JobRefusal<'_> {
+    /// The line that tells it, with its line end.
+    pub fn line(&self, alloc: Global) -> Result<String, NoMemory>
+        ensures { IfOk result (λ text. string_bytes text ≡ refusal_line self.now) }
+    {
+        match self {
+            JobRefusal::Shared(refusal) => refusal.line(alloc),
+            JobRefusal::TooManyFiles(count) => {
+                Ok(format!(in alloc; "refused: limit files {count}\n")?)
+            }
+            JobRefusal::TooLong(file) => Ok(format!(in alloc; "refused: limit length {file}\n")?),
+            JobRefusal::Class(file, refusal) => refusal.line(alloc, file),
+            JobRefusal::Write(name) => Ok(format!(in alloc; "refused: write {name}\n")?),
+        }
+    }
+
+    /// The status that tells it.
+    pub fn status(&self) -> u8
+        ensures { result ≡ refusal_status self.now }
+    {
+        match self {
+            JobRefusal::Shared(refusal) => refusal.status(),
+            JobRefusal::TooManyFiles(_) | JobRefusal::TooLong(_) => status::LIMIT,
+            JobRefusal::Class(_, refusal) => refusal.status(),
+            JobRefusal::Write(_) => status::WRITE,
+        }
+    }
+}
+
+impl From<NoMemory> for JobRefusal<'_> {
+    ghost from_gives = { λ _ e. e ≡ job_refusal.Shared refusal.OutOfMemory };
+
+    fn from(_error: NoMemory) -> Self {
+        JobRefusal::Shared(Refusal::OutOfMemory)
+    }
+}
+
+impl From<AllocError> for JobRefusal<'_> {
+    ghost from_gives = { λ _ e. e ≡ job_refusal.Shared refusal.OutOfMemory };
+
+    fn from(_error: AllocError) -> Self {
+        JobRefusal::Shared(Refusal::OutOfMemory)
+    }
+}
+
+impl<T: Drop> From<AllocFailed<T>> for JobRefusal<'_> {
+    ghost from_gives = { λ _ e. e ≡ job_refusal.Shared refusal.OutOfMemory };
+
+    fn from(_error: AllocFailed<T>) -> Self {
+        JobRefusal::Shared(Refusal::OutOfMemory)
+    }
+}
