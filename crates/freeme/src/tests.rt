@@ -8,20 +8,6 @@ use fm_tool::status;
 use std::alloc::Global;
 use std::test::Fail;
 
-// A call over files in memory: its words, what the names hold before, the numbers of the call on the
-// files and of the put that fail (none is 0), and what comes of it: the status, the lines that are put,
-// and what the names hold then.
-#[derive(Clone, Copy)]
-struct Case<'a> {
-    words: &'a str,
-    files: &'a [(&'a str, &'a [u8])],
-    failing_call: u32,
-    failing_put: u32,
-    status: u8,
-    lines: &'a str,
-    after: &'a [(&'a str, &'a [u8])],
-}
-
 // The class A, whose main returns at once.
 const CLASS_A: ClassSample<'static> = ClassSample {
     pool: &[
@@ -133,36 +119,28 @@ fn split_words(alloc: Global, text: &str) -> Result<Vec<String>, NoMemory> {
     Ok(words)
 }
 
-// Whether each of the names holds its bytes.
-fn hold(files: &MemFiles, after: &[(&str, &[u8])]) -> bool {
-    for (name, bytes) in after {
-        if files.bytes(name) != Some(*bytes) {
-            return false;
-        }
-    }
-    true
-}
-
-// Whether the call comes out as the case says.
-fn comes_out(alloc: Global, case: Case<'_>) -> Result<bool, NoMemory> {
-    let mut files = MemFiles::new(alloc, vec![in alloc; case.failing_call]?);
-    for (name, bytes) in case.files {
-        files.add(name, bytes)?;
-    }
-    let mut out = MemSink::new(alloc, vec![in alloc; case.failing_put]?);
-    let words = split_words(alloc, case.words)?;
-    let status = freeme_run(alloc, words.as_slice(), &mut files, &mut out);
-    Ok(status == case.status && out.bytes() == case.lines.as_bytes() && hold(&files, case.after))
+// Whether a call over these files, whose put of that number fails (0 is none), ends with this status
+// and these lines.
+fn ends_with(
+    alloc: Global,
+    words: &str,
+    files: &mut MemFiles,
+    failing_put: u32,
+    status: u8,
+    lines: &str,
+) -> Result<bool, NoMemory> {
+    let words = split_words(alloc, words)?;
+    let mut out = MemSink::new(alloc, vec![in alloc; failing_put]?);
+    let result = freeme_run(alloc, words.as_slice(), files, &mut out);
+    Ok(result == status && out.bytes() == lines.as_bytes())
 }
 
 // Whether a call for these bytes alone is refused with this status and this line.
 fn is_refused(alloc: Global, bytes: &[u8], status: u8, line: &str) -> Result<bool, NoMemory> {
     let mut files = MemFiles::new(alloc, Vec::new(alloc));
     files.add("M.class", bytes)?;
-    let mut out = MemSink::new(alloc, Vec::new(alloc));
-    let words = split_words(alloc, ASKED)?;
-    let result = freeme_run(alloc, words.as_slice(), &mut files, &mut out);
-    Ok(result == status && out.bytes() == line.as_bytes() && files.bytes("d/M.class").is_none())
+    let is_told = ends_with(alloc, ASKED, &mut files, 0, status, line)?;
+    Ok(is_told && files.bytes("d/M.class").is_none())
 }
 
 #[test]
@@ -171,24 +149,14 @@ fn classes_are_written_as_they_were_read(rt: HostRuntime) -> Result<(), Fail> {
     let a = CLASS_A.bytes(alloc)?;
     let b = CLASS_B.bytes(alloc)?;
     let m = PRINTS_SUM.bytes(alloc)?;
-    let case = Case {
-        words: ASKED_THREE,
-        files: &[
-            ("A.class", a.as_slice()),
-            ("B.class", b.as_slice()),
-            ("M.class", m.as_slice()),
-        ],
-        failing_call: 0,
-        failing_put: 0,
-        status: status::DONE,
-        lines: THREE_LINES,
-        after: &[
-            ("d/A.class", a.as_slice()),
-            ("d/B.class", b.as_slice()),
-            ("d/M.class", m.as_slice()),
-        ],
-    };
-    assert!(rt; comes_out(alloc, case)?);
+    let mut files = MemFiles::new(alloc, Vec::new(alloc));
+    files.add("A.class", a.as_slice())?;
+    files.add("B.class", b.as_slice())?;
+    files.add("M.class", m.as_slice())?;
+    assert!(rt; ends_with(alloc, ASKED_THREE, &mut files, 0, 0, THREE_LINES)?);
+    assert!(rt; files.bytes("d/A.class") == Some(a.as_slice()));
+    assert!(rt; files.bytes("d/B.class") == Some(b.as_slice()));
+    assert!(rt; files.bytes("d/M.class") == Some(m.as_slice()));
     Ok(())
 }
 
@@ -198,21 +166,15 @@ fn a_failed_write_leaves_the_later_files(rt: HostRuntime) -> Result<(), Fail> {
     let a = CLASS_A.bytes(alloc)?;
     let b = CLASS_B.bytes(alloc)?;
     let m = RETURNS.bytes(alloc)?;
-    let case = Case {
-        words: ASKED_THREE,
-        files: &[
-            ("A.class", a.as_slice()),
-            ("B.class", b.as_slice()),
-            ("M.class", m.as_slice()),
-            ("d/M.class", b"old"),
-        ],
-        failing_call: 5,
-        failing_put: 0,
-        status: status::WRITE,
-        lines: "refused: write d/B.class\n",
-        after: &[("d/A.class", a.as_slice()), ("d/M.class", b"old")],
-    };
-    assert!(rt; comes_out(alloc, case)?);
+    let mut files = MemFiles::new(alloc, vec![in alloc; 5]?);
+    files.add("A.class", a.as_slice())?;
+    files.add("B.class", b.as_slice())?;
+    files.add("M.class", m.as_slice())?;
+    files.add("d/M.class", b"old")?;
+    let line = "refused: write d/B.class\n";
+    assert!(rt; ends_with(alloc, ASKED_THREE, &mut files, 0, 75, line)?);
+    assert!(rt; files.bytes("d/A.class") == Some(a.as_slice()));
+    assert!(rt; files.bytes("d/M.class") == Some(b"old".as_slice()));
     Ok(())
 }
 
@@ -220,44 +182,24 @@ fn a_failed_write_leaves_the_later_files(rt: HostRuntime) -> Result<(), Fail> {
 fn a_failed_put_comes_after_the_writes(rt: HostRuntime) -> Result<(), Fail> {
     let alloc = rt.alloc();
     let m = RETURNS.bytes(alloc)?;
-    let case = Case {
-        words: ASKED,
-        files: &[("M.class", m.as_slice())],
-        failing_call: 0,
-        failing_put: 1,
-        status: status::WRITE,
-        lines: "",
-        after: &[("d/M.class", m.as_slice())],
-    };
-    assert!(rt; comes_out(alloc, case)?);
+    let mut files = MemFiles::new(alloc, Vec::new(alloc));
+    files.add("M.class", m.as_slice())?;
+    assert!(rt; ends_with(alloc, ASKED, &mut files, 1, 75, "")?);
+    assert!(rt; files.bytes("d/M.class") == Some(m.as_slice()));
     Ok(())
 }
 
 #[test]
-fn a_failed_read_ends_the_call(rt: HostRuntime) -> Result<(), Fail> {
+fn a_file_that_fails_or_is_missing_ends_the_call(rt: HostRuntime) -> Result<(), Fail> {
     let alloc = rt.alloc();
     let a = CLASS_A.bytes(alloc)?;
-    let m = RETURNS.bytes(alloc)?;
-    let case = Case {
-        words: ASKED_THREE,
-        files: &[
-            ("A.class", a.as_slice()),
-            ("B.class", b""),
-            ("M.class", m.as_slice()),
-        ],
-        failing_call: 2,
-        failing_put: 0,
-        status: status::READ,
-        lines: "refused: read B.class\n",
-        after: &[],
-    };
-    assert!(rt; comes_out(alloc, case)?);
-    let missing = Case {
-        files: &[("A.class", a.as_slice())],
-        failing_call: 0,
-        ..case
-    };
-    assert!(rt; comes_out(alloc, missing)?);
+    let mut files = MemFiles::new(alloc, vec![in alloc; 1]?);
+    files.add("A.class", a.as_slice())?;
+    files.add("M.class", b"")?;
+    let failed = "refused: read A.class\n";
+    assert!(rt; ends_with(alloc, ASKED_THREE, &mut files, 0, 65, failed)?);
+    let missing = "refused: read B.class\n";
+    assert!(rt; ends_with(alloc, ASKED_THREE, &mut files, 0, 65, missing)?);
     Ok(())
 }
 
@@ -265,16 +207,20 @@ fn a_failed_read_ends_the_call(rt: HostRuntime) -> Result<(), Fail> {
 fn a_class_of_an_earlier_name_is_not_written(rt: HostRuntime) -> Result<(), Fail> {
     let alloc = rt.alloc();
     let a = CLASS_A.bytes(alloc)?;
-    let case = Case {
-        words: "--out d --main A A.class B.class",
-        files: &[("A.class", a.as_slice()), ("B.class", a.as_slice())],
-        failing_call: 0,
-        failing_put: 0,
-        status: status::NOT_YET,
-        lines: "refused: not-yet B.class\n",
-        after: &[],
-    };
-    assert!(rt; comes_out(alloc, case)?);
+    let mut files = MemFiles::new(alloc, Vec::new(alloc));
+    files.add("A.class", a.as_slice())?;
+    files.add("B.class", a.as_slice())?;
+    let words = "--out d --main A A.class B.class";
+    assert!(rt;
+        ends_with(
+            alloc,
+            words,
+            &mut files,
+            0,
+            77,
+            "refused: not-yet B.class\n"
+        )?
+    );
     Ok(())
 }
 
@@ -332,23 +278,9 @@ fn too_much_is_refused(rt: HostRuntime) -> Result<(), Fail> {
 #[test]
 fn words_of_no_form_are_refused(rt: HostRuntime) -> Result<(), Fail> {
     let alloc = rt.alloc();
-    let case = Case {
-        words: "",
-        files: &[],
-        failing_call: 0,
-        failing_put: 0,
-        status: status::WORDS,
-        lines: "refused: words\n",
-        after: &[],
-    };
-    assert!(rt; comes_out(alloc, case)?);
-    let unput = Case {
-        failing_put: 1,
-        status: status::WRITE,
-        lines: "",
-        ..case
-    };
-    assert!(rt; comes_out(alloc, unput)?);
+    let mut files = MemFiles::new(alloc, Vec::new(alloc));
+    assert!(rt; ends_with(alloc, "", &mut files, 0, 64, "refused: words\n")?);
+    assert!(rt; ends_with(alloc, "", &mut files, 1, 75, "")?);
     Ok(())
 }
 
