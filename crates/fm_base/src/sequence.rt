@@ -9,6 +9,7 @@ ghost use Rattle.std.specs.Slice.Iter.{iter_rest};
 use crate::error::NoMemory;
 use std::alloc::Global;
 use std::marker::Model;
+use std::ops::DerefSlice;
 use std::slice;
 
 /// Values in order. Contracts see the list of the values, and nothing of where it lies in memory.
@@ -122,5 +123,15 @@ impl<'a, T> IntoIterator for &'a Seq<T> {
 
     fn into_iter(self) -> slice::Iter<'a, T> {
         self.iter()
+    }
+}
+
+impl<T> DerefSlice for Seq<T> {
+    type Elem = T;
+
+    ghost deref_gives = { λ seq items. items ≡ seq };
+
+    fn deref(&self) -> &[T] {
+        self.as_slice()
     }
 }

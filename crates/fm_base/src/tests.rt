@@ -26,6 +26,7 @@ fn a_sequence_reads_like_a_rust_collection(rt: HostRuntime) -> Result<(), Fail> 
     }
     assert!(rt; !last, "the second value comes last");
     assert_eq!(rt; seq.as_slice(), [true, false].as_slice());
+    assert_eq!(rt; seq.first(), Some(&true));
     assert_eq!(rt; seq, Seq::new(vec![in rt.alloc(); true, false]?));
     assert_eq!(rt; seq.into_vec().as_slice(), [true, false].as_slice());
     Ok(())
@@ -39,6 +40,7 @@ fn a_name_reads_like_a_rust_collection(rt: HostRuntime) -> Result<(), Fail> {
     assert_eq!(rt; name.iter().next(), Some(&0x41));
     assert_eq!(rt; (&name).into_iter().next(), Some(&0x41));
     assert_eq!(rt; name.as_slice(), [0x41, 0xc0, 0x80].as_slice());
+    assert_eq!(rt; name.last(), Some(&0x80));
     assert_eq!(rt; name.copy(rt.alloc())?, name);
     assert_eq!(rt; name.into_vec().as_slice(), [0x41, 0xc0, 0x80].as_slice());
     Ok(())
@@ -52,6 +54,7 @@ fn units_read_like_a_rust_collection(rt: HostRuntime) -> Result<(), Fail> {
     assert_eq!(rt; units.iter().next(), Some(&0x41));
     assert_eq!(rt; (&units).into_iter().next(), Some(&0x41));
     assert_eq!(rt; units.as_slice(), [0x41, 0xd800].as_slice());
+    assert_eq!(rt; units.last(), Some(&0xd800));
     assert_eq!(rt; units.copy(rt.alloc())?, units);
     assert_eq!(rt; units.into_vec().as_slice(), [0x41, 0xd800].as_slice());
     Ok(())

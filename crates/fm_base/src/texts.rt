@@ -11,6 +11,7 @@ ghost use Rattle.fm_base.specs.Texts.{unit_bytes, units, IsModifiedUtf8};
 use crate::error::NoMemory;
 use std::alloc::Global;
 use std::marker::Model;
+use std::ops::DerefSlice;
 use std::slice;
 
 /// The bytes of a text in modified UTF-8 (JVMS 4.4.7). Contracts see the list of the bytes.
@@ -118,6 +119,16 @@ impl<'a> IntoIterator for &'a Name {
     }
 }
 
+impl DerefSlice for Name {
+    type Elem = u8;
+
+    ghost deref_gives = { λ text bytes. bytes ≡ text };
+
+    fn deref(&self) -> &[u8] {
+        self.as_slice()
+    }
+}
+
 /// The 16-bit units of a text, as an object of the running program holds them. Contracts see the list
 /// of the units.
 #[derive(Debug, Drop)]
@@ -221,6 +232,16 @@ impl<'a> IntoIterator for &'a Units {
 
     fn into_iter(self) -> slice::Iter<'a, u16> {
         self.iter()
+    }
+}
+
+impl DerefSlice for Units {
+    type Elem = u16;
+
+    ghost deref_gives = { λ text units. units ≡ text };
+
+    fn deref(&self) -> &[u16] {
+        self.as_slice()
     }
 }
 

@@ -123,7 +123,7 @@ impl Memory for PlainCells {
     }
 
     fn free(&mut self, cell: Cell) -> Result<Freed, NotHeld> {
-        let (words, fixed) = match resident_at(self.residents.as_slice(), cell) {
+        let (words, fixed) = match resident_at(&self.residents, cell) {
             Some(resident) => (
                 object_words(resident.elements.len() as u32, resident.pack),
                 resident.fixed,
@@ -140,7 +140,7 @@ impl Memory for PlainCells {
     }
 
     fn head(&self, cell: Cell) -> Option<Head> {
-        let resident = resident_at(self.residents.as_slice(), cell)?;
+        let resident = resident_at(&self.residents, cell)?;
         Some(Head {
             class: resident.class,
             birth: resident.birth,
@@ -151,7 +151,7 @@ impl Memory for PlainCells {
     }
 
     fn get(&self, cell: Cell, place: u32) -> u64 {
-        match resident_at(self.residents.as_slice(), cell) {
+        match resident_at(&self.residents, cell) {
             Some(resident) => resident.elements[place as usize],
             None => unreachable!(),
         }
@@ -164,7 +164,7 @@ impl Memory for PlainCells {
     }
 
     fn chain(&self, cell: Cell) -> Cell {
-        match resident_at(self.residents.as_slice(), cell) {
+        match resident_at(&self.residents, cell) {
             Some(resident) => Cell(resident.chain),
             None => unreachable!(),
         }

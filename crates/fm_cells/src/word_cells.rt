@@ -200,7 +200,7 @@ impl Memory for WordCells {
     }
 
     fn free(&mut self, cell: Cell) -> Result<Freed, NotHeld> {
-        if !is_marked(self.marks.as_slice(), cell.0) {
+        if !is_marked(&self.marks, cell.0) {
             return if cell.0 == 0 {
                 Ok(Freed::Skipped)
             } else {
@@ -223,7 +223,7 @@ impl Memory for WordCells {
 
     #[inline]
     fn head(&self, cell: Cell) -> Option<Head> {
-        if !is_marked(self.marks.as_slice(), cell.0) {
+        if !is_marked(&self.marks, cell.0) {
             return None;
         }
         let at = cell.0 as usize;
@@ -240,12 +240,7 @@ impl Memory for WordCells {
     #[inline]
     fn get(&self, cell: Cell, place: u32) -> u64 {
         let at = cell.0 as usize;
-        element(
-            self.words.as_slice(),
-            at + 2,
-            exponent_in(self.words[at]),
-            place,
-        )
+        element(&self.words, at + 2, exponent_in(self.words[at]), place)
     }
 
     #[inline]

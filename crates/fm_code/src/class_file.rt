@@ -30,7 +30,7 @@ impl ClassDef {
     pub fn copy(&self, alloc: Global) -> Result<ClassDef, NoMemory>
         ensures { IfOk result (λ class. class ≡ self.now) }
     {
-        let interfaces = Vec::from_slice(alloc, self.interfaces.as_slice())?;
+        let interfaces = Vec::from_slice(alloc, &self.interfaces)?;
         Ok(ClassDef {
             minor: self.minor,
             major: self.major,
@@ -39,9 +39,9 @@ impl ClassDef {
             this_class: self.this_class,
             super_class: self.super_class,
             interfaces: Seq::new(interfaces),
-            fields: Seq::new(members_copy(alloc, self.fields.as_slice())?),
-            methods: Seq::new(members_copy(alloc, self.methods.as_slice())?),
-            attributes: Seq::new(raws_copy(alloc, self.attributes.as_slice())?),
+            fields: Seq::new(members_copy(alloc, &self.fields)?),
+            methods: Seq::new(members_copy(alloc, &self.methods)?),
+            attributes: Seq::new(raws_copy(alloc, &self.attributes)?),
         })
     }
 }
@@ -86,7 +86,7 @@ impl Member {
             flags: self.flags,
             name: self.name,
             descriptor: self.descriptor,
-            attributes: Seq::new(attributes_copy(alloc, self.attributes.as_slice())?),
+            attributes: Seq::new(attributes_copy(alloc, &self.attributes)?),
         })
     }
 }
@@ -140,7 +140,7 @@ impl Raw {
     pub fn copy(&self, alloc: Global) -> Result<Raw, NoMemory>
         ensures { IfOk result (λ raw. raw ≡ self.now) }
     {
-        let bytes = Vec::from_slice(alloc, self.bytes.as_slice())?;
+        let bytes = Vec::from_slice(alloc, &self.bytes)?;
         Ok(Raw {
             name: self.name,
             bytes: Seq::new(bytes),

@@ -31,10 +31,10 @@ impl Code {
         Ok(Code {
             max_stack: self.max_stack,
             max_locals: self.max_locals,
-            items: Seq::new(items_copy(alloc, self.items.as_slice())?),
+            items: Seq::new(items_copy(alloc, &self.items)?),
             length: self.length,
-            handlers: Seq::new(Vec::from_slice(alloc, self.handlers.as_slice())?),
-            attributes: Seq::new(attributes_copy(alloc, self.attributes.as_slice())?),
+            handlers: Seq::new(Vec::from_slice(alloc, &self.handlers)?),
+            attributes: Seq::new(attributes_copy(alloc, &self.attributes)?),
         })
     }
 }
@@ -114,11 +114,11 @@ impl CodeAttr {
     {
         match self {
             CodeAttr::Lines(name, lines) => {
-                let lines = Vec::from_slice(alloc, lines.as_slice())?;
+                let lines = Vec::from_slice(alloc, lines)?;
                 Ok(CodeAttr::Lines(*name, Seq::new(lines)))
             }
             CodeAttr::Vars(name, types, vars) => {
-                let vars = Vec::from_slice(alloc, vars.as_slice())?;
+                let vars = Vec::from_slice(alloc, vars)?;
                 Ok(CodeAttr::Vars(*name, *types, Seq::new(vars)))
             }
             CodeAttr::Other(raw) => Ok(CodeAttr::Other(raw.copy(alloc)?)),

@@ -95,7 +95,7 @@ impl Pool {
         ensures { IfOk result (λ pool. pool ≡ self.now) }
     {
         Ok(Pool {
-            entries: Seq::new(entries_copy(alloc, self.entries.as_slice())?),
+            entries: Seq::new(entries_copy(alloc, &self.entries)?),
         })
     }
 
@@ -106,7 +106,7 @@ impl Pool {
         ensures spelled { IfSome result (λ e. e.now ≢ Entry.Second) }
         ensures none { IfNone result (entry_at self.now.entries index ≡ Entry.Second) }
     {
-        let entry = self.entries.as_slice().get(usize::from(index))?;
+        let entry = self.entries.get(usize::from(index))?;
         match entry {
             Entry::Second => None,
             _ => Some(entry),

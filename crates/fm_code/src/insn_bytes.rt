@@ -7,6 +7,7 @@ ghost use Rattle.std.specs.Cmp.Lexicographic.{pointwise, nat_list_eq_equiv};
 use fm_base::NoMemory;
 use std::alloc::Global;
 use std::marker::Model;
+use std::ops::DerefSlice;
 
 /// The most bytes that an instruction has that is no switch: an iinc after wide.
 const MAX_PLAIN_BYTES: usize = 6;
@@ -70,7 +71,7 @@ impl InsnBytes {
     pub fn copy(&self, alloc: Global) -> Result<InsnBytes, NoMemory>
         ensures { IfOk result (λ b. b ≡ self.now) }
     {
-        InsnBytes::from_slice(alloc, self.as_slice())
+        InsnBytes::from_slice(alloc, self)
     }
 }
 
@@ -86,4 +87,14 @@ impl PartialEq for InsnBytes {
 
 impl Eq for InsnBytes {
     ghost laws = { nat_list_eq_equiv };
+}
+
+impl DerefSlice for InsnBytes {
+    type Elem = u8;
+
+    ghost deref_gives = { λ kept bytes. bytes ≡ kept };
+
+    fn deref(&self) -> &[u8] {
+        self.as_slice()
+    }
 }

@@ -6,6 +6,7 @@ ghost use Rattle.std.specs.Cmp.Lexicographic.{pointwise, lists_per, lists_equiv}
 use fm_base::NoMemory;
 use std::alloc::Global;
 use std::marker::Model;
+use std::ops::DerefSlice;
 
 /// The keys or the targets of a switch. Contracts see the list of the values.
 #[derive(Clone, Debug, Drop)]
@@ -45,7 +46,7 @@ impl<T> SwitchList<T> {
         T: Copy + Drop,
         ensures { IfOk result (λ list. list ≡ self.now) }
     {
-        let items = Vec::from_slice(alloc, self.items.as_slice())?;
+        let items = Vec::from_slice(alloc, self)?;
         SwitchList::new(alloc, items)
     }
 }
@@ -62,4 +63,14 @@ impl<T: PartialEq> PartialEq for SwitchList<T> {
 
 impl<T: Eq> Eq for SwitchList<T> {
     ghost laws = { lists_equiv T.Eq.laws };
+}
+
+impl<T> DerefSlice for SwitchList<T> {
+    type Elem = T;
+
+    ghost deref_gives = { λ list items. items ≡ list };
+
+    fn deref(&self) -> &[T] {
+        self.as_slice()
+    }
 }

@@ -16,7 +16,7 @@ pub fn printed(alloc: Global, name: &Name) -> Result<String, NoMemory>
     ensures { IfOk result (λ text. string_bytes text ≡ printed name.now) }
 {
     let mut text = String::new(alloc);
-    let mut rest = name.as_slice();
+    let mut rest: &[u8] = name;
     while let Some((character, after)) = split_character(rest) {
         text.push(character.unwrap_or('?'))?;
         rest = after;

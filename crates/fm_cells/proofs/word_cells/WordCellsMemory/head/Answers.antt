@@ -9,17 +9,17 @@ use Rattle.fm_cells.proofs.word_cells.WordCellsMemory.head.Goals as goal
 
 pub index-identity-requires : goal.index-identity-requires
 index-identity-requires c =
-    let held = held-found c.self.inside c.args.self.now c.args.cell.0 _ c.self.view_is c.self.invariant c.as_slice.ensures.value (c.is_marked.ensures.0 c.if-not-is_marked.false) in
+    let held = held-found c.self.inside c.args.self.now c.args.cell.0 _ c.self.view_is c.self.invariant c.deref.ensures.value (c.is_marked.ensures.0 c.if-not-is_marked.false) in
     first_within c.self.inside c.args.self.now c.args.cell.0 c.self.view_is c.self.invariant (held_if _ _ held)
 
 pub index-requires : goal.index-requires
 index-requires c =
-    let held = held-found c.self.inside c.args.self.now c.args.cell.0 _ c.self.view_is c.self.invariant c.as_slice.ensures.value (c.is_marked.ensures.0 c.if-not-is_marked.false) in
+    let held = held-found c.self.inside c.args.self.now c.args.cell.0 _ c.self.view_is c.self.invariant c.deref.ensures.value (c.is_marked.ensures.0 c.if-not-is_marked.false) in
     second_within c.self.inside c.args.self.now c.args.cell.0 c.self.view_is c.self.invariant (held_if _ _ held)
 
 pub returns : goal.returns
 returns c =
-    let held = held-found c.self.inside c.args.self.now c.args.cell.0 _ c.self.view_is c.self.invariant c.as_slice.ensures.value (c.is_marked.ensures.0 c.if-not-is_marked.false) in
+    let held = held-found c.self.inside c.args.self.now c.args.cell.0 _ c.self.view_is c.self.invariant c.deref.ensures.value (c.is_marked.ensures.0 c.if-not-is_marked.false) in
     let some = held_if (object_at c.args.self.now c.args.cell.0) (object_from c.self.inside.words.items c.args.cell.0) held in
     let first : c.index-identity.result.now ≡ get_or c.self.inside.words.items c.args.cell.0 0 = word-read c.self.inside.words c.args.cell.0 c.index-identity.result.now (first_within c.self.inside c.args.self.now c.args.cell.0 c.self.view_is c.self.invariant some) c.index-identity.ensures in
     let second : c.index.result.now ≡ get_or c.self.inside.words.items (c.args.cell.0 + 1) 0 = word-read c.self.inside.words (c.args.cell.0 + 1) c.index.result.now (second_within c.self.inside c.args.self.now c.args.cell.0 c.self.view_is c.self.invariant some) c.index.ensures in
