@@ -5,6 +5,7 @@ use Rattle.std.proofs.lemmas.List.{get_or-set_same, get_or-set_other, get_or_app
 use Rattle.std.proofs.lemmas.List.Elements.{Contains-get_or, Contains-append_left, Contains-append_right, Contains-push, Contains-push_cases}
 use Rattle.std.proofs.lemmas.List.Sums.{sum_by-set}
 use Rattle.fm_base.specs.Graph.{AreNodes, ArePaired, IsPath, AreJoined, AreLeastJoined}
+use Rattle.fm_base.proofs.ContainsFacts.{Contains-cons_cases}
 use Rattle.fm_base.specs.inner.Graph.{node_at, other_at, IsAdjacency, IsReached, AreReached, unreached, IsClosed, Spreading}
 
 -- ---- the ends of the pairs
@@ -140,11 +141,6 @@ AreReached_start n start least inside below reached =
     let apart : start ≢ n = omega arith in
     AreReached_more n start (set least start start) (AreReached-set n start least start start inside apart reached)
     (λ unreached. apart (sym (get_or-set_same least start start 0 inside) ∙ unreached))
-
--- an element is the first or one of the rest
-Contains-cons_cases : (y : ℕ) (xs : List ℕ) (x : ℕ) → Contains (y ∷ xs) x → (x ≡ y) ⊎ Contains xs x
-Contains-cons_cases y xs x (zero, inside, there) = inl (sym there)
-Contains-cons_cases y xs x (suc k, inside, there) = inr (k, omega arith, there)
 
 -- the first element is one
 Contains-head : (y : ℕ) (xs : List ℕ) → Contains (y ∷ xs) y

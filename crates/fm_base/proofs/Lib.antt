@@ -1,3 +1,4 @@
+pub mod ContainsFacts
 pub mod GraphLemmas
 pub mod ListFacts
 pub mod OptionFacts

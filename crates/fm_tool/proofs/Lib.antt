@@ -1,3 +1,4 @@
+pub mod LineLemmas
 pub mod OutsideLemmas
 pub mod WordLemmas
 pub mod PrintedLemmas
