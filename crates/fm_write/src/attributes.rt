@@ -24,7 +24,7 @@ pub(crate) fn put_raw(raw: &Raw, out: &mut Vec<u8>) -> Result<(), NoMemory>
     requires { RawFits raw.now }
     ensures { OnOk result (out.new.items ≡ out.old.items ++ raw_bytes raw.now) }
 {
-    put_attribute(raw.name, raw.bytes.as_slice(), out)
+    put_attribute(raw.name, &raw.bytes, out)
 }
 
 /// Appends attributes that were kept as they are, after their number.

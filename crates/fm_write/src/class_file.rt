@@ -39,10 +39,10 @@ fn bytes_of(alloc: Global, class: &ClassDef) -> Result<Vec<u8>, NoMemory>
     put_u16(class.flags, &mut out)?;
     put_u16(class.this_class, &mut out)?;
     put_u16(class.super_class, &mut out)?;
-    put_indices(class.interfaces.as_slice(), &mut out)?;
-    put_members(alloc, class.fields.as_slice(), &mut out)?;
-    put_members(alloc, class.methods.as_slice(), &mut out)?;
-    put_raws(class.attributes.as_slice(), &mut out)?;
+    put_indices(&class.interfaces, &mut out)?;
+    put_members(alloc, &class.fields, &mut out)?;
+    put_members(alloc, &class.methods, &mut out)?;
+    put_raws(&class.attributes, &mut out)?;
     Ok(out)
 }
 

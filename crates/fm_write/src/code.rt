@@ -21,7 +21,7 @@ pub(crate) fn code_body(alloc: Global, code: &Code) -> Result<Vec<u8>, NoMemory>
     put_u16(code.max_stack, &mut out)?;
     put_u16(code.max_locals, &mut out)?;
     put_u32(code.length, &mut out)?;
-    put_items(code.items.as_slice(), &mut out)?;
+    put_items(&code.items, &mut out)?;
     put_handlers(code, &mut out)?;
     put_code_attributes(alloc, code, &mut out)?;
     Ok(out)
@@ -32,7 +32,7 @@ fn put_items(items: &[Item], out: &mut Vec<u8>) -> Result<(), NoMemory>
     ensures { OnOk result (out.new.items ≡ out.old.items ++ flat_map item_bytes items.now) }
 {
     for item in items {
-        out.extend_from_slice(item.bytes.as_slice())?;
+        out.extend_from_slice(&item.bytes)?;
     }
     Ok(())
 }
@@ -44,7 +44,7 @@ fn put_code_attributes(alloc: Global, code: &Code, out: &mut Vec<u8>) -> Result<
         (out.new.items ≡ out.old.items ++ counted (code_attribute_bytes code.now) code.now.attributes) }
 {
     put_u16(code.attributes.len() as u16, out)?;
-    for attribute in code.attributes.as_slice() {
+    for attribute in &code.attributes {
         put_code_attribute(alloc, code, attribute, out)?;
     }
     Ok(())
@@ -65,12 +65,12 @@ fn put_code_attribute(
 {
     match attribute {
         CodeAttr::Lines(name, lines) => {
-            let body = lines_body(alloc, code, lines.as_slice())?;
-            put_attribute(*name, body.as_slice(), out)
+            let body = lines_body(alloc, code, lines)?;
+            put_attribute(*name, &body, out)
         }
         CodeAttr::Vars(name, _, vars) => {
-            let body = vars_body(alloc, code, vars.as_slice())?;
-            put_attribute(*name, body.as_slice(), out)
+            let body = vars_body(alloc, code, vars)?;
+            put_attribute(*name, &body, out)
         }
         CodeAttr::Other(raw) => put_raw(raw, out),
     }

@@ -36,7 +36,7 @@ fn put_member(alloc: Global, member: &Member, out: &mut Vec<u8>) -> Result<(), N
     put_u16(member.flags, out)?;
     put_u16(member.name, out)?;
     put_u16(member.descriptor, out)?;
-    put_member_attributes(alloc, member.attributes.as_slice(), out)
+    put_member_attributes(alloc, &member.attributes, out)
 }
 
 /// Appends the attributes of a field or a method after their number.
@@ -70,7 +70,7 @@ fn put_member_attribute(
         MemberAttr::Constant(name, value) => put_attribute(*name, &value.to_be_bytes(), out),
         MemberAttr::Coded(name, code) => {
             let body = code_body(alloc, code)?;
-            put_attribute(*name, body.as_slice(), out)
+            put_attribute(*name, &body, out)
         }
         MemberAttr::Other(raw) => put_raw(raw, out),
     }

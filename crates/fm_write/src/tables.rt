@@ -30,7 +30,7 @@ pub(crate) fn put_handlers(code: &Code, out: &mut Vec<u8>) -> Result<(), NoMemor
         (out.new.items ≡ out.old.items ++ counted (handler_bytes code.now) code.now.handlers) }
 {
     put_u16(code.handlers.len() as u16, out)?;
-    for handler in code.handlers.as_slice() {
+    for handler in &code.handlers {
         put_handler(code, handler, out)?;
     }
     Ok(())

@@ -98,7 +98,7 @@ fn written_again(alloc: Global, bytes: &[u8]) -> Result<Vec<u8>, Fail> {
 fn a_class_is_written_as_it_was_read(rt: HostRuntime) -> Result<(), Fail> {
     for sample in [RETURNS, MAKES_ARRAY, COMPUTES] {
         let bytes = sample.bytes(rt.alloc())?;
-        let again = written_again(rt.alloc(), bytes.as_slice())?;
+        let again = written_again(rt.alloc(), &bytes)?;
         assert_eq!(rt; again.as_slice(), bytes.as_slice());
     }
     Ok(())

@@ -14,8 +14,8 @@ returns c =
     let flags = next_piece pool _ c.in_ok-put_u16-3.ensures in
     let this_class = next_piece flags _ c.in_ok-put_u16-4.ensures in
     let super_class = next_piece this_class _ c.in_ok-put_u16-5.ensures in
-    let interfaces = next_list super_class (counted two) c.as_slice.ensures c.in_ok-put_indices.ensures in
-    let fields = next_list interfaces (counted member_bytes) c.as_slice-2.ensures c.in_ok-put_members.ensures in
-    let methods = next_list fields (counted member_bytes) c.as_slice-3.ensures c.in_ok-put_members-2.ensures in
-    let attributes = next_list methods (counted raw_bytes) c.as_slice-4.ensures c.in_ok-put_raws.ensures in
+    let interfaces = next_list super_class (counted two) c.deref.ensures c.in_ok-put_indices.ensures in
+    let fields = next_list interfaces (counted member_bytes) c.deref-2.ensures c.in_ok-put_members.ensures in
+    let methods = next_list fields (counted member_bytes) c.deref-3.ensures c.in_ok-put_members-2.ensures in
+    let attributes = next_list methods (counted raw_bytes) c.deref-4.ensures c.in_ok-put_raws.ensures in
     attributes.bytes_are
