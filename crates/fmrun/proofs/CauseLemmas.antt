@@ -1,10 +1,10 @@
 -- When each status comes, and what each leaves, from what a call does.
-use Rattle.std.proofs.Common.{◌≡◌, ◌≢◌, ◌<◌, ◌≤◌, ◌⊎◌, ℕ, zero, suc, List, [], ◌∷◌, length, Option, Some, None, IsSomeAnd, Contains, ⊎_elim, sym, ap, ◌∙◌, subst, refl, inl, inr, arith}
-use Rattle.fm_files.specs.Files.{Bytes, Contents, Disk, AreKept}
-use Rattle.fm_files.specs.Sink.{Output, with_piece, with_pieces}
-use Rattle.fm_tool.specs.Line.{Tells}
-use Rattle.fm_tool.specs.Outside.{HasNoFault, HoldsSuch, IsKnownSuch, ReadsAlone}
-use Rattle.fm_tool.specs.Status.{ComesExactly}
+use Rattle.std.proofs.Common.{◌≡◌, ◌≢◌, ◌<◌, ◌≤◌, ℕ, List, [], ◌∷◌, Some, None, Contains, sym, ap, ◌∙◌, subst, refl, inl, inr, arith}
+use Rattle.fm_files.specs.Files.{Bytes, Disk}
+use Rattle.fm_files.specs.Sink.{Output}
+use Rattle.fm_tool.specs.Outside.{IsKnownSuch}
+use Rattle.fm_tool.proofs.LineLemmas.{instead_for_file, told_among, comes_of_file}
+use Rattle.fm_tool.proofs.OutsideLemmas.{HoldsSuch-weaker, such_and_known}
 use Rattle.fm_tool.specs.Refusal.{refusal_status}
 use Rattle.fm_tool.specs.declared.refusal.Refusal.{Refusal}
 use Rattle.fm_tool.specs.declared.refusal.Refusal.TheVariants as refusal
@@ -16,12 +16,12 @@ use Rattle.fmrun.specs.declared.ends.End.TheVariants as ends
 use Rattle.fmrun.specs.declared.ends.Ended.{Ended}
 use Rattle.fmrun.specs.declared.outcome.Outcome.{Outcome}
 use Rattle.fmrun.specs.declared.outcome.Outcome.TheVariants as outcome
-use Rattle.fmrun.specs.Request.{Job, Asks, AskNothing, IsAccepted}
+use Rattle.fmrun.specs.Request.{Job, IsAccepted}
 use Rattle.fmrun.specs.Run.{ended_of}
 use Rattle.fmrun.specs.Ends.{end_status}
 use Rattle.fmrun.specs.Outcome.{outcome_line, outcome_status}
-use Rattle.fmrun.specs.TopCall.{run_of, AreRefused, AcceptsAs, ComesTo, IsUnread, ComesOf, OutputFailsOf, IsTopCall}
-use Rattle.fmrun.specs.Causes.{IsStatus, IsForWords, IsReadOfJob, IsReadOfSome, IsForRead, IsOfJob, IsKnownOfJob, IsForFile, IsNotYet, EndsWith, IsForRun, IsPutOfSome, LineFails, IsForPut, HasNoPutFault, IsReadFaultless, ReadsOnly}
+use Rattle.fmrun.specs.TopCall.{run_of, AreRefused, ComesTo, ComesOf, IsTopCall}
+use Rattle.fmrun.specs.Causes.{IsStatus, IsOfJob, IsKnownOfJob, IsForFile, IsNotYet, EndsWith}
 use Rattle.fmrun.proofs.RequestLemmas.{one_job}
 
 -- ---- statuses as numbers
@@ -60,59 +60,7 @@ not_write s apart same = let e : s ≡ 75 = same in apart (omega arith) (omega a
 not_memory : (s : ℕ) → IsEndStatus s → s ≡ OUT_OF_MEMORY → ⊥
 not_memory s apart same = let e : s ≡ 76 = same in apart (omega arith) (omega arith)
 
--- ---- what is told
-
--- the status of the line, or that of a failed put or of memory
-told : (line : List ℕ) (s : ℕ) (old new : Output) (result : ℕ) → Tells line s old new result → (result ≡ s) ⊎ ((result ≡ WRITE) ⊎ (result ≡ OUT_OF_MEMORY))
-told line s old new result (inl (same, put)) = inl same
-told line s old new result (inr (inl (same, fails))) = inr (inl same)
-told line s old new result (inr (inr (same, kept))) = inr (inr same)
-
-told_apart : (line : List ℕ) (s : ℕ) (old new : Output) (result : ℕ) → Tells line s old new result → IsEndStatus result → result ≡ s
-told_apart line s old new result (inl (same, put)) apart = same
-told_apart line s old new result (inr (inl (same, fails))) apart = absurd (not_write result apart same)
-told_apart line s old new result (inr (inr (same, kept))) apart = absurd (not_memory result apart same)
-
--- the status or one of three
-one_of_four : (line : List ℕ) (s : ℕ) (old new : Output) (result : ℕ) → Tells line s old new result → Contains (s ∷ READ ∷ WRITE ∷ OUT_OF_MEMORY ∷ []) result
-one_of_four line s old new result tells = elim (told line s old new result tells) [
-  | inl same ↦ (0, omega arith, sym same)
-  | inr (inl same) ↦ (2, omega arith, sym same)
-  | inr (inr same) ↦ (3, omega arith, sym same)
-]
-
--- a line of a failed read, or of memory, beside another status
-read_among : (line : List ℕ) (s : ℕ) (old new : Output) (result : ℕ) → Tells line READ old new result → Contains (s ∷ READ ∷ WRITE ∷ OUT_OF_MEMORY ∷ []) result
-read_among line s old new result tells = elim (told line READ old new result tells) [
-  | inl same ↦ (1, omega arith, sym same)
-  | inr (inl same) ↦ (2, omega arith, sym same)
-  | inr (inr same) ↦ (3, omega arith, sym same)
-]
-
-memory_among : (line : List ℕ) (s : ℕ) (old new : Output) (result : ℕ) → Tells line OUT_OF_MEMORY old new result → Contains (s ∷ READ ∷ WRITE ∷ OUT_OF_MEMORY ∷ []) result
-memory_among line s old new result tells = elim (told line OUT_OF_MEMORY old new result tells) [
-  | inl same ↦ (3, omega arith, sym same)
-  | inr (inl same) ↦ (2, omega arith, sym same)
-  | inr (inr same) ↦ (3, omega arith, sym same)
-]
-
--- ---- what is known of a file
-
--- what holds of the bytes, and what is known of them, meet
-meet : (contents : Contents) (file : Bytes) (P Q : Bytes → Type 0) → HoldsSuch contents file P → IsKnownSuch contents file Q → (bytes : Bytes) × (P bytes × Q bytes)
-meet None file P Q such known = absurd known
-meet (Some held) file P Q such known = both (held file) such known where
-  both : (o : Option Bytes) → IsSomeAnd o P → IsSomeAnd o Q → (bytes : Bytes) × (P bytes × Q bytes)
-  both None p q = absurd p
-  both (Some bytes) p q = (bytes, (p, q))
-
--- what holds of the bytes, weakened
-weaker : (contents : Contents) (file : Bytes) (P Q : Bytes → Type 0) → ((bytes : Bytes) → P bytes → Q bytes) → HoldsSuch contents file P → HoldsSuch contents file Q
-weaker None file P Q f such = tt
-weaker (Some held) file P Q f such = each (held file) such where
-  each : (o : Option Bytes) → IsSomeAnd o P → IsSomeAnd o Q
-  each None p = p
-  each (Some bytes) p = f bytes p
+-- ---- what a file holds
 
 -- bytes are accepted as one class
 one_class : (job : Job) (bytes : Bytes) (c d : ClassDef) → IsAccepted job bytes c → IsAccepted job bytes d → c ≡ d
@@ -122,7 +70,7 @@ one_class job bytes c d accepted other = one_record bytes c d accepted.1.spells 
 words_status : (o : Outcome) → o ≡ outcome.Refused refusal.Words → outcome_status o ≡ WORDS
 words_status o same = ap outcome_status same
 
--- ---- what the file holds
+-- ---- the form of the file
 
 not_yet_only : (words : List Bytes) (old new : Disk) (before after : Output) (o : Outcome) → ComesOf words old new before after o → outcome_status o ≡ NOT_YET → IsOfJob words old.contents IsNotYet
 not_yet_only words old new before after o (inl nothing) same = let e : outcome_status o ≡ 64 = words_status o nothing.refused in absurd (omega arith)
@@ -131,9 +79,9 @@ not_yet_only words old new before after o (inr j) same = of_job o j.comes same w
   of_job (outcome.Ran ended) comes same = let e : end_status ended.end ≡ 77 = same in absurd (end_is_apart ended.end (omega arith) (omega arith))
   of_job (outcome.Refused (refusal.Read file)) comes same = let e : 65 ≡ 77 = same in absurd (omega arith)
   of_job (outcome.Refused (refusal.NotYet file)) (inl comes) same =
-      (j.job, (j.asked, weaker old.contents j.job.file (AreRefused j.job) (IsNotYet j.job) (λ bytes refused. inl refused) comes.1.refused))
+      (j.job, (j.asked, HoldsSuch-weaker old.contents j.job.file (AreRefused j.job) (IsNotYet j.job) (λ bytes refused. inl refused) comes.1.refused))
   of_job (outcome.Refused (refusal.NotYet file)) (inr comes) same =
-      (j.job, (j.asked, weaker old.contents j.job.file (λ bytes. IsAccepted j.job bytes comes.class) (IsNotYet j.job) (λ bytes accepted. inr (comes.class, (accepted, comes.comes.1.stuck))) comes.accepted))
+      (j.job, (j.asked, HoldsSuch-weaker old.contents j.job.file (λ bytes. IsAccepted j.job bytes comes.class) (IsNotYet j.job) (λ bytes accepted. inr (comes.class, (accepted, comes.comes.1.stuck))) comes.accepted))
   of_job (outcome.Refused refusal.OutOfMemory) comes same = let e : 76 ≡ 77 = same in absurd (omega arith)
   of_job (outcome.Refused refusal.Words) comes same = absurd comes
 
@@ -144,38 +92,17 @@ not_yet_apart job bytes c ended accepted ends (inr (d, (other, stuck))) =
     let same = one_class job bytes c d accepted other in
     let both : Some ended ≡ None = sym ends ∙ ap (λ k. ended_of (run_of k job.steps)) same ∙ stuck in cc
 
-not_yet_there : (words : List Bytes) (job : Job) (old new : Disk) (out out' report report' : Output) (result : ℕ) (o : Outcome) → ComesTo job old new out out' o
-    → Tells (outcome_line o) (outcome_status o) report report' result → IsKnownSuch old.contents job.file (IsNotYet job) → Contains (NOT_YET ∷ READ ∷ WRITE ∷ OUT_OF_MEMORY ∷ []) result
-not_yet_there words job old new out out' report report' result (outcome.Ran ended) comes tells known =
-    let met = meet old.contents job.file (λ bytes. IsAccepted job bytes comes.class) (IsNotYet job) comes.accepted known in
+not_yet_there : (job : Job) (old new : Disk) (out out' : Output) (o : Outcome) → ComesTo job old new out out' o → IsKnownSuch old.contents job.file (IsNotYet job)
+    → Contains (NOT_YET ∷ instead_for_file) (outcome_status o)
+not_yet_there job old new out out' (outcome.Ran ended) comes known =
+    let met = such_and_known old.contents job.file (λ bytes. IsAccepted job bytes comes.class) (IsNotYet job) comes.accepted known in
     absurd (not_yet_apart job met.0 comes.class ended met.1.0 comes.comes.ended_is met.1.1)
-not_yet_there words job old new out out' report report' result (outcome.Refused (refusal.Read file)) comes tells known = read_among _ NOT_YET report report' result tells
-not_yet_there words job old new out out' report report' result (outcome.Refused (refusal.NotYet file)) comes tells known = one_of_four _ NOT_YET report report' result tells
-not_yet_there words job old new out out' report report' result (outcome.Refused refusal.OutOfMemory) comes tells known = memory_among _ NOT_YET report report' result tells
-not_yet_there words job old new out out' report report' result (outcome.Refused refusal.Words) comes tells known = absurd comes
+not_yet_there job old new out out' (outcome.Refused (refusal.Read file)) comes known = (1, omega arith, refl)
+not_yet_there job old new out out' (outcome.Refused (refusal.NotYet file)) comes known = (0, omega arith, refl)
+not_yet_there job old new out out' (outcome.Refused refusal.OutOfMemory) comes known = (3, omega arith, refl)
+not_yet_there job old new out out' (outcome.Refused refusal.Words) comes known = absurd comes
 
--- what is known of the job's file, of the same job
-known_same : (contents : Contents) (P : Job → Bytes → Type 0) (a b : Job) → a ≡ b → IsKnownSuch contents a.file (P a) → IsKnownSuch contents b.file (P b)
-known_same contents P a b same known = let Q : Job → Type 0 = λ job. IsKnownSuch contents job.file (P job) in subst Q same known
-
-pub for_form : (words : List Bytes) (old new : Disk) (out out' report report' : Output) (result : ℕ) → IsTopCall words old new out out' report report' result
-    → IsForFile NOT_YET IsNotYet words old.contents result
-for_form words old new out out' report report' result call = record { only = only call; there = there call } where
-  only : IsTopCall words old new out out' report report' result → result ≡ NOT_YET → IsOfJob words old.contents IsNotYet
-  only (inr unreported) is = let e : 75 ≡ 77 = sym unreported.status ∙ is in absurd (omega arith)
-  only (inl reported) is = elim (told _ _ _ _ _ reported.tells) [
-    | inl same ↦ not_yet_only words old new out out' reported.outcome reported.comes (sym same ∙ is)
-    | inr (inl same) ↦ (let e : 75 ≡ 77 = sym same ∙ is in absurd (omega arith))
-    | inr (inr same) ↦ (let e : 76 ≡ 77 = sym same ∙ is in absurd (omega arith))
-  ]
-
-  there : IsTopCall words old new out out' report report' result → IsKnownOfJob words old.contents IsNotYet → Contains (NOT_YET ∷ READ ∷ WRITE ∷ OUT_OF_MEMORY ∷ []) result
-  there (inr unreported) known = (2, omega arith, sym unreported.status)
-  there (inl reported) (job, (asked, known)) = elim reported.comes [
-    | inl n ↦ absurd (n.unasked job asked)
-    | inr j ↦ not_yet_there words j.job old new out out' report report' result reported.outcome j.comes reported.tells
-        (known_same old.contents IsNotYet job j.job (one_job words job j.job asked j.asked) known)
-  ]
+-- ---- the end of the run
 
 -- a run that ended with this status
 ends_only : (s : ℕ) → IsEndStatus s → (words : List Bytes) (old new : Disk) (before after : Output) (o : Outcome) → ComesOf words old new before after o → outcome_status o ≡ s → IsOfJob words old.contents (EndsWith s)
@@ -186,7 +113,7 @@ ends_only s apart words old new before after o (inr j) same = of_job o j.comes s
     j.job,
     (
       j.asked,
-      weaker old.contents j.job.file (λ bytes. IsAccepted j.job bytes comes.class) (EndsWith s j.job)
+      HoldsSuch-weaker old.contents j.job.file (λ bytes. IsAccepted j.job bytes comes.class) (EndsWith s j.job)
           (λ bytes accepted. (comes.class, (accepted, (ended, (comes.comes.ended_is, same))))) comes.accepted,
     ),
   )
@@ -202,38 +129,46 @@ ended_there s job bytes c ended accepted ends (d, (other, (also, (is, status))))
 ends_apart : (s : ℕ) (job : Job) (bytes : Bytes) → EndsWith s job bytes → IsNotYet job bytes → ⊥
 ends_apart s job bytes (d, (accepted, (also, (is, status)))) other = not_yet_apart job bytes d also accepted is other
 
-ends_there : (s : ℕ) (job : Job) (old new : Disk) (out out' report report' : Output) (result : ℕ) (o : Outcome) → ComesTo job old new out out' o
-    → Tells (outcome_line o) (outcome_status o) report report' result → IsKnownSuch old.contents job.file (EndsWith s job) → Contains (s ∷ READ ∷ WRITE ∷ OUT_OF_MEMORY ∷ []) result
-ends_there s job old new out out' report report' result (outcome.Ran ended) comes tells known =
-    let met = meet old.contents job.file (λ bytes. IsAccepted job bytes comes.class) (EndsWith s job) comes.accepted known in
-    let same = ended_there s job met.0 comes.class ended met.1.0 comes.comes.ended_is met.1.1 in
-    let P : ℕ → Type 0 = λ n. Contains (n ∷ READ ∷ WRITE ∷ OUT_OF_MEMORY ∷ []) result in
-    subst P same (one_of_four _ (end_status ended.end) report report' result tells)
-ends_there s job old new out out' report report' result (outcome.Refused (refusal.Read file)) comes tells known = read_among _ s report report' result tells
-ends_there s job old new out out' report report' result (outcome.Refused (refusal.NotYet file)) (inl comes) tells known =
-    let met = meet old.contents job.file (AreRefused job) (EndsWith s job) comes.1.refused known in absurd (ends_apart s job met.0 met.1.1 (inl met.1.0))
-ends_there s job old new out out' report report' result (outcome.Refused (refusal.NotYet file)) (inr comes) tells known =
-    let met = meet old.contents job.file (λ bytes. IsAccepted job bytes comes.class) (EndsWith s job) comes.accepted known in
+ends_there : (s : ℕ) (job : Job) (old new : Disk) (out out' : Output) (o : Outcome) → ComesTo job old new out out' o → IsKnownSuch old.contents job.file (EndsWith s job)
+    → Contains (s ∷ instead_for_file) (outcome_status o)
+ends_there s job old new out out' (outcome.Ran ended) comes known =
+    let met = such_and_known old.contents job.file (λ bytes. IsAccepted job bytes comes.class) (EndsWith s job) comes.accepted known in
+    (0, omega arith, sym (ended_there s job met.0 comes.class ended met.1.0 comes.comes.ended_is met.1.1))
+ends_there s job old new out out' (outcome.Refused (refusal.Read file)) comes known = (1, omega arith, refl)
+ends_there s job old new out out' (outcome.Refused (refusal.NotYet file)) (inl comes) known =
+    let met = such_and_known old.contents job.file (AreRefused job) (EndsWith s job) comes.1.refused known in absurd (ends_apart s job met.0 met.1.1 (inl met.1.0))
+ends_there s job old new out out' (outcome.Refused (refusal.NotYet file)) (inr comes) known =
+    let met = such_and_known old.contents job.file (λ bytes. IsAccepted job bytes comes.class) (EndsWith s job) comes.accepted known in
     absurd (ends_apart s job met.0 met.1.1 (inr (comes.class, (met.1.0, comes.comes.1.stuck))))
-ends_there s job old new out out' report report' result (outcome.Refused refusal.OutOfMemory) comes tells known = memory_among _ s report report' result tells
-ends_there s job old new out out' report report' result (outcome.Refused refusal.Words) comes tells known = absurd comes
+ends_there s job old new out out' (outcome.Refused refusal.OutOfMemory) comes known = (3, omega arith, refl)
+ends_there s job old new out out' (outcome.Refused refusal.Words) comes known = absurd comes
 
-pub for_end : (s : ℕ) → IsEndStatus s → (words : List Bytes) (old new : Disk) (out out' report report' : Output) (result : ℕ) → IsTopCall words old new out out' report report' result
-    → IsForFile s (EndsWith s) words old.contents result
-for_end s apart words old new out out' report report' result call = record { only = only call; there = there call } where
-  only : IsTopCall words old new out out' report report' result → result ≡ s → IsOfJob words old.contents (EndsWith s)
-  only (inr unreported) is = absurd (not_write s apart (sym is ∙ unreported.status))
-  only (inl reported) is =
-      let P : ℕ → Type 0 = IsEndStatus in
-      ends_only s apart words old new out out' reported.outcome reported.comes (sym (told_apart _ _ _ _ result reported.tells (subst P (sym is) apart)) ∙ is)
+-- ---- the clauses
 
-  there : IsTopCall words old new out out' report report' result → IsKnownOfJob words old.contents (EndsWith s) → Contains (s ∷ READ ∷ WRITE ∷ OUT_OF_MEMORY ∷ []) result
-  there (inr unreported) known = (2, omega arith, sym unreported.status)
-  there (inl reported) (job, (asked, known)) = elim reported.comes [
-    | inl n ↦ absurd (n.unasked job asked)
-    | inr j ↦ ends_there s j.job old new out out' report report' result reported.outcome j.comes reported.tells
-        (known_same old.contents (EndsWith s) job j.job (one_job words job j.job asked j.asked) known)
-  ]
+module _ (words : List Bytes) (old new : Disk) (out out' report report' : Output) (result : ℕ) where
+  -- a status says this of the job's file, and comes where this is known of it, if what the words come to has it so
+  for_file : (s : ℕ) (P : Job → Bytes → Type 0) → s ≢ WRITE → s ≢ OUT_OF_MEMORY
+      → ((o : Outcome) → ComesOf words old new out out' o → outcome_status o ≡ s → IsOfJob words old.contents P)
+      → ((job : Job) (o : Outcome) → ComesTo job old new out out' o → IsKnownSuch old.contents job.file (P job) → Contains (s ∷ instead_for_file) (outcome_status o))
+      → IsTopCall words old new out out' report report' result → IsForFile s P words old.contents result
+  for_file s P write memory says known (inr unreported) = record {
+    only = λ is. absurd (write (sym is ∙ unreported.status));
+    there = λ cause. (2, omega arith, sym unreported.status);
+  }
+  for_file s P write memory says known (inl reported) =
+      comes_of_file (outcome_line reported.outcome) (outcome_status reported.outcome) report report' result reported.tells s write memory
+      (λ is line. says reported.outcome reported.comes is) (λ cause. decides cause reported.comes) where
+        decides : IsKnownOfJob words old.contents P → ComesOf words old new out out' reported.outcome → Contains (s ∷ instead_for_file) (outcome_status reported.outcome)
+        decides (job, (asked, such)) (inl nothing) = absurd (nothing.unasked job asked)
+        decides (job, (asked, such)) (inr j) =
+            let Known : Job → Type 0 = λ k. IsKnownSuch old.contents k.file (P k) in
+            known j.job reported.outcome j.comes (subst Known (one_job words job j.job asked j.asked) such)
+
+  pub for_form : IsTopCall words old new out out' report report' result → IsForFile NOT_YET IsNotYet words old.contents result
+  for_form = for_file NOT_YET IsNotYet (λ e. omega arith) (λ e. omega arith) (not_yet_only words old new out out') (λ job o. not_yet_there job old new out out' o)
+
+  pub for_end : (s : ℕ) → IsEndStatus s → IsTopCall words old new out out' report report' result → IsForFile s (EndsWith s) words old.contents result
+  for_end s apart = for_file s (EndsWith s) (not_write s apart) (not_memory s apart) (ends_only s apart words old new out out') (λ job o. ends_there s job old new out out' o)
 
 -- ---- all statuses
 
@@ -251,8 +186,6 @@ outcome_among (outcome.Refused (refusal.NotYet file)) = (5, omega arith, refl)
 
 pub is_status : (words : List Bytes) (old new : Disk) (out out' report report' : Output) (result : ℕ) → IsTopCall words old new out out' report report' result → IsStatus result
 is_status words old new out out' report report' result (inr unreported) = (3, omega arith, sym unreported.status)
-is_status words old new out out' report report' result (inl reported) = elim (told _ _ _ _ _ reported.tells) [
-  | inl same ↦ subst IsStatus (sym same) (outcome_among reported.outcome)
-  | inr (inl same) ↦ (3, omega arith, sym same)
-  | inr (inr same) ↦ (4, omega arith, sym same)
-]
+is_status words old new out out' report report' result (inl reported) =
+    told_among (outcome_line reported.outcome) (outcome_status reported.outcome) report report' result reported.tells
+    (DONE ∷ WORDS ∷ READ ∷ WRITE ∷ OUT_OF_MEMORY ∷ NOT_YET ∷ RUNNING ∷ TOO_DEEP ∷ []) (outcome_among reported.outcome) (3, omega arith, refl) (4, omega arith, refl)

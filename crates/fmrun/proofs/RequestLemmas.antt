@@ -1,5 +1,5 @@
 -- What words ask for, by their number.
-use Rattle.std.proofs.Common.{◌≡◌, ◌<◌, ℕ, List, [], ◌∷◌, length, Option, Some, None, MatchOption, get_or, sym, ap, ◌∙◌, subst, refl, inl, inr, arith, codes}
+use Rattle.std.proofs.Common.{◌≡◌, ◌<◌, ℕ, List, [], ◌∷◌, length, Option, Some, None, MatchOption, get_or, sym, ap, ◌∙◌, subst, inl, inr, arith, codes}
 use Rattle.std.specs.Str.Parse.{digits_value}
 use Rattle.fmrun.specs.Request.{Job, AreWords, Asks, AskNothing, IsBudget}
 use Rattle.fmrun.specs.inner.Request.{IsNoBudget, IsFilled, IsEmptied}

@@ -1,7 +1,7 @@
 -- When each status comes, and what each leaves. All of this follows from what a call does; a caller reads it one by one.
 use Rattle.std.specs.Prelude.{◌≡◌, ◌≢◌, ℕ, ◌<◌, ◌⊎◌, List, [], ◌∷◌, Contains, Some, None}
 use Rattle.fm_files.specs.Files.{Bytes, Contents, Disk, AreKept}
-use Rattle.fm_files.specs.Sink.{Output, FailsPut, with_piece, with_pieces}
+use Rattle.fm_files.specs.Sink.{Output, FailsPut, with_piece}
 use Rattle.fm_tool.specs.Outside.{HoldsSuch, IsKnownSuch, IsKnownMissing, ReadsAlone}
 use Rattle.fm_tool.specs.Refusal.{memory_line}
 use Rattle.fm_tool.specs.Status.{ComesExactly}

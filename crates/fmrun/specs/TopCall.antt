@@ -7,7 +7,7 @@ use Rattle.fm_tool.specs.Outside.{HasNoFault, HasReadFault, ReadsAlone, HoldsSuc
 use Rattle.fm_tool.specs.declared.refusal.Refusal.TheVariants as refusal
 use Rattle.fm_tool.specs.declared.status.TheConstants.{WRITE}
 use Rattle.fm_code.specs.declared.class_file.ClassDef.{ClassDef}
-use Rattle.fmrun.specs.Request.{Job, Asks, AskNothing, IsAccepted, job_of}
+use Rattle.fmrun.specs.Request.{Job, Asks, AskNothing, IsAccepted}
 use Rattle.fmrun.specs.Programs.{program_of}
 use Rattle.fmrun.specs.Run.{RunResult, run, ended_of}
 use Rattle.fmrun.specs.Outcome.{outcome_line, outcome_status}

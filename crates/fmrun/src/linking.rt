@@ -20,7 +20,7 @@ pub fn link<'a>(alloc: Global, class: &'a ClassDef) -> Result<LinkedProgram<'a>,
     ensures { IfOk result (λ program. program ≡ program_of class.now) }
 {
     let pool = &class.pool;
-    let members = class.methods.as_slice();
+    let members = &class.methods;
     let methods = linked_methods(alloc, pool, members)?;
     let pool_entries = resolved_pool(alloc, class)?;
     let main = number_of_main(pool, members);
@@ -42,8 +42,14 @@ fn number_of_main(pool: &Pool, members: &[Member]) -> Option<usize>
 fn resolved_pool(alloc: Global, class: &ClassDef) -> Result<Vec<Resolved>, NoMemory>
     ensures { IfOk result (λ found. found.items ≡ map (resolved_of class.now) class.now.pool.entries) }
 {
-    let entries = class.pool.entries.as_slice();
-    Ok(entries.iter().map(|e| resolve(class, e)).collect(alloc)?)
+    Ok(
+        class
+            .pool
+            .entries
+            .iter()
+            .map(|e| resolve(class, e))
+            .collect(alloc)?,
+    )
 }
 
 // The methods of the class.
@@ -65,10 +71,7 @@ fn linked_methods<'a>(
 fn linked<'a>(pool: &'a Pool, method: &'a Member) -> LinkedMethod<'a>
     ensures { result ≡ method_of pool.now.entries method.now }
 {
-    match (
-        utf8(pool, method.descriptor),
-        method.attributes.as_slice().first(),
-    ) {
+    match (utf8(pool, method.descriptor), method.attributes.first()) {
         (Some(descriptor), Some(MemberAttr::Coded(_, code))) => {
             let parameters = parameters_in(descriptor);
             LinkedMethod {
@@ -77,7 +80,7 @@ fn linked<'a>(pool: &'a Pool, method: &'a Member) -> LinkedMethod<'a>
                 returns: kind_of_result(result_in(descriptor)),
                 max_stack: code.max_stack,
                 max_locals: code.max_locals,
-                items: code.items.as_slice(),
+                items: &code.items,
             }
         }
         _ => LinkedMethod {
@@ -195,7 +198,7 @@ fn method(class: &ClassDef, owner: u16, named: u16) -> Resolved
 fn own_method(class: &ClassDef, named: u16) -> Resolved
     ensures { result ≡ numbered (position (is_named_by class.now.pool.entries (entry_at class.now.pool.entries named)) class.now.methods) }
 {
-    match number_of(&class.pool, class.methods.as_slice(), named) {
+    match number_of(&class.pool, &class.methods, named) {
         Some(number) => Resolved::Method(number),
         None => Resolved::Other,
     }
@@ -212,7 +215,7 @@ fn number_of(pool: &Pool, members: &[Member], named: u16) -> Option<usize>
 fn is_named_as(pool: &Pool, named: u16, method: &Member) -> bool
     ensures { result ≡ is_named_by pool.now.entries (entry_at pool.now.entries named) method.now }
 {
-    match pool.entries.as_slice().get(named as usize) {
+    match pool.entries.get(named as usize) {
         Some(Entry::NameAndType(name, descriptor)) => {
             has_same_text(pool, method.name, *name)
                 && has_same_text(pool, method.descriptor, *descriptor)
@@ -225,7 +228,7 @@ fn is_named_as(pool: &Pool, named: u16, method: &Member) -> bool
 fn is_named_and_typed(pool: &Pool, named: u16, name: &[u8], descriptor: &[u8]) -> bool
     ensures { result ≡ is_name_and_type pool.now.entries (entry_at pool.now.entries named) name.now descriptor.now }
 {
-    match pool.entries.as_slice().get(named as usize) {
+    match pool.entries.get(named as usize) {
         Some(Entry::NameAndType(n, d)) => has_text(pool, *n, name)
             && has_text(pool, *d, descriptor),
         _ => false,

@@ -38,5 +38,5 @@ fn main(rt: HostRuntime) -> ExitCode {
     let mut files = FolderFiles::new(rt, alloc);
     let mut out = StdSink::new(rt, false);
     let mut report = StdSink::new(rt, true);
-    ExitCode::from(fmrun_run(alloc, words.as_slice(), &mut files, &mut out, &mut report))
+    ExitCode::from(fmrun_run(alloc, &words, &mut files, &mut out, &mut report))
 }

@@ -10,8 +10,8 @@ use fm_code::{Entry, Member, Pool};
 pub fn utf8(pool: &Pool, index: u16) -> Option<&[u8]>
     ensures { MatchOption result (utf8_at pool.now.entries index ≡ None) (λ text. utf8_at pool.now.entries index ≡ Some text.now) }
 {
-    match pool.entries.as_slice().get(index as usize) {
-        Some(Entry::Utf8(name)) => Some(name.as_slice()),
+    match pool.entries.get(index as usize) {
+        Some(Entry::Utf8(name)) => Some(name),
         _ => None,
     }
 }
@@ -20,7 +20,7 @@ pub fn utf8(pool: &Pool, index: u16) -> Option<&[u8]>
 pub fn class_name(pool: &Pool, index: u16) -> Option<&[u8]>
     ensures { MatchOption result (class_name_at pool.now.entries index ≡ None) (λ name. class_name_at pool.now.entries index ≡ Some name.now) }
 {
-    match pool.entries.as_slice().get(index as usize) {
+    match pool.entries.get(index as usize) {
         Some(Entry::Class(name)) => utf8(pool, *name),
         _ => None,
     }

@@ -138,7 +138,7 @@ fn comes_out(alloc: Global, case: Case<'_>) -> Result<bool, NoMemory> {
     let mut out = MemSink::new(alloc, vec![in alloc; case.failing_put]?);
     let mut report = MemSink::new(alloc, vec![in alloc; case.failing_report]?);
     let words = split_words(alloc, case.words)?;
-    let status = fmrun_run(alloc, words.as_slice(), &mut files, &mut out, &mut report);
+    let status = fmrun_run(alloc, &words, &mut files, &mut out, &mut report);
     Ok(status == case.status && out.bytes() == case.printed && report.bytes() == case.reported)
 }
 
@@ -150,10 +150,10 @@ fn each_status_has_its_output_and_its_report(rt: HostRuntime) -> Result<(), Fail
     let divides_by_zero = DIVIDES_BY_ZERO.bytes(alloc)?;
     let prints_forever = PRINTS_FOREVER.bytes(alloc)?;
     for case in cases(
-        prints_sum.as_slice(),
-        calls_itself.as_slice(),
-        divides_by_zero.as_slice(),
-        prints_forever.as_slice(),
+        &prints_sum,
+        &calls_itself,
+        &divides_by_zero,
+        &prints_forever,
     ) {
         assert!(rt; comes_out(alloc, case)?, "{}", case.words);
     }
@@ -167,12 +167,12 @@ fn every_instruction_computes_what_a_java_virtual_machine_does(
     let alloc = rt.alloc();
     let file = COMPUTES.bytes(alloc)?;
     let mut files = SureFiles::new(alloc);
-    files.add("M.class", file.as_slice())?;
+    files.add("M.class", &file)?;
     let mut out = SureSink::new(alloc);
     let mut report = SureSink::new(alloc);
     let words = split_words(alloc, "M M.class")?;
     assert_eq!(rt;
-        fmrun_run(alloc, words.as_slice(), &mut files, &mut out, &mut report),
+        fmrun_run(alloc, &words, &mut files, &mut out, &mut report),
         0
     );
     assert!(rt; out.bytes() == COMPUTED);

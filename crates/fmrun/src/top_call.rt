@@ -127,7 +127,7 @@ fn do_job<'a, F: Files, O: Sink>(
         Err(FileFail::TooLong) => return Ok(Outcome::Refused(Refusal::NotYet(request.file))),
         Err(FileFail::NoMemory) => return Ok(Outcome::Refused(Refusal::OutOfMemory)),
     };
-    match read_main_class(alloc, request.main, bytes.as_slice()) {
+    match read_main_class(alloc, request.main, &bytes) {
         Ok(class) => run_class(alloc, &class, request, out),
         Err(FirstFail::NotYet) => Ok(Outcome::Refused(Refusal::NotYet(request.file))),
         Err(FirstFail::NoMemory) => Ok(Outcome::Refused(Refusal::OutOfMemory)),

@@ -1,10 +1,9 @@
-use Rattle.std.proofs.Common.{◌≡◌, [], ◌∷◌, sym, ap, ◌∙◌, unwrap_or, Option, w32, to_z, of_z, arith}
+use Rattle.std.proofs.Common.{◌≡◌, [], sym, ap, ◌∙◌, unwrap_or, Option, w32, to_z, of_z, arith}
 use Rattle.std.proofs.lemmas.Int.{ints, to_z-of_z}
 use Rattle.std.specs.Prelude.{Err}
 use Rattle.fm_files.specs.declared.error.PutFail.TheVariants as put_fail
 use Rattle.fmrun.specs.Frames.{State}
 use Rattle.fmrun.specs.inner.Progress.{turn_of}
-use Rattle.fmrun.specs.Step.{println_line}
 use Rattle.fm_files.proofs.SinkLemmas.{with_pieces-nil, with_piece-is}
 use Rattle.fmrun.proofs.RunLemmas.{IsAt-goes, IsAt-prefix, IsAt-fails, IsAt-returned, IsAt-too_deep, IsAt-stuck, without_frames, same_error}
 use Rattle.fmrun.proofs.run.run_program.Goals as goal

@@ -9,10 +9,10 @@ pub returns-clause-form : goal.returns-clause-form
 returns-clause-form g c = for_form _ _ _ _ _ _ _ _ c.do_call.ensures
 
 pub returns-clause-returned : goal.returns-clause-returned
-returns-clause-returned g c = for_end DONE returned_is_apart _ _ _ _ _ _ _ _ c.do_call.ensures
+returns-clause-returned g c = for_end _ _ _ _ _ _ _ _ DONE returned_is_apart c.do_call.ensures
 
 pub returns-clause-running : goal.returns-clause-running
-returns-clause-running g c = for_end RUNNING running_is_apart _ _ _ _ _ _ _ _ c.do_call.ensures
+returns-clause-running g c = for_end _ _ _ _ _ _ _ _ RUNNING running_is_apart c.do_call.ensures
 
 pub returns-clause-too_deep : goal.returns-clause-too_deep
-returns-clause-too_deep g c = for_end TOO_DEEP too_deep_is_apart _ _ _ _ _ _ _ _ c.do_call.ensures
+returns-clause-too_deep g c = for_end _ _ _ _ _ _ _ _ TOO_DEEP too_deep_is_apart c.do_call.ensures
