@@ -1,5 +1,5 @@
 -- Classes that are built so far, one more at a time, and the names that were seen of them.
-use Rattle.std.proofs.Common.{◌≡◌, ℕ, ◌+◌, ◌<◌, ◌||◌, Bool, true, false, cond, List, [], ◌∷◌, ◌++◌, map, take, Some, IfSome, String, string_bytes, Contains, refl, sym, ap, subst, ◌∙◌, below_more}
+use Rattle.std.proofs.Common.{◌≡◌, ℕ, ◌+◌, ◌<◌, ◌||◌, Bool, true, false, cond, List, [], ◌∷◌, ◌++◌, map, take, Some, IfSome, String, string_bytes, refl, sym, ap, subst, ◌∙◌, below_more}
 use Rattle.std.specs.BTreeSet.{BTreeSet, UpdatesBy, contains_text}
 use Rattle.std.specs.Cmp.Lexicographic.{slice_cmp}
 use Rattle.std.specs.List.{list_any, slice_get}
@@ -33,6 +33,11 @@ same_test a b = go (bytes_eq a b) refl where
   go : (t : Bool) → bytes_eq a b ≡ t → t ≡ bytes_eq b a
   go true e = sym ((bytes_eq-Decides b a).1 (sym ((bytes_eq-Decides a b).0 e)))
   go false e = sym (bytes_eq-other b a (λ same. let passed = (bytes_eq-Decides a b).1 (sym same) in cc))
+
+-- what the look-up of a name answers, it answers of the texts that were seen
+pub name_tested : {Y : Type 0} (key : String Y) (seen : BTreeSet (String Y)) (text : List ℕ) (texts : List (List ℕ)) (answer : Bool) → string_bytes key ≡ text →
+    ((q : List ℕ) → contains_text seen q ≡ list_any (bytes_eq q) texts) → contains_text seen (string_bytes key) ≡ answer → list_any (bytes_eq text) texts ≡ answer
+name_tested key seen text texts answer is among tested = ap (λ q. list_any (bytes_eq q) texts) (sym is) ∙ sym (among (string_bytes key)) ∙ tested
 
 -- the names that were seen, and one more
 pub names_more : {Y : Type 0} (key : String Y) (old new : BTreeSet (String Y)) (classes : List ClassDef) (i : ℕ) (c : ClassDef) → slice_get classes i ≡ Some c → string_bytes key ≡ class_text c →

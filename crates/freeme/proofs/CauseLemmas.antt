@@ -1,17 +1,21 @@
 -- What each status says and when it comes, by what a call does as a whole.
-use Rattle.std.proofs.Common.{◌≡◌, ◌≢◌, ◌<◌, ◌≤◌, ℕ, ◌⊎◌, inl, inr, ⊎_elim, List, [], ◌∷◌, length, Contains, Option, Some, None, Ok, Err, IsSome, IfSome, IsSomeAnd, string_bytes, refl, sym, ap, ◌∙◌, subst, arith}
-use Rattle.std.specs.List.{AllByRecursion, slice_get}
+use Rattle.std.proofs.Common.{◌≡◌, ◌≢◌, ◌≤◌, ℕ, ◌⊎◌, inl, inr, ⊎_elim, List, [], ◌∷◌, Contains, Option, Some, None, Ok, Err, IfSome, IsSomeAnd, string_bytes, eqb, false, refl, sym, ap, ◌∙◌, subst, arith}
+use Rattle.std.specs.List.{list_any, slice_get}
+use Rattle.fm_base.proofs.ContainsFacts.{Contains-cons_cases, unlike_elements}
 use Rattle.fm_base.proofs.OptionFacts.{Some-from_is_some, Some-from_some_and, IsSomeAnd-weaker}
 use Rattle.fm_files.specs.Files.{Bytes, Contents, Disk, AreKept}
 use Rattle.fm_files.specs.Sink.{Output, with_piece}
 use Rattle.fm_tool.specs.Line.{Tells}
-use Rattle.fm_tool.specs.Outside.{HasNoFault, HoldsSuch, IsKnownSuch, IsKnownMissing}
+use Rattle.fm_tool.specs.Outside.{HasNoFault}
+use Rattle.fm_tool.specs.Status.{ComesExactly}
 use Rattle.fm_tool.specs.declared.refusal.Refusal.TheVariants as refusal
+use Rattle.fm_tool.proofs.LineLemmas.{instead_for_file, instead_for_words, told_among, is_put, put_fails, told_of_file, told_of_words, comes_of_file, comes_of_words}
+use Rattle.fm_tool.proofs.OutsideLemmas.{no_fault_where_same, known_such}
 use Rattle.fm_tool.specs.declared.status.TheConstants.{DONE, WORDS, READ, MALFORMED, VERSION, LIMIT, UNSUPPORTED, WRITE, OUT_OF_MEMORY, NOT_YET}
 use Rattle.fm_code.specs.declared.class_file.ClassDef.{ClassDef}
 use Rattle.freeme.specs.Ahead.{IsBuilt, AreBuilt, IsFirstAhead}
 use Rattle.freeme.specs.ClassRefusal.{class_refusal_status}
-use Rattle.freeme.specs.Causes.{AskFor, FailsARead, FailsAWrite, IsMissing, HasTooMany, IsKnownLong, IsKnownRefused, IsKnownAhead, IsKnownPassed, SaysWords, SaysRead, SaysRefused, SaysMany, SaysLong, SaysLimit, SaysNotYet, SaysDone, SaysUnwritten, SaysWrite, SaysMemory, LacksLine, IsForWords, IsForRead, IsForBytes, IsForLimit, IsForNotYet, IsForDone, IsForWrite, IsForMemory, IsFaultless, KeepsContents, ChangesOnly}
+use Rattle.freeme.specs.Causes.{AskFor, FailsARead, FailsAWrite, IsMissing, HasTooMany, IsKnownLong, IsKnownRefused, IsKnownAhead, IsKnownPassed, SaysWords, SaysRead, SaysRefused, SaysLimit, SaysNotYet, SaysDone, SaysUnwritten, SaysWrite, SaysMemory, LacksLine, IsForWords, IsForRead, IsForBytes, IsForLimit, IsForNotYet, IsForDone, IsForWrite, IsForMemory, IsFaultless, KeepsContents, ChangesOnly}
 use Rattle.freeme.specs.Request.{Job, Asks, AskNothing}
 use Rattle.freeme.specs.Taking.{total_bytes, AllTaken, Reaches, IsTooLong, IsRefused}
 use Rattle.freeme.specs.TopCall.{StaysWithin, AreMany, IsUntouched, IsBroken, ComesTo, ComesOfJob, ComesOf, Outcome, outcome_line, outcome_status}
@@ -22,17 +26,10 @@ use Rattle.fm_tool.specs.Refusal.{memory_line}
 use Rattle.freeme.proofs.JobLemmas.{reads_within}
 use Rattle.freeme.proofs.ReadLemmas.{reads_none}
 use Rattle.freeme.proofs.RequestLemmas.{asks_one}
-use Rattle.freeme.proofs.StatusLemmas.{class_status, among, not_among, one_of}
-use Rattle.freeme.proofs.VerdictLemmas.{FailsAs, Fails, Stops, Passes, Verdict, one_verdict}
+use Rattle.freeme.proofs.StatusLemmas.{class_status}
+use Rattle.freeme.proofs.VerdictLemmas.{FailsAs, Verdict, one_verdict}
 
 -- ---- what a status says
-
--- the line of an outcome is put, where the status is neither that of a failed put nor that of memory
-pub put_of : (o : Outcome) (status : ℕ) (before after : Output) (result : ℕ) → Tells (outcome_line o) (outcome_status o) before after result → result ≡ status → status ≢ WRITE → status ≢ OUT_OF_MEMORY →
-    (outcome_status o ≡ status) × (after ≡ with_piece (outcome_line o) before)
-put_of o status before after result (inl put) is write memory = (sym put.0 ∙ is, put.1)
-put_of o status before after result (inr (inl failed)) is write memory = absurd (write (sym is ∙ failed.0))
-put_of o status before after result (inr (inr lacking)) is write memory = absurd (memory (sym is ∙ lacking.0))
 
 -- the words asked for a job, where the status is neither that of words nor that of memory
 job_of_status : (words : List Bytes) (old new : Disk) (o : Outcome) (status : ℕ) → ComesOf words old new o → outcome_status o ≡ status → status ≢ WORDS → status ≢ OUT_OF_MEMORY → ComesOfJob words old new o
@@ -44,98 +41,56 @@ module _ (words : List Bytes) (old new : Disk) (before after : Output) where
   -- 0
   done_said : (o : Outcome) → ComesOfJob words old new o → outcome_status o ≡ DONE → after ≡ with_piece (outcome_line o) before → SaysDone words old new before after
   done_said (Ok lines) j is line = record { job = j.job; asked = j.asked; lines = string_bytes lines; done = j.comes; line = line }
-  done_said (Err (job_refusal.Shared refusal.Words)) j is line = absurd (omega arith)
-  done_said (Err (job_refusal.Shared (refusal.Read file))) j is line = absurd (omega arith)
-  done_said (Err (job_refusal.Shared (refusal.NotYet file))) j is line = absurd (omega arith)
-  done_said (Err (job_refusal.Shared refusal.OutOfMemory)) j is line = absurd (omega arith)
-  done_said (Err (job_refusal.TooManyFiles count)) j is line = absurd (omega arith)
-  done_said (Err (job_refusal.TooLong file)) j is line = absurd (omega arith)
   done_said (Err (job_refusal.Class file r)) j is line = absurd (let c = class_status r in let low = c.low in let high = c.high in omega arith)
-  done_said (Err (job_refusal.Write name)) j is line = absurd (omega arith)
+  done_said (Err (job_refusal.Shared refusal.Words)) j is line = absurd (omega arith)
+  done_said o j is line = absurd (omega arith)
 
   -- 65
   read_said : (o : Outcome) → ComesOfJob words old new o → outcome_status o ≡ READ → after ≡ with_piece (outcome_line o) before → SaysRead words old new before after
-  read_said (Ok lines) j is line = absurd (omega arith)
-  read_said (Err (job_refusal.Shared refusal.Words)) j is line = absurd (omega arith)
   read_said (Err (job_refusal.Shared (refusal.Read file))) j is line = record { job = j.job; asked = j.asked; file = file.now; unread = j.comes; line = line }
-  read_said (Err (job_refusal.Shared (refusal.NotYet file))) j is line = absurd (omega arith)
-  read_said (Err (job_refusal.Shared refusal.OutOfMemory)) j is line = absurd (omega arith)
-  read_said (Err (job_refusal.TooManyFiles count)) j is line = absurd (omega arith)
-  read_said (Err (job_refusal.TooLong file)) j is line = absurd (omega arith)
   read_said (Err (job_refusal.Class file r)) j is line = absurd (let c = class_status r in let low = c.low in let high = c.high in omega arith)
-  read_said (Err (job_refusal.Write name)) j is line = absurd (omega arith)
+  read_said o j is line = absurd (omega arith)
 
   -- 77
   not_yet_said : (o : Outcome) → ComesOfJob words old new o → outcome_status o ≡ NOT_YET → after ≡ with_piece (outcome_line o) before → SaysNotYet words old new before after
-  not_yet_said (Ok lines) j is line = absurd (omega arith)
-  not_yet_said (Err (job_refusal.Shared refusal.Words)) j is line = absurd (omega arith)
-  not_yet_said (Err (job_refusal.Shared (refusal.Read file))) j is line = absurd (omega arith)
   not_yet_said (Err (job_refusal.Shared (refusal.NotYet file))) j is line = record { job = j.job; asked = j.asked; file = file.now; ahead = j.comes; line = line }
-  not_yet_said (Err (job_refusal.Shared refusal.OutOfMemory)) j is line = absurd (omega arith)
-  not_yet_said (Err (job_refusal.TooManyFiles count)) j is line = absurd (omega arith)
-  not_yet_said (Err (job_refusal.TooLong file)) j is line = absurd (omega arith)
   not_yet_said (Err (job_refusal.Class file r)) j is line = absurd (let c = class_status r in let low = c.low in let high = c.high in omega arith)
-  not_yet_said (Err (job_refusal.Write name)) j is line = absurd (omega arith)
+  not_yet_said o j is line = absurd (omega arith)
 
   -- 66, 67 and 69
   bytes_said : (status : ℕ) → 66 ≤ status → status ≤ 69 → status ≢ LIMIT → (o : Outcome) → ComesOfJob words old new o → outcome_status o ≡ status → after ≡ with_piece (outcome_line o) before → SaysRefused status words old new before after
-  bytes_said status low high other (Ok lines) j is line = absurd (omega arith)
-  bytes_said status low high other (Err (job_refusal.Shared refusal.Words)) j is line = absurd (omega arith)
-  bytes_said status low high other (Err (job_refusal.Shared (refusal.Read file))) j is line = absurd (omega arith)
-  bytes_said status low high other (Err (job_refusal.Shared (refusal.NotYet file))) j is line = absurd (omega arith)
-  bytes_said status low high other (Err (job_refusal.Shared refusal.OutOfMemory)) j is line = absurd (omega arith)
   bytes_said status low high other (Err (job_refusal.TooManyFiles count)) j is line = absurd (other (sym is))
   bytes_said status low high other (Err (job_refusal.TooLong file)) j is line = absurd (other (sym is))
   bytes_said status low high other (Err (job_refusal.Class file r)) j is line = record { job = j.job; asked = j.asked; file = file.now; refusal = r; status_is = is; refused = j.comes; line = line }
-  bytes_said status low high other (Err (job_refusal.Write name)) j is line = absurd (omega arith)
+  bytes_said status low high other (Err (job_refusal.Shared refusal.Words)) j is line = absurd (omega arith)
+  bytes_said status low high other o j is line = absurd (omega arith)
 
   -- 68
   limit_said : (o : Outcome) → ComesOfJob words old new o → outcome_status o ≡ LIMIT → after ≡ with_piece (outcome_line o) before → SaysLimit words old new before after
-  limit_said (Ok lines) j is line = absurd (omega arith)
-  limit_said (Err (job_refusal.Shared refusal.Words)) j is line = absurd (omega arith)
-  limit_said (Err (job_refusal.Shared (refusal.Read file))) j is line = absurd (omega arith)
-  limit_said (Err (job_refusal.Shared (refusal.NotYet file))) j is line = absurd (omega arith)
-  limit_said (Err (job_refusal.Shared refusal.OutOfMemory)) j is line = absurd (omega arith)
   limit_said (Err (job_refusal.TooManyFiles count)) j is line = let Many : ℕ → Type 0 = λ n. AreMany j.job.files n old new × (after ≡ with_piece (many_line n) before) in let own = subst Many j.comes.count_is (j.comes, line) in inl (record { job = j.job; asked = j.asked; many = own.0; line = own.1 })
   limit_said (Err (job_refusal.TooLong file)) j is line = inr (inl (record { job = j.job; asked = j.asked; file = file.now; long = j.comes; line = line }))
   limit_said (Err (job_refusal.Class file r)) j is line = inr (inr (record { job = j.job; asked = j.asked; file = file.now; refusal = r; status_is = is; refused = j.comes; line = line }))
-  limit_said (Err (job_refusal.Write name)) j is line = absurd (omega arith)
+  limit_said (Err (job_refusal.Shared refusal.Words)) j is line = absurd (omega arith)
+  limit_said o j is line = absurd (omega arith)
 
   -- 75, where the line is put
   unwritten_said : (o : Outcome) → ComesOfJob words old new o → outcome_status o ≡ WRITE → after ≡ with_piece (outcome_line o) before → SaysUnwritten words old new before after
-  unwritten_said (Ok lines) j is line = absurd (omega arith)
-  unwritten_said (Err (job_refusal.Shared refusal.Words)) j is line = absurd (omega arith)
-  unwritten_said (Err (job_refusal.Shared (refusal.Read file))) j is line = absurd (omega arith)
-  unwritten_said (Err (job_refusal.Shared (refusal.NotYet file))) j is line = absurd (omega arith)
-  unwritten_said (Err (job_refusal.Shared refusal.OutOfMemory)) j is line = absurd (omega arith)
-  unwritten_said (Err (job_refusal.TooManyFiles count)) j is line = absurd (omega arith)
-  unwritten_said (Err (job_refusal.TooLong file)) j is line = absurd (omega arith)
-  unwritten_said (Err (job_refusal.Class file r)) j is line = absurd (let c = class_status r in let low = c.low in let high = c.high in omega arith)
   unwritten_said (Err (job_refusal.Write name)) j is line = record { job = j.job; asked = j.asked; name = string_bytes name; unwritten = j.comes; line = line }
+  unwritten_said (Err (job_refusal.Class file r)) j is line = absurd (let c = class_status r in let low = c.low in let high = c.high in omega arith)
+  unwritten_said (Err (job_refusal.Shared refusal.Words)) j is line = absurd (omega arith)
+  unwritten_said o j is line = absurd (omega arith)
 
   -- 76, where the line is put
   stopped : (o : Outcome) → ComesOfJob words old new o → outcome_status o ≡ OUT_OF_MEMORY → IsUntouched old new ⊎ AskFor words (λ job. IsBroken job old new)
-  stopped (Ok lines) j is = absurd (omega arith)
-  stopped (Err (job_refusal.Shared refusal.Words)) j is = absurd (omega arith)
-  stopped (Err (job_refusal.Shared (refusal.Read file))) j is = absurd (omega arith)
-  stopped (Err (job_refusal.Shared (refusal.NotYet file))) j is = absurd (omega arith)
   stopped (Err (job_refusal.Shared refusal.OutOfMemory)) j is = ⊎_elim (λ untouched. inl untouched) (λ broken. inr (j.job, (j.asked, broken))) j.comes
-  stopped (Err (job_refusal.TooManyFiles count)) j is = absurd (omega arith)
-  stopped (Err (job_refusal.TooLong file)) j is = absurd (omega arith)
   stopped (Err (job_refusal.Class file r)) j is = absurd (let c = class_status r in let low = c.low in let high = c.high in omega arith)
-  stopped (Err (job_refusal.Write name)) j is = absurd (omega arith)
+  stopped o j is = absurd (omega arith)
 
   -- the line of memory
   memory_line_is : (o : Outcome) → outcome_status o ≡ OUT_OF_MEMORY → outcome_line o ≡ memory_line
-  memory_line_is (Ok lines) is = absurd (omega arith)
-  memory_line_is (Err (job_refusal.Shared refusal.Words)) is = absurd (omega arith)
-  memory_line_is (Err (job_refusal.Shared (refusal.Read file))) is = absurd (omega arith)
-  memory_line_is (Err (job_refusal.Shared (refusal.NotYet file))) is = absurd (omega arith)
   memory_line_is (Err (job_refusal.Shared refusal.OutOfMemory)) is = refl
-  memory_line_is (Err (job_refusal.TooManyFiles count)) is = absurd (omega arith)
-  memory_line_is (Err (job_refusal.TooLong file)) is = absurd (omega arith)
   memory_line_is (Err (job_refusal.Class file r)) is = absurd (let c = class_status r in let low = c.low in let high = c.high in omega arith)
-  memory_line_is (Err (job_refusal.Write name)) is = absurd (omega arith)
+  memory_line_is o is = absurd (omega arith)
 
 -- ---- what fails and what is kept
 
@@ -144,24 +99,21 @@ abbrev FailsSo : Disk → Disk → ℕ → Type 0
 FailsSo old new status =
     HasNoFault old new ⊎ (((status ≡ READ) × AreKept old.write_faults new.write_faults) ⊎ ((status ≡ WRITE) × AreKept old.read_faults new.read_faults))
 
-none_failed : (old new : Disk) → new ≡ old → HasNoFault old new
-none_failed old new same = let P : Disk → Type 0 = λ d. HasNoFault old d in subst P (sym same) (record { reads = λ name. refl; writes = λ name. refl })
-
 job_fails : (job : Job) (old new : Disk) (o : Outcome) → ComesTo job old new o → FailsSo old new (outcome_status o)
 job_fails job old new (Ok lines) comes = inl comes.written.faultless
 job_fails job old new (Err (job_refusal.Shared refusal.Words)) comes = absurd comes
 job_fails job old new (Err (job_refusal.Shared (refusal.Read file))) comes = inr (inl (refl, comes.fault.writes))
 job_fails job old new (Err (job_refusal.Shared (refusal.NotYet file))) comes = inl comes.untouched.faultless
 job_fails job old new (Err (job_refusal.Shared refusal.OutOfMemory)) comes = ⊎_elim (λ untouched. inl untouched.faultless) (λ broken. inl broken.written.faultless) comes
-job_fails job old new (Err (job_refusal.TooManyFiles count)) comes = inl (none_failed old new comes.kept)
+job_fails job old new (Err (job_refusal.TooManyFiles count)) comes = inl (no_fault_where_same old new comes.kept)
 job_fails job old new (Err (job_refusal.TooLong file)) comes = inl comes.untouched.faultless
 job_fails job old new (Err (job_refusal.Class file r)) comes = inl comes.untouched.faultless
 job_fails job old new (Err (job_refusal.Write name)) comes = inr (inr (refl, comes.fails.fault.reads))
 
 pub fails_so : (words : List Bytes) (old new : Disk) (o : Outcome) → ComesOf words old new o → FailsSo old new (outcome_status o)
 fails_so words old new o (inl j) = job_fails j.job old new o j.comes
-fails_so words old new o (inr (inl nothing)) = inl (none_failed old new nothing.kept)
-fails_so words old new o (inr (inr lacking)) = inl (none_failed old new lacking.kept)
+fails_so words old new o (inr (inl nothing)) = inl (no_fault_where_same old new nothing.kept)
+fails_so words old new o (inr (inr lacking)) = inl (no_fault_where_same old new lacking.kept)
 
 -- contents are kept but where classes are written
 job_keeps : (job : Job) (old new : Disk) (o : Outcome) → ComesTo job old new o → outcome_status o ≢ DONE → outcome_status o ≢ WRITE → outcome_status o ≢ OUT_OF_MEMORY → new.contents ≡ old.contents
@@ -196,9 +148,6 @@ module _ (job : Job) (old new : Disk) (held : Bytes → Option Bytes) (known : o
   all_taken : (classes : List ClassDef) → AllTaken old.contents job.files classes → AllTaken (Some held) job.files classes
   all_taken classes = let P : Contents → Type 0 = λ c. AllTaken c job.files classes in subst P known
 
-  such : (file : Bytes) (P : Bytes → Type 0) → HoldsSuch old.contents file P → IsSomeAnd (held file) P
-  such file P = let Q : Contents → Type 0 = λ c. HoldsSuch c file P in subst Q known
-
   -- a file that is too long or refused
   long_stops : (file : Bytes) (before : List ClassDef) → Reaches (Some held) job.files file before → IsSomeAnd (held file) (IsTooLong (total_bytes before)) → Verdict held job.files LIMIT
   long_stops file before reaches long = inr (inl (record {
@@ -227,14 +176,14 @@ module _ (job : Job) (old new : Disk) (held : Bytes → Option Bytes) (known : o
   verdict_of (Err (job_refusal.Shared (refusal.NotYet file))) comes = inl (inr (inr (record { classes = comes.classes; taken = all_taken comes.classes comes.taken; last = inr (not_built comes.classes comes.place comes.ahead, refl) })))
   verdict_of (Err (job_refusal.Shared refusal.OutOfMemory)) comes = inr (inr (inr refl))
   verdict_of (Err (job_refusal.TooManyFiles count)) comes = let count = comes.count_is in let many = comes.many in inl (inl (omega arith, refl))
-  verdict_of (Err (job_refusal.TooLong file)) comes = inl (long_stops file.now comes.before (reached file.now comes.before comes.reaches) (such file.now (IsTooLong (total_bytes comes.before)) comes.long))
-  verdict_of (Err (job_refusal.Class file r)) comes = inl (bytes_stop (class_refusal_status r) file.now comes.before r refl (reached file.now comes.before comes.reaches) (such file.now (IsRefused r (total_bytes comes.before)) comes.refused))
+  verdict_of (Err (job_refusal.TooLong file)) comes = inl (long_stops file.now comes.before (reached file.now comes.before comes.reaches) (known_such old.contents held file.now (IsTooLong (total_bytes comes.before)) known comes.long))
+  verdict_of (Err (job_refusal.Class file r)) comes = inl (bytes_stop (class_refusal_status r) file.now comes.before r refl (reached file.now comes.before comes.reaches) (known_such old.contents held file.now (IsRefused r (total_bytes comes.before)) known comes.refused))
   verdict_of (Err (job_refusal.Write name)) comes = inr (inr (inl refl))
 
   -- files of this verdict have its status, unless there was a fault or memory was lacking
-  status_of : (status : ℕ) (o : Outcome) → Verdict held job.files status → ComesTo job old new o → Contains (status ∷ READ ∷ WRITE ∷ OUT_OF_MEMORY ∷ []) (outcome_status o)
+  status_of : (status : ℕ) (o : Outcome) → Verdict held job.files status → ComesTo job old new o → Contains (status ∷ instead_for_file) (outcome_status o)
   status_of status o verdict comes = go (verdict_of o comes) where
-    go : Comes (outcome_status o) → Contains (status ∷ READ ∷ WRITE ∷ OUT_OF_MEMORY ∷ []) (outcome_status o)
+    go : Comes (outcome_status o) → Contains (status ∷ instead_for_file) (outcome_status o)
     go (inl own) = (0, omega arith, one_verdict held job.files status (outcome_status o) verdict own)
     go (inr (inl e)) = (1, omega arith, sym e)
     go (inr (inr (inl e))) = (2, omega arith, sym e)
@@ -243,7 +192,7 @@ module _ (job : Job) (old new : Disk) (held : Bytes → Option Bytes) (known : o
 -- ---- the cause of each status
 
 -- too many files have one status, and memory may be lacking
-many_status : (job : Job) (old new : Disk) → HasTooMany job → (o : Outcome) → ComesTo job old new o → Contains (LIMIT ∷ WRITE ∷ OUT_OF_MEMORY ∷ []) (outcome_status o)
+many_status : (job : Job) (old new : Disk) → HasTooMany job → (o : Outcome) → ComesTo job old new o → Contains (LIMIT ∷ instead_for_words) (outcome_status o)
 many_status job old new many (Ok lines) comes = absurd (let few = comes.passed.taken.few in omega arith)
 many_status job old new many (Err (job_refusal.Shared refusal.Words)) comes = absurd comes
 many_status job old new many (Err (job_refusal.Shared (refusal.Read file))) comes = absurd (let few = comes.reaches.few in omega arith)
@@ -256,15 +205,9 @@ many_status job old new many (Err (job_refusal.Write name)) comes = (1, omega ar
 
 -- a job isn't refused for its words
 not_for_words : (job : Job) (old new : Disk) (o : Outcome) → ComesTo job old new o → outcome_status o ≢ WORDS
-not_for_words job old new (Ok lines) comes is = omega arith
 not_for_words job old new (Err (job_refusal.Shared refusal.Words)) comes is = comes
-not_for_words job old new (Err (job_refusal.Shared (refusal.Read file))) comes is = omega arith
-not_for_words job old new (Err (job_refusal.Shared (refusal.NotYet file))) comes is = omega arith
-not_for_words job old new (Err (job_refusal.Shared refusal.OutOfMemory)) comes is = omega arith
-not_for_words job old new (Err (job_refusal.TooManyFiles count)) comes is = omega arith
-not_for_words job old new (Err (job_refusal.TooLong file)) comes is = omega arith
 not_for_words job old new (Err (job_refusal.Class file r)) comes is = let c = class_status r in let low = c.low in omega arith
-not_for_words job old new (Err (job_refusal.Write name)) comes is = omega arith
+not_for_words job old new o comes is = omega arith
 
 -- the statuses at which nothing failed, and those at which contents are kept
 abbrev faultless_statuses : List ℕ
@@ -272,24 +215,6 @@ faultless_statuses = DONE ∷ WORDS ∷ MALFORMED ∷ VERSION ∷ LIMIT ∷ UNSU
 
 abbrev keeping_statuses : List ℕ
 keeping_statuses = WORDS ∷ READ ∷ MALFORMED ∷ VERSION ∷ LIMIT ∷ UNSUPPORTED ∷ NOT_YET ∷ []
-
-unlike_read : AllByRecursion (λ s. s ≢ READ) faultless_statuses
-unlike_read = ((λ e. omega arith), ((λ e. omega arith), ((λ e. omega arith), ((λ e. omega arith), ((λ e. omega arith), ((λ e. omega arith), ((λ e. omega arith), tt)))))))
-
-unlike_write : AllByRecursion (λ s. s ≢ WRITE) faultless_statuses
-unlike_write = ((λ e. omega arith), ((λ e. omega arith), ((λ e. omega arith), ((λ e. omega arith), ((λ e. omega arith), ((λ e. omega arith), ((λ e. omega arith), tt)))))))
-
-unlike_memory : AllByRecursion (λ s. s ≢ OUT_OF_MEMORY) faultless_statuses
-unlike_memory = ((λ e. omega arith), ((λ e. omega arith), ((λ e. omega arith), ((λ e. omega arith), ((λ e. omega arith), ((λ e. omega arith), ((λ e. omega arith), tt)))))))
-
-unlike_done : AllByRecursion (λ s. s ≢ DONE) keeping_statuses
-unlike_done = ((λ e. omega arith), ((λ e. omega arith), ((λ e. omega arith), ((λ e. omega arith), ((λ e. omega arith), ((λ e. omega arith), ((λ e. omega arith), tt)))))))
-
-also_unlike_write : AllByRecursion (λ s. s ≢ WRITE) keeping_statuses
-also_unlike_write = ((λ e. omega arith), ((λ e. omega arith), ((λ e. omega arith), ((λ e. omega arith), ((λ e. omega arith), ((λ e. omega arith), ((λ e. omega arith), tt)))))))
-
-also_unlike_memory : AllByRecursion (λ s. s ≢ OUT_OF_MEMORY) keeping_statuses
-also_unlike_memory = ((λ e. omega arith), ((λ e. omega arith), ((λ e. omega arith), ((λ e. omega arith), ((λ e. omega arith), ((λ e. omega arith), ((λ e. omega arith), tt)))))))
 
 module _ (words : List Bytes) (old new : Disk) (o : Outcome) (comes : ComesOf words old new o) where
   -- the job that was asked for comes out so, or memory was lacking before
@@ -301,35 +226,37 @@ module _ (words : List Bytes) (old new : Disk) (o : Outcome) (comes : ComesOf wo
     go (inr (inr lacking)) = inr (ap outcome_status lacking.refused)
 
   -- a verdict of its files decides the status, unless there was a fault or memory was lacking
-  decided : (status : ℕ) (job : Job) (held : Bytes → Option Bytes) → old.contents ≡ Some held → Asks words job → Verdict held job.files status → Contains (status ∷ READ ∷ WRITE ∷ OUT_OF_MEMORY ∷ []) (outcome_status o)
+  decided : (status : ℕ) (job : Job) (held : Bytes → Option Bytes) → old.contents ≡ Some held → Asks words job → Verdict held job.files status → Contains (status ∷ instead_for_file) (outcome_status o)
   decided status job held known asked verdict = ⊎_elim
       (λ (job_comes : ComesTo job old new o). status_of job old new held known status o verdict job_comes)
       (λ (lacking : outcome_status o ≡ OUT_OF_MEMORY). (3, omega arith, sym lacking))
       (of_job job asked)
 
-  missing_decides : AskFor words (IsMissing old) → Contains (READ ∷ READ ∷ WRITE ∷ OUT_OF_MEMORY ∷ []) (outcome_status o)
+  missing_decides : AskFor words (IsMissing old) → Contains instead_for_file (outcome_status o)
   missing_decides (job, (asked, cause)) =
       let found = Some-from_some_and old.contents (λ held. held cause.file ≡ None) cause.missing in
+      let decides : Contains (READ ∷ instead_for_file) (outcome_status o) =
       decided READ job found.0 found.1 asked (inr (inl (record {
         file = cause.file;
         before = cause.before;
         reaches = reached job old new found.0 found.1 cause.file cause.before cause.reaches;
         fails = inl (found.2, refl);
-      })))
+      }))) in
+      ⊎_elim (λ (same : outcome_status o ≡ READ). (0, omega arith, sym same)) (λ (one : Contains instead_for_file (outcome_status o)). one) (Contains-cons_cases READ instead_for_file (outcome_status o) decides)
 
-  long_decides : AskFor words (IsKnownLong old) → Contains (LIMIT ∷ READ ∷ WRITE ∷ OUT_OF_MEMORY ∷ []) (outcome_status o)
+  long_decides : AskFor words (IsKnownLong old) → Contains (LIMIT ∷ instead_for_file) (outcome_status o)
   long_decides (job, (asked, cause)) =
       let found = Some-from_some_and old.contents (λ held. IsSomeAnd (held cause.file) (IsTooLong (total_bytes cause.before))) cause.long in
       decided LIMIT job found.0 found.1 asked
       (long_stops job old new found.0 found.1 cause.file cause.before (reached job old new found.0 found.1 cause.file cause.before cause.reaches) found.2)
 
-  bytes_decide : (status : ℕ) → AskFor words (IsKnownRefused status old) → Contains (status ∷ READ ∷ WRITE ∷ OUT_OF_MEMORY ∷ []) (outcome_status o)
+  bytes_decide : (status : ℕ) → AskFor words (IsKnownRefused status old) → Contains (status ∷ instead_for_file) (outcome_status o)
   bytes_decide status (job, (asked, cause)) =
       let found = Some-from_some_and old.contents (λ held. IsSomeAnd (held cause.file) (IsRefused cause.refusal (total_bytes cause.before))) cause.refused in
       decided status job found.0 found.1 asked
       (bytes_stop job old new found.0 found.1 status cause.file cause.before cause.refusal cause.status_is (reached job old new found.0 found.1 cause.file cause.before cause.reaches) found.2)
 
-  ahead_decides : AskFor words (IsKnownAhead old) → Contains (NOT_YET ∷ READ ∷ WRITE ∷ OUT_OF_MEMORY ∷ []) (outcome_status o)
+  ahead_decides : AskFor words (IsKnownAhead old) → Contains (NOT_YET ∷ instead_for_file) (outcome_status o)
   ahead_decides (job, (asked, cause)) =
       let found = Some-from_is_some old.contents cause.known in
       decided NOT_YET job found.0 found.1 asked (inr (inr (record {
@@ -338,7 +265,7 @@ module _ (words : List Bytes) (old new : Disk) (o : Outcome) (comes : ComesOf wo
         last = inr (cause.ahead, refl);
       })))
 
-  passed_decide : AskFor words (IsKnownPassed old) → Contains (DONE ∷ READ ∷ WRITE ∷ OUT_OF_MEMORY ∷ []) (outcome_status o)
+  passed_decide : AskFor words (IsKnownPassed old) → Contains (DONE ∷ instead_for_file) (outcome_status o)
   passed_decide (job, (asked, cause)) =
       let found = Some-from_is_some old.contents cause.known in
       decided DONE job found.0 found.1 asked (inr (inr (record {
@@ -347,97 +274,82 @@ module _ (words : List Bytes) (old new : Disk) (o : Outcome) (comes : ComesOf wo
         last = inl (cause.passed.built, refl);
       })))
 
-  many_decide : AskFor words HasTooMany → Contains (LIMIT ∷ WRITE ∷ OUT_OF_MEMORY ∷ []) (outcome_status o)
+  many_decide : AskFor words HasTooMany → Contains (LIMIT ∷ instead_for_words) (outcome_status o)
   many_decide (job, (asked, many)) = ⊎_elim
       (λ (job_comes : ComesTo job old new o). many_status job old new many o job_comes)
       (λ (lacking : outcome_status o ≡ OUT_OF_MEMORY). (2, omega arith, sym lacking))
       (of_job job asked)
 
-  fault_decides : FailsARead old new → Contains (READ ∷ WRITE ∷ OUT_OF_MEMORY ∷ []) (outcome_status o)
+  fault_decides : FailsARead old new → Contains instead_for_file (outcome_status o)
   fault_decides (name, rose) = go (fails_so words old new o comes) where
-    go : FailsSo old new (outcome_status o) → Contains (READ ∷ WRITE ∷ OUT_OF_MEMORY ∷ []) (outcome_status o)
+    go : FailsSo old new (outcome_status o) → Contains instead_for_file (outcome_status o)
     go (inl none) = absurd (let same = none.reads name in omega arith)
     go (inr (inl read)) = (0, omega arith, sym read.0)
     go (inr (inr write)) = (1, omega arith, sym write.0)
 
-  write_decides : FailsAWrite old new → Contains (WRITE ∷ OUT_OF_MEMORY ∷ []) (outcome_status o)
+  write_decides : FailsAWrite old new → Contains instead_for_words (outcome_status o)
   write_decides (name, rose) = go (fails_so words old new o comes) where
-    go : FailsSo old new (outcome_status o) → Contains (WRITE ∷ OUT_OF_MEMORY ∷ []) (outcome_status o)
+    go : FailsSo old new (outcome_status o) → Contains instead_for_words (outcome_status o)
     go (inl none) = absurd (let same = none.writes name in omega arith)
     go (inr (inl read)) = absurd (let same = read.1 name in omega arith)
     go (inr (inr write)) = (0, omega arith, sym write.0)
 
--- one status less that is named twice
-once : (status result : ℕ) (others : List ℕ) → Contains (status ∷ status ∷ others) result → Contains (status ∷ others) result
-once status result others there = ⊎_elim
-    (λ (same : result ≡ status). (0, omega arith, sym same))
-    (λ (rest : Contains (status ∷ others) result). rest)
-    (one_of status result (status ∷ others) there)
-
 -- ---- the clauses
 
-module _ (words : List Bytes) (old new : Disk) (before after : Output) (result : ℕ) (o : Outcome) (comes : ComesOf words old new o) (tells : Tells (outcome_line o) (outcome_status o) before after result) where
-  -- where the line of a job is put
-  put_job : {Said : Type 0} (status : ℕ) → status ≢ WORDS → status ≢ WRITE → status ≢ OUT_OF_MEMORY → (ComesOfJob words old new o → outcome_status o ≡ status → after ≡ with_piece (outcome_line o) before → Said) → result ≡ status → Said
-  put_job status unlike_words write memory said is =
-      let put = put_of o status before after result tells is write memory in
-      said (job_of_status words old new o status comes put.0 unlike_words memory) put.0 put.1
+module _ {words : List Bytes} {old new : Disk} {before after : Output} {result : ℕ} (o : Outcome) (comes : ComesOf words old new o) (tells : Tells (outcome_line o) (outcome_status o) before after result) where
+  -- what the line of a job says, at a status that isn't for words
+  of_job_alone : {Said : Type 0} (status : ℕ) → status ≢ WORDS → status ≢ OUT_OF_MEMORY → (ComesOfJob words old new o → outcome_status o ≡ status → after ≡ with_piece (outcome_line o) before → Said)
+      → outcome_status o ≡ status → after ≡ with_piece (outcome_line o) before → Said
+  of_job_alone status unlike_words memory said is line = said (job_of_status words old new o status comes is unlike_words memory) is line
+
+  -- a status of the job's files comes exactly with what it says
+  of_files : {Said Cause : Type 0} (status : ℕ) → status ≢ WORDS → status ≢ WRITE → status ≢ OUT_OF_MEMORY → (ComesOfJob words old new o → outcome_status o ≡ status → after ≡ with_piece (outcome_line o) before → Said)
+      → (Cause → Contains (status ∷ instead_for_file) (outcome_status o)) → ComesExactly status instead_for_file result Said Cause
+  of_files status unlike_words write memory said decides =
+      comes_of_file (outcome_line o) (outcome_status o) before after result tells status write memory (of_job_alone status unlike_words memory said) decides
 
   pub is_for_words : IsForWords words old new before after result
-  is_for_words = record {
-    only = λ is. let put = put_of o WORDS before after result tells is (λ e. omega arith) (λ e. omega arith) in words_said comes put.0 put.1;
-    there = λ unasked. among (WORDS ∷ WRITE ∷ OUT_OF_MEMORY ∷ []) o before after result tells (nothing_decides unasked comes) (1, omega arith, refl) (2, omega arith, refl);
-  } where
+  is_for_words = comes_of_words (outcome_line o) (outcome_status o) before after result tells WORDS (λ e. omega arith) (λ e. omega arith) (words_said comes) (λ unasked. nothing_decides unasked comes) where
     words_said : ComesOf words old new o → outcome_status o ≡ WORDS → after ≡ with_piece (outcome_line o) before → SaysWords words old new before after
     words_said (inl j) is line = absurd (not_for_words j.job old new o j.comes is)
     words_said (inr (inl nothing)) is line = record { unasked = nothing.unasked; kept = nothing.kept; line = let P : Outcome → Type 0 = λ x. after ≡ with_piece (outcome_line x) before in subst P nothing.refused line }
     words_said (inr (inr lacking)) is line = absurd (let other = sym is ∙ ap outcome_status lacking.refused in omega arith)
 
-    nothing_decides : AskNothing words → ComesOf words old new o → Contains (WORDS ∷ WRITE ∷ OUT_OF_MEMORY ∷ []) (outcome_status o)
+    nothing_decides : AskNothing words → ComesOf words old new o → Contains (WORDS ∷ instead_for_words) (outcome_status o)
     nothing_decides unasked (inl j) = absurd (unasked j.job j.asked)
     nothing_decides unasked (inr (inl nothing)) = (0, omega arith, sym (ap outcome_status nothing.refused))
     nothing_decides unasked (inr (inr lacking)) = (2, omega arith, sym (ap outcome_status lacking.refused))
 
   pub is_for_read : IsForRead words old new before after result
-  is_for_read = record {
-    only = put_job READ (λ e. omega arith) (λ e. omega arith) (λ e. omega arith) (read_said words old new before after o);
-    there = λ cause. among (READ ∷ WRITE ∷ OUT_OF_MEMORY ∷ []) o before after result tells
-        (⊎_elim (λ (fault : FailsARead old new). fault_decides words old new o comes fault)
-        (λ (missing : AskFor words (IsMissing old)). once READ (outcome_status o) (WRITE ∷ OUT_OF_MEMORY ∷ []) (missing_decides words old new o comes missing)) cause)
-        (1, omega arith, refl) (2, omega arith, refl);
-  }
+  is_for_read = comes_of_words (outcome_line o) (outcome_status o) before after result tells READ (λ e. omega arith) (λ e. omega arith)
+      (of_job_alone READ (λ e. omega arith) (λ e. omega arith) (read_said words old new before after o))
+      (λ cause. ⊎_elim (λ (fault : FailsARead old new). fault_decides words old new o comes fault) (λ (missing : AskFor words (IsMissing old)). missing_decides words old new o comes missing) cause)
 
   pub is_for_bytes : (status : ℕ) → 66 ≤ status → status ≤ 69 → status ≢ LIMIT → IsForBytes status words old new before after result
-  is_for_bytes status low high other = record {
-    only = put_job status (λ e. omega arith) (λ e. omega arith) (λ e. omega arith) (bytes_said words old new before after status low high other o);
-    there = λ cause. among (status ∷ READ ∷ WRITE ∷ OUT_OF_MEMORY ∷ []) o before after result tells (bytes_decide words old new o comes status cause) (2, omega arith, refl) (3, omega arith, refl);
-  }
+  is_for_bytes status low high other =
+      of_files status (λ e. omega arith) (λ e. omega arith) (λ e. omega arith) (bytes_said words old new before after status low high other o) (bytes_decide words old new o comes status)
 
   pub is_for_limit : IsForLimit words old new before after result
   is_for_limit = record {
-    only = put_job LIMIT (λ e. omega arith) (λ e. omega arith) (λ e. omega arith) (limit_said words old new before after o);
-    many = λ cause. among (LIMIT ∷ WRITE ∷ OUT_OF_MEMORY ∷ []) o before after result tells (many_decide words old new o comes cause) (1, omega arith, refl) (2, omega arith, refl);
-    long = λ cause. among (LIMIT ∷ READ ∷ WRITE ∷ OUT_OF_MEMORY ∷ []) o before after result tells (long_decides words old new o comes cause) (2, omega arith, refl) (3, omega arith, refl);
-    bytes = λ cause. among (LIMIT ∷ READ ∷ WRITE ∷ OUT_OF_MEMORY ∷ []) o before after result tells (bytes_decide words old new o comes LIMIT cause) (2, omega arith, refl) (3, omega arith, refl);
+    only = λ is.
+        let put = is_put (outcome_line o) (outcome_status o) before after result tells LIMIT (λ e. omega arith) (λ e. omega arith) is in
+        of_job_alone LIMIT (λ e. omega arith) (λ e. omega arith) (limit_said words old new before after o) put.0 put.1;
+    many = λ cause. told_of_words (outcome_line o) (outcome_status o) before after result tells LIMIT (many_decide words old new o comes cause);
+    long = λ cause. told_of_file (outcome_line o) (outcome_status o) before after result tells LIMIT (long_decides words old new o comes cause);
+    bytes = λ cause. told_of_file (outcome_line o) (outcome_status o) before after result tells LIMIT (bytes_decide words old new o comes LIMIT cause);
   }
 
   pub is_for_not_yet : IsForNotYet words old new before after result
-  is_for_not_yet = record {
-    only = put_job NOT_YET (λ e. omega arith) (λ e. omega arith) (λ e. omega arith) (not_yet_said words old new before after o);
-    there = λ cause. among (NOT_YET ∷ READ ∷ WRITE ∷ OUT_OF_MEMORY ∷ []) o before after result tells (ahead_decides words old new o comes cause) (2, omega arith, refl) (3, omega arith, refl);
-  }
+  is_for_not_yet = of_files NOT_YET (λ e. omega arith) (λ e. omega arith) (λ e. omega arith) (not_yet_said words old new before after o) (ahead_decides words old new o comes)
 
   pub is_for_done : IsForDone words old new before after result
-  is_for_done = record {
-    only = put_job DONE (λ e. omega arith) (λ e. omega arith) (λ e. omega arith) (done_said words old new before after o);
-    there = λ cause. among (DONE ∷ READ ∷ WRITE ∷ OUT_OF_MEMORY ∷ []) o before after result tells (passed_decide words old new o comes cause) (2, omega arith, refl) (3, omega arith, refl);
-  }
+  is_for_done = of_files DONE (λ e. omega arith) (λ e. omega arith) (λ e. omega arith) (done_said words old new before after o) (passed_decide words old new o comes)
 
   pub is_for_write : IsForWrite words old new before after result
   is_for_write = record {
     only = only tells;
-    put = put tells;
-    write = λ cause. among (WRITE ∷ OUT_OF_MEMORY ∷ []) o before after result tells (write_decides words old new o comes cause) (0, omega arith, refl) (1, omega arith, refl);
+    put = put_fails (outcome_line o) (outcome_status o) before after result tells;
+    write = λ cause. told_among (outcome_line o) (outcome_status o) before after result tells instead_for_words (write_decides words old new o comes cause) (0, omega arith, refl) (1, omega arith, refl);
   } where
     only : Tells (outcome_line o) (outcome_status o) before after result → result ≡ WRITE → SaysWrite words old new before after
     only (inl own) is =
@@ -446,17 +358,12 @@ module _ (words : List Bytes) (old new : Disk) (before after : Output) (result :
     only (inr (inl failed)) is = inl (record { outcome = o; comes = comes; fails = failed.1 })
     only (inr (inr lacking)) is = absurd (let e = lacking.0 in omega arith)
 
-    put : Tells (outcome_line o) (outcome_status o) before after result → before.faults < after.faults → result ≡ WRITE
-    put (inl own) rose = absurd (let same = ap (λ (x : Output). x.faults) own.1 in omega arith)
-    put (inr (inl failed)) rose = failed.0
-    put (inr (inr lacking)) rose = absurd (let same = ap (λ (x : Output). x.faults) lacking.1 in omega arith)
-
   pub is_for_memory : IsForMemory words old new before after result
   is_for_memory is = go tells where
     own_line : ComesOf words old new o → outcome_status o ≡ OUT_OF_MEMORY → IsUntouched old new ⊎ AskFor words (λ job. IsBroken job old new)
     own_line (inl j) same = stopped words old new before after o j same
     own_line (inr (inl nothing)) same = absurd (let other = sym same ∙ ap outcome_status nothing.refused in omega arith)
-    own_line (inr (inr lacking)) same = inl (record { faultless = none_failed old new lacking.kept; kept = ap (λ (d : Disk). d.contents) lacking.kept })
+    own_line (inr (inr lacking)) same = inl (record { faultless = no_fault_where_same old new lacking.kept; kept = ap (λ (d : Disk). d.contents) lacking.kept })
 
     go : Tells (outcome_line o) (outcome_status o) before after result → SaysMemory words old new before after ⊎ LacksLine words old new before after
     go (inl own) =
@@ -465,33 +372,26 @@ module _ (words : List Bytes) (old new : Disk) (before after : Output) (result :
     go (inr (inl failed)) = absurd (let e = failed.0 in omega arith)
     go (inr (inr lacking)) = inr (record { outcome = o; comes = comes; silent = lacking.1 })
 
-  -- a result that is neither that of a failed put nor that of memory is the status of the outcome
-  is_own : result ≢ WRITE → result ≢ OUT_OF_MEMORY → (result ≡ outcome_status o) × (after.faults ≡ before.faults)
-  is_own write memory = go tells where
-    go : Tells (outcome_line o) (outcome_status o) before after result → (result ≡ outcome_status o) × (after.faults ≡ before.faults)
-    go (inl own) = (own.0, ap (λ (x : Output). x.faults) own.1)
-    go (inr (inl failed)) = absurd (write failed.0)
-    go (inr (inr lacking)) = absurd (memory lacking.0)
+  -- where the line is put no put failed
+  own_line_put : (status : ℕ) → status ≢ WRITE → status ≢ OUT_OF_MEMORY → result ≡ status → (outcome_status o ≡ status) × (after.faults ≡ before.faults)
+  own_line_put status write memory is =
+      let put = is_put (outcome_line o) (outcome_status o) before after result tells status write memory is in (put.0, ap (λ (x : Output). x.faults) put.1)
 
   pub is_faultless : IsFaultless old new before after result
   is_faultless among_these =
-      let read = not_among READ faultless_statuses result unlike_read among_these in
-      let write = not_among WRITE faultless_statuses result unlike_write among_these in
-      let memory = not_among OUT_OF_MEMORY faultless_statuses result unlike_memory among_these in
-      let own = is_own write memory in (
+      let unlike : (s : ℕ) → list_any (λ y. eqb y s) faultless_statuses ≡ false → result ≢ s = λ s none. unlike_elements s faultless_statuses none result among_these in
+      let own = own_line_put result (unlike WRITE refl) (unlike OUT_OF_MEMORY refl) refl in (
         ⊎_elim (λ (none : HasNoFault old new). none)
-            (λ (rest : _). ⊎_elim (λ (p : _). absurd (read (own.0 ∙ p.0))) (λ (p : _). absurd (write (own.0 ∙ p.0))) rest)
+            (λ (rest : _). ⊎_elim (λ (p : _). absurd (unlike READ refl (sym own.0 ∙ p.0))) (λ (p : _). absurd (unlike WRITE refl (sym own.0 ∙ p.0))) rest)
             (fails_so words old new o comes),
         own.1,
       )
 
   pub keeps_contents : KeepsContents old new result
   keeps_contents among_these =
-      let done = not_among DONE keeping_statuses result unlike_done among_these in
-      let write = not_among WRITE keeping_statuses result also_unlike_write among_these in
-      let memory = not_among OUT_OF_MEMORY keeping_statuses result also_unlike_memory among_these in
-      let own = is_own write memory in
-      keeps words old new o comes (λ e. done (own.0 ∙ e)) (λ e. write (own.0 ∙ e)) (λ e. memory (own.0 ∙ e))
+      let unlike : (s : ℕ) → list_any (λ y. eqb y s) keeping_statuses ≡ false → result ≢ s = λ s none. unlike_elements s keeping_statuses none result among_these in
+      let own = own_line_put result (unlike WRITE refl) (unlike OUT_OF_MEMORY refl) refl in
+      keeps words old new o comes (λ e. unlike DONE refl (sym own.0 ∙ e)) (λ e. unlike WRITE refl (sym own.0 ∙ e)) (λ e. unlike OUT_OF_MEMORY refl (sym own.0 ∙ e))
 
   pub changes_only : ChangesOnly words old new
   changes_only = record { asked = λ job asked. stays job asked comes; unasked = λ none. unchanged none comes } where

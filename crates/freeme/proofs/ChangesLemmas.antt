@@ -1,9 +1,8 @@
 -- What calls one after the other change of the files.
-use Rattle.std.proofs.Common.{◌≡◌, ◌≢◌, ◌<◌, ◌≤◌, ℕ, ◌+◌, max, Option, Some, None, IsSomeAnd, MatchOption, refl, sym, ◌∙◌, subst, arith}
-use Rattle.fm_base.specs.declared.limits.TheConstants.{MAX_FILE_BYTES}
-use Rattle.fm_files.specs.Files.{Bytes, Counts, Contents, Disk, AreKept, RisesAt, OthersAreKept, Holds}
-use Rattle.fm_tool.specs.Outside.{ReadsAlone, HasNoFault, HasReadFault, HasWriteFault}
-use Rattle.freeme.specs.Changes.{RisesOnlyAt, ChangesOnlyAt, ReadsOnly}
+use Rattle.std.proofs.Common.{◌≡◌, Some, None, IsSomeAnd, refl, sym, ◌∙◌, subst, arith}
+use Rattle.fm_files.specs.Files.{Bytes, Counts, Contents, Disk, AreKept, Holds}
+use Rattle.fm_tool.specs.Outside.{HasNoFault, HasReadFault, HasWriteFault}
+use Rattle.freeme.specs.Changes.{RisesOnlyAt, ChangesOnlyAt}
 
 -- ---- counts
 

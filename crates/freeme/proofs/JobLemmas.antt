@@ -1,27 +1,30 @@
 -- What a job leaves after its files are read, and after its classes are written.
-use Rattle.std.proofs.Common.{◌≡◌, ◌≢◌, ◌<◌, ◌≤◌, ℕ, ◌+◌, inr, ⊎_elim, List, [], ◌∷◌, length, map, take, Contains, Option, Some, None, IfSome, IsSomeAnd, Result, Ok, Err, String, string_bytes, refl, sym, ap, ◌∙◌, subst, arith}
+use Rattle.std.proofs.Common.{◌≡◌, ◌≢◌, ◌<◌, ◌≤◌, ℕ, ◌+◌, inr, ⊎_elim, List, [], ◌∷◌, length, map, take, Contains, Option, Some, None, IfSome, MatchOption, Bor, get_or, Result, Ok, Err, string_bytes, refl, sym, ap, ◌∙◌, subst, arith}
 use Rattle.std.specs.List.{AllByRecursion, slice_get}
 use Rattle.std.proofs.lemmas.List.Elements.{All-contains, All-from_recursion}
+use Rattle.std.proofs.lemmas.List.{length-map}
 use Rattle.std.proofs.lemmas.Option.{slice_get_within}
 use Rattle.fm_base.proofs.ListFacts.{AllByRecursion-weaker}
 use Rattle.fm_base.proofs.OptionFacts.{Some-from_some_and, IsSome-from_some}
 use Rattle.fm_base.proofs.TestFacts.{same_or_other}
-use Rattle.fm_files.specs.Files.{Bytes, Counts, Contents, Disk}
+use Rattle.fm_files.specs.Files.{Bytes, Contents, Disk}
 use Rattle.fm_code.specs.ConstantPool.{class_name_at}
 use Rattle.fm_code.specs.declared.class_file.ClassDef.{ClassDef}
-use Rattle.fm_tool.specs.Outside.{HasNoFault, HasWriteFault}
+use Rattle.fm_tool.specs.Outside.{HasWriteFault}
 use Rattle.fm_tool.specs.declared.refusal.Refusal.TheVariants as refusal
 use Rattle.freeme.specs.Ahead.{IsBuilt, AreBuilt, IsFirstAhead}
 use Rattle.freeme.specs.Changes.{RisesOnlyAt, ChangesOnlyAt}
-use Rattle.freeme.specs.Request.{Job}
-use Rattle.freeme.specs.Taking.{AreTaken, AllTaken}
-use Rattle.freeme.specs.TopCall.{StaysWithin, IsUntouched, IsNotYet, ArePassed, IsDone, IsUnwritten, IsBroken, ComesTo}
-use Rattle.freeme.specs.Writing.{HasName, class_text, file_name, written_name, class_lines, IsClassFileIn, IsFileOf, AreWritten, AllWritten, SomeWritten, FailsToWrite}
-use Rattle.freeme.specs.inner.Reading.{KeepsWrites, ReadsAll, AreRead}
+use Rattle.freeme.specs.Request.{Job, job_of}
+use Rattle.freeme.specs.Taking.{AreTaken}
+use Rattle.freeme.specs.TopCall.{StaysWithin, IsUntouched, IsNotYet, ArePassed, IsDone, ComesTo}
+use Rattle.freeme.specs.Writing.{HasName, class_text, written_name, class_lines, IsClassFileIn, IsFileOf, AreWritten, AllWritten}
+use Rattle.freeme.specs.inner.Reading.{ReadsAll, AreRead}
 use Rattle.freeme.specs.inner.Writing.{IsSpelled, AreApart, KeepsReads, ComesOfClasses}
 use Rattle.freeme.specs.declared.refusal.JobRefusal.{JobRefusal}
 use Rattle.freeme.specs.declared.refusal.JobRefusal.TheVariants as job_refusal
 use Rattle.freeme.proofs.ChangesLemmas.{rises_of_kept, rises_then, changes_of_kept, changes_then, faultless_then, write_fault_then}
+use Rattle.freeme.specs.declared.request.Request.{Request}
+use Rattle.freeme.proofs.ListLemmas.{name_at}
 use Rattle.freeme.proofs.ReadLemmas.{same_number}
 
 -- ---- classes that are taken
@@ -46,6 +49,10 @@ are_apart classes built place = at (slice_get classes place) (built place) where
   at None is = tt
   at (Some c) is = is.new_name
 
+-- no class is ahead
+pub all_built : {ahead : Option ℕ} (classes : List ClassDef) → ahead ≡ None → MatchOption ahead (AreBuilt classes) (IsFirstAhead classes) → AreBuilt classes
+all_built classes none says = let P : Option ℕ → Type 0 = λ o. MatchOption o (AreBuilt classes) (IsFirstAhead classes) in subst P none says
+
 -- the first class that isn't built has a file
 pub has_file : (contents : Contents) (files : List Bytes) (classes : List ClassDef) (place : ℕ) → AreTaken contents files classes → IsFirstAhead classes place → place < length files
 has_file contents files classes place taken first =
@@ -54,16 +61,6 @@ has_file contents files classes place taken first =
     omega (arith, same_number contents files classes taken)
 
 -- ---- after the files are read
-
--- of the same files and the same classes
-pub all_of : (given files : List Bytes) (old new : Disk) → given ≡ files → ReadsAll given old new → ReadsAll files old new
-all_of given files old new same all = let P : List Bytes → Type 0 = λ fs. ReadsAll fs old new in subst P same all
-
-pub read_of : (given files : List Bytes) (items classes : List ClassDef) (old new : Disk) → given ≡ files → classes ≡ items → AreRead given items old new → AreRead files classes old new
-read_of given files items classes old new same lent read =
-    let P : List Bytes → Type 0 = λ fs. AreRead fs classes old new in
-    let Q : List ClassDef → Type 0 = λ cs. AreRead given cs old new in
-    subst P same (subst Q (sym lent) read)
 
 module _ (files : List Bytes) (old new : Disk) (classes : List ClassDef) (read : AreRead files classes old new) (all : ReadsAll files old new) where
   -- nothing else was done
@@ -122,12 +119,7 @@ writes_in folder classes old new (Err (job_refusal.Shared refusal.OutOfMemory)) 
   faults = rises_of_kept (IsClassFileIn folder) old.write_faults new.write_faults comes.faultless.writes;
   contents = changes_in_folder folder (take comes.count classes) old.contents new.contents comes.written.others;
 }
-writes_in folder classes old new (Err (job_refusal.Shared refusal.Words)) comes = absurd comes
-writes_in folder classes old new (Err (job_refusal.Shared (refusal.Read file))) comes = absurd comes
-writes_in folder classes old new (Err (job_refusal.Shared (refusal.NotYet file))) comes = absurd comes
-writes_in folder classes old new (Err (job_refusal.TooManyFiles count)) comes = absurd comes
-writes_in folder classes old new (Err (job_refusal.TooLong file)) comes = absurd comes
-writes_in folder classes old new (Err (job_refusal.Class file r)) comes = absurd comes
+writes_in folder classes old new (Err r) comes = absurd comes
 
 module _ (job : Job) (old between new : Disk) (all : ReadsAll job.files old between) (keeps : KeepsReads between new) where
   same_contents : between.contents ≡ old.contents
@@ -184,9 +176,59 @@ module _ (job : Job) (old between new : Disk) (all : ReadsAll job.files old betw
         faultless = faultless_then old between new read.faultless now.faultless;
       };
     })
-    write_ended (job_refusal.Shared refusal.Words) now = absurd now
-    write_ended (job_refusal.Shared (refusal.Read file)) now = absurd now
-    write_ended (job_refusal.Shared (refusal.NotYet file)) now = absurd now
-    write_ended (job_refusal.TooManyFiles count) now = absurd now
-    write_ended (job_refusal.TooLong file) now = absurd now
-    write_ended (job_refusal.Class file r) now = absurd now
+    write_ended r now = absurd now
+
+-- ---- a request whose files are read, by their names and their classes as slices
+
+-- the files of the request are these, and these classes were read of them
+pub record Reads (request : Request) (names : List (Bor Bytes)) (classes : List ClassDef) (old between : Disk) : Type 0 where
+  pub files_are : map (λ n. n.now) names ≡ (job_of request).files
+  pub read : AreRead (job_of request).files classes old between
+  pub all : ReadsAll (job_of request).files old between
+
+pub reads_of : {names : List (Bor Bytes)} {classes items : List ClassDef} {old between : Disk} (request : Request) → names ≡ request.files.items → classes ≡ items
+    → ReadsAll (map (λ n. n.now) names) old between → AreRead (map (λ n. n.now) names) items old between → Reads request names classes old between
+reads_of {names} {classes} {items} {old} {between} request same lent all read =
+    let files : map (λ n. n.now) names ≡ (job_of request).files = ap (map (λ n. n.now)) same in
+    let P : List Bytes → Type 0 = λ fs. AreRead fs classes old between in
+    let Q : List ClassDef → Type 0 = λ cs. AreRead (map (λ n. n.now) names) cs old between in
+    let R : List Bytes → Type 0 = λ fs. ReadsAll fs old between in
+    record { files_are = files; read = subst P files (subst Q (sym lent) read); all = subst R files all }
+
+module _ {request : Request} {names : List (Bor Bytes)} {classes : List ClassDef} {old between : Disk} (reads : Reads request names classes old between) where
+  pub spelled : AllByRecursion IsSpelled classes
+  spelled = are_spelled old.contents (job_of request).files classes reads.read.taken.taken
+
+  pub named : AllByRecursion HasName classes
+  named = have_names classes spelled
+
+  -- the name of the first class that isn't built is there
+  module _ {ahead : Option ℕ} (place : ℕ) (found : ahead ≡ Some place) (says : MatchOption ahead (AreBuilt classes) (IsFirstAhead classes)) where
+    first : IsFirstAhead classes place
+    first = let P : Option ℕ → Type 0 = λ o. MatchOption o (AreBuilt classes) (IsFirstAhead classes) in subst P found says
+
+    pub has_name : place < length names
+    has_name =
+        let within = has_file old.contents (job_of request).files classes place reads.read.taken.taken first in
+        let same : length names ≡ length (job_of request).files = sym (length-map names (λ n. n.now)) ∙ ap length reads.files_are in
+        omega (arith, within, same)
+
+    pub ends_not_yet : (d : Bor Bytes) → IsNotYet (job_of request).files (get_or names place d).now old between
+    ends_not_yet d =
+        is_not_yet (job_of request).files old between classes reads.read reads.all place (get_or names place d).now first
+        (sym (ap (λ fs. slice_get fs place) reads.files_are) ∙ name_at names place d has_name)
+
+  -- the classes are written, or a write didn't come off
+  module _ {new : Disk} (keeps : KeepsReads between new) where
+    pub ends_within : (r : Result Unit JobRefusal) → ComesOfClasses request.folder.now classes between new r → StaysWithin (job_of request) old new
+    ends_within r comes = writes_within (job_of request) old between new reads.all keeps (writes_in request.folder.now classes between new r comes)
+
+    module _ {ahead : Option ℕ} (none : ahead ≡ None) (says : MatchOption ahead (AreBuilt classes) (IsFirstAhead classes)) where
+      built : AreBuilt classes
+      built = all_built classes none says
+
+      pub ends_done : (lines : List ℕ) → lines ≡ class_lines classes → AllWritten request.folder.now classes between new → IsDone (job_of request) lines old new
+      ends_done lines is now = is_done (job_of request) old between new reads.all keeps classes reads.read built lines is now
+
+      pub ends_unwritten : (r : JobRefusal) → ComesOfClasses request.folder.now classes between new (Err r) → ComesTo (job_of request) old new (Err r)
+      ends_unwritten r now = write_ended (job_of request) old between new reads.all keeps classes reads.read built r now

@@ -1,6 +1,6 @@
 -- The places of a class that is spelled have names.
-use Rattle.std.proofs.Common.{◌≡◌, ℕ, List, Option, Some, None, IsSome, IsSomeAnd}
-use Rattle.std.specs.List.{AllByRecursion, slice_get}
+use Rattle.std.proofs.Common.{◌≡◌, ℕ, List, Option, Some, IsSome, IsSomeAnd}
+use Rattle.std.specs.List.{slice_get}
 use Rattle.fm_base.proofs.OptionFacts.{Some-from_some_and, IsSome-from_some, IsSomeAnd-from_some}
 use Rattle.fm_code.specs.AccessFlags.{is_interface}
 use Rattle.fm_code.specs.ConstantPool.{utf8_at}

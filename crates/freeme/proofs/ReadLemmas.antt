@@ -1,18 +1,18 @@
 -- Class files that are read one after the other.
-use Rattle.std.proofs.Common.{◌≡◌, ◌≢◌, ◌<◌, ◌≤◌, ℕ, ◌+◌, max, ◌⊎◌, inl, inr, ⊎_elim, List, [], ◌∷◌, ◌++◌, length, map, take, Contains, Some, Err, sum_by, refl, sym, ap, ◌∙◌, subst, arith, length-append}
+use Rattle.std.proofs.Common.{◌≡◌, ◌≢◌, ◌<◌, ◌≤◌, ℕ, ◌+◌, max, ◌⊎◌, inl, inr, ⊎_elim, List, [], ◌∷◌, ◌++◌, length, take, Contains, Some, Err, sum_by, refl, sym, ap, ◌∙◌, subst, arith, length-append}
 use Rattle.std.specs.List.{slice_get}
 use Rattle.std.proofs.lemmas.List.{take_all}
 use Rattle.std.proofs.lemmas.List.Sums.{sum_by_push, sum_by-le-sum_by}
 use Rattle.std.proofs.lemmas.Option.{slice_get_within, get_or_from_slice_get}
 use Rattle.fm_base.proofs.TestFacts.{same_or_other}
 use Rattle.fm_base.specs.declared.limits.TheConstants.{MAX_CLASS_FILES, MAX_FILE_BYTES, MAX_ALL_CLASS_FILES_BYTES}
-use Rattle.fm_files.specs.Files.{Bytes, Counts, Contents, Disk, AreKept, RisesAt}
+use Rattle.fm_files.specs.Files.{Bytes, Counts, Contents, Disk, RisesAt}
 use Rattle.fm_code.specs.ClassBytes.{class_bytes}
 use Rattle.fm_code.specs.declared.class_file.ClassDef.{ClassDef}
-use Rattle.fm_tool.specs.Outside.{ReadsAlone, HasNoFault, HasReadFault, HoldsSuch}
+use Rattle.fm_tool.specs.Outside.{ReadsAlone, HasNoFault, HoldsSuch}
 use Rattle.fm_tool.specs.declared.refusal.Refusal.TheVariants as refusal
-use Rattle.freeme.specs.Changes.{RisesOnlyAt, ReadsOnly}
-use Rattle.freeme.specs.Taking.{IsTaken, AreTaken, total_bytes, AllTaken, Reaches, IsTooLong, IsRefused, IsSeenTooLong}
+use Rattle.freeme.specs.Changes.{RisesOnlyAt}
+use Rattle.freeme.specs.Taking.{IsTaken, AreTaken, total_bytes, Reaches, IsTooLong, IsRefused, IsSeenTooLong}
 use Rattle.freeme.specs.TopCall.{IsUntouched, IsUnread, IsLong, IsRefusedFile}
 use Rattle.freeme.specs.inner.Reading.{KeepsWrites, IsRead, ReadsAll, AreRead, ComesOfFile, ComesOfFiles}
 use Rattle.freeme.specs.declared.refusal.JobRefusal.{JobRefusal}
@@ -104,7 +104,7 @@ read_none files disk = record {
   all = reads_none files disk;
 }
 
-module _ (files : List Bytes) (i : ℕ) (file : Bytes) (there : slice_get files i ≡ Some file) (classes : List ClassDef) (total : ℕ) (old between new : Disk)
+module _ {files : List Bytes} {i : ℕ} {file : Bytes} {classes : List ClassDef} {total : ℕ} {old between new : Disk} (there : slice_get files i ≡ Some file)
     (before : ReadSoFar files i classes total old between) (now : ReadsAlone file between new) (keeps : KeepsWrites between new) where
   among : Contains files file
   among = (i, slice_get_within files i file there, get_or_from_slice_get files i file file there)
@@ -126,8 +126,8 @@ module _ (files : List Bytes) (i : ℕ) (file : Bytes) (there : slice_get files 
   same_contents = before.all.writes.contents
 
   -- it is taken too
-  pub read_next : (class : ClassDef) (size : ℕ) → IsRead file total class size between new → ReadSoFar files (i + 1) (classes ++ class ∷ []) (total + size) old new
-  read_next class size read = record {
+  pub read_next : (class : ClassDef) (size : ℕ) → IsRead file total class size between new → (grown : List ClassDef) → grown ≡ classes ++ class ∷ [] → ReadSoFar files (i + 1) grown (total + size) old new
+  read_next class size read grown is = subst (λ cs. ReadSoFar files (i + 1) cs (total + size) old new) (sym is) (record {
     count = let count = before.count in omega (arith, length-append classes (class ∷ []));
     taken =
         let P : List Bytes → Type 0 = λ fs. AreTaken old.contents fs (classes ++ class ∷ []) in
@@ -138,7 +138,7 @@ module _ (files : List Bytes) (i : ℕ) (file : Bytes) (there : slice_get files 
     seen = let first = seen_before in let here = read.seen in omega (arith, seen_next);
     faultless = faultless_then old between new before.faultless read.faultless;
     all = all_next;
-  }
+  })
 
   -- the call comes to it
   reaches : length files ≤ MAX_CLASS_FILES → Reaches old.contents files file classes
@@ -198,10 +198,7 @@ module _ (files : List Bytes) (i : ℕ) (file : Bytes) (there : slice_get files 
         kept = keeps.contents ∙ same_contents;
       })
   read_ends Y few (job_refusal.Shared refusal.OutOfMemory) comes = untouched comes
-  read_ends Y few (job_refusal.Shared refusal.Words) comes = comes
-  read_ends Y few (job_refusal.Shared (refusal.NotYet name)) comes = comes
-  read_ends Y few (job_refusal.TooManyFiles count) comes = comes
-  read_ends Y few (job_refusal.Write name) comes = comes
+  read_ends Y few r comes = comes
 
 -- all files are taken
 pub all_read : (files : List Bytes) (i : ℕ) (classes : List ClassDef) (total : ℕ) (old new : Disk) → length files ≤ i → length files ≤ MAX_CLASS_FILES → ReadSoFar files i classes total old new → AreRead files classes old new

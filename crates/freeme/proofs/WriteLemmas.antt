@@ -1,5 +1,5 @@
 -- Classes that are written one after the other.
-use Rattle.std.proofs.Common.{◌≡◌, ◌≢◌, ◌<◌, ◌≤◌, ℕ, ◌+◌, List, [], ◌∷◌, ◌++◌, codes, length, map, take, Contains, Err, Some, IfSome, string_bytes, refl, sym, ap, ◌∙◌, subst, arith, length-append}
+use Rattle.std.proofs.Common.{◌≡◌, ◌≤◌, ℕ, ◌+◌, List, [], ◌∷◌, ◌++◌, codes, length, map, take, Contains, Err, Some, IfSome, string_bytes, refl, sym, ap, ◌∙◌, subst, arith, length-append}
 use Rattle.std.specs.List.{AllByRecursion, slice_get}
 use Rattle.std.proofs.lemmas.List.{map_push, take_all}
 use Rattle.std.proofs.lemmas.List.Elements.{Contains-append_left, Contains-append_right}
@@ -7,13 +7,13 @@ use Rattle.fm_base.proofs.ListFacts.{same_parts, same_tail}
 use Rattle.fm_files.specs.Files.{Bytes, Contents, Disk, OthersAreKept, Holds}
 use Rattle.fm_code.specs.ClassBytes.{class_bytes}
 use Rattle.fm_code.specs.declared.class_file.ClassDef.{ClassDef}
-use Rattle.fm_tool.specs.Outside.{HasNoFault, HasWriteFault}
+use Rattle.fm_tool.specs.Outside.{HasWriteFault}
 use Rattle.fm_tool.specs.declared.refusal.Refusal.TheVariants as refusal
 use Rattle.freeme.specs.declared.refusal.JobRefusal.{JobRefusal}
 use Rattle.freeme.specs.declared.refusal.JobRefusal.TheVariants as job_refusal
 use Rattle.freeme.specs.Changes.{ChangesOnlyAt}
 use Rattle.freeme.specs.TopCall.{IsUntouched}
-use Rattle.freeme.specs.Writing.{class_text, file_name, written_name, IsFileOf, AreWritten, AllWritten, SomeWritten, FailsToWrite}
+use Rattle.freeme.specs.Writing.{class_text, file_name, written_name, IsFileOf, AllWritten, SomeWritten, FailsToWrite}
 use Rattle.freeme.specs.inner.Writing.{AreApart, IsWritten, IsWriteFailed, ComesOfClass, ComesOfClasses}
 use Rattle.freeme.proofs.ChangesLemmas.{changes_of_kept, changes_then, holds_still, faultless_then, write_fault_then}
 use Rattle.freeme.proofs.ListLemmas.{take_next, AllByRecursion-next}
@@ -66,8 +66,8 @@ module _ (folder : Bytes) (classes : List ClassDef) (i : ℕ) (class : ClassDef)
     other_names = let Apart : _ → Type 0 = λ o. IfSome o (λ c. ¬ Contains (map class_text (take i classes)) (class_text c)) in subst Apart there (apart i)
 
     -- it is written too
-    pub write_next : (old between new : Disk) → AllWritten folder (take i classes) old between → IsWritten (written_name folder class) class between new → AllWritten folder (take (i + 1) classes) old new
-    write_next old between new before now = record {
+    pub write_next : {old between new : Disk} → AllWritten folder (take i classes) old between → IsWritten (written_name folder class) class between new → AllWritten folder (take (i + 1) classes) old new
+    write_next {old} {between} {new} before now = record {
       written = record {
         hold = AllByRecursion-next (λ c. Holds new.contents (written_name folder c) (class_bytes c)) classes i class there
             (hold_still folder (class_text class) between.contents new.contents (take i classes) other_names now.others before.written.hold) now.holds;
@@ -112,13 +112,8 @@ pub all_written : (folder : Bytes) (classes : List ClassDef) (i : ℕ) (old new 
 all_written folder classes i old new all written = let P : List ClassDef → Type 0 = λ cs. AllWritten folder cs old new in subst P (take_all i classes all) written
 
 -- what a class whose write didn't come off means for all
-pub write_ends : (folder : Bytes) (classes : List ClassDef) (i : ℕ) (class : ClassDef) → slice_get classes i ≡ Some class → AreApart classes → (old between new : Disk) (r : JobRefusal) →
+pub write_ends : {old between : Disk} (new : Disk) (folder : Bytes) (classes : List ClassDef) (i : ℕ) (class : ClassDef) → slice_get classes i ≡ Some class → AreApart classes → (r : JobRefusal) →
     AllWritten folder (take i classes) old between → ComesOfClass folder class between new (Err r) → ComesOfClasses folder classes old new (Err r)
-write_ends folder classes i class there apart old between new (job_refusal.Write name) before now = write_fails folder classes i class there apart (string_bytes name) old between new now.0 before now.1
-write_ends folder classes i class there apart old between new (job_refusal.Shared refusal.OutOfMemory) before now = write_stops folder classes i old between new before now
-write_ends folder classes i class there apart old between new (job_refusal.Shared refusal.Words) before now = now
-write_ends folder classes i class there apart old between new (job_refusal.Shared (refusal.Read file)) before now = now
-write_ends folder classes i class there apart old between new (job_refusal.Shared (refusal.NotYet file)) before now = now
-write_ends folder classes i class there apart old between new (job_refusal.TooManyFiles count) before now = now
-write_ends folder classes i class there apart old between new (job_refusal.TooLong file) before now = now
-write_ends folder classes i class there apart old between new (job_refusal.Class file refusal) before now = now
+write_ends {old} {between} new folder classes i class there apart (job_refusal.Write name) before now = write_fails folder classes i class there apart (string_bytes name) old between new now.0 before now.1
+write_ends {old} {between} new folder classes i class there apart (job_refusal.Shared refusal.OutOfMemory) before now = write_stops folder classes i old between new before now
+write_ends {old} {between} new folder classes i class there apart r before now = absurd now

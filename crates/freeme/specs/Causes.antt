@@ -8,7 +8,7 @@ use Rattle.fm_tool.specs.Outside.{HasNoFault, IsKnownSuch, IsKnownMissing}
 use Rattle.fm_tool.specs.Refusal.{words_line, read_line, not_yet_line, memory_line}
 use Rattle.fm_tool.specs.Status.{ComesExactly}
 use Rattle.fm_tool.specs.declared.status.TheConstants.{DONE, WORDS, READ, MALFORMED, VERSION, LIMIT, UNSUPPORTED, WRITE, OUT_OF_MEMORY, NOT_YET}
-use Rattle.freeme.specs.Ahead.{AreBuilt, IsFirstAhead}
+use Rattle.freeme.specs.Ahead.{AreBuilt}
 use Rattle.freeme.specs.ClassRefusal.{class_refusal_line, class_refusal_status}
 use Rattle.freeme.specs.Refusal.{many_line, long_line, write_line}
 use Rattle.freeme.specs.Request.{Job, Asks, AskNothing}

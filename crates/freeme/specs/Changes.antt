@@ -1,5 +1,5 @@
 -- What a call with many names changes of the files.
-use Rattle.std.specs.Prelude.{◌≡◌, ℕ, ◌+◌, ◌≤◌, max, None, MatchOption, IsSomeAnd}
+use Rattle.std.specs.Prelude.{◌≡◌, ◌+◌, ◌≤◌, max, None, MatchOption, IsSomeAnd}
 use Rattle.fm_base.specs.declared.limits.TheConstants.{MAX_FILE_BYTES}
 use Rattle.fm_files.specs.Files.{Bytes, Counts, Contents, Disk}
 

@@ -38,8 +38,8 @@ pub fn first_ahead(alloc: Global, classes: &[ClassDef]) -> Result<Option<usize>,
 fn class_is_ahead(class: &ClassDef) -> bool
     ensures { result ≡ class_is_ahead class.now }
 {
-    let methods = class.methods.as_slice();
-    methods
+    class
+        .methods
         .iter()
         .any(|method| method_is_ahead(&class.pool, method))
 }
@@ -48,8 +48,8 @@ fn class_is_ahead(class: &ClassDef) -> bool
 fn method_is_ahead(pool: &Pool, method: &Member) -> bool
     ensures { result ≡ method_is_ahead pool.now.entries method.now }
 {
-    let attributes = method.attributes.as_slice();
-    attributes
+    method
+        .attributes
         .iter()
         .any(|attribute| attribute_is_ahead(pool, attribute))
 }
@@ -59,7 +59,7 @@ fn attribute_is_ahead(pool: &Pool, attribute: &MemberAttr) -> bool
     ensures { result ≡ attribute_is_ahead pool.now.entries attribute.now }
 {
     match attribute {
-        MemberAttr::Coded(_, code) => has_item_ahead(pool, code.items.as_slice()),
+        MemberAttr::Coded(_, code) => has_item_ahead(pool, &code.items),
         _ => false,
     }
 }
@@ -94,7 +94,7 @@ fn insn_is_ahead(pool: &Pool, insn: &Insn) -> bool
 fn gives_object(method: &MemberRef<'_>) -> bool
     ensures { result ≡ gives_object (member_name method.now) }
 {
-    !has_plain_result(method.descriptor.as_slice())
+    !has_plain_result(method.descriptor)
 }
 
 fn is_free(method: &MemberRef<'_>) -> bool

@@ -56,7 +56,7 @@ fn judge(alloc: Global, class: &ClassDef) -> Result<(), ClassFail>
     ensures fails { IfErr result (FailsByRecord class.now) }
 {
     if let Err(over) = within_limits(class) {
-        let name = member_name(alloc, &class.pool, class.methods.as_slice(), over.method)?;
+        let name = member_name(alloc, &class.pool, &class.methods, over.method)?;
         return Err(ClassFail::Refused(ClassRefusal::Limit(over.what, name, over.count)));
     }
     if let Err(unsupported) = supported(class) {
@@ -73,8 +73,8 @@ fn place_name(alloc: Global, class: &ClassDef, place: Place) -> Result<Name, NoM
 {
     match place {
         Place::OfClass => Ok(Name::new(Vec::from_slice(alloc, b"class")?)),
-        Place::OfField(index) => member_name(alloc, &class.pool, class.fields.as_slice(), index),
-        Place::OfMethod(index) => member_name(alloc, &class.pool, class.methods.as_slice(), index),
+        Place::OfField(index) => member_name(alloc, &class.pool, &class.fields, index),
+        Place::OfMethod(index) => member_name(alloc, &class.pool, &class.methods, index),
     }
 }
 

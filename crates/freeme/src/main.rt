@@ -28,5 +28,5 @@ fn main(rt: HostRuntime) -> ExitCode {
     };
     let mut files = FolderFiles::new(rt, alloc);
     let mut out = StdSink::new(rt, false);
-    ExitCode::from(freeme_run(alloc, words.as_slice(), &mut files, &mut out))
+    ExitCode::from(freeme_run(alloc, &words, &mut files, &mut out))
 }

@@ -57,7 +57,7 @@ fn read_class_file<'a, F: Files>(
     if length > MAX_ALL_CLASS_FILES_BYTES - total {
         return Err(JobRefusal::TooLong(name));
     }
-    match class_of(alloc, bytes.as_slice()) {
+    match class_of(alloc, &bytes) {
         Ok(class) => Ok((class, length)),
         Err(ClassFail::Refused(refusal)) => Err(JobRefusal::Class(name, refusal)),
         Err(ClassFail::NoMemory) => Err(JobRefusal::from(NoMemory)),

@@ -131,7 +131,7 @@ fn ends_with(
 ) -> Result<bool, NoMemory> {
     let words = split_words(alloc, words)?;
     let mut out = MemSink::new(alloc, vec![in alloc; failing_put]?);
-    let result = freeme_run(alloc, words.as_slice(), files, &mut out);
+    let result = freeme_run(alloc, &words, files, &mut out);
     Ok(result == status && out.bytes() == lines.as_bytes())
 }
 
@@ -150,9 +150,9 @@ fn classes_are_written_as_they_were_read(rt: HostRuntime) -> Result<(), Fail> {
     let b = CLASS_B.bytes(alloc)?;
     let m = PRINTS_SUM.bytes(alloc)?;
     let mut files = MemFiles::new(alloc, Vec::new(alloc));
-    files.add("A.class", a.as_slice())?;
-    files.add("B.class", b.as_slice())?;
-    files.add("M.class", m.as_slice())?;
+    files.add("A.class", &a)?;
+    files.add("B.class", &b)?;
+    files.add("M.class", &m)?;
     assert!(rt; ends_with(alloc, ASKED_THREE, &mut files, 0, 0, THREE_LINES)?);
     assert!(rt; files.bytes("d/A.class") == Some(a.as_slice()));
     assert!(rt; files.bytes("d/B.class") == Some(b.as_slice()));
@@ -167,9 +167,9 @@ fn a_failed_write_leaves_the_later_files(rt: HostRuntime) -> Result<(), Fail> {
     let b = CLASS_B.bytes(alloc)?;
     let m = RETURNS.bytes(alloc)?;
     let mut files = MemFiles::new(alloc, vec![in alloc; 5]?);
-    files.add("A.class", a.as_slice())?;
-    files.add("B.class", b.as_slice())?;
-    files.add("M.class", m.as_slice())?;
+    files.add("A.class", &a)?;
+    files.add("B.class", &b)?;
+    files.add("M.class", &m)?;
     files.add("d/M.class", b"old")?;
     let line = "refused: write d/B.class\n";
     assert!(rt; ends_with(alloc, ASKED_THREE, &mut files, 0, 75, line)?);
@@ -183,7 +183,7 @@ fn a_failed_put_comes_after_the_writes(rt: HostRuntime) -> Result<(), Fail> {
     let alloc = rt.alloc();
     let m = RETURNS.bytes(alloc)?;
     let mut files = MemFiles::new(alloc, Vec::new(alloc));
-    files.add("M.class", m.as_slice())?;
+    files.add("M.class", &m)?;
     assert!(rt; ends_with(alloc, ASKED, &mut files, 1, 75, "")?);
     assert!(rt; files.bytes("d/M.class") == Some(m.as_slice()));
     Ok(())
@@ -194,7 +194,7 @@ fn a_file_that_fails_or_is_missing_ends_the_call(rt: HostRuntime) -> Result<(), 
     let alloc = rt.alloc();
     let a = CLASS_A.bytes(alloc)?;
     let mut files = MemFiles::new(alloc, vec![in alloc; 1]?);
-    files.add("A.class", a.as_slice())?;
+    files.add("A.class", &a)?;
     files.add("M.class", b"")?;
     let failed = "refused: read A.class\n";
     assert!(rt; ends_with(alloc, ASKED_THREE, &mut files, 0, 65, failed)?);
@@ -208,8 +208,8 @@ fn a_class_of_an_earlier_name_is_not_written(rt: HostRuntime) -> Result<(), Fail
     let alloc = rt.alloc();
     let a = CLASS_A.bytes(alloc)?;
     let mut files = MemFiles::new(alloc, Vec::new(alloc));
-    files.add("A.class", a.as_slice())?;
-    files.add("B.class", a.as_slice())?;
+    files.add("A.class", &a)?;
+    files.add("B.class", &a)?;
     let words = "--out d --main A A.class B.class";
     assert!(rt;
         ends_with(
@@ -230,13 +230,13 @@ fn each_cause_of_bytes_has_its_line(rt: HostRuntime) -> Result<(), Fail> {
     let malformed = "refused: malformed M.class\n";
     assert!(rt; is_refused(alloc, b"\xca\xfe\xba\xbe", 66, malformed)?);
     let returns = RETURNS.bytes(alloc)?;
-    let (_, cut) = returns.as_slice().split_last().ok_or("no bytes")?;
+    let (_, cut) = returns.split_last().ok_or("no bytes")?;
     assert!(rt; is_refused(alloc, cut, 66, malformed)?);
     let astray = JUMPS_ASTRAY.bytes(alloc)?;
-    assert!(rt; is_refused(alloc, astray.as_slice(), 66, malformed)?);
+    assert!(rt; is_refused(alloc, &astray, 66, malformed)?);
     let newer = NEWER.bytes(alloc)?;
     let version = "refused: version M.class 52.0\n";
-    assert!(rt; is_refused(alloc, newer.as_slice(), 67, version)?);
+    assert!(rt; is_refused(alloc, &newer, 67, version)?);
     Ok(())
 }
 
@@ -245,15 +245,15 @@ fn each_cause_of_methods_has_its_line(rt: HostRuntime) -> Result<(), Fail> {
     let alloc = rt.alloc();
     let many = MANY_LOCALS.bytes(alloc)?;
     let limit = "refused: limit locals M.class main 2049\n";
-    assert!(rt; is_refused(alloc, many.as_slice(), 68, limit)?);
+    assert!(rt; is_refused(alloc, &many, 68, limit)?);
     let float = DROPS_FLOAT.bytes(alloc)?;
     let unsupported = "refused: unsupported M.class main 0\n";
-    assert!(rt; is_refused(alloc, float.as_slice(), 69, unsupported)?);
+    assert!(rt; is_refused(alloc, &float, 69, unsupported)?);
     let array = MAKES_ARRAY.bytes(alloc)?;
     let not_yet = "refused: not-yet M.class\n";
-    assert!(rt; is_refused(alloc, array.as_slice(), 77, not_yet)?);
+    assert!(rt; is_refused(alloc, &array, 77, not_yet)?);
     let frees = FREES.bytes(alloc)?;
-    assert!(rt; is_refused(alloc, frees.as_slice(), 77, not_yet)?);
+    assert!(rt; is_refused(alloc, &frees, 77, not_yet)?);
     Ok(())
 }
 
@@ -262,14 +262,14 @@ fn too_much_is_refused(rt: HostRuntime) -> Result<(), Fail> {
     let alloc = rt.alloc();
     let too_long = vec![in alloc; 0u8; 8_388_609]?;
     let line = "refused: limit length M.class\n";
-    assert!(rt; is_refused(alloc, too_long.as_slice(), 68, line)?);
+    assert!(rt; is_refused(alloc, &too_long, 68, line)?);
     let mut words = split_words(alloc, "--out d --main M")?;
     for _ in 0..4_097 {
         words.push(String::from_str(alloc, "M.class")?)?;
     }
     let mut files = MemFiles::new(alloc, Vec::new(alloc));
     let mut out = MemSink::new(alloc, Vec::new(alloc));
-    let result = freeme_run(alloc, words.as_slice(), &mut files, &mut out);
+    let result = freeme_run(alloc, &words, &mut files, &mut out);
     assert_eq!(rt; result, status::LIMIT);
     assert!(rt; out.bytes() == b"refused: limit files 4097\n".as_slice());
     Ok(())
@@ -289,10 +289,10 @@ fn nothing_fails_over_files_and_sinks_that_are_sure(rt: HostRuntime) -> Result<(
     let alloc = rt.alloc();
     let bytes = RETURNS.bytes(alloc)?;
     let mut files = SureFiles::new(alloc);
-    files.add("M.class", bytes.as_slice())?;
+    files.add("M.class", &bytes)?;
     let mut out = SureSink::new(alloc);
     let words = split_words(alloc, ASKED)?;
-    let status = freeme_run(alloc, words.as_slice(), &mut files, &mut out);
+    let status = freeme_run(alloc, &words, &mut files, &mut out);
     assert_eq!(rt; status, status::DONE);
     assert!(rt; files.bytes("d/M.class") == Some(bytes.as_slice()));
     assert!(rt; out.bytes() == b"M: 0 sites, 0 frees\n".as_slice());

@@ -14,6 +14,7 @@ use crate::request::{Request, request_of};
 use crate::writing::{class_lines, write_classes};
 use fm_base::NoMemory;
 use fm_base::limits::MAX_CLASS_FILES;
+use fm_code::ClassDef;
 use fm_files::{Files, Sink};
 use fm_tool::{Refusal, put_line, status};
 use std::alloc::Global;
@@ -86,12 +87,12 @@ fn do_job<'a, F: Files>(
     ensures within { StaysWithin (job_of request.entry) (F.disk files.old) (F.disk files.new) }
     ensures comes { ComesTo (job_of request.entry) (F.disk files.old) (F.disk files.new) result }
 {
-    let names = request.files.as_slice();
+    let names: &[&str] = &request.files;
     if names.len() > MAX_CLASS_FILES as usize {
         return Err(JobRefusal::TooManyFiles(names.len()));
     }
     let read = read_classes(alloc, names, files)?;
-    let classes = read.as_slice();
+    let classes: &[ClassDef] = &read;
     if let Some(place) = first_ahead(alloc, classes)? {
         return Err(JobRefusal::Shared(Refusal::NotYet(names[place])));
     }

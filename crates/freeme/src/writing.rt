@@ -76,7 +76,7 @@ fn write_one<'a, F: Files>(
 {
     let name = written_name(alloc, folder, class)?;
     let bytes = write_class(alloc, class)?;
-    match files.write(alloc, name.as_str(), bytes.as_slice()) {
+    match files.write(alloc, name.as_str(), &bytes) {
         Ok(()) => Ok(()),
         Err(WriteFail::Failed) => Err(JobRefusal::Write(name)),
         Err(WriteFail::NoMemory) => Err(JobRefusal::from(NoMemory)),

@@ -56,7 +56,7 @@ fn values(alloc: Global, request: &Request<'_>) -> Result<String, NoMemory> {
 // Whether the words ask for this.
 fn asks(alloc: Global, text: &str, asked: Option<&str>) -> Result<bool, NoMemory> {
     let words = split_words(alloc, text)?;
-    match request_of(alloc, words.as_slice())? {
+    match request_of(alloc, &words)? {
         Some(request) => {
             let found = values(alloc, &request)?;
             Ok(asked == Some(found.as_str()))
@@ -83,9 +83,9 @@ fn a_value_of_the_limit_is_taken_and_a_longer_one_refused(rt: HostRuntime) -> Re
         name.push('M')?;
     }
     words.push(name.clone()?)?;
-    assert!(rt; request_of(alloc, words.as_slice())?.is_some());
+    assert!(rt; request_of(alloc, &words)?.is_some());
     name.push('M')?;
     words.push(name)?;
-    assert!(rt; request_of(alloc, words.as_slice())?.is_none());
+    assert!(rt; request_of(alloc, &words)?.is_none());
     Ok(())
 }

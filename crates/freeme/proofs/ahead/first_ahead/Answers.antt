@@ -1,6 +1,5 @@
-use Rattle.std.proofs.Common.{◌≡◌, ◌<◌, ◌≤◌, ℕ, ◌+◌, Bool, true, false, not, List, length, map, take, Some, IfSome, IsSomeAnd, string_bytes, Contains, ⊎_elim, sym, ap, subst, ◌∙◌, arith, rules}
-use Rattle.std.specs.BTreeSet.{contains_text}
-use Rattle.std.specs.List.{list_any, slice_get}
+use Rattle.std.proofs.Common.{◌≡◌, ◌<◌, ◌≤◌, ℕ, true, false, List, length, map, take, IfSome, IsSomeAnd, Contains, ⊎_elim, sym, subst, ◌∙◌, arith}
+use Rattle.std.specs.List.{list_any}
 use Rattle.std.specs.Str.{bytes_eq}
 use Rattle.std.proofs.lemmas.Bool.{not-false, not-true, false≢true}
 use Rattle.std.proofs.lemmas.Cmp.{nat_list_eq_equiv}
@@ -8,9 +7,9 @@ use Rattle.std.proofs.lemmas.Map.Views.{Contains-from_any, list_any-from_Contain
 use Rattle.std.proofs.lemmas.Option.{slice_get_cases}
 use Rattle.std.proofs.lemmas.Slice.Eq.{bytes_eq-Decides}
 use Rattle.fm_code.specs.declared.class_file.ClassDef.{ClassDef}
-use Rattle.freeme.specs.Ahead.{IsBuilt, IsBuiltAt, IsFirstAhead, class_is_ahead}
+use Rattle.freeme.specs.Ahead.{IsBuilt, IsBuiltAt}
 use Rattle.freeme.specs.Writing.{class_text}
-use Rattle.freeme.proofs.AheadLemmas.{built_more, names_more}
+use Rattle.freeme.proofs.AheadLemmas.{built_more, name_tested, names_more}
 use Rattle.freeme.proofs.ListLemmas.{item_at}
 use Rattle.freeme.proofs.ahead.first_ahead.Goals as goal
 
@@ -27,28 +26,26 @@ returns-then-not-is_new c =
     let classes = c.args.classes.now in
     let i = c.loop-place.place in
     let class = c.index-classes-place.result in
-    let there : slice_get classes i ≡ Some class = item_at classes i class (omega (arith, c.loop-place-test.true)) c.index-classes-place.is in
-    let text : string_bytes c.in_ok-class_text.field-0 ≡ class_text class = c.in_ok-class_text.ensures in
-    let known : contains_text c.loop-place.names (string_bytes c.in_ok-class_text.field-0) ≡ true = not-false _ (sym c.in_ok-is_new.ensures.added ∙ c.if-not-is_new.true) in
-    let seen : Contains (map class_text (take i classes)) (class_text class) = seen_name (class_text class) (map class_text (take i classes)) (ap (λ q. list_any (bytes_eq q) (map class_text (take i classes))) (sym text) ∙ sym (c.loop-place.invariant.names (string_bytes c.in_ok-class_text.field-0)) ∙ known) in
+    let texts = map class_text (take i classes) in
+    let known = not-false _ (sym c.in_ok-is_new.ensures.added ∙ c.if-not-is_new.true) in
+    let seen = seen_name (class_text class) texts (name_tested c.in_ok-class_text.field-0 c.loop-place.names (class_text class) texts true c.in_ok-class_text.ensures c.loop-place.invariant.names known) in
     record {
       before = c.loop-place.invariant.built;
-      ahead = subst (λ o. IsSomeAnd o (λ d. ¬ IsBuilt classes i d)) (sym there) (λ built. built.new_name seen);
+      ahead = subst (λ o. IsSomeAnd o (λ d. ¬ IsBuilt classes i d)) (sym (item_at classes i class (omega (arith, c.loop-place-test.true)) c.index-classes-place.is)) (λ built. built.new_name seen);
     }
 
 pub loop-place-preserved : goal.loop-place-preserved
 loop-place-preserved c =
     let classes = c.args.classes.now in
-    let i = c.loop-place.place in
     let class = c.index-classes-place.result in
-    let there : slice_get classes i ≡ Some class = item_at classes i class (omega (arith, c.loop-place-test.true)) c.index-classes-place.is in
-    let text : string_bytes c.in_ok-class_text.field-0 ≡ class_text class = c.in_ok-class_text.ensures in
-    let unknown : contains_text c.loop-place.names (string_bytes c.in_ok-class_text.field-0) ≡ false = not-true _ (sym c.in_ok-is_new.ensures.added ∙ c.if-not-is_new.false) in
-    let unseen : ¬ Contains (map class_text (take i classes)) (class_text class) = new_name (class_text class) (map class_text (take i classes)) (ap (λ q. list_any (bytes_eq q) (map class_text (take i classes))) (sym text) ∙ sym (c.loop-place.invariant.names (string_bytes c.in_ok-class_text.field-0)) ∙ unknown) in
-    let plain : class_is_ahead class ≡ false = sym c.class_is_ahead.ensures ∙ c.if-class_is_ahead.false in
+    let texts = map class_text (take c.loop-place.place classes) in
+    let there = item_at classes c.loop-place.place class (omega (arith, c.loop-place-test.true)) c.index-classes-place.is in
+    let unknown = not-true _ (sym c.in_ok-is_new.ensures.added ∙ c.if-not-is_new.false) in
+    let unseen = new_name (class_text class) texts (name_tested c.in_ok-class_text.field-0 c.loop-place.names (class_text class) texts false c.in_ok-class_text.ensures c.loop-place.invariant.names unknown) in
+    let plain = sym c.class_is_ahead.ensures ∙ c.if-class_is_ahead.false in
     record {
-      built = built_more classes i class there (record { plain = plain; new_name = unseen }) c.loop-place.invariant.built;
-      names = names_more c.in_ok-class_text.field-0 c.loop-place.names c.insert.new.self classes i class there text c.in_ok-is_new.ensures.updates c.loop-place.invariant.names;
+      built = built_more classes c.loop-place.place class there (record { plain = plain; new_name = unseen }) c.loop-place.invariant.built;
+      names = names_more c.in_ok-class_text.field-0 c.loop-place.names c.insert.new.self classes c.loop-place.place class there c.in_ok-class_text.ensures c.in_ok-is_new.ensures.updates c.loop-place.invariant.names;
     }
 
 pub returns : goal.returns

@@ -1,4 +1,4 @@
-use Rattle.std.proofs.Common.{◌≡◌, Err, ap, ◌∙◌}
+use Rattle.std.proofs.Common.{Err, ap, ◌∙◌}
 use Rattle.freeme.proofs.judging.class_of.Goals as goal
 
 pub returns-in-Err-Version-clause-fails : goal.returns-in-Err-Version-clause-fails

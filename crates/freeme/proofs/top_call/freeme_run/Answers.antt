@@ -7,40 +7,40 @@ pub returns-clause-status : goal.returns-clause-status
 returns-clause-status g c = is_status c.do_words-outcome.result _ _ _ c.tell.ensures
 
 pub returns-clause-done : goal.returns-clause-done
-returns-clause-done g c = is_for_done _ _ _ _ _ _ c.do_words-outcome.result c.do_words-outcome.ensures c.tell.ensures
+returns-clause-done g c = is_for_done c.do_words-outcome.result c.do_words-outcome.ensures c.tell.ensures
 
 pub returns-clause-words : goal.returns-clause-words
-returns-clause-words g c = is_for_words _ _ _ _ _ _ c.do_words-outcome.result c.do_words-outcome.ensures c.tell.ensures
+returns-clause-words g c = is_for_words c.do_words-outcome.result c.do_words-outcome.ensures c.tell.ensures
 
 pub returns-clause-read : goal.returns-clause-read
-returns-clause-read g c = is_for_read _ _ _ _ _ _ c.do_words-outcome.result c.do_words-outcome.ensures c.tell.ensures
+returns-clause-read g c = is_for_read c.do_words-outcome.result c.do_words-outcome.ensures c.tell.ensures
 
 pub returns-clause-malformed : goal.returns-clause-malformed
-returns-clause-malformed g c = is_for_bytes _ _ _ _ _ _ c.do_words-outcome.result c.do_words-outcome.ensures c.tell.ensures _ (omega arith) (omega arith) (λ e. omega arith)
+returns-clause-malformed g c = is_for_bytes c.do_words-outcome.result c.do_words-outcome.ensures c.tell.ensures _ (omega arith) (omega arith) (λ e. omega arith)
 
 pub returns-clause-version : goal.returns-clause-version
-returns-clause-version g c = is_for_bytes _ _ _ _ _ _ c.do_words-outcome.result c.do_words-outcome.ensures c.tell.ensures _ (omega arith) (omega arith) (λ e. omega arith)
+returns-clause-version g c = is_for_bytes c.do_words-outcome.result c.do_words-outcome.ensures c.tell.ensures _ (omega arith) (omega arith) (λ e. omega arith)
 
 pub returns-clause-limit : goal.returns-clause-limit
-returns-clause-limit g c = is_for_limit _ _ _ _ _ _ c.do_words-outcome.result c.do_words-outcome.ensures c.tell.ensures
+returns-clause-limit g c = is_for_limit c.do_words-outcome.result c.do_words-outcome.ensures c.tell.ensures
 
 pub returns-clause-unsupported : goal.returns-clause-unsupported
-returns-clause-unsupported g c = is_for_bytes _ _ _ _ _ _ c.do_words-outcome.result c.do_words-outcome.ensures c.tell.ensures _ (omega arith) (omega arith) (λ e. omega arith)
+returns-clause-unsupported g c = is_for_bytes c.do_words-outcome.result c.do_words-outcome.ensures c.tell.ensures _ (omega arith) (omega arith) (λ e. omega arith)
 
 pub returns-clause-not_yet : goal.returns-clause-not_yet
-returns-clause-not_yet g c = is_for_not_yet _ _ _ _ _ _ c.do_words-outcome.result c.do_words-outcome.ensures c.tell.ensures
+returns-clause-not_yet g c = is_for_not_yet c.do_words-outcome.result c.do_words-outcome.ensures c.tell.ensures
 
 pub returns-clause-write : goal.returns-clause-write
-returns-clause-write g c = is_for_write _ _ _ _ _ _ c.do_words-outcome.result c.do_words-outcome.ensures c.tell.ensures
+returns-clause-write g c = is_for_write c.do_words-outcome.result c.do_words-outcome.ensures c.tell.ensures
 
 pub returns-clause-memory : goal.returns-clause-memory
-returns-clause-memory g c = is_for_memory _ _ _ _ _ _ c.do_words-outcome.result c.do_words-outcome.ensures c.tell.ensures
+returns-clause-memory g c = is_for_memory c.do_words-outcome.result c.do_words-outcome.ensures c.tell.ensures
 
 pub returns-clause-faultless : goal.returns-clause-faultless
-returns-clause-faultless g c = is_faultless _ _ _ _ _ _ c.do_words-outcome.result c.do_words-outcome.ensures c.tell.ensures
+returns-clause-faultless g c = is_faultless c.do_words-outcome.result c.do_words-outcome.ensures c.tell.ensures
 
 pub returns-clause-kept : goal.returns-clause-kept
-returns-clause-kept g c = keeps_contents _ _ _ _ _ _ c.do_words-outcome.result c.do_words-outcome.ensures c.tell.ensures
+returns-clause-kept g c = keeps_contents c.do_words-outcome.result c.do_words-outcome.ensures c.tell.ensures
 
 pub returns-clause-others : goal.returns-clause-others
-returns-clause-others g c = changes_only _ _ _ _ _ _ c.do_words-outcome.result c.do_words-outcome.ensures c.tell.ensures
+returns-clause-others g c = changes_only c.do_words-outcome.result c.do_words-outcome.ensures c.tell.ensures
