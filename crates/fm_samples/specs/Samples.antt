@@ -22,6 +22,6 @@ parts_of_methods methods = flat_map parts_of_method methods
 -- a class file (JVMS 4.1)
 abbrev pub parts_of_class : ClassSample → List (Bor (List ℕ))
 parts_of_class c =
-    (c.magic ∷ c.version ∷ c.pool_count ∷ []) ++ (c.pool.now ++ (c.more_pool.now
+    (c.magic ∷ c.version ∷ c.pool_count ∷ c.class_name ∷ []) ++ (c.pool.now ++ (c.more_pool.now
     ++ ((c.flags ∷ c.this_class ∷ c.super_class ∷ c.interfaces ∷ c.fields ∷ c.methods_count ∷ [])
     ++ (parts_of_methods c.methods.now ++ c.attributes ∷ []))))

@@ -27,8 +27,8 @@ pub const RETURNS: ClassSample<'static> = ClassSample {
     magic: b"\xca\xfe\xba\xbe",
     version: b"\0\0\0\x31",
     pool_count: b"\0\x08",
+    class_name: b"\x01\0\x01M", // 1
     pool: &[
-        b"\x01\0\x01M", // 1
         b"\x07\0\x01", // 2: Class 1
         b"\x01\0\x10java/lang/Object", // 3
         b"\x07\0\x03", // 4: Class 3
@@ -65,7 +65,6 @@ pub const MAKES_ARRAY: ClassSample<'static> = ClassSample {
 /// Main takes no arguments, so that it isn't the one that a program starts with.
 pub const MAIN_OF_NO_ARGUMENTS: ClassSample<'static> = ClassSample {
     pool: &[
-        b"\x01\0\x01M", // 1
         b"\x07\0\x01", // 2: Class 1
         b"\x01\0\x10java/lang/Object", // 3
         b"\x07\0\x03", // 4: Class 3
@@ -162,7 +161,6 @@ pub const CALLS_ITSELF: ClassSample<'static> = ClassSample {
 /// Main divides 1 by 0.
 pub const DIVIDES_BY_ZERO: ClassSample<'static> = ClassSample {
     pool: &[
-        b"\x01\0\x01M", // 1
         b"\x07\0\x01", // 2: Class 1
         b"\x01\0\x10java/lang/Object", // 3
         b"\x07\0\x03", // 4: Class 3

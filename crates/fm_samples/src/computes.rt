@@ -9,7 +9,6 @@ use crate::samples::{ClassSample, MethodSample};
 pub const COMPUTES: ClassSample<'static> = ClassSample {
     pool_count: b"\0\x24",
     pool: &[
-        b"\x01\0\x01M", // 1
         b"\x07\0\x01", // 2: Class 1
         b"\x01\0\x10java/lang/Object", // 3
         b"\x07\0\x03", // 4: Class 3

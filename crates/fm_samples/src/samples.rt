@@ -16,7 +16,9 @@ pub struct ClassSample<'a> {
     pub version: &'a [u8],
     /// One more than the entries of the pool, where a long counts twice.
     pub pool_count: &'a [u8],
-    /// The entries of the pool, each with its tag.
+    /// The first entry of the pool with its tag: the name of the class.
+    pub class_name: &'a [u8],
+    /// The entries of the pool after it, each with its tag.
     pub pool: &'a [&'a [u8]],
     /// Further entries of the pool, after those.
     pub more_pool: &'a [&'a [u8]],
@@ -61,7 +63,10 @@ impl ClassSample<'_> {
         ensures { IfOk result (λ bytes. bytes.items ≡ joined (parts_of_class self.now)) }
     {
         let mut bytes = Vec::new(alloc);
-        append(&mut bytes, &[self.magic, self.version, self.pool_count])?;
+        append(
+            &mut bytes,
+            &[self.magic, self.version, self.pool_count, self.class_name],
+        )?;
         append(&mut bytes, self.pool)?;
         append(&mut bytes, self.more_pool)?;
         append(

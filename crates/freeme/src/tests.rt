@@ -8,31 +8,14 @@ use fm_tool::status;
 use std::alloc::Global;
 use std::test::Fail;
 
-// The class A, whose main returns at once.
+// The classes A and B, whose mains return at once.
 const CLASS_A: ClassSample<'static> = ClassSample {
-    pool: &[
-        b"\x01\0\x01A", // 1
-        b"\x07\0\x01", // 2: Class 1
-        b"\x01\0\x10java/lang/Object", // 3
-        b"\x07\0\x03", // 4: Class 3
-        b"\x01\0\x04main", // 5
-        b"\x01\0\x16([Ljava/lang/String;)V", // 6
-        b"\x01\0\x04Code", // 7
-    ],
+    class_name: b"\x01\0\x01A",
     ..RETURNS
 };
 
-// The class B, whose main returns at once.
 const CLASS_B: ClassSample<'static> = ClassSample {
-    pool: &[
-        b"\x01\0\x01B", // 1
-        b"\x07\0\x01", // 2: Class 1
-        b"\x01\0\x10java/lang/Object", // 3
-        b"\x07\0\x03", // 4: Class 3
-        b"\x01\0\x04main", // 5
-        b"\x01\0\x16([Ljava/lang/String;)V", // 6
-        b"\x01\0\x04Code", // 7
-    ],
+    class_name: b"\x01\0\x01B",
     ..RETURNS
 };
 
