@@ -8,7 +8,9 @@ use Rattle.std.specs.Prelude.{FitsSigned}
 use Rattle.byteorder.specs.Endian.{big_from, big_number, big_bytes}
 use Rattle.byteorder.specs.Numbers.{big_from-cons, length-bytes_high_first, big_number-reads_back}
 use Rattle.fm_code.specs.Numbers.{two, four, eight, signed_four, signed_eight}
+use Rattle.fm_code.specs.ClassBytes.{magic}
 use Rattle.fm_code.specs.Fits.{AreBytes, FitsTwo, FitsFour}
+use Rattle.fm_code.specs.declared.class_file.TheConstants.{MAGIC}
 
 -- a byte of a number, by its place
 byte_at-pow : (k x : ℕ) → byte_at k x ≡ x / 256 ^ k % 256
@@ -230,3 +232,9 @@ pub AreBytes-drop : (n : ℕ) (xs : List ℕ) → AreBytes xs → AreBytes (drop
 AreBytes-drop zero xs bytes = bytes
 AreBytes-drop (suc n) [] bytes = tt
 AreBytes-drop (suc n) (x ∷ xs) (byte, bytes) = AreBytes-drop n xs bytes
+
+-- ---- the magic number
+
+pub magic_bytes : four MAGIC ≡ magic
+unfolding four
+magic_bytes = refl

@@ -3,12 +3,25 @@ use Rattle.std.proofs.Common.{◌≡◌, ℕ, suc, ◌-◌, ◌+◌, ◌≤◌, 
 use Rattle.std.proofs.lemmas.List.{append-nil}
 use Rattle.fm_code.specs.declared.error.PieceFail.{PieceFail}
 use Rattle.fm_code.specs.declared.error.PieceFail.TheVariants as fail
-use Rattle.fm_code.specs.inner.Reading.{◌>>=◌, Fails, several_at, with_prefix}
+use Rattle.fm_code.specs.inner.Reading.{◌>>=◌, Fails, counted_at, number_at, several_at, with_prefix}
 
 -- a piece that was read goes to those before
 pub regroup : {X : Type 0} (prefix : List X) (x : X) (reading : Option (List X × List ℕ)) → with_prefix prefix (reading >>= λ others. Some (x ∷ others.0, others.1)) ≡ with_prefix (prefix ++ x ∷ []) reading
 regroup prefix x (Some others) = ap (λ (xs : List _). Some (xs, others.1)) (simp append_assoc)
 regroup prefix x None = refl
+
+-- nothing stands in front of what is read
+with_no_prefix : {X : Type 0} (reading : Option (List X × List ℕ)) → with_prefix [] reading ≡ reading
+with_no_prefix (Some x) = refl
+with_no_prefix None = refl
+
+-- the number was read, and no piece yet
+pub begins : {X : Type 0} (piece_at : List ℕ → Option (X × List ℕ)) (prefix : List X) (bytes : List ℕ) (count : ℕ) (rest : List ℕ) → prefix ≡ [] → number_at 2 bytes ≡ Some (count, rest)
+    → with_prefix prefix (several_at piece_at (count - 0) rest) ≡ counted_at piece_at bytes
+unfolding counted_at
+begins piece_at prefix bytes count rest none e =
+    let all : count - 0 ≡ count = omega arith in
+    rw (none, e, all) (with_no_prefix (several_at piece_at count rest))
 
 -- one more piece was read
 pub goes_on : {X : Type 0} (piece_at : List ℕ → Option (X × List ℕ)) (prefix : List X) (count i : ℕ) (bytes : List ℕ) (x : X) (after : List ℕ) (total : Option (List X × List ℕ)) → i < count → piece_at bytes ≡ Some (x, after)

@@ -1,10 +1,17 @@
-// Numbers and runs of bytes, taken off the front of what is still to be read.
+// Numbers, runs of bytes and attributes, taken off the front of what is still to be read.
 
 ghost use Rattle.std.specs.Prelude.{◌≡◌};
-ghost use Rattle.fm_code.specs.inner.Reading.{Gives, bytes_at, number_at};
+ghost use Rattle.fm_code.specs.inner.Reading.{Gives, attribute_view, bytes_at, number_at, raw_at};
 
 use crate::error::PieceFail;
 use byteorder::{BigEndian, ByteOrder};
+
+/// An attribute that isn't read yet: the index of its name, and its bytes (JVMS 4.7).
+#[derive(Clone, Copy, Debug)]
+pub struct AttributeParts<'a> {
+    pub name: u16,
+    pub bytes: &'a [u8],
+}
 
 /// The first byte, and the bytes after it.
 pub fn take_u8(bytes: &[u8]) -> Result<(u8, &[u8]), PieceFail>
@@ -54,4 +61,15 @@ pub fn take_bytes(size: usize, bytes: &[u8]) -> Result<(&[u8], &[u8]), PieceFail
         return Err(PieceFail::Malformed);
     }
     Ok(bytes.split_at(size))
+}
+
+/// The attribute that the bytes begin with, as its name and its bytes, and the bytes after it (JVMS 4.7).
+#[tactic(auto, unfolding(crate::specs::inner::Reading::raw_at))]
+pub fn take_attribute(bytes: &[u8]) -> Result<(AttributeParts<'_>, &[u8]), PieceFail>
+    ensures { Gives (λ x. (attribute_view x.0, x.1.now)) result (raw_at bytes.now) }
+{
+    let (name, rest) = take_u16(bytes)?;
+    let (size, rest) = take_u32(rest)?;
+    let (bytes, rest) = take_bytes(size as usize, rest)?;
+    Ok((AttributeParts { name, bytes }, rest))
 }

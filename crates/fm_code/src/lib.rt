@@ -30,7 +30,9 @@ pub use constant_pool::{
     CONSTANT_InterfaceMethodref, CONSTANT_Long, CONSTANT_Methodref, CONSTANT_NameAndType,
     CONSTANT_String, CONSTANT_Utf8, Entry, MemberRef, Pool,
 };
-pub use cursor::{take_bytes, take_u8, take_u16, take_u32, take_u64};
+pub use cursor::{
+    AttributeParts, take_attribute, take_bytes, take_u8, take_u16, take_u32, take_u64,
+};
 pub use error::PieceFail;
 pub use insn_bytes::InsnBytes;
 pub use instructions::Insn;

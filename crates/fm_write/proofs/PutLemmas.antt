@@ -1,29 +1,6 @@
--- Pieces put one after the other, and how long they are.
-use Rattle.std.proofs.Common.{◌≡◌, ℕ, ◌*◌, ◌≤◌, List, [], ◌∷◌, ◌++◌, length, sym, ap, ◌∙◌, append_assoc, append-nil, arith, length-append}
-use Rattle.std.specs.List.{flat_map, concat}
-use Rattle.fm_code.specs.Numbers.{two}
-use Rattle.fm_code.specs.ClassBytes.{counted}
-use Rattle.fm_code.specs.Fits.{FitsTwo, FitsFour}
-use Rattle.fm_code.proofs.Bytes.{length-two}
-
--- ---- a table is short
-
--- short pieces are short together
-length-flat_map_short : {X : Type 0} (spell : X → List ℕ) → ((x : X) → length (spell x) ≤ 10) → (xs : List X) → length (flat_map spell xs) ≤ 10 * length xs
-length-flat_map_short spell each [] = omega arith
-length-flat_map_short spell each (x ∷ xs) =
-    let here = each x in
-    let rest = length-flat_map_short spell each xs in
-    omega (arith, length-append (spell x) (flat_map spell xs))
-
--- so is a table of them
-pub FitsFour-counted : {X : Type 0} (spell : X → List ℕ) → ((x : X) → length (spell x) ≤ 10) → (xs : List X) → FitsTwo (length xs) → FitsFour (length (counted spell xs))
-FitsFour-counted spell each xs fits =
-    let count = length-two (length xs) in
-    let rest = length-flat_map_short spell each xs in
-    omega (arith, length-append (two (length xs)) (flat_map spell xs))
-
--- ---- pieces that are told one by one
+-- Pieces put one after the other.
+use Rattle.std.proofs.Common.{◌≡◌, ℕ, List, [], ◌∷◌, ◌++◌, sym, ap, ◌∙◌, append_assoc, append-nil}
+use Rattle.std.specs.List.{concat}
 
 -- the bytes are these pieces
 pub record AreJoined (pieces : List (List ℕ)) (bytes : List ℕ) : Type 0 where
@@ -33,9 +10,9 @@ concat-push : (pieces : List (List ℕ)) (piece : List ℕ) → concat (pieces +
 concat-push [] piece = append-nil piece
 concat-push (first ∷ pieces) piece = ap (λ (bytes : List ℕ). first ++ bytes) (concat-push pieces piece) ∙ sym (append_assoc first (concat pieces) piece)
 
--- the first piece
-pub first_piece : {bytes piece : List ℕ} → bytes ≡ piece → AreJoined (piece ∷ []) bytes
-first_piece {bytes} {piece} e = record { bytes_are = e ∙ sym (append-nil piece) }
+-- no piece yet
+pub no_piece : {bytes : List ℕ} → bytes ≡ [] → AreJoined [] bytes
+no_piece e = record { bytes_are = e }
 
 -- one more piece
 pub next_piece : {pieces : List (List ℕ)} {bytes next : List ℕ} → AreJoined pieces bytes → (piece : List ℕ) → next ≡ bytes ++ piece → AreJoined (pieces ++ piece ∷ []) next

@@ -10,12 +10,9 @@ ghost use Rattle.fm_write.specs.inner.Writable.{ClassIsWritable};
 use crate::attributes::put_raws;
 use crate::members::put_members;
 use fm_base::NoMemory;
-use fm_code::{ClassDef, put_u16};
+use fm_code::{ClassDef, MAGIC, put_u16, put_u32};
 use fm_pool::write_pool;
 use std::alloc::Global;
-
-/// The bytes with which each class file begins (JVMS 4.1).
-const MAGIC: [u8; 4] = [0xca, 0xfe, 0xba, 0xbe];
 
 /// The bytes that spell a record. Some bytes have to spell it, and these are the only ones. Takes
 /// memory for them, and meanwhile for the pool, or for a Code attribute and a table of it.
@@ -32,7 +29,8 @@ fn bytes_of(alloc: Global, class: &ClassDef) -> Result<Vec<u8>, NoMemory>
     requires { ClassIsWritable class.now }
     ensures { IfOk result (λ bytes. bytes.items ≡ class_bytes class.now) }
 {
-    let mut out = Vec::from_slice(alloc, &MAGIC)?;
+    let mut out = Vec::new(alloc);
+    put_u32(MAGIC, &mut out)?;
     put_u16(class.minor, &mut out)?;
     put_u16(class.major, &mut out)?;
     write_pool(alloc, &class.pool, &mut out)?;

@@ -51,7 +51,7 @@ fn put_code_attributes(alloc: Global, code: &Code, out: &mut Vec<u8>) -> Result<
 }
 
 /// Appends an attribute of a Code attribute.
-#[tactic(auto, using(crate::proofs::OffsetsLemmas::lines_fit, crate::proofs::OffsetsLemmas::vars_fit))]
+#[tactic(auto, using(fm_code::proofs::TableLengths::lines_fit, fm_code::proofs::TableLengths::vars_fit))]
 fn put_code_attribute(
     alloc: Global,
     code: &Code,

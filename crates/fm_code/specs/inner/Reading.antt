@@ -1,6 +1,8 @@
 -- Reading from left to right: a piece is read to its value and the bytes after it. It serves the proofs of the parsers alone.
 use Rattle.std.specs.Prelude.{◌≡◌, ℕ, zero, suc, nat_lt, List, [], ◌∷◌, ◌++◌, length, take, drop, Option, Some, None, option_and_then, Result, Ok, Err, if◌then◌else◌}
 use Rattle.byteorder.specs.Endian.{big_number}
+use Rattle.fm_code.specs.declared.class_file.Raw.{Raw}
+use Rattle.fm_code.specs.declared.cursor.AttributeParts.{AttributeParts}
 use Rattle.fm_code.specs.declared.error.PieceFail.{PieceFail}
 use Rattle.fm_code.specs.declared.error.PieceFail.TheVariants as fail
 
@@ -47,3 +49,17 @@ counted_at piece_at bytes = do
 -- what was read before, in front of what is read
 abbrev pub with_prefix : {X : Type 0} → List X → Option (List X × List ℕ) → Option (List X × List ℕ)
 with_prefix prefix reading = reading >>= λ x. Some (prefix ++ x.0, x.1)
+
+-- ---- attributes
+
+-- an attribute as it is kept where it isn't read
+abbrev pub attribute_view : AttributeParts → Raw
+attribute_view a = record { name = a.name; bytes = a.bytes.now }
+
+-- an attribute: its name, and so many bytes
+unfoldable pub raw_at : List ℕ → Option (Raw × List ℕ)
+raw_at bytes = do
+  name ← number_at 2 bytes
+  size ← number_at 4 name.1
+  body ← bytes_at size.0 size.1
+  Some (record { name = name.0; bytes = body.0 }, body.1)

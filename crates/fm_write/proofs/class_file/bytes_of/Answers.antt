@@ -1,14 +1,16 @@
 use Rattle.fm_code.specs.Numbers.{two}
-use Rattle.fm_code.specs.ClassBytes.{class_bytes, counted, member_bytes, raw_bytes}
-use Rattle.fm_write.proofs.PutLemmas.{first_piece, next_piece, next_list}
+use Rattle.fm_code.specs.ClassBytes.{class_bytes, counted, magic, member_bytes, raw_bytes}
+use Rattle.fm_code.proofs.Bytes.{magic_bytes}
+use Rattle.std.proofs.Common.{List, ℕ, ◌++◌, ap, ◌∙◌}
+use Rattle.fm_write.proofs.PutLemmas.{no_piece, next_piece, next_list}
 use Rattle.fm_write.proofs.class_file.bytes_of.Goals as goal
 
 -- each call puts its piece after those before
 pub returns : goal.returns
 unfolding class_bytes
 returns c =
-    let magic = first_piece c.in_ok-out.ensures.items in
-    let minor = next_piece magic _ c.in_ok-put_u16.ensures in
+    let front = next_piece (no_piece c.new-out.ensures.items) magic (c.in_ok-put_u32.ensures ∙ ap (λ (piece : List ℕ). c.new-out.result.items ++ piece) magic_bytes) in
+    let minor = next_piece front _ c.in_ok-put_u16.ensures in
     let major = next_piece minor _ c.in_ok-put_u16-2.ensures in
     let pool = next_piece major _ c.in_ok-write_pool.ensures.written in
     let flags = next_piece pool _ c.in_ok-put_u16-3.ensures in
