@@ -1,9 +1,5 @@
 pub mod EntriesLemmas
 pub mod EntriesInTurn
-pub mod DescriptorsLemmas
-pub mod MethodDescriptors
-pub mod TextsLemmas
-pub mod FactsLemmas
 pub mod GrownPool
 pub mod FreeEntriesLemmas
 pub mod FreeEntriesAdded

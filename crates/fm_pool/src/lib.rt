@@ -4,20 +4,16 @@
 // bytes back. The layers above use that bytes and pool determine each other.
 #![tactic(auto)]
 
-mod descriptors;
 mod entries;
 mod error;
-mod facts;
 mod free_entries;
 mod known_entries;
 mod known_pool;
-mod names;
 mod put;
 mod reading;
 mod rules;
 #[cfg(test)]
 mod tests;
-mod texts;
 mod writing;
 
 pub use error::{AddFail, PoolFail};

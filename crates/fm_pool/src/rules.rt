@@ -4,12 +4,12 @@ ghost use Rattle.std.specs.Prelude.{◌↔◌, ◌⊎◌, ℕ, List, IsTrue};
 ghost use Rattle.std.specs.List.{AllByRecursion};
 ghost use Rattle.fm_code.specs.ConstantPool.{EntryIsValid, NamesMember, IsFieldPair, IsMethodPair};
 ghost use Rattle.fm_code.specs.declared.constant_pool.Entry.TheVariants as entry;
-ghost use Rattle.fm_pool.specs.inner.Facts.{AreFacts, AreFactsOf, TextIsValid, NamesAreValid};
+ghost use Rattle.fm_texts.specs.Facts.{AreFacts, AreFactsOf};
+ghost use Rattle.fm_pool.specs.inner.Rules.{TextIsValid, NamesAreValid};
 
-use crate::facts::TextFacts;
 use crate::known_entries::KnownEntries;
-use crate::texts::is_modified_utf8;
 use fm_code::Entry;
+use fm_texts::{TextFacts, is_modified_utf8};
 
 /// Whether an entry that is a text is one in modified UTF-8.
 fn text_is_valid(entry: &Entry) -> bool

@@ -6,16 +6,11 @@ use Rattle.fm_code.specs.ClassBytes.{magic}
 use Rattle.fm_code.specs.Fits.{AreBytes}
 use Rattle.fm_code.specs.Numbers.{two, four}
 use Rattle.fm_code.specs.Profile.{HasVersion, HasOtherVersion, IsAcceptedVersion}
-use Rattle.fm_code.proofs.Bytes.{length-two}
-use Rattle.fm_code.proofs.Pieces.{guard_holds, some_is, Takes-then, two_piece, four_piece}
+use Rattle.fm_code.proofs.Bytes.{length-two, magic_bytes}
+use Rattle.fm_code.proofs.Pieces.{after_piece, guard_holds, some_is, Takes-then, two_piece, four_piece}
 use Rattle.fm_read.specs.inner.Head.{head_bytes, HasHead, head_at, VersionFits}
 use Rattle.fm_code.specs.declared.class_file.TheConstants.{MAGIC}
 use Rattle.fm_read.specs.declared.head.Version.{Version}
-use Rattle.fm_read.proofs.PartsPieces.{after_piece}
-
-magic_bytes : four MAGIC ≡ magic
-unfolding four
-magic_bytes = refl
 
 -- what is read is what the bytes begin with
 pub has_head : (bytes : List ℕ) (v : Version) (rest : List ℕ) → AreBytes bytes → head_at bytes ≡ Some (v, rest) → HasHead bytes v rest

@@ -1,58 +1,14 @@
--- Attributes, fields and methods as pieces, and what is after the constant pool: what is read is spelled so, and what is spelled so is read.
-use Rattle.std.proofs.Common.{◌≡◌, ℕ, eqb, List, [], ◌++◌, length, Option, Some, refl, sym, ap, subst, ◌∙◌, append_assoc}
+-- Fields and methods as pieces, and what is after the constant pool: what is read is spelled so, and what is spelled so is read.
+use Rattle.std.proofs.Common.{◌≡◌, ℕ, eqb, List, [], ◌++◌, length, Some, refl, sym, ap, subst, ◌∙◌, append_assoc}
 use Rattle.std.proofs.lemmas.Bool.{eqb-true}
-use Rattle.std.proofs.lemmas.List.{append-nil, nil_from_length}
-use Rattle.fm_code.specs.Numbers.{two, four}
+use Rattle.std.proofs.lemmas.List.{append-nil}
+use Rattle.fm_code.specs.Numbers.{two}
 use Rattle.fm_code.specs.ClassBytes.{counted, raw_bytes}
-use Rattle.fm_code.specs.Fits.{AreBytes, CountedFits, FitsTwo, FitsFour, RawFits}
-use Rattle.fm_code.specs.declared.class_file.Raw.{Raw}
-use Rattle.fm_code.specs.inner.Reading.{◌>>=◌, number_at, bytes_at, counted_at}
-use Rattle.fm_code.proofs.Pieces.{bind_some, guard_holds, some_is, Takes, Takes-then, IsPiece, two_piece, four_piece, bytes_takes, bytes_again, counted_piece}
+use Rattle.fm_code.specs.Fits.{AreBytes, CountedFits, FitsTwo}
+use Rattle.fm_code.specs.inner.Reading.{number_at, counted_at, raw_at}
+use Rattle.fm_code.proofs.Pieces.{after_piece, all_of, guard_holds, some_is, Takes, Takes-then, then_all, IsPiece, two_piece, counted_piece, raws_piece}
 use Rattle.fm_read.specs.inner.Parts.{RawMember, RawBody, RawMemberFits, RawBodyFits}
-use Rattle.fm_read.specs.inner.Reading.{raw_at, member_at, body_at}
-
--- ---- a step of a reading
-
--- a piece was read, and what comes next gave the value
-pub after_piece : {X Y P : Type 0} {piece_at : List ℕ → Option (X × List ℕ)} {spell : X → List ℕ} {Fits : X → Type 0} → IsPiece piece_at spell Fits → (bytes : List ℕ) (next : X × List ℕ → Option Y) (y : Y) → AreBytes bytes → (piece_at bytes >>= next) ≡ Some y →
-    ((x : X) (rest : List ℕ) → Takes bytes (spell x) rest → Fits x → next (x, rest) ≡ Some y → P) → P
-after_piece {piece_at = piece_at} piece bytes next y fits e go =
-    let read = bind_some (piece_at bytes) next y e in
-    let taken = piece.takes bytes read.0 fits read.1 in
-    go read.0.0 read.0.1 taken.0 taken.1 read.2
-
--- ---- attributes
-
-raw_made : (bytes : List ℕ) (x : Raw × List ℕ) (name size : ℕ) (body rest : List ℕ) → Takes bytes (two name ++ (four size ++ body)) rest → length body ≡ size → FitsTwo name → FitsFour size → AreBytes body →
-    (record { name = name; bytes = body }, rest) ≡ x → Takes bytes (raw_bytes x.0) x.1 × RawFits x.0
-unfolding raw_bytes
-raw_made bytes x name size body rest taken sized name_fits size_fits body_fits made =
-    subst (λ (y : Raw × List ℕ). Takes bytes (raw_bytes y.0) y.1 × RawFits y.0) made (
-      subst (λ (n : ℕ). Takes bytes (two name ++ (four n ++ body)) rest) (sym sized) taken,
-      record { name = name_fits; size = subst FitsFour (sym sized) size_fits; bytes = body_fits },
-    )
-
-raw_takes : (bytes : List ℕ) (x : Raw × List ℕ) → AreBytes bytes → raw_at bytes ≡ Some x → Takes bytes (raw_bytes x.0) x.1 × RawFits x.0
-unfolding raw_at raw_bytes
-raw_takes bytes x fits e =
-    after_piece two_piece bytes _ x fits e λ name a t0 name_fits e0.
-    after_piece four_piece a _ x t0.rest_fits e0 λ size c t1 size_fits e1.
-    let body = bind_some (bytes_at size c) (λ body. Some (record { name = name; bytes = body.0 }, body.1)) x e1 in
-    let t2 = bytes_takes size c body.0 t1.rest_fits body.1 in
-    raw_made bytes x name size body.0.0 body.0.1 (Takes-then bytes (two name) a (four size ++ body.0.0) body.0.1 t0 (Takes-then a (four size) c body.0.0 body.0.1 t1 t2.0)) t2.1 name_fits size_fits t2.2 (some_is _ x body.2)
-
-raw_again : (a : Raw) (rest : List ℕ) → RawFits a → raw_at (raw_bytes a ++ rest) ≡ Some (a, rest)
-unfolding raw_at raw_bytes
-raw_again a rest fits =
-    let regrouped : raw_bytes a ++ rest ≡ two a.name ++ (four (length a.bytes) ++ (a.bytes ++ rest)) = simp append_assoc in
-    ap raw_at regrouped
-    ∙ rw (two_piece.again a.name (four (length a.bytes) ++ (a.bytes ++ rest)) fits.name, four_piece.again (length a.bytes) (a.bytes ++ rest) fits.size, bytes_again (length a.bytes) a.bytes rest refl) refl
-
-pub raw_piece : IsPiece raw_at raw_bytes RawFits
-raw_piece = record { takes = raw_takes; again = raw_again }
-
-pub raws_piece : IsPiece (counted_at raw_at) (counted raw_bytes) (CountedFits RawFits)
-raws_piece = counted_piece raw_at raw_bytes RawFits raw_piece
+use Rattle.fm_read.specs.inner.Reading.{member_at, body_at}
 
 -- ---- fields and methods
 
@@ -96,14 +52,6 @@ abbrev pub raw_body_bytes : RawBody → List ℕ
 raw_body_bytes b =
     two b.flags ++ (two b.this_class ++ (two b.super_class ++ (counted two b.interfaces ++ (counted raw_member_bytes b.fields
     ++ (counted raw_member_bytes b.methods ++ counted raw_bytes b.attributes)))))
-
--- the last piece of all of the bytes
-all_of : (bytes text rest : List ℕ) → Takes bytes text rest → length rest ≡ 0 → bytes ≡ text
-all_of bytes text rest taken none = taken.parts ∙ ap (λ (r : List ℕ). text ++ r) (nil_from_length rest none) ∙ append-nil text
-
--- a piece, and all that is after it
-then_all : (bytes text rest all : List ℕ) → Takes bytes text rest → rest ≡ all → bytes ≡ text ++ all
-then_all bytes text rest all taken e = taken.parts ∙ ap (λ (r : List ℕ). text ++ r) e
 
 pub body_takes : (bytes : List ℕ) (b : RawBody) → AreBytes bytes → body_at bytes ≡ Some b → (bytes ≡ raw_body_bytes b) × RawBodyFits b
 unfolding body_at

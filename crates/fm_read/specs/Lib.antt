@@ -1,2 +1,1 @@
-pub mod MainClass
 pub mod inner

@@ -1,15 +1,7 @@
-pub mod ClassNames
-pub mod Declared
-pub mod CodeItems
-pub mod CodePlaces
-pub mod CodeReading
 pub mod ClassParts
 pub mod Failures
-pub mod FirstParts
-pub mod FloatingTypes
 pub mod MemberRules
 pub mod Head
 pub mod Parts
 pub mod Reading
 pub mod Rules
-pub mod TextNumbers

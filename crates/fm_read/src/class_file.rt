@@ -7,14 +7,15 @@ ghost use Rattle.fm_code.specs.declared.class_file.ClassDef.{ClassDef as ClassRe
 ghost use Rattle.fm_code.specs.declared.constant_pool.Pool.{Pool as PoolRecord};
 ghost use Rattle.fm_read.specs.inner.ClassParts.{AreClasses, HasValidNames, IsClassOf, IsSuperclass, PartsHaveNames, StartsWithPool};
 ghost use Rattle.fm_read.specs.inner.Head.{head_bytes, VersionFits};
-ghost use Rattle.fm_read.specs.inner.Parts.{attribute_view, body_view, RawBodyFits};
+ghost use Rattle.fm_code.specs.inner.Reading.{attribute_view};
+ghost use Rattle.fm_read.specs.inner.Parts.{body_view, RawBodyFits};
 
 use crate::error::ReadFail;
 use crate::head::{Version, take_head};
 use crate::members::{fields_of, methods_of};
-use crate::parts::{AttributeParts, BodyParts, read_body};
+use crate::parts::{BodyParts, read_body};
 use fm_base::{NoMemory, Seq};
-use fm_code::{ACC_INTERFACE, ClassDef, PieceFail, Pool, Raw, has_flag};
+use fm_code::{ACC_INTERFACE, AttributeParts, ClassDef, PieceFail, Pool, Raw, has_flag};
 use fm_pool::{KnownPool, PoolFail, read_pool};
 use std::alloc::Global;
 

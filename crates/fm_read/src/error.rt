@@ -1,9 +1,8 @@
 // Why a class file isn't read.
 
 ghost use Rattle.std.specs.Prelude.{◌≡◌};
-ghost use Rattle.fm_read.specs.declared.error.FirstFail.TheVariants.{NoMemory as FirstOutOfMemory};
 ghost use Rattle.fm_read.specs.declared.error.ReadFail.TheVariants.{NoMemory as OutOfMemory};
-ghost use Rattle.fm_read.specs.inner.Failures.{first_failure, read_failure};
+ghost use Rattle.fm_read.specs.inner.Failures.{read_failure};
 
 use fm_base::NoMemory;
 use fm_code::PieceFail;
@@ -47,36 +46,6 @@ impl From<PieceFail> for ReadFail {
         match error {
             PieceFail::Malformed => ReadFail::Malformed,
             PieceFail::NoMemory => ReadFail::NoMemory,
-        }
-    }
-}
-
-/// Why `read_first` gives no record.
-#[derive(Clone, Copy, Debug, PartialEq, Eq, Error)]
-pub enum FirstFail {
-    /// No record of the first form spells the bytes.
-    #[error("not of the first form")]
-    NotYet,
-    /// Memory for the record couldn't be had.
-    #[error("out of memory")]
-    NoMemory,
-}
-
-impl From<NoMemory> for FirstFail {
-    ghost from_gives = { λ _ e. e ≡ FirstOutOfMemory };
-
-    fn from(_error: NoMemory) -> FirstFail {
-        FirstFail::NoMemory
-    }
-}
-
-impl From<ReadFail> for FirstFail {
-    ghost from_gives = { λ f e. e ≡ first_failure f };
-
-    fn from(error: ReadFail) -> FirstFail {
-        match error {
-            ReadFail::NoMemory => FirstFail::NoMemory,
-            ReadFail::Malformed | ReadFail::Version(_, _) => FirstFail::NotYet,
         }
     }
 }

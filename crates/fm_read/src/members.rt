@@ -9,13 +9,13 @@ ghost use Rattle.fm_read.specs.inner.Parts.{member_view, RawMemberFits};
 ghost use Rattle.fm_read.specs.inner.Rules.{AreFieldsOf, AreMethodsOf};
 
 use crate::attributes::{MemberKind, attributes_of};
-use crate::distinct::TextNumbers;
 use crate::fields::field_meets_rules;
 use crate::methods::method_meets_rules;
 use crate::parts::MemberParts;
 use fm_base::{NoMemory, Seq};
 use fm_code::{Member, PieceFail};
 use fm_pool::KnownPool;
+use fm_texts::TextNumbers;
 use std::alloc::Global;
 
 /// The fields of a class, or of an interface, of these parts. `Malformed` comes exactly where there

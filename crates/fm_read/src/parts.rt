@@ -1,19 +1,12 @@
 // A class file cut into its parts, before any attribute is read (JVMS 4.1, 4.5 to 4.7).
 
 ghost use Rattle.std.specs.Prelude.{◌≡◌, map};
-ghost use Rattle.fm_code.specs.inner.Reading.{Gives, counted_at, number_at};
-ghost use Rattle.fm_read.specs.inner.Parts.{attribute_view, body_view, member_view};
-ghost use Rattle.fm_read.specs.inner.Reading.{body_at, member_at, raw_at};
+ghost use Rattle.fm_code.specs.inner.Reading.{Gives, counted_at, number_at, attribute_view, raw_at};
+ghost use Rattle.fm_read.specs.inner.Parts.{body_view, member_view};
+ghost use Rattle.fm_read.specs.inner.Reading.{body_at, member_at};
 
-use fm_code::{PieceFail, take_bytes, take_u16, take_u32};
+use fm_code::{AttributeParts, PieceFail, take_attribute, take_u16};
 use std::alloc::Global;
-
-/// An attribute: the index of its name, and its bytes.
-#[derive(Clone, Copy, Debug)]
-pub(crate) struct AttributeParts<'a> {
-    pub name: u16,
-    pub bytes: &'a [u8],
-}
 
 /// A field or a method.
 #[derive(Debug, Drop)]
@@ -129,15 +122,4 @@ fn take_attributes(
         rest = after;
     }
     Ok((attributes, rest))
-}
-
-/// An attribute, and the bytes after it.
-#[tactic(auto, unfolding(crate::specs::inner::Reading::raw_at))]
-pub(crate) fn take_attribute(bytes: &[u8]) -> Result<(AttributeParts<'_>, &[u8]), PieceFail>
-    ensures { Gives (λ x. (attribute_view x.0, x.1.now)) result (raw_at bytes.now) }
-{
-    let (name, rest) = take_u16(bytes)?;
-    let (size, rest) = take_u32(rest)?;
-    let (bytes, rest) = take_bytes(size as usize, rest)?;
-    Ok((AttributeParts { name, bytes }, rest))
 }

@@ -3,7 +3,7 @@ use Rattle.std.specs.Prelude.{◌≡◌, ℕ, ◌<◌, ◌≤◌, ◌⊎◌, Lis
 use Rattle.std.specs.Str.Parse.{AllDigits, digits_value}
 use Rattle.fm_base.specs.declared.limits.TheConstants.{MAX_FILE_BYTES, MAX_STEPS, DEFAULT_STEPS}
 use Rattle.fm_code.specs.declared.class_file.ClassDef.{ClassDef}
-use Rattle.fm_read.specs.MainClass.{IsMainClass}
+use Rattle.fm_first.specs.MainClass.{IsMainClass}
 use Rattle.fmrun.specs.declared.request.Request.{Request}
 
 -- the step budget, the main class and the file to run

@@ -19,7 +19,7 @@ use fm_base::NoMemory;
 use fm_base::limits::MAX_FILE_BYTES;
 use fm_code::ClassDef;
 use fm_files::{FileFail, Files, PutFail, Sink};
-use fm_read::{FirstFail, read_main_class};
+use fm_first::{FirstFail, read_main_class};
 use fm_tool::{Refusal, put_line, status};
 use std::alloc::Global;
 

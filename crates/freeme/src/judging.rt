@@ -10,7 +10,8 @@ ghost use Rattle.freeme.specs.declared.judging.ClassFail.TheVariants as class_fa
 use crate::class_refusal::ClassRefusal;
 use fm_base::{Name, NoMemory};
 use fm_code::{ClassDef, Member, Place, Pool};
-use fm_read::{ReadFail, read_class, supported, within_limits};
+use fm_profile::{supported, within_limits};
+use fm_read::{ReadFail, read_class};
 use std::alloc::Global;
 
 /// Why there is no class.

@@ -10,7 +10,7 @@ use Rattle.fm_code.specs.declared.constant_pool.Pool.{Pool}
 use Rattle.fm_code.specs.declared.class_file.ClassDef.{ClassDef}
 use Rattle.fm_code.specs.declared.class_file.Member.{Member}
 use Rattle.fm_code.specs.declared.class_file.Raw.{Raw}
-use Rattle.fm_read.specs.declared.parts.AttributeParts.{AttributeParts}
+use Rattle.fm_code.specs.declared.cursor.AttributeParts.{AttributeParts}
 use Rattle.fm_read.specs.declared.head.Version.{Version}
 use Rattle.fm_read.specs.inner.Parts.{RawBody}
 use Rattle.fm_read.specs.inner.Rules.{AreFieldsOf, AreMethodsOf}

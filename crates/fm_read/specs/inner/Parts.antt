@@ -3,12 +3,12 @@ use Rattle.std.specs.Prelude.{ℕ, List, map}
 use Rattle.fm_code.specs.ClassBytes.{code_bytes}
 use Rattle.fm_code.specs.Fits.{CountedFits, FitsTwo, RawFits}
 use Rattle.fm_code.specs.Numbers.{two}
+use Rattle.fm_code.specs.inner.Reading.{attribute_view}
 use Rattle.fm_code.specs.declared.class_file.ClassDef.{ClassDef}
 use Rattle.fm_code.specs.declared.class_file.Member.{Member}
 use Rattle.fm_code.specs.declared.class_file.MemberAttr.{MemberAttr}
 use Rattle.fm_code.specs.declared.class_file.MemberAttr.TheVariants as attribute
 use Rattle.fm_code.specs.declared.class_file.Raw.{Raw}
-use Rattle.fm_read.specs.declared.parts.AttributeParts.{AttributeParts}
 use Rattle.fm_read.specs.declared.parts.MemberParts.{MemberParts}
 use Rattle.fm_read.specs.declared.parts.BodyParts.{BodyParts}
 
@@ -30,9 +30,6 @@ pub record RawBody : Type 0 where
   pub attributes : List Raw
 
 -- ---- the parts that the code cuts
-
-abbrev pub attribute_view : AttributeParts → Raw
-attribute_view a = record { name = a.name; bytes = a.bytes.now }
 
 abbrev pub member_view : MemberParts → RawMember
 member_view m = record { flags = m.flags; name = m.name; descriptor = m.descriptor; attributes = map attribute_view m.attributes.items }

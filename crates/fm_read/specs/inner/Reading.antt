@@ -1,16 +1,7 @@
 -- Cutting what is after the constant pool, from left to right.
 use Rattle.std.specs.Prelude.{ℕ, ◌==◌, List, length, Option, Some, None, if◌then◌else◌}
-use Rattle.fm_code.specs.inner.Reading.{◌>>=◌, number_at, bytes_at, counted_at}
-use Rattle.fm_code.specs.declared.class_file.Raw.{Raw}
+use Rattle.fm_code.specs.inner.Reading.{◌>>=◌, number_at, counted_at, raw_at}
 use Rattle.fm_read.specs.inner.Parts.{RawBody, RawMember}
-
--- an attribute: its name, and so many bytes
-unfoldable pub raw_at : List ℕ → Option (Raw × List ℕ)
-raw_at bytes = do
-  name ← number_at 2 bytes
-  size ← number_at 4 name.1
-  body ← bytes_at size.0 size.1
-  Some (record { name = name.0; bytes = body.0 }, body.1)
 
 -- a field or a method
 unfoldable pub member_at : List ℕ → Option (RawMember × List ℕ)

@@ -2,10 +2,11 @@ use Rattle.std.proofs.Common.{[], List, get_or, map, refl, subst, take}
 use Rattle.std.proofs.lemmas.Result.{err_from_is_err_and}
 use Rattle.fm_code.specs.Fits.{MemberAttrFits, RawFits}
 use Rattle.fm_code.specs.declared.class_file.Raw.{Raw}
-use Rattle.fm_read.specs.declared.parts.AttributeParts.{AttributeParts}
+use Rattle.fm_code.specs.declared.cursor.AttributeParts.{AttributeParts}
 use Rattle.fm_read.specs.inner.MemberRules.{AreAttributesOf, AttributeIsValid}
-use Rattle.fm_read.specs.inner.Parts.{attribute_view, raw_of_attribute}
-use Rattle.fm_read.proofs.FailureLemmas.{handed_out, returned}
+use Rattle.fm_code.specs.inner.Reading.{attribute_view}
+use Rattle.fm_read.specs.inner.Parts.{raw_of_attribute}
+use Rattle.fm_code.proofs.FailureLemmas.{handed_out, returned}
 use Rattle.fm_read.proofs.ReadInTurn.{AreRead-more, AreRead-none, AreRead-nowhere, all_parts, at_hand, turn}
 use Rattle.fm_read.proofs.attributes.attributes_of.Goals as goal
 

@@ -1,6 +1,6 @@
 use Rattle.std.proofs.Common.{map, take}
 use Rattle.fm_read.specs.inner.MemberRules.{AreAttributesOf}
-use Rattle.fm_read.specs.inner.Parts.{attribute_view}
+use Rattle.fm_code.specs.inner.Reading.{attribute_view}
 use Rattle.fm_read.proofs.attributes.attributes_of.Given as goal
 
 abbrev pub invariant-loop-part : goal.invariant-loop-part

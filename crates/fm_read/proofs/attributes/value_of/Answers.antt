@@ -3,7 +3,7 @@ use Rattle.fm_base.proofs.TestFacts.{refuted}
 use Rattle.fm_code.specs.ConstantPool.{entry_at}
 use Rattle.fm_code.specs.Members.{IsValue}
 use Rattle.fm_read.proofs.AttributesLemmas.{IsValueOf-from_number, no_number, not_all, not_value, nothing_left, something_left}
-use Rattle.fm_read.proofs.FailureLemmas.{handed_out, none_read}
+use Rattle.fm_code.proofs.FailureLemmas.{handed_out, none_read}
 use Rattle.fm_read.proofs.attributes.value_of.Goals as goal
 
 pub returns-in_err-value-clause-malformed : goal.returns-in_err-value-clause-malformed

@@ -1,8 +1,8 @@
 use Rattle.std.proofs.Common.{List, [], ◌∷◌, map, rules}
 use Rattle.fm_code.specs.declared.constant_pool.Entry.{Entry}
-use Rattle.fm_read.specs.declared.parts.AttributeParts.{AttributeParts}
+use Rattle.fm_code.specs.declared.cursor.AttributeParts.{AttributeParts}
 use Rattle.fm_read.specs.inner.ClassParts.{AreClasses, HaveNames, IsSuperclass, PartsHaveNames}
-use Rattle.fm_read.specs.inner.Parts.{attribute_view}
+use Rattle.fm_code.specs.inner.Reading.{attribute_view}
 use Rattle.fm_read.proofs.class_file.has_valid_names.Goals as goal
 
 -- what is cut is named as what is read

@@ -1,5 +1,5 @@
 use Rattle.std.proofs.Common.{◌≡◌, map, take}
-use Rattle.fm_read.specs.inner.Parts.{attribute_view}
+use Rattle.fm_code.specs.inner.Reading.{attribute_view}
 use Rattle.fm_read.proofs.class_file.raws_of.Given as goal
 
 abbrev pub invariant-loop-attribute : goal.invariant-loop-attribute

@@ -1,14 +1,14 @@
 use Rattle.std.proofs.Common.{◌↔◌, IsTrue, rules}
 use Rattle.std.proofs.lemmas.Result.{IfOk-weaker}
 use Rattle.fm_code.specs.Members.{AreDistinct}
-use Rattle.fm_read.specs.inner.TextNumbers.{AreKeysDistinct, NumbersTexts}
-use Rattle.fm_read.proofs.KeysInTurn.{distinct_by_texts}
+use Rattle.fm_texts.specs.TextNumbers.{AreKeysDistinct, NumbersTexts}
+use Rattle.fm_texts.proofs.KeysInTurn.{distinct_by_texts}
 use Rattle.fm_read.proofs.members.are_distinct.Goals as goal
 
 pub returns : goal.returns
 returns c =
     let entries = c.args.known.now.entries in
-    let numbers = c.in_ok-numbers.numbers.numbers.items in
+    let numbers = c.in_ok-numbers.numbers in
     let members = c.args.members.now in
     let tells : NumbersTexts entries numbers = search rules in
     let same = distinct_by_texts entries numbers tells members in

@@ -3,10 +3,11 @@ use Rattle.std.specs.List.{AllByRecursion}
 use Rattle.std.proofs.lemmas.Result.{err_from_is_err_and}
 use Rattle.fm_base.proofs.TestFacts.{refuted}
 use Rattle.fm_code.specs.Fits.{RawFits}
-use Rattle.fm_read.specs.declared.parts.AttributeParts.{AttributeParts}
+use Rattle.fm_code.specs.declared.cursor.AttributeParts.{AttributeParts}
 use Rattle.fm_read.specs.inner.MemberRules.{MeetsRules}
-use Rattle.fm_read.specs.inner.Parts.{attribute_view, member_view}
-use Rattle.fm_read.proofs.FailureLemmas.{handed_out, returned}
+use Rattle.fm_code.specs.inner.Reading.{attribute_view}
+use Rattle.fm_read.specs.inner.Parts.{member_view}
+use Rattle.fm_code.proofs.FailureLemmas.{handed_out, returned}
 use Rattle.fm_read.proofs.MembersLemmas.{IsMemberOf-made, made, no_attributes, rules_broken}
 use Rattle.fm_read.proofs.members.member_of.Goals as goal
 

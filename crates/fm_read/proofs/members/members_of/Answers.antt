@@ -3,7 +3,7 @@ use Rattle.std.proofs.lemmas.Result.{err_from_is_err_and}
 use Rattle.fm_code.specs.Fits.{MemberFits}
 use Rattle.fm_read.specs.inner.MemberRules.{AreMembersOf, MemberIsValid}
 use Rattle.fm_read.specs.inner.Parts.{RawMember, RawMemberFits, member_view, raw_of_member}
-use Rattle.fm_read.proofs.FailureLemmas.{handed_out, returned}
+use Rattle.fm_code.proofs.FailureLemmas.{handed_out, returned}
 use Rattle.fm_read.proofs.ReadInTurn.{AreRead-more, AreRead-none, AreRead-nowhere, all_parts, at_hand, turn}
 use Rattle.fm_read.proofs.members.members_of.Goals as goal
 

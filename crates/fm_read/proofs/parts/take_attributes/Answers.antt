@@ -1,10 +1,8 @@
 use Rattle.std.proofs.Common.{◌≡◌, ◌++◌, ◌∷◌, [], map}
 use Rattle.std.proofs.lemmas.Result.{err_from_is_err_and}
 use Rattle.std.proofs.lemmas.List.{map_push}
-use Rattle.fm_code.specs.inner.Reading.{counted_at}
+use Rattle.fm_code.specs.inner.Reading.{counted_at, attribute_view, raw_at}
 use Rattle.fm_code.proofs.Several.{goes_on, ends, is_done}
-use Rattle.fm_read.specs.inner.Parts.{attribute_view}
-use Rattle.fm_read.specs.inner.Reading.{raw_at}
 use Rattle.fm_read.proofs.parts.take_attributes.Goals as goal
 
 pub returns-in_err-attribute : goal.returns-in_err-attribute

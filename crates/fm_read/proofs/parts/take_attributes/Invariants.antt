@@ -1,7 +1,5 @@
 use Rattle.std.proofs.Common.{◌≡◌, ◌-◌, map}
-use Rattle.fm_code.specs.inner.Reading.{several_at, counted_at, with_prefix}
-use Rattle.fm_read.specs.inner.Parts.{attribute_view}
-use Rattle.fm_read.specs.inner.Reading.{raw_at}
+use Rattle.fm_code.specs.inner.Reading.{several_at, counted_at, with_prefix, attribute_view, raw_at}
 use Rattle.fm_read.proofs.parts.take_attributes.Given as goal
 
 abbrev pub invariant-loop : goal.invariant-loop

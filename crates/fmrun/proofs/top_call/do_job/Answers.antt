@@ -1,6 +1,6 @@
 use Rattle.std.proofs.Common.{◌≤◌, ◌<◌, ℕ, List, length, subst, arith}
 use Rattle.fm_base.specs.declared.limits.TheConstants.{MAX_FILE_BYTES}
-use Rattle.fm_read.specs.MainClass.{IsMainClass}
+use Rattle.fm_first.specs.MainClass.{IsMainClass}
 use Rattle.fm_tool.proofs.OutsideLemmas.{holds_such, no_fault_unless_risen}
 use Rattle.fmrun.specs.Request.{job_of, IsAccepted}
 use Rattle.fmrun.proofs.TopCallLemmas.{comes_of_class}

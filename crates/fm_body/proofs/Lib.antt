@@ -1,0 +1,5 @@
+pub mod PlaceLaws
+pub mod TablePieces
+pub mod AttributePieces
+pub mod ItemLaws
+pub mod CodeLaws

@@ -1,0 +1,2 @@
+pub mod MainClass
+pub mod inner

@@ -1,0 +1,6 @@
+pub mod FloatingLemmas
+pub mod LimitLemmas
+pub mod MarkLemmas
+pub mod SpelledLemmas
+pub mod SurrogateLemmas
+pub mod UnitLemmas

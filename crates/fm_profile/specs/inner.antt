@@ -1,0 +1,3 @@
+pub mod ClassNames
+pub mod Declared
+pub mod FloatingTypes

@@ -1,0 +1,3 @@
+pub mod Entries
+pub mod NameParts
+pub mod Units
