@@ -4,6 +4,7 @@
 
 mod classes;
 mod computes;
+mod every_part;
 mod samples;
 #[cfg(test)]
 mod tests;
@@ -13,4 +14,5 @@ pub use classes::{
     PRINTS_SUM, RETURNS,
 };
 pub use computes::{COMPUTED, COMPUTES};
+pub use every_part::{EVERY_PART, INTERFACE};
 pub use samples::{ClassSample, MethodSample};

@@ -22,6 +22,13 @@ fn each_file_has_its_length(rt: HostRuntime) -> Result<(), Fail> {
 }
 
 #[test]
+fn the_files_of_every_part_have_their_lengths(rt: HostRuntime) -> Result<(), Fail> {
+    assert_eq!(rt; EVERY_PART.bytes(rt.alloc())?.len(), 579);
+    assert_eq!(rt; INTERFACE.bytes(rt.alloc())?.len(), 134);
+    Ok(())
+}
+
+#[test]
 fn parts_stand_one_after_the_other(rt: HostRuntime) -> Result<(), Fail> {
     let bytes: &[u8] = b"\xca\xfe\xba\xbe\0\0\0\x31\0\x08\
         \x01\0\x01M\
