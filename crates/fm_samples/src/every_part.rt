@@ -38,7 +38,7 @@ pub const EVERY_PART: ClassSample<'static> = ClassSample {
         b"\x06\x3f\xf0\0\0\0\0\0\0", // 35 and 36: Double 1.0
         b"\x01\0\x0aSourceFile", // 37
         b"\x01\0\x06M.java", // 38
-        b"\x01\0\x03()I", // 39
+        b"\x01\0\x05()LM;", // 39
     ],
     flags: b"\x04\x21",
     interfaces: b"\0\x01\0\x09",
@@ -96,7 +96,7 @@ pub const EVERY_PART: ClassSample<'static> = ClassSample {
             descriptor: b"\0\x0b",
             ..MAIN
         },
-        // y()I, abstract
+        // y()LM;, abstract
         MethodSample {
             flags: b"\x04\x01",
             name: b"\0\x1d",

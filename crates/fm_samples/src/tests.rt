@@ -23,7 +23,7 @@ fn each_file_has_its_length(rt: HostRuntime) -> Result<(), Fail> {
 
 #[test]
 fn the_files_of_every_part_have_their_lengths(rt: HostRuntime) -> Result<(), Fail> {
-    assert_eq!(rt; EVERY_PART.bytes(rt.alloc())?.len(), 579);
+    assert_eq!(rt; EVERY_PART.bytes(rt.alloc())?.len(), 581);
     assert_eq!(rt; INTERFACE.bytes(rt.alloc())?.len(), 134);
     Ok(())
 }

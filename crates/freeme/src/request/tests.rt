@@ -1,6 +1,7 @@
 // What words ask for, in clap's ways.
 
 use crate::request::{Request, request_of};
+use crate::tests::split_words;
 use fm_base::NoMemory;
 use std::alloc::Global;
 use std::test::Fail;
@@ -34,15 +35,6 @@ const CASES: [(&str, Option<&str>); 22] = [
     ("--out d --main M --steps M.class", None),
 ];
 
-// The pieces between single spaces.
-fn split_words(alloc: Global, text: &str) -> Result<Vec<String>, NoMemory> {
-    let mut words = Vec::new(alloc);
-    for word in text.split(' ') {
-        words.push(String::from_str(alloc, word)?)?;
-    }
-    Ok(words)
-}
-
 // The values of a request, a space between each two.
 fn values(alloc: Global, request: &Request<'_>) -> Result<String, NoMemory> {
     let mut text = format!(in alloc; "{} {}", request.folder, request.main)?;
@@ -65,27 +57,37 @@ fn asks(alloc: Global, text: &str, asked: Option<&str>) -> Result<bool, NoMemory
     }
 }
 
+// The place of the first case whose words ask for something else.
+fn first_other(alloc: Global, cases: &[(&str, Option<&str>)]) -> Result<Option<usize>, NoMemory> {
+    for (place, (text, asked)) in cases.iter().enumerate() {
+        if !asks(alloc, text, *asked)? {
+            return Ok(Some(place));
+        }
+    }
+    Ok(None)
+}
+
 #[test]
 fn words_are_read_in_the_ways_of_clap(rt: HostRuntime) -> Result<(), Fail> {
-    let alloc = rt.alloc();
-    for (text, asked) in CASES {
-        assert!(rt; asks(alloc, text, asked)?, "{}", text);
-    }
+    assert_eq!(rt; first_other(rt.alloc(), &CASES)?, None);
     Ok(())
+}
+
+// Whether words with a file of a name of so many letters ask for something.
+fn asks_for_name(alloc: Global, length: u32) -> Result<bool, NoMemory> {
+    let mut words = split_words(alloc, "--out d --main M")?;
+    let mut name = String::new(alloc);
+    for _ in 0..length {
+        name.push('M')?;
+    }
+    words.push(name)?;
+    let request = request_of(alloc, &words)?;
+    Ok(request.is_some())
 }
 
 #[test]
 fn a_value_of_the_limit_is_taken_and_a_longer_one_refused(rt: HostRuntime) -> Result<(), Fail> {
-    let alloc = rt.alloc();
-    let mut words = split_words(alloc, "--out d --main M")?;
-    let mut name = String::new(alloc);
-    for _ in 0..8_388_608 {
-        name.push('M')?;
-    }
-    words.push(name.clone()?)?;
-    assert!(rt; request_of(alloc, &words)?.is_some());
-    name.push('M')?;
-    words.push(name)?;
-    assert!(rt; request_of(alloc, &words)?.is_none());
+    assert!(rt; asks_for_name(rt.alloc(), 8_388_608)?);
+    assert!(rt; !asks_for_name(rt.alloc(), 8_388_609)?);
     Ok(())
 }

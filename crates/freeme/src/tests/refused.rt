@@ -1,0 +1,190 @@
+// Class files that are refused by their version, by a limit, by what isn't supported or isn't built yet.
+
+use crate::tests::M;
+use crate::tests::changes::{
+    Change, LongChange, first_other_part, is_answered, is_change_answered, is_long_change_answered,
+};
+use fm_base::NoMemory;
+use fm_samples::EVERY_PART;
+use std::alloc::Global;
+use std::test::Fail;
+
+// Bytes that stand in the class file once, those that are put in their place, and the end of the line that then comes.
+type Row = (&'static [u8], &'static [u8], &'static str);
+
+const VERSIONS: [Row; 8] = [
+    (b"\0\0\0\x31", b"\0\0\0\x33", "51.0"),
+    (b"\0\0\0\x31", b"\0\0\0\x34", "52.0"),
+    (b"\0\0\0\x31", b"\0\x01\0\x31", "49.1"),
+    (b"\0\0\0\x31", b"\0\x02\0\x2d", "45.2"),
+    (b"\0\0\0\x31", b"\0\x04\0\x2d", "45.4"),
+    (b"\0\0\0\x31", b"\0\x03\0\x2c", "44.3"),
+    (b"\0\0\0\x31", b"\0\x03\0\x2e", "46.3"),
+    (b"\0\0\0\x31", b"\xff\xff\xff\xff", "65535.65535"),
+];
+
+const STACKS: [Row; 4] = [
+    (
+        b"\0\x02\0\x04\0\0\0\x5f",
+        b"\x04\x01\0\x04\0\0\0\x5f",
+        "main 1025",
+    ),
+    (
+        b"\0\x02\0\x04\0\0\0\x5f",
+        b"\xff\xff\xff\xff\0\0\0\x5f",
+        "main 65535",
+    ), // and locals
+    (
+        b"\0\x02\0\x04\0\0\0\x5f\x03",
+        b"\x04\x01\0\x04\0\0\0\x5f\x0b",
+        "main 1025",
+    ), // and a float
+    (
+        b"\0\0\0\x01\0\0\0\x01\xb1",
+        b"\x04\x01\0\x01\0\0\0\x01\xb1",
+        "run 1025",
+    ),
+];
+
+const LOCALS: [Row; 2] = [
+    (
+        b"\0\x02\0\x04\0\0\0\x5f",
+        b"\0\x02\x08\x01\0\0\0\x5f",
+        "main 2049",
+    ),
+    (
+        b"\0\x01\0\x01\0\0\0\x05",
+        b"\0\x01\xff\xff\0\0\0\x05",
+        "<init> 65535",
+    ),
+];
+
+const UNSUPPORTED: [Row; 14] = [
+    (b"\x01\0\x01M", b"\x01\0\x02\xc0\x80", "class 0"), // its name has U+0000
+    (b"\x01\0\x01M", b"\x01\0\x03\xed\xa0\x80", "class 0"), // its name has half of a surrogate pair
+    (b"\x01\0\x01J", b"\x01\0\x01F", "y 0"), // a float field
+    (b"\x01\0\x05()LM;", b"\x01\0\x04(D)I", "y 0"), // a double argument
+    (b"\x04\x01\0\x1d", b"\x01\x01\0\x1d", "y 0"), // a native method
+    (b"\x12\x13\x57", b"\x12\x02\x57", "main 52"), // ldc of a class
+    (b"\x12\x13\x57", b"\x12\x22\x57", "main 52"), // ldc of a float
+    (b"\x14\0\x14\x40", b"\x14\0\x23\x40", "main 55"), // ldc2_w of a double
+    (b"\xc4\x15\0\x03", b"\xc4\x17\xff\x03", "main 69"), // a wide fload, above the locals
+    (b"\xa7\0\x03", b"\xa8\0\x02", "main 74"), // a jsr into an instruction
+    (b"\x01\0\x04[LM;", b"\x01\0\x03[[D", "main 78"), // a cast to an array of doubles
+    (b"\xc0\0\x20\x57", b"\xc0\0\x20\xc2", "main 81"), // a monitorenter
+    (b"\x12\x17\x57", b"\xbc\x06\x57", "main 82"), // an array of floats
+    (b"\x2a\xb7\0\x1a", b"\x22\xb7\0\x1a", "<init> 0"), // fload_0
+];
+
+// 1,025 handlers.
+const HANDLERS: LongChange = (
+    b"\0\0\0\x0d\0\0\0\x01\0\0\0\x01\xb1\0\0",
+    b"\0\0\x20\x15\0\0\0\x01\0\0\0\x01\xb1\x04\x01",
+    b"\0\0\0\x01\0\0\0\0",
+    1_025,
+    b"",
+);
+
+const NOT_YET: [Change; 5] = [
+    (b"\x01\xc0\0\x20", b"\xbb\0\x04\0"), // an object is made
+    (b"\x12\x17\x57", b"\xbc\x0a\x57"), // an array of ints
+    (b"\x01\xc0\0\x20", b"\x03\xbd\0\x20"), // an array of references
+    (b"\xb9\0\x0d\x01\0", b"\xc5\0\x20\x01\0"), // an array of arrays
+    (b"\x0c\0\x0a\0\x0b", b"\x0c\0\x0a\0\x27"), // a method is called that gives a reference
+];
+
+// The place of the first row that isn't refused with this status, by a line of this start.
+fn first_other(
+    alloc: Global,
+    rows: &[Row],
+    status: u8,
+    start: &str,
+) -> Result<Option<usize>, NoMemory> {
+    let class = EVERY_PART.bytes(alloc)?;
+    for (place, (old, new, end)) in rows.iter().enumerate() {
+        let line = format!(in alloc; "{start}{end}\n")?;
+        if !is_change_answered(alloc, class.as_slice(), (*old, *new), status, line.as_str())? {
+            return Ok(Some(place));
+        }
+    }
+    Ok(None)
+}
+
+#[test]
+fn other_versions_are_refused(rt: HostRuntime) -> Result<(), Fail> {
+    let alloc = rt.alloc();
+    assert_eq!(rt;
+        first_other(alloc, &VERSIONS, 67, "refused: version M.class ")?,
+        None
+    );
+    let head = b"\xca\xfe\xba\xbe\0\0\0\x34";
+    assert!(rt; is_answered(alloc, head, 67, "refused: version M.class 52.0\n")?);
+    Ok(())
+}
+
+#[test]
+fn methods_above_a_limit_are_refused(rt: HostRuntime) -> Result<(), Fail> {
+    let alloc = rt.alloc();
+    assert_eq!(rt;
+        first_other(alloc, &STACKS, 68, "refused: limit stack M.class ")?,
+        None
+    );
+    assert_eq!(rt;
+        first_other(alloc, &LOCALS, 68, "refused: limit locals M.class ")?,
+        None
+    );
+    let handlers = "refused: limit handlers M.class run 1025\n";
+    assert!(rt; is_long_change_answered(alloc, HANDLERS, 68, handlers)?);
+    Ok(())
+}
+
+#[test]
+fn what_is_not_supported_or_built_is_refused(rt: HostRuntime) -> Result<(), Fail> {
+    let alloc = rt.alloc();
+    assert_eq!(rt;
+        first_other(alloc, &UNSUPPORTED, 69, "refused: unsupported M.class ")?,
+        None
+    );
+    assert_eq!(rt;
+        first_other_part(alloc, &NOT_YET, 77, "refused: not-yet M.class\n")?,
+        None
+    );
+    Ok(())
+}
+
+// Whether the class M is answered so by other code of its main, from its attribute's length on.
+fn is_code_answered(
+    alloc: Global,
+    code: &'static [u8],
+    status: u8,
+    line: &str,
+) -> Result<bool, NoMemory> {
+    let old = b"\0\0\0\x0d\0\0\0\x01\0\0\0\x01\xb1";
+    is_change_answered(alloc, M, (old, code), status, line)
+}
+
+#[test]
+fn code_of_a_few_bytes_is_refused(rt: HostRuntime) -> Result<(), Fail> {
+    let alloc = rt.alloc();
+    let jumps_astray = b"\0\0\0\x10\0\0\0\x01\0\0\0\x04\xa7\0\x01\xb1";
+    assert!(rt; is_code_answered(alloc, jumps_astray, 66, "refused: malformed M.class\n")?);
+    let drops_float = b"\0\0\0\x0f\0\x01\0\x01\0\0\0\x03\x0c\x57\xb1";
+    assert!(rt;
+        is_code_answered(
+            alloc,
+            drops_float,
+            69,
+            "refused: unsupported M.class main 0\n"
+        )?
+    );
+    let many_locals = b"\0\0\0\x0d\0\0\x08\x01\0\0\0\x01\xb1";
+    assert!(rt;
+        is_code_answered(
+            alloc,
+            many_locals,
+            68,
+            "refused: limit locals M.class main 2049\n"
+        )?
+    );
+    Ok(())
+}
