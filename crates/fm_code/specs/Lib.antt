@@ -13,6 +13,9 @@ pub mod CodeRules
 pub mod Members
 pub mod Spells
 pub mod Profile
+pub mod Edges
+pub mod Live
+pub mod EdgesExample
 pub mod FirstForm
 pub mod Example
 pub mod CompiledExample

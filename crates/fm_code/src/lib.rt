@@ -10,6 +10,7 @@ mod class_file;
 mod code_array;
 mod constant_pool;
 mod cursor;
+mod edges;
 mod error;
 mod insn_bytes;
 mod instructions;
@@ -33,6 +34,7 @@ pub use constant_pool::{
 pub use cursor::{
     AttributeParts, take_attribute, take_bytes, take_u8, take_u16, take_u32, take_u64,
 };
+pub use edges::{law_code_of_method, law_edges, law_live};
 pub use error::PieceFail;
 pub use insn_bytes::InsnBytes;
 pub use instructions::Insn;

@@ -1,0 +1,12 @@
+use Rattle.std.proofs.Common.{refl}
+use Rattle.fm_code.proofs.EdgesLemmas.{edges_listed-from_edge, edge-from_edges_listed, handler_reached, live_example, stored_over}
+use Rattle.fm_code.proofs.edges.law_edges.Goals as goal
+
+pub returns : goal.returns
+returns c = record {
+  listed = λ code j next. (edges_listed-from_edge code j next, edge-from_edges_listed code j next);
+  example = refl;
+  handler_reached = handler_reached;
+  live = live_example;
+  stored_over = stored_over;
+}

@@ -1,0 +1,66 @@
+-- A code with a loop, a switch and a handler: the edges and live locals of the definitions, written out. Bytes and offsets of its items are left out,
+-- since no edge looks at them.
+use Rattle.std.specs.Prelude.{ℕ, ◌+◌, ◌&&◌, nat_le, nat_lt, List, [], ◌∷◌, ◌++◌, length, map, filter, Option, Some, None, pos, if◌then◌else◌}
+use Rattle.fm_code.specs.Edges.{insn_of, falls_through}
+use Rattle.fm_code.specs.SpellsCode.{targets_of}
+use Rattle.fm_code.specs.declared.code_array.Code.{Code}
+use Rattle.fm_code.specs.declared.code_array.Handler.{Handler}
+use Rattle.fm_code.specs.declared.code_array.Item.{Item}
+use Rattle.fm_code.specs.declared.operations.Reg.TheVariants as reg
+use Rattle.fm_code.specs.declared.instructions.Insn.{Insn}
+use Rattle.fm_code.specs.declared.instructions.Insn.TheVariants as insn
+
+-- the numbers to which item j leads where it ends as usual
+abbrev pub onward : ℕ → Option Insn → List ℕ
+onward j None = []
+onward j (Some i) = targets_of i ++ (if falls_through i then (j + 1) ∷ [] else [])
+
+-- the handlers of item j
+abbrev pub handlers_of : Code → ℕ → List ℕ
+handlers_of code j =
+    if nat_lt j (length code.items)
+    then map (λ (h : Handler). h.handler) (filter (λ (h : Handler). nat_le h.start j && nat_lt j h.end) code.handlers)
+    else []
+
+-- the edges of item j in a list that computes: normal ones, and then those to handlers
+abbrev pub edges_listed : Code → ℕ → List ℕ
+edges_listed code j = filter (λ next. nat_lt next (length code.items)) (onward j (insn_of code j) ++ handlers_of code j)
+
+abbrev item_of : Insn → Item
+item_of i = record { offset = 0; bytes = []; insn = i }
+
+abbrev pub example_code : Code
+example_code = record {
+  max_stack = 1;
+  max_locals = 3;
+  items = map item_of
+      (insn.Load reg.Int 1
+      ∷ insn.Table (pos 0) 6 (2 ∷ 4 ∷ [])
+      ∷ insn.Load reg.Ref 0
+      ∷ insn.Throw
+      ∷ insn.Inc 1 (pos 1)
+      ∷ insn.Goto 0
+      ∷ insn.Return None
+      ∷ insn.Store reg.Ref 2
+      ∷ insn.Load reg.Ref 2
+      ∷ insn.Throw
+      ∷ []);
+  length = 0;
+  handlers = record { start = 2; end = 4; handler = 7; catch_class = 0 } ∷ [];
+  attributes = [];
+}
+
+abbrev pub example_edges : List (List ℕ)
+example_edges =
+    (1 ∷ [])
+    ∷ (6 ∷ 2 ∷ 4 ∷ [])
+    ∷ (3 ∷ 7 ∷ [])
+    ∷ (7 ∷ [])
+    ∷ (5 ∷ [])
+    ∷ (0 ∷ [])
+    ∷ []
+    ∷ (8 ∷ [])
+    ∷ (9 ∷ [])
+    ∷ []
+    ∷ []
+    ∷ []
