@@ -1,0 +1,10 @@
+pub mod AnyLemmas
+pub mod CodeFacts
+pub mod EdgeListsLemmas
+pub mod EdgesOfLemmas
+pub mod HandlerLemmas
+pub mod MergeLemmas
+pub mod OnwardLemmas
+pub mod ReachLemmas
+pub mod RisingLemmas
+pub mod RowFacts

@@ -1,0 +1,156 @@
+-- The walk from the first item along the edges.
+use Rattle.std.proofs.Common.{◌≡◌, ℕ, ◌+◌, ◌<◌, ◌⊎◌, ◌↔◌, Bool, true, false, List, [], ◌∷◌, ◌++◌, length, take, replicate, get_or, set, Contains, refl, inl, inr, ⊎_elim, sym, ◌∙◌, subst, arith, length-set}
+use Rattle.std.proofs.lemmas.Bool.{false≢true}
+use Rattle.std.proofs.lemmas.List.{get_or-replicate, length-replicate, length_push}
+use Rattle.std.proofs.lemmas.List.Elements.{Contains-append_left, Contains-push, Contains-push_cases}
+use Rattle.fm_base.specs.Rows.{has}
+use Rattle.fm_code.specs.Edges.{IsEdge, IsFlowPath}
+use Rattle.fm_code.specs.declared.code_array.Code.{Code}
+use Rattle.fm_flow.proofs.RisingLemmas.{Contains-take_more}
+use Rattle.fm_flow.proofs.RowFacts.{has_inside, has-set_same, has-set_kept, has-set_only, unset-set}
+use Rattle.fm_flow.specs.Tables.{AreEdgesOf, AreReachableOf}
+use Rattle.fm_flow.specs.inner.Walks.{Marks, Reaching}
+
+-- ---- a list of items is marked
+
+-- none of them
+pub Marks-none : (row : List Bool) (waiting : List ℕ) → Marks [] row row waiting waiting
+Marks-none row waiting = record {
+  same_length = refl;
+  kept = λ j is. is;
+  listed = λ j (k, inside, there). absurd (omega arith);
+  only_listed = λ j is. inl is;
+  still_waiting = λ j waits. waits;
+  waiting_listed = λ j waits. inl waits;
+  work = refl;
+}
+
+-- one more, which wasn't marked
+pub Marks-new : (list : List ℕ) (i : ℕ) (old row : List Bool) (old_waiting waiting : List ℕ) → i < length list → Marks (take i list) old row old_waiting waiting →
+    get_or list i 0 < length row → has row (get_or list i 0) ≡ false →
+    Marks (take (i + 1) list) old (set row (get_or list i 0) true) old_waiting (waiting ++ get_or list i 0 ∷ [])
+Marks-new list i old row old_waiting waiting inside so_far in_row unmarked =
+    let j = get_or list i 0 in
+    let more : (x : ℕ) → Contains (take (i + 1) list) x ↔ (Contains (take i list) x ⊎ (j ≡ x)) = λ x. Contains-take_more list i x inside in
+    let fewer = unset-set row j in_row unmarked in
+    let longer = length_push waiting j in
+    let work = so_far.work in
+    record {
+      same_length = length-set row j true ∙ so_far.same_length;
+      kept = λ x is. has-set_kept row j x (so_far.kept x is);
+      listed = λ x found.
+          ⊎_elim (λ earlier. has-set_kept row j x (so_far.listed x earlier))
+          (λ (same : j ≡ x). subst (λ (n : ℕ). has (set row j true) n ≡ true) same (has-set_same row j in_row))
+          ((more x).0 found);
+      only_listed = λ x is.
+          ⊎_elim
+          (λ (same : x ≡ j). inr ((more x).1 (inr (sym same)), subst (λ (n : ℕ). Contains (waiting ++ j ∷ []) n) (sym same) (Contains-push waiting j)))
+          (λ was. ⊎_elim (λ before. inl before) (λ now. inr ((more x).1 (inl now.0), Contains-append_left waiting (j ∷ []) x now.1)) (so_far.only_listed x was))
+          (has-set_only row j x is);
+      still_waiting = λ x waits. Contains-append_left waiting (j ∷ []) x (so_far.still_waiting x waits);
+      waiting_listed = λ x waits.
+          ⊎_elim (λ earlier. ⊎_elim (λ before. inl before) (λ now. inr ((more x).1 (inl now))) (so_far.waiting_listed x earlier))
+          (λ same. inr ((more x).1 (inr same)))
+          (Contains-push_cases waiting j x waits);
+      work = omega arith;
+    }
+
+-- one more, which was
+pub Marks-known : (list : List ℕ) (i : ℕ) (old row : List Bool) (old_waiting waiting : List ℕ) → i < length list → Marks (take i list) old row old_waiting waiting →
+    has row (get_or list i 0) ≡ true → Marks (take (i + 1) list) old row old_waiting waiting
+Marks-known list i old row old_waiting waiting inside so_far marked =
+    let j = get_or list i 0 in
+    let more : (x : ℕ) → Contains (take (i + 1) list) x ↔ (Contains (take i list) x ⊎ (j ≡ x)) = λ x. Contains-take_more list i x inside in
+    record {
+      same_length = so_far.same_length;
+      kept = so_far.kept;
+      listed = λ x found.
+          ⊎_elim (λ earlier. so_far.listed x earlier) (λ (same : j ≡ x). subst (λ (n : ℕ). has row n ≡ true) same marked) ((more x).0 found);
+      only_listed = λ x is. ⊎_elim (λ before. inl before) (λ now. inr ((more x).1 (inl now.0), now.1)) (so_far.only_listed x is);
+      still_waiting = so_far.still_waiting;
+      waiting_listed = λ x waits. ⊎_elim (λ before. inl before) (λ now. inr ((more x).1 (inl now))) (so_far.waiting_listed x waits);
+      work = so_far.work;
+    }
+
+-- ---- the walk
+
+-- an edge leads to an item
+pub edge_inside : (code : Code) (j next : ℕ) → IsEdge code j next → next < length code.items
+edge_inside code j next (inl edge) = edge.inside
+edge_inside code j next (inr edge) = edge.inside
+
+-- a path goes on along an edge
+IsFlowPath-more : (code : Code) (a : ℕ) (path : List ℕ) (j next : ℕ) → IsFlowPath code a path j → IsEdge code j next → IsFlowPath code a (path ++ next ∷ []) next
+IsFlowPath-more code a [] j next same edge = (subst (λ (n : ℕ). IsEdge code n next) (sym same) edge, refl)
+IsFlowPath-more code a (b ∷ path) j next (first, rest) edge = (first, IsFlowPath-more code b path j next rest edge)
+
+-- the first item alone is marked, and waits
+pub Reaching-first : (code : Code) (n : ℕ) → 0 < n → n ≡ length code.items → Reaching code (set (replicate n false) 0 true) (0 ∷ [])
+Reaching-first code n some count =
+    let row = replicate n false in
+    let size : length row ≡ n = length-replicate n false in
+    let only : (j : ℕ) → has (set row 0 true) j ≡ true → j ≡ 0 = λ j is.
+    ⊎_elim (λ same. same)
+    (λ (was : has row j ≡ true). absurd (let inside = has_inside row j was in false≢true (sym (get_or-replicate n j false false (omega arith)) ∙ was)))
+    (has-set_only row 0 j is) in
+    record {
+      bits = length-set row 0 true ∙ size ∙ count;
+      first = has-set_same row 0 (omega arith);
+      sound = λ j is. ([], sym (only j is));
+      waiting_marked = λ j waits.
+          ⊎_elim (λ (none : Contains [] j). absurd (let inside = none.1 in omega arith))
+          (λ (same : 0 ≡ j). subst (λ (k : ℕ). has (set row 0 true) k ≡ true) same (has-set_same row 0 (omega arith)))
+          (Contains-push_cases [] 0 j waits);
+      closed = λ j is. inl (subst (λ (k : ℕ). Contains (0 ∷ []) k) (sym (only j is)) (Contains-push [] 0));
+    }
+
+-- an item that waits is one
+pub waiting_inside : (code : Code) (reached : List Bool) (rest : List ℕ) (j : ℕ) → Reaching code reached (rest ++ j ∷ []) → j < length code.items
+waiting_inside code reached rest j so_far =
+    let inside = has_inside reached j (so_far.waiting_marked j (Contains-push rest j)) in
+    let bits = so_far.bits in omega arith
+
+-- the ends of an item's edges are marked
+pub Reaching-more : (code : Code) (edges : List (List ℕ)) (old row : List Bool) (rest waiting : List ℕ) (j : ℕ) → AreEdgesOf code edges →
+    Reaching code old (rest ++ j ∷ []) → Marks (get_or edges j []) old row rest waiting → Reaching code row waiting
+Reaching-more code edges old row rest waiting j all so_far marks =
+    let inside = waiting_inside code old rest j so_far in
+    let lists = all.each j inside in
+    let reached = so_far.sound j (so_far.waiting_marked j (Contains-push rest j)) in
+    record {
+      bits = marks.same_length ∙ so_far.bits;
+      first = marks.kept 0 so_far.first;
+      sound = λ x is.
+          ⊎_elim (λ before. so_far.sound x before)
+          (λ now. (reached.0 ++ x ∷ [], IsFlowPath-more code 0 reached.0 j x reached.1 ((lists.members x).0 now.0)))
+          (marks.only_listed x is);
+      waiting_marked = λ x waits.
+          ⊎_elim (λ before. marks.kept x (so_far.waiting_marked x (Contains-append_left rest (j ∷ []) x before))) (λ now. marks.listed x now) (marks.waiting_listed x waits);
+      closed = λ x is.
+          ⊎_elim
+          (λ before.
+          ⊎_elim
+          (λ (waited : Contains (rest ++ j ∷ []) x).
+          ⊎_elim (λ still. inl (marks.still_waiting x still))
+          (λ (same : j ≡ x). inr (λ next edge. marks.listed next ((lists.members next).1 (subst (λ (n : ℕ). IsEdge code n next) (sym same) edge))))
+          (Contains-push_cases rest j x waited))
+          (λ closed. inr (λ next edge. marks.kept next (closed next edge)))
+          (so_far.closed x before))
+          (λ now. inl now.1)
+          (marks.only_listed x is);
+    }
+
+-- where no item waits, all items along a path are marked
+marked_along : (code : Code) (reached : List Bool) → Reaching code reached [] → (path : List ℕ) (a b : ℕ) → has reached a ≡ true → IsFlowPath code a path b →
+    has reached b ≡ true
+marked_along code reached walked [] a b is same = subst (λ (n : ℕ). has reached n ≡ true) same is
+marked_along code reached walked (next ∷ path) a b is (edge, rest) =
+    marked_along code reached walked path next b
+    (⊎_elim (λ (none : Contains [] a). absurd (let inside = none.1 in omega arith)) (λ closed. closed next edge) (walked.closed a is)) rest
+
+-- and the marked items are the reachable ones
+pub AreReachableOf-all : (code : Code) (reached : List Bool) → Reaching code reached [] → AreReachableOf code reached
+AreReachableOf-all code reached walked = record {
+  one_each = walked.bits;
+  each = λ j. (λ is. walked.sound j is, λ (path, leads). marked_along code reached walked path 0 j walked.first leads);
+}

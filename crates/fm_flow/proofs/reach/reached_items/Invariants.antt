@@ -1,0 +1,9 @@
+use Rattle.std.proofs.Common.{◌+◌, length}
+use Rattle.fm_flow.specs.inner.Walks.{Reaching, unset}
+use Rattle.fm_flow.proofs.reach.reached_items.Given as goal
+
+abbrev pub invariant-loop-j : goal.invariant-loop-j
+invariant-loop-j l = Reaching l.code l.reached l.waiting.items
+
+abbrev pub decreases-loop-j : goal.decreases-loop-j
+decreases-loop-j l = unset l.reached + length l.waiting.items

@@ -1,0 +1,24 @@
+-- What a flow tells of a code: its edges, and which of its items are reachable.
+use Rattle.std.specs.Prelude.{ℕ, Bool, List, [], length}
+use Rattle.std.specs.List.{slice_index_or}
+use Rattle.fm_base.specs.Rows.{has}
+use Rattle.fm_code.specs.declared.code_array.Code.{Code}
+use Rattle.fm_flow.specs.Tables.{AreEdgesOf, AreReachableOf}
+use Rattle.fm_flow.specs.declared.flow.Flow.{Flow}
+
+-- the number of items of a flow
+abbrev pub item_count : Flow → ℕ
+item_count flow = length flow.edges
+
+-- the ends of the edges from an item
+abbrev pub edges_at : Flow → ℕ → List ℕ
+edges_at flow j = slice_index_or flow.edges j []
+
+-- whether an item is reachable
+abbrev pub is_reachable : Flow → ℕ → Bool
+is_reachable flow j = has flow.reached j
+
+-- the flow is that of the code
+pub record IsFlowOf (code : Code) (flow : Flow) : Type 0 where
+  pub edges : AreEdgesOf code flow.edges
+  pub reachable : AreReachableOf code flow.reached
