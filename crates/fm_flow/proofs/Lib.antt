@@ -2,9 +2,13 @@ pub mod AnyLemmas
 pub mod CodeFacts
 pub mod EdgeListsLemmas
 pub mod EdgesOfLemmas
+pub mod HandBackLemmas
 pub mod HandlerLemmas
+pub mod KeptRowLemmas
 pub mod MergeLemmas
 pub mod OnwardLemmas
 pub mod ReachLemmas
 pub mod RisingLemmas
 pub mod RowFacts
+pub mod SettlingLemmas
+pub mod SourcesLemmas

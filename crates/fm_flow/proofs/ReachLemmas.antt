@@ -1,11 +1,15 @@
 -- The walk from the first item along the edges.
-use Rattle.std.proofs.Common.{◌≡◌, ℕ, ◌+◌, ◌<◌, ◌⊎◌, ◌↔◌, Bool, true, false, List, [], ◌∷◌, ◌++◌, length, take, replicate, get_or, set, Contains, refl, inl, inr, ⊎_elim, sym, ◌∙◌, subst, arith, length-set}
-use Rattle.std.proofs.lemmas.Bool.{false≢true}
+use Rattle.std.proofs.Common.{◌≡◌, ℕ, ◌+◌, ◌<◌, ◌≤◌, ◌⊎◌, ◌↔◌, Bool, true, false, List, [], ◌∷◌, ◌++◌, length, take, replicate, get_or, set, Contains, Option, None, IsSomeAnd, refl, inl, inr, ⊎_elim, ap, sym, ◌∙◌, subst, arith, length-set}
+use Rattle.std.proofs.lemmas.Bool.{cases_lt, false≢true}
 use Rattle.std.proofs.lemmas.List.{get_or-replicate, length-replicate, length_push}
 use Rattle.std.proofs.lemmas.List.Elements.{Contains-append_left, Contains-push, Contains-push_cases}
+use Rattle.std.proofs.lemmas.Option.{slice_get_past}
+use Rattle.std.specs.Option.{option_map}
 use Rattle.fm_base.specs.Rows.{has}
-use Rattle.fm_code.specs.Edges.{IsEdge, IsFlowPath}
+use Rattle.fm_code.specs.Edges.{insn_of, LeadsTo, IsEdge, IsFlowPath}
 use Rattle.fm_code.specs.declared.code_array.Code.{Code}
+use Rattle.fm_code.specs.declared.code_array.Item.{Item}
+use Rattle.fm_code.specs.declared.instructions.Insn.{Insn}
 use Rattle.fm_flow.proofs.RisingLemmas.{Contains-take_more}
 use Rattle.fm_flow.proofs.RowFacts.{has_inside, has-set_same, has-set_kept, has-set_only, unset-set}
 use Rattle.fm_flow.specs.Tables.{AreEdgesOf, AreReachableOf}
@@ -78,6 +82,16 @@ Marks-known list i old row old_waiting waiting inside so_far marked =
 pub edge_inside : (code : Code) (j next : ℕ) → IsEdge code j next → next < length code.items
 edge_inside code j next (inl edge) = edge.inside
 edge_inside code j next (inr edge) = edge.inside
+
+-- and comes from one
+pub edge_from_item : (code : Code) (j next : ℕ) → IsEdge code j next → j < length code.items
+edge_from_item code j next (inl edge) =
+    ⊎_elim (λ (inside : j < length code.items). inside)
+    (λ (past : length code.items ≤ j).
+    let none : insn_of code j ≡ None = ap (option_map (λ (item : Item). item.insn)) (slice_get_past code.items j past) in
+    absurd (subst (λ (o : Option Insn). IsSomeAnd o (λ i. LeadsTo i j next)) none edge.leads))
+    (cases_lt j (length code.items))
+edge_from_item code j next (inr edge) = edge.from_item
 
 -- a path goes on along an edge
 IsFlowPath-more : (code : Code) (a : ℕ) (path : List ℕ) (j next : ℕ) → IsFlowPath code a path j → IsEdge code j next → IsFlowPath code a (path ++ next ∷ []) next

@@ -1,9 +1,9 @@
 -- Rows of bits: what a set bit tells.
-use Rattle.std.proofs.Common.{◌≡◌, ◌≢◌, ℕ, ◌+◌, ◌<◌, ◌≤◌, ◌⊎◌, Bool, true, false, not, cond, List, length, get_or, set, inl, inr, ⊎_elim, ap, sym, ◌∙◌, arith}
+use Rattle.std.proofs.Common.{◌≡◌, ◌≢◌, ℕ, zero, suc, ◌+◌, ◌<◌, ◌≤◌, ◌⊎◌, ◌||◌, ◌&&◌, replicate, Bool, true, false, not, cond, List, [], ◌∷◌, length, get_or, set, refl, inl, inr, ⊎_elim, ap, sym, ◌∙◌, arith}
 use Rattle.std.proofs.lemmas.Bool.{cases_eq, cases_lt, false≢true}
-use Rattle.std.proofs.lemmas.List.{get_or-set_same, get_or-set_other, get_or_past}
-use Rattle.std.proofs.lemmas.List.Sums.{sum_by-set}
-use Rattle.fm_base.specs.Rows.{has}
+use Rattle.std.proofs.lemmas.List.{ext_get_or, get_or-set_same, get_or-set_other, get_or_past, get_or-replicate, length-replicate}
+use Rattle.std.proofs.lemmas.List.Sums.{sum_by-cons, sum_by-set}
+use Rattle.fm_base.specs.Rows.{has, IsUnion}
 use Rattle.fm_flow.specs.inner.Walks.{unset}
 
 -- a bit that is set lies in the row
@@ -39,3 +39,74 @@ unset-set row i inside is =
     let change : unset (set row i true) + one (get_or row i false) ≡ unset row + one true = sum_by-set one row i true false inside in
     let was : one (get_or row i false) ≡ 1 = ap one is in
     omega arith
+
+-- ---- rows with no bit set
+
+pub has-replicate : (n i : ℕ) → has (replicate n false) i ≡ false
+has-replicate n i =
+    ⊎_elim (λ below. get_or-replicate n i false false below)
+    (λ past. get_or_past (replicate n false) i false (let e = length-replicate n false in omega arith))
+    (cases_lt i n)
+
+-- the union of such a row and another is the other
+pub IsUnion-unset : (n : ℕ) (row new : List Bool) → length row ≡ n → IsUnion (replicate n false) row new → new ≡ row
+IsUnion-unset n row new size union =
+    ext_get_or false new row (union.same_length ∙ length-replicate n false ∙ sym size)
+    (λ i inside. union.members i ∙ ap (λ b. b || has row i) (has-replicate n i))
+
+-- ---- how many bits aren't set
+
+unset-cons : (x : Bool) (row : List Bool) → unset (x ∷ row) ≡ cond (not x) 1 0 + unset row
+unset-cons x row = sum_by-cons (λ b. cond (not b) 1 0) x row
+
+-- no more where all bits stay set
+pub unset-le : (old new : List Bool) → length new ≡ length old → ((k : ℕ) → has old k ≡ true → has new k ≡ true) → unset new ≤ unset old
+unset-le [] [] same kept = omega arith
+unset-le [] (y ∷ new) same kept = absurd (omega arith)
+unset-le (x ∷ old) [] same kept = absurd (omega arith)
+unset-le (true ∷ old) (true ∷ new) same kept =
+    let rest = unset-le old new (omega arith) (λ k is. kept (suc k) is) in omega (arith, unset-cons true old, unset-cons true new)
+unset-le (true ∷ old) (false ∷ new) same kept = absurd (false≢true (kept 0 refl))
+unset-le (false ∷ old) (true ∷ new) same kept =
+    let rest = unset-le old new (omega arith) (λ k is. kept (suc k) is) in omega (arith, unset-cons false old, unset-cons true new)
+unset-le (false ∷ old) (false ∷ new) same kept =
+    let rest = unset-le old new (omega arith) (λ k is. kept (suc k) is) in omega (arith, unset-cons false old, unset-cons false new)
+
+-- fewer where a bit was added
+pub unset-lt : (old new : List Bool) (i : ℕ) → length new ≡ length old → ((k : ℕ) → has old k ≡ true → has new k ≡ true) → has old i ≡ false → has new i ≡ true →
+    unset new + 1 ≤ unset old
+unset-lt [] [] i same kept was is = absurd (false≢true is)
+unset-lt [] (y ∷ new) i same kept was is = absurd (omega arith)
+unset-lt (x ∷ old) [] i same kept was is = absurd (omega arith)
+unset-lt (true ∷ old) (y ∷ new) zero same kept was is = absurd (false≢true (sym was))
+unset-lt (false ∷ old) (false ∷ new) zero same kept was is = absurd (false≢true is)
+unset-lt (false ∷ old) (true ∷ new) zero same kept was is =
+    let rest = unset-le old new (omega arith) (λ k is. kept (suc k) is) in omega (arith, unset-cons false old, unset-cons true new)
+unset-lt (true ∷ old) (true ∷ new) (suc i) same kept was is =
+    let rest = unset-lt old new i (omega arith) (λ k is. kept (suc k) is) was is in omega (arith, unset-cons true old, unset-cons true new)
+unset-lt (true ∷ old) (false ∷ new) (suc i) same kept was is = absurd (false≢true (kept 0 refl))
+unset-lt (false ∷ old) (true ∷ new) (suc i) same kept was is =
+    let rest = unset-lt old new i (omega arith) (λ k is. kept (suc k) is) was is in omega (arith, unset-cons false old, unset-cons true new)
+unset-lt (false ∷ old) (false ∷ new) (suc i) same kept was is =
+    let rest = unset-lt old new i (omega arith) (λ k is. kept (suc k) is) was is in omega (arith, unset-cons false old, unset-cons false new)
+
+-- ---- tests
+
+pub or_cases : (a b : Bool) → (a || b) ≡ true → (a ≡ true) ⊎ (b ≡ true)
+or_cases true b e = inl refl
+or_cases false b e = inr e
+
+pub or_left : (a b : Bool) → a ≡ true → (a || b) ≡ true
+or_left a b e = ap (λ x. x || b) e
+
+pub or_right : (a b : Bool) → b ≡ true → (a || b) ≡ true
+or_right true b e = refl
+or_right false b e = e
+
+pub and_both : (a b : Bool) → (a && b) ≡ true → (a ≡ true) × (b ≡ true)
+and_both true b e = (refl, e)
+and_both false b e = absurd (false≢true e)
+
+pub not_true : (b : Bool) → not b ≡ true → b ≡ false
+not_true true e = absurd (false≢true e)
+not_true false e = refl

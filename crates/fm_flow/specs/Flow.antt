@@ -2,6 +2,7 @@
 use Rattle.std.specs.Prelude.{ℕ, Bool, List, [], length}
 use Rattle.std.specs.List.{slice_index_or}
 use Rattle.fm_base.specs.Rows.{has}
+use Rattle.fm_code.specs.Edges.{MeetsCodeRules}
 use Rattle.fm_code.specs.declared.code_array.Code.{Code}
 use Rattle.fm_flow.specs.Tables.{AreEdgesOf, AreReachableOf}
 use Rattle.fm_flow.specs.declared.flow.Flow.{Flow}
@@ -18,7 +19,8 @@ edges_at flow j = slice_index_or flow.edges j []
 abbrev pub is_reachable : Flow → ℕ → Bool
 is_reachable flow j = has flow.reached j
 
--- the flow is that of the code
+-- the flow is that of the code, which stands in a class file
 pub record IsFlowOf (code : Code) (flow : Flow) : Type 0 where
+  pub spelled : MeetsCodeRules code
   pub edges : AreEdgesOf code flow.edges
   pub reachable : AreReachableOf code flow.reached

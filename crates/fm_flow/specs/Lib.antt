@@ -1,3 +1,4 @@
 pub mod Tables
 pub mod Flow
+pub mod LiveRows
 pub mod inner

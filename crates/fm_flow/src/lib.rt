@@ -8,7 +8,11 @@ mod edge_lists;
 mod error;
 mod flow;
 mod item_edges;
+mod live_rows;
+mod live_walk;
 mod reach;
+mod sources;
 
 pub use error::FlowFail;
 pub use flow::Flow;
+pub use live_rows::{LiveRows, live};
