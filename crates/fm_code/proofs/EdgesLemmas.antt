@@ -2,15 +2,18 @@
 use Rattle.std.proofs.Common.{◌≡◌, ℕ, zero, suc, ◌+◌, ◌<◌, ◌⊎◌, ◌&&◌, Bool, true, false, cond, nat_le, nat_lt, List, [], ◌∷◌, ◌++◌, length, map, Option, Some, None, IsSomeAnd, Contains, refl, ap, sym, ◌∙◌, subst, inl, inr, ⊎_elim, arith}
 use Rattle.std.proofs.lemmas.Bool.{lt-ltb, le-leb, ltb-true, leb-true, false≢true}
 use Rattle.std.proofs.lemmas.List.Elements.{Contains-append_left, Contains-append_right, Contains-append_cases, All-contains, All-from_recursion}
-use Rattle.std.specs.List.{AllByRecursion, Any, filter}
+use Rattle.std.specs.List.{AllByRecursion, Any, filter, flat_map}
 use Rattle.fm_code.specs.AccessFlags.{is_interface}
+use Rattle.fm_code.proofs.Tested.{read, meant, items_spelled}
+use Rattle.fm_code.specs.ClassBytes.{item_bytes}
 use Rattle.fm_code.specs.CodeRules.{CodeIsValid}
+use Rattle.fm_code.specs.InstructionTable.{insn_at}
 use Rattle.fm_code.specs.Edges.{MeetsCodeRules, insn_of, falls_through, LeadsTo, Catches, IsHandlerEdge, IsEdge, IsReachable}
-use Rattle.fm_code.specs.EdgesExample.{onward, handlers_of, edges_listed, example_code}
+use Rattle.fm_code.specs.EdgesExample.{onward, handlers_of, edges_listed, example_code, example_items}
 use Rattle.fm_code.specs.Live.{Keeps, Live}
 use Rattle.fm_code.specs.Members.{code_of, MethodAttrIsValid, MethodIsValid}
 use Rattle.fm_code.specs.Spells.{HasSpelling}
-use Rattle.fm_code.specs.SpellsCode.{targets_of}
+use Rattle.fm_code.specs.SpellsCode.{targets_of, SpellsCode}
 use Rattle.fm_code.specs.declared.class_file.ClassDef.{ClassDef}
 use Rattle.fm_code.specs.declared.class_file.Member.{Member}
 use Rattle.fm_code.specs.declared.class_file.MemberAttr.{MemberAttr}
@@ -175,24 +178,16 @@ handler_reached = (
   ),
 )
 
-pub live_example : Live example_code 0 4
-live_example = (
-  5 ∷ 0 ∷ 1 ∷ 2 ∷ [],
+pub live_by_handler : Live example_code 0 3
+live_by_handler = (
+  7 ∷ 8 ∷ [],
   (
     refl,
-    edge-from_edges_listed example_code 4 5 (0, omega arith, refl),
+    edge-from_edges_listed example_code 3 7 (0, omega arith, refl),
     (
       refl,
-      edge-from_edges_listed example_code 5 0 (0, omega arith, refl),
-      (
-        refl,
-        edge-from_edges_listed example_code 0 1 (0, omega arith, refl),
-        (
-          refl,
-          edge-from_edges_listed example_code 1 2 (1, omega arith, refl),
-          refl,
-        ),
-      ),
+      edge-from_edges_listed example_code 7 8 (0, omega arith, refl),
+      refl,
     ),
   ),
 )
@@ -200,6 +195,33 @@ live_example = (
 pub stored_over : Live example_code 2 7 → ⊥
 stored_over ([], loads) = absurd cc
 stored_over (next ∷ rest, (keeps, edge, leads)) = false≢true (sym keeps)
+
+example_read : map read example_items ≡ map (meant example_items) example_items
+unfolding insn_at
+example_read = refl
+
+-- the example's bytes spell its items
+example_spelled : SpellsCode (flat_map item_bytes example_items) example_items
+example_spelled = record {
+  bytes_are = refl;
+  offsets = (refl, (refl, (refl, (refl, (refl, (refl, (refl, (refl, (refl, (refl, (refl, (refl, tt))))))))))));
+  spelled = items_spelled example_items example_items example_read refl;
+}
+
+pub example_meets_rules : MeetsCodeRules example_code
+example_meets_rules = (
+  [],
+  record {
+    not_empty = omega arith;
+    not_long = omega arith;
+    measured = refl;
+    spelled = example_spelled;
+    locals = (omega arith, (tt, (omega arith, (tt, (omega arith, (tt, (tt, (omega arith, (omega arith, (tt, (omega arith, (tt, tt))))))))))));
+    operands = (tt, (tt, (tt, (tt, (tt, (tt, (tt, (tt, (tt, (tt, (tt, (tt, tt))))))))))));
+    handlers = (record { not_empty = omega arith; end = omega arith; handler = omega arith; catch_class = inl refl }, tt);
+    attributes = tt;
+  },
+)
 
 -- ---- the code of a method
 

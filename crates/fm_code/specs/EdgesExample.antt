@@ -1,5 +1,4 @@
--- A code with a loop, a switch and a handler: the edges and live locals of the definitions, written out. Bytes and offsets of its items are left out,
--- since no edge looks at them.
+-- A code with a loop, a switch and a handler, and its edges as a list that computes.
 use Rattle.std.specs.Prelude.{ℕ, ◌+◌, ◌&&◌, nat_le, nat_lt, List, [], ◌∷◌, ◌++◌, length, map, filter, Option, Some, None, pos, if◌then◌else◌}
 use Rattle.fm_code.specs.Edges.{insn_of, falls_through}
 use Rattle.fm_code.specs.SpellsCode.{targets_of}
@@ -26,30 +25,36 @@ handlers_of code j =
 abbrev pub edges_listed : Code → ℕ → List ℕ
 edges_listed code j = filter (λ next. nat_lt next (length code.items)) (onward j (insn_of code j) ++ handlers_of code j)
 
-abbrev item_of : Insn → Item
-item_of i = record { offset = 0; bytes = []; insn = i }
+abbrev pub item_of : ℕ → List ℕ → Insn → Item
+item_of offset bytes i = record { offset = offset; bytes = bytes; insn = i }
+
+abbrev pub example_items : List Item
+example_items =
+    item_of 0 (27 ∷ []) (insn.Load reg.Int 1)
+    ∷ item_of 1 (170 ∷ 0 ∷ 0 ∷ 0 ∷ 0 ∷ 0 ∷ 31 ∷ 0 ∷ 0 ∷ 0 ∷ 0 ∷ 0 ∷ 0 ∷ 0 ∷ 1 ∷ 0 ∷ 0 ∷ 0 ∷ 23 ∷ 0 ∷ 0 ∷ 0 ∷ 25 ∷ []) (insn.Table (pos 0) 6 (2 ∷ 4 ∷ []))
+    ∷ item_of 24 (42 ∷ []) (insn.Load reg.Ref 0)
+    ∷ item_of 25 (191 ∷ []) insn.Throw
+    ∷ item_of 26 (132 ∷ 1 ∷ 1 ∷ []) (insn.Inc 1 (pos 1))
+    ∷ item_of 29 (167 ∷ 255 ∷ 227 ∷ []) (insn.Goto 0)
+    ∷ item_of 32 (177 ∷ []) (insn.Return None)
+    ∷ item_of 33 (77 ∷ []) (insn.Store reg.Ref 2)
+    ∷ item_of 34 (42 ∷ []) (insn.Load reg.Ref 0)
+    ∷ item_of 35 (87 ∷ []) insn.Pop
+    ∷ item_of 36 (44 ∷ []) (insn.Load reg.Ref 2)
+    ∷ item_of 37 (191 ∷ []) insn.Throw
+    ∷ []
 
 abbrev pub example_code : Code
 example_code = record {
   max_stack = 1;
   max_locals = 3;
-  items = map item_of
-      (insn.Load reg.Int 1
-      ∷ insn.Table (pos 0) 6 (2 ∷ 4 ∷ [])
-      ∷ insn.Load reg.Ref 0
-      ∷ insn.Throw
-      ∷ insn.Inc 1 (pos 1)
-      ∷ insn.Goto 0
-      ∷ insn.Return None
-      ∷ insn.Store reg.Ref 2
-      ∷ insn.Load reg.Ref 2
-      ∷ insn.Throw
-      ∷ []);
-  length = 0;
+  items = example_items;
+  length = 38;
   handlers = record { start = 2; end = 4; handler = 7; catch_class = 0 } ∷ [];
   attributes = [];
 }
 
+-- of each item, and of the number after the last one
 abbrev pub example_edges : List (List ℕ)
 example_edges =
     (1 ∷ [])
@@ -61,6 +66,8 @@ example_edges =
     ∷ []
     ∷ (8 ∷ [])
     ∷ (9 ∷ [])
+    ∷ (10 ∷ [])
+    ∷ (11 ∷ [])
     ∷ []
     ∷ []
     ∷ []

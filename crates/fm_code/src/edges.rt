@@ -19,13 +19,14 @@ pub fn law_code_of_method()
 
 /// The edges of an item are those of a list that computes, and at a code that is written out they are
 /// the ones that its reader expects: of a loop, a switch and a handler. The handler is reached by its
-/// edge alone, a local is live up to a load behind the switch, and one isn't where it is stored over.
+/// edge alone, and by that edge a local is live which it loads; one isn't live where it is stored over.
 pub fn law_edges()
     ensures listed { (code : Code) (j next : ℕ)
         → (IsEdge code j next) ↔ (Contains (edges_listed code j) next) }
-    ensures example { map (edges_listed example_code) (range_with_len 0 11) ≡ example_edges }
+    ensures example_meets_rules { MeetsCodeRules example_code }
+    ensures example { map (edges_listed example_code) (range_with_len 0 13) ≡ example_edges }
     ensures handler_reached { IsReachable example_code 7 }
-    ensures live { Live example_code 0 4 }
+    ensures live_by_handler { Live example_code 0 3 }
     ensures stored_over { ¬ Live example_code 2 7 }
 {}
 
