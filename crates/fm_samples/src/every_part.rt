@@ -119,8 +119,8 @@ pub const EVERY_PART: ClassSample<'static> = ClassSample {
 /// The interface R, with a field, a method run()V and a start.
 pub const INTERFACE: ClassSample<'static> = ClassSample {
     pool_count: b"\0\x0b",
+    class_name: b"\x01\0\x01R",
     pool: &[
-        b"\x01\0\x01R", // 1
         b"\x07\0\x01", // 2: Class 1
         b"\x01\0\x10java/lang/Object", // 3
         b"\x07\0\x03", // 4: Class 3
