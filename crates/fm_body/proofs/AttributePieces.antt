@@ -6,7 +6,7 @@ use Rattle.std.proofs.lemmas.Bool.{eqb-true, false≢true}
 use Rattle.std.proofs.lemmas.List.{append-nil}
 use Rattle.std.proofs.lemmas.Slice.Eq.{bytes_eq-Decides}
 use Rattle.fm_base.proofs.ListFacts.{AllByRecursion-both, AllByRecursion-weaker}
-use Rattle.fm_base.proofs.OptionFacts.{IsSomeAnd-from_some, Some-from_some_and}
+use Rattle.fm_base.proofs.OptionFacts.{IsSomeAnd-from_some, Some-from_some_and, cond-some_then}
 use Rattle.fm_base.proofs.TestFacts.{bytes_eq-other}
 use Rattle.fm_code.specs.ClassBytes.{attribute_bytes, code_attribute_bytes, counted, line_bytes, raw_bytes, var_bytes}
 use Rattle.fm_code.specs.CodeRules.{CodeAttrIsValid, VarIsValid}
@@ -20,7 +20,7 @@ use Rattle.fm_code.specs.declared.code_array.CodeAttr.TheVariants as code_attrib
 use Rattle.fm_code.specs.declared.code_array.Line.{Line}
 use Rattle.fm_code.specs.declared.code_array.Var.{Var}
 use Rattle.fm_code.specs.declared.constant_pool.Entry.{Entry}
-use Rattle.fm_code.proofs.Pieces.{all_of, bind_some, guard_holds, some_is, Takes, IsPiece, counted_piece, raw_again, raw_piece}
+use Rattle.fm_code.proofs.Pieces.{all_of, bind_some, some_is, Takes, IsPiece, counted_piece, raw_again, raw_piece}
 use Rattle.fm_code.proofs.TableLengths.{lines_fit, vars_fit}
 use Rattle.fm_body.specs.declared.attributes.AttributeKind.{AttributeKind}
 use Rattle.fm_body.specs.declared.attributes.AttributeKind.TheVariants as kind
@@ -43,7 +43,7 @@ whole_takes : {X : Type 0} (piece_at : List ℕ → Option (X × List ℕ)) (spe
     → (bytes : List ℕ) (x : X) → AreBytes bytes → (piece_at bytes >>= whole) ≡ Some x → (spell x ≡ bytes) × Fits x
 whole_takes piece_at spell Fits piece bytes x fits e =
     let a = bind_some (piece_at bytes) whole x e in
-    let g = guard_holds (eqb (length a.0.1) 0) (Some a.0.0) x a.2 in
+    let g = cond-some_then (eqb (length a.0.1) 0) (Some a.0.0) x a.2 in
     let t = piece.takes bytes a.0 fits a.1 in
     let all : bytes ≡ spell a.0.0 = all_of bytes (spell a.0.0) a.0.1 t.0 (eqb-true _ _ g.0) in
     subst (λ y. (spell y ≡ bytes) × Fits y) (some_is a.0.0 x g.1) (sym all, t.1)

@@ -4,7 +4,7 @@ use Rattle.std.specs.List.{AllByRecursion, flat_map}
 use Rattle.std.proofs.lemmas.Bool.{cases_Bool, eqb-true, eqb-false, ne_eqb, leb-true, le-leb}
 use Rattle.std.proofs.lemmas.List.{append-nil}
 use Rattle.fm_base.proofs.ListFacts.{AllByRecursion-both, AllByRecursion-weaker}
-use Rattle.fm_base.proofs.OptionFacts.{same_value}
+use Rattle.fm_base.proofs.OptionFacts.{same_value, cond-some_then}
 use Rattle.fm_code.specs.ClassBytes.{code_attribute_bytes, code_bytes, counted, handler_bytes, item_bytes}
 use Rattle.fm_code.specs.CodeRules.{CodeAttrIsValid, HandlerIsValid}
 use Rattle.fm_code.specs.Fits.{AreBytes, CodeAttrFits, CountedFits, FitsFour, FitsTwo}
@@ -21,7 +21,7 @@ use Rattle.fm_code.specs.declared.constant_pool.Entry.{Entry}
 use Rattle.fm_code.specs.declared.error.PieceFail.{PieceFail}
 use Rattle.fm_code.specs.declared.error.PieceFail.TheVariants as fail
 use Rattle.fm_code.proofs.CodeItems.{AreLaid, AreLaid-code, one_code}
-use Rattle.fm_code.proofs.Pieces.{all_of, then_all, bind_some, guard_holds, some_is, Takes, Takes-then, IsPiece, two_piece, four_piece, bytes_takes, bytes_again, counted_piece}
+use Rattle.fm_code.proofs.Pieces.{all_of, then_all, bind_some, some_is, Takes, Takes-then, IsPiece, two_piece, four_piece, bytes_takes, bytes_again, counted_piece}
 use Rattle.fm_body.specs.inner.Items.{AreItemsOf, ItemIsValid}
 use Rattle.fm_body.specs.inner.Places.{offsets_of}
 use Rattle.fm_body.specs.inner.Reading.{CodeHead, CodeTables, attribute_at, handler_at, head_at, is_code_length, tables_of}
@@ -68,7 +68,7 @@ head_takes bytes x fits e =
     let c = bind_some (number_at 4 b.0.1) (λ size. bytes_at size.0 size.1 >>= done a.0 b.0 size) x b.2 in
     let d = bind_some (bytes_at c.0.0 c.0.1) (done a.0 b.0 c.0) x c.2 in
     let h : CodeHead = record { max_stack = a.0.0; max_locals = b.0.0; code = d.0.0 } in
-    let long = guard_holds (is_code_length c.0.0) (Some (h, d.0.1)) x d.2 in
+    let long = cond-some_then (is_code_length c.0.0) (Some (h, d.0.1)) x d.2 in
     let t0 = two_piece.takes bytes a.0 fits a.1 in
     let t1 = two_piece.takes a.0.1 b.0 t0.0.rest_fits b.1 in
     let t2 = four_piece.takes b.0.1 c.0 t1.0.rest_fits c.1 in
@@ -113,7 +113,7 @@ tables_takes entries offsets code names bytes t fits e =
     let a = bind_some (counted_at (handler_at entries offsets) bytes) (λ handlers. counted_at (attribute_at entries offsets) handlers.1 >>= done handlers) t e in
     let b = bind_some (counted_at (attribute_at entries offsets) a.0.1) (done a.0) t a.2 in
     let made : CodeTables = record { handlers = a.0.0; attributes = b.0.0 } in
-    let g = guard_holds (eqb (length b.0.1) 0) (Some made) t b.2 in
+    let g = cond-some_then (eqb (length b.0.1) 0) (Some made) t b.2 in
     let t0 = (handlers_piece entries offsets code names).takes bytes a.0 fits a.1 in
     let t1 = (attributes_piece entries offsets code names).takes a.0.1 b.0 t0.0.rest_fits b.1 in
     let last = all_of a.0.1 (counted (code_attribute_bytes code) b.0.0) b.0.1 t1.0 (eqb-true _ _ g.0) in

@@ -6,14 +6,17 @@ use Rattle.std.specs.Ordering.{nat_cmp}
 use Rattle.std.proofs.lemmas.List.Sorted.{searched}
 use Rattle.std.specs.Option.{option_map}
 use Rattle.std.proofs.lemmas.Bool.{cases_Bool, cases_lt, eqb-true, eq-eqb, ne_eqb, ltb-true, lt-ltb}
+use Rattle.fm_base.proofs.OptionFacts.{cond-some_then}
 use Rattle.fm_code.specs.ClassBytes.{offset_in, offset_of}
 use Rattle.fm_code.specs.Fits.{FitsTwo}
 use Rattle.fm_code.specs.declared.code_array.TheConstants.{MAX_CODE_BYTES}
 use Rattle.fm_code.specs.declared.code_array.Code.{Code}
 use Rattle.fm_code.specs.declared.code_array.Item.{Item}
 use Rattle.fm_code.proofs.CodeItems.{AreLaid, offset_le_end, offset_rises}
-use Rattle.fm_code.proofs.Pieces.{bind_some, guard_holds, some_is}
-use Rattle.fm_body.specs.inner.Places.{AreRising, find_item, find_place, offsets_of}
+use Rattle.fm_code.proofs.Pieces.{bind_some, some_is}
+use Rattle.fm_decode.specs.inner.Targets.{AreRising}
+use Rattle.fm_decode.proofs.TargetsLemmas.{rising_le}
+use Rattle.fm_body.specs.inner.Places.{find_item, find_place, offsets_of}
 
 -- ---- the place at an offset
 
@@ -55,13 +58,6 @@ find_place-at (offset ∷ offsets) (suc n) rising within =
     rw (ne_eqb offset (get_or offsets n 0) (λ same. omega arith), find_place-at offsets n (rising_rest offset offsets rising) (omega arith)) refl
 
 -- no number is above its offset
-pub rising_le : (offsets : List ℕ) (n : ℕ) → AreRising offsets → n < length offsets → n ≤ get_or offsets n 0
-rising_le offsets zero rising within = omega arith
-rising_le offsets (suc n) rising within =
-    let before = rising_le offsets n rising (omega arith) in
-    let above : get_or offsets n 0 < get_or offsets (suc n) 0 = rising n (suc n) (omega arith) within in
-    omega arith
-
 -- ---- what a binary search finds
 
 rising_sorted : (offsets : List ℕ) → AreRising offsets → (i j : ℕ) → i ≤ j → j < length offsets → get_or offsets i 0 ≤ get_or offsets j 0
@@ -90,7 +86,7 @@ pub find_item-some : (offsets : List ℕ) (target n : ℕ) → find_item offsets
 unfolding find_item
 find_item-some offsets target n e =
     let place = bind_some (find_place offsets target) (λ place. cond (ltb (place + 1) (length offsets)) (Some place) None) n e in
-    let inside = guard_holds (ltb (place.0 + 1) (length offsets)) (Some place.0) n place.2 in
+    let inside = cond-some_then (ltb (place.0 + 1) (length offsets)) (Some place.0) n place.2 in
     let same : place.0 ≡ n = some_is place.0 n inside.1 in
     (place.1 ∙ inside.1, subst (λ (k : ℕ). k + 1 < length offsets) same (ltb-true _ _ inside.0))
 

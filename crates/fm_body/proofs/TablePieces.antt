@@ -2,6 +2,7 @@
 use Rattle.std.proofs.Common.{◌≡◌, ℕ, ◌+◌, ◌-◌, ◌<◌, ◌≤◌, ◌⊎◌, inl, inr, Bool, true, cond, eqb, ltb, List, [], ◌++◌, length, Option, Some, None, IsSome, refl, sym, ap, subst, ◌∙◌, append_assoc, arith}
 use Rattle.std.specs.Option.{is_some}
 use Rattle.std.proofs.lemmas.Bool.{cases_Bool, cases_lt, eqb-true, eq-eqb, ltb-true, lt-ltb}
+use Rattle.fm_base.proofs.OptionFacts.{cond-some_then}
 use Rattle.fm_code.specs.ClassBytes.{handler_bytes, line_bytes, offset_of, var_bytes}
 use Rattle.fm_code.specs.CodeRules.{HandlerIsValid, VarIsValid}
 use Rattle.fm_code.specs.ConstantPool.{class_name_at, utf8_at}
@@ -13,7 +14,7 @@ use Rattle.fm_code.specs.declared.code_array.Handler.{Handler}
 use Rattle.fm_code.specs.declared.code_array.Line.{Line}
 use Rattle.fm_code.specs.declared.code_array.Var.{Var}
 use Rattle.fm_code.specs.declared.constant_pool.Entry.{Entry}
-use Rattle.fm_code.proofs.Pieces.{bind_some, guard_holds, some_is, Takes, Takes-then, IsPiece, two_piece}
+use Rattle.fm_code.proofs.Pieces.{bind_some, some_is, Takes, Takes-then, IsPiece, two_piece}
 use Rattle.fm_body.specs.inner.Places.{find_item, find_place}
 use Rattle.fm_body.specs.inner.Reading.{catch_class_at, handler_at, is_catch_class, line_at, named_item_at, named_place_at, text_index_at, var_at}
 use Rattle.fm_body.proofs.PlaceLaws.{NamePlaces, find_item-at, find_item-some}
@@ -101,7 +102,7 @@ tested_takes : (test : ℕ → Bool) (bytes : List ℕ) (x : ℕ × List ℕ) �
     → Takes bytes (two x.0) x.1 × FitsTwo x.0 × (test x.0 ≡ true)
 tested_takes test bytes x fits e =
     let a = bind_some (number_at 2 bytes) (λ index. cond (test index.0) (Some index) None) x e in
-    let passed = guard_holds (test a.0.0) (Some a.0) x a.2 in
+    let passed = cond-some_then (test a.0.0) (Some a.0) x a.2 in
     let t = two_piece.takes bytes a.0 fits a.1 in
     subst (λ (y : ℕ × List ℕ). Takes bytes (two y.0) y.1 × FitsTwo y.0 × (test y.0 ≡ true)) (some_is a.0 x passed.1) (t.0, t.1, passed.0)
 
@@ -147,7 +148,7 @@ handler_takes entries offsets code names bytes x fits e =
     let c = bind_some (named_item_at offsets b.0.1) (λ handler. catch_class_at entries handler.1 >>= done a.0 b.0 handler) x b.2 in
     let d = bind_some (catch_class_at entries c.0.1) (done a.0 b.0 c.0) x c.2 in
     let made : Handler × List ℕ = (record { start = a.0.0; end = b.0.0; handler = c.0.0; catch_class = d.0.0 }, d.0.1) in
-    let before = guard_holds (ltb a.0.0 b.0.0) (Some made) x d.2 in
+    let before = cond-some_then (ltb a.0.0 b.0.0) (Some made) x d.2 in
     let t0 = place.takes bytes a.0 fits a.1 in
     let t1 = place.takes a.0.1 b.0 t0.0.rest_fits b.1 in
     let t2 = item.takes b.0.1 c.0 t1.0.rest_fits c.1 in

@@ -3,7 +3,8 @@
 
 ghost use Rattle.std.specs.Prelude.{◌≡◌, IfErr, IfOk};
 ghost use Rattle.fm_code.specs.inner.Reading.{Gives};
-ghost use Rattle.fm_body.specs.inner.Places.{AreRising, find_item, find_place, offsets_of};
+ghost use Rattle.fm_decode.specs.inner.Targets.{AreRising};
+ghost use Rattle.fm_body.specs.inner.Places.{find_item, find_place, offsets_of};
 
 use fm_code::{Item, PieceFail};
 use std::alloc::Global;
@@ -22,7 +23,7 @@ impl Model for Places {
 
     ghost view = { λ p. p.offsets.items };
 
-    ghost use Rattle.fm_body.specs.inner.Places.{AreRising};
+    ghost use Rattle.fm_decode.specs.inner.Targets.{AreRising};
 
     ghost invariant = { λ p. AreRising p.offsets.items };
 }

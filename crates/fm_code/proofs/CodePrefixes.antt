@@ -268,7 +268,7 @@ pub record CodeIsRight (entries : List Entry) (code : Code) : Type 0 where
   pub valid : CodeIsValid entries code
 
 -- the items of a valid code lie from 0 to its length
-AreLaid-items : (entries : List Entry) (code : Code) → CodeIsValid entries code → AreLaid 0 code.items code.length
+pub AreLaid-items : (entries : List Entry) (code : Code) → CodeIsValid entries code → AreLaid 0 code.items code.length
 AreLaid-items entries code valid = subst (AreLaid 0 code.items) (sym valid.measured) (AreLaid-code (flat_map item_bytes code.items) code.items valid.spelled)
 
 -- so their offsets fit two bytes and rise

@@ -2,6 +2,7 @@
 use Rattle.std.proofs.Common.{◌≡◌, ℕ, true, false, List, [], ◌∷◌, ◌++◌, length, take, drop, codes, Some, None, refl, ap, sym, ◌∙◌, arith, inl, inr}
 use Rattle.std.proofs.lemmas.List.{append-nil, append_assoc}
 use Rattle.std.specs.List.{flat_map, concat}
+use Rattle.fm_base.proofs.ListFacts.{same_head}
 use Rattle.fm_code.specs.ConstantPool.{AreSlots, SpellsPool}
 use Rattle.fm_code.specs.Numbers.{two, four}
 use Rattle.fm_code.specs.InstructionTable.{insn_at}
@@ -21,7 +22,7 @@ use Rattle.fm_code.specs.declared.class_file.MemberAttr.{MemberAttr}
 use Rattle.fm_code.specs.declared.instructions.Insn.TheVariants as insn
 use Rattle.fm_code.proofs.Tested.{are_bytes, are_plain, entries_fit, entries_valid}
 use Rattle.fm_code.proofs.Prefixes.{Tells, ◌then◌, tells, Cancels-two, cancel_attribute, peel, tells_two, tells_same, tells_nothing}
-use Rattle.fm_code.proofs.PoolPrefixes.{PoolFits, Cancels-pool, IsSpelledEntry, first_of_both, slots_due, slots_spelled}
+use Rattle.fm_code.proofs.PoolPrefixes.{PoolFits, Cancels-pool, IsSpelledEntry, slots_due, slots_spelled}
 use Rattle.fm_code.proofs.ClassLaw.{nothing_follows, name_of, body_of, member_attribute_is, name_fits, body_fits}
 
 -- the bytes are those of the record, by computation
@@ -207,7 +208,7 @@ bytes_after_pool c =
 no_tag_two : (e : Entry) (r s : List ℕ) → IsSpelledEntry e → 2 ∷ r ≡ entry_bytes e ++ s → ⊥
 unfolding entry_bytes
 no_tag_two entry.Second r s spelled e = absurd spelled
-no_tag_two x r s spelled e = let tags = first_of_both _ _ _ _ e in omega arith
+no_tag_two x r s spelled e = let tags = same_head _ _ _ _ e in omega arith
 
 -- so no pool of eight slots begins with it
 no_entries_two : (entries : List Entry) (r s : List ℕ) → length entries ≡ 8 → AreSlots true entries → 2 ∷ r ≡ flat_map entry_bytes entries ++ s → ⊥

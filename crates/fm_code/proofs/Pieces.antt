@@ -1,11 +1,12 @@
 -- What a piece that is read has: its spelling is what was taken from the front, and its spelling is read as it.
-use Rattle.std.proofs.Common.{◌≡◌, ℕ, zero, suc, ◌≤◌, ◌<◌, ◌^◌, Bool, true, false, cond, ltb, List, [], ◌∷◌, ◌++◌, length, take, drop, get_or, Option, Some, None, refl, sym, ap, subst, ◌∙◌, append_assoc, arith}
+use Rattle.std.proofs.Common.{◌≡◌, ℕ, zero, suc, ◌≤◌, ◌<◌, ◌^◌, false, cond, ltb, List, [], ◌∷◌, ◌++◌, length, take, drop, get_or, Option, Some, None, refl, sym, ap, subst, ◌∙◌, append_assoc, arith}
 use Rattle.std.specs.List.{flat_map, AllByRecursion}
 use Rattle.std.proofs.lemmas.Bool.{ltb-false, le-ltb}
 use Rattle.std.proofs.lemmas.List.{append-nil, nil_from_length, take_at, drop_at, take-append-drop, length-append, length-take}
 use Rattle.std.proofs.lemmas.List.Elements.{All-from_get_or, recursion_from_All}
 use Rattle.std.proofs.lemmas.List.Concat.{flat_map-cons}
 use Rattle.byteorder.specs.Endian.{big_number}
+use Rattle.fm_base.proofs.OptionFacts.{cond-some_else}
 use Rattle.fm_code.specs.Numbers.{two, four, eight}
 use Rattle.fm_code.specs.ClassBytes.{counted, raw_bytes}
 use Rattle.fm_code.specs.Fits.{AreBytes, CountedFits, FitsTwo, FitsFour, IsByte, RawFits}
@@ -18,16 +19,6 @@ use Rattle.fm_code.specs.inner.Reading.{◌>>=◌, number_at, bytes_at, several_
 pub bind_some : {A B : Type 0} (o : Option A) (f : A → Option B) (y : B) → (o >>= f) ≡ Some y → (x : A) × (o ≡ Some x) × (f x ≡ Some y)
 bind_some (Some x) f y e = (x, refl, e)
 bind_some None f y e = absurd cc
-
--- a test that has to hold
-pub guard_holds : {A : Type 0} (b : Bool) (o : Option A) (y : A) → cond b o None ≡ Some y → (b ≡ true) × (o ≡ Some y)
-guard_holds true o y e = (refl, e)
-guard_holds false o y e = absurd cc
-
--- a test that may not hold
-pub guard_fails : {A : Type 0} (b : Bool) (o : Option A) (y : A) → cond b None o ≡ Some y → (b ≡ false) × (o ≡ Some y)
-guard_fails true o y e = absurd cc
-guard_fails false o y e = (refl, e)
 
 abbrev done : {A : Type 0} → A → Option A
 done x = Some x
@@ -53,7 +44,7 @@ pub record IsPiece {X : Type 0} (piece_at : List ℕ → Option (X × List ℕ))
 -- enough bytes, their number, and those after it
 pub number_parts : (size : ℕ) (bytes : List ℕ) (x : ℕ × List ℕ) → number_at size bytes ≡ Some x → (size ≤ length bytes) × (big_number size bytes ≡ x.0) × (drop size bytes ≡ x.1)
 number_parts size bytes x e =
-    let g = guard_fails (ltb (length bytes) size) (Some (big_number size bytes, drop size bytes)) x e in
+    let g = cond-some_else (ltb (length bytes) size) (Some (big_number size bytes, drop size bytes)) x e in
     let same = some_is (big_number size bytes, drop size bytes) x g.1 in
     (ltb-false _ _ g.0, ap (λ (p : ℕ × List ℕ). p.0) same, ap (λ (p : ℕ × List ℕ). p.1) same)
 
@@ -121,7 +112,7 @@ one_piece = record { takes = one_takes; again = one_again }
 -- so many bytes as they stand
 pub bytes_takes : (size : ℕ) (bytes : List ℕ) (x : List ℕ × List ℕ) → AreBytes bytes → bytes_at size bytes ≡ Some x → Takes bytes x.0 x.1 × (length x.0 ≡ size) × AreBytes x.0
 bytes_takes size bytes x fits e =
-    let g = guard_fails (ltb (length bytes) size) (Some (take size bytes, drop size bytes)) x e in
+    let g = cond-some_else (ltb (length bytes) size) (Some (take size bytes, drop size bytes)) x e in
     let enough : size ≤ length bytes = ltb-false _ _ g.0 in
     let same = some_is (take size bytes, drop size bytes) x g.1 in
     subst (λ (y : List ℕ × List ℕ). Takes bytes y.0 y.1 × (length y.0 ≡ size) × AreBytes y.0) same

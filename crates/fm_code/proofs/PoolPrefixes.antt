@@ -1,6 +1,7 @@
 -- The constant pool is told by its bytes.
 use Rattle.std.proofs.Common.{◌≡◌, ℕ, Bool, true, false, List, [], ◌∷◌, ◌++◌, length, refl, ap, sym, ◌∙◌, arith, subst}
 use Rattle.std.specs.List.{AllByRecursion, flat_map}
+use Rattle.fm_base.proofs.ListFacts.{same_head, same_tail}
 use Rattle.fm_code.specs.ConstantPool.{AreSlots, takes_two}
 use Rattle.fm_code.specs.Numbers.{two}
 use Rattle.fm_code.specs.ClassBytes.{entry_bytes, pool_bytes}
@@ -15,13 +16,6 @@ abbrev pub IsSpelledEntry : Entry → Type 0
 IsSpelledEntry entry.Second = ⊥
 IsSpelledEntry e = Unit {0}
 
--- the first bytes of equal lists, and the rests
-pub first_of_both : (a b : ℕ) (r s : List ℕ) → a ∷ r ≡ b ∷ s → a ≡ b
-first_of_both a b r s e = cc
-
-rest_of_both : (a b : ℕ) (r s : List ℕ) → a ∷ r ≡ b ∷ s → r ≡ s
-rest_of_both a b r s e = cc
-
 -- two indices
 cancel_pair : (a b c d : ℕ) (r s : List ℕ) → FitsTwo a → FitsTwo b → FitsTwo c → FitsTwo d → (two a ++ two b) ++ r ≡ (two c ++ two d) ++ s →
     (a ≡ c) × (b ≡ d) × (r ≡ s)
@@ -35,34 +29,34 @@ pub cancel_entry : (x y : Entry) (r s : List ℕ) → IsSpelledEntry x → IsSpe
     entry_bytes x ++ r ≡ entry_bytes y ++ s → (x ≡ y) × (r ≡ s)
 unfolding entry_bytes
 cancel_entry (entry.Utf8 a) (entry.Utf8 b) r s _ _ a_fits b_fits e =
-    let count = Cancels-two (length a) (length b) (a ++ r) (b ++ s) a_fits.0 b_fits.0 (peel (two (length a)) a r (two (length b)) b s (rest_of_both 1 1 _ _ e)) in
+    let count = Cancels-two (length a) (length b) (a ++ r) (b ++ s) a_fits.0 b_fits.0 (peel (two (length a)) a r (two (length b)) b s (same_tail 1 1 _ _ e)) in
     let text = split_same a b r s count.0 count.1 in
     (ap entry.Utf8 text.0, text.1)
 cancel_entry (entry.Integer a) (entry.Integer b) r s _ _ a_fits b_fits e =
-    let value = Cancels-signed_four a b r s a_fits b_fits (rest_of_both 3 3 _ _ e) in (ap entry.Integer value.0, value.1)
+    let value = Cancels-signed_four a b r s a_fits b_fits (same_tail 3 3 _ _ e) in (ap entry.Integer value.0, value.1)
 cancel_entry (entry.Float a) (entry.Float b) r s _ _ a_fits b_fits e =
-    let value = Cancels-four a b r s a_fits b_fits (rest_of_both 4 4 _ _ e) in (ap entry.Float value.0, value.1)
+    let value = Cancels-four a b r s a_fits b_fits (same_tail 4 4 _ _ e) in (ap entry.Float value.0, value.1)
 cancel_entry (entry.Long a) (entry.Long b) r s _ _ a_fits b_fits e =
-    let value = Cancels-signed_eight a b r s a_fits b_fits (rest_of_both 5 5 _ _ e) in (ap entry.Long value.0, value.1)
+    let value = Cancels-signed_eight a b r s a_fits b_fits (same_tail 5 5 _ _ e) in (ap entry.Long value.0, value.1)
 cancel_entry (entry.Double a) (entry.Double b) r s _ _ a_fits b_fits e =
-    let value = Cancels-eight a b r s a_fits b_fits (rest_of_both 6 6 _ _ e) in (ap entry.Double value.0, value.1)
+    let value = Cancels-eight a b r s a_fits b_fits (same_tail 6 6 _ _ e) in (ap entry.Double value.0, value.1)
 cancel_entry (entry.Class a) (entry.Class b) r s _ _ a_fits b_fits e =
-    let value = Cancels-two a b r s a_fits b_fits (rest_of_both 7 7 _ _ e) in (ap entry.Class value.0, value.1)
+    let value = Cancels-two a b r s a_fits b_fits (same_tail 7 7 _ _ e) in (ap entry.Class value.0, value.1)
 cancel_entry (entry.Text a) (entry.Text b) r s _ _ a_fits b_fits e =
-    let value = Cancels-two a b r s a_fits b_fits (rest_of_both 8 8 _ _ e) in (ap entry.Text value.0, value.1)
+    let value = Cancels-two a b r s a_fits b_fits (same_tail 8 8 _ _ e) in (ap entry.Text value.0, value.1)
 cancel_entry (entry.Field a b) (entry.Field c d) r s _ _ x_fits y_fits e =
-    let values = cancel_pair a b c d r s x_fits.0 x_fits.1 y_fits.0 y_fits.1 (rest_of_both 9 9 _ _ e) in (λ i. entry.Field (values.0 i) (values.1 i), values.2)
+    let values = cancel_pair a b c d r s x_fits.0 x_fits.1 y_fits.0 y_fits.1 (same_tail 9 9 _ _ e) in (λ i. entry.Field (values.0 i) (values.1 i), values.2)
 cancel_entry (entry.Method a b) (entry.Method c d) r s _ _ x_fits y_fits e =
-    let values = cancel_pair a b c d r s x_fits.0 x_fits.1 y_fits.0 y_fits.1 (rest_of_both 10 10 _ _ e) in (λ i. entry.Method (values.0 i) (values.1 i), values.2)
+    let values = cancel_pair a b c d r s x_fits.0 x_fits.1 y_fits.0 y_fits.1 (same_tail 10 10 _ _ e) in (λ i. entry.Method (values.0 i) (values.1 i), values.2)
 cancel_entry (entry.InterfaceMethod a b) (entry.InterfaceMethod c d) r s _ _ x_fits y_fits e =
-    let values = cancel_pair a b c d r s x_fits.0 x_fits.1 y_fits.0 y_fits.1 (rest_of_both 11 11 _ _ e) in
+    let values = cancel_pair a b c d r s x_fits.0 x_fits.1 y_fits.0 y_fits.1 (same_tail 11 11 _ _ e) in
     (λ i. entry.InterfaceMethod (values.0 i) (values.1 i), values.2)
 cancel_entry (entry.NameAndType a b) (entry.NameAndType c d) r s _ _ x_fits y_fits e =
-    let values = cancel_pair a b c d r s x_fits.0 x_fits.1 y_fits.0 y_fits.1 (rest_of_both 12 12 _ _ e) in
+    let values = cancel_pair a b c d r s x_fits.0 x_fits.1 y_fits.0 y_fits.1 (same_tail 12 12 _ _ e) in
     (λ i. entry.NameAndType (values.0 i) (values.1 i), values.2)
 cancel_entry entry.Second y r s spelled _ _ _ e = absurd spelled
 cancel_entry x entry.Second r s _ spelled _ _ e = absurd spelled
-cancel_entry x y r s _ _ _ _ e = absurd (let tags = first_of_both _ _ _ _ e in omega (arith, tags))
+cancel_entry x y r s _ _ _ _ e = absurd (let tags = same_head _ _ _ _ e in omega (arith, tags))
 
 -- where nothing is due nothing is spelled
 pub slots_due : (x : Entry) (xs : List Entry) → AreSlots true (x ∷ xs) → (x ≡ entry.Second) × AreSlots false xs

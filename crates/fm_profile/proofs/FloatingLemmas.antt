@@ -1,8 +1,8 @@
 -- Where descriptors have floats and doubles: by their last character, and by the letters outside of names.
-use Rattle.std.proofs.Common.{◌≡◌, ◌↔◌, ℕ, zero, suc, ◌-◌, ◌<◌, Bool, true, false, ◌&&◌, ◌||◌, eqb, IsTrue, replicate, List, [], ◌∷◌, ◌++◌, length, length-append, get_or, append_assoc, inl, inr, Option, Some, None, IfSome, refl, sym, ap, ◌∙◌, arith}
+use Rattle.std.proofs.Common.{◌≡◌, ◌↔◌, ℕ, zero, suc, ◌-◌, ◌<◌, Bool, true, false, ◌||◌, eqb, IsTrue, replicate, List, [], ◌∷◌, ◌++◌, length, length-append, get_or, append_assoc, inl, inr, Option, Some, None, IfSome, refl, sym, ap, ◌∙◌, arith}
 use Rattle.std.specs.List.{flat_map, list_any, AllByRecursion}
 use Rattle.std.proofs.Math.Seq.{get_or-append_seam}
-use Rattle.std.proofs.lemmas.Bool.{cases_Bool, both_ways, eqb-true, false≢true}
+use Rattle.std.proofs.lemmas.Bool.{and_parts, cases_Bool, both_ways, eqb-true, false≢true}
 use Rattle.std.proofs.lemmas.List.{append-nil}
 use Rattle.fm_code.specs.Names.{is_binary_name, are_parts, is_primitive_letter, BaseType, primitive, object, IsBaseType, base_descriptor, FieldType, IsFieldType, field_descriptor, MethodType, IsMethodType, result_descriptor, method_descriptor, IsFieldDescriptor, IsArrayName, IsClassName}
 use Rattle.fm_code.specs.Profile.{is_floating, is_floating_result, IsFloatingField, IsFloatingMethod, IsFloatingArray}
@@ -59,10 +59,6 @@ floating_array name is begun =
 
 -- ---- the letters outside of the names of classes
 
-and_second : (a b : Bool) → (a && b) ≡ true → b ≡ true
-and_second true b e = e
-and_second false b e = absurd (false≢true e)
-
 -- no ; stands in a class's name
 skip_name : (begun : Bool) (name rest : List ℕ) → are_parts begun name ≡ true → has_floating true (name ++ 59 ∷ rest) ≡ has_floating false rest
 skip_name begun [] rest ok = refl
@@ -70,8 +66,8 @@ skip_name begun (c ∷ cs) rest ok =
     elim (cases_Bool (eqb c 59)) [
       | inl semicolon ↦ absurd (both_ways (are_parts begun (c ∷ cs)) (ap (λ (b : ℕ). are_parts begun (b ∷ cs)) (eqb-true c 59 semicolon)) ok)
       | inr other ↦ rw other (elim (cases_Bool (eqb c 47)) [
-        | inl slash ↦ skip_name false cs rest (and_second begun (are_parts false cs) (rw slash at ok))
-        | inr character ↦ skip_name true cs rest (and_second _ (are_parts true cs) (rw character at ok))
+        | inl slash ↦ skip_name false cs rest (and_parts begun (are_parts false cs) (rw slash at ok)).1
+        | inr character ↦ skip_name true cs rest (and_parts _ (are_parts true cs) (rw character at ok)).1
       ])
     ]
 

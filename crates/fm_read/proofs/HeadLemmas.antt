@@ -2,12 +2,13 @@
 use Rattle.std.proofs.Common.{◌≡◌, ℕ, eqb, List, ◌++◌, length, take, drop, Some, None, refl, sym, ap, subst, ◌∙◌, append_assoc, arith}
 use Rattle.std.proofs.lemmas.Bool.{eqb-true}
 use Rattle.std.proofs.lemmas.List.{take_at, take-append-drop, length-append}
+use Rattle.fm_base.proofs.OptionFacts.{cond-some_then}
 use Rattle.fm_code.specs.ClassBytes.{magic}
 use Rattle.fm_code.specs.Fits.{AreBytes}
 use Rattle.fm_code.specs.Numbers.{two, four}
 use Rattle.fm_code.specs.Profile.{HasVersion, HasOtherVersion, IsAcceptedVersion}
 use Rattle.fm_code.proofs.Bytes.{length-two, magic_bytes}
-use Rattle.fm_code.proofs.Pieces.{after_piece, guard_holds, some_is, Takes-then, two_piece, four_piece}
+use Rattle.fm_code.proofs.Pieces.{after_piece, some_is, Takes-then, two_piece, four_piece}
 use Rattle.fm_read.specs.inner.Head.{head_bytes, HasHead, head_at, VersionFits}
 use Rattle.fm_code.specs.declared.class_file.TheConstants.{MAGIC}
 use Rattle.fm_read.specs.declared.head.Version.{Version}
@@ -20,7 +21,7 @@ has_head bytes v rest fits e =
     after_piece two_piece a _ (v, rest) t0.rest_fits e0 λ minor c t1 minor_fits e1.
     after_piece two_piece c _ (v, rest) t1.rest_fits e1 λ major d t2 major_fits e2.
     let made : Version = record { major = major; minor = minor } in
-    let tested = guard_holds (eqb number MAGIC) (Some (made, d)) (v, rest) e2 in
+    let tested = cond-some_then (eqb number MAGIC) (Some (made, d)) (v, rest) e2 in
     let same = some_is (made, d) (v, rest) tested.1 in
     let number_is : four number ≡ magic = ap four (eqb-true _ _ tested.0) ∙ magic_bytes in
     let version = Takes-then a (two minor) c (two major) d t1 t2 in

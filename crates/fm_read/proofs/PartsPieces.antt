@@ -2,11 +2,12 @@
 use Rattle.std.proofs.Common.{◌≡◌, ℕ, eqb, List, [], ◌++◌, length, Some, refl, sym, ap, subst, ◌∙◌, append_assoc}
 use Rattle.std.proofs.lemmas.Bool.{eqb-true}
 use Rattle.std.proofs.lemmas.List.{append-nil}
+use Rattle.fm_base.proofs.OptionFacts.{cond-some_then}
 use Rattle.fm_code.specs.Numbers.{two}
 use Rattle.fm_code.specs.ClassBytes.{counted, raw_bytes}
 use Rattle.fm_code.specs.Fits.{AreBytes, CountedFits, FitsTwo}
 use Rattle.fm_code.specs.inner.Reading.{number_at, counted_at, raw_at}
-use Rattle.fm_code.proofs.Pieces.{after_piece, all_of, guard_holds, some_is, Takes, Takes-then, then_all, IsPiece, two_piece, counted_piece, raws_piece}
+use Rattle.fm_code.proofs.Pieces.{after_piece, all_of, some_is, Takes, Takes-then, then_all, IsPiece, two_piece, counted_piece, raws_piece}
 use Rattle.fm_read.specs.inner.Parts.{RawMember, RawBody, RawMemberFits, RawBodyFits}
 use Rattle.fm_read.specs.inner.Reading.{member_at, body_at}
 
@@ -64,7 +65,7 @@ body_takes bytes b fits e =
     after_piece members_piece g _ b t4.rest_fits e4 λ methods h t5 methods_fit e5.
     after_piece raws_piece h _ b t5.rest_fits e5 λ attributes rest t6 attributes_fit e6.
     let made : RawBody = record { flags = flags; this_class = this_class; super_class = super_class; interfaces = interfaces; fields = fields; methods = methods; attributes = attributes } in
-    let last = guard_holds (eqb (length rest) 0) (Some made) b e6 in
+    let last = cond-some_then (eqb (length rest) 0) (Some made) b e6 in
     let h_is = all_of h (counted raw_bytes attributes) rest t6 (eqb-true _ _ last.0) in
     let g_is = then_all g (counted raw_member_bytes methods) h _ t5 h_is in
     let f_is = then_all f (counted raw_member_bytes fields) g _ t4 g_is in

@@ -1,19 +1,14 @@
 -- Names, and descriptors of fields.
-use Rattle.std.proofs.Common.{◌≡◌, ◌↔◌, ℕ, zero, suc, ◌+◌, ◌≤◌, ◌<◌, Bool, true, false, ◌&&◌, not, eqb, replicate, List, [], ◌∷◌, ◌++◌, length, take, drop, length-append, length-drop, append_assoc, get_or, ◌-◌, IsTrue, Option, Some, refl, sym, ap, subst, ◌∙◌, arith, inl, inr}
+use Rattle.std.proofs.Common.{◌≡◌, ◌↔◌, ℕ, zero, suc, ◌+◌, ◌≤◌, ◌<◌, Bool, true, false, not, eqb, replicate, List, [], ◌∷◌, ◌++◌, length, take, drop, length-append, length-drop, append_assoc, get_or, ◌-◌, IsTrue, Option, Some, refl, sym, ap, subst, ◌∙◌, arith, inl, inr}
 use Rattle.std.specs.List.{prefix_len, list_all}
-use Rattle.std.proofs.lemmas.Bool.{cases_Bool, both_ways, eqb-true}
+use Rattle.std.proofs.lemmas.Bool.{and_parts, cases_Bool, both_ways, eqb-true}
 use Rattle.std.proofs.lemmas.List.{take_at, drop_at, length-replicate, take-append-drop, append-nil, take_all, nil_from_length, get_or-drop}
 use Rattle.std.proofs.lemmas.List.Sums.{prefix_len_stops}
+use Rattle.fm_base.proofs.ListFacts.{same_head, same_tail}
 use Rattle.fm_code.specs.Names.{is_name_character, is_unqualified, is_binary_name, are_parts, is_primitive_letter, BaseType, primitive, object, IsBaseType, base_descriptor, FieldType, field_descriptor, words_of, IsFieldDescriptor, IsArrayName}
 use Rattle.fm_texts.specs.inner.NameParts.{first_words, StartsWithClass, StartsWithBase, StartsWithField}
 
 -- ---- lists
-
-pub heads : (a b : ℕ) (xs ys : List ℕ) → a ∷ xs ≡ b ∷ ys → a ≡ b
-heads a b xs ys e = cc
-
-pub tails : (a b : ℕ) (xs ys : List ℕ) → a ∷ xs ≡ b ∷ ys → xs ≡ ys
-tails a b xs ys e = cc
 
 -- a list by its first element
 pub cons_is : (b : ℕ) (xs : List ℕ) → 0 < length xs → get_or xs 0 0 ≡ b → xs ≡ b ∷ take (length xs - 1) (drop 1 xs)
@@ -30,10 +25,6 @@ found_is xs ys e = cc
 
 suc-is : (n : ℕ) → 1 + n ≡ suc n
 suc-is n = omega arith
-
-and_second : (a b : Bool) → (a && b) ≡ true → b ≡ true
-and_second true b e = e
-and_second false b e = absurd cc
 
 -- ---- names
 
@@ -54,8 +45,8 @@ prefix_len-name begun (c ∷ cs) rest ok =
     elim (cases_Bool (eqb c 59)) [
       | inl semicolon ↦ absurd (both_ways (are_parts begun (c ∷ cs)) (ap (λ (b : ℕ). are_parts begun (b ∷ cs)) (eqb-true c 59 semicolon)) ok)
       | inr other ↦ rw other (suc-is (prefix_len is_before (cs ++ 59 ∷ rest)) ∙ ap suc (elim (cases_Bool (eqb c 47)) [
-        | inl slash ↦ prefix_len-name false cs rest (and_second begun (are_parts false cs) (rw slash at ok))
-        | inr character ↦ prefix_len-name true cs rest (and_second _ (are_parts true cs) (rw character at ok))
+        | inl slash ↦ prefix_len-name false cs rest (and_parts begun (are_parts false cs) (rw slash at ok)).1
+        | inr character ↦ prefix_len-name true cs rest (and_parts _ (are_parts true cs) (rw character at ok)).1
       ]))
     ]
 
@@ -87,7 +78,7 @@ pub class_decided : (bytes front back remaining : List ℕ) (n first : ℕ) → 
 class_decided bytes front back remaining n first is front_is back_is split ok rest =
     let dropped = sym back_is ∙ split in
     let ends = ap (λ (b : ℕ). b ∷ remaining) (semicolon bytes n first remaining is dropped) in (
-      λ w. ap found (tails _ _ _ _ (sym dropped ∙ (class_parts bytes rest n is w).1)),
+      λ w. ap found (same_tail _ _ _ _ (sym dropped ∙ (class_parts bytes rest n is w).1)),
       λ e. class_from bytes rest n (ap is_binary_name (sym front_is) ∙ ok) (dropped ∙ ends ∙ ap (λ (r : List ℕ). 59 ∷ r) (found_is remaining rest e)),
     )
 
@@ -105,8 +96,8 @@ class_nameless bytes front rest n is front_is bad w = both_ways (is_binary_name 
 pub base_class : (tail rest : List ℕ) → StartsWithBase (76 ∷ tail) rest ↔ StartsWithClass tail rest
 base_class tail rest = (λ w. there w.base w.is_base w.bytes_are, back) where
   there : (b : BaseType) → IsBaseType b → 76 ∷ tail ≡ base_descriptor b ++ rest → StartsWithClass tail rest
-  there (primitive letter) ok e = absurd (both_ways (is_primitive_letter letter) (ap is_primitive_letter (sym (heads _ _ _ _ e))) ok)
-  there (object name) ok e = record { name = name; is_name = ok; bytes_are = tails _ _ _ _ e ∙ append_assoc name (59 ∷ []) rest }
+  there (primitive letter) ok e = absurd (both_ways (is_primitive_letter letter) (ap is_primitive_letter (sym (same_head _ _ _ _ e))) ok)
+  there (object name) ok e = record { name = name; is_name = ok; bytes_are = same_tail _ _ _ _ e ∙ append_assoc name (59 ∷ []) rest }
 
   back : StartsWithClass tail rest → StartsWithBase (76 ∷ tail) rest
   back w = record { base = object w.name; is_base = w.is_name; bytes_are = ap (λ (t : List ℕ). 76 ∷ t) (w.bytes_are ∙ sym (append_assoc w.name (59 ∷ []) rest)) }
@@ -115,8 +106,8 @@ base_class tail rest = (λ w. there w.base w.is_base w.bytes_are, back) where
 pub base_letter : (c : ℕ) (tail rest : List ℕ) → is_primitive_letter c ≡ true → StartsWithBase (c ∷ tail) rest ↔ (tail ≡ rest)
 base_letter c tail rest letter = (λ w. there w.base w.is_base w.bytes_are, λ e. record { base = primitive c; is_base = letter; bytes_are = ap (λ (t : List ℕ). c ∷ t) e }) where
   there : (b : BaseType) → IsBaseType b → c ∷ tail ≡ base_descriptor b ++ rest → tail ≡ rest
-  there (primitive l) ok e = tails _ _ _ _ e
-  there (object name) ok e = absurd (both_ways (is_primitive_letter c) (ap is_primitive_letter (heads _ _ _ _ e)) letter)
+  there (primitive l) ok e = same_tail _ _ _ _ e
+  there (object name) ok e = absurd (both_ways (is_primitive_letter c) (ap is_primitive_letter (same_head _ _ _ _ e)) letter)
 
 pub base_class_at : (bytes rest : List ℕ) → 0 < length bytes → get_or bytes 0 0 ≡ 76 → StartsWithBase bytes rest ↔ StartsWithClass (take (length bytes - 1) (drop 1 bytes)) rest
 base_class_at bytes rest some first =
@@ -139,8 +130,8 @@ base_nothing rest w = none w.base w.bytes_are where
 pub base_other : (c : ℕ) (tail rest : List ℕ) → (c ≡ 76 → ⊥) → is_primitive_letter c ≡ false → StartsWithBase (c ∷ tail) rest → ⊥
 base_other c tail rest no_class no_letter w = none w.base w.is_base w.bytes_are where
   none : (b : BaseType) → IsBaseType b → c ∷ tail ≡ base_descriptor b ++ rest → ⊥
-  none (primitive l) ok e = both_ways (is_primitive_letter c) no_letter (ap is_primitive_letter (heads _ _ _ _ e) ∙ ok)
-  none (object name) ok e = no_class (heads _ _ _ _ e)
+  none (primitive l) ok e = both_ways (is_primitive_letter c) no_letter (ap is_primitive_letter (same_head _ _ _ _ e) ∙ ok)
+  none (object name) ok e = no_class (same_head _ _ _ _ e)
 
 -- ---- fields
 
@@ -226,8 +217,8 @@ pub array_is : (tail : List ℕ) → IsFieldDescriptor (91 ∷ tail) → IsArray
 array_is tail w = (w.0, (w.1.0, (some w.0.dimensions w.0.base w.1.0.base w.1.1, w.1.1))) where
   some : (dimensions : ℕ) (base : BaseType) → IsBaseType base → 91 ∷ tail ≡ replicate dimensions 91 ++ base_descriptor base → 0 < dimensions
   some (suc n) base ok e = omega arith
-  some zero (primitive letter) ok e = absurd (both_ways (is_primitive_letter letter) (ap is_primitive_letter (sym (heads _ _ _ _ e))) ok)
-  some zero (object name) ok e = absurd (omega (arith, heads _ _ _ _ e))
+  some zero (primitive letter) ok e = absurd (both_ways (is_primitive_letter letter) (ap is_primitive_letter (sym (same_head _ _ _ _ e))) ok)
+  some zero (object name) ok e = absurd (omega (arith, same_head _ _ _ _ e))
 
 -- an array's name begins with [
 pub array_begins : (name : List ℕ) → IsArrayName name → (tail : List ℕ) × (name ≡ 91 ∷ tail)

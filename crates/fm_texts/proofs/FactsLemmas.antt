@@ -13,6 +13,7 @@ use Rattle.fm_texts.specs.Facts.{AreFactsOf, AreFactsAt, AreFacts, counted_words
 use Rattle.fm_texts.specs.inner.Entries.{own_text}
 use Rattle.fm_texts.specs.declared.descriptors.MethodFacts.{MethodFacts}
 use Rattle.fm_texts.specs.declared.facts.TextFacts.{TextFacts}
+use Rattle.fm_texts.proofs.MethodDescriptors.{known, same_facts}
 
 -- the facts of each entry's own text
 abbrev pub AreListed : List Entry → List (Option TextFacts) → Type 0
@@ -48,12 +49,6 @@ listed_all (e ∷ entries) (f ∷ facts) h (suc index) = listed_all entries fact
 
 -- ---- the descriptors of methods
 
-abbrev known : MethodFacts → Option MethodFacts
-known m = Some m
-
-same_method : (m n : MethodFacts) → known m ≡ known n → m ≡ n
-same_method m n e = cc
-
 is_known : (text : List ℕ) (facts : TextFacts) (t : MethodType) → AreFactsOf text facts → IsMethodType t → text ≡ method_descriptor t
     → facts.method ≡ known (record { argument_words = counted_words (sum_by words_of t.parameters); returns_nothing = is_none t.result })
 is_known text facts t of ok spelled = (of.method _).1 (record { type = t; is_type = ok; spelled = spelled; argument_words = refl; returns_nothing = refl })
@@ -62,7 +57,7 @@ is_known text facts t of ok spelled = (of.method _).1 (record { type = t; is_typ
 told : (text : List ℕ) (facts : TextFacts) (m : MethodFacts) (t : MethodType) → AreFactsOf text facts → facts.method ≡ Some m → IsMethodType t → text ≡ method_descriptor t
     → (m.argument_words ≡ counted_words (sum_by words_of t.parameters)) × (m.returns_nothing ≡ is_none t.result)
 told text facts m t of is ok spelled =
-    let same = same_method m _ (sym is ∙ is_known text facts t of ok spelled) in (ap (λ (f : MethodFacts). f.argument_words) same, ap (λ (f : MethodFacts). f.returns_nothing) same)
+    let same = same_facts m _ (sym is ∙ is_known text facts t of ok spelled) in (ap (λ (f : MethodFacts). f.argument_words) same, ap (λ (f : MethodFacts). f.returns_nothing) same)
 
 pub no_method : (text : List ℕ) (facts : TextFacts) (t : MethodType) → AreFactsOf text facts → facts.method ≡ None → IsMethodType t → text ≡ method_descriptor t → ⊥
 no_method text facts t of is ok spelled = let some = is_known text facts t of ok spelled in cc

@@ -12,7 +12,8 @@ use Rattle.fm_code.specs.Names.{is_primitive_letter, BaseType, primitive, object
 use Rattle.fm_texts.specs.Facts.{counted_words, AreMethodFacts}
 use Rattle.fm_texts.specs.inner.NameParts.{first_words, StartsWithField, AreResultFacts}
 use Rattle.fm_texts.specs.declared.descriptors.MethodFacts.{MethodFacts}
-use Rattle.fm_texts.proofs.DescriptorsLemmas.{heads, tails, words_of-first}
+use Rattle.fm_base.proofs.ListFacts.{same_head, same_tail}
+use Rattle.fm_texts.proofs.DescriptorsLemmas.{words_of-first}
 
 -- the rest of a method's descriptor, before it arguments of so many words
 pub record IsMethodRest (facts : MethodFacts) (words : ℕ) (rest : List ℕ) : Type 0 where
@@ -32,7 +33,7 @@ method_start facts bytes = (
     result = w.type.result;
     are_types = w.is_type.parameters;
     is_type = w.is_type.result;
-    spelled = tails _ _ _ _ w.spelled;
+    spelled = same_tail _ _ _ _ w.spelled;
     argument_words = w.argument_words ∙ ap counted_words (none_yet (sum_by words_of w.type.parameters));
     returns_nothing = w.returns_nothing;
   },
@@ -54,9 +55,9 @@ method_begins facts d w = (_, w.spelled)
 closes : (t : FieldType) (rest more : List ℕ) → IsFieldType t → field_descriptor t ++ rest ≡ 41 ∷ more → ⊥
 closes t rest more ok e = by t.dimensions t.base ok.base e where
   by : (dimensions : ℕ) (base : BaseType) → IsBaseType base → (replicate dimensions 91 ++ base_descriptor base) ++ rest ≡ 41 ∷ more → ⊥
-  by (suc n) base ok e = omega (arith, heads _ _ _ _ e)
-  by zero (primitive letter) ok e = both_ways (is_primitive_letter letter) (ap is_primitive_letter (heads _ _ _ _ e)) ok
-  by zero (object name) ok e = omega (arith, heads _ _ _ _ e)
+  by (suc n) base ok e = omega (arith, same_head _ _ _ _ e)
+  by zero (primitive letter) ok e = both_ways (is_primitive_letter letter) (ap is_primitive_letter (same_head _ _ _ _ e)) ok
+  by zero (object name) ok e = omega (arith, same_head _ _ _ _ e)
 
 -- the first argument, and those after it
 argument_apart : (t : FieldType) (ts : List FieldType) (more : List ℕ) → flat_map field_descriptor (t ∷ ts) ++ more ≡ field_descriptor t ++ (flat_map field_descriptor ts ++ more)
@@ -129,14 +130,14 @@ method_done facts words text fits w =
 not_v : (t : FieldType) → IsFieldType t → 86 ∷ [] ≡ field_descriptor t → ⊥
 not_v t ok e = by t.dimensions t.base ok.base e where
   by : (dimensions : ℕ) (base : BaseType) → IsBaseType base → 86 ∷ [] ≡ replicate dimensions 91 ++ base_descriptor base → ⊥
-  by (suc n) base ok e = omega (arith, heads _ _ _ _ e)
-  by zero (primitive letter) ok e = both_ways (is_primitive_letter letter) (ap is_primitive_letter (sym (heads _ _ _ _ e))) ok
-  by zero (object name) ok e = omega (arith, heads _ _ _ _ e)
+  by (suc n) base ok e = omega (arith, same_head _ _ _ _ e)
+  by zero (primitive letter) ok e = both_ways (is_primitive_letter letter) (ap is_primitive_letter (sym (same_head _ _ _ _ e))) ok
+  by zero (object name) ok e = omega (arith, same_head _ _ _ _ e)
 
-abbrev known : MethodFacts → Option MethodFacts
+abbrev pub known : MethodFacts → Option MethodFacts
 known facts = Some facts
 
-same_facts : (f g : MethodFacts) → known f ≡ known g → f ≡ g
+pub same_facts : (f g : MethodFacts) → known f ≡ known g → f ≡ g
 same_facts f g e = cc
 
 -- V tells that nothing is returned

@@ -7,7 +7,8 @@ use Rattle.std.proofs.lemmas.List.Concat.{flat_map-cons}
 use Rattle.fm_base.specs.Texts.{unit_bytes, units, IsModifiedUtf8}
 use Rattle.fm_base.proofs.TextsLemmas.{of_one, of_two, of_three, form_of, unit_bytes-one, unit_bytes-two, unit_bytes-three, IsModifiedUtf8-flat_map}
 use Rattle.fm_texts.specs.inner.Units.{IsPair, IsTriple, StartsWithUnit}
-use Rattle.fm_texts.proofs.DescriptorsLemmas.{heads, tails, found, found_is}
+use Rattle.fm_base.proofs.ListFacts.{same_head, same_tail}
+use Rattle.fm_texts.proofs.DescriptorsLemmas.{found, found_is}
 
 -- ---- a unit by its first bytes
 
@@ -78,17 +79,17 @@ triple_first a b c (second, third, inr least) = (omega (arith, least.0), omega (
 pub one_decided : (a : ℕ) (t rest : List ℕ) → 0 < a → a < 128 → StartsWithUnit (a ∷ t) rest ↔ (found t ≡ found rest)
 one_decided a t rest some low = (λ w. there (front (a ∷ t) rest w), λ e. subst (StartsWithUnit (a ∷ t)) (found_is t rest e) (one_starts a t some low)) where
   there : Front (a ∷ t) rest → found t ≡ found rest
-  there (one b _ _ e) = ap found (tails _ _ _ _ e)
-  there (pair b c is e) = absurd (let first = pair_first b c is in omega (arith, first.0, heads _ _ _ _ e))
-  there (triple b c d is e) = absurd (let first = triple_first b c d is in omega (arith, first.0, heads _ _ _ _ e))
+  there (one b _ _ e) = ap found (same_tail _ _ _ _ e)
+  there (pair b c is e) = absurd (let first = pair_first b c is in omega (arith, first.0, same_head _ _ _ _ e))
+  there (triple b c d is e) = absurd (let first = triple_first b c d is in omega (arith, first.0, same_head _ _ _ _ e))
 
 -- a byte that begins no unit
 pub none_decided : (a : ℕ) (t rest : List ℕ) → (a ≡ 0) ⊎ ((128 ≤ a) × (a < 192)) ⊎ (240 ≤ a) → StartsWithUnit (a ∷ t) rest → ⊥
 none_decided a t rest apart w = there (front (a ∷ t) rest w) where
   there : Front (a ∷ t) rest → ⊥
-  there (one b some low e) = omega (arith, apart, some, low, heads _ _ _ _ e)
-  there (pair b c is e) = let first = pair_first b c is in omega (arith, apart, first.0, first.1, heads _ _ _ _ e)
-  there (triple b c d is e) = let first = triple_first b c d is in omega (arith, apart, first.0, first.1, heads _ _ _ _ e)
+  there (one b some low e) = omega (arith, apart, some, low, same_head _ _ _ _ e)
+  there (pair b c is e) = let first = pair_first b c is in omega (arith, apart, first.0, first.1, same_head _ _ _ _ e)
+  there (triple b c d is e) = let first = triple_first b c d is in omega (arith, apart, first.0, first.1, same_head _ _ _ _ e)
 
 pub nil_decided : (rest : List ℕ) → StartsWithUnit [] rest → ⊥
 nil_decided rest w = there (front [] rest w) where
@@ -107,21 +108,21 @@ pair_decided a bytes t rest b split is = (
   first = pair_first a b is
 
   there : Front (a ∷ bytes) rest → found t ≡ found rest
-  there (one c some low e) = absurd (omega (arith, low, first.0, heads _ _ _ _ e))
-  there (pair c d _ e) = ap found (tails _ _ _ _ (sym split ∙ tails _ _ _ _ e))
-  there (triple c d f also e) = absurd (let high = triple_first c d f also in omega (arith, high.0, first.1, heads _ _ _ _ e))
+  there (one c some low e) = absurd (omega (arith, low, first.0, same_head _ _ _ _ e))
+  there (pair c d _ e) = ap found (same_tail _ _ _ _ (sym split ∙ same_tail _ _ _ _ e))
+  there (triple c d f also e) = absurd (let high = triple_first c d f also in omega (arith, high.0, first.1, same_head _ _ _ _ e))
 
 pub pair_refused : (a : ℕ) (bytes t rest : List ℕ) (b : ℕ) → 192 ≤ a → a < 224 → bytes ≡ b ∷ t → (IsPair a b → ⊥) → StartsWithUnit (a ∷ bytes) rest → ⊥
 pair_refused a bytes t rest b low high split refuses w = there (front (a ∷ bytes) rest w) where
   there : Front (a ∷ bytes) rest → ⊥
-  there (one c some below e) = omega (arith, below, low, heads _ _ _ _ e)
-  there (pair c d is e) = refuses (subst (λ (x : ℕ). IsPair x b) (sym (heads _ _ _ _ e)) (subst (IsPair c) (sym (heads _ _ _ _ (sym split ∙ tails _ _ _ _ e))) is))
-  there (triple c d f is e) = let first = triple_first c d f is in omega (arith, first.0, high, heads _ _ _ _ e)
+  there (one c some below e) = omega (arith, below, low, same_head _ _ _ _ e)
+  there (pair c d is e) = refuses (subst (λ (x : ℕ). IsPair x b) (sym (same_head _ _ _ _ e)) (subst (IsPair c) (sym (same_head _ _ _ _ (sym split ∙ same_tail _ _ _ _ e))) is))
+  there (triple c d f is e) = let first = triple_first c d f is in omega (arith, first.0, high, same_head _ _ _ _ e)
 
 pub pair_short : (a : ℕ) (bytes rest : List ℕ) → 192 ≤ a → a < 224 → length bytes ≡ 0 → StartsWithUnit (a ∷ bytes) rest → ⊥
 pair_short a bytes rest low high short w = there (front (a ∷ bytes) rest w) where
   there : Front (a ∷ bytes) rest → ⊥
-  there (one c some below e) = omega (arith, below, low, heads _ _ _ _ e)
+  there (one c some below e) = omega (arith, below, low, same_head _ _ _ _ e)
   there (pair c d is e) = omega (arith, short, ap length e)
   there (triple c d f is e) = omega (arith, short, ap length e)
 
@@ -138,9 +139,9 @@ triple_decided a bytes more t rest b c split again is = (
   first = triple_first a b c is
 
   there : Front (a ∷ bytes) rest → found t ≡ found rest
-  there (one d some low e) = absurd (omega (arith, low, first.0, heads _ _ _ _ e))
-  there (pair d f also e) = absurd (let low = pair_first d f also in omega (arith, low.1, first.0, heads _ _ _ _ e))
-  there (triple d f g _ e) = ap found (tails _ _ _ _ (tails _ _ _ _ (sym whole ∙ tails _ _ _ _ e)))
+  there (one d some low e) = absurd (omega (arith, low, first.0, same_head _ _ _ _ e))
+  there (pair d f also e) = absurd (let low = pair_first d f also in omega (arith, low.1, first.0, same_head _ _ _ _ e))
+  there (triple d f g _ e) = ap found (same_tail _ _ _ _ (same_tail _ _ _ _ (sym whole ∙ same_tail _ _ _ _ e)))
 
 pub triple_refused : (a : ℕ) (bytes more t rest : List ℕ) (b c : ℕ) → 224 ≤ a → a < 240 → bytes ≡ b ∷ more → more ≡ c ∷ t → (IsTriple a b c → ⊥) → StartsWithUnit (a ∷ bytes) rest → ⊥
 triple_refused a bytes more t rest b c low high split again refuses w = there (front (a ∷ bytes) rest w) where
@@ -148,19 +149,19 @@ triple_refused a bytes more t rest b c low high split again refuses w = there (f
   whole = split ∙ ap (λ (bs : List ℕ). b ∷ bs) again
 
   there : Front (a ∷ bytes) rest → ⊥
-  there (one d some below e) = omega (arith, below, low, heads _ _ _ _ e)
-  there (pair d f is e) = let first = pair_first d f is in omega (arith, first.1, low, heads _ _ _ _ e)
+  there (one d some below e) = omega (arith, below, low, same_head _ _ _ _ e)
+  there (pair d f is e) = let first = pair_first d f is in omega (arith, first.1, low, same_head _ _ _ _ e)
   there (triple d f g is e) =
-      let tail = tails _ _ _ _ e in
-      let second = heads _ _ _ _ (sym whole ∙ tail) in
-      let third = heads _ _ _ _ (tails _ _ _ _ (sym whole ∙ tail)) in
-      refuses (subst (λ (x : ℕ). IsTriple x b c) (sym (heads _ _ _ _ e)) (subst (λ (x : ℕ). IsTriple d x c) (sym second) (subst (IsTriple d f) (sym third) is)))
+      let tail = same_tail _ _ _ _ e in
+      let second = same_head _ _ _ _ (sym whole ∙ tail) in
+      let third = same_head _ _ _ _ (same_tail _ _ _ _ (sym whole ∙ tail)) in
+      refuses (subst (λ (x : ℕ). IsTriple x b c) (sym (same_head _ _ _ _ e)) (subst (λ (x : ℕ). IsTriple d x c) (sym second) (subst (IsTriple d f) (sym third) is)))
 
 pub triple_short : (a : ℕ) (bytes rest : List ℕ) → 224 ≤ a → length bytes < 2 → StartsWithUnit (a ∷ bytes) rest → ⊥
 triple_short a bytes rest low short w = there (front (a ∷ bytes) rest w) where
   there : Front (a ∷ bytes) rest → ⊥
-  there (one d some below e) = omega (arith, below, low, heads _ _ _ _ e)
-  there (pair d f is e) = let first = pair_first d f is in omega (arith, first.1, low, heads _ _ _ _ e)
+  there (one d some below e) = omega (arith, below, low, same_head _ _ _ _ e)
+  there (pair d f is e) = let first = pair_first d f is in omega (arith, first.1, low, same_head _ _ _ _ e)
   there (triple d f g is e) = omega (arith, short, ap length e)
 
 -- ---- one after the other

@@ -1,10 +1,10 @@
 -- A record that some bytes spell can be written.
 use Rattle.std.proofs.Common.{◌≡◌, ℕ, ◌≤◌, inl, inr, Bool, true, false, List, length, subst, sym, ◌∙◌, arith}
-use Rattle.std.specs.List.{AllByRecursion, flat_map}
+use Rattle.std.specs.List.{AllByRecursion}
 use Rattle.std.proofs.lemmas.Bool.{cases_order}
 use Rattle.fm_base.proofs.ListFacts.{AllByRecursion-both, AllByRecursion-weaker}
 use Rattle.fm_code.specs.AccessFlags.{is_interface}
-use Rattle.fm_code.specs.ClassBytes.{offset_of, item_bytes, class_bytes}
+use Rattle.fm_code.specs.ClassBytes.{offset_of, class_bytes}
 use Rattle.fm_code.specs.Fits.{CountedFits, CodeAttrFits, CodeFits, MemberAttrFits, MemberFits}
 use Rattle.fm_code.specs.CodeRules.{VarIsValid, CodeAttrIsValid, CodeIsValid}
 use Rattle.fm_code.specs.Members.{FieldAttrIsValid, FieldIsValid, MethodAttrIsValid, MethodIsValid}
@@ -18,12 +18,9 @@ use Rattle.fm_code.specs.declared.code_array.Code.{Code}
 use Rattle.fm_code.specs.declared.code_array.CodeAttr.{CodeAttr}
 use Rattle.fm_code.specs.declared.code_array.CodeAttr.TheVariants as code_attribute
 use Rattle.fm_code.specs.declared.code_array.Var.{Var}
-use Rattle.fm_code.proofs.CodeItems.{AreLaid, AreLaid-code, offset_le_end, offset_rises}
+use Rattle.fm_code.proofs.CodeItems.{offset_le_end, offset_rises}
+use Rattle.fm_code.proofs.CodePrefixes.{AreLaid-items}
 use Rattle.fm_write.specs.inner.Writable.{OffsetsFit, RangeRises, CodeAttrIsWritable, CodeIsWritable, MemberAttrIsWritable, MemberIsWritable, ClassIsWritable}
-
--- the items lie from 0 to the code's length
-AreLaid-items : (entries : List Entry) (code : Code) → CodeIsValid entries code → AreLaid 0 code.items code.length
-AreLaid-items entries code valid = subst (AreLaid 0 code.items) (sym valid.measured) (AreLaid-code (flat_map item_bytes code.items) code.items valid.spelled)
 
 OffsetsFit-code : (entries : List Entry) (code : Code) → CodeIsValid entries code → OffsetsFit code
 OffsetsFit-code entries code valid = record {

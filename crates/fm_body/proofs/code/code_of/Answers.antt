@@ -5,7 +5,8 @@ use Rattle.fm_code.specs.declared.code_array.Item.{Item}
 use Rattle.fm_code.specs.declared.error.PieceFail.TheVariants as fail
 use Rattle.fm_code.proofs.CodeItems.{AreLaid-code}
 use Rattle.fm_code.proofs.Pieces.{all_bytes}
-use Rattle.fm_body.specs.inner.Places.{AreRising, offsets_of}
+use Rattle.fm_decode.specs.inner.Targets.{AreRising}
+use Rattle.fm_body.specs.inner.Places.{offsets_of}
 use Rattle.fm_body.specs.inner.Reading.{head_at, head_view, tables_of, tables_view}
 use Rattle.fm_body.proofs.CodeLaws.{code_found, head_at-code, head_length, items_there, not_malformed, tables_there, tables_in, tables_bytes, head_of}
 use Rattle.fm_body.proofs.PlaceLaws.{AreRising-laid}

@@ -1,12 +1,10 @@
-use Rattle.std.proofs.Common.{◌≡◌, List, length, ℕ, Option, Some, None, refl, sym, ap, subst, ◌∙◌, arith, get_or}
+use Rattle.std.proofs.Common.{◌≡◌, List, length, ℕ, Some, None, refl, sym, ap, subst, ◌∙◌, arith, get_or}
 use Rattle.fm_texts.specs.inner.NameParts.{AreResultFacts}
 use Rattle.fm_texts.specs.declared.descriptors.MethodFacts.{MethodFacts}
-use Rattle.fm_texts.proofs.DescriptorsLemmas.{cons_is, tails, field_takes, found}
-use Rattle.fm_texts.proofs.MethodDescriptors.{IsMethodRest, method_start, method_next, method_ends, method_done}
+use Rattle.fm_base.proofs.ListFacts.{same_tail}
+use Rattle.fm_texts.proofs.DescriptorsLemmas.{cons_is, field_takes, found}
+use Rattle.fm_texts.proofs.MethodDescriptors.{known, IsMethodRest, method_start, method_next, method_ends, method_done}
 use Rattle.fm_texts.proofs.descriptors.method_facts_after.Goals as goal
-
-abbrev known : MethodFacts → Option MethodFacts
-known m = Some m
 
 no_facts : (m : MethodFacts) → None ≡ known m → ⊥
 no_facts m e = cc
@@ -32,7 +30,7 @@ returns-in-41 c = λ m.
     let decides = c.result_facts.ensures m in
     let known = c.loop-after.invariant.decides m in (
       λ t. known.1 (subst (IsMethodRest m c.loop-after.words) (sym whole) (method_done m c.loop-after.words _ c.loop-after.invariant.fits (decides.0 t))),
-      λ w. let end = method_ends m c.loop-after.words c.loop-after.rest.now c.loop-after.invariant.fits (λ rest w. let none = (c.in_default.ensures rest).0 w in cc) (known.0 w) in decides.1 (subst (λ (text : List ℕ). AreResultFacts c.loop-after.words text m) (tails _ _ _ _ (sym end.1.1 ∙ whole)) end.1.0),
+      λ w. let end = method_ends m c.loop-after.words c.loop-after.rest.now c.loop-after.invariant.fits (λ rest w. let none = (c.in_default.ensures rest).0 w in cc) (known.0 w) in decides.1 (subst (λ (text : List ℕ). AreResultFacts c.loop-after.words text m) (same_tail _ _ _ _ (sym end.1.1 ∙ whole)) end.1.0),
     )
 
 pub returns-in_default-rest-2 : goal.returns-in_default-rest-2

@@ -1,5 +1,6 @@
 use Rattle.std.proofs.Common.{◌≡◌, List, ℕ, arith, subst, sym, ap, ◌∙◌}
-use Rattle.fm_body.specs.inner.Places.{AreRising, find_place}
+use Rattle.fm_decode.specs.inner.Targets.{AreRising}
+use Rattle.fm_body.specs.inner.Places.{find_place}
 use Rattle.fm_body.proofs.PlaceLaws.{place_found, place_missed}
 use Rattle.fm_body.proofs.places.Places.find_place.Goals as goal
 

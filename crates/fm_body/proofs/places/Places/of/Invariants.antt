@@ -1,5 +1,5 @@
 use Rattle.std.proofs.Common.{◌≡◌, map, take}
-use Rattle.fm_body.specs.inner.Places.{item_offset}
+use Rattle.fm_decode.specs.inner.Targets.{item_offset}
 use Rattle.fm_body.proofs.places.Places.of.Given as goal
 
 abbrev pub invariant-loop-item : goal.invariant-loop-item
