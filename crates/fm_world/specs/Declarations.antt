@@ -1,0 +1,106 @@
+-- What a class declares, built in or given: all of it but its code (JVMS 4.1, 4.5, 4.6).
+use Rattle.std.specs.Prelude.{ℕ, ◌+◌, ℤ, Bool, false, List, [], ◌∷◌, map, Option, Some, None, unwrap_or, if◌then◌else◌}
+use Rattle.fm_code.specs.AccessFlags.{is_static}
+use Rattle.fm_code.specs.ConstantPool.{entry_at, utf8_at, class_name_at}
+use Rattle.fm_code.specs.declared.constant_pool.Entry.{Entry}
+use Rattle.fm_code.specs.declared.constant_pool.Entry.TheVariants as entry
+use Rattle.fm_code.specs.declared.class_file.ClassDef.{ClassDef}
+use Rattle.fm_code.specs.declared.class_file.Member.{Member}
+use Rattle.fm_code.specs.declared.class_file.MemberAttr.{MemberAttr}
+use Rattle.fm_code.specs.declared.class_file.MemberAttr.TheVariants as attribute
+
+-- ---- the records
+
+-- what a static field holds once its class is started (JVMS 4.7.2); a text by its bytes
+pub data Constant : Type 0 where
+  of_int : ℤ → Constant
+  of_long : ℤ → Constant
+  of_text : List ℕ → Constant
+
+pub record DeclaredField : Type 0 where
+  pub name : List ℕ
+  pub descriptor : List ℕ
+  pub flags : ℕ
+  pub value : Option Constant
+
+-- a built-in method has the number of its row
+pub record DeclaredMethod : Type 0 where
+  pub name : List ℕ
+  pub descriptor : List ℕ
+  pub flags : ℕ
+  pub row : Option ℕ
+
+-- a class by the names that it names; some built-in classes have a hidden field, and a given class has the number of its file
+pub record DeclaredClass : Type 0 where
+  pub name : List ℕ
+  pub superclass : Option (List ℕ)
+  pub interfaces : List (List ℕ)
+  pub flags : ℕ
+  pub hidden : Bool
+  pub fields : List DeclaredField
+  pub methods : List DeclaredMethod
+  pub file : Option ℕ
+
+-- what stands for a member or a class whose number is too high: none of the program is like it
+abbrev pub no_field : DeclaredField
+no_field = record { name = []; descriptor = []; flags = 0; value = None }
+
+abbrev pub no_method : DeclaredMethod
+no_method = record { name = []; descriptor = []; flags = 0; row = None }
+
+abbrev pub no_class : DeclaredClass
+no_class = record { name = []; superclass = None; interfaces = []; flags = 0; hidden = false; fields = []; methods = []; file = None }
+
+-- ---- what a class file declares
+
+-- the text at an index, and the name of the class at one; in a class file that is spelled there is one
+abbrev pub text_at : List Entry → ℕ → List ℕ
+text_at entries index = unwrap_or (utf8_at entries index) []
+
+abbrev pub name_at : List Entry → ℕ → List ℕ
+name_at entries index = unwrap_or (class_name_at entries index) []
+
+-- the value that an entry of a pool gives to a field of its kind
+abbrev pub constant_at : List Entry → ℕ → Option Constant
+constant_at entries index = constant_of (entry_at entries index) where
+  constant_of : Entry → Option Constant
+  constant_of (entry.Integer value) = Some (of_int value)
+  constant_of (entry.Long value) = Some (of_long value)
+  constant_of (entry.Text units) = Some (of_text (text_at entries units))
+  constant_of e = None
+
+-- the value that the first ConstantValue among the attributes gives
+abbrev pub first_constant : List Entry → List MemberAttr → Option Constant
+first_constant entries [] = None
+first_constant entries (attribute.Constant name value ∷ attributes) = constant_at entries value
+first_constant entries (a ∷ attributes) = first_constant entries attributes
+
+-- a ConstantValue of an instance field has no effect
+abbrev pub declared_field : List Entry → Member → DeclaredField
+declared_field entries m = record {
+  name = text_at entries m.name;
+  descriptor = text_at entries m.descriptor;
+  flags = m.flags;
+  value = (if is_static m.flags then first_constant entries m.attributes else None);
+}
+
+abbrev pub declared_method : List Entry → Member → DeclaredMethod
+declared_method entries m = record { name = text_at entries m.name; descriptor = text_at entries m.descriptor; flags = m.flags; row = None }
+
+-- the class of a file; super_class 0 names none
+abbrev pub declared_of : ℕ → ClassDef → DeclaredClass
+declared_of file c = record {
+  name = name_at c.pool.entries c.this_class;
+  superclass = class_name_at c.pool.entries c.super_class;
+  interfaces = map (name_at c.pool.entries) c.interfaces;
+  flags = c.flags;
+  hidden = false;
+  fields = map (declared_field c.pool.entries) c.fields;
+  methods = map (declared_method c.pool.entries) c.methods;
+  file = Some file;
+}
+
+-- the classes of the files, which are numbered from this one on
+abbrev pub declared_from : ℕ → List ClassDef → List DeclaredClass
+declared_from file [] = []
+declared_from file (c ∷ given) = declared_of file c ∷ declared_from (file + 1) given

@@ -1,0 +1,17 @@
+// The linked program: every name of a closed program resolved (JVMS 5).
+//
+// A program is the classes that were given and the built-in ones, in one list. The definitions of this
+// crate say what its names stand for, by looking them up in that list, and why a list of class files
+// isn't a program. All layers above speak of classes, methods, fields and types by number.
+#![tactic(auto)]
+
+mod calls;
+mod records;
+mod uses;
+
+pub use calls::{Call, CallKind};
+pub use records::{Body, ClassInfo, FieldInfo, MethodInfo};
+pub use uses::Use;
+
+/// A class's special calls search from its superclass (JVMS 4.1).
+pub const ACC_SUPER: u16 = 0x0020;
