@@ -1,6 +1,6 @@
 -- The built-in classes, as data: the only place where they are listed. A new built-in method is one line here, at the end of its class, and
 -- a row of the machine. The layers above, and the table of the code, go by this list.
-use Rattle.std.specs.Prelude.{ℕ, ◌+◌, Bool, true, false, List, [], ◌∷◌, ◌++◌, map, codes, length, Option, Some, None}
+use Rattle.std.specs.Prelude.{ℕ, Bool, true, false, List, [], ◌∷◌, ◌++◌, codes, Option, Some, None}
 use Rattle.fm_world.specs.Declarations.{DeclaredField, DeclaredMethod, DeclaredClass}
 
 -- ---- flags, as a compiler would write them (JVMS 4.1, 4.5, 4.6)
@@ -161,7 +161,6 @@ throwable_under superclass name = class_under (Some superclass) name [] false []
 -- an interface without methods
 abbrev pub marker : List ℕ → DeclaredClass
 marker name = record { name = name; superclass = Some object_name; interfaces = []; flags = interface_flags; hidden = false; fields = []; methods = []; file = None }
-
 
 -- the classes by the numbers that they have in each program
 unfoldable pub built_in : List DeclaredClass

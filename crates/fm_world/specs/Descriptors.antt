@@ -1,5 +1,5 @@
 -- Descriptors read from their bytes: the types that they name, and what these are in a list of classes (JVMS 4.3).
-use Rattle.std.specs.Prelude.{ℕ, ◌+◌, ◌-◌, ◌==◌, ◌||◌, Bool, List, [], ◌∷◌, ◌++◌, length, take, drop, map, position, Option, Some, None, unwrap_or, option_map, option_and_then, if◌then◌else◌, sum_by, slice_get}
+use Rattle.std.specs.Prelude.{ℕ, ◌+◌, ◌-◌, ◌==◌, ◌||◌, List, [], ◌∷◌, ◌++◌, length, take, drop, map, position, Option, Some, None, unwrap_or, option_map, option_and_then, if◌then◌else◌, sum_by}
 use Rattle.std.specs.Str.{bytes_eq}
 use Rattle.fm_base.specs.declared.characters.TheConstants.{BOOLEAN_LETTER, BYTE_LETTER, CHAR_LETTER, CLASS_LETTER, INT_LETTER, LEFT_BRACKET, LEFT_PARENTHESIS, LONG_LETTER, RIGHT_PARENTHESIS, SEMICOLON, SHORT_LETTER}
 use Rattle.fm_base.specs.declared.kinds.Base.{Base}

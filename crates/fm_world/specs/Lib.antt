@@ -1,3 +1,11 @@
 pub mod Declarations
 pub mod BuiltIns
 pub mod Descriptors
+pub mod Chains
+pub mod Members
+pub mod Lookups
+pub mod Uses
+pub mod Numbers
+pub mod Programs
+pub mod Causes
+pub mod Linking

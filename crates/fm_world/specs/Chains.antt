@@ -1,0 +1,116 @@
+-- Superclasses and superinterfaces of a class in a list of classes (JVMS 5.3.5), and which type is below which at run time (JVMS 6.5.checkcast).
+-- A class goes by its number in the list; names are looked up in the list. The number of classes bounds each walk, so that it ends where chains
+-- lead into a cycle; a linked program has none.
+use Rattle.std.specs.Prelude.{ℕ, zero, suc, ◌==◌, ◌||◌, ◌&&◌, not, Bool, true, false, List, [], ◌∷◌, length, drop, filter, Option, Some, None, option_and_then, nat_eq, nat_lt, if◌then◌else◌}
+use Rattle.std.specs.List.{slice_index_or, flat_map, filter_map, list_any}
+use Rattle.std.specs.Str.{bytes_eq}
+use Rattle.fm_base.specs.declared.kinds.Base.{Base}
+use Rattle.fm_base.specs.declared.kinds.Base.TheVariants as base
+use Rattle.fm_base.specs.declared.kinds.TypeRef.{TypeRef}
+use Rattle.fm_world.specs.BuiltIns.{object_name, cloneable_name, serializable_name}
+use Rattle.fm_world.specs.Declarations.{DeclaredClass, no_class}
+use Rattle.fm_world.specs.Descriptors.{class_number}
+
+-- ---- lists
+
+-- each element once, where it stands first
+abbrev pub distinct : {A : Type 0} → (A → A → Bool) → List A → List A
+distinct same [] = []
+distinct same (x ∷ xs) = x ∷ filter (λ y. not (same x y)) (distinct same xs)
+
+-- what the function gives of the first element of which it gives something
+abbrev pub first_found : {A B : Type 0} → (A → Option B) → List A → Option B
+first_found find [] = None
+first_found find (x ∷ xs) = or_among (find x) (first_found find xs) where
+  or_among : {B : Type 0} → Option B → Option B → Option B
+  or_among None others = others
+  or_among (Some y) others = Some y
+
+abbrev pub is_among : ℕ → List ℕ → Bool
+is_among number numbers = list_any (nat_eq number) numbers
+
+-- ---- superclasses
+
+abbrev pub class_at : List DeclaredClass → ℕ → DeclaredClass
+class_at classes class = slice_index_or classes class no_class
+
+-- the superclass of a class
+abbrev pub parent_of : List DeclaredClass → ℕ → Option ℕ
+parent_of classes class = option_and_then (class_number classes) (class_at classes class).superclass
+
+-- a class and its superclasses upwards, of at most so many classes
+abbrev pub upwards : ℕ → List DeclaredClass → Option ℕ → List ℕ
+upwards zero classes class = []
+upwards (suc bound) classes None = []
+upwards (suc bound) classes (Some class) = class ∷ upwards bound classes (parent_of classes class)
+
+-- the class and its superclasses, the nearest first
+unfoldable pub chain_of : List DeclaredClass → ℕ → List ℕ
+chain_of classes class = upwards (length classes) classes (Some class)
+
+-- its superclasses alone
+abbrev pub superclasses_of : List DeclaredClass → ℕ → List ℕ
+superclasses_of classes class = drop 1 (chain_of classes class)
+
+-- ---- superinterfaces
+
+-- the interfaces that a class lists, in its order
+abbrev pub listed_interfaces : List DeclaredClass → ℕ → List ℕ
+listed_interfaces classes class = filter_map (class_number classes) (class_at classes class).interfaces
+
+-- each listed interface and then its own ones, each once where it is met first, down to so many levels
+abbrev pub interfaces_within : ℕ → List DeclaredClass → ℕ → List ℕ
+interfaces_within zero classes class = []
+interfaces_within (suc bound) classes class =
+    distinct nat_eq (flat_map (λ interface. interface ∷ interfaces_within bound classes interface) (listed_interfaces classes class))
+
+-- the superinterfaces of a class by its own list: depth first, in listed order
+unfoldable pub superinterfaces_of : List DeclaredClass → ℕ → List ℕ
+superinterfaces_of classes class = interfaces_within (length classes) classes class
+
+-- the superinterfaces of a class and then those of its superclasses, each once
+unfoldable pub interfaces_of : List DeclaredClass → ℕ → List ℕ
+interfaces_of classes class = distinct nat_eq (flat_map (superinterfaces_of classes) (chain_of classes class))
+
+-- ---- what is below what
+
+-- the class is the other one, or below it: one of its superclasses, or an interface that it implements
+abbrev pub is_subclass : List DeclaredClass → ℕ → ℕ → Bool
+is_subclass classes class other = is_among other (chain_of classes class) || is_among other (interfaces_of classes class)
+
+-- what each array is below: Object and the two interfaces that arrays implement (JVMS 4.10.1.2)
+abbrev pub array_supers : List (List ℕ)
+array_supers = object_name ∷ cloneable_name ∷ serializable_name ∷ []
+
+abbrev pub is_above_arrays : List DeclaredClass → ℕ → Bool
+is_above_arrays classes class = list_any (bytes_eq (class_at classes class).name) array_supers
+
+-- whether two bases are the same
+abbrev pub same_base : Base → Base → Bool
+same_base base.Boolean base.Boolean = true
+same_base base.Byte base.Byte = true
+same_base base.Char base.Char = true
+same_base base.Short base.Short = true
+same_base base.Int base.Int = true
+same_base base.Long base.Long = true
+same_base (base.OfClass c) (base.OfClass d) = c.0 == d.0
+same_base b c = false
+
+abbrev pub same_type : TypeRef → TypeRef → Bool
+same_type a b = (a.dims == b.dims) && same_base a.base b.base
+
+-- at equal dimensions: a class and one above it, or the same letter
+abbrev pub is_sub_base : List DeclaredClass → Base → Base → Bool
+is_sub_base classes (base.OfClass c) (base.OfClass d) = is_subclass classes c.0 d.0
+is_sub_base classes b c = same_base b c
+
+-- of what an array of more dimensions is below
+abbrev pub is_base_above_arrays : List DeclaredClass → Base → Bool
+is_base_above_arrays classes (base.OfClass d) = is_above_arrays classes d.0
+is_base_above_arrays classes b = false
+
+-- an object of the first type can be cast to the second
+unfoldable pub is_sub : List DeclaredClass → TypeRef → TypeRef → Bool
+is_sub classes a b =
+    if a.dims == b.dims then is_sub_base classes a.base b.base else
+    (nat_lt b.dims a.dims && is_base_above_arrays classes b.base)
