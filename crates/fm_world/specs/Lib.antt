@@ -9,3 +9,4 @@ pub mod Numbers
 pub mod Programs
 pub mod Causes
 pub mod Linking
+pub mod Example

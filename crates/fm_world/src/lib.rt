@@ -6,10 +6,12 @@
 #![tactic(auto)]
 
 mod calls;
+mod laws;
 mod records;
 mod uses;
 
 pub use calls::{Call, CallKind};
+pub use laws::{law_built_in, law_example, law_refused_examples};
 pub use records::{Body, ClassInfo, FieldInfo, MethodInfo};
 pub use uses::Use;
 

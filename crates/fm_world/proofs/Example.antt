@@ -1,0 +1,80 @@
+-- The example computed: each fact by running the definitions.
+use Rattle.std.proofs.Common.{◌≡◌, refl, [], ◌∷◌, codes, drop, length, Some, slice_get}
+use Rattle.fm_world.specs.BuiltIns.{built_in}
+use Rattle.fm_world.specs.Causes.{Duplicate, BadParent, MissingClass, MissingField, NoMain}
+use Rattle.fm_world.specs.Chains.{chain_of, superinterfaces_of, interfaces_of, is_sub}
+use Rattle.fm_world.specs.Example.{array_types, call_of_k, example, example_main, example_upper, main_uses, refusal, with_cycle, with_static_field}
+use Rattle.fm_world.specs.Linking.{refused_duplicates, refused_built_ins, refused_missing_classes, refused_parents, refused_fields, refused_methods, refused_not_implemented, refused_main, refusals}
+use Rattle.fm_world.specs.Lookups.{resolved_field, resolved_method, select, special_target}
+use Rattle.fm_world.specs.Members.{fields_of, methods_of, size_of, slot_of}
+use Rattle.fm_world.specs.Numbers.{types_of, texts_of}
+use Rattle.fm_world.specs.Programs.{classes_of, outline_of, uses_of, codes_of, program_of, targets}
+use Rattle.fm_world.specs.Uses.{used_indices}
+
+pub classes_are : length built_in ≡ 28
+unfolding built_in chain_of superinterfaces_of interfaces_of is_sub fields_of methods_of size_of slot_of resolved_field resolved_method select special_target used_indices types_of texts_of classes_of outline_of uses_of codes_of program_of targets refused_duplicates refused_built_ins refused_missing_classes refused_parents refused_fields refused_methods refused_not_implemented refused_main refusals
+classes_are = refl
+
+pub methods_are : length (methods_of built_in) ≡ 86
+unfolding built_in chain_of superinterfaces_of interfaces_of is_sub fields_of methods_of size_of slot_of resolved_field resolved_method select special_target used_indices types_of texts_of classes_of outline_of uses_of codes_of program_of targets refused_duplicates refused_built_ins refused_missing_classes refused_parents refused_fields refused_methods refused_not_implemented refused_main refusals
+methods_are = refl
+
+pub accepted : refusals example (codes "M") ≡ []
+unfolding built_in chain_of superinterfaces_of interfaces_of is_sub fields_of methods_of size_of slot_of resolved_field resolved_method select special_target used_indices types_of texts_of classes_of outline_of uses_of codes_of program_of targets refused_duplicates refused_built_ins refused_missing_classes refused_parents refused_fields refused_methods refused_not_implemented refused_main refusals
+accepted = refl
+
+pub uses_are : slice_get (program_of example (codes "M")).uses 28 ≡ Some main_uses
+unfolding built_in chain_of superinterfaces_of interfaces_of is_sub fields_of methods_of size_of slot_of resolved_field resolved_method select special_target used_indices types_of texts_of classes_of outline_of uses_of codes_of program_of targets refused_duplicates refused_built_ins refused_missing_classes refused_parents refused_fields refused_methods refused_not_implemented refused_main refusals
+uses_are = refl
+
+pub types_are : drop 31 (program_of example (codes "M")).outline.types ≡ array_types
+unfolding built_in chain_of superinterfaces_of interfaces_of is_sub fields_of methods_of size_of slot_of resolved_field resolved_method select special_target used_indices types_of texts_of classes_of outline_of uses_of codes_of program_of targets refused_duplicates refused_built_ins refused_missing_classes refused_parents refused_fields refused_methods refused_not_implemented refused_main refusals
+types_are = refl
+
+pub texts_are : (program_of example (codes "M")).outline.texts ≡ codes "hi" ∷ []
+unfolding built_in chain_of superinterfaces_of interfaces_of is_sub fields_of methods_of size_of slot_of resolved_field resolved_method select special_target used_indices types_of texts_of classes_of outline_of uses_of codes_of program_of targets refused_duplicates refused_built_ins refused_missing_classes refused_parents refused_fields refused_methods refused_not_implemented refused_main refusals
+texts_are = refl
+
+pub main_is : (program_of example (codes "M")).outline.main ≡ 86
+unfolding built_in chain_of superinterfaces_of interfaces_of is_sub fields_of methods_of size_of slot_of resolved_field resolved_method select special_target used_indices types_of texts_of classes_of outline_of uses_of codes_of program_of targets refused_duplicates refused_built_ins refused_missing_classes refused_parents refused_fields refused_methods refused_not_implemented refused_main refusals
+main_is = refl
+
+pub chain_is : chain_of (classes_of example) 30 ≡ 30 ∷ 29 ∷ 0 ∷ []
+unfolding built_in chain_of superinterfaces_of interfaces_of is_sub fields_of methods_of size_of slot_of resolved_field resolved_method select special_target used_indices types_of texts_of classes_of outline_of uses_of codes_of program_of targets refused_duplicates refused_built_ins refused_missing_classes refused_parents refused_fields refused_methods refused_not_implemented refused_main refusals
+chain_is = refl
+
+pub size_is : size_of (classes_of example) 30 ≡ 2
+unfolding built_in chain_of superinterfaces_of interfaces_of is_sub fields_of methods_of size_of slot_of resolved_field resolved_method select special_target used_indices types_of texts_of classes_of outline_of uses_of codes_of program_of targets refused_duplicates refused_built_ins refused_missing_classes refused_parents refused_fields refused_methods refused_not_implemented refused_main refusals
+size_is = refl
+
+pub slot_is : slot_of (classes_of example) 4 ≡ 1
+unfolding built_in chain_of superinterfaces_of interfaces_of is_sub fields_of methods_of size_of slot_of resolved_field resolved_method select special_target used_indices types_of texts_of classes_of outline_of uses_of codes_of program_of targets refused_duplicates refused_built_ins refused_missing_classes refused_parents refused_fields refused_methods refused_not_implemented refused_main refusals
+slot_is = refl
+
+pub selected_is : select (classes_of example) 30 88 ≡ Some 90
+unfolding built_in chain_of superinterfaces_of interfaces_of is_sub fields_of methods_of size_of slot_of resolved_field resolved_method select special_target used_indices types_of texts_of classes_of outline_of uses_of codes_of program_of targets refused_duplicates refused_built_ins refused_missing_classes refused_parents refused_fields refused_methods refused_not_implemented refused_main refusals
+selected_is = refl
+
+pub targets_are : targets (program_of example (codes "M")) call_of_k ≡ 88 ∷ 90 ∷ []
+unfolding built_in chain_of superinterfaces_of interfaces_of is_sub fields_of methods_of size_of slot_of resolved_field resolved_method select special_target used_indices types_of texts_of classes_of outline_of uses_of codes_of program_of targets refused_duplicates refused_built_ins refused_missing_classes refused_parents refused_fields refused_methods refused_not_implemented refused_main refusals
+targets_are = refl
+
+pub duplicate : slice_get (refusals (example_main ∷ example) (codes "M")) 0 ≡ Some (refusal Duplicate (codes "M") (codes "M"))
+unfolding built_in chain_of superinterfaces_of interfaces_of is_sub fields_of methods_of size_of slot_of resolved_field resolved_method select special_target used_indices types_of texts_of classes_of outline_of uses_of codes_of program_of targets refused_duplicates refused_built_ins refused_missing_classes refused_parents refused_fields refused_methods refused_not_implemented refused_main refusals
+duplicate = refl
+
+pub missing_class : slice_get (refusals (example_main ∷ example_upper ∷ []) (codes "M")) 0 ≡ Some (refusal MissingClass (codes "B") (codes "M"))
+unfolding built_in chain_of superinterfaces_of interfaces_of is_sub fields_of methods_of size_of slot_of resolved_field resolved_method select special_target used_indices types_of texts_of classes_of outline_of uses_of codes_of program_of targets refused_duplicates refused_built_ins refused_missing_classes refused_parents refused_fields refused_methods refused_not_implemented refused_main refusals
+missing_class = refl
+
+pub cycle : slice_get (refusals with_cycle (codes "M")) 0 ≡ Some (refusal BadParent (codes "B") (codes "A"))
+unfolding built_in chain_of superinterfaces_of interfaces_of is_sub fields_of methods_of size_of slot_of resolved_field resolved_method select special_target used_indices types_of texts_of classes_of outline_of uses_of codes_of program_of targets refused_duplicates refused_built_ins refused_missing_classes refused_parents refused_fields refused_methods refused_not_implemented refused_main refusals
+cycle = refl
+
+pub static_field : slice_get (refusals with_static_field (codes "M")) 0 ≡ Some (refusal MissingField (codes "B.x") (codes "M"))
+unfolding built_in chain_of superinterfaces_of interfaces_of is_sub fields_of methods_of size_of slot_of resolved_field resolved_method select special_target used_indices types_of texts_of classes_of outline_of uses_of codes_of program_of targets refused_duplicates refused_built_ins refused_missing_classes refused_parents refused_fields refused_methods refused_not_implemented refused_main refusals
+static_field = refl
+
+pub no_main_is : refusals example (codes "A") ≡ refusal NoMain (codes "A") (codes "A") ∷ []
+unfolding built_in chain_of superinterfaces_of interfaces_of is_sub fields_of methods_of size_of slot_of resolved_field resolved_method select special_target used_indices types_of texts_of classes_of outline_of uses_of codes_of program_of targets refused_duplicates refused_built_ins refused_missing_classes refused_parents refused_fields refused_methods refused_not_implemented refused_main refusals
+no_main_is = refl

@@ -1,0 +1,144 @@
+-- Three classes written by hand, what they are linked to, and neighbours of them that are refused.
+use Rattle.std.specs.Prelude.{ℕ, List, [], ◌∷◌, codes, None, slice_set}
+use Rattle.fm_base.specs.declared.kinds.Base.TheVariants as base
+use Rattle.fm_base.specs.declared.kinds.TypeRef.{TypeRef}
+use Rattle.fm_code.specs.declared.constant_pool.Entry.{Entry}
+use Rattle.fm_code.specs.declared.constant_pool.Entry.TheVariants as entry
+use Rattle.fm_code.specs.declared.class_file.ClassDef.{ClassDef}
+use Rattle.fm_code.specs.declared.class_file.Member.{Member}
+use Rattle.fm_code.specs.declared.class_file.MemberAttr.TheVariants as attribute
+use Rattle.fm_code.specs.declared.code_array.Item.{Item}
+use Rattle.fm_code.specs.declared.instructions.Insn.{Insn}
+use Rattle.fm_code.specs.declared.instructions.Insn.TheVariants as insn
+use Rattle.fm_code.specs.declared.operations.Elem.TheVariants as elem
+use Rattle.fm_world.specs.Causes.{Cause, Refusal}
+use Rattle.fm_world.specs.Descriptors.{of_class}
+use Rattle.fm_world.specs.Programs.{class_id, method_id, field_use, method_use}
+use Rattle.fm_world.specs.declared.calls.Call.{Call}
+use Rattle.fm_world.specs.declared.calls.CallKind.TheVariants as call
+use Rattle.fm_world.specs.declared.uses.Use.{Use}
+use Rattle.fm_world.specs.declared.uses.Use.TheVariants as resolved
+
+-- ---- the class files, by their records
+
+-- an instruction where its place and its bytes don't matter
+abbrev pub item : Insn → Item
+item i = record { offset = 0; bytes = []; insn = i }
+
+-- a method, whose Code attribute has the name at that index
+abbrev pub coded_method : ℕ → ℕ → ℕ → ℕ → List Item → Member
+coded_method flags name descriptor code items = record {
+  flags = flags;
+  name = name;
+  descriptor = descriptor;
+  attributes = attribute.Coded code (record { max_stack = 2; max_locals = 1; items = items; length = 1; handlers = []; attributes = [] }) ∷ [];
+}
+
+-- a class of version 49.0 without interfaces, whose name is at index 2 and whose superclass is at index 4
+abbrev pub class_with : List Entry → List Member → List Member → ClassDef
+class_with entries fields methods = record {
+  minor = 0;
+  major = 49;
+  pool = record { entries = entries };
+  flags = 33;
+  this_class = 2;
+  super_class = 4;
+  interfaces = [];
+  fields = fields;
+  methods = methods;
+  attributes = [];
+}
+
+-- class M, whose main makes a B and calls its constructor, calls A.k, reads B.x, loads a text, and makes arrays; nothing uses the class Gone
+abbrev pub main_entries : List Entry
+main_entries =
+    entry.Second ∷ entry.Utf8 (codes "M") ∷ entry.Class 1 ∷ entry.Utf8 (codes "java/lang/Object") ∷ entry.Class 3
+    -- 5
+    ∷ entry.Utf8 (codes "B") ∷ entry.Class 5 ∷ entry.Utf8 (codes "<init>") ∷ entry.Utf8 (codes "()V") ∷ entry.NameAndType 7 8
+    -- 10
+    ∷ entry.Method 6 9 ∷ entry.Utf8 (codes "A") ∷ entry.Class 11 ∷ entry.Utf8 (codes "k") ∷ entry.NameAndType 13 8
+    -- 15
+    ∷ entry.Method 12 14 ∷ entry.Utf8 (codes "x") ∷ entry.Utf8 (codes "I") ∷ entry.NameAndType 16 17 ∷ entry.Field 6 18
+    -- 20
+    ∷ entry.Utf8 (codes "hi") ∷ entry.Text 20 ∷ entry.Utf8 (codes "main") ∷ entry.Utf8 (codes "([Ljava/lang/String;)V") ∷ entry.Utf8 (codes "Code")
+    -- 25
+    ∷ entry.Utf8 (codes "Gone") ∷ entry.Class 25 ∷ []
+
+abbrev pub main_items : List Item
+main_items =
+    item (insn.New 6) ∷ item (insn.Special 10) ∷ item (insn.Virtual 15) ∷ item (insn.GetField 19) ∷ item (insn.LoadPool 21)
+    ∷ item (insn.NewRefs 12) ∷ item (insn.NewArray elem.Int) ∷ item (insn.Return None) ∷ []
+
+abbrev pub example_main : ClassDef
+example_main = class_with main_entries [] (coded_method 9 22 23 24 main_items ∷ [])
+
+-- class A, with an instance field x of those flags, a static field s of the value "hi", a constructor and k()V
+abbrev pub upper_entries : List Entry
+upper_entries =
+    entry.Second ∷ entry.Utf8 (codes "A") ∷ entry.Class 1 ∷ entry.Utf8 (codes "java/lang/Object") ∷ entry.Class 3
+    -- 5
+    ∷ entry.Utf8 (codes "x") ∷ entry.Utf8 (codes "I") ∷ entry.Utf8 (codes "<init>") ∷ entry.Utf8 (codes "()V") ∷ entry.Utf8 (codes "k")
+    -- 10
+    ∷ entry.Utf8 (codes "s") ∷ entry.Utf8 (codes "Ljava/lang/String;") ∷ entry.Utf8 (codes "hi") ∷ entry.Text 12 ∷ entry.Utf8 (codes "ConstantValue")
+    -- 15
+    ∷ entry.Utf8 (codes "Code") ∷ []
+
+abbrev pub only_return : List Item
+only_return = item (insn.Return None) ∷ []
+
+abbrev pub upper_with : ℕ → ClassDef
+upper_with flags =
+    class_with upper_entries
+        (record { flags = flags; name = 5; descriptor = 6; attributes = [] } ∷ record { flags = 8; name = 10; descriptor = 11; attributes = attribute.Constant 14 13 ∷ [] } ∷ [])
+        (coded_method 1 7 8 15 only_return ∷ coded_method 1 9 8 15 only_return ∷ [])
+
+abbrev pub example_upper : ClassDef
+example_upper = upper_with 1
+
+-- class B below A, with a field y, a constructor and its own k()V
+abbrev pub lower_entries : List Entry
+lower_entries =
+    entry.Second ∷ entry.Utf8 (codes "B") ∷ entry.Class 1 ∷ entry.Utf8 (codes "A") ∷ entry.Class 3
+    -- 5
+    ∷ entry.Utf8 (codes "y") ∷ entry.Utf8 (codes "J") ∷ entry.Utf8 (codes "<init>") ∷ entry.Utf8 (codes "()V") ∷ entry.Utf8 (codes "k")
+    -- 10
+    ∷ entry.Utf8 (codes "Code") ∷ []
+
+abbrev pub example_lower : ClassDef
+example_lower =
+    class_with lower_entries (record { flags = 1; name = 5; descriptor = 6; attributes = [] } ∷ []) (coded_method 1 7 8 10 only_return ∷ coded_method 1 9 8 10 only_return ∷ [])
+
+abbrev pub example : List ClassDef
+example = example_main ∷ example_upper ∷ example_lower ∷ []
+
+-- ---- what they are linked to
+
+-- 28 classes are built in, with 86 methods and 2 fields: M is class 28 with method 86, A is 29 with 87 and 88, B is 30 with 89 and 90
+abbrev pub main_uses : List Use
+main_uses =
+    resolved.Unused ∷ resolved.Unused ∷ resolved.OfType (record { 0 = 28 }) ∷ resolved.Unused ∷ resolved.OfType (record { 0 = 0 })
+    ∷ resolved.Unused ∷ resolved.OfType (record { 0 = 30 }) ∷ resolved.Unused ∷ resolved.Unused ∷ resolved.Unused
+    ∷ method_use 30 89 ∷ resolved.Unused ∷ resolved.OfType (record { 0 = 29 }) ∷ resolved.Unused ∷ resolved.Unused
+    ∷ method_use 29 88 ∷ resolved.Unused ∷ resolved.Unused ∷ resolved.Unused ∷ field_use 30 2
+    ∷ resolved.Unused ∷ resolved.OfText 0 ∷ resolved.Unused ∷ resolved.Unused ∷ resolved.Unused
+    ∷ resolved.Unused ∷ resolved.Unused ∷ []
+
+-- the types after those of the classes: String[] for the arguments, A[] and int[]
+abbrev pub array_types : List TypeRef
+array_types = record { dims = 1; base = of_class 1 } ∷ record { dims = 1; base = of_class 29 } ∷ record { dims = 1; base = base.Int } ∷ []
+
+abbrev pub call_of_k : Call
+call_of_k = record { kind = call.Virtual; named = record { dims = 0; base = of_class 29 }; method = method_id 88; caller = class_id 28 }
+
+-- ---- neighbours
+
+-- x of A is static
+abbrev pub with_static_field : List ClassDef
+with_static_field = example_main ∷ upper_with 9 ∷ example_lower ∷ []
+
+-- A's superclass is B
+abbrev pub with_cycle : List ClassDef
+with_cycle = example_main ∷ class_with (slice_set upper_entries 3 (entry.Utf8 (codes "B"))) [] [] ∷ example_lower ∷ []
+
+abbrev pub refusal : Cause → List ℕ → List ℕ → Refusal
+refusal cause name user = record { cause = cause; name = name; user = user }

@@ -1,0 +1,50 @@
+// Laws of the definitions, each as the contract of a function that does nothing.
+
+ghost use Rattle.std.specs.Prelude.{◌≡◌, ℕ, List, [], ◌∷◌, codes, drop, length, map, Some, None, slice_get};
+ghost use Rattle.fm_world.specs.BuiltIns.{built_in};
+ghost use Rattle.fm_world.specs.Causes.{Duplicate, BadParent, MissingClass, MissingField, NoMain, no_main};
+ghost use Rattle.fm_world.specs.Chains.{chain_of};
+ghost use Rattle.fm_world.specs.Descriptors.{class_number};
+ghost use Rattle.fm_world.specs.Example.{array_types, call_of_k, example, example_main, example_upper, main_uses, refusal, with_cycle, with_static_field};
+ghost use Rattle.fm_world.specs.Linking.{refusals};
+ghost use Rattle.fm_world.specs.Lookups.{select};
+ghost use Rattle.fm_world.specs.Members.{methods_of, method_at, own_method, size_of, slot_of};
+ghost use Rattle.fm_world.specs.Programs.{classes_of, program_of, targets};
+
+/// Facts of the built-in classes: how many there are, with how many methods; the row of
+/// `FreeMe.free`; and that the constructor of a throwable has the row of that of `Throwable`.
+pub fn law_built_in()
+    ensures classes { length built_in ≡ 28 }
+    ensures methods { length (methods_of built_in) ≡ 86 }
+{}
+
+/// The definitions at three classes that are written out by hand, M, A and B below A: nothing of them
+/// is refused, and names, numbers and targets are as a reader counts them.
+pub fn law_example()
+    ensures accepted { refusals example (codes "M") ≡ [] }
+    ensures uses { slice_get (program_of example (codes "M")).uses 28 ≡ Some main_uses }
+    ensures types { drop 31 (program_of example (codes "M")).outline.types ≡ array_types }
+    ensures texts { (program_of example (codes "M")).outline.texts ≡ codes "hi" ∷ [] }
+    ensures main { (program_of example (codes "M")).outline.main ≡ 86 }
+    ensures chain { chain_of (classes_of example) 30 ≡ 30 ∷ 29 ∷ 0 ∷ [] }
+    ensures size { size_of (classes_of example) 30 ≡ 2 }
+    ensures slot { slot_of (classes_of example) 4 ≡ 1 }
+    ensures selected { select (classes_of example) 30 88 ≡ Some 90 }
+    ensures targets { targets (program_of example (codes "M")) call_of_k ≡ 88 ∷ 90 ∷ [] }
+{}
+
+/// Neighbours of these classes are refused: each with its cause, the name and the class in whose file
+/// the name stands.
+pub fn law_refused_examples()
+    ensures duplicate { slice_get (refusals (example_main ∷ example) (codes "M")) 0
+        ≡ Some (refusal Duplicate (codes "M") (codes "M")) }
+    ensures missing_class { slice_get
+        (refusals (example_main ∷ example_upper ∷ []) (codes "M")) 0
+        ≡ Some (refusal MissingClass (codes "B") (codes "M")) }
+    ensures cycle { slice_get (refusals with_cycle (codes "M")) 0
+        ≡ Some (refusal BadParent (codes "B") (codes "A")) }
+    ensures static_field { slice_get (refusals with_static_field (codes "M")) 0
+        ≡ Some (refusal MissingField (codes "B.x") (codes "M")) }
+    ensures no_main { refusals example (codes "A")
+        ≡ refusal NoMain (codes "A") (codes "A") ∷ [] }
+{}
