@@ -1,12 +1,16 @@
 -- The example computed: each fact by running the definitions.
-use Rattle.std.proofs.Common.{◌≡◌, refl, [], ◌∷◌, codes, drop, length, Some, slice_get}
+use Rattle.std.proofs.Common.{nat_eq, ◌≡◌, refl, [], ◌∷◌, codes, drop, length, Some, slice_get}
+use Rattle.std.specs.List.{filter_map, range_with_len}
+use Rattle.std.specs.Option.{option_map}
+use Rattle.fm_world.specs.Rows.{hidden_kinds, row_of}
+use Rattle.fm_world.specs.Descriptors.{class_number}
 use Rattle.fm_world.specs.BuiltIns.{built_in}
-use Rattle.fm_world.specs.Causes.{Duplicate, BadParent, MissingClass, MissingField, NoMain}
-use Rattle.fm_world.specs.Chains.{chain_of, superinterfaces_of, interfaces_of, is_sub}
-use Rattle.fm_world.specs.Example.{array_types, call_of_k, example, example_main, example_upper, main_uses, refusal, with_cycle, with_static_field}
+use Rattle.fm_world.specs.Causes.{Duplicate, BadParent, MissingClass, MissingField, NotImplemented, NoMain}
+use Rattle.fm_world.specs.Chains.{chain_of, distinct, superinterfaces_of, interfaces_of, is_sub}
+use Rattle.fm_world.specs.Example.{array_types, call_of_k, example, example_main, example_upper, main_uses, refusal, with_cycle, with_interfaces, with_private, with_static_field}
 use Rattle.fm_world.specs.Linking.{refused_duplicates, refused_built_ins, refused_missing_classes, refused_parents, refused_fields, refused_methods, refused_not_implemented, refused_main, refusals}
 use Rattle.fm_world.specs.Lookups.{resolved_field, resolved_method, select, special_target}
-use Rattle.fm_world.specs.Members.{fields_of, methods_of, size_of, slot_of}
+use Rattle.fm_world.specs.Members.{fields_of, kinds_of, methods_of, size_of, slot_of}
 use Rattle.fm_world.specs.Numbers.{types_of, texts_of}
 use Rattle.fm_world.specs.Programs.{classes_of, outline_of, uses_of, codes_of, program_of, targets}
 use Rattle.fm_world.specs.Uses.{used_indices}
@@ -78,3 +82,43 @@ static_field = refl
 pub no_main_is : refusals example (codes "A") ≡ refusal NoMain (codes "A") (codes "A") ∷ []
 unfolding built_in chain_of superinterfaces_of interfaces_of is_sub fields_of methods_of size_of slot_of resolved_field resolved_method select special_target used_indices types_of texts_of classes_of outline_of uses_of codes_of program_of targets refused_duplicates refused_built_ins refused_missing_classes refused_parents refused_fields refused_methods refused_not_implemented refused_main refusals
 no_main_is = refl
+
+pub rows_are : distinct nat_eq (filter_map (λ m. m.method.row) (methods_of built_in)) ≡ range_with_len 0 44
+unfolding built_in chain_of superinterfaces_of interfaces_of is_sub fields_of methods_of size_of slot_of resolved_field resolved_method select special_target used_indices types_of texts_of classes_of outline_of uses_of codes_of program_of targets refused_duplicates refused_built_ins refused_missing_classes refused_parents refused_fields refused_methods refused_not_implemented refused_main refusals kinds_of
+rows_are = refl
+
+pub free_row : row_of (codes "FreeMe") (codes "free") (codes "(Ljava/lang/Object;)V") ≡ Some 41
+unfolding built_in chain_of superinterfaces_of interfaces_of is_sub fields_of methods_of size_of slot_of resolved_field resolved_method select special_target used_indices types_of texts_of classes_of outline_of uses_of codes_of program_of targets refused_duplicates refused_built_ins refused_missing_classes refused_parents refused_fields refused_methods refused_not_implemented refused_main refusals kinds_of
+free_row = refl
+
+pub throwable_row : row_of (codes "java/lang/Throwable") (codes "<init>") (codes "()V") ≡ Some 37
+unfolding built_in chain_of superinterfaces_of interfaces_of is_sub fields_of methods_of size_of slot_of resolved_field resolved_method select special_target used_indices types_of texts_of classes_of outline_of uses_of codes_of program_of targets refused_duplicates refused_built_ins refused_missing_classes refused_parents refused_fields refused_methods refused_not_implemented refused_main refusals kinds_of
+throwable_row = refl
+
+pub last_throwable_row : row_of (codes "java/lang/IncompatibleClassChangeError") (codes "<init>") (codes "()V") ≡ Some 37
+unfolding built_in chain_of superinterfaces_of interfaces_of is_sub fields_of methods_of size_of slot_of resolved_field resolved_method select special_target used_indices types_of texts_of classes_of outline_of uses_of codes_of program_of targets refused_duplicates refused_built_ins refused_missing_classes refused_parents refused_fields refused_methods refused_not_implemented refused_main refusals kinds_of
+last_throwable_row = refl
+
+pub hidden_is : option_map (kinds_of built_in) (class_number built_in (codes "java/lang/NullPointerException")) ≡ Some hidden_kinds
+unfolding built_in chain_of superinterfaces_of interfaces_of is_sub fields_of methods_of size_of slot_of resolved_field resolved_method select special_target used_indices types_of texts_of classes_of outline_of uses_of codes_of program_of targets refused_duplicates refused_built_ins refused_missing_classes refused_parents refused_fields refused_methods refused_not_implemented refused_main refusals kinds_of
+hidden_is = refl
+
+pub interfaces_are : superinterfaces_of (classes_of with_interfaces) 30 ≡ 29 ∷ 26 ∷ 28 ∷ []
+unfolding built_in chain_of superinterfaces_of interfaces_of is_sub fields_of methods_of size_of slot_of resolved_field resolved_method select special_target used_indices types_of texts_of classes_of outline_of uses_of codes_of program_of targets refused_duplicates refused_built_ins refused_missing_classes refused_parents refused_fields refused_methods refused_not_implemented refused_main refusals kinds_of
+interfaces_are = refl
+
+pub not_implemented : slice_get (refusals with_interfaces (codes "C")) 0 ≡ Some (refusal NotImplemented (codes "J.m()V") (codes "C"))
+unfolding built_in chain_of superinterfaces_of interfaces_of is_sub fields_of methods_of size_of slot_of resolved_field resolved_method select special_target used_indices types_of texts_of classes_of outline_of uses_of codes_of program_of targets refused_duplicates refused_built_ins refused_missing_classes refused_parents refused_fields refused_methods refused_not_implemented refused_main refusals kinds_of
+not_implemented = refl
+
+pub passed_over : select (classes_of with_private) 30 86 ≡ Some 86
+unfolding built_in chain_of superinterfaces_of interfaces_of is_sub fields_of methods_of size_of slot_of resolved_field resolved_method select special_target used_indices types_of texts_of classes_of outline_of uses_of codes_of program_of targets refused_duplicates refused_built_ins refused_missing_classes refused_parents refused_fields refused_methods refused_not_implemented refused_main refusals kinds_of
+passed_over = refl
+
+pub itself : select (classes_of with_private) 30 87 ≡ Some 87
+unfolding built_in chain_of superinterfaces_of interfaces_of is_sub fields_of methods_of size_of slot_of resolved_field resolved_method select special_target used_indices types_of texts_of classes_of outline_of uses_of codes_of program_of targets refused_duplicates refused_built_ins refused_missing_classes refused_parents refused_fields refused_methods refused_not_implemented refused_main refusals kinds_of
+itself = refl
+
+pub special : special_target (classes_of with_private) 30 (Some 28) 86 ≡ 87
+unfolding built_in chain_of superinterfaces_of interfaces_of is_sub fields_of methods_of size_of slot_of resolved_field resolved_method select special_target used_indices types_of texts_of classes_of outline_of uses_of codes_of program_of targets refused_duplicates refused_built_ins refused_missing_classes refused_parents refused_fields refused_methods refused_not_implemented refused_main refusals kinds_of
+special = refl

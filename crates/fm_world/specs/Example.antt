@@ -1,5 +1,5 @@
 -- Three classes written by hand, what they are linked to, and neighbours of them that are refused.
-use Rattle.std.specs.Prelude.{ℕ, List, [], ◌∷◌, codes, None, slice_set}
+use Rattle.std.specs.Prelude.{ℕ, List, [], ◌∷◌, codes, None, map, slice_set}
 use Rattle.fm_base.specs.declared.kinds.Base.TheVariants as base
 use Rattle.fm_base.specs.declared.kinds.TypeRef.{TypeRef}
 use Rattle.fm_code.specs.declared.constant_pool.Entry.{Entry}
@@ -89,8 +89,8 @@ only_return = item (insn.Return None) ∷ []
 abbrev pub upper_with : ℕ → ClassDef
 upper_with flags =
     class_with upper_entries
-        (record { flags = flags; name = 5; descriptor = 6; attributes = [] } ∷ record { flags = 8; name = 10; descriptor = 11; attributes = attribute.Constant 14 13 ∷ [] } ∷ [])
-        (coded_method 1 7 8 15 only_return ∷ coded_method 1 9 8 15 only_return ∷ [])
+    (record { flags = flags; name = 5; descriptor = 6; attributes = [] } ∷ record { flags = 8; name = 10; descriptor = 11; attributes = attribute.Constant 14 13 ∷ [] } ∷ [])
+    (coded_method 1 7 8 15 only_return ∷ coded_method 1 9 8 15 only_return ∷ [])
 
 abbrev pub example_upper : ClassDef
 example_upper = upper_with 1
@@ -139,6 +139,38 @@ with_static_field = example_main ∷ upper_with 9 ∷ example_lower ∷ []
 -- A's superclass is B
 abbrev pub with_cycle : List ClassDef
 with_cycle = example_main ∷ class_with (slice_set upper_entries 3 (entry.Utf8 (codes "B"))) [] [] ∷ example_lower ∷ []
+
+-- ---- interfaces: I extends Cloneable and J, and C implements I and then J, whose m it hasn't
+
+-- an interface of that name, with the interfaces at those indices; index 6 is the class at index 5, 8 that at 7
+abbrev pub interface_with : List Entry → List ℕ → List Member → ClassDef
+interface_with entries interfaces methods = record (class_with entries [] methods) { flags = 0x0601; interfaces = interfaces }
+
+abbrev pub naming : List ℕ → List ℕ → List ℕ → List Entry
+naming name first second =
+    entry.Second ∷ entry.Utf8 name ∷ entry.Class 1 ∷ entry.Utf8 (codes "java/lang/Object") ∷ entry.Class 3
+    ∷ entry.Utf8 first ∷ entry.Class 5 ∷ entry.Utf8 second ∷ entry.Class 7 ∷ []
+
+abbrev pub with_interfaces : List ClassDef
+with_interfaces =
+    interface_with (naming (codes "J") (codes "m") (codes "()V")) [] (record { flags = 0x0401; name = 5; descriptor = 7; attributes = [] } ∷ [])
+    ∷ interface_with (naming (codes "I") (codes "java/lang/Cloneable") (codes "J")) (6 ∷ 8 ∷ []) []
+    ∷ record (class_with (naming (codes "C") (codes "I") (codes "J")) [] []) { interfaces = 6 ∷ 8 ∷ [] }
+    ∷ []
+
+-- ---- overriding: P declares k()V, Q below P a private k()V, and R is below Q
+
+-- a class of that name and superclass, which declares k()V with those flags, if any
+abbrev pub declaring : List ℕ → List ℕ → List ℕ → ClassDef
+declaring name superclass flags = class_with entries [] (map with_flags flags) where
+  entries : List Entry
+  entries = entry.Second ∷ entry.Utf8 name ∷ entry.Class 1 ∷ entry.Utf8 superclass ∷ entry.Class 3 ∷ entry.Utf8 (codes "k") ∷ entry.Utf8 (codes "()V") ∷ entry.Utf8 (codes "Code") ∷ []
+
+  with_flags : ℕ → Member
+  with_flags f = coded_method f 5 6 7 only_return
+
+abbrev pub with_private : List ClassDef
+with_private = declaring (codes "P") (codes "java/lang/Object") (1 ∷ []) ∷ declaring (codes "Q") (codes "P") (2 ∷ []) ∷ declaring (codes "R") (codes "Q") [] ∷ []
 
 abbrev pub refusal : Cause → List ℕ → List ℕ → Refusal
 refusal cause name user = record { cause = cause; name = name; user = user }

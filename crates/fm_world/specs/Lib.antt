@@ -4,9 +4,11 @@ pub mod Descriptors
 pub mod Chains
 pub mod Members
 pub mod Lookups
+pub mod Rows
 pub mod Uses
 pub mod Numbers
 pub mod Programs
 pub mod Causes
 pub mod Linking
 pub mod Example
+pub mod inner

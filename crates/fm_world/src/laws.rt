@@ -1,21 +1,49 @@
 // Laws of the definitions, each as the contract of a function that does nothing.
 
-ghost use Rattle.std.specs.Prelude.{◌≡◌, ℕ, List, [], ◌∷◌, codes, drop, length, map, Some, None, slice_get};
+ghost use Rattle.std.specs.Prelude.{◌≡◌, [], ◌∷◌, codes, drop, length, nat_eq, Some, slice_get};
+ghost use Rattle.std.specs.List.{filter_map, range_with_len};
+ghost use Rattle.std.specs.Option.{option_map};
 ghost use Rattle.fm_world.specs.BuiltIns.{built_in};
-ghost use Rattle.fm_world.specs.Causes.{Duplicate, BadParent, MissingClass, MissingField, NoMain, no_main};
-ghost use Rattle.fm_world.specs.Chains.{chain_of};
+ghost use Rattle.fm_world.specs.Rows.{hidden_kinds, row_of};
+ghost use Rattle.fm_world.specs.Causes.{Duplicate, BadParent, MissingClass, MissingField, NotImplemented, NoMain};
+ghost use Rattle.fm_world.specs.Chains.{chain_of, distinct, superinterfaces_of};
 ghost use Rattle.fm_world.specs.Descriptors.{class_number};
-ghost use Rattle.fm_world.specs.Example.{array_types, call_of_k, example, example_main, example_upper, main_uses, refusal, with_cycle, with_static_field};
+ghost use Rattle.fm_world.specs.Example.{array_types, call_of_k, example, example_main, example_upper, main_uses, refusal, with_cycle, with_interfaces, with_private, with_static_field};
 ghost use Rattle.fm_world.specs.Linking.{refusals};
-ghost use Rattle.fm_world.specs.Lookups.{select};
-ghost use Rattle.fm_world.specs.Members.{methods_of, method_at, own_method, size_of, slot_of};
+ghost use Rattle.fm_world.specs.Lookups.{select, special_target};
+ghost use Rattle.fm_world.specs.Members.{kinds_of, methods_of, size_of, slot_of};
 ghost use Rattle.fm_world.specs.Programs.{classes_of, program_of, targets};
 
-/// Facts of the built-in classes: how many there are, with how many methods; the row of
-/// `FreeMe.free`; and that the constructor of a throwable has the row of that of `Throwable`.
+/// Facts of the built-in classes: how many there are, with how many methods; the rows are numbered
+/// without a gap in the order in which they first stand; the row of `FreeMe.free`; the constructor of
+/// the last throwable has the row of that of `Throwable`; an object of a throwable has one hidden
+/// field, which leads to a text.
 pub fn law_built_in()
     ensures classes { length built_in ≡ 28 }
     ensures methods { length (methods_of built_in) ≡ 86 }
+    ensures rows { distinct nat_eq (filter_map (λ m. m.method.row) (methods_of built_in))
+        ≡ range_with_len 0 44 }
+    ensures free { row_of (codes "FreeMe") (codes "free") (codes "(Ljava/lang/Object;)V")
+        ≡ Some 41 }
+    ensures throwable { row_of (codes "java/lang/Throwable") (codes "<init>") (codes "()V")
+        ≡ Some 37 }
+    ensures last_throwable { row_of (codes "java/lang/IncompatibleClassChangeError")
+        (codes "<init>") (codes "()V") ≡ Some 37 }
+    ensures hidden { option_map (kinds_of built_in)
+        (class_number built_in (codes "java/lang/NullPointerException")) ≡ Some hidden_kinds }
+{}
+
+/// The definitions at interfaces and at private methods: superinterfaces stand in listed order, each
+/// once; an abstract method of one is missed; a private method isn't selected for another one, but for
+/// itself, and a special call finds it.
+pub fn law_lookup_examples()
+    ensures interfaces { superinterfaces_of (classes_of with_interfaces) 30
+        ≡ 29 ∷ 26 ∷ 28 ∷ [] }
+    ensures not_implemented { slice_get (refusals with_interfaces (codes "C")) 0
+        ≡ Some (refusal NotImplemented (codes "J.m()V") (codes "C")) }
+    ensures passed_over { select (classes_of with_private) 30 86 ≡ Some 86 }
+    ensures itself { select (classes_of with_private) 30 87 ≡ Some 87 }
+    ensures special { special_target (classes_of with_private) 30 (Some 28) 86 ≡ 87 }
 {}
 
 /// The definitions at three classes that are written out by hand, M, A and B below A: nothing of them

@@ -5,13 +5,15 @@
 // isn't a program. All layers above speak of classes, methods, fields and types by number.
 #![tactic(auto)]
 
+mod built_ins;
 mod calls;
 mod laws;
 mod records;
 mod uses;
 
+pub use built_ins::{BuiltInClass, BuiltInField, BuiltInMethod, built_in_classes};
 pub use calls::{Call, CallKind};
-pub use laws::{law_built_in, law_example, law_refused_examples};
+pub use laws::{law_built_in, law_example, law_lookup_examples, law_refused_examples};
 pub use records::{Body, ClassInfo, FieldInfo, MethodInfo};
 pub use uses::Use;
 

@@ -1,0 +1,2 @@
+-- What serves the proofs alone: how the program lies in the memory of the code.
+pub mod BuiltInTable
