@@ -1,7 +1,9 @@
 -- The built-in classes, as data: the only place where they are listed. A new built-in method is one line here, at the end of its class, and
 -- a row of the machine. The layers above, and the table of the code, go by this list.
 use Rattle.std.specs.Prelude.{ℕ, Bool, true, false, List, [], ◌∷◌, ◌++◌, codes, Option, Some, None}
-use Rattle.fm_world.specs.Declarations.{DeclaredField, DeclaredMethod, DeclaredClass}
+use Rattle.fm_world.specs.declared.declarations.DeclaredField.{DeclaredField}
+use Rattle.fm_world.specs.declared.declarations.DeclaredMethod.{DeclaredMethod}
+use Rattle.fm_world.specs.declared.declarations.DeclaredClass.{DeclaredClass}
 
 -- ---- flags, as a compiler would write them (JVMS 4.1, 4.5, 4.6)
 

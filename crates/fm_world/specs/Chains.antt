@@ -8,7 +8,8 @@ use Rattle.fm_base.specs.declared.kinds.Base.{Base}
 use Rattle.fm_base.specs.declared.kinds.Base.TheVariants as base
 use Rattle.fm_base.specs.declared.kinds.TypeRef.{TypeRef}
 use Rattle.fm_world.specs.BuiltIns.{object_name, cloneable_name, serializable_name}
-use Rattle.fm_world.specs.Declarations.{DeclaredClass, no_class}
+use Rattle.fm_world.specs.Declarations.{no_class}
+use Rattle.fm_world.specs.declared.declarations.DeclaredClass.{DeclaredClass}
 use Rattle.fm_world.specs.Descriptors.{class_number}
 
 -- ---- lists

@@ -1,7 +1,13 @@
--- What a class declares, built in or given: all of it but its code (JVMS 4.1, 4.5, 4.6).
-use Rattle.std.specs.Prelude.{ℕ, ◌+◌, ℤ, Bool, false, List, [], ◌∷◌, map, Option, Some, None, unwrap_or, if◌then◌else◌}
+-- What a class declares, built in or given, as records of the code: all of it but code (JVMS 4.1, 4.5, 4.6). A class goes by the names that it
+-- names, and a built-in method by the number of its row.
+use Rattle.std.specs.Prelude.{ℕ, ◌+◌, false, List, [], ◌∷◌, map, Option, Some, None, unwrap_or, if◌then◌else◌}
 use Rattle.fm_code.specs.AccessFlags.{is_static}
 use Rattle.fm_code.specs.ConstantPool.{entry_at, utf8_at, class_name_at}
+use Rattle.fm_world.specs.declared.declarations.Constant.{Constant}
+use Rattle.fm_world.specs.declared.declarations.Constant.TheVariants as constant
+use Rattle.fm_world.specs.declared.declarations.DeclaredClass.{DeclaredClass}
+use Rattle.fm_world.specs.declared.declarations.DeclaredField.{DeclaredField}
+use Rattle.fm_world.specs.declared.declarations.DeclaredMethod.{DeclaredMethod}
 use Rattle.fm_code.specs.declared.constant_pool.Entry.{Entry}
 use Rattle.fm_code.specs.declared.constant_pool.Entry.TheVariants as entry
 use Rattle.fm_code.specs.declared.class_file.ClassDef.{ClassDef}
@@ -9,37 +15,7 @@ use Rattle.fm_code.specs.declared.class_file.Member.{Member}
 use Rattle.fm_code.specs.declared.class_file.MemberAttr.{MemberAttr}
 use Rattle.fm_code.specs.declared.class_file.MemberAttr.TheVariants as attribute
 
--- ---- the records
-
--- what a static field holds once its class is started (JVMS 4.7.2); a text by its bytes
-pub data Constant : Type 0 where
-  of_int : ℤ → Constant
-  of_long : ℤ → Constant
-  of_text : List ℕ → Constant
-
-pub record DeclaredField : Type 0 where
-  pub name : List ℕ
-  pub descriptor : List ℕ
-  pub flags : ℕ
-  pub value : Option Constant
-
--- a built-in method has the number of its row
-pub record DeclaredMethod : Type 0 where
-  pub name : List ℕ
-  pub descriptor : List ℕ
-  pub flags : ℕ
-  pub row : Option ℕ
-
--- a class by the names that it names; some built-in classes have a hidden field, and a given class has the number of its file
-pub record DeclaredClass : Type 0 where
-  pub name : List ℕ
-  pub superclass : Option (List ℕ)
-  pub interfaces : List (List ℕ)
-  pub flags : ℕ
-  pub hidden : Bool
-  pub fields : List DeclaredField
-  pub methods : List DeclaredMethod
-  pub file : Option ℕ
+-- ---- where there is none
 
 -- what stands for a member or a class whose number is too high: none of the program is like it
 abbrev pub no_field : DeclaredField
@@ -64,9 +40,9 @@ name_at entries index = unwrap_or (class_name_at entries index) []
 abbrev pub constant_at : List Entry → ℕ → Option Constant
 constant_at entries index = constant_of (entry_at entries index) where
   constant_of : Entry → Option Constant
-  constant_of (entry.Integer value) = Some (of_int value)
-  constant_of (entry.Long value) = Some (of_long value)
-  constant_of (entry.Text units) = Some (of_text (text_at entries units))
+  constant_of (entry.Integer value) = Some (constant.Int value)
+  constant_of (entry.Long value) = Some (constant.Long value)
+  constant_of (entry.Text units) = Some (constant.Text (text_at entries units))
   constant_of e = None
 
 -- the value that the first ConstantValue among the attributes gives

@@ -7,7 +7,7 @@ use Rattle.fm_code.specs.ConstantPool.{MemberName}
 use Rattle.fm_code.specs.Names.{FieldType}
 use Rattle.fm_world.specs.BuiltIns.{object_name}
 use Rattle.fm_world.specs.Chains.{class_at, chain_of, superclasses_of, superinterfaces_of, interfaces_of, is_among}
-use Rattle.fm_world.specs.Declarations.{DeclaredClass}
+use Rattle.fm_world.specs.declared.declarations.DeclaredClass.{DeclaredClass}
 use Rattle.fm_world.specs.Descriptors.{class_number, class_type}
 use Rattle.fm_world.specs.Members.{field_among, method_among, method_at, is_instance}
 use Rattle.fm_world.specs.declared.TheConstants.{ACC_SUPER}

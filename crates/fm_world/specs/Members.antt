@@ -7,7 +7,10 @@ use Rattle.fm_base.specs.declared.kinds.Kind.{Kind}
 use Rattle.fm_code.specs.AccessFlags.{is_static}
 use Rattle.fm_world.specs.BuiltIns.{string_name}
 use Rattle.fm_world.specs.Chains.{class_at, chain_of, superclasses_of, first_found}
-use Rattle.fm_world.specs.Declarations.{DeclaredField, DeclaredMethod, DeclaredClass, no_field, no_method}
+use Rattle.fm_world.specs.Declarations.{no_field, no_method}
+use Rattle.fm_world.specs.declared.declarations.DeclaredField.{DeclaredField}
+use Rattle.fm_world.specs.declared.declarations.DeclaredMethod.{DeclaredMethod}
+use Rattle.fm_world.specs.declared.declarations.DeclaredClass.{DeclaredClass}
 use Rattle.fm_code.specs.Names.{object}
 use Rattle.fm_world.specs.Descriptors.{declared_kind, field_type, typed}
 

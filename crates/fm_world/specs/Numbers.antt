@@ -10,7 +10,8 @@ use Rattle.fm_code.specs.declared.constant_pool.Entry.TheVariants as entry
 use Rattle.fm_code.specs.declared.class_file.ClassDef.{ClassDef}
 use Rattle.fm_world.specs.BuiltIns.{string_name}
 use Rattle.fm_world.specs.Chains.{distinct, same_type}
-use Rattle.fm_world.specs.Declarations.{DeclaredClass, text_at}
+use Rattle.fm_world.specs.Declarations.{text_at}
+use Rattle.fm_world.specs.declared.declarations.DeclaredClass.{DeclaredClass}
 use Rattle.fm_world.specs.Descriptors.{class_number, of_class}
 use Rattle.fm_world.specs.Uses.{uses_in_order, named_type, class_items, made_array, array_of}
 

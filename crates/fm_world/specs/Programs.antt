@@ -18,7 +18,11 @@ use Rattle.fm_code.specs.declared.class_file.ClassDef.{ClassDef}
 use Rattle.fm_code.specs.declared.code_array.Code.{Code}
 use Rattle.fm_world.specs.BuiltIns.{built_in}
 use Rattle.fm_world.specs.Chains.{class_at, chain_of, parent_of, listed_interfaces, is_sub, is_above_arrays, is_among}
-use Rattle.fm_world.specs.Declarations.{Constant, of_int, of_long, of_text, DeclaredClass, DeclaredMethod, declared_from}
+use Rattle.fm_world.specs.Declarations.{declared_from}
+use Rattle.fm_world.specs.declared.declarations.Constant.{Constant}
+use Rattle.fm_world.specs.declared.declarations.DeclaredClass.{DeclaredClass}
+use Rattle.fm_world.specs.declared.declarations.DeclaredMethod.{DeclaredMethod}
+use Rattle.fm_world.specs.declared.declarations.Constant.TheVariants as constant
 use Rattle.fm_world.specs.Descriptors.{field_type, declared_kind, parameter_kinds, result_kind}
 use Rattle.fm_world.specs.Lookups.{object_number, resolved_field, resolved_method, select, special_target}
 use Rattle.fm_world.specs.Members.{field_at, method_at, methods_of, method_among, start_of, size_of, slot_of}
@@ -190,9 +194,9 @@ method_info p method =
 -- what a static field holds once its class is started
 abbrev pub first_value : Outline → Option Constant → Use
 first_value o None = resolved.Unused
-first_value o (Some (of_int value)) = resolved.OfInt value
-first_value o (Some (of_long value)) = resolved.OfLong value
-first_value o (Some (of_text text)) = with_number resolved.OfText (text_number o.texts (units text))
+first_value o (Some (constant.Int value)) = resolved.OfInt value
+first_value o (Some (constant.Long value)) = resolved.OfLong value
+first_value o (Some (constant.Text text)) = with_number resolved.OfText (text_number o.texts (units text))
 
 unfoldable pub field_info : Outline → ℕ → FieldInfo
 field_info o field =

@@ -19,7 +19,7 @@ use Rattle.fm_code.specs.declared.instructions.Insn.TheVariants as insn
 use Rattle.fm_code.specs.declared.operations.Elem.{Elem}
 use Rattle.fm_code.specs.declared.operations.Elem.TheVariants as elem
 use Rattle.fm_world.specs.Chains.{is_among}
-use Rattle.fm_world.specs.Declarations.{DeclaredClass}
+use Rattle.fm_world.specs.declared.declarations.DeclaredClass.{DeclaredClass}
 use Rattle.fm_world.specs.Descriptors.{class_type, type_in}
 
 -- ---- the indices that are used

@@ -1,6 +1,8 @@
 -- The table of the built-in classes, as the declarations that it stands for.
 use Rattle.std.specs.Prelude.{map, Some, None, option_map}
-use Rattle.fm_world.specs.Declarations.{DeclaredClass, DeclaredField, DeclaredMethod}
+use Rattle.fm_world.specs.declared.declarations.DeclaredClass.{DeclaredClass}
+use Rattle.fm_world.specs.declared.declarations.DeclaredField.{DeclaredField}
+use Rattle.fm_world.specs.declared.declarations.DeclaredMethod.{DeclaredMethod}
 use Rattle.fm_world.specs.declared.built_ins.BuiltInClass.{BuiltInClass}
 use Rattle.fm_world.specs.declared.built_ins.BuiltInField.{BuiltInField}
 use Rattle.fm_world.specs.declared.built_ins.BuiltInMethod.{BuiltInMethod}
