@@ -1,1 +1,4 @@
 mod Example
+mod TableLemmas
+mod Told
+mod Selected

@@ -9,6 +9,8 @@ mod built_ins;
 mod calls;
 mod declarations;
 mod laws;
+mod parts;
+mod program;
 mod records;
 mod uses;
 
@@ -16,6 +18,8 @@ pub use built_ins::{BuiltInClass, BuiltInField, BuiltInMethod, built_in_classes}
 pub use calls::{Call, CallKind};
 pub use declarations::{Constant, DeclaredClass, DeclaredField, DeclaredMethod};
 pub use laws::{law_built_in, law_example, law_lookup_examples, law_refused_examples};
+pub use parts::Parts;
+pub use program::Program;
 pub use records::{Body, ClassInfo, FieldInfo, MethodInfo};
 pub use uses::Use;
 

@@ -1,0 +1,72 @@
+-- How a program lies in the memory of the code: its parts, with tables that answer at once what the definitions look up.
+use Rattle.std.specs.Prelude.{◌≡◌, ℕ, ◌^◌, ◌<◌, false, List, ◌∷◌, [], length, map, reverse, nat_eq, Option, None, Some, IsSomeAnd, slice_get, slice_index}
+use Rattle.std.specs.List.{range_with_len}
+use Rattle.std.specs.HashMap.{get}
+use Rattle.fm_base.specs.declared.kinds.TypeRef.{TypeRef}
+use Rattle.fm_code.specs.AccessFlags.{is_private}
+use Rattle.fm_code.specs.declared.code_array.Code.{Code}
+use Rattle.fm_world.specs.Chains.{chain_of, interfaces_of, parent_of, same_type}
+use Rattle.fm_world.specs.Lookups.{is_selectable}
+use Rattle.fm_world.specs.Members.{fields_of, methods_of, method_at, method_among, statics_of}
+use Rattle.fm_world.specs.Numbers.{type_number}
+use Rattle.fm_world.specs.Programs.{Outline, Program, class_info, field_info, method_info}
+use Rattle.fm_world.specs.declared.declarations.DeclaredClass.{DeclaredClass}
+use Rattle.fm_world.specs.declared.parts.Parts.{Parts}
+use Rattle.fm_world.specs.declared.records.Body.{Body}
+use Rattle.fm_world.specs.declared.records.Body.TheVariants as body
+use Rattle.fm_world.specs.declared.records.MethodInfo.{MethodInfo}
+
+-- ---- the program
+
+abbrev pub code_in : Body → Option Code
+code_in (body.Coded code) = Some code
+code_in b = None
+
+abbrev pub outline_in : Parts → Outline
+outline_in x = record { classes = x.declared; types = x.types; texts = x.texts; main_class = x.main_class.0; main = x.main.0 }
+
+abbrev pub program_in : Parts → Program
+program_in x = record { outline = outline_in x; uses = x.uses; codes = map (λ (m : MethodInfo). code_in m.body) x.methods; made = x.made }
+
+-- ---- the tables
+
+abbrev pub numbers_below : ℕ → List ℕ
+numbers_below count = range_with_len 0 count
+
+-- a class's superclasses are those of its superclass, so that no chain leads into a cycle
+abbrev pub chain_from : List DeclaredClass → Option ℕ → List ℕ
+chain_from classes None = []
+chain_from classes (Some class) = chain_of classes class
+
+abbrev pub IsLinear : List DeclaredClass → Type 0
+IsLinear classes = (class : ℕ) → class < length classes → chain_of classes class ≡ class ∷ chain_from classes (parent_of classes class)
+
+-- each number fits 32 bits
+pub record AreFew (x : Parts) : Type 0 where
+  pub classes : length x.declared < 2 ^ 32
+  pub methods : length x.methods < 2 ^ 32
+  pub fields : length x.fields < 2 ^ 32
+  pub types : length x.types < 2 ^ 32
+  pub texts : length x.texts < 2 ^ 32
+
+-- for each class from the uppermost one down its superclasses and itself; all its superinterfaces; and by the number of a signature the
+-- method that is selected for it. Methods of one name and one descriptor have one signature.
+pub record AnswerForClasses (x : Parts) : Type 0 where
+  pub linear : IsLinear x.declared
+  pub displays : x.displays ≡ map (λ class. reverse (chain_of x.declared class)) (numbers_below (length x.declared))
+  pub interfaces : x.interfaces ≡ map (interfaces_of x.declared) (numbers_below (length x.declared))
+  pub signatures : length x.signatures ≡ length (methods_of x.declared)
+  pub selected : (class method : ℕ) → class < length x.declared → method < length (methods_of x.declared)
+      → IsSomeAnd (slice_get x.selected class) (λ table.
+          get nat_eq table (slice_index x.signatures method)
+              ≡ (let m = (method_at x.declared method).method in method_among x.declared is_selectable m.name m.descriptor (chain_of x.declared class)))
+
+-- the records tell of the classes, methods and fields what the definitions say, and the tables answer what they look up
+pub record AreTables (x : Parts) : Type 0 where
+  pub few : AreFew x
+  pub classes : x.classes ≡ map (class_info (outline_in x)) (numbers_below (length x.declared))
+  pub methods : x.methods ≡ map (method_info (program_in x)) (numbers_below (length (methods_of x.declared)))
+  pub fields : x.fields ≡ map (field_info (outline_in x)) (numbers_below (length (fields_of x.declared)))
+  pub statics : x.statics ≡ statics_of x.declared
+  pub answers : AnswerForClasses x
+  pub numbers : (t : TypeRef) → get same_type x.numbers t ≡ type_number x.types t
