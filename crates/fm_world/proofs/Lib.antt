@@ -2,3 +2,4 @@ mod Example
 mod TableLemmas
 mod Told
 mod Selected
+mod Displays

@@ -1,5 +1,5 @@
 -- The table of a class answers which method is selected.
-use Rattle.std.proofs.Common.{◌≡◌, sym, ◌∙◌, ap, subst, ℕ, ◌<◌, false, List, length, get_or, nat_eq, Option, HashMap, BuildHasherDefault, FoldHasher}
+use Rattle.std.proofs.Common.{◌≡◌, sym, ◌∙◌, ap, subst, ℕ, ◌<◌, false, List, length, get_or, nat_eq, HashMap, BuildHasherDefault, FoldHasher}
 use Rattle.std.specs.HashMap.{get}
 use Rattle.fm_code.specs.AccessFlags.{is_private}
 use Rattle.fm_world.proofs.TableLemmas.{known_at, known_within, to_parts, from_parts}
@@ -18,7 +18,7 @@ Table = HashMap ℕ ℕ (BuildHasherDefault FoldHasher)
 abbrev pub SaysSelected : Parts → ℕ → ℕ → Table → Type 0
 SaysSelected x class method table =
     get nat_eq table (get_or x.signatures method 0)
-        ≡ (let m = (method_at x.declared method).method in method_among x.declared is_selectable m.name m.descriptor (chain_of x.declared class))
+    ≡ (let m = (method_at x.declared method).method in method_among x.declared is_selectable m.name m.descriptor (chain_of x.declared class))
 
 pub selected_within : (x : Parts) (p : Program) (class method : ℕ) (tables : List Table) → program_in x ≡ p → AreTables x → class < length p.outline.classes
     → method < length (methods_of p.outline.classes) → tables ≡ x.selected → class < length tables
@@ -38,4 +38,4 @@ selected_by_table x p class method tables table signatures e inv c_in m_in other
     let not_private = to_parts (λ q. is_private (method_at q.outline.classes method).method.flags ≡ false) x p e other in
     let says = known_at (SaysSelected x class method) tables x.selected class table same (inv.answers.selected class method c_within m_within) read in
     from_parts (λ q. get nat_eq table (get_or signatures method 0) ≡ select q.outline.classes class method) x p e
-        (ap (λ zs. get nat_eq table (get_or zs method 0)) same_signatures ∙ says ∙ sym (select-other x.declared class method not_private))
+    (ap (λ zs. get nat_eq table (get_or zs method 0)) same_signatures ∙ says ∙ sym (select-other x.declared class method not_private))

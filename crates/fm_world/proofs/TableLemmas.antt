@@ -1,15 +1,10 @@
 -- The tables of a program answer what the definitions say, read from its parts.
 use Rattle.std.proofs.Common.{◌≡◌, refl, sym, ◌∙◌, ap, subst, ℕ, ◌<◌, List, length, map, zero-add, get_or, Option, Some, None, slice_get, IsSomeAnd}
 use Rattle.std.proofs.lemmas.Option.{slice_get_within, slice_get_read}
-use Rattle.std.specs.List.{range_with_len}
 use Rattle.std.proofs.lemmas.List.FromFn.{length-map-range_with_len, get_or-map-range_with_len}
-use Rattle.fm_world.specs.Members.{fields_of, methods_of}
-use Rattle.fm_world.specs.Programs.{Program, class_info, field_info, method_info}
+use Rattle.fm_world.specs.Programs.{Program}
 use Rattle.fm_world.specs.declared.parts.Parts.{Parts}
-use Rattle.fm_world.specs.declared.records.ClassInfo.{ClassInfo}
-use Rattle.fm_world.specs.declared.records.FieldInfo.{FieldInfo}
-use Rattle.fm_world.specs.declared.records.MethodInfo.{MethodInfo}
-use Rattle.fm_world.specs.inner.Tables.{AreTables, numbers_below, outline_in, program_in}
+use Rattle.fm_world.specs.inner.Tables.{numbers_below, program_in}
 
 -- ---- a list by a function of its numbers
 

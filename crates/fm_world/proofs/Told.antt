@@ -1,11 +1,21 @@
 -- What the records tell, field by field, and the cases of the selected method.
-use Rattle.std.proofs.Common.{◌≡◌, refl, sym, ◌∙◌, ap, subst, ℕ, ◌<◌, Bool, true, false, List, [], ◌∷◌, length, Option, Some, None, slice_get, get_or, if◌then◌else◌, zero, suc}
+use Rattle.std.proofs.Common.{◌&&◌, nat_lt, arith, ◌≡◌, refl, ◌∙◌, ap, ℕ, ◌<◌, true, false, List, Some, if◌then◌else◌}
+use Rattle.std.proofs.lemmas.Bool.{eq-eqb, ne_eqb, lt-ltb, le-ltb}
+use Rattle.fm_base.specs.declared.kinds.TypeRef.{TypeRef}
 use Rattle.fm_code.specs.AccessFlags.{is_private}
-use Rattle.fm_world.specs.Chains.{chain_of}
+use Rattle.fm_world.specs.Chains.{chain_of, class_at, is_base_above_arrays, is_sub, is_sub_base}
 use Rattle.fm_world.specs.Lookups.{select, is_selectable}
 use Rattle.fm_world.specs.Members.{method_at, method_among, slot_of}
 use Rattle.fm_world.specs.Programs.{Outline, Program, class_info, field_info, method_info}
 use Rattle.fm_world.specs.declared.declarations.DeclaredClass.{DeclaredClass}
+
+pub class_info-flags : (o : Outline) (class : ℕ) → (class_info o class).flags ≡ (class_at o.classes class).flags
+unfolding class_info
+class_info-flags o class = refl
+
+pub class_info-name : (o : Outline) (class : ℕ) → (class_info o class).name ≡ (class_at o.classes class).name
+unfolding class_info
+class_info-name o class = refl
 
 pub field_info-slot : (o : Outline) (field : ℕ) → (field_info o field).slot ≡ slot_of o.classes field
 unfolding field_info
@@ -27,3 +37,22 @@ pub select-other : (classes : List DeclaredClass) (class method : ℕ) → is_pr
 unfolding select
 select-other classes class method other =
     ap (λ b. if b then Some method else (let m = (method_at classes method).method in method_among classes is_selectable m.name m.descriptor (chain_of classes class))) other
+
+-- ---- the cases of what can be cast
+
+pub is_sub-level : (classes : List DeclaredClass) (a b : TypeRef) → a.dims ≡ b.dims → is_sub classes a b ≡ is_sub_base classes a.base b.base
+unfolding is_sub
+is_sub-level classes a b same =
+    ap (λ t. if t then is_sub_base classes a.base b.base else (nat_lt b.dims a.dims && is_base_above_arrays classes b.base)) (eq-eqb a.dims b.dims same)
+
+pub is_sub-deeper : (classes : List DeclaredClass) (a b : TypeRef) → b.dims < a.dims → is_sub classes a b ≡ is_base_above_arrays classes b.base
+unfolding is_sub
+is_sub-deeper classes a b deeper =
+    ap (λ t. if t then is_sub_base classes a.base b.base else (nat_lt b.dims a.dims && is_base_above_arrays classes b.base)) (ne_eqb a.dims b.dims (λ same. omega (arith, same, deeper)))
+    ∙ ap (λ t. t && is_base_above_arrays classes b.base) (lt-ltb b.dims a.dims deeper)
+
+pub is_sub-flatter : (classes : List DeclaredClass) (a b : TypeRef) → a.dims < b.dims → is_sub classes a b ≡ false
+unfolding is_sub
+is_sub-flatter classes a b flatter =
+    ap (λ t. if t then is_sub_base classes a.base b.base else (nat_lt b.dims a.dims && is_base_above_arrays classes b.base)) (ne_eqb a.dims b.dims (λ same. omega (arith, same, flatter)))
+    ∙ ap (λ t. t && is_base_above_arrays classes b.base) (le-ltb b.dims a.dims (omega (arith, flatter)))

@@ -1,5 +1,5 @@
 -- The program that class files make, and what is asked of it. All names are looked up in the list of its classes.
-use Rattle.std.specs.Prelude.{ℕ, ◌==◌, ◌&&◌, not, Bool, true, List, [], ◌∷◌, ◌++◌, length, map, filter, codes, Option, Some, None, is_some, position, replicate, unwrap_or, option_map, option_and_then, option_to_list, if◌then◌else◌}
+use Rattle.std.specs.Prelude.{ℕ, ◌<◌, ◌==◌, ◌&&◌, not, Bool, true, List, [], ◌∷◌, ◌++◌, length, map, filter, codes, Option, Some, None, is_some, position, replicate, unwrap_or, option_map, option_and_then, option_to_list, if◌then◌else◌}
 use Rattle.std.specs.List.{slice_index_or, flat_map, filter_map, range_with_len}
 use Rattle.std.specs.Str.{bytes_eq}
 use Rattle.fm_base.specs.Rows.{has}
@@ -210,6 +210,16 @@ field_info o field =
       slot = slot_of o.classes field;
       first = first_value o f.value;
     }
+
+-- ---- numbers and types that are in range
+
+-- a type whose class, if it has one, is there
+abbrev pub IsBaseIn : List DeclaredClass → Base → Type 0
+IsBaseIn classes (base.OfClass class) = class.0 < length classes
+IsBaseIn classes b = Unit {0}
+
+abbrev pub IsTypeIn : List DeclaredClass → TypeRef → Type 0
+IsTypeIn classes t = IsBaseIn classes t.base
 
 -- ---- what an index stands for
 

@@ -32,6 +32,8 @@ pub struct Parts {
     pub signatures: Seq<u32>,
     /// For each class by signature the method that is selected.
     pub selected: Seq<HashMap<u32, u32>>,
+    /// For each class by signature its own method that isn't static.
+    pub own: Seq<HashMap<u32, u32>>,
     /// The types by their numbers, turned round.
     pub numbers: HashMap<TypeRef, u32>,
 }

@@ -1,20 +1,23 @@
 // The linked program, and what is asked of it.
 
-ghost use Rattle.std.specs.Prelude.{◌≡◌, ◌<◌, length, Some, slice_get};
+ghost use Rattle.std.specs.Prelude.{◌≡◌, ◌<◌, length, reverse, Some, slice_get};
+ghost use Rattle.std.specs.List.{list_any};
 ghost use Rattle.std.specs.Option.{option_map};
+ghost use Rattle.std.specs.Str.{bytes_eq};
+ghost use Rattle.fm_world.specs.Chains.{array_supers, chain_of, interfaces_of, is_above_arrays, is_among, is_base_above_arrays, is_sub, is_sub_base, is_subclass};
 ghost use Rattle.fm_world.specs.Lookups.{select};
 ghost use Rattle.fm_world.specs.Numbers.{type_number};
 ghost use Rattle.fm_base.specs.declared.ids.TypeId.{TypeId};
 ghost use Rattle.fm_base.specs.declared.ids.MethodId.{MethodId};
 ghost use Rattle.fm_world.specs.Members.{fields_of, methods_of, slot_of, statics_of};
-ghost use Rattle.fm_world.specs.Programs.{class_info, field_info, method_info, use_of};
-ghost use Rattle.fm_world.specs.inner.Tables.{program_in, AreTables};
+ghost use Rattle.fm_world.specs.Programs.{class_info, field_info, method_info, use_of, IsBaseIn, IsTypeIn};
+ghost use Rattle.fm_world.specs.inner.Tables.{program_in, AreInterfaces, AreTables, IsLinear};
 
 use crate::parts::Parts;
 use crate::records::{ClassInfo, FieldInfo, MethodInfo};
 use crate::uses::Use;
-use fm_base::{ClassId, FieldId, MethodId, TypeId, TypeRef, Units};
-use fm_code::{ACC_PRIVATE, has_flag};
+use fm_base::{Base, ClassId, FieldId, MethodId, TypeId, TypeRef, Units};
+use fm_code::{ACC_INTERFACE, ACC_PRIVATE, has_flag};
 use std::marker::Model;
 
 /// A closed program in which each name is resolved. Contracts see its classes as they are declared,
@@ -194,4 +197,124 @@ impl Program {
             None => None,
         }
     }
+
+    /// Whether the first class is the second one or below it: one of its superclasses, or an interface
+    /// that it implements. Of a class that isn't an interface it is answered at once, and else the
+    /// interfaces of the first class are gone over. Takes no memory.
+    pub fn is_subclass(&self, c: ClassId, d: ClassId) -> bool
+        requires first { c.0 < length self.now.outline.classes }
+        requires second { d.0 < length self.now.outline.classes }
+        ensures { result ≡ is_subclass self.now.outline.classes c.0 d.0 }
+    {
+        if self.is_in_chain(c, d) {
+            return true;
+        }
+        let interfaces = self.interfaces(c);
+        if has_flag(self.class(d).flags, ACC_INTERFACE) {
+            is_listed(d.0, interfaces)
+        } else {
+            false
+        }
+    }
+
+    /// Whether an object of the first type can be cast to the second. Takes no memory.
+    pub fn is_sub(&self, a: TypeRef, b: TypeRef) -> bool
+        requires first { IsTypeIn self.now.outline.classes a }
+        requires second { IsTypeIn self.now.outline.classes b }
+        ensures { result ≡ is_sub self.now.outline.classes a b }
+    {
+        if a.dims == b.dims {
+            self.is_sub_base(a.base, b.base)
+        } else if b.dims < a.dims {
+            self.is_base_above_arrays(b.base)
+        } else {
+            false
+        }
+    }
+
+    // The same of two types of equal dimensions.
+    fn is_sub_base(&self, a: Base, b: Base) -> bool
+        requires first { IsBaseIn self.now.outline.classes a }
+        requires second { IsBaseIn self.now.outline.classes b }
+        ensures { result ≡ is_sub_base self.now.outline.classes a b }
+    {
+        match (a, b) {
+            (Base::OfClass(c), Base::OfClass(d)) => self.is_subclass(c, d),
+            _ => a == b,
+        }
+    }
+
+    // Whether arrays of more dimensions are below it.
+    fn is_base_above_arrays(&self, b: Base) -> bool
+        requires { IsBaseIn self.now.outline.classes b }
+        ensures { result ≡ is_base_above_arrays self.now.outline.classes b }
+    {
+        match b {
+            Base::OfClass(d) => self.is_above_arrays(d),
+            _ => false,
+        }
+    }
+
+    // Whether each array is below the class.
+    fn is_above_arrays(&self, d: ClassId) -> bool
+        requires { d.0 < length self.now.outline.classes }
+        ensures { result ≡ is_above_arrays self.now.outline.classes d.0 }
+    {
+        is_name_above_arrays(self.class(d).name.as_slice())
+    }
+
+    // All superinterfaces of the class: each is an interface.
+    fn interfaces(&self, c: ClassId) -> &[u32]
+        requires { c.0 < length self.now.outline.classes }
+        ensures value { result.now ≡ interfaces_of self.now.outline.classes c.0 }
+        ensures only { AreInterfaces self.now.outline.classes result.now }
+    {
+        self.parts.interfaces.as_slice()[c.0 as usize].as_slice()
+    }
+
+    // The class's superclasses from the uppermost one down, and the class.
+    fn display(&self, c: ClassId) -> &[u32]
+        requires { c.0 < length self.now.outline.classes }
+        ensures value { result.now ≡ reverse (chain_of self.now.outline.classes c.0) }
+        ensures linear { IsLinear self.now.outline.classes }
+    {
+        self.parts.displays.as_slice()[c.0 as usize].as_slice()
+    }
+
+    // Whether the second class is the first one or one of its superclasses: it stands in the display of
+    // the first one at its own depth.
+    fn is_in_chain(&self, c: ClassId, d: ClassId) -> bool
+        requires first { c.0 < length self.now.outline.classes }
+        requires second { d.0 < length self.now.outline.classes }
+        ensures { result ≡ is_among d.0 (chain_of self.now.outline.classes c.0) }
+    {
+        let lower = self.display(c);
+        let upper = self.display(d);
+        let depth = upper.len() - 1;
+        if depth < lower.len() {
+            lower[depth] == d.0
+        } else {
+            false
+        }
+    }
+}
+
+// Whether the number is among those listed.
+fn is_listed(number: u32, listed: &[u32]) -> bool
+    ensures { result ≡ is_among number listed.now }
+{
+    listed.contains(&number)
+}
+
+// Whether it is the name of a class that is above each array.
+fn is_name_above_arrays(name: &[u8]) -> bool
+    ensures { result ≡ list_any (bytes_eq name.now) array_supers }
+{
+    if name == b"java/lang/Object".as_slice() {
+        return true;
+    }
+    if name == b"java/lang/Cloneable".as_slice() {
+        return true;
+    }
+    name == b"java/io/Serializable".as_slice()
 }

@@ -1,13 +1,12 @@
 -- How a program lies in the memory of the code: its parts, with tables that answer at once what the definitions look up.
-use Rattle.std.specs.Prelude.{◌≡◌, ℕ, ◌^◌, ◌<◌, false, List, ◌∷◌, [], length, map, reverse, nat_eq, Option, None, Some, IsSomeAnd, slice_get, slice_index}
+use Rattle.std.specs.Prelude.{◌≡◌, ℕ, ◌^◌, ◌<◌, true, List, ◌∷◌, [], length, map, reverse, nat_eq, Option, None, Some, IsSomeAnd, slice_get, slice_index}
 use Rattle.std.specs.List.{range_with_len}
 use Rattle.std.specs.HashMap.{get}
 use Rattle.fm_base.specs.declared.kinds.TypeRef.{TypeRef}
-use Rattle.fm_code.specs.AccessFlags.{is_private}
 use Rattle.fm_code.specs.declared.code_array.Code.{Code}
-use Rattle.fm_world.specs.Chains.{chain_of, interfaces_of, parent_of, same_type}
-use Rattle.fm_world.specs.Lookups.{is_selectable}
-use Rattle.fm_world.specs.Members.{fields_of, methods_of, method_at, method_among, statics_of}
+use Rattle.fm_world.specs.Chains.{chain_of, interfaces_of, is_among, parent_of, same_type}
+use Rattle.fm_world.specs.Lookups.{is_interface_at, is_selectable, object_number}
+use Rattle.fm_world.specs.Members.{fields_of, is_instance, methods_of, method_at, method_among, own_method, statics_of}
 use Rattle.fm_world.specs.Numbers.{type_number}
 use Rattle.fm_world.specs.Programs.{Outline, Program, class_info, field_info, method_info}
 use Rattle.fm_world.specs.declared.declarations.DeclaredClass.{DeclaredClass}
@@ -41,6 +40,10 @@ chain_from classes (Some class) = chain_of classes class
 abbrev pub IsLinear : List DeclaredClass → Type 0
 IsLinear classes = (class : ℕ) → class < length classes → chain_of classes class ≡ class ∷ chain_from classes (parent_of classes class)
 
+-- each number is that of an interface
+abbrev pub AreInterfaces : List DeclaredClass → List ℕ → Type 0
+AreInterfaces classes numbers = (number : ℕ) → is_among number numbers ≡ true → is_interface_at classes number ≡ true
+
 -- each number fits 32 bits
 pub record AreFew (x : Parts) : Type 0 where
   pub classes : length x.declared < 2 ^ 32
@@ -55,11 +58,20 @@ pub record AnswerForClasses (x : Parts) : Type 0 where
   pub linear : IsLinear x.declared
   pub displays : x.displays ≡ map (λ class. reverse (chain_of x.declared class)) (numbers_below (length x.declared))
   pub interfaces : x.interfaces ≡ map (interfaces_of x.declared) (numbers_below (length x.declared))
+  pub only_interfaces : (class : ℕ) → class < length x.declared → AreInterfaces x.declared (interfaces_of x.declared class)
   pub signatures : length x.signatures ≡ length (methods_of x.declared)
   pub selected : (class method : ℕ) → class < length x.declared → method < length (methods_of x.declared)
       → IsSomeAnd (slice_get x.selected class) (λ table.
-          get nat_eq table (slice_index x.signatures method)
-              ≡ (let m = (method_at x.declared method).method in method_among x.declared is_selectable m.name m.descriptor (chain_of x.declared class)))
+      get nat_eq table (slice_index x.signatures method)
+      ≡ (let m = (method_at x.declared method).method in method_among x.declared is_selectable m.name m.descriptor (chain_of x.declared class)))
+
+-- Object is the first class; and for each class its own method that isn't static, by signature
+pub record AnswerForCalls (x : Parts) : Type 0 where
+  pub object : object_number x.declared ≡ Some 0
+  pub own : (class method : ℕ) → class < length x.declared → method < length (methods_of x.declared)
+      → IsSomeAnd (slice_get x.own class) (λ table.
+      get nat_eq table (slice_index x.signatures method)
+      ≡ (let m = (method_at x.declared method).method in own_method x.declared is_instance m.name m.descriptor class))
 
 -- the records tell of the classes, methods and fields what the definitions say, and the tables answer what they look up
 pub record AreTables (x : Parts) : Type 0 where
@@ -69,4 +81,5 @@ pub record AreTables (x : Parts) : Type 0 where
   pub fields : x.fields ≡ map (field_info (outline_in x)) (numbers_below (length (fields_of x.declared)))
   pub statics : x.statics ≡ statics_of x.declared
   pub answers : AnswerForClasses x
+  pub calls : AnswerForCalls x
   pub numbers : (t : TypeRef) → get same_type x.numbers t ≡ type_number x.types t

@@ -15,5 +15,5 @@ returns c =
     let x = c.self.inside.parts in
     let within = to_parts (λ p. c.args.c.0 < length p.outline.classes) x c.args.self.now c.self.view_is c.requires in
     from_parts (λ p. c.index-as_slice-c.result ≡ class_info p.outline c.args.c.0) x c.args.self.now c.self.view_is
-        (row_is (class_info (outline_in x)) (length x.declared) c.args.c.0 c.as_slice.result.now x.classes c.index-as_slice-c.result c.as_slice.ensures
-            c.self.invariant.classes within c.index-as_slice-c.is)
+    (row_is (class_info (outline_in x)) (length x.declared) c.args.c.0 c.as_slice.result.now x.classes c.index-as_slice-c.result c.as_slice.ensures
+    c.self.invariant.classes within c.index-as_slice-c.is)

@@ -16,5 +16,5 @@ returns c =
     let x = c.self.inside.parts in
     let within = to_parts (λ p. c.args.f.0 < length (fields_of p.outline.classes)) x c.args.self.now c.self.view_is c.requires in
     from_parts (λ p. c.index-as_slice-f.result ≡ field_info p.outline c.args.f.0) x c.args.self.now c.self.view_is
-        (row_is (field_info (outline_in x)) (length (fields_of x.declared)) c.args.f.0 c.as_slice.result.now x.fields c.index-as_slice-f.result
-            c.as_slice.ensures c.self.invariant.fields within c.index-as_slice-f.is)
+    (row_is (field_info (outline_in x)) (length (fields_of x.declared)) c.args.f.0 c.as_slice.result.now x.fields c.index-as_slice-f.result
+    c.as_slice.ensures c.self.invariant.fields within c.index-as_slice-f.is)

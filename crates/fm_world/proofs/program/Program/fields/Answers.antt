@@ -9,4 +9,4 @@ pub returns : goal.returns
 returns c =
     let x = c.self.inside.parts in
     from_parts (λ p. c.len.result ≡ length (fields_of p.outline.classes)) x c.args.self.now c.self.view_is
-        (c.len.ensures ∙ length-row (field_info (outline_in x)) (length (fields_of x.declared)) x.fields c.self.invariant.fields)
+    (c.len.ensures ∙ length-row (field_info (outline_in x)) (length (fields_of x.declared)) x.fields c.self.invariant.fields)

@@ -16,5 +16,5 @@ returns c =
     let x = c.self.inside.parts in
     let within = to_parts (λ p. c.args.m.0 < length (methods_of p.outline.classes)) x c.args.self.now c.self.view_is c.requires in
     from_parts (λ p. c.index-as_slice-m.result ≡ method_info p c.args.m.0) x c.args.self.now c.self.view_is
-        (row_is (method_info (program_in x)) (length (methods_of x.declared)) c.args.m.0 c.as_slice.result.now x.methods c.index-as_slice-m.result
-            c.as_slice.ensures c.self.invariant.methods within c.index-as_slice-m.is)
+    (row_is (method_info (program_in x)) (length (methods_of x.declared)) c.args.m.0 c.as_slice.result.now x.methods c.index-as_slice-m.result
+    c.as_slice.ensures c.self.invariant.methods within c.index-as_slice-m.is)

@@ -9,4 +9,4 @@ pub returns : goal.returns
 returns c =
     let x = c.self.inside.parts in
     from_parts (λ p. c.len.result ≡ length (methods_of p.outline.classes)) x c.args.self.now c.self.view_is
-        (c.len.ensures ∙ length-row (method_info (program_in x)) (length (methods_of x.declared)) x.methods c.self.invariant.methods)
+    (c.len.ensures ∙ length-row (method_info (program_in x)) (length (methods_of x.declared)) x.methods c.self.invariant.methods)

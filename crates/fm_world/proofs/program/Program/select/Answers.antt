@@ -2,7 +2,6 @@ use Rattle.std.proofs.Common.{◌≡◌, sym, ◌∙◌, ap, true, false, option
 use Rattle.fm_code.specs.AccessFlags.{is_private}
 use Rattle.fm_world.proofs.Selected.{selected_by_table, selected_within}
 use Rattle.fm_world.proofs.Told.{method_info-flags, select-private}
-use Rattle.fm_world.specs.Members.{method_at}
 use Rattle.fm_world.proofs.program.Program.select.Goals as goal
 
 pub returns-then-has_flag : goal.returns-then-has_flag
@@ -14,7 +13,7 @@ returns-then-has_flag c =
 pub bounds-as_slice-c : goal.bounds-as_slice-c
 bounds-as_slice-c c =
     selected_within c.self.inside.parts c.args.self.now c.args.c.0 c.args.m.0 c.as_slice-2.result.now c.self.view_is c.self.invariant c.requires.class
-        c.requires.method c.as_slice-2.ensures
+    c.requires.method c.as_slice-2.ensures
 
 pub returns-in-Some : goal.returns-in-Some
 returns-in-Some c =
@@ -22,7 +21,7 @@ returns-in-Some c =
     let other : is_private c.method.result.now.flags ≡ false = sym c.has_flag.ensures ∙ c.if-has_flag.false in
     sym (ap option_copied c.in-Some.is) ∙ c.get.ensures.value
     ∙ selected_by_table c.self.inside.parts c.args.self.now c.args.c.0 c.args.m.0 c.as_slice-2.result.now c.index-as_slice-c.result c.as_slice.result.now
-        c.self.view_is c.self.invariant c.requires.class c.requires.method (sym flags ∙ other) c.as_slice-2.ensures c.as_slice.ensures c.index-as_slice-c.is
+    c.self.view_is c.self.invariant c.requires.class c.requires.method (sym flags ∙ other) c.as_slice-2.ensures c.as_slice.ensures c.index-as_slice-c.is
 
 pub returns-in-None : goal.returns-in-None
 returns-in-None c =
@@ -30,4 +29,4 @@ returns-in-None c =
     let other : is_private c.method.result.now.flags ≡ false = sym c.has_flag.ensures ∙ c.if-has_flag.false in
     sym (ap option_copied c.in-None.is) ∙ c.get.ensures.value
     ∙ selected_by_table c.self.inside.parts c.args.self.now c.args.c.0 c.args.m.0 c.as_slice-2.result.now c.index-as_slice-c.result c.as_slice.result.now
-        c.self.view_is c.self.invariant c.requires.class c.requires.method (sym flags ∙ other) c.as_slice-2.ensures c.as_slice.ensures c.index-as_slice-c.is
+    c.self.view_is c.self.invariant c.requires.class c.requires.method (sym flags ∙ other) c.as_slice-2.ensures c.as_slice.ensures c.index-as_slice-c.is
