@@ -5,7 +5,7 @@ use Rattle.fm_code.specs.AccessFlags.{is_private}
 use Rattle.fm_world.proofs.TableLemmas.{known_at, known_within, to_parts, from_parts}
 use Rattle.fm_world.proofs.Told.{select-other}
 use Rattle.fm_world.specs.Chains.{chain_of}
-use Rattle.fm_world.specs.Lookups.{select, is_selectable}
+use Rattle.fm_world.specs.Lookups.{own_instance, select, is_selectable}
 use Rattle.fm_world.specs.Members.{method_at, method_among, methods_of}
 use Rattle.fm_world.specs.Programs.{Program}
 use Rattle.fm_world.specs.declared.parts.Parts.{Parts}
@@ -39,3 +39,19 @@ selected_by_table x p class method tables table signatures e inv c_in m_in other
     let says = known_at (SaysSelected x class method) tables x.selected class table same (inv.answers.selected class method c_within m_within) read in
     from_parts (λ q. get nat_eq table (get_or signatures method 0) ≡ select q.outline.classes class method) x p e
     (ap (λ zs. get nat_eq table (get_or zs method 0)) same_signatures ∙ says ∙ sym (select-other x.declared class method not_private))
+
+-- ---- a class's own methods
+
+abbrev pub SaysOwn : Parts → ℕ → ℕ → Table → Type 0
+SaysOwn x class method table = get nat_eq table (get_or x.signatures method 0) ≡ own_instance x.declared method class
+
+pub own_by_table : (x : Parts) (p : Program) (class method : ℕ) (tables : List Table) (table : Table) (signatures : List ℕ) → program_in x ≡ p → AreTables x
+    → class < length tables → method < length (methods_of p.outline.classes) → tables ≡ x.own → signatures ≡ x.signatures → table ≡ get_or tables class table
+    → get nat_eq table (get_or signatures method 0) ≡ own_instance p.outline.classes method class
+own_by_table x p class method tables table signatures e inv inside m_in same same_signatures read =
+    let P : ℕ → Type 0 = λ n. class < n in
+    let c_within : class < length x.declared = subst P (ap length same ∙ inv.calls.one_each) inside in
+    let m_within = to_parts (λ q. method < length (methods_of q.outline.classes)) x p e m_in in
+    let says = known_at (SaysOwn x class method) tables x.own class table same (inv.calls.own class method c_within m_within) read in
+    from_parts (λ q. get nat_eq table (get_or signatures method 0) ≡ own_instance q.outline.classes method class) x p e
+        (ap (λ zs. get nat_eq table (get_or zs method 0)) same_signatures ∙ says)

@@ -1,10 +1,10 @@
 -- What the records tell, field by field, and the cases of the selected method.
-use Rattle.std.proofs.Common.{◌&&◌, nat_lt, arith, ◌≡◌, refl, ◌∙◌, ap, ℕ, ◌<◌, true, false, List, Some, if◌then◌else◌}
+use Rattle.std.proofs.Common.{◌&&◌, not, Bool, unwrap_or, Option, None, nat_lt, arith, ◌≡◌, refl, ◌∙◌, ap, ℕ, ◌<◌, true, false, List, Some, if◌then◌else◌}
 use Rattle.std.proofs.lemmas.Bool.{eq-eqb, ne_eqb, lt-ltb, le-ltb}
 use Rattle.fm_base.specs.declared.kinds.TypeRef.{TypeRef}
 use Rattle.fm_code.specs.AccessFlags.{is_private}
-use Rattle.fm_world.specs.Chains.{chain_of, class_at, is_base_above_arrays, is_sub, is_sub_base}
-use Rattle.fm_world.specs.Lookups.{select, is_selectable}
+use Rattle.fm_world.specs.Chains.{first_found, superclasses_of, chain_of, class_at, is_base_above_arrays, is_sub, is_sub_base}
+use Rattle.fm_world.specs.Lookups.{own_instance, searches_above, select, special_target, is_selectable}
 use Rattle.fm_world.specs.Members.{method_at, method_among, slot_of}
 use Rattle.fm_world.specs.Programs.{Outline, Program, class_info, field_info, method_info}
 use Rattle.fm_world.specs.declared.declarations.DeclaredClass.{DeclaredClass}
@@ -20,6 +20,10 @@ class_info-name o class = refl
 pub field_info-slot : (o : Outline) (field : ℕ) → (field_info o field).slot ≡ slot_of o.classes field
 unfolding field_info
 field_info-slot o field = refl
+
+pub method_info-name : (p : Program) (method : ℕ) → (method_info p method).name ≡ (method_at p.outline.classes method).method.name
+unfolding method_info
+method_info-name p method = refl
 
 pub method_info-flags : (p : Program) (method : ℕ) → (method_info p method).flags ≡ (method_at p.outline.classes method).method.flags
 unfolding method_info
@@ -56,3 +60,26 @@ unfolding is_sub
 is_sub-flatter classes a b flatter =
     ap (λ t. if t then is_sub_base classes a.base b.base else (nat_lt b.dims a.dims && is_base_above_arrays classes b.base)) (ne_eqb a.dims b.dims (λ same. omega (arith, same, flatter)))
     ∙ ap (λ t. t && is_base_above_arrays classes b.base) (le-ltb b.dims a.dims (omega (arith, flatter)))
+
+-- the second of three tests, where the first one fails
+pub all_three : {first second b : Bool} → first ≡ false → second ≡ b → (third : Bool) → (not first && second && third) ≡ (b && third)
+all_three {first} {second} {b} one two third = ap (λ f. not f && second && third) one ∙ ap (λ s. s && third) two
+
+-- ---- the cases of a special call
+
+pub special_target-unnamed : (classes : List DeclaredClass) (caller method : ℕ) → special_target classes caller None method ≡ method
+unfolding special_target
+special_target-unnamed classes caller method = refl
+
+pub special_target-above : (classes : List DeclaredClass) (caller : ℕ) (named : Option ℕ) (method : ℕ)
+    → searches_above classes caller named (method_at classes method).method.name ≡ true
+    → special_target classes caller named method ≡ unwrap_or (first_found (own_instance classes method) (superclasses_of classes caller)) method
+unfolding special_target
+special_target-above classes caller named method above =
+    ap (λ b. if b then unwrap_or (first_found (own_instance classes method) (superclasses_of classes caller)) method else method) above
+
+pub special_target-itself : (classes : List DeclaredClass) (caller : ℕ) (named : Option ℕ) (method : ℕ)
+    → searches_above classes caller named (method_at classes method).method.name ≡ false → special_target classes caller named method ≡ method
+unfolding special_target
+special_target-itself classes caller named method itself =
+    ap (λ b. if b then unwrap_or (first_found (own_instance classes method) (superclasses_of classes caller)) method else method) itself

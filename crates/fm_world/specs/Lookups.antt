@@ -6,10 +6,10 @@ use Rattle.fm_code.specs.AccessFlags.{has_flag, is_private, is_static, is_interf
 use Rattle.fm_code.specs.ConstantPool.{MemberName}
 use Rattle.fm_code.specs.Names.{FieldType}
 use Rattle.fm_world.specs.BuiltIns.{object_name}
-use Rattle.fm_world.specs.Chains.{class_at, chain_of, superclasses_of, superinterfaces_of, interfaces_of, is_among}
+use Rattle.fm_world.specs.Chains.{class_at, chain_of, superclasses_of, superinterfaces_of, interfaces_of, is_among, first_found}
 use Rattle.fm_world.specs.declared.declarations.DeclaredClass.{DeclaredClass}
 use Rattle.fm_world.specs.Descriptors.{class_number, class_type}
-use Rattle.fm_world.specs.Members.{field_among, method_among, method_at, is_instance}
+use Rattle.fm_world.specs.Members.{field_among, method_among, own_method, method_at, is_instance}
 use Rattle.fm_world.specs.declared.TheConstants.{ACC_SUPER}
 
 abbrev pub object_number : List DeclaredClass → Option ℕ
@@ -76,12 +76,15 @@ searches_above classes caller None name = false
 searches_above classes caller (Some named) name =
     not (bytes_eq name constructor_name) && has_flag (class_at classes caller).flags ACC_SUPER && is_among named (superclasses_of classes caller)
 
+-- the class's own method of the name and descriptor of this one that isn't static, private ones counted
+abbrev pub own_instance : List DeclaredClass → ℕ → ℕ → Option ℕ
+own_instance classes method class = let m = (method_at classes method).method in own_method classes is_instance m.name m.descriptor class
+
 -- the method that a special call calls, where the entry names the class and is resolved to the method; an array is named as none
 unfoldable pub special_target : List DeclaredClass → ℕ → Option ℕ → ℕ → ℕ
 special_target classes caller named method =
-    let m = (method_at classes method).method in
-    if searches_above classes caller named m.name
-    then unwrap_or (method_among classes is_instance m.name m.descriptor (superclasses_of classes caller)) method else method
+    if searches_above classes caller named (method_at classes method).method.name
+    then unwrap_or (first_found (own_instance classes method) (superclasses_of classes caller)) method else method
 
 -- a method that isn't to be called
 abbrev pub is_abstract_method : List DeclaredClass → ℕ → Bool

@@ -1,3 +1,4 @@
 -- What serves the proofs alone: how the program lies in the memory of the code.
 pub mod BuiltInTable
 pub mod Tables
+pub mod Marks

@@ -1,18 +1,21 @@
 // The linked program, and what is asked of it.
 
-ghost use Rattle.std.specs.Prelude.{◌≡◌, ◌<◌, length, reverse, Some, slice_get};
+ghost use Rattle.std.specs.Prelude.{◌≡◌, ◌<◌, length, reverse, Some, slice_get, unwrap_or};
 ghost use Rattle.std.specs.List.{list_any};
 ghost use Rattle.std.specs.Option.{option_map};
 ghost use Rattle.std.specs.Str.{bytes_eq};
-ghost use Rattle.fm_world.specs.Chains.{array_supers, chain_of, interfaces_of, is_above_arrays, is_among, is_base_above_arrays, is_sub, is_sub_base, is_subclass};
-ghost use Rattle.fm_world.specs.Lookups.{select};
+ghost use Rattle.fm_code.specs.AccessFlags.{has_flag};
+ghost use Rattle.fm_world.specs.Chains.{array_supers, chain_of, class_at, interfaces_of, is_above_arrays, is_among, is_base_above_arrays, is_sub, is_sub_base, is_subclass, first_found, superclasses_of};
+ghost use Rattle.fm_world.specs.Lookups.{constructor_name, own_instance, searches_above, select, special_target};
 ghost use Rattle.fm_world.specs.Numbers.{type_number};
 ghost use Rattle.fm_base.specs.declared.ids.TypeId.{TypeId};
+ghost use Rattle.fm_base.specs.declared.ids.ClassId.{ClassId};
 ghost use Rattle.fm_base.specs.declared.ids.MethodId.{MethodId};
-ghost use Rattle.fm_world.specs.Members.{fields_of, methods_of, slot_of, statics_of};
-ghost use Rattle.fm_world.specs.Programs.{class_info, field_info, method_info, use_of, IsBaseIn, IsTypeIn};
+ghost use Rattle.fm_world.specs.Members.{fields_of, method_at, methods_of, slot_of, statics_of};
+ghost use Rattle.fm_world.specs.Programs.{class_info, class_of_type, field_info, method_info, use_of, IsBaseIn, IsTypeIn};
 ghost use Rattle.fm_world.specs.inner.Tables.{program_in, AreInterfaces, AreTables, IsLinear};
 
+use crate::ACC_SUPER;
 use crate::parts::Parts;
 use crate::records::{ClassInfo, FieldInfo, MethodInfo};
 use crate::uses::Use;
@@ -263,6 +266,107 @@ impl Program {
         is_name_above_arrays(self.class(d).name.as_slice())
     }
 
+    /// The method that a special call calls, where its pool entry names the type and is resolved to the
+    /// method: that one, unless the search begins above the caller. Takes no memory.
+    pub fn special_target(&self, caller: ClassId, named: TypeRef, m: MethodId) -> MethodId
+        requires caller { caller.0 < length self.now.outline.classes }
+        requires method { m.0 < length (methods_of self.now.outline.classes) }
+        ensures { result.0 ≡ special_target self.now.outline.classes caller.0
+            (class_of_type named) m.0 }
+    {
+        match class_of(named) {
+            Some(class) => {
+                if self.searches_above(caller, class, m) {
+                    self.nearest_above(caller, m)
+                } else {
+                    m
+                }
+            }
+            None => m,
+        }
+    }
+
+    // Whether a special call that names the class and is resolved to the method searches from the
+    // caller's superclass.
+    fn searches_above(&self, caller: ClassId, named: ClassId, m: MethodId) -> bool
+        requires caller { caller.0 < length self.now.outline.classes }
+        requires method { m.0 < length (methods_of self.now.outline.classes) }
+        ensures { result ≡ searches_above self.now.outline.classes caller.0 (Some named.0)
+            (method_at self.now.outline.classes m.0).method.name }
+    {
+        if self.is_constructor(m) {
+            return false;
+        }
+        if self.has_super_flag(caller) {
+            is_listed(named.0, self.superclasses(caller))
+        } else {
+            false
+        }
+    }
+
+    // Whether the method is a constructor.
+    fn is_constructor(&self, m: MethodId) -> bool
+        requires { m.0 < length (methods_of self.now.outline.classes) }
+        ensures { result
+            ≡ bytes_eq (method_at self.now.outline.classes m.0).method.name constructor_name }
+    {
+        self.method(m).name.as_slice() == b"<init>".as_slice()
+    }
+
+    // Whether special calls of the class can begin above it.
+    fn has_super_flag(&self, c: ClassId) -> bool
+        requires { c.0 < length self.now.outline.classes }
+        ensures { result ≡ has_flag (class_at self.now.outline.classes c.0).flags ACC_SUPER }
+    {
+        has_flag(self.class(c).flags, ACC_SUPER)
+    }
+
+    // The nearest method of the same name and descriptor that isn't static, from the superclass of the
+    // caller upwards; the method itself where there is none.
+    fn nearest_above(&self, caller: ClassId, m: MethodId) -> MethodId
+        requires caller { caller.0 < length self.now.outline.classes }
+        requires method { m.0 < length (methods_of self.now.outline.classes) }
+        ensures { result.0 ≡ unwrap_or (first_found (own_instance self.now.outline.classes m.0)
+            (superclasses_of self.now.outline.classes caller.0)) m.0 }
+    {
+        let above = self.superclasses(caller);
+        let mut depth = above.len();
+        while depth > 0 {
+            depth -= 1;
+            if let Some(found) = self.own_instance(above[depth], m) {
+                return found;
+            }
+        }
+        m
+    }
+
+    // The class's own method of the same name and descriptor that isn't static.
+    fn own_instance(&self, class: u32, m: MethodId) -> Option<MethodId>
+        requires { m.0 < length (methods_of self.now.outline.classes) }
+        ensures { option_map (λ (n : MethodId). n.0) result
+            ≡ own_instance self.now.outline.classes m.0 class }
+    {
+        let signature = self.parts.signatures.as_slice()[m.0 as usize];
+        let own = self.parts.own.as_slice();
+        if class as usize >= own.len() {
+            return None;
+        }
+        let table = &own[class as usize];
+        match table.get(&signature) {
+            Some(number) => Some(MethodId(*number)),
+            None => None,
+        }
+    }
+
+    // The class's superclasses from the uppermost one down.
+    fn superclasses(&self, c: ClassId) -> &[u32]
+        requires { c.0 < length self.now.outline.classes }
+        ensures { result.now ≡ reverse (superclasses_of self.now.outline.classes c.0) }
+    {
+        let display = self.display(c);
+        &display[..display.len() - 1]
+    }
+
     // All superinterfaces of the class: each is an interface.
     fn interfaces(&self, c: ClassId) -> &[u32]
         requires { c.0 < length self.now.outline.classes }
@@ -317,4 +421,17 @@ fn is_name_above_arrays(name: &[u8]) -> bool
         return true;
     }
     name == b"java/io/Serializable".as_slice()
+}
+
+// The class that a type is; none for an array.
+fn class_of(t: TypeRef) -> Option<ClassId>
+    ensures { option_map (λ (c : ClassId). c.0) result ≡ class_of_type t }
+{
+    if t.dims > 0 {
+        return None;
+    }
+    match t.base {
+        Base::OfClass(class) => Some(class),
+        _ => None,
+    }
 }
