@@ -3,3 +3,4 @@ mod TableLemmas
 mod Told
 mod Selected
 mod Displays
+mod Marks

@@ -54,4 +54,4 @@ own_by_table x p class method tables table signatures e inv inside m_in same sam
     let m_within = to_parts (λ q. method < length (methods_of q.outline.classes)) x p e m_in in
     let says = known_at (SaysOwn x class method) tables x.own class table same (inv.calls.own class method c_within m_within) read in
     from_parts (λ q. get nat_eq table (get_or signatures method 0) ≡ own_instance q.outline.classes method class) x p e
-        (ap (λ zs. get nat_eq table (get_or zs method 0)) same_signatures ∙ says)
+    (ap (λ zs. get nat_eq table (get_or zs method 0)) same_signatures ∙ says)

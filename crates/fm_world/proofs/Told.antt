@@ -1,12 +1,15 @@
 -- What the records tell, field by field, and the cases of the selected method.
-use Rattle.std.proofs.Common.{◌&&◌, not, Bool, unwrap_or, Option, None, nat_lt, arith, ◌≡◌, refl, ◌∙◌, ap, ℕ, ◌<◌, true, false, List, Some, if◌then◌else◌}
+use Rattle.std.proofs.Common.{length, [], ◌∷◌, filter, ◌⊎◌, inl, inr, ◌&&◌, not, Bool, unwrap_or, Option, None, nat_lt, arith, ◌≡◌, refl, ◌∙◌, ap, ℕ, ◌<◌, true, false, List, Some, if◌then◌else◌}
+use Rattle.std.specs.List.{range_with_len}
 use Rattle.std.proofs.lemmas.Bool.{eq-eqb, ne_eqb, lt-ltb, le-ltb}
 use Rattle.fm_base.specs.declared.kinds.TypeRef.{TypeRef}
 use Rattle.fm_code.specs.AccessFlags.{is_private}
-use Rattle.fm_world.specs.Chains.{first_found, superclasses_of, chain_of, class_at, is_base_above_arrays, is_sub, is_sub_base}
+use Rattle.fm_world.specs.Chains.{is_among, first_found, superclasses_of, chain_of, class_at, is_base_above_arrays, is_sub, is_sub_base}
 use Rattle.fm_world.specs.Lookups.{own_instance, searches_above, select, special_target, is_selectable}
-use Rattle.fm_world.specs.Members.{method_at, method_among, slot_of}
-use Rattle.fm_world.specs.Programs.{Outline, Program, class_info, field_info, method_info}
+use Rattle.fm_world.specs.Members.{methods_of, method_at, method_among, slot_of}
+use Rattle.fm_world.specs.Programs.{Outline, Program, class_info, class_of_type, field_info, method_info, selected, targets}
+use Rattle.fm_world.specs.declared.calls.Call.{Call}
+use Rattle.fm_world.specs.declared.calls.CallKind.TheVariants as call
 use Rattle.fm_world.specs.declared.declarations.DeclaredClass.{DeclaredClass}
 
 pub class_info-flags : (o : Outline) (class : ℕ) → (class_info o class).flags ≡ (class_at o.classes class).flags
@@ -83,3 +86,19 @@ pub special_target-itself : (classes : List DeclaredClass) (caller : ℕ) (named
 unfolding special_target
 special_target-itself classes caller named method itself =
     ap (λ b. if b then unwrap_or (first_found (own_instance classes method) (superclasses_of classes caller)) method else method) itself
+
+-- ---- the cases of the targets of a call
+
+pub targets-static : (p : Program) (c : Call) → c.kind ≡ call.Static → targets p c ≡ c.method.0 ∷ []
+unfolding targets
+targets-static p c kind = ap (λ k. targets p (record c { kind = k })) kind
+
+pub targets-special : (p : Program) (c : Call) → c.kind ≡ call.Special → targets p c ≡ special_target p.outline.classes c.caller.0 (class_of_type c.named) c.method.0 ∷ []
+unfolding targets
+targets-special p c kind = ap (λ k. targets p (record c { kind = k })) kind
+
+pub targets-selected : (p : Program) (c : Call) → (c.kind ≡ call.Virtual) ⊎ (c.kind ≡ call.Interface)
+    → targets p c ≡ filter (λ method. is_among method (selected p c.named c.method.0)) (range_with_len 0 (length (methods_of p.outline.classes)))
+unfolding targets
+targets-selected p c (inl kind) = ap (λ k. targets p (record c { kind = k })) kind
+targets-selected p c (inr kind) = ap (λ k. targets p (record c { kind = k })) kind

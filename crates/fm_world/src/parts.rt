@@ -20,6 +20,8 @@ pub struct Parts {
     pub uses: Seq<Seq<Use>>,
     pub main: MethodId,
     pub main_class: ClassId,
+    /// The class `java/lang/Object`.
+    pub object: ClassId,
     /// The number of static fields.
     pub statics: u32,
     /// In a narrowed program the classes of which objects are made.

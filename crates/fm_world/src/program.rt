@@ -1,26 +1,29 @@
 // The linked program, and what is asked of it.
 
-ghost use Rattle.std.specs.Prelude.{◌≡◌, ◌<◌, length, reverse, Some, slice_get, unwrap_or};
-ghost use Rattle.std.specs.List.{list_any};
+ghost use Rattle.std.specs.Prelude.{◌≡◌, ◌<◌, ◌^◌, ◌++◌, if◌then◌else◌, false, [], ◌∷◌, filter, option_to_list, OnOk, IfOk, length, map, reverse, Some, slice_get, unwrap_or};
+ghost use Rattle.std.specs.List.{list_any, range_with_len, slice_index_or};
 ghost use Rattle.std.specs.Option.{option_map};
 ghost use Rattle.std.specs.Str.{bytes_eq};
 ghost use Rattle.fm_code.specs.AccessFlags.{has_flag};
 ghost use Rattle.fm_world.specs.Chains.{array_supers, chain_of, class_at, interfaces_of, is_above_arrays, is_among, is_base_above_arrays, is_sub, is_sub_base, is_subclass, first_found, superclasses_of};
-ghost use Rattle.fm_world.specs.Lookups.{constructor_name, own_instance, searches_above, select, special_target};
+ghost use Rattle.fm_world.specs.Lookups.{constructor_name, object_number, own_instance, searches_above, select, special_target};
 ghost use Rattle.fm_world.specs.Numbers.{type_number};
 ghost use Rattle.fm_base.specs.declared.ids.TypeId.{TypeId};
 ghost use Rattle.fm_base.specs.declared.ids.ClassId.{ClassId};
 ghost use Rattle.fm_base.specs.declared.ids.MethodId.{MethodId};
 ghost use Rattle.fm_world.specs.Members.{fields_of, method_at, methods_of, slot_of, statics_of};
-ghost use Rattle.fm_world.specs.Programs.{class_info, class_of_type, field_info, method_info, use_of, IsBaseIn, IsTypeIn};
+ghost use Rattle.fm_world.specs.Programs.{class_info, class_of_type, field_info, is_made, method_info, selected, takes_arrays, takes_class, targets, use_of, IsBaseIn, IsTypeIn};
+ghost use Rattle.fm_world.specs.inner.Marks.{marked, selected_of, selected_of_arrays};
 ghost use Rattle.fm_world.specs.inner.Tables.{program_in, AreInterfaces, AreTables, IsLinear};
 
 use crate::ACC_SUPER;
+use crate::calls::{Call, CallKind};
 use crate::parts::Parts;
 use crate::records::{ClassInfo, FieldInfo, MethodInfo};
 use crate::uses::Use;
-use fm_base::{Base, ClassId, FieldId, MethodId, TypeId, TypeRef, Units};
-use fm_code::{ACC_INTERFACE, ACC_PRIVATE, has_flag};
+use fm_base::{Base, ClassId, FieldId, MethodId, NoMemory, TypeId, TypeRef, Units};
+use fm_code::{ACC_ABSTRACT, ACC_INTERFACE, ACC_PRIVATE, has_flag};
+use std::alloc::Global;
 use std::marker::Model;
 
 /// A closed program in which each name is resolved. Contracts see its classes as they are declared,
@@ -286,6 +289,133 @@ impl Program {
         }
     }
 
+    /// The methods that a call can lead to, rising and each once: of a static or special call the one
+    /// that is called, and else what is selected for each class whose objects can be the receiver, and
+    /// for arrays where one can be it.
+    pub fn targets(&self, alloc: Global, call: Call) -> Result<Vec<MethodId>, NoMemory>
+        requires caller { call.caller.0 < length self.now.outline.classes }
+        requires method { call.method.0 < length (methods_of self.now.outline.classes) }
+        requires named { IsTypeIn self.now.outline.classes call.named }
+        ensures { IfOk result (λ found. map (λ (m : MethodId). m.0) found.items
+            ≡ targets self.now call) }
+    {
+        match call.kind {
+            CallKind::Static => one_target(alloc, call.method),
+            CallKind::Special => {
+                one_target(
+                    alloc,
+                    self.special_target(call.caller, call.named, call.method),
+                )
+            }
+            CallKind::Virtual | CallKind::Interface => {
+                self.selected_targets(alloc, call.named, call.method)
+            }
+        }
+    }
+
+    // The methods that are selected over all receivers of the type.
+    fn selected_targets(
+        &self,
+        alloc: Global,
+        named: TypeRef,
+        m: MethodId,
+    ) -> Result<Vec<MethodId>, NoMemory>
+        requires method { m.0 < length (methods_of self.now.outline.classes) }
+        requires named { IsTypeIn self.now.outline.classes named }
+        ensures { IfOk result (λ found. map (λ (m : MethodId). m.0) found.items
+            ≡ filter (λ method. is_among method (selected self.now named m.0))
+            (range_with_len 0 (length (methods_of self.now.outline.classes)))) }
+    {
+        let mut marks = vec![in alloc; false; self.methods() as usize]?;
+        for class in 0..self.classes() {
+            mark(&mut marks, self.selected_of(named, ClassId(class), m));
+        }
+        mark(&mut marks, self.selected_of_arrays(named, m));
+        marked_methods(alloc, marks.as_slice())
+    }
+
+    // The method that is selected for the class, where an object of it can be the receiver.
+    fn selected_of(&self, named: TypeRef, c: ClassId, m: MethodId) -> Option<MethodId>
+        requires method { m.0 < length (methods_of self.now.outline.classes) }
+        requires named { IsTypeIn self.now.outline.classes named }
+        requires class { c.0 < length self.now.outline.classes }
+        ensures { option_map (λ (n : MethodId). n.0) result
+            ≡ selected_of self.now named m.0 c.0 }
+    {
+        if self.takes_class(named, c) {
+            self.select(c, m)
+        } else {
+            None
+        }
+    }
+
+    // The method that is selected for arrays, where one can be the receiver.
+    fn selected_of_arrays(&self, named: TypeRef, m: MethodId) -> Option<MethodId>
+        requires method { m.0 < length (methods_of self.now.outline.classes) }
+        requires named { IsTypeIn self.now.outline.classes named }
+        ensures { option_to_list (option_map (λ (n : MethodId). n.0) result)
+            ≡ selected_of_arrays self.now named m.0 }
+    {
+        if self.takes_arrays(named) {
+            self.select(self.object(), m)
+        } else {
+            None
+        }
+    }
+
+    // The class of which arrays are.
+    fn object(&self) -> ClassId
+        ensures number { object_number self.now.outline.classes ≡ Some result.0 }
+        ensures within { result.0 < length self.now.outline.classes }
+    {
+        self.parts.object
+    }
+
+    // Whether an object of the class can be the receiver of a call that names the type.
+    fn takes_class(&self, named: TypeRef, c: ClassId) -> bool
+        requires named { IsTypeIn self.now.outline.classes named }
+        requires class { c.0 < length self.now.outline.classes }
+        ensures { result ≡ takes_class self.now named c.0 }
+    {
+        let flags = self.class(c).flags;
+        if has_flag(flags, ACC_ABSTRACT) {
+            return false;
+        }
+        if has_flag(flags, ACC_INTERFACE) {
+            return false;
+        }
+        if !self.is_made(c) {
+            return false;
+        }
+        let class = TypeRef {
+            dims: 0,
+            base: Base::OfClass(c),
+        };
+        self.is_sub(class, named)
+    }
+
+    // Whether objects of the class are made.
+    fn is_made(&self, c: ClassId) -> bool
+        requires { c.0 < length self.now.outline.classes }
+        ensures { result ≡ is_made self.now.made c.0 }
+    {
+        match &self.parts.made {
+            Some(made) => c.0 < made.bits() && made.get(c.0),
+            None => true,
+        }
+    }
+
+    // Whether an array can be the receiver of a call that names the type.
+    fn takes_arrays(&self, named: TypeRef) -> bool
+        requires { IsTypeIn self.now.outline.classes named }
+        ensures { result ≡ takes_arrays self.now.outline.classes named }
+    {
+        match class_of(named) {
+            Some(class) => self.is_above_arrays(class),
+            None => true,
+        }
+    }
+
     // Whether a special call that names the class and is resolved to the method searches from the
     // caller's superclass.
     fn searches_above(&self, caller: ClassId, named: ClassId, m: MethodId) -> bool
@@ -434,4 +564,51 @@ fn class_of(t: TypeRef) -> Option<ClassId>
         Base::OfClass(class) => Some(class),
         _ => None,
     }
+}
+
+// The only target.
+fn one_target(alloc: Global, m: MethodId) -> Result<Vec<MethodId>, NoMemory>
+    ensures { IfOk result (λ found. map (λ (n : MethodId). n.0) found.items ≡ m.0 ∷ []) }
+{
+    let mut found = Vec::new(alloc);
+    found.push(m)?;
+    Ok(found)
+}
+
+// Marks the method, where there is one.
+fn mark(marks: &mut Vec<bool>, m: Option<MethodId>)
+    ensures { marks.new.items
+        ≡ marked marks.old.items (option_map (λ (n : MethodId). n.0) m) }
+{
+    if let Some(m) = m {
+        let index = m.0 as usize;
+        if index < marks.len() {
+            marks[index] = true;
+        }
+    }
+}
+
+// The marked methods, rising.
+fn marked_methods(alloc: Global, marks: &[bool]) -> Result<Vec<MethodId>, NoMemory>
+    requires { length marks.now < 2 ^ 32 }
+    ensures { IfOk result (λ found. map (λ (m : MethodId). m.0) found.items
+        ≡ filter (λ method. slice_index_or marks.now method false)
+        (range_with_len 0 (length marks.now))) }
+{
+    let mut found = Vec::new(alloc);
+    for method in 0..marks.len() {
+        push_if(&mut found, MethodId(method as u32), marks[method])?;
+    }
+    Ok(found)
+}
+
+// Puts the method after the last one, if it is marked.
+fn push_if(found: &mut Vec<MethodId>, m: MethodId, is_marked: bool) -> Result<(), NoMemory>
+    ensures { OnOk result
+        (found.new.items ≡ found.old.items ++ (if is_marked then m ∷ [] else [])) }
+{
+    if is_marked {
+        found.push(m)?;
+    }
+    Ok(())
 }

@@ -65,9 +65,9 @@ pub record AnswerForClasses (x : Parts) : Type 0 where
       get nat_eq table (slice_index x.signatures method)
       ≡ (let m = (method_at x.declared method).method in method_among x.declared is_selectable m.name m.descriptor (chain_of x.declared class)))
 
--- Object is the first class; and for each class its own method that isn't static, by signature
+-- the number of Object; and for each class its own method that isn't static, by signature
 pub record AnswerForCalls (x : Parts) : Type 0 where
-  pub object : object_number x.declared ≡ Some 0
+  pub object : object_number x.declared ≡ Some x.object.0
   pub one_each : length x.own ≡ length x.declared
   pub own : (class method : ℕ) → class < length x.declared → method < length (methods_of x.declared)
       → IsSomeAnd (slice_get x.own class) (λ table.

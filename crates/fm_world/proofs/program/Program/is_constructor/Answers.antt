@@ -1,4 +1,4 @@
-use Rattle.std.proofs.Common.{sym, ◌∙◌, ap}
+use Rattle.std.proofs.Common.{◌∙◌, ap}
 use Rattle.std.specs.Str.{bytes_eq}
 use Rattle.fm_world.specs.Lookups.{constructor_name}
 use Rattle.fm_world.proofs.Told.{method_info-name}

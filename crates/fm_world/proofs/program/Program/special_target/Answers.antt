@@ -1,8 +1,7 @@
-use Rattle.std.proofs.Common.{◌≡◌, sym, ◌∙◌, ap, true, false, Option, Some, None}
+use Rattle.std.proofs.Common.{◌≡◌, sym, ◌∙◌, ap, Some, None}
 use Rattle.std.specs.Option.{option_map}
 use Rattle.fm_base.specs.declared.ids.ClassId.{ClassId}
-use Rattle.fm_world.specs.Lookups.{searches_above, special_target}
-use Rattle.fm_world.specs.Members.{method_at}
+use Rattle.fm_world.specs.Lookups.{special_target}
 use Rattle.fm_world.specs.Programs.{class_of_type}
 use Rattle.fm_world.proofs.Told.{special_target-above, special_target-itself, special_target-unnamed}
 use Rattle.fm_world.proofs.program.Program.special_target.Goals as goal
