@@ -12,7 +12,7 @@ const MAJOR: usize = 7;
 
 #[test]
 fn the_class_that_was_named_is_read(rt: HostRuntime) -> Result<(), Fail> {
-    let class = read_main_class(rt.alloc(), "M", EMPTY_MAIN).map_err(|_| "refused")?;
+    let class = read_main_class(rt.alloc(), "M", EMPTY_MAIN)?;
     assert_eq!(rt; (class.major, class.minor, class.methods.len()), (49, 0, 1));
     let other = read_main_class(rt.alloc(), "N", EMPTY_MAIN).err();
     assert_eq!(rt; other, Some(FirstFail::NotYet));
@@ -21,8 +21,8 @@ fn the_class_that_was_named_is_read(rt: HostRuntime) -> Result<(), Fail> {
 
 #[test]
 fn each_class_of_the_first_form_is_read(rt: HostRuntime) -> Result<(), Fail> {
-    let class = read_first(rt.alloc(), EMPTY_MAIN).map_err(|_| "refused")?;
-    let is_first = is_first_form(rt.alloc(), &class).map_err(|_| "out of memory")?;
+    let class = read_first(rt.alloc(), EMPTY_MAIN)?;
+    let is_first = is_first_form(rt.alloc(), &class)?;
     assert!(rt; is_first);
     let mut older = Vec::from_slice(rt.alloc(), EMPTY_MAIN)?;
     if let Some(major) = older.get_mut(MAJOR) {
