@@ -8,8 +8,8 @@ use Rattle.fm_code.proofs.Tested.{read, meant, items_spelled}
 use Rattle.fm_code.specs.ClassBytes.{item_bytes}
 use Rattle.fm_code.specs.CodeRules.{CodeIsValid}
 use Rattle.fm_code.specs.InstructionTable.{insn_at}
-use Rattle.fm_code.specs.Edges.{MeetsCodeRules, insn_of, falls_through, LeadsTo, Catches, IsHandlerEdge, IsEdge, IsReachable}
-use Rattle.fm_code.specs.EdgesExample.{onward, handlers_of, edges_listed, example_code, example_items}
+use Rattle.fm_code.specs.Edges.{FallsOff, MeetsCodeRules, insn_of, falls_through, LeadsTo, Catches, IsHandlerEdge, IsEdge, IsReachable}
+use Rattle.fm_code.specs.EdgesExample.{onward, handlers_of, edges_listed, example_code, example_items, falling_code}
 use Rattle.fm_code.specs.Live.{Keeps, Live}
 use Rattle.fm_code.specs.Members.{code_of, MethodAttrIsValid, MethodIsValid}
 use Rattle.fm_code.specs.Spells.{HasSpelling}
@@ -222,6 +222,28 @@ example_meets_rules = (
     attributes = tt;
   },
 )
+
+falling_read : map read falling_code.items ≡ map (meant falling_code.items) falling_code.items
+unfolding insn_at
+falling_read = refl
+
+pub falling_meets_rules : MeetsCodeRules falling_code
+falling_meets_rules = (
+  [],
+  record {
+    not_empty = omega arith;
+    not_long = omega arith;
+    measured = refl;
+    spelled = record { bytes_are = refl; offsets = (refl, tt); spelled = items_spelled falling_code.items falling_code.items falling_read refl };
+    locals = (tt, tt);
+    operands = (tt, tt);
+    handlers = tt;
+    attributes = tt;
+  },
+)
+
+pub falls_off : FallsOff falling_code
+falls_off = record { item = 0; reachable = ([], refl); last = refl; falls = refl }
 
 -- ---- the code of a method
 

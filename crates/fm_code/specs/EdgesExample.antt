@@ -28,10 +28,14 @@ edges_listed code j = filter (λ next. nat_lt next (length code.items)) (onward 
 abbrev pub item_of : ℕ → List ℕ → Insn → Item
 item_of offset bytes i = record { offset = offset; bytes = bytes; insn = i }
 
+-- a tableswitch with two bytes of padding, and two keys from 0 on
+abbrev pub switch_bytes : List ℕ
+switch_bytes = 170 ∷ 0 ∷ 0 ∷ 0 ∷ 0 ∷ 0 ∷ 31 ∷ 0 ∷ 0 ∷ 0 ∷ 0 ∷ 0 ∷ 0 ∷ 0 ∷ 1 ∷ 0 ∷ 0 ∷ 0 ∷ 23 ∷ 0 ∷ 0 ∷ 0 ∷ 25 ∷ []
+
 abbrev pub example_items : List Item
 example_items =
     item_of 0 (27 ∷ []) (insn.Load reg.Int 1)
-    ∷ item_of 1 (170 ∷ 0 ∷ 0 ∷ 0 ∷ 0 ∷ 0 ∷ 31 ∷ 0 ∷ 0 ∷ 0 ∷ 0 ∷ 0 ∷ 0 ∷ 0 ∷ 1 ∷ 0 ∷ 0 ∷ 0 ∷ 23 ∷ 0 ∷ 0 ∷ 0 ∷ 25 ∷ []) (insn.Table (pos 0) 6 (2 ∷ 4 ∷ []))
+    ∷ item_of 1 switch_bytes (insn.Table (pos 0) 6 (2 ∷ 4 ∷ []))
     ∷ item_of 24 (42 ∷ []) (insn.Load reg.Ref 0)
     ∷ item_of 25 (191 ∷ []) insn.Throw
     ∷ item_of 26 (132 ∷ 1 ∷ 1 ∷ []) (insn.Inc 1 (pos 1))
@@ -71,3 +75,8 @@ example_edges =
     ∷ []
     ∷ []
     ∷ []
+
+-- a nop, after which nothing stands
+abbrev pub falling_code : Code
+falling_code =
+    record { max_stack = 0; max_locals = 0; items = item_of 0 (0 ∷ []) insn.Nop ∷ []; length = 1; handlers = []; attributes = [] }

@@ -2,8 +2,8 @@
 
 ghost use Rattle.std.specs.Prelude.{◌≡◌, ℕ, ◌↔◌, Some, Contains, map};
 ghost use Rattle.std.specs.List.{range_with_len};
-ghost use Rattle.fm_code.specs.Edges.{MeetsCodeRules, IsEdge, IsReachable};
-ghost use Rattle.fm_code.specs.EdgesExample.{edges_listed, example_code, example_edges};
+ghost use Rattle.fm_code.specs.Edges.{MeetsCodeRules, IsEdge, IsReachable, FallsOff};
+ghost use Rattle.fm_code.specs.EdgesExample.{edges_listed, example_code, example_edges, falling_code};
 ghost use Rattle.fm_code.specs.Live.{Keeps, Live, Loads};
 ghost use Rattle.fm_code.specs.Members.{code_of};
 ghost use Rattle.fm_code.specs.Spells.{HasSpelling};
@@ -20,6 +20,7 @@ pub fn law_code_of_method()
 /// The edges of an item are those of a list that computes, and at a code that is written out they are
 /// the ones that its reader expects: of a loop, a switch and a handler. The handler is reached by its
 /// edge alone, and by that edge a local is live which it loads; one isn't live where it is stored over.
+/// Control falls off the end of a second code.
 pub fn law_edges()
     ensures listed { (code : Code) (j next : ℕ)
         → (IsEdge code j next) ↔ (Contains (edges_listed code j) next) }
@@ -28,6 +29,8 @@ pub fn law_edges()
     ensures handler_reached { IsReachable example_code 7 }
     ensures live_by_handler { Live example_code 0 3 }
     ensures stored_over { ¬ Live example_code 2 7 }
+    ensures falling_meets_rules { MeetsCodeRules falling_code }
+    ensures falls_off { FallsOff falling_code }
 {}
 
 /// A local is live at an item that loads from it, and at an item that doesn't store over it and has an

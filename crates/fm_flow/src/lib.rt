@@ -12,6 +12,8 @@ mod live_rows;
 mod live_walk;
 mod reach;
 mod sources;
+#[cfg(test)]
+mod tests;
 
 pub use error::FlowFail;
 pub use flow::Flow;
