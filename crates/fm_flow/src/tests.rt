@@ -1,6 +1,7 @@
 // A code with a loop, a switch and a handler: its edges, what of it is reachable, and its live locals.
 
 ghost use Rattle.std.specs.Prelude.{◌≡◌, ◌∷◌, [], IfOk, pos};
+ghost use Rattle.fm_code.specs.Edges.{HasNoLeftOut, MeetsCodeRules};
 ghost use Rattle.fm_code.specs.EdgesExample.{example_code, example_items, falling_code, item_of};
 
 use crate::{Flow, FlowFail, live};
@@ -14,7 +15,11 @@ fn item(alloc: Global, offset: u32, bytes: &[u8], insn: Insn) -> Result<Item, No
     ensures { IfOk result (λ item. item ≡ item_of offset bytes.now insn) }
 {
     let bytes = InsnBytes::from_slice(alloc, bytes)?;
-    Ok(Item { offset, bytes, insn })
+    Ok(Item {
+        offset,
+        bytes,
+        insn,
+    })
 }
 
 // The tableswitch of the code, to item 6, or to the items 2 and 4 at the keys 0 and 1.
@@ -51,10 +56,15 @@ fn items(alloc: Global) -> Result<Vec<Item>, NoMemory>
 }
 
 // The code, of which the items 2 and 3 have the handler 7.
-fn code(alloc: Global) -> Result<Code, NoMemory>
+fn written_code(alloc: Global) -> Result<Code, NoMemory>
     ensures { IfOk result (λ code. code ≡ example_code) }
 {
-    let handler = Handler { start: 2, end: 4, handler: 7, catch_class: 0 };
+    let handler = Handler {
+        start: 2,
+        end: 4,
+        handler: 7,
+        catch_class: 0,
+    };
     Ok(Code {
         max_stack: 1,
         max_locals: 3,
@@ -65,8 +75,16 @@ fn code(alloc: Global) -> Result<Code, NoMemory>
     })
 }
 
+// The same code, which a flow may be asked of.
+fn code(alloc: Global) -> Result<Code, NoMemory>
+    ensures is { IfOk result (λ code. code ≡ example_code) }
+    ensures rules { IfOk result (λ code. MeetsCodeRules code × HasNoLeftOut code) }
+{
+    written_code(alloc)
+}
+
 // A nop, after which nothing stands.
-fn falling(alloc: Global) -> Result<Code, NoMemory>
+fn written_nop(alloc: Global) -> Result<Code, NoMemory>
     ensures { IfOk result (λ code. code ≡ falling_code) }
 {
     Ok(Code {
@@ -77,6 +95,14 @@ fn falling(alloc: Global) -> Result<Code, NoMemory>
         handlers: Seq::empty(alloc),
         attributes: Seq::empty(alloc),
     })
+}
+
+// The same code, which a flow may be asked of.
+fn nop(alloc: Global) -> Result<Code, NoMemory>
+    ensures is { IfOk result (λ code. code ≡ falling_code) }
+    ensures rules { IfOk result (λ code. MeetsCodeRules code × HasNoLeftOut code) }
+{
+    written_nop(alloc)
 }
 
 #[test]
@@ -100,7 +126,7 @@ fn a_handler_is_reachable(rt: HostRuntime) -> Result<(), Fail> {
 
 #[test]
 fn control_that_falls_off_is_told(rt: HostRuntime) -> Result<(), Fail> {
-    let code = falling(rt.alloc())?;
+    let code = nop(rt.alloc())?;
     let flow = Flow::of(rt.alloc(), &code);
     assert!(rt; matches!(flow, Err(FlowFail::FallsOff)));
     Ok(())
