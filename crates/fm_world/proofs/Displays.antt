@@ -28,32 +28,40 @@ pub record EndsWith (xs ys : List ℕ) : Type 0 where
   pub front : List ℕ
   pub joined : xs ≡ front ++ ys
 
-pub chain_ends : (classes : List DeclaredClass) → IsLinear classes → (bound class other : ℕ) → length (chain_of classes class) ≤ bound → class < length classes
+pub chain_ends : (classes : List DeclaredClass) → IsLinear classes → (bound class other : ℕ) → length (chain_of classes class) ≤ bound
+    → class < length classes
     → is_among other (chain_of classes class) ≡ true → EndsWith (chain_of classes class) (chain_of classes other)
 chain_ends classes linear zero class other short within among = absurd (omega (arith, short, ap length (linear class within)))
 chain_ends classes linear (suc bound) class other short within among =
-    by_same (λ parent e d. chain_ends classes linear bound parent other (shorter parent e) (parent_of-within classes class parent e) (still_among parent e d)) (nat_eq other class) refl where
+    by_same (λ parent e d. chain_ends classes linear bound parent other (shorter parent e) (parent_of-within classes class parent e)
+    (still_among parent e d)) (nat_eq other class) refl where
       joined_above : (parent : ℕ) → parent_of classes class ≡ Some parent → chain_of classes class ≡ class ∷ chain_of classes parent
       joined_above parent e = linear class within ∙ ap (λ p. class ∷ chain_from classes p) e
 
       shorter : (parent : ℕ) → parent_of classes class ≡ Some parent → length (chain_of classes parent) ≤ bound
       shorter parent e = omega (arith, short, ap length (joined_above parent e))
 
-      still_among : (parent : ℕ) → parent_of classes class ≡ Some parent → nat_eq other class ≡ false → is_among other (chain_of classes parent) ≡ true
-      still_among parent e differs = sym (ap (is_among other) (joined_above parent e) ∙ ap (λ b. b || is_among other (chain_of classes parent)) differs) ∙ among
+      still_among : (parent : ℕ) → parent_of classes class ≡ Some parent → nat_eq other class ≡ false
+          → is_among other (chain_of classes parent) ≡ true
+      still_among parent e differs = sym (ap (is_among other) (joined_above parent e)
+          ∙ ap (λ b. b || is_among other (chain_of classes parent)) differs) ∙ among
 
-      further : (parent : ℕ) → parent_of classes class ≡ Some parent → EndsWith (chain_of classes parent) (chain_of classes other) → EndsWith (chain_of classes class) (chain_of classes other)
+      further : (parent : ℕ) → parent_of classes class ≡ Some parent → EndsWith (chain_of classes parent) (chain_of classes other)
+          → EndsWith (chain_of classes class) (chain_of classes other)
       further parent e ends = record { front = class ∷ ends.front; joined = joined_above parent e ∙ ap (λ xs. class ∷ xs) ends.joined }
 
       alone : parent_of classes class ≡ None → nat_eq other class ≡ false → false ≡ true
-      alone e differs = sym (ap (is_among other) (linear class within ∙ ap (λ p. class ∷ chain_from classes p) e) ∙ ap (λ b. b || false) differs) ∙ among
+      alone e differs = sym (ap (is_among other) (linear class within ∙ ap (λ p. class ∷ chain_from classes p) e) ∙ ap (λ b. b || false) differs)
+          ∙ among
 
-      by_parent : (recursive : (parent : ℕ) → parent_of classes class ≡ Some parent → nat_eq other class ≡ false → EndsWith (chain_of classes parent) (chain_of classes other))
+      by_parent : (recursive : (parent : ℕ) → parent_of classes class ≡ Some parent → nat_eq other class ≡ false
+          → EndsWith (chain_of classes parent) (chain_of classes other))
           → (p : Option ℕ) → parent_of classes class ≡ p → nat_eq other class ≡ false → EndsWith (chain_of classes class) (chain_of classes other)
       by_parent recursive None e differs = absurd (false≢true (alone e differs))
       by_parent recursive (Some parent) e differs = further parent e (recursive parent e differs)
 
-      by_same : (recursive : (parent : ℕ) → parent_of classes class ≡ Some parent → nat_eq other class ≡ false → EndsWith (chain_of classes parent) (chain_of classes other))
+      by_same : (recursive : (parent : ℕ) → parent_of classes class ≡ Some parent → nat_eq other class ≡ false
+          → EndsWith (chain_of classes parent) (chain_of classes other))
           → (b : Bool) → nat_eq other class ≡ b → EndsWith (chain_of classes class) (chain_of classes other)
       by_same recursive true same = record { front = []; joined = sym (ap (chain_of classes) (eqb-true other class same)) }
       by_same recursive false differs = by_parent recursive (parent_of classes class) refl differs
@@ -72,7 +80,8 @@ reverse-cons x xs = reverse-append (x ∷ []) xs
 pub is_among-reverse : (x : ℕ) (xs : List ℕ) → is_among x (reverse xs) ≡ is_among x xs
 is_among-reverse x [] = refl
 is_among-reverse x (y ∷ ys) =
-    ap (is_among x) (reverse-cons y ys) ∙ list_any-append (nat_eq x) (reverse ys) (y ∷ []) ∙ ap (λ b. b || (nat_eq x y || false)) (is_among-reverse x ys)
+    ap (is_among x) (reverse-cons y ys) ∙ list_any-append (nat_eq x) (reverse ys) (y ∷ [])
+    ∙ ap (λ b. b || (nat_eq x y || false)) (is_among-reverse x ys)
     ∙ swapped (is_among x ys) (nat_eq x y)
 
 pub is_among_at : (xs : List ℕ) (i x : ℕ) → i < length xs → get_or xs i 0 ≡ x → is_among x xs ≡ true
@@ -95,48 +104,59 @@ pub stands_at_depth : (front rest : List ℕ) (x : ℕ) (lower upper : List ℕ)
 stands_at_depth front rest x lower upper lower_is upper_is =
     let depth_is : length upper - 1 ≡ length (reverse rest) = omega (arith, ap length upper_is, length-reverse (x ∷ rest), length-reverse rest) in
     let whole : lower ≡ reverse rest ++ x ∷ reverse front =
-    lower_is ∙ reverse-append front (x ∷ rest) ∙ ap (λ zs. zs ++ reverse front) (reverse-cons x rest) ∙ append_assoc (reverse rest) (x ∷ []) (reverse front) in
-    let longer : length (reverse rest) < length (reverse rest ++ x ∷ reverse front) = omega (arith, length-append (reverse rest) (x ∷ reverse front)) in
+    lower_is ∙ reverse-append front (x ∷ rest) ∙ ap (λ zs. zs ++ reverse front) (reverse-cons x rest)
+    ∙ append_assoc (reverse rest) (x ∷ []) (reverse front) in
+    let longer : length (reverse rest) < length (reverse rest ++ x ∷ reverse front) =
+    omega (arith, length-append (reverse rest) (x ∷ reverse front)) in
     record {
-      within = (let P : ℕ → Type 0 = λ k. k < length lower in subst P (sym depth_is) (let Q : List ℕ → Type 0 = λ zs. length (reverse rest) < length zs in subst Q (sym whole) longer));
+      within = (let P : ℕ → Type 0 = λ k. k < length lower in
+          subst P (sym depth_is) (let Q : List ℕ → Type 0 = λ zs. length (reverse rest) < length zs in subst Q (sym whole) longer));
       there = ap (λ zs. get_or zs (length upper - 1) 0) whole ∙ get_or_at (reverse rest) x (reverse front) 0 (length upper - 1) (sym depth_is);
     }
 
 pub stands_in_display : (classes : List DeclaredClass) → IsLinear classes → (class other : ℕ) → class < length classes → other < length classes
-    → (lower upper : List ℕ) → lower ≡ reverse (chain_of classes class) → upper ≡ reverse (chain_of classes other) → is_among other (chain_of classes class) ≡ true
+    → (lower upper : List ℕ) → lower ≡ reverse (chain_of classes class) → upper ≡ reverse (chain_of classes other)
+    → is_among other (chain_of classes class) ≡ true
     → StandsAt lower (length upper - 1) other
 stands_in_display classes linear class other within other_within lower upper lower_is upper_is among =
     let ends = chain_ends classes linear (length (chain_of classes class)) class other (omega arith) within among in
     let own = linear other other_within in
-    stands_at_depth ends.front (chain_from classes (parent_of classes other)) other lower upper (lower_is ∙ ap reverse (ends.joined ∙ ap (λ ys. ends.front ++ ys) own))
+    stands_at_depth ends.front (chain_from classes (parent_of classes other)) other lower upper (lower_is
+    ∙ ap reverse (ends.joined ∙ ap (λ ys. ends.front ++ ys) own))
     (upper_is ∙ ap reverse own)
 
 -- what the code answers at the depth, and past the display's end
 pub among_at_depth : (classes : List DeclaredClass) → IsLinear classes → (class other : ℕ) → class < length classes → other < length classes
     → (lower upper : List ℕ) → lower ≡ reverse (chain_of classes class) → upper ≡ reverse (chain_of classes other) → length upper - 1 < length lower
     → nat_eq (get_or lower (length upper - 1) 0) other ≡ is_among other (chain_of classes class)
-among_at_depth classes linear class other within other_within lower upper lower_is upper_is inside = by_among (is_among other (chain_of classes class)) refl where
-  contained : (b : Bool) → nat_eq (get_or lower (length upper - 1) 0) other ≡ b → is_among other (chain_of classes class) ≡ false → b ≡ false
-  contained false e h = refl
-  contained true e h =
-      sym (is_among_at lower (length upper - 1) other inside (eqb-true (get_or lower (length upper - 1) 0) other e)) ∙ ap (is_among other) lower_is
-      ∙ is_among-reverse other (chain_of classes class) ∙ h
+among_at_depth classes linear class other within other_within lower upper lower_is upper_is inside =
+    by_among (is_among other (chain_of classes class)) refl where
+      contained : (b : Bool) → nat_eq (get_or lower (length upper - 1) 0) other ≡ b → is_among other (chain_of classes class) ≡ false → b ≡ false
+      contained false e h = refl
+      contained true e h =
+          sym (is_among_at lower (length upper - 1) other inside (eqb-true (get_or lower (length upper - 1) 0) other e)) ∙ ap (is_among other) lower_is
+          ∙ is_among-reverse other (chain_of classes class) ∙ h
 
-  by_among : (b : Bool) → is_among other (chain_of classes class) ≡ b → nat_eq (get_or lower (length upper - 1) 0) other ≡ is_among other (chain_of classes class)
-  by_among true e =
-      eq-eqb (get_or lower (length upper - 1) 0) other (stands_in_display classes linear class other within other_within lower upper lower_is upper_is e).there ∙ sym e
-  by_among false e = contained (nat_eq (get_or lower (length upper - 1) 0) other) refl e ∙ sym e
+      by_among : (b : Bool) → is_among other (chain_of classes class) ≡ b
+          → nat_eq (get_or lower (length upper - 1) 0) other ≡ is_among other (chain_of classes class)
+      by_among true e =
+          eq-eqb (get_or lower (length upper - 1) 0) other
+          (stands_in_display classes linear class other within other_within lower upper lower_is upper_is e).there ∙ sym e
+      by_among false e = contained (nat_eq (get_or lower (length upper - 1) 0) other) refl e ∙ sym e
 
 pub not_among_past_depth : (classes : List DeclaredClass) → IsLinear classes → (class other : ℕ) → class < length classes → other < length classes
     → (lower upper : List ℕ) → lower ≡ reverse (chain_of classes class) → upper ≡ reverse (chain_of classes other) → length lower ≤ length upper - 1
     → is_among other (chain_of classes class) ≡ false
-not_among_past_depth classes linear class other within other_within lower upper lower_is upper_is past = by_among (is_among other (chain_of classes class)) refl where
-  by_among : (b : Bool) → is_among other (chain_of classes class) ≡ b → b ≡ false
-  by_among false e = refl
-  by_among true e =
-      absurd (omega (arith, past, (stands_in_display classes linear class other within other_within lower upper lower_is upper_is e).within))
+not_among_past_depth classes linear class other within other_within lower upper lower_is upper_is past =
+    by_among (is_among other (chain_of classes class)) refl where
+      by_among : (b : Bool) → is_among other (chain_of classes class) ≡ b → b ≡ false
+      by_among false e = refl
+      by_among true e =
+          absurd (omega (arith, past, (stands_in_display classes linear class other within other_within lower upper lower_is upper_is e).within))
 
 -- a display isn't empty
-pub display-full : (classes : List DeclaredClass) → IsLinear classes → (class : ℕ) → class < length classes → (upper : List ℕ) → upper ≡ reverse (chain_of classes class)
+pub display-full : (classes : List DeclaredClass) → IsLinear classes → (class : ℕ) → class < length classes → (upper : List ℕ)
+    → upper ≡ reverse (chain_of classes class)
     → 1 ≤ length upper
-display-full classes linear class within upper upper_is = omega (arith, ap length upper_is, length-reverse (chain_of classes class), ap length (linear class within))
+display-full classes linear class within upper upper_is =
+    omega (arith, ap length upper_is, length-reverse (chain_of classes class), ap length (linear class within))

@@ -1,13 +1,13 @@
 -- The example computed: each fact by running the definitions.
-use Rattle.std.proofs.Common.{nat_eq, ◌≡◌, refl, [], ◌∷◌, codes, drop, length, Some, slice_get}
-use Rattle.std.specs.List.{filter_map, range_with_len}
+use Rattle.std.proofs.Common.{true, false, nat_eq, ◌≡◌, refl, [], ◌∷◌, codes, drop, length, Some, slice_get}
+use Rattle.std.specs.List.{filter_map, list_all, list_any, range_with_len}
 use Rattle.std.specs.Option.{option_map}
 use Rattle.fm_world.specs.Rows.{hidden_kinds, row_of}
 use Rattle.fm_world.specs.Descriptors.{class_number}
 use Rattle.fm_world.specs.BuiltIns.{built_in}
 use Rattle.fm_world.specs.Causes.{Duplicate, BadParent, MissingClass, MissingField, NotImplemented, NoMain}
 use Rattle.fm_world.specs.Chains.{chain_of, distinct, superinterfaces_of, interfaces_of, is_sub}
-use Rattle.fm_world.specs.Example.{array_types, call_of_k, example, example_main, example_upper, main_uses, refusal, with_cycle, with_interfaces, with_private, with_static_field}
+use Rattle.fm_world.specs.Example.{array_types, call_of_k, call_of_to_string, call_on_array, castable, not_castable, example, example_main, example_upper, main_uses, refusal, with_cycle, with_interfaces, with_private, with_static_field}
 use Rattle.fm_world.specs.Linking.{refused_duplicates, refused_built_ins, refused_missing_classes, refused_parents, refused_fields, refused_methods, refused_not_implemented, refused_main, refusals}
 use Rattle.fm_world.specs.Lookups.{resolved_field, resolved_method, select, special_target}
 use Rattle.fm_world.specs.Members.{fields_of, kinds_of, methods_of, size_of, slot_of}
@@ -16,109 +16,125 @@ use Rattle.fm_world.specs.Programs.{classes_of, outline_of, uses_of, codes_of, p
 use Rattle.fm_world.specs.Uses.{used_indices}
 
 pub classes_are : length built_in ≡ 28
-unfolding built_in chain_of superinterfaces_of interfaces_of is_sub fields_of methods_of size_of slot_of resolved_field resolved_method select special_target used_indices types_of texts_of classes_of outline_of uses_of codes_of program_of targets refused_duplicates refused_built_ins refused_missing_classes refused_parents refused_fields refused_methods refused_not_implemented refused_main refusals
+unfolding built_in
 classes_are = refl
 
 pub methods_are : length (methods_of built_in) ≡ 86
-unfolding built_in chain_of superinterfaces_of interfaces_of is_sub fields_of methods_of size_of slot_of resolved_field resolved_method select special_target used_indices types_of texts_of classes_of outline_of uses_of codes_of program_of targets refused_duplicates refused_built_ins refused_missing_classes refused_parents refused_fields refused_methods refused_not_implemented refused_main refusals
+unfolding built_in methods_of
 methods_are = refl
 
 pub accepted : refusals example (codes "M") ≡ []
-unfolding built_in chain_of superinterfaces_of interfaces_of is_sub fields_of methods_of size_of slot_of resolved_field resolved_method select special_target used_indices types_of texts_of classes_of outline_of uses_of codes_of program_of targets refused_duplicates refused_built_ins refused_missing_classes refused_parents refused_fields refused_methods refused_not_implemented refused_main refusals
+unfolding refusals refused_duplicates refused_built_ins refused_missing_classes refused_parents refused_fields refused_methods refused_not_implemented refused_main select special_target built_in classes_of chain_of superinterfaces_of interfaces_of methods_of fields_of resolved_field resolved_method used_indices
 accepted = refl
 
 pub uses_are : slice_get (program_of example (codes "M")).uses 28 ≡ Some main_uses
-unfolding built_in chain_of superinterfaces_of interfaces_of is_sub fields_of methods_of size_of slot_of resolved_field resolved_method select special_target used_indices types_of texts_of classes_of outline_of uses_of codes_of program_of targets refused_duplicates refused_built_ins refused_missing_classes refused_parents refused_fields refused_methods refused_not_implemented refused_main refusals
+unfolding program_of outline_of types_of texts_of uses_of codes_of built_in classes_of chain_of superinterfaces_of interfaces_of methods_of fields_of resolved_field resolved_method used_indices
 uses_are = refl
 
 pub types_are : drop 31 (program_of example (codes "M")).outline.types ≡ array_types
-unfolding built_in chain_of superinterfaces_of interfaces_of is_sub fields_of methods_of size_of slot_of resolved_field resolved_method select special_target used_indices types_of texts_of classes_of outline_of uses_of codes_of program_of targets refused_duplicates refused_built_ins refused_missing_classes refused_parents refused_fields refused_methods refused_not_implemented refused_main refusals
+unfolding program_of outline_of types_of texts_of uses_of codes_of built_in classes_of chain_of superinterfaces_of interfaces_of methods_of fields_of resolved_field resolved_method used_indices
 types_are = refl
 
 pub texts_are : (program_of example (codes "M")).outline.texts ≡ codes "hi" ∷ []
-unfolding built_in chain_of superinterfaces_of interfaces_of is_sub fields_of methods_of size_of slot_of resolved_field resolved_method select special_target used_indices types_of texts_of classes_of outline_of uses_of codes_of program_of targets refused_duplicates refused_built_ins refused_missing_classes refused_parents refused_fields refused_methods refused_not_implemented refused_main refusals
+unfolding program_of outline_of types_of texts_of uses_of codes_of built_in classes_of chain_of superinterfaces_of interfaces_of methods_of fields_of resolved_field resolved_method used_indices
 texts_are = refl
 
 pub main_is : (program_of example (codes "M")).outline.main ≡ 86
-unfolding built_in chain_of superinterfaces_of interfaces_of is_sub fields_of methods_of size_of slot_of resolved_field resolved_method select special_target used_indices types_of texts_of classes_of outline_of uses_of codes_of program_of targets refused_duplicates refused_built_ins refused_missing_classes refused_parents refused_fields refused_methods refused_not_implemented refused_main refusals
+unfolding program_of outline_of types_of texts_of uses_of codes_of built_in classes_of chain_of superinterfaces_of interfaces_of methods_of fields_of resolved_field resolved_method used_indices
 main_is = refl
 
 pub chain_is : chain_of (classes_of example) 30 ≡ 30 ∷ 29 ∷ 0 ∷ []
-unfolding built_in chain_of superinterfaces_of interfaces_of is_sub fields_of methods_of size_of slot_of resolved_field resolved_method select special_target used_indices types_of texts_of classes_of outline_of uses_of codes_of program_of targets refused_duplicates refused_built_ins refused_missing_classes refused_parents refused_fields refused_methods refused_not_implemented refused_main refusals
+unfolding built_in classes_of chain_of
 chain_is = refl
 
 pub size_is : size_of (classes_of example) 30 ≡ 2
-unfolding built_in chain_of superinterfaces_of interfaces_of is_sub fields_of methods_of size_of slot_of resolved_field resolved_method select special_target used_indices types_of texts_of classes_of outline_of uses_of codes_of program_of targets refused_duplicates refused_built_ins refused_missing_classes refused_parents refused_fields refused_methods refused_not_implemented refused_main refusals
+unfolding built_in chain_of classes_of size_of
 size_is = refl
 
 pub slot_is : slot_of (classes_of example) 4 ≡ 1
-unfolding built_in chain_of superinterfaces_of interfaces_of is_sub fields_of methods_of size_of slot_of resolved_field resolved_method select special_target used_indices types_of texts_of classes_of outline_of uses_of codes_of program_of targets refused_duplicates refused_built_ins refused_missing_classes refused_parents refused_fields refused_methods refused_not_implemented refused_main refusals
+unfolding built_in chain_of classes_of fields_of slot_of
 slot_is = refl
 
 pub selected_is : select (classes_of example) 30 88 ≡ Some 90
-unfolding built_in chain_of superinterfaces_of interfaces_of is_sub fields_of methods_of size_of slot_of resolved_field resolved_method select special_target used_indices types_of texts_of classes_of outline_of uses_of codes_of program_of targets refused_duplicates refused_built_ins refused_missing_classes refused_parents refused_fields refused_methods refused_not_implemented refused_main refusals
+unfolding built_in classes_of chain_of methods_of select
 selected_is = refl
 
 pub targets_are : targets (program_of example (codes "M")) call_of_k ≡ 88 ∷ 90 ∷ []
-unfolding built_in chain_of superinterfaces_of interfaces_of is_sub fields_of methods_of size_of slot_of resolved_field resolved_method select special_target used_indices types_of texts_of classes_of outline_of uses_of codes_of program_of targets refused_duplicates refused_built_ins refused_missing_classes refused_parents refused_fields refused_methods refused_not_implemented refused_main refusals
+unfolding targets select special_target is_sub program_of outline_of types_of texts_of uses_of codes_of built_in classes_of chain_of superinterfaces_of interfaces_of methods_of fields_of resolved_field resolved_method used_indices
 targets_are = refl
 
 pub duplicate : slice_get (refusals (example_main ∷ example) (codes "M")) 0 ≡ Some (refusal Duplicate (codes "M") (codes "M"))
-unfolding built_in chain_of superinterfaces_of interfaces_of is_sub fields_of methods_of size_of slot_of resolved_field resolved_method select special_target used_indices types_of texts_of classes_of outline_of uses_of codes_of program_of targets refused_duplicates refused_built_ins refused_missing_classes refused_parents refused_fields refused_methods refused_not_implemented refused_main refusals
+unfolding refusals refused_duplicates refused_built_ins refused_missing_classes refused_parents refused_fields refused_methods refused_not_implemented refused_main select special_target built_in classes_of chain_of superinterfaces_of interfaces_of methods_of fields_of resolved_field resolved_method used_indices
 duplicate = refl
 
 pub missing_class : slice_get (refusals (example_main ∷ example_upper ∷ []) (codes "M")) 0 ≡ Some (refusal MissingClass (codes "B") (codes "M"))
-unfolding built_in chain_of superinterfaces_of interfaces_of is_sub fields_of methods_of size_of slot_of resolved_field resolved_method select special_target used_indices types_of texts_of classes_of outline_of uses_of codes_of program_of targets refused_duplicates refused_built_ins refused_missing_classes refused_parents refused_fields refused_methods refused_not_implemented refused_main refusals
+unfolding refusals refused_duplicates refused_built_ins refused_missing_classes refused_parents refused_fields refused_methods refused_not_implemented refused_main select special_target built_in classes_of chain_of superinterfaces_of interfaces_of methods_of fields_of resolved_field resolved_method used_indices
 missing_class = refl
 
 pub cycle : slice_get (refusals with_cycle (codes "M")) 0 ≡ Some (refusal BadParent (codes "B") (codes "A"))
-unfolding built_in chain_of superinterfaces_of interfaces_of is_sub fields_of methods_of size_of slot_of resolved_field resolved_method select special_target used_indices types_of texts_of classes_of outline_of uses_of codes_of program_of targets refused_duplicates refused_built_ins refused_missing_classes refused_parents refused_fields refused_methods refused_not_implemented refused_main refusals
+unfolding refusals refused_duplicates refused_built_ins refused_missing_classes refused_parents refused_fields refused_methods refused_not_implemented refused_main select special_target built_in classes_of chain_of superinterfaces_of interfaces_of methods_of fields_of resolved_field resolved_method used_indices
 cycle = refl
 
 pub static_field : slice_get (refusals with_static_field (codes "M")) 0 ≡ Some (refusal MissingField (codes "B.x") (codes "M"))
-unfolding built_in chain_of superinterfaces_of interfaces_of is_sub fields_of methods_of size_of slot_of resolved_field resolved_method select special_target used_indices types_of texts_of classes_of outline_of uses_of codes_of program_of targets refused_duplicates refused_built_ins refused_missing_classes refused_parents refused_fields refused_methods refused_not_implemented refused_main refusals
+unfolding refusals refused_duplicates refused_built_ins refused_missing_classes refused_parents refused_fields refused_methods refused_not_implemented refused_main select special_target built_in classes_of chain_of superinterfaces_of interfaces_of methods_of fields_of resolved_field resolved_method used_indices
 static_field = refl
 
 pub no_main_is : refusals example (codes "A") ≡ refusal NoMain (codes "A") (codes "A") ∷ []
-unfolding built_in chain_of superinterfaces_of interfaces_of is_sub fields_of methods_of size_of slot_of resolved_field resolved_method select special_target used_indices types_of texts_of classes_of outline_of uses_of codes_of program_of targets refused_duplicates refused_built_ins refused_missing_classes refused_parents refused_fields refused_methods refused_not_implemented refused_main refusals
+unfolding refusals refused_duplicates refused_built_ins refused_missing_classes refused_parents refused_fields refused_methods refused_not_implemented refused_main select special_target built_in classes_of chain_of superinterfaces_of interfaces_of methods_of fields_of resolved_field resolved_method used_indices
 no_main_is = refl
 
 pub rows_are : distinct nat_eq (filter_map (λ m. m.method.row) (methods_of built_in)) ≡ range_with_len 0 44
-unfolding built_in chain_of superinterfaces_of interfaces_of is_sub fields_of methods_of size_of slot_of resolved_field resolved_method select special_target used_indices types_of texts_of classes_of outline_of uses_of codes_of program_of targets refused_duplicates refused_built_ins refused_missing_classes refused_parents refused_fields refused_methods refused_not_implemented refused_main refusals kinds_of
+unfolding built_in methods_of
 rows_are = refl
 
 pub free_row : row_of (codes "FreeMe") (codes "free") (codes "(Ljava/lang/Object;)V") ≡ Some 41
-unfolding built_in chain_of superinterfaces_of interfaces_of is_sub fields_of methods_of size_of slot_of resolved_field resolved_method select special_target used_indices types_of texts_of classes_of outline_of uses_of codes_of program_of targets refused_duplicates refused_built_ins refused_missing_classes refused_parents refused_fields refused_methods refused_not_implemented refused_main refusals kinds_of
+unfolding built_in methods_of
 free_row = refl
 
 pub throwable_row : row_of (codes "java/lang/Throwable") (codes "<init>") (codes "()V") ≡ Some 37
-unfolding built_in chain_of superinterfaces_of interfaces_of is_sub fields_of methods_of size_of slot_of resolved_field resolved_method select special_target used_indices types_of texts_of classes_of outline_of uses_of codes_of program_of targets refused_duplicates refused_built_ins refused_missing_classes refused_parents refused_fields refused_methods refused_not_implemented refused_main refusals kinds_of
+unfolding built_in methods_of
 throwable_row = refl
 
 pub last_throwable_row : row_of (codes "java/lang/IncompatibleClassChangeError") (codes "<init>") (codes "()V") ≡ Some 37
-unfolding built_in chain_of superinterfaces_of interfaces_of is_sub fields_of methods_of size_of slot_of resolved_field resolved_method select special_target used_indices types_of texts_of classes_of outline_of uses_of codes_of program_of targets refused_duplicates refused_built_ins refused_missing_classes refused_parents refused_fields refused_methods refused_not_implemented refused_main refusals kinds_of
+unfolding built_in methods_of
 last_throwable_row = refl
 
 pub hidden_is : option_map (kinds_of built_in) (class_number built_in (codes "java/lang/NullPointerException")) ≡ Some hidden_kinds
-unfolding built_in chain_of superinterfaces_of interfaces_of is_sub fields_of methods_of size_of slot_of resolved_field resolved_method select special_target used_indices types_of texts_of classes_of outline_of uses_of codes_of program_of targets refused_duplicates refused_built_ins refused_missing_classes refused_parents refused_fields refused_methods refused_not_implemented refused_main refusals kinds_of
+unfolding built_in chain_of kinds_of
 hidden_is = refl
 
 pub interfaces_are : superinterfaces_of (classes_of with_interfaces) 30 ≡ 29 ∷ 26 ∷ 28 ∷ []
-unfolding built_in chain_of superinterfaces_of interfaces_of is_sub fields_of methods_of size_of slot_of resolved_field resolved_method select special_target used_indices types_of texts_of classes_of outline_of uses_of codes_of program_of targets refused_duplicates refused_built_ins refused_missing_classes refused_parents refused_fields refused_methods refused_not_implemented refused_main refusals kinds_of
+unfolding built_in classes_of superinterfaces_of
 interfaces_are = refl
 
 pub not_implemented : slice_get (refusals with_interfaces (codes "C")) 0 ≡ Some (refusal NotImplemented (codes "J.m()V") (codes "C"))
-unfolding built_in chain_of superinterfaces_of interfaces_of is_sub fields_of methods_of size_of slot_of resolved_field resolved_method select special_target used_indices types_of texts_of classes_of outline_of uses_of codes_of program_of targets refused_duplicates refused_built_ins refused_missing_classes refused_parents refused_fields refused_methods refused_not_implemented refused_main refusals kinds_of
+unfolding refusals refused_duplicates refused_built_ins refused_missing_classes refused_parents refused_fields refused_methods refused_not_implemented refused_main select special_target built_in classes_of chain_of superinterfaces_of interfaces_of methods_of fields_of resolved_field resolved_method used_indices
 not_implemented = refl
 
 pub passed_over : select (classes_of with_private) 30 86 ≡ Some 86
-unfolding built_in chain_of superinterfaces_of interfaces_of is_sub fields_of methods_of size_of slot_of resolved_field resolved_method select special_target used_indices types_of texts_of classes_of outline_of uses_of codes_of program_of targets refused_duplicates refused_built_ins refused_missing_classes refused_parents refused_fields refused_methods refused_not_implemented refused_main refusals kinds_of
+unfolding built_in classes_of chain_of methods_of select
 passed_over = refl
 
 pub itself : select (classes_of with_private) 30 87 ≡ Some 87
-unfolding built_in chain_of superinterfaces_of interfaces_of is_sub fields_of methods_of size_of slot_of resolved_field resolved_method select special_target used_indices types_of texts_of classes_of outline_of uses_of codes_of program_of targets refused_duplicates refused_built_ins refused_missing_classes refused_parents refused_fields refused_methods refused_not_implemented refused_main refusals kinds_of
+unfolding built_in classes_of chain_of methods_of select
 itself = refl
 
 pub special : special_target (classes_of with_private) 30 (Some 28) 86 ≡ 87
-unfolding built_in chain_of superinterfaces_of interfaces_of is_sub fields_of methods_of size_of slot_of resolved_field resolved_method select special_target used_indices types_of texts_of classes_of outline_of uses_of codes_of program_of targets refused_duplicates refused_built_ins refused_missing_classes refused_parents refused_fields refused_methods refused_not_implemented refused_main refusals kinds_of
+unfolding built_in classes_of chain_of methods_of special_target
 special = refl
+
+pub of_object_are : targets (program_of example (codes "M")) call_of_to_string ≡ 3 ∷ 9 ∷ 22 ∷ 30 ∷ 48 ∷ []
+unfolding targets select special_target is_sub program_of outline_of types_of texts_of uses_of codes_of built_in classes_of chain_of superinterfaces_of interfaces_of methods_of fields_of resolved_field resolved_method used_indices
+of_object_are = refl
+
+pub of_array_are : targets (program_of example (codes "M")) call_on_array ≡ 3 ∷ []
+unfolding targets select special_target is_sub program_of outline_of types_of texts_of uses_of codes_of built_in classes_of chain_of superinterfaces_of interfaces_of methods_of fields_of resolved_field resolved_method used_indices
+of_array_are = refl
+
+pub castable_are : list_all (λ pair. is_sub built_in pair.0 pair.1) castable ≡ true
+unfolding built_in chain_of superinterfaces_of interfaces_of is_sub
+castable_are = refl
+
+pub not_castable_are : list_any (λ pair. is_sub built_in pair.0 pair.1) not_castable ≡ false
+unfolding built_in chain_of superinterfaces_of interfaces_of is_sub
+not_castable_are = refl

@@ -2,5 +2,8 @@ mod Example
 mod TableLemmas
 mod Told
 mod Selected
+mod LayerLemmas
 mod Displays
 mod Marks
+mod Acyclic
+mod ClassTypes

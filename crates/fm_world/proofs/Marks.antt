@@ -13,7 +13,8 @@ use Rattle.fm_world.specs.inner.Marks.{marked, AreMarked}
 
 pub range-more : (n : ℕ) → range_with_len 0 (n + 1) ≡ range_with_len 0 n ++ n ∷ []
 range-more n =
-    sym (map-id (range_with_len 0 (n + 1))) ∙ map-range_with_len_more (λ (k : ℕ). k) 0 n n (zero-add n) ∙ ap (λ xs. xs ++ n ∷ []) (map-id (range_with_len 0 n))
+    sym (map-id (range_with_len 0 (n + 1))) ∙ map-range_with_len_more (λ (k : ℕ). k) 0 n n (zero-add n)
+    ∙ ap (λ xs. xs ++ n ∷ []) (map-id (range_with_len 0 n))
 
 pub filter-range_more : (p : ℕ → Bool) (n : ℕ) → filter p (range_with_len 0 (n + 1)) ≡ filter p (range_with_len 0 n) ++ filter p (n ∷ [])
 filter-range_more p n = ap (filter p) (range-more n) ∙ filter-append p (range_with_len 0 n) (n ∷ [])
@@ -36,7 +37,8 @@ pub length-marked : (marks : List Bool) (o : Option ℕ) → length (marked mark
 length-marked marks None = refl
 length-marked marks (Some number) = length-set marks number true
 
-pub AreMarked-more : (marks : List Bool) (found : List ℕ) (o : Option ℕ) → AreMarked marks found → AreMarked (marked marks o) (found ++ option_to_list o)
+pub AreMarked-more : (marks : List Bool) (found : List ℕ) (o : Option ℕ) → AreMarked marks found
+    → AreMarked (marked marks o) (found ++ option_to_list o)
 AreMarked-more marks found None are k h = are k h ∙ ap (is_among k) (sym (append-nil found))
 AreMarked-more marks found (Some number) are k h = by_number (cases_eq k number) where
   inside : k < length marks
@@ -84,12 +86,14 @@ filter-range_same p q n same = at_most n (omega arith) where
   at_most zero h = refl
   at_most (suc m) h =
       let more = λ (r : ℕ → Bool). ap (λ j. filter r (range_with_len 0 j)) (sym (add-one m)) ∙ filter-range_more r m in
-      more p ∙ ap (λ xs. xs ++ filter p (m ∷ [])) (at_most m (omega (arith, h))) ∙ ap (λ b. filter q (range_with_len 0 m) ++ cond b (m ∷ []) []) (same m (omega (arith, h))) ∙ sym (more q)
+      more p ∙ ap (λ xs. xs ++ filter p (m ∷ [])) (at_most m (omega (arith, h)))
+      ∙ ap (λ b. filter q (range_with_len 0 m) ++ cond b (m ∷ []) []) (same m (omega (arith, h))) ∙ sym (more q)
 
 -- the marked methods are those selected
 pub marked_are : (find : ℕ → Option ℕ) (receivers arrays : List ℕ) (marks : List Bool) (number : ℕ) → length marks ≡ number
     → AreMarked marks (filter_map find receivers ++ filter_map find arrays)
-    → filter (λ k. get_or marks k false) (range_with_len 0 (length marks)) ≡ filter (λ k. is_among k (filter_map find (receivers ++ arrays))) (range_with_len 0 number)
+    → filter (λ k. get_or marks k false) (range_with_len 0 (length marks))
+    ≡ filter (λ k. is_among k (filter_map find (receivers ++ arrays))) (range_with_len 0 number)
 marked_are find receivers arrays marks number length_is are =
     filter-range_same (λ k. get_or marks k false) (λ k. is_among k (filter_map find (receivers ++ arrays))) (length marks)
     (λ k h. are k h ∙ ap (is_among k) (sym (filter_map-append find receivers arrays)))

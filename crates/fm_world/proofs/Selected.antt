@@ -9,44 +9,49 @@ use Rattle.fm_world.specs.Lookups.{own_instance, select, is_selectable}
 use Rattle.fm_world.specs.Members.{method_at, method_among, methods_of}
 use Rattle.fm_world.specs.Programs.{Program}
 use Rattle.fm_world.specs.declared.parts.Parts.{Parts}
+use Rattle.fm_world.specs.inner.Layers.{value_at}
 use Rattle.fm_world.specs.inner.Tables.{AreTables, program_in}
 
-abbrev pub Table : Type 0
-Table = HashMap ℕ ℕ (BuildHasherDefault FoldHasher)
-
 -- what the table of a class says of one signature
-abbrev pub SaysSelected : Parts → ℕ → ℕ → Table → Type 0
+abbrev pub SaysSelected : Parts → ℕ → ℕ → ℕ → Type 0
 SaysSelected x class method table =
-    get nat_eq table (get_or x.signatures method 0)
+    value_at x.selected table (get_or x.signatures method 0)
     ≡ (let m = (method_at x.declared method).method in method_among x.declared is_selectable m.name m.descriptor (chain_of x.declared class))
 
-pub selected_within : (x : Parts) (p : Program) (class method : ℕ) (tables : List Table) → program_in x ≡ p → AreTables x → class < length p.outline.classes
-    → method < length (methods_of p.outline.classes) → tables ≡ x.selected → class < length tables
+pub selected_within : (x : Parts) (p : Program) (class method : ℕ) (tables : List ℕ) → program_in x ≡ p → AreTables x
+    → class < length p.outline.classes
+    → method < length (methods_of p.outline.classes) → tables ≡ x.tops → class < length tables
 selected_within x p class method tables e inv c_in m_in same =
     let c_within = to_parts (λ q. class < length q.outline.classes) x p e c_in in
     let m_within = to_parts (λ q. method < length (methods_of q.outline.classes)) x p e m_in in
-    let P : List Table → Type 0 = λ zs. class < length zs in
-    subst P (sym same) (known_within (SaysSelected x class method) x.selected class (inv.answers.selected class method c_within m_within))
+    let P : List ℕ → Type 0 = λ zs. class < length zs in
+    subst P (sym same) (known_within (SaysSelected x class method) x.tops class (inv.answers.selected class method c_within m_within))
 
-pub selected_by_table : (x : Parts) (p : Program) (class method : ℕ) (tables : List Table) (table : Table) (signatures : List ℕ) → program_in x ≡ p
+pub selected_by_table : (x : Parts) (p : Program) (class method : ℕ) (tables : List ℕ) (table : ℕ) (signatures : List ℕ) → program_in x ≡ p
     → AreTables x → class < length p.outline.classes → method < length (methods_of p.outline.classes)
-    → is_private (method_at p.outline.classes method).method.flags ≡ false → tables ≡ x.selected → signatures ≡ x.signatures → table ≡ get_or tables class table
-    → get nat_eq table (get_or signatures method 0) ≡ select p.outline.classes class method
+    → is_private (method_at p.outline.classes method).method.flags ≡ false → tables ≡ x.tops → signatures ≡ x.signatures
+    → table ≡ get_or tables class table
+    → value_at x.selected table (get_or signatures method 0) ≡ select p.outline.classes class method
 selected_by_table x p class method tables table signatures e inv c_in m_in other same same_signatures read =
     let c_within = to_parts (λ q. class < length q.outline.classes) x p e c_in in
     let m_within = to_parts (λ q. method < length (methods_of q.outline.classes)) x p e m_in in
     let not_private = to_parts (λ q. is_private (method_at q.outline.classes method).method.flags ≡ false) x p e other in
-    let says = known_at (SaysSelected x class method) tables x.selected class table same (inv.answers.selected class method c_within m_within) read in
-    from_parts (λ q. get nat_eq table (get_or signatures method 0) ≡ select q.outline.classes class method) x p e
-    (ap (λ zs. get nat_eq table (get_or zs method 0)) same_signatures ∙ says ∙ sym (select-other x.declared class method not_private))
+    let says = known_at (SaysSelected x class method) tables x.tops class table same (inv.answers.selected class method c_within m_within) read in
+    from_parts (λ q. value_at x.selected table (get_or signatures method 0) ≡ select q.outline.classes class method) x p e
+    (ap (λ zs. value_at x.selected table (get_or zs method 0)) same_signatures ∙ says ∙ sym (select-other x.declared class method not_private))
 
 -- ---- a class's own methods
+
+abbrev pub Table : Type 0
+Table = HashMap ℕ ℕ (BuildHasherDefault FoldHasher)
 
 abbrev pub SaysOwn : Parts → ℕ → ℕ → Table → Type 0
 SaysOwn x class method table = get nat_eq table (get_or x.signatures method 0) ≡ own_instance x.declared method class
 
-pub own_by_table : (x : Parts) (p : Program) (class method : ℕ) (tables : List Table) (table : Table) (signatures : List ℕ) → program_in x ≡ p → AreTables x
-    → class < length tables → method < length (methods_of p.outline.classes) → tables ≡ x.own → signatures ≡ x.signatures → table ≡ get_or tables class table
+pub own_by_table : (x : Parts) (p : Program) (class method : ℕ) (tables : List Table) (table : Table) (signatures : List ℕ) → program_in x ≡ p
+    → AreTables x
+    → class < length tables → method < length (methods_of p.outline.classes) → tables ≡ x.own → signatures ≡ x.signatures
+    → table ≡ get_or tables class table
     → get nat_eq table (get_or signatures method 0) ≡ own_instance p.outline.classes method class
 own_by_table x p class method tables table signatures e inv inside m_in same same_signatures read =
     let P : ℕ → Type 0 = λ n. class < n in

@@ -14,7 +14,8 @@ length-row f n xs e = ap length e ∙ length-map-range_with_len f 0 n
 pub row_within : {X : Type 0} (f : ℕ → X) (n i : ℕ) (xs ys : List X) → xs ≡ ys → ys ≡ map f (numbers_below n) → i < n → i < length xs
 row_within f n i xs ys same e h = let P : ℕ → Type 0 = λ k. i < k in subst P (sym (length-row f n xs (same ∙ e))) h
 
-pub row_is : {X : Type 0} (f : ℕ → X) (n i : ℕ) (xs ys : List X) (r : X) → xs ≡ ys → ys ≡ map f (numbers_below n) → i < n → r ≡ get_or xs i r → r ≡ f i
+pub row_is : {X : Type 0} (f : ℕ → X) (n i : ℕ) (xs ys : List X) (r : X) → xs ≡ ys → ys ≡ map f (numbers_below n) → i < n → r ≡ get_or xs i r
+    → r ≡ f i
 row_is f n i xs ys r same e h read = read ∙ ap (λ zs. get_or zs i r) (same ∙ e) ∙ get_or-map-range_with_len f 0 n i i r h (zero-add i)
 
 -- ---- what is known of the program is known of its parts, and the other way round
@@ -28,7 +29,8 @@ from_parts P x p e h = subst P e h
 -- ---- an element of which something is known
 
 pub known_within : {X : Type 0} (P : X → Type 0) (xs : List X) (i : ℕ) → IsSomeAnd (slice_get xs i) P → i < length xs
-known_within P xs i h = elim (slice_get xs i) as (λ o. slice_get xs i ≡ o → IsSomeAnd o P → i < length xs) [ None ↦ λ e k. absurd k | Some y ↦ λ e k. slice_get_within xs i y e ] refl h
+known_within P xs i h = elim (slice_get xs i) as (λ o. slice_get xs i ≡ o → IsSomeAnd o P
+    → i < length xs) [ None ↦ λ e k. absurd k | Some y ↦ λ e k. slice_get_within xs i y e ] refl h
 
 pub known_at : {X : Type 0} (P : X → Type 0) (xs ys : List X) (i : ℕ) (r : X) → xs ≡ ys → IsSomeAnd (slice_get ys i) P → r ≡ get_or xs i r → P r
 known_at {X} P xs ys i r same h read =

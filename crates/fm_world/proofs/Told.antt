@@ -34,34 +34,41 @@ method_info-flags p method = refl
 
 -- ---- the selected method
 
-pub select-private : (classes : List DeclaredClass) (class method : ℕ) → is_private (method_at classes method).method.flags ≡ true → select classes class method ≡ Some method
+pub select-private : (classes : List DeclaredClass) (class method : ℕ) → is_private (method_at classes method).method.flags ≡ true
+    → select classes class method ≡ Some method
 unfolding select
 select-private classes class method private =
-    ap (λ b. if b then Some method else (let m = (method_at classes method).method in method_among classes is_selectable m.name m.descriptor (chain_of classes class))) private
+    ap (λ b. if b then Some method else (let m = (method_at classes method).method in
+    method_among classes is_selectable m.name m.descriptor (chain_of classes class))) private
 
 pub select-other : (classes : List DeclaredClass) (class method : ℕ) → is_private (method_at classes method).method.flags ≡ false
-    → select classes class method ≡ (let m = (method_at classes method).method in method_among classes is_selectable m.name m.descriptor (chain_of classes class))
+    → select classes class method ≡ (let m = (method_at classes method).method in
+    method_among classes is_selectable m.name m.descriptor (chain_of classes class))
 unfolding select
 select-other classes class method other =
-    ap (λ b. if b then Some method else (let m = (method_at classes method).method in method_among classes is_selectable m.name m.descriptor (chain_of classes class))) other
+    ap (λ b. if b then Some method else (let m = (method_at classes method).method in
+    method_among classes is_selectable m.name m.descriptor (chain_of classes class))) other
 
 -- ---- the cases of what can be cast
 
 pub is_sub-level : (classes : List DeclaredClass) (a b : TypeRef) → a.dims ≡ b.dims → is_sub classes a b ≡ is_sub_base classes a.base b.base
 unfolding is_sub
 is_sub-level classes a b same =
-    ap (λ t. if t then is_sub_base classes a.base b.base else (nat_lt b.dims a.dims && is_base_above_arrays classes b.base)) (eq-eqb a.dims b.dims same)
+    ap (λ t. if t then is_sub_base classes a.base b.base else (nat_lt b.dims a.dims && is_base_above_arrays classes b.base))
+    (eq-eqb a.dims b.dims same)
 
 pub is_sub-deeper : (classes : List DeclaredClass) (a b : TypeRef) → b.dims < a.dims → is_sub classes a b ≡ is_base_above_arrays classes b.base
 unfolding is_sub
 is_sub-deeper classes a b deeper =
-    ap (λ t. if t then is_sub_base classes a.base b.base else (nat_lt b.dims a.dims && is_base_above_arrays classes b.base)) (ne_eqb a.dims b.dims (λ same. omega (arith, same, deeper)))
+    ap (λ t. if t then is_sub_base classes a.base b.base else (nat_lt b.dims a.dims && is_base_above_arrays classes b.base))
+    (ne_eqb a.dims b.dims (λ same. omega (arith, same, deeper)))
     ∙ ap (λ t. t && is_base_above_arrays classes b.base) (lt-ltb b.dims a.dims deeper)
 
 pub is_sub-flatter : (classes : List DeclaredClass) (a b : TypeRef) → a.dims < b.dims → is_sub classes a b ≡ false
 unfolding is_sub
 is_sub-flatter classes a b flatter =
-    ap (λ t. if t then is_sub_base classes a.base b.base else (nat_lt b.dims a.dims && is_base_above_arrays classes b.base)) (ne_eqb a.dims b.dims (λ same. omega (arith, same, flatter)))
+    ap (λ t. if t then is_sub_base classes a.base b.base else (nat_lt b.dims a.dims && is_base_above_arrays classes b.base))
+    (ne_eqb a.dims b.dims (λ same. omega (arith, same, flatter)))
     ∙ ap (λ t. t && is_base_above_arrays classes b.base) (le-ltb b.dims a.dims (omega (arith, flatter)))
 
 -- the second of three tests, where the first one fails
@@ -93,7 +100,8 @@ pub targets-static : (p : Program) (c : Call) → c.kind ≡ call.Static → tar
 unfolding targets
 targets-static p c kind = ap (λ k. targets p (record c { kind = k })) kind
 
-pub targets-special : (p : Program) (c : Call) → c.kind ≡ call.Special → targets p c ≡ special_target p.outline.classes c.caller.0 (class_of_type c.named) c.method.0 ∷ []
+pub targets-special : (p : Program) (c : Call) → c.kind ≡ call.Special
+    → targets p c ≡ special_target p.outline.classes c.caller.0 (class_of_type c.named) c.method.0 ∷ []
 unfolding targets
 targets-special p c kind = ap (λ k. targets p (record c { kind = k })) kind
 

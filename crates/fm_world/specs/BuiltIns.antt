@@ -41,8 +41,8 @@ serializable_name = codes "java/io/Serializable"
 -- the classes of which none may be a subclass
 abbrev pub sealed_names : List (List ℕ)
 sealed_names =
-    codes "java/lang/String" ∷ codes "java/lang/StringBuilder" ∷ codes "java/lang/StringBuffer" ∷ codes "java/lang/System" ∷ codes "java/io/PrintStream"
-    ∷ codes "java/io/InputStream" ∷ codes "FreeMe" ∷ []
+    codes "java/lang/String" ∷ codes "java/lang/StringBuilder" ∷ codes "java/lang/StringBuffer" ∷ codes "java/lang/System"
+    ∷ codes "java/io/PrintStream" ∷ codes "java/io/InputStream" ∷ codes "FreeMe" ∷ []
 
 -- ---- methods, with the numbers of their rows
 
@@ -120,7 +120,8 @@ throwable_constructors = method (codes "<init>") (codes "()V") 37 ∷ method (co
 
 abbrev pub throwable_methods : List DeclaredMethod
 throwable_methods =
-    throwable_constructors ++ method (codes "getMessage") (codes "()Ljava/lang/String;") 39 ∷ method (codes "toString") (codes "()Ljava/lang/String;") 40 ∷ []
+    throwable_constructors
+    ++ method (codes "getMessage") (codes "()Ljava/lang/String;") 39 ∷ method (codes "toString") (codes "()Ljava/lang/String;") 40 ∷ []
 
 abbrev pub free_me_methods : List DeclaredMethod
 free_me_methods =
@@ -162,7 +163,16 @@ throwable_under superclass name = class_under (Some superclass) name [] false []
 
 -- an interface without methods
 abbrev pub marker : List ℕ → DeclaredClass
-marker name = record { name = name; superclass = Some object_name; interfaces = []; flags = interface_flags; hidden = false; fields = []; methods = []; file = None }
+marker name = record {
+  name = name;
+  superclass = Some object_name;
+  interfaces = [];
+  flags = interface_flags;
+  hidden = false;
+  fields = [];
+  methods = [];
+  file = None;
+}
 
 -- the classes by the numbers that they have in each program
 unfoldable pub built_in : List DeclaredClass

@@ -72,7 +72,8 @@ refused_where refusals (Some named) = refusals named
 -- a file whose name an earlier file has
 abbrev pub duplicates : List (List ℕ) → List ClassDef → List Refusal
 duplicates earlier [] = []
-duplicates earlier (c ∷ given) = refused_if (list_any (bytes_eq (own_name c)) earlier) (refused Duplicate c (own_name c)) ++ duplicates (own_name c ∷ earlier) given
+duplicates earlier (c ∷ given) =
+    refused_if (list_any (bytes_eq (own_name c)) earlier) (refused Duplicate c (own_name c)) ++ duplicates (own_name c ∷ earlier) given
 
 -- a file that has the name of a built-in class
 abbrev pub built_in_named : ClassDef → List Refusal
@@ -186,7 +187,8 @@ abbrev pub missing_field_at : List DeclaredClass → ClassDef → ℕ → List R
 missing_field_at classes c index = refused_where of_member (named_member c.pool.entries index) where
   of_member : MemberName → List Refusal
   of_member m =
-      refused_if (is_not_as_wanted (field_flags classes) (resolved_field classes m) (wanted_at static_field_wanted c index)) (refused MissingField c (field_text m))
+      refused_if (is_not_as_wanted (field_flags classes) (resolved_field classes m) (wanted_at static_field_wanted c index))
+      (refused MissingField c (field_text m))
 
 abbrev pub missing_fields : List DeclaredClass → ClassDef → List Refusal
 missing_fields classes c = flat_map (missing_field_at classes c) (uses_in_order c)
@@ -212,7 +214,8 @@ missing_method_at classes c index = refused_where of_member (named_member c.pool
   is_wrong : MemberName → List Bool → Bool
   is_wrong m [] = false
   is_wrong m (first ∷ others) =
-      names_wrong_sort classes (entry_at c.pool.entries index) m.class || is_not_as_wanted (method_flags classes) (resolved_method classes m) (first ∷ others)
+      names_wrong_sort classes (entry_at c.pool.entries index) m.class
+      || is_not_as_wanted (method_flags classes) (resolved_method classes m) (first ∷ others)
 
   of_member : MemberName → List Refusal
   of_member m = refused_if (is_wrong m (wanted_at static_method_wanted c index)) (refused MissingMethod c (method_text m))
@@ -278,4 +281,5 @@ each_from class refusals (c ∷ given) = refusals c class ++ each_from (class + 
 
 abbrev pub no_main : List DeclaredClass → List ℕ → List Refusal
 no_main classes main =
-    refused_if (not (is_there_and (λ class. is_some (main_of classes class)) (given_number classes main))) (record { cause = NoMain; name = main; user = main })
+    refused_if (not (is_there_and (λ class. is_some (main_of classes class)) (given_number classes main)))
+    (record { cause = NoMain; name = main; user = main })

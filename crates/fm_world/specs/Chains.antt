@@ -1,6 +1,6 @@
 -- Superclasses and superinterfaces of a class in a list of classes (JVMS 5.3.5), and which type is below which at run time (JVMS 6.5.checkcast).
--- A class goes by its number in the list; names are looked up in the list. The number of classes bounds each walk, so that it ends where chains
--- lead into a cycle; a linked program has none.
+-- A class goes by its number in the list; names are looked up in the list. One more than the number of classes bounds each walk, so
+-- that it ends where chains lead into a cycle; a linked program has none.
 use Rattle.std.specs.Prelude.{ℕ, zero, suc, ◌==◌, ◌||◌, ◌&&◌, not, Bool, true, false, List, [], ◌∷◌, length, drop, filter, Option, Some, None, option_and_then, nat_eq, nat_lt, if◌then◌else◌}
 use Rattle.std.specs.List.{slice_index_or, flat_map, filter_map, list_any}
 use Rattle.std.specs.Str.{bytes_eq}
@@ -47,7 +47,7 @@ upwards (suc bound) classes (Some class) = class ∷ upwards bound classes (pare
 
 -- the class and its superclasses, the nearest first
 unfoldable pub chain_of : List DeclaredClass → ℕ → List ℕ
-chain_of classes class = upwards (length classes) classes (Some class)
+chain_of classes class = upwards (suc (length classes)) classes (Some class)
 
 -- its superclasses alone
 abbrev pub superclasses_of : List DeclaredClass → ℕ → List ℕ
@@ -67,7 +67,7 @@ interfaces_within (suc bound) classes class =
 
 -- the superinterfaces of a class by its own list: depth first, in listed order
 unfoldable pub superinterfaces_of : List DeclaredClass → ℕ → List ℕ
-superinterfaces_of classes class = interfaces_within (length classes) classes class
+superinterfaces_of classes class = interfaces_within (suc (length classes)) classes class
 
 -- the superinterfaces of a class and then those of its superclasses, each once
 unfoldable pub interfaces_of : List DeclaredClass → ℕ → List ℕ

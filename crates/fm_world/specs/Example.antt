@@ -1,5 +1,6 @@
 -- Three classes written by hand, what they are linked to, and neighbours of them that are refused.
 use Rattle.std.specs.Prelude.{ℕ, List, [], ◌∷◌, codes, None, map, slice_set}
+use Rattle.fm_base.specs.declared.kinds.Base.{Base}
 use Rattle.fm_base.specs.declared.kinds.Base.TheVariants as base
 use Rattle.fm_base.specs.declared.kinds.TypeRef.{TypeRef}
 use Rattle.fm_code.specs.declared.constant_pool.Entry.{Entry}
@@ -89,7 +90,8 @@ only_return = item (insn.Return None) ∷ []
 abbrev pub upper_with : ℕ → ClassDef
 upper_with flags =
     class_with upper_entries
-    (record { flags = flags; name = 5; descriptor = 6; attributes = [] } ∷ record { flags = 8; name = 10; descriptor = 11; attributes = attribute.Constant 14 13 ∷ [] } ∷ [])
+    (record { flags = flags; name = 5; descriptor = 6; attributes = [] }
+    ∷ record { flags = 8; name = 10; descriptor = 11; attributes = attribute.Constant 14 13 ∷ [] } ∷ [])
     (coded_method 1 7 8 15 only_return ∷ coded_method 1 9 8 15 only_return ∷ [])
 
 abbrev pub example_upper : ClassDef
@@ -106,7 +108,8 @@ lower_entries =
 
 abbrev pub example_lower : ClassDef
 example_lower =
-    class_with lower_entries (record { flags = 1; name = 5; descriptor = 6; attributes = [] } ∷ []) (coded_method 1 7 8 10 only_return ∷ coded_method 1 9 8 10 only_return ∷ [])
+    class_with lower_entries (record { flags = 1; name = 5; descriptor = 6; attributes = [] } ∷ [])
+    (coded_method 1 7 8 10 only_return ∷ coded_method 1 9 8 10 only_return ∷ [])
 
 abbrev pub example : List ClassDef
 example = example_main ∷ example_upper ∷ example_lower ∷ []
@@ -129,6 +132,33 @@ array_types = record { dims = 1; base = of_class 1 } ∷ record { dims = 1; base
 
 abbrev pub call_of_k : Call
 call_of_k = record { kind = call.Virtual; named = record { dims = 0; base = of_class 29 }; method = method_id 88; caller = class_id 28 }
+
+-- a call of toString on an Object, and on an array of ints: toString is method 3
+abbrev pub call_of_to_string : Call
+call_of_to_string = record { kind = call.Virtual; named = record { dims = 0; base = of_class 0 }; method = method_id 3; caller = class_id 28 }
+
+abbrev pub call_on_array : Call
+call_on_array = record { kind = call.Virtual; named = record { dims = 1; base = base.Int }; method = method_id 3; caller = class_id 28 }
+
+-- ---- casts: Object is class 0, String 1, Throwable 7, NullPointerException 18, Cloneable 26 and Serializable 27
+
+abbrev pub array : ℕ → Base → TypeRef
+array dimensions b = record { dims = dimensions; base = b }
+
+abbrev pub class_type : ℕ → TypeRef
+class_type class = array 0 (of_class class)
+
+abbrev pub castable : List (TypeRef × TypeRef)
+castable =
+    (class_type 18, class_type 7) ∷ (class_type 18, class_type 27) ∷ (class_type 1, class_type 0) ∷ (class_type 26, class_type 0)
+    ∷ (array 1 base.Int, class_type 0) ∷ (array 1 base.Int, class_type 26) ∷ (array 1 (of_class 1), array 1 (of_class 0))
+    ∷ (array 2 base.Int, array 1 (of_class 0)) ∷ (array 2 base.Int, array 1 (of_class 27)) ∷ (array 1 base.Int, array 1 base.Int) ∷ []
+
+abbrev pub not_castable : List (TypeRef × TypeRef)
+not_castable =
+    (class_type 7, class_type 18) ∷ (class_type 0, class_type 1) ∷ (class_type 18, class_type 26) ∷ (class_type 0, array 1 base.Int)
+    ∷ (array 1 base.Int, class_type 1) ∷ (array 1 (of_class 0), array 1 (of_class 1)) ∷ (array 1 base.Int, array 1 (of_class 0))
+    ∷ (array 1 (of_class 0), array 2 base.Int) ∷ (array 1 base.Int, array 1 base.Long) ∷ []
 
 -- ---- neighbours
 
@@ -164,13 +194,17 @@ with_interfaces =
 abbrev pub declaring : List ℕ → List ℕ → List ℕ → ClassDef
 declaring name superclass flags = class_with entries [] (map with_flags flags) where
   entries : List Entry
-  entries = entry.Second ∷ entry.Utf8 name ∷ entry.Class 1 ∷ entry.Utf8 superclass ∷ entry.Class 3 ∷ entry.Utf8 (codes "k") ∷ entry.Utf8 (codes "()V") ∷ entry.Utf8 (codes "Code") ∷ []
+  entries =
+      entry.Second ∷ entry.Utf8 name ∷ entry.Class 1 ∷ entry.Utf8 superclass ∷ entry.Class 3 ∷ entry.Utf8 (codes "k")
+      ∷ entry.Utf8 (codes "()V") ∷ entry.Utf8 (codes "Code") ∷ []
 
   with_flags : ℕ → Member
   with_flags f = coded_method f 5 6 7 only_return
 
 abbrev pub with_private : List ClassDef
-with_private = declaring (codes "P") (codes "java/lang/Object") (1 ∷ []) ∷ declaring (codes "Q") (codes "P") (2 ∷ []) ∷ declaring (codes "R") (codes "Q") [] ∷ []
+with_private =
+    declaring (codes "P") (codes "java/lang/Object") (1 ∷ []) ∷ declaring (codes "Q") (codes "P") (2 ∷ [])
+    ∷ declaring (codes "R") (codes "Q") [] ∷ []
 
 abbrev pub refusal : Cause → List ℕ → List ℕ → Refusal
 refusal cause name user = record { cause = cause; name = name; user = user }

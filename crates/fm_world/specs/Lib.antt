@@ -9,6 +9,7 @@ pub mod Uses
 pub mod Numbers
 pub mod Programs
 pub mod Causes
+pub mod Acyclic
 pub mod Linking
 pub mod Example
 pub mod inner

@@ -32,7 +32,8 @@ field_path classes class = flat_map (λ above. above ∷ superinterfaces_of clas
 
 -- the field that a pool entry names; an array has none
 unfoldable pub resolved_field : List DeclaredClass → MemberName → Option ℕ
-resolved_field classes m = option_and_then (λ class. field_among classes m.name m.descriptor (field_path classes class)) (class_number classes m.class)
+resolved_field classes m =
+    option_and_then (λ class. field_among classes m.name m.descriptor (field_path classes class)) (class_number classes m.class)
 
 -- ---- methods (JVMS 5.4.3.3, 5.4.3.4)
 

@@ -64,12 +64,14 @@ first_method classes class = sum_by (λ c. length c.methods) (take class classes
 -- the field, or the method, of a class by its name and descriptor
 abbrev pub own_field : List DeclaredClass → List ℕ → List ℕ → ℕ → Option ℕ
 own_field classes name descriptor class =
-    option_map (λ k. first_field classes class + k) (position (λ f. bytes_eq f.name name && bytes_eq f.descriptor descriptor) (class_at classes class).fields)
+    option_map (λ k. first_field classes class + k)
+    (position (λ f. bytes_eq f.name name && bytes_eq f.descriptor descriptor) (class_at classes class).fields)
 
 -- a method whose flags pass the test
 abbrev pub own_method : List DeclaredClass → (ℕ → Bool) → List ℕ → List ℕ → ℕ → Option ℕ
 own_method classes passes name descriptor class =
-    option_map (λ k. first_method classes class + k) (position (λ m. bytes_eq m.name name && bytes_eq m.descriptor descriptor && passes m.flags) (class_at classes class).methods)
+    option_map (λ k. first_method classes class + k)
+    (position (λ m. bytes_eq m.name name && bytes_eq m.descriptor descriptor && passes m.flags) (class_at classes class).methods)
 
 -- the first of the classes' fields, or methods
 abbrev pub field_among : List DeclaredClass → List ℕ → List ℕ → List ℕ → Option ℕ
@@ -107,7 +109,8 @@ size_of classes class = size_among classes (chain_of classes class)
 -- the place of an instance field in its object: after those of the superclasses, the hidden one, and the class's earlier ones
 abbrev pub instance_slot : List DeclaredClass → ℕ → ℕ → ℕ
 instance_slot classes class index =
-    size_among classes (superclasses_of classes class) + hidden_fields (class_at classes class) + instance_fields (take index (class_at classes class).fields)
+    size_among classes (superclasses_of classes class) + hidden_fields (class_at classes class)
+    + instance_fields (take index (class_at classes class).fields)
 
 -- the place of a static field among those of all classes
 abbrev pub static_slot : List DeclaredClass → ℕ → ℕ

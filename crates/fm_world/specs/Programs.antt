@@ -1,5 +1,5 @@
 -- The program that class files make, and what is asked of it. All names are looked up in the list of its classes.
-use Rattle.std.specs.Prelude.{ℕ, ◌<◌, ◌==◌, ◌&&◌, not, Bool, true, List, [], ◌∷◌, ◌++◌, length, map, filter, codes, Option, Some, None, is_some, position, replicate, unwrap_or, option_map, option_and_then, option_to_list, if◌then◌else◌}
+use Rattle.std.specs.Prelude.{ℕ, ◌<◌, ◌==◌, ◌&&◌, not, Bool, true, List, [], ◌∷◌, ◌++◌, length, map, filter, codes, Option, Some, None, is_some, position, replicate, unwrap_or, option_map, option_and_then, option_to_list, if◌then◌else◌, ◌-◌, slice_get}
 use Rattle.std.specs.List.{slice_index_or, flat_map, filter_map, range_with_len}
 use Rattle.std.specs.Str.{bytes_eq}
 use Rattle.fm_base.specs.Rows.{has}
@@ -8,6 +8,7 @@ use Rattle.fm_base.specs.declared.ids.ClassId.{ClassId}
 use Rattle.fm_base.specs.declared.ids.MethodId.{MethodId}
 use Rattle.fm_base.specs.declared.kinds.Base.{Base}
 use Rattle.fm_base.specs.declared.kinds.Base.TheVariants as base
+use Rattle.fm_base.specs.declared.kinds.Kind.{Kind}
 use Rattle.fm_base.specs.declared.kinds.TypeRef.{TypeRef}
 use Rattle.fm_code.specs.AccessFlags.{is_static, is_interface, is_abstract}
 use Rattle.fm_code.specs.ConstantPool.{entry_at, MemberName}
@@ -23,9 +24,9 @@ use Rattle.fm_world.specs.declared.declarations.Constant.{Constant}
 use Rattle.fm_world.specs.declared.declarations.DeclaredClass.{DeclaredClass}
 use Rattle.fm_world.specs.declared.declarations.DeclaredMethod.{DeclaredMethod}
 use Rattle.fm_world.specs.declared.declarations.Constant.TheVariants as constant
-use Rattle.fm_world.specs.Descriptors.{field_type, declared_kind, parameter_kinds, result_kind}
+use Rattle.fm_world.specs.Descriptors.{field_type, kind_with, declared_kind, parameter_kinds, result_kind}
 use Rattle.fm_world.specs.Lookups.{object_number, resolved_field, resolved_method, select, special_target}
-use Rattle.fm_world.specs.Members.{field_at, method_at, methods_of, method_among, start_of, size_of, slot_of}
+use Rattle.fm_world.specs.Members.{field_at, method_at, methods_of, method_among, kinds_of, start_of, size_of, slot_of}
 use Rattle.fm_world.specs.Numbers.{types_of, type_number, type_of_class, texts_of, text_number, text_units}
 use Rattle.fm_world.specs.Uses.{is_used, pool_indices, named_member, named_type}
 use Rattle.fm_world.specs.declared.calls.Call.{Call}
@@ -234,6 +235,12 @@ class_of_type t = if t.dims == 0 then of_base t.base else None where
   of_base : Base → Option ℕ
   of_base (base.OfClass class) = Some class.0
   of_base b = None
+
+-- the kind of a field of an object by its place, or of an element of an array
+abbrev pub kind_at : List DeclaredClass → TypeRef → ℕ → Option Kind
+kind_at classes t place =
+    if t.dims == 0 then option_and_then (λ class. slice_get (kinds_of classes class) place) (class_of_type t)
+    else Some (kind_with (t.dims - 1) t.base)
 
 -- whether an array may be the receiver
 abbrev pub takes_arrays : List DeclaredClass → TypeRef → Bool

@@ -1,4 +1,6 @@
 -- What serves the proofs alone: how the program lies in the memory of the code.
 pub mod BuiltInTable
+pub mod Layers
+pub mod Nodes
 pub mod Tables
 pub mod Marks

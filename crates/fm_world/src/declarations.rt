@@ -1,14 +1,15 @@
 // What a class declares, built in or given: all of it but its code (JVMS 4.1, 4.5, 4.6).
 
-use fm_base::{Name, Seq};
+use crate::shared::Shared;
+use fm_base::Seq;
 
 /// A class by the names that it names.
 #[derive(Debug, PartialEq, Eq, Drop)]
 pub struct DeclaredClass {
-    pub name: Name,
+    pub name: Shared<u8>,
     /// None for `java/lang/Object`, and for a class file whose super_class is 0.
-    pub superclass: Option<Name>,
-    pub interfaces: Seq<Name>,
+    pub superclass: Option<Shared<u8>>,
+    pub interfaces: Seq<Shared<u8>>,
     pub flags: u16,
     /// Whether its objects have a field that no name leads to.
     pub hidden: bool,
@@ -21,8 +22,8 @@ pub struct DeclaredClass {
 /// A field of a class.
 #[derive(Debug, PartialEq, Eq, Drop)]
 pub struct DeclaredField {
-    pub name: Name,
-    pub descriptor: Name,
+    pub name: Shared<u8>,
+    pub descriptor: Shared<u8>,
     pub flags: u16,
     /// What a static field holds once its class is started, where it has a ConstantValue.
     pub value: Option<Constant>,
@@ -31,8 +32,8 @@ pub struct DeclaredField {
 /// A method of a class.
 #[derive(Debug, PartialEq, Eq, Drop)]
 pub struct DeclaredMethod {
-    pub name: Name,
-    pub descriptor: Name,
+    pub name: Shared<u8>,
+    pub descriptor: Shared<u8>,
     pub flags: u16,
     /// The number of its row, if it is built in.
     pub row: Option<u16>,
@@ -44,5 +45,5 @@ pub enum Constant {
     Int(i32),
     Long(i64),
     /// A text by the bytes that spell it.
-    Text(Name),
+    Text(Shared<u8>),
 }

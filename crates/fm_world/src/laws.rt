@@ -1,18 +1,23 @@
 // Laws of the definitions, each as the contract of a function that does nothing.
 
-ghost use Rattle.std.specs.Prelude.{◌≡◌, [], ◌∷◌, codes, drop, length, nat_eq, Some, slice_get};
-ghost use Rattle.std.specs.List.{filter_map, range_with_len};
+ghost use Rattle.std.specs.Prelude.{◌≡◌, ◌<◌, ℕ, List, Result, true, false, [], ◌∷◌, codes, drop, length, nat_eq, Some, slice_get};
+ghost use Rattle.std.specs.List.{filter_map, flat_map, list_all, list_any, range_with_len};
 ghost use Rattle.std.specs.Option.{option_map};
+ghost use Rattle.fm_code.specs.declared.class_file.ClassDef.{ClassDef};
+ghost use Rattle.fm_world.specs.Acyclic.{IsAcyclic};
 ghost use Rattle.fm_world.specs.BuiltIns.{built_in};
+ghost use Rattle.fm_world.specs.Numbers.{type_number, type_of_class, types_of};
+ghost use Rattle.fm_world.specs.declared.declarations.DeclaredClass.{DeclaredClass};
+ghost use Rattle.fm_world.specs.inner.Tables.{IsLinear};
 ghost use Rattle.fm_world.specs.Rows.{hidden_kinds, row_of};
-ghost use Rattle.fm_world.specs.Causes.{Duplicate, BadParent, MissingClass, MissingField, NotImplemented, NoMain};
-ghost use Rattle.fm_world.specs.Chains.{chain_of, distinct, superinterfaces_of};
+ghost use Rattle.fm_world.specs.Causes.{Duplicate, BadParent, MissingClass, MissingField, NotImplemented, NoMain, Refusal};
+ghost use Rattle.fm_world.specs.Chains.{is_sub, chain_of, distinct, listed_interfaces, superinterfaces_of};
 ghost use Rattle.fm_world.specs.Descriptors.{class_number};
-ghost use Rattle.fm_world.specs.Example.{array_types, call_of_k, example, example_main, example_upper, main_uses, refusal, with_cycle, with_interfaces, with_private, with_static_field};
-ghost use Rattle.fm_world.specs.Linking.{refusals};
+ghost use Rattle.fm_world.specs.Example.{array_types, call_of_k, call_of_to_string, call_on_array, castable, not_castable, example, example_main, example_upper, main_uses, refusal, with_cycle, with_interfaces, with_private, with_static_field};
+ghost use Rattle.fm_world.specs.Linking.{refusals, IsLinked};
 ghost use Rattle.fm_world.specs.Lookups.{select, special_target};
 ghost use Rattle.fm_world.specs.Members.{kinds_of, methods_of, size_of, slot_of};
-ghost use Rattle.fm_world.specs.Programs.{classes_of, program_of, targets};
+ghost use Rattle.fm_world.specs.Programs.{Program, classes_of, program_of, targets};
 
 /// Facts of the built-in classes: how many there are, with how many methods; the rows are numbered
 /// without a gap in the order in which they first stand; the row of `FreeMe.free`; the constructor of
@@ -59,6 +64,16 @@ pub fn law_example()
     ensures slot { slot_of (classes_of example) 4 ≡ 1 }
     ensures selected { select (classes_of example) 30 88 ≡ Some 90 }
     ensures targets { targets (program_of example (codes "M")) call_of_k ≡ 88 ∷ 90 ∷ [] }
+    ensures of_object { targets (program_of example (codes "M")) call_of_to_string
+        ≡ 3 ∷ 9 ∷ 22 ∷ 30 ∷ 48 ∷ [] }
+    ensures of_array { targets (program_of example (codes "M")) call_on_array ≡ 3 ∷ [] }
+{}
+
+/// What can be cast to what, among classes, interfaces and arrays.
+pub fn law_cast_examples()
+    ensures castable { list_all (λ pair. is_sub built_in pair.0 pair.1) castable ≡ true }
+    ensures not_castable { list_any (λ pair. is_sub built_in pair.0 pair.1) not_castable
+        ≡ false }
 {}
 
 /// Neighbours of these classes are refused: each with its cause, the name and the class in whose file
@@ -75,4 +90,27 @@ pub fn law_refused_examples()
         ≡ Some (refusal MissingField (codes "B.x") (codes "M")) }
     ensures no_main { refusals example (codes "A")
         ≡ refusal NoMain (codes "A") (codes "A") ∷ [] }
+{}
+
+/// Where no chain leads into a cycle, a class's superclasses are its superclass and the superclasses
+/// of that one, and its superinterfaces are each listed interface with its own ones. So both can be
+/// told from the uppermost classes down.
+pub fn law_acyclic()
+    ensures superclasses { (classes : List DeclaredClass) → IsAcyclic classes → IsLinear classes }
+    ensures interfaces { (classes : List DeclaredClass) → IsAcyclic classes → (class : ℕ)
+        → class < length classes → superinterfaces_of classes class ≡ distinct nat_eq
+        (flat_map (λ i. i ∷ superinterfaces_of classes i) (listed_interfaces classes class)) }
+{}
+
+/// Class files have one answer: a program, or one refusal.
+pub fn law_one_answer()
+    ensures { (given : List ClassDef) (main : List ℕ) (a b : Result Program Refusal)
+        → IsLinked given main a → IsLinked given main b → a ≡ b }
+{}
+
+/// The type of a class has the number of the class, whatever is used.
+pub fn law_class_types()
+    ensures { (classes : List DeclaredClass) (given : List ClassDef) (class : ℕ)
+        → class < length classes
+        → type_number (types_of classes given) (type_of_class class) ≡ Some class }
 {}

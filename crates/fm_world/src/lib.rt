@@ -9,18 +9,25 @@ mod built_ins;
 mod calls;
 mod declarations;
 mod laws;
+mod layers;
 mod parts;
 mod program;
 mod records;
+mod shared;
 mod uses;
 
 pub use built_ins::{BuiltInClass, BuiltInField, BuiltInMethod, built_in_classes};
 pub use calls::{Call, CallKind};
 pub use declarations::{Constant, DeclaredClass, DeclaredField, DeclaredMethod};
-pub use laws::{law_built_in, law_example, law_lookup_examples, law_refused_examples};
+pub use laws::{
+    law_acyclic, law_built_in, law_cast_examples, law_class_types, law_example,
+    law_lookup_examples, law_one_answer, law_refused_examples,
+};
+pub use layers::Layers;
 pub use parts::Parts;
 pub use program::Program;
 pub use records::{Body, ClassInfo, FieldInfo, MethodInfo};
+pub use shared::Shared;
 pub use uses::Use;
 
 /// A class's special calls search from its superclass (JVMS 4.1).

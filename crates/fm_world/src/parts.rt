@@ -1,6 +1,7 @@
 // The parts that a linked program is made of.
 
 use crate::declarations::DeclaredClass;
+use crate::layers::Layers;
 use crate::records::{ClassInfo, FieldInfo, MethodInfo};
 use crate::uses::Use;
 use fm_base::{ClassId, MethodId, Row, Seq, TypeRef, Units};
@@ -32,8 +33,9 @@ pub struct Parts {
     pub interfaces: Seq<Seq<u32>>,
     /// For each method the number that it shares with those of its name and descriptor.
     pub signatures: Seq<u32>,
-    /// For each class by signature the method that is selected.
-    pub selected: Seq<HashMap<u32, u32>>,
+    /// The tables of the methods that are selected, by signature, and for each class its table.
+    pub selected: Layers,
+    pub tops: Seq<u32>,
     /// For each class by signature its own method that isn't static.
     pub own: Seq<HashMap<u32, u32>>,
     /// The types by their numbers, turned round.

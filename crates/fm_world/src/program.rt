@@ -197,9 +197,9 @@ impl Program {
             return Some(m);
         }
         let signature = self.parts.signatures.as_slice()[m.0 as usize];
-        let table = &self.parts.selected.as_slice()[c.0 as usize];
-        match table.get(&signature) {
-            Some(number) => Some(MethodId(*number)),
+        let table = self.parts.tops.as_slice()[c.0 as usize];
+        match self.parts.selected.get(table, signature) {
+            Some(number) => Some(MethodId(number)),
             None => None,
         }
     }

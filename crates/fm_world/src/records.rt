@@ -1,13 +1,14 @@
 // What a linked program tells of a class, of a method and of a field.
 
+use crate::shared::Shared;
 use crate::uses::Use;
-use fm_base::{ClassId, Kind, MethodId, Name, Seq};
+use fm_base::{ClassId, Kind, MethodId, Seq};
 use fm_code::Code;
 
 /// A class, built in or given.
 #[derive(Debug, Drop)]
 pub struct ClassInfo {
-    pub name: Name,
+    pub name: Shared<u8>,
     /// Its superclass; none for `java/lang/Object` alone.
     pub parent: Option<ClassId>,
     /// The interfaces that it lists, in its order.
@@ -25,10 +26,10 @@ pub struct ClassInfo {
 #[derive(Debug, Drop)]
 pub struct MethodInfo {
     pub class: ClassId,
-    pub name: Name,
-    pub descriptor: Name,
+    pub name: Shared<u8>,
+    pub descriptor: Shared<u8>,
     /// The kinds of its parameters, without the receiver.
-    pub params: Seq<Kind>,
+    pub params: Shared<Kind>,
     pub result: Option<Kind>,
     pub flags: u16,
     pub body: Body,
@@ -48,7 +49,7 @@ pub enum Body {
 #[derive(Debug, Drop)]
 pub struct FieldInfo {
     pub class: ClassId,
-    pub name: Name,
+    pub name: Shared<u8>,
     pub kind: Kind,
     pub is_static: bool,
     /// Its place in its object, or of a static field its place among all static fields.

@@ -10,6 +10,7 @@ use Rattle.fm_world.specs.Members.{fields_of, is_instance, methods_of, method_at
 use Rattle.fm_world.specs.Numbers.{type_number}
 use Rattle.fm_world.specs.Programs.{Outline, Program, class_info, field_info, method_info}
 use Rattle.fm_world.specs.declared.declarations.DeclaredClass.{DeclaredClass}
+use Rattle.fm_world.specs.inner.Layers.{value_at}
 use Rattle.fm_world.specs.declared.parts.Parts.{Parts}
 use Rattle.fm_world.specs.declared.records.Body.{Body}
 use Rattle.fm_world.specs.declared.records.Body.TheVariants as body
@@ -61,9 +62,10 @@ pub record AnswerForClasses (x : Parts) : Type 0 where
   pub only_interfaces : (class : ℕ) → class < length x.declared → AreInterfaces x.declared (interfaces_of x.declared class)
   pub signatures : length x.signatures ≡ length (methods_of x.declared)
   pub selected : (class method : ℕ) → class < length x.declared → method < length (methods_of x.declared)
-      → IsSomeAnd (slice_get x.selected class) (λ table.
-      get nat_eq table (slice_index x.signatures method)
-      ≡ (let m = (method_at x.declared method).method in method_among x.declared is_selectable m.name m.descriptor (chain_of x.declared class)))
+      → IsSomeAnd (slice_get x.tops class) (λ table.
+      value_at x.selected table (slice_index x.signatures method)
+      ≡ (let m = (method_at x.declared method).method in
+      method_among x.declared is_selectable m.name m.descriptor (chain_of x.declared class)))
 
 -- the number of Object; and for each class its own method that isn't static, by signature
 pub record AnswerForCalls (x : Parts) : Type 0 where

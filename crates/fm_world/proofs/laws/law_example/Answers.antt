@@ -1,4 +1,4 @@
-use Rattle.fm_world.proofs.Example.{accepted, uses_are, types_are, texts_are, main_is, chain_is, size_is, slot_is, selected_is, targets_are}
+use Rattle.fm_world.proofs.Example.{accepted, uses_are, types_are, texts_are, main_is, chain_is, size_is, slot_is, selected_is, targets_are, of_object_are, of_array_are}
 use Rattle.fm_world.proofs.laws.law_example.Goals as goal
 
 pub returns-clause-accepted : goal.returns-clause-accepted
@@ -30,3 +30,9 @@ returns-clause-selected c = selected_is
 
 pub returns-clause-targets : goal.returns-clause-targets
 returns-clause-targets c = targets_are
+
+pub returns-clause-of_object : goal.returns-clause-of_object
+returns-clause-of_object c = of_object_are
+
+pub returns-clause-of_array : goal.returns-clause-of_array
+returns-clause-of_array c = of_array_are

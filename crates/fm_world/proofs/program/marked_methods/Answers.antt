@@ -17,5 +17,6 @@ loop-method-preserved c =
     let one : List MethodId = if (slice_index_or marks n false) then record { 0 = n } ∷ [] else [] in
     let is_marked : ℕ → Bool = λ k. slice_index_or marks k false in
     ap (map (λ (m : MethodId). m.0)) c.in_ok-push_if.ensures ∙ map-append (λ (m : MethodId). m.0) c.loop-method.found.items one
-    ∙ ap (λ xs. xs ++ map (λ (m : MethodId). m.0) one) c.loop-method.invariant ∙ ap (λ xs. filter is_marked (range_with_len 0 n) ++ xs) (pushed (slice_index_or marks n false) n)
+    ∙ ap (λ xs. xs ++ map (λ (m : MethodId). m.0) one) c.loop-method.invariant
+    ∙ ap (λ xs. filter is_marked (range_with_len 0 n) ++ xs) (pushed (slice_index_or marks n false) n)
     ∙ sym (filter-range_more is_marked n)

@@ -5,4 +5,5 @@ use Rattle.fm_world.proofs.program.marked_methods.Given as goal
 
 -- the marked ones so far
 abbrev pub invariant-loop-method : goal.invariant-loop-method
-invariant-loop-method l = map (λ (m : MethodId). m.0) l.found.items ≡ filter (λ method. slice_index_or l.marks method false) (range_with_len 0 l.method)
+invariant-loop-method l = map (λ (m : MethodId). m.0) l.found.items
+    ≡ filter (λ method. slice_index_or l.marks method false) (range_with_len 0 l.method)

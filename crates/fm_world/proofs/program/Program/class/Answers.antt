@@ -8,7 +8,8 @@ pub bounds-as_slice-c : goal.bounds-as_slice-c
 bounds-as_slice-c c =
     let x = c.self.inside.parts in
     let within = to_parts (λ p. c.args.c.0 < length p.outline.classes) x c.args.self.now c.self.view_is c.requires in
-    row_within (class_info (outline_in x)) (length x.declared) c.args.c.0 c.as_slice.result.now x.classes c.as_slice.ensures c.self.invariant.classes within
+    row_within (class_info (outline_in x)) (length x.declared) c.args.c.0 c.as_slice.result.now x.classes c.as_slice.ensures
+    c.self.invariant.classes within
 
 pub returns : goal.returns
 returns c =

@@ -21,4 +21,5 @@ returns-clause-value c =
     c.as_slice.ensures c.self.invariant.answers.displays within c.index-as_slice-c.is)
 
 pub returns-clause-linear : goal.returns-clause-linear
-returns-clause-linear c = from_parts (λ p. IsLinear p.outline.classes) c.self.inside.parts c.args.self.now c.self.view_is c.self.invariant.answers.linear
+returns-clause-linear c = from_parts (λ p. IsLinear p.outline.classes) c.self.inside.parts c.args.self.now c.self.view_is
+    c.self.invariant.answers.linear

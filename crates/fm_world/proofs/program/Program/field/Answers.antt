@@ -9,7 +9,8 @@ pub bounds-as_slice-f : goal.bounds-as_slice-f
 bounds-as_slice-f c =
     let x = c.self.inside.parts in
     let within = to_parts (λ p. c.args.f.0 < length (fields_of p.outline.classes)) x c.args.self.now c.self.view_is c.requires in
-    row_within (field_info (outline_in x)) (length (fields_of x.declared)) c.args.f.0 c.as_slice.result.now x.fields c.as_slice.ensures c.self.invariant.fields within
+    row_within (field_info (outline_in x)) (length (fields_of x.declared)) c.args.f.0 c.as_slice.result.now x.fields c.as_slice.ensures
+    c.self.invariant.fields within
 
 pub returns : goal.returns
 returns c =

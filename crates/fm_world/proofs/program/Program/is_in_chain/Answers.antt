@@ -3,7 +3,8 @@ use Rattle.std.proofs.Common.{sym}
 use Rattle.fm_world.proofs.program.Program.is_in_chain.Goals as goal
 
 pub overflow_sub-depth : goal.overflow_sub-depth
-overflow_sub-depth c = display-full c.args.self.now.outline.classes c.display-lower.ensures.linear c.args.d.0 c.requires.second c.display-upper.result.now c.display-upper.ensures.value
+overflow_sub-depth c = display-full c.args.self.now.outline.classes c.display-lower.ensures.linear c.args.d.0 c.requires.second
+    c.display-upper.result.now c.display-upper.ensures.value
 
 pub returns-then-depth-lower : goal.returns-then-depth-lower
 returns-then-depth-lower c =

@@ -13,7 +13,8 @@ returns-else-has_flag c =
     let below : is_among c.args.d.0 (chain_of classes c.args.c.0) ≡ false = sym c.is_in_chain.ensures ∙ c.if-is_in_chain.false in
     sym (ap (λ b. b || is_among c.args.d.0 (interfaces_of classes c.args.c.0)) below
     ∙ ap (is_among c.args.d.0) (sym c.interfaces-interfaces.ensures.value)
-    ∙ unlisted (is_among c.args.d.0 c.interfaces-interfaces.result.now) (λ e. false≢true (sym none ∙ c.interfaces-interfaces.ensures.only c.args.d.0 e))) where
+    ∙ unlisted (is_among c.args.d.0 c.interfaces-interfaces.result.now)
+    (λ e. false≢true (sym none ∙ c.interfaces-interfaces.ensures.only c.args.d.0 e))) where
       unlisted : (b : Bool) → (b ≡ true → ⊥) → b ≡ false
       unlisted false h = refl
       unlisted true h = absurd (h refl)

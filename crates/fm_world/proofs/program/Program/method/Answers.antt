@@ -9,7 +9,8 @@ pub bounds-as_slice-m : goal.bounds-as_slice-m
 bounds-as_slice-m c =
     let x = c.self.inside.parts in
     let within = to_parts (λ p. c.args.m.0 < length (methods_of p.outline.classes)) x c.args.self.now c.self.view_is c.requires in
-    row_within (method_info (program_in x)) (length (methods_of x.declared)) c.args.m.0 c.as_slice.result.now x.methods c.as_slice.ensures c.self.invariant.methods within
+    row_within (method_info (program_in x)) (length (methods_of x.declared)) c.args.m.0 c.as_slice.result.now x.methods c.as_slice.ensures
+    c.self.invariant.methods within
 
 pub returns : goal.returns
 returns c =

@@ -9,7 +9,8 @@ use Rattle.fm_world.proofs.program.Program.searches_above.Goals as goal
 pub returns-then-is_constructor : goal.returns-then-is_constructor
 returns-then-is_constructor c =
     let classes = c.args.self.now.outline.classes in
-    sym (ap (λ b. not b && has_flag (class_at classes c.args.caller.0).flags ACC_SUPER && is_among c.args.named.0 (superclasses_of classes c.args.caller.0))
+    sym (ap (λ b. not b && has_flag (class_at classes c.args.caller.0).flags ACC_SUPER && is_among c.args.named.0
+    (superclasses_of classes c.args.caller.0))
     (sym c.is_constructor.ensures ∙ c.if-is_constructor.true))
 
 pub returns-else-has_super_flag : goal.returns-else-has_super_flag
@@ -21,6 +22,7 @@ returns-else-has_super_flag c =
 pub returns-then-has_super_flag : goal.returns-then-has_super_flag
 returns-then-has_super_flag c =
     let classes = c.args.self.now.outline.classes in
-    c.is_listed.ensures ∙ ap (is_among c.args.named.0) c.superclasses.ensures ∙ is_among-reverse c.args.named.0 (superclasses_of classes c.args.caller.0)
+    c.is_listed.ensures ∙ ap (is_among c.args.named.0) c.superclasses.ensures
+    ∙ is_among-reverse c.args.named.0 (superclasses_of classes c.args.caller.0)
     ∙ sym (all_three (sym c.is_constructor.ensures ∙ c.if-is_constructor.false) (sym c.has_super_flag.ensures ∙ c.if-has_super_flag.true)
     (is_among c.args.named.0 (superclasses_of classes c.args.caller.0)))

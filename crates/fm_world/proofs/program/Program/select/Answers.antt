@@ -1,4 +1,5 @@
-use Rattle.std.proofs.Common.{◌≡◌, sym, ◌∙◌, ap, true, false, option_copied}
+use Rattle.std.proofs.Common.{◌≡◌, sym, ◌∙◌, ap, true, false, get_or}
+use Rattle.std.proofs.lemmas.List.{get_or_default}
 use Rattle.fm_code.specs.AccessFlags.{is_private}
 use Rattle.fm_world.proofs.Selected.{selected_by_table, selected_within}
 use Rattle.fm_world.proofs.Told.{method_info-flags, select-private}
@@ -19,14 +20,24 @@ pub returns-in-Some : goal.returns-in-Some
 returns-in-Some c =
     let flags = ap (λ m. is_private m.flags) c.method.ensures ∙ ap is_private (method_info-flags c.args.self.now c.args.m.0) in
     let other : is_private c.method.result.now.flags ≡ false = sym c.has_flag.ensures ∙ c.if-has_flag.false in
-    sym (ap option_copied c.in-Some.is) ∙ c.get.ensures.value
-    ∙ selected_by_table c.self.inside.parts c.args.self.now c.args.c.0 c.args.m.0 c.as_slice-2.result.now c.index-as_slice-c.result c.as_slice.result.now
-    c.self.view_is c.self.invariant c.requires.class c.requires.method (sym flags ∙ other) c.as_slice-2.ensures c.as_slice.ensures c.index-as_slice-c.is
+    let tops = c.as_slice-2.result.now in
+    let within = selected_within c.self.inside.parts c.args.self.now c.args.c.0 c.args.m.0 tops c.self.view_is c.self.invariant c.requires.class
+    c.requires.method c.as_slice-2.ensures in
+    let table = get_or tops c.args.c.0 0 in
+    sym c.in-Some.is ∙ c.get.ensures
+    ∙ selected_by_table c.self.inside.parts c.args.self.now c.args.c.0 c.args.m.0 tops table c.as_slice.result.now c.self.view_is c.self.invariant
+    c.requires.class
+    c.requires.method (sym flags ∙ other) c.as_slice-2.ensures c.as_slice.ensures (get_or_default tops c.args.c.0 0 table within)
 
 pub returns-in-None : goal.returns-in-None
 returns-in-None c =
     let flags = ap (λ m. is_private m.flags) c.method.ensures ∙ ap is_private (method_info-flags c.args.self.now c.args.m.0) in
     let other : is_private c.method.result.now.flags ≡ false = sym c.has_flag.ensures ∙ c.if-has_flag.false in
-    sym (ap option_copied c.in-None.is) ∙ c.get.ensures.value
-    ∙ selected_by_table c.self.inside.parts c.args.self.now c.args.c.0 c.args.m.0 c.as_slice-2.result.now c.index-as_slice-c.result c.as_slice.result.now
-    c.self.view_is c.self.invariant c.requires.class c.requires.method (sym flags ∙ other) c.as_slice-2.ensures c.as_slice.ensures c.index-as_slice-c.is
+    let tops = c.as_slice-2.result.now in
+    let within = selected_within c.self.inside.parts c.args.self.now c.args.c.0 c.args.m.0 tops c.self.view_is c.self.invariant c.requires.class
+    c.requires.method c.as_slice-2.ensures in
+    let table = get_or tops c.args.c.0 0 in
+    sym c.in-None.is ∙ c.get.ensures
+    ∙ selected_by_table c.self.inside.parts c.args.self.now c.args.c.0 c.args.m.0 tops table c.as_slice.result.now c.self.view_is c.self.invariant
+    c.requires.class
+    c.requires.method (sym flags ∙ other) c.as_slice-2.ensures c.as_slice.ensures (get_or_default tops c.args.c.0 0 table within)

@@ -11,7 +11,8 @@ returns-in-Static c =
 pub returns-in-Special : goal.returns-in-Special
 returns-in-Special c =
     let P : List ℕ → Type 0 = λ numbers. IfOk c.one_target-in-Special.result (λ found. map (λ (m : MethodId). m.0) found.items ≡ numbers) in
-    subst P (ap (λ n. n ∷ []) c.special_target.ensures ∙ sym (targets-special c.args.self.now c.args.call c.in-Special.is)) c.one_target-in-Special.ensures
+    subst P (ap (λ n. n ∷ []) c.special_target.ensures
+    ∙ sym (targets-special c.args.self.now c.args.call c.in-Special.is)) c.one_target-in-Special.ensures
 
 pub returns-in-Virtual : goal.returns-in-Virtual
 returns-in-Virtual c =
