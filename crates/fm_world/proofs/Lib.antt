@@ -3,7 +3,7 @@ mod TableLemmas
 mod Told
 mod Selected
 mod LayerLemmas
-mod Displays
+pub mod Displays
 mod Marks
 mod Acyclic
 mod ClassTypes

@@ -363,8 +363,8 @@ impl Program {
         }
     }
 
-    // The class of which arrays are.
-    fn object(&self) -> ClassId
+    /// The class `java/lang/Object`. Takes no memory.
+    pub fn object(&self) -> ClassId
         ensures number { object_number self.now.outline.classes ≡ Some result.0 }
         ensures within { result.0 < length self.now.outline.classes }
     {
@@ -506,8 +506,9 @@ impl Program {
         self.parts.interfaces.as_slice()[c.0 as usize].as_slice()
     }
 
-    // The class's superclasses from the uppermost one down, and the class.
-    fn display(&self, c: ClassId) -> &[u32]
+    /// The numbers of the class's superclasses from the uppermost one down, and of the class itself.
+    /// Takes no memory.
+    pub fn display(&self, c: ClassId) -> &[u32]
         requires { c.0 < length self.now.outline.classes }
         ensures value { result.now ≡ reverse (chain_of self.now.outline.classes c.0) }
         ensures linear { IsLinear self.now.outline.classes }
@@ -515,9 +516,9 @@ impl Program {
         self.parts.displays.as_slice()[c.0 as usize].as_slice()
     }
 
-    // Whether the second class is the first one or one of its superclasses: it stands in the display of
-    // the first one at its own depth.
-    fn is_in_chain(&self, c: ClassId, d: ClassId) -> bool
+    /// Whether the second class is the first one or one of its superclasses. Takes no memory, and is
+    /// answered at once: the second class stands in the display of the first one at its own depth.
+    pub fn is_in_chain(&self, c: ClassId, d: ClassId) -> bool
         requires first { c.0 < length self.now.outline.classes }
         requires second { d.0 < length self.now.outline.classes }
         ensures { result ≡ is_among d.0 (chain_of self.now.outline.classes c.0) }
