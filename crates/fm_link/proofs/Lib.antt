@@ -1,0 +1,5 @@
+pub mod FirstRefusals
+pub mod EarlierNames
+pub mod MarkLemmas
+pub mod Positions
+pub mod ChainSteps

@@ -1,0 +1,15 @@
+// The linker: class files made into a program, or refused for the first cause (JVMS 5).
+//
+// Each phase is a small function over slices, whose contract is an equation with the definitions of
+// `fm_world`: these look names up in lists, and the tables here answer the same at once.
+#![tactic(auto)]
+
+mod chains;
+mod class_numbers;
+mod duplicates;
+mod error;
+mod names;
+mod places;
+mod used;
+
+pub use error::{LinkBad, LinkFail};
