@@ -1,0 +1,3 @@
+pub mod ClassTree
+pub mod Order
+pub mod LeastJoins

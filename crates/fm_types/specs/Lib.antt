@@ -1,0 +1,3 @@
+pub mod Fits
+pub mod Joins
+pub mod Laws

@@ -1,0 +1,8 @@
+// Types.
+#![tactic(auto)]
+
+mod laws;
+mod slots;
+
+pub use laws::{law_fits, law_join};
+pub use slots::Slot;

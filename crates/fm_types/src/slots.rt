@@ -1,0 +1,21 @@
+// What a local variable or a word of the operand stack holds, as far as it is known before a run
+// (JVMS 4.10.2.2).
+
+use fm_base::TypeRef;
+
+/// What stands in a local variable or in a word of the operand stack.
+#[derive(Clone, Copy, Debug, PartialEq, Eq, PartialOrd, Ord, Hash)]
+pub enum Slot {
+    /// Anything; the second half of a long too.
+    Top,
+    Int,
+    /// The first half of a long.
+    Long,
+    Null,
+    /// Null, or an object whose constructor was called, of this type or one that fits it.
+    Ref(TypeRef),
+    /// The object that the `new` of this item made, before its constructor returns.
+    Uninit(u32),
+    /// The object of a constructor, before a constructor that it calls returns.
+    UninitThis,
+}
