@@ -1,17 +1,18 @@
 -- Classes that are a tree below Object: superclasses, what counts as Object, and the nearest superclass of two classes.
-use Rattle.std.proofs.Common.{◌≡◌, ◌⊎◌, inl, inr, refl, sym, ◌∙◌, ap, subst, ℕ, zero, suc, ◌<◌, ◌≤◌, ◌||◌, Bool, true, false, List, [], ◌∷◌, length, nat_eq, Option, Some, None, option_and_then, cond, unwrap_or, arith}
+use Rattle.std.proofs.Common.{◌≡◌, ◌⊎◌, inl, inr, refl, sym, ◌∙◌, ap, subst, ℕ, zero, suc, ◌<◌, ◌≤◌, ◌||◌, Bool, true, false, List, [], ◌∷◌, length, reverse, get_or, nat_eq, Option, Some, None, option_and_then, cond, unwrap_or, arith}
 use Rattle.std.specs.List.{find}
 use Rattle.std.proofs.lemmas.Bool.{cases_lt, eqb-true, eq-eqb, false≢true, or_cases, or_left, or_right}
+use Rattle.std.proofs.lemmas.List.{reverse-reverse}
 use Rattle.std.proofs.lemmas.List.Folds.{list_any-append}
 use Rattle.fm_types.specs.Fits.{AreTree, is_seen_as_object, object_of}
 use Rattle.fm_types.specs.Joins.{common_class}
-use Rattle.fm_world.proofs.Displays.{chain_ends, class_number-within, parent_of-within}
+use Rattle.fm_world.proofs.Displays.{chain_ends, class_number-within, is_among-reverse, is_among_at, parent_of-within}
 use Rattle.fm_code.specs.AccessFlags.{is_interface}
 use Rattle.fm_world.specs.BuiltIns.{object_name}
 use Rattle.fm_world.specs.Chains.{chain_of, class_at, is_among, parent_of, upwards}
 use Rattle.fm_world.specs.Declarations.{no_class}
 use Rattle.fm_world.specs.Descriptors.{class_number}
-use Rattle.fm_world.specs.Lookups.{is_interface_at}
+use Rattle.fm_world.specs.Lookups.{is_interface_at, object_number}
 use Rattle.fm_world.specs.declared.declarations.DeclaredClass.{DeclaredClass}
 use Rattle.fm_world.specs.inner.Tables.{chain_from, IsLinear}
 
@@ -272,3 +273,41 @@ common-proper classes tree c d apart = by_place (common-above classes c d) where
   by_place : IsCommon classes c d x ⊎ (x ≡ object_of classes) → is_interface_at classes x ≡ false
   by_place (inl w) = by_both (proper classes tree x c w.first) (proper classes tree x d w.second)
   by_place (inr e) = ap (is_interface_at classes) e ∙ tree.object_is_class
+
+-- ---- classes of a chain are there
+
+pub among-within : (classes : List DeclaredClass) (class x : ℕ) → class < length classes → is_among x (chain_of classes class) ≡ true → x < length classes
+unfolding chain_of
+among-within classes class x h among = go (length classes) class h among where
+  no_more : (bound : ℕ) → is_among x (upwards bound classes None) ≡ true → ⊥
+  no_more zero e = false≢true e
+  no_more (suc bound) e = false≢true e
+
+  by_parent : (bound c : ℕ) → ((q : ℕ) → q < length classes → is_among x (upwards bound classes (Some q)) ≡ true → x < length classes)
+      → (p : Option ℕ) → parent_of classes c ≡ p → is_among x (upwards bound classes p) ≡ true → x < length classes
+  by_parent bound c recursive None e rest = absurd (no_more bound rest)
+  by_parent bound c recursive (Some q) e rest = recursive q (parent_of-within classes c q e) rest
+
+  by_first : (bound c : ℕ) → ((q : ℕ) → q < length classes → is_among x (upwards bound classes (Some q)) ≡ true → x < length classes) → c < length classes
+      → (nat_eq x c ≡ true) ⊎ (is_among x (upwards bound classes (parent_of classes c)) ≡ true) → x < length classes
+  by_first bound c recursive inside (inl e) = let P : ℕ → Type 0 = λ n. n < length classes in subst P (sym (eqb-true x c e)) inside
+  by_first bound c recursive inside (inr rest) = by_parent bound c recursive (parent_of classes c) refl rest
+
+  go : (bound c : ℕ) → c < length classes → is_among x (upwards bound classes (Some c)) ≡ true → x < length classes
+  go zero c inside e = absurd (false≢true e)
+  go (suc bound) c inside e = by_first bound c (go bound) inside (or_cases (nat_eq x c) (is_among x (upwards bound classes (parent_of classes c))) e)
+
+-- so are those of a display
+pub display-within : (classes : List DeclaredClass) (class : ℕ) (lower : List ℕ) (k x : ℕ) → class < length classes → lower ≡ reverse (chain_of classes class) → k < length lower
+    → get_or lower k 0 ≡ x → x < length classes
+display-within classes class lower k x inside lower_is h there =
+    among-within classes class x inside
+    (sym (is_among-reverse x (chain_of classes class)) ∙ sym (ap (is_among x) lower_is) ∙ is_among_at lower k x h there)
+
+-- where none of a display is in the other chain, the nearest one is Object
+pub common-none : (classes : List DeclaredClass) (c d object : ℕ) (lower : List ℕ) → lower ≡ reverse (chain_of classes c)
+    → find (λ above. is_among above (chain_of classes d)) (reverse lower) ≡ None → object_number classes ≡ Some object → object ≡ common_class classes c d
+common-none classes c d object lower lower_is none number =
+    let turned : reverse lower ≡ chain_of classes c = ap reverse lower_is ∙ reverse-reverse (chain_of classes c) in
+    let missed : find (λ above. is_among above (chain_of classes d)) (chain_of classes c) ≡ None = sym (ap (find (λ above. is_among above (chain_of classes d))) turned) ∙ none in
+    sym (ap (λ found. unwrap_or found (object_of classes)) missed ∙ ap (λ found. unwrap_or found 0) number)
