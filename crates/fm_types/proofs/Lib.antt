@@ -1,3 +1,4 @@
 pub mod ClassTree
 pub mod Order
 pub mod LeastJoins
+pub mod Example

@@ -1,3 +1,13 @@
 pub mod Fits
 pub mod Joins
 pub mod Laws
+pub mod Moves
+pub mod States
+pub mod Named
+pub mod NumberRows
+pub mod ArrayRows
+pub mod ObjectRows
+pub mod CallRows
+pub mod Rows
+pub mod Typed
+pub mod Example

@@ -1,6 +1,12 @@
 // Laws of the definitions, each as the contract of a function that does nothing.
 
+ghost use Rattle.std.specs.Prelude.{◌≡◌};
+ghost use Rattle.fm_base.specs.declared.kinds.Base.TheVariants as base;
+ghost use Rattle.fm_types.specs.Example.{array, joined, of_number, program_with, typed_code, untyped_code};
 ghost use Rattle.fm_types.specs.Laws.{FitsIsReflexive, FitsIsTransitive, JoinIsLeast};
+ghost use Rattle.fm_types.specs.Typed.{Typed};
+ghost use Rattle.fm_types.specs.declared.slots.Slot.TheVariants as slot;
+ghost use Rattle.fm_world.specs.Descriptors.{of_class};
 
 /// What fits what is an order over the classes of a linked program.
 pub fn law_fits()
@@ -12,4 +18,25 @@ pub fn law_fits()
 /// interface.
 pub fn law_join()
     ensures { JoinIsLeast }
+{}
+
+/// Two methods that are written out by hand: one makes an object and keeps it, with a handler around,
+/// and is typed; the other one loads a reference as an int, and isn't.
+pub fn law_example()
+    ensures typed { Typed (program_with typed_code) 86 }
+    ensures untyped { ¬ Typed (program_with untyped_code) 86 }
+{}
+
+/// Joins in a program whose classes are told by their numbers: of two exceptions with the superclass
+/// `RuntimeException`; of arrays of a class and of its superclass; of two interfaces, and of one with
+/// itself; of arrays that aren't level; of null and a type; of different kinds.
+pub fn law_join_examples()
+    ensures related { joined (of_number 13) (of_number 18) ≡ of_number 11 }
+    ensures level { joined (array 1 (of_class 30)) (array 1 (of_class 29)) ≡ array 1 (of_class 29) }
+    ensures interfaces { joined (of_number 26) (of_number 27) ≡ of_number 0 }
+    ensures same_interface { joined (of_number 26) (of_number 26) ≡ of_number 26 }
+    ensures unlike { joined (array 1 base.Int) (array 2 (of_class 1)) ≡ of_number 0 }
+    ensures deep { joined (array 2 base.Int) (array 3 (of_class 1)) ≡ array 1 (of_class 0) }
+    ensures null { joined slot.Null (of_number 26) ≡ of_number 26 }
+    ensures kinds { joined slot.Int slot.Null ≡ slot.Top }
 {}

@@ -11,5 +11,5 @@ mod slots;
 
 pub use fitting::{depth_of, fits, fits_type};
 pub use joins::{join, join_type};
-pub use laws::{law_fits, law_join};
+pub use laws::{law_example, law_fits, law_join, law_join_examples};
 pub use slots::Slot;

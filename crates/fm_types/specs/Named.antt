@@ -1,0 +1,79 @@
+-- What an instruction names, as the linked program resolves it.
+use Rattle.std.specs.Prelude.{ℕ, List, [], ◌∷◌, codes, Option, None, option_and_then, option_to_list, unwrap_or, slice_get}
+use Rattle.fm_base.specs.declared.kinds.Kind.{Kind}
+use Rattle.fm_base.specs.declared.kinds.TypeRef.{TypeRef}
+use Rattle.fm_types.specs.Fits.{object_of}
+use Rattle.fm_types.specs.States.{stack_slots, TypeState}
+use Rattle.fm_types.specs.declared.slots.Slot.{Slot}
+use Rattle.fm_types.specs.declared.slots.Slot.TheVariants as slot
+use Rattle.fm_world.specs.Descriptors.{class_number, parameter_kinds, result_kind}
+use Rattle.fm_world.specs.Members.{field_at, field_kind, method_at}
+use Rattle.fm_world.specs.Numbers.{type_of_class}
+use Rattle.fm_world.specs.Programs.{Outline}
+use Rattle.fm_world.specs.declared.uses.Use.{Use}
+use Rattle.fm_world.specs.declared.uses.Use.TheVariants as resolved
+
+-- ---- classes by name
+
+-- the type of a built-in class
+abbrev pub built_in_type : Outline → List ℕ → TypeRef
+built_in_type o name = type_of_class (unwrap_or (class_number o.classes name) 0)
+
+abbrev pub throwable_type : Outline → TypeRef
+throwable_type o = built_in_type o (codes "java/lang/Throwable")
+
+-- what null and each initialised reference fit
+abbrev pub object_slot : Outline → Slot
+object_slot o = slot.Ref (type_of_class (object_of o.classes))
+
+-- ---- uses: what follows from the type, the field or the method that is named, the two last with the type that the entry names; nothing where
+-- the index stands for something else
+
+abbrev pub on_type : Outline → Use → (TypeRef → Option TypeState) → Option TypeState
+on_type o (resolved.OfType t) follows = option_and_then follows (slice_get o.types t.0)
+on_type o (resolved.OfField f t) follows = None
+on_type o (resolved.OfMethod m t) follows = None
+on_type o (resolved.OfInt value) follows = None
+on_type o (resolved.OfLong value) follows = None
+on_type o (resolved.OfText text) follows = None
+on_type o resolved.Unused follows = None
+
+abbrev pub on_field : Outline → Use → (ℕ → TypeRef → Option TypeState) → Option TypeState
+on_field o (resolved.OfType t) follows = None
+on_field o (resolved.OfField f t) follows = option_and_then (follows f.0) (slice_get o.types t.0)
+on_field o (resolved.OfMethod m t) follows = None
+on_field o (resolved.OfInt value) follows = None
+on_field o (resolved.OfLong value) follows = None
+on_field o (resolved.OfText text) follows = None
+on_field o resolved.Unused follows = None
+
+abbrev pub on_method : Outline → Use → (ℕ → TypeRef → Option TypeState) → Option TypeState
+on_method o (resolved.OfType t) follows = None
+on_method o (resolved.OfField f t) follows = None
+on_method o (resolved.OfMethod m t) follows = option_and_then (follows m.0) (slice_get o.types t.0)
+on_method o (resolved.OfInt value) follows = None
+on_method o (resolved.OfLong value) follows = None
+on_method o (resolved.OfText text) follows = None
+on_method o resolved.Unused follows = None
+
+-- ---- members
+
+-- the class that declares a method
+abbrev pub class_of_method : Outline → ℕ → ℕ
+class_of_method o method = (method_at o.classes method).class
+
+-- the words of a field's value, of a method's arguments without the receiver, and of its result, as they stand on the stack
+abbrev pub field_words : Outline → ℕ → List Slot
+field_words o field = stack_slots (field_kind o.classes (field_at o.classes field).field ∷ [])
+
+abbrev pub parameters_of : Outline → ℕ → List Kind
+parameters_of o method = parameter_kinds o.classes (method_at o.classes method).method.descriptor
+
+abbrev pub result_of : Outline → ℕ → Option Kind
+result_of o method = result_kind o.classes (method_at o.classes method).method.descriptor
+
+abbrev pub argument_words : Outline → ℕ → List Slot
+argument_words o method = stack_slots (parameters_of o method)
+
+abbrev pub result_words : Outline → ℕ → List Slot
+result_words o method = stack_slots (option_to_list (result_of o method))
