@@ -57,7 +57,8 @@ among_one x y h = by_case (or_cases (nat_eq x y) false h) where
 
 -- ---- superclasses of superclasses
 
-pub among-trans : (classes : List DeclaredClass) → AreTree classes → (c d e : ℕ) → is_among d (chain_of classes c) ≡ true → is_among e (chain_of classes d) ≡ true
+pub among-trans : (classes : List DeclaredClass) → AreTree classes → (c d e : ℕ) → is_among d (chain_of classes c) ≡ true
+    → is_among e (chain_of classes d) ≡ true
     → is_among e (chain_of classes c) ≡ true
 among-trans classes tree c d e first second = by_range (cases_lt c (length classes)) where
   some : 0 < length classes
@@ -71,7 +72,8 @@ among-trans classes tree c d e first second = by_range (cases_lt c (length class
   inside : c < length classes → is_among e (chain_of classes c) ≡ true
   inside h =
       let ends = chain_ends classes tree.linear (length (chain_of classes c)) c d (omega arith) h first in
-      ap (is_among e) ends.joined ∙ list_any-append (nat_eq e) ends.front (chain_of classes d) ∙ or_right (is_among e ends.front) (is_among e (chain_of classes d)) second
+      ap (is_among e) ends.joined ∙ list_any-append (nat_eq e) ends.front (chain_of classes d)
+      ∙ or_right (is_among e ends.front) (is_among e (chain_of classes d)) second
 
   by_range : (c < length classes) ⊎ (length classes ≤ c) → is_among e (chain_of classes c) ≡ true
   by_range (inl h) = inside h
@@ -87,17 +89,20 @@ interface-within classes class h = by_range (cases_lt class (length classes)) wh
 
 pub seen-object : (classes : List DeclaredClass) → is_seen_as_object classes (object_of classes) ≡ true
 seen-object classes =
-    or_right (is_interface_at classes (object_of classes)) (nat_eq (object_of classes) (object_of classes)) (eq-eqb (object_of classes) (object_of classes) refl)
+    or_right (is_interface_at classes (object_of classes)) (nat_eq (object_of classes) (object_of classes))
+    (eq-eqb (object_of classes) (object_of classes) refl)
 
 -- above Object is nothing else
-above_object : (classes : List DeclaredClass) → AreTree classes → (x : ℕ) → is_among x (chain_of classes (object_of classes)) ≡ true → x ≡ object_of classes
+above_object : (classes : List DeclaredClass) → AreTree classes → (x : ℕ) → is_among x (chain_of classes (object_of classes)) ≡ true
+    → x ≡ object_of classes
 above_object classes tree x h =
     let alone : chain_of classes (object_of classes) ≡ object_of classes ∷ [] =
     tree.linear (object_of classes) (object-within classes tree) ∙ ap (λ p. object_of classes ∷ chain_from classes p) tree.top in
     among_one x (object_of classes) (sym (ap (is_among x) alone) ∙ h)
 
 -- above an interface is Object
-above_interface : (classes : List DeclaredClass) → AreTree classes → (class x : ℕ) → is_interface_at classes class ≡ true → is_among x (chain_of classes class) ≡ true
+above_interface : (classes : List DeclaredClass) → AreTree classes → (class x : ℕ) → is_interface_at classes class ≡ true
+    → is_among x (chain_of classes class) ≡ true
     → (x ≡ class) ⊎ (x ≡ object_of classes)
 above_interface classes tree class x h among = by_first (or_cases (nat_eq x class) (is_among x (chain_of classes (object_of classes))) joined) where
   chain_is : chain_of classes class ≡ class ∷ chain_of classes (object_of classes)
@@ -111,7 +116,8 @@ above_interface classes tree class x h among = by_first (or_cases (nat_eq x clas
   by_first (inr e) = inr (above_object classes tree x e)
 
 -- what is above Object or an interface is one of these
-pub seen_above : (classes : List DeclaredClass) → AreTree classes → (class x : ℕ) → is_seen_as_object classes class ≡ true → is_among x (chain_of classes class) ≡ true
+pub seen_above : (classes : List DeclaredClass) → AreTree classes → (class x : ℕ) → is_seen_as_object classes class ≡ true
+    → is_among x (chain_of classes class) ≡ true
     → is_seen_as_object classes x ≡ true
 seen_above classes tree class x seen among = by_seen (or_cases (is_interface_at classes class) (nat_eq class (object_of classes)) seen) where
   is_seen : ℕ → Type 0
@@ -137,17 +143,24 @@ found p (x ∷ xs) e h = by_test (found p xs e) (p x) refl h where
   by_test recursive true passes h = let same : e ≡ x = cc in (ap p same ∙ passes, or_left (nat_eq e x) (is_among e xs) (eq-eqb e x same))
   by_test recursive false fails h = let rest = recursive h in (rest.0, or_right (nat_eq e x) (is_among e xs) rest.1)
 
+-- what holds of the superclass, where the class x is in its chain
+abbrev OfParent : List DeclaredClass → ℕ → ℕ → (ℕ → ℕ → Type 0) → Type 0
+OfParent classes class x P = (parent : ℕ) → parent_of classes class ≡ Some parent → is_among x (chain_of classes parent) ≡ true → P parent x
+
 -- the first class of a chain that passes has above it each class of the chain that passes
 record Found (classes : List DeclaredClass) (p : ℕ → Bool) (class x : ℕ) : Type 0 where
   first : ℕ
   there : find p (chain_of classes class) ≡ Some first
   above : is_among x (chain_of classes first) ≡ true
 
-found_below : (classes : List DeclaredClass) → IsLinear classes → (p : ℕ → Bool) (x : ℕ) → p x ≡ true → (bound class : ℕ) → length (chain_of classes class) ≤ bound
+found_below : (classes : List DeclaredClass) → IsLinear classes → (p : ℕ → Bool) (x : ℕ) → p x ≡ true → (bound class : ℕ)
+    → length (chain_of classes class) ≤ bound
     → class < length classes → is_among x (chain_of classes class) ≡ true → Found classes p class x
 found_below classes linear p x passes zero class short within among = absurd (omega (arith, short, ap length (linear class within)))
 found_below classes linear p x passes (suc bound) class short within among =
-    by_test (λ parent e h. found_below classes linear p x passes bound parent (shorter parent e) (parent_of-within classes class parent e) h) (p class) refl where
+    by_test
+    (λ parent e h. found_below classes linear p x passes bound parent (shorter parent e) (parent_of-within classes class parent e) h)
+    (p class) refl where
       joined_above : (q : Option ℕ) → parent_of classes class ≡ q → chain_of classes class ≡ class ∷ chain_from classes q
       joined_above q e = linear class within ∙ ap (λ r. class ∷ chain_from classes r) e
 
@@ -158,19 +171,20 @@ found_below classes linear p x passes (suc bound) class short within among =
       passed_over q e fails = ap (find p) (joined_above q e) ∙ ap (λ b. cond b (Some class) (find p (chain_from classes q))) fails
 
       further : (q : Option ℕ) → parent_of classes class ≡ q → p class ≡ false → is_among x (chain_from classes q) ≡ true
-      further q e fails = by_first (or_cases (nat_eq x class) (is_among x (chain_from classes q)) (sym (ap (is_among x) (joined_above q e)) ∙ among)) where
-        by_first : (nat_eq x class ≡ true) ⊎ (is_among x (chain_from classes q) ≡ true) → is_among x (chain_from classes q) ≡ true
-        by_first (inl same) = absurd (false≢true (sym fails ∙ ap p (sym (eqb-true x class same)) ∙ passes))
-        by_first (inr rest) = rest
+      further q e fails =
+          by_first (or_cases (nat_eq x class) (is_among x (chain_from classes q)) (sym (ap (is_among x) (joined_above q e)) ∙ among)) where
+            by_first : (nat_eq x class ≡ true) ⊎ (is_among x (chain_from classes q) ≡ true) → is_among x (chain_from classes q) ≡ true
+            by_first (inl same) = absurd (false≢true (sym fails ∙ ap p (sym (eqb-true x class same)) ∙ passes))
+            by_first (inr rest) = rest
 
-      by_parent : (recursive : (parent : ℕ) → parent_of classes class ≡ Some parent → is_among x (chain_of classes parent) ≡ true → Found classes p parent x)
+      by_parent : (recursive : OfParent classes class x (Found classes p))
           → (q : Option ℕ) → parent_of classes class ≡ q → p class ≡ false → Found classes p class x
       by_parent recursive None e fails = absurd (false≢true (further None e fails))
       by_parent recursive (Some parent) e fails =
           let above = recursive parent e (further (Some parent) e fails) in
           record { first = above.first; there = passed_over (Some parent) e fails ∙ above.there; above = above.above }
 
-      by_test : (recursive : (parent : ℕ) → parent_of classes class ≡ Some parent → is_among x (chain_of classes parent) ≡ true → Found classes p parent x)
+      by_test : (recursive : OfParent classes class x (Found classes p))
           → (b : Bool) → p class ≡ b → Found classes p class x
       by_test recursive true e = record {
         first = class;
@@ -180,7 +194,8 @@ found_below classes linear p x passes (suc bound) class short within among =
       by_test recursive false e = by_parent recursive (parent_of classes class) refl e
 
 -- a class above both is above the nearest one
-pub common-least : (classes : List DeclaredClass) → AreTree classes → (c d x : ℕ) → is_among x (chain_of classes c) ≡ true → is_among x (chain_of classes d) ≡ true
+pub common-least : (classes : List DeclaredClass) → AreTree classes → (c d x : ℕ) → is_among x (chain_of classes c) ≡ true
+    → is_among x (chain_of classes d) ≡ true
     → is_among x (chain_of classes (common_class classes c d)) ≡ true
 common-least classes tree c d x first second = by_range (cases_lt c (length classes)) where
   some : 0 < length classes
@@ -209,21 +224,26 @@ pub record IsCommon (classes : List DeclaredClass) (c d common : ℕ) : Type 0 w
   pub first : is_among common (chain_of classes c) ≡ true
   pub second : is_among common (chain_of classes d) ≡ true
 
-pub common-above : (classes : List DeclaredClass) (c d : ℕ) → IsCommon classes c d (common_class classes c d) ⊎ (common_class classes c d ≡ object_of classes)
+pub common-above : (classes : List DeclaredClass) (c d : ℕ)
+    → IsCommon classes c d (common_class classes c d) ⊎ (common_class classes c d ≡ object_of classes)
 common-above classes c d = by_found (find p (chain_of classes c)) refl where
   p : ℕ → Bool
   p above = is_among above (chain_of classes d)
 
-  by_found : (o : Option ℕ) → find p (chain_of classes c) ≡ o → IsCommon classes c d (unwrap_or o (object_of classes)) ⊎ (unwrap_or o (object_of classes) ≡ object_of classes)
+  by_found : (o : Option ℕ) → find p (chain_of classes c) ≡ o
+      → IsCommon classes c d (unwrap_or o (object_of classes)) ⊎ (unwrap_or o (object_of classes) ≡ object_of classes)
   by_found None e = inr refl
   by_found (Some x) e = let w = found p (chain_of classes c) x e in inl (record { first = w.1; second = w.0 })
 
 -- a class above another one is no interface
-proper_above : (classes : List DeclaredClass) → AreTree classes → (x bound class : ℕ) → length (chain_of classes class) ≤ bound → class < length classes
+proper_above : (classes : List DeclaredClass) → AreTree classes → (x bound class : ℕ) → length (chain_of classes class) ≤ bound
+    → class < length classes
     → is_among x (chain_of classes class) ≡ true → (x ≡ class) ⊎ (is_interface_at classes x ≡ false)
 proper_above classes tree x zero class short within among = absurd (omega (arith, short, ap length (tree.linear class within)))
 proper_above classes tree x (suc bound) class short within among =
-    by_parent (λ parent e h. proper_above classes tree x bound parent (shorter parent e) (parent_of-within classes class parent e) h) (parent_of classes class) refl where
+    by_parent
+    (λ parent e h. proper_above classes tree x bound parent (shorter parent e) (parent_of-within classes class parent e) h)
+    (parent_of classes class) refl where
       joined_above : (q : Option ℕ) → parent_of classes class ≡ q → chain_of classes class ≡ class ∷ chain_from classes q
       joined_above q e = tree.linear class within ∙ ap (λ r. class ∷ chain_from classes r) e
 
@@ -233,11 +253,12 @@ proper_above classes tree x (suc bound) class short within among =
       split : (q : Option ℕ) → parent_of classes class ≡ q → (nat_eq x class ≡ true) ⊎ (is_among x (chain_from classes q) ≡ true)
       split q e = or_cases (nat_eq x class) (is_among x (chain_from classes q)) (sym (ap (is_among x) (joined_above q e)) ∙ among)
 
-      at_parent : (parent : ℕ) → parent_of classes class ≡ Some parent → (x ≡ parent) ⊎ (is_interface_at classes x ≡ false) → (x ≡ class) ⊎ (is_interface_at classes x ≡ false)
+      at_parent : (parent : ℕ) → parent_of classes class ≡ Some parent → (x ≡ parent) ⊎ (is_interface_at classes x ≡ false)
+          → (x ≡ class) ⊎ (is_interface_at classes x ≡ false)
       at_parent parent e (inl same) = inr (ap (is_interface_at classes) same ∙ tree.parents class parent e)
       at_parent parent e (inr h) = inr h
 
-      by_split_some : (recursive : (parent : ℕ) → parent_of classes class ≡ Some parent → is_among x (chain_of classes parent) ≡ true → (x ≡ parent) ⊎ (is_interface_at classes x ≡ false))
+      by_split_some : (recursive : OfParent classes class x (λ parent y. (y ≡ parent) ⊎ (is_interface_at classes y ≡ false)))
           → (parent : ℕ) → parent_of classes class ≡ Some parent → (nat_eq x class ≡ true) ⊎ (is_among x (chain_of classes parent) ≡ true)
           → (x ≡ class) ⊎ (is_interface_at classes x ≡ false)
       by_split_some recursive parent e (inl same) = inl (eqb-true x class same)
@@ -247,12 +268,13 @@ proper_above classes tree x (suc bound) class short within among =
       by_split_none (inl same) = inl (eqb-true x class same)
       by_split_none (inr h) = absurd (false≢true h)
 
-      by_parent : (recursive : (parent : ℕ) → parent_of classes class ≡ Some parent → is_among x (chain_of classes parent) ≡ true → (x ≡ parent) ⊎ (is_interface_at classes x ≡ false))
+      by_parent : (recursive : OfParent classes class x (λ parent y. (y ≡ parent) ⊎ (is_interface_at classes y ≡ false)))
           → (q : Option ℕ) → parent_of classes class ≡ q → (x ≡ class) ⊎ (is_interface_at classes x ≡ false)
       by_parent recursive None e = by_split_none (split None e)
       by_parent recursive (Some parent) e = by_split_some recursive parent e (split (Some parent) e)
 
-proper : (classes : List DeclaredClass) → AreTree classes → (x class : ℕ) → is_among x (chain_of classes class) ≡ true → (x ≡ class) ⊎ (is_interface_at classes x ≡ false)
+proper : (classes : List DeclaredClass) → AreTree classes → (x class : ℕ) → is_among x (chain_of classes class) ≡ true
+    → (x ≡ class) ⊎ (is_interface_at classes x ≡ false)
 proper classes tree x class among = by_range (cases_lt class (length classes)) where
   by_range : (class < length classes) ⊎ (length classes ≤ class) → (x ≡ class) ⊎ (is_interface_at classes x ≡ false)
   by_range (inl h) = proper_above classes tree x (length (chain_of classes class)) class (omega arith) h among
@@ -260,7 +282,8 @@ proper classes tree x class among = by_range (cases_lt class (length classes)) w
       inl (among_one x class (sym (ap (is_among x) (chain_past_end classes class (omega (arith, object-within classes tree)) h)) ∙ among))
 
 -- the nearest superclass of two different classes is no interface
-pub common-proper : (classes : List DeclaredClass) → AreTree classes → (c d : ℕ) → ¬ (c ≡ d) → is_interface_at classes (common_class classes c d) ≡ false
+pub common-proper : (classes : List DeclaredClass) → AreTree classes → (c d : ℕ) → ¬ (c ≡ d)
+    → is_interface_at classes (common_class classes c d) ≡ false
 common-proper classes tree c d apart = by_place (common-above classes c d) where
   x : ℕ
   x = common_class classes c d
@@ -276,7 +299,8 @@ common-proper classes tree c d apart = by_place (common-above classes c d) where
 
 -- ---- classes of a chain are there
 
-pub among-within : (classes : List DeclaredClass) (class x : ℕ) → class < length classes → is_among x (chain_of classes class) ≡ true → x < length classes
+pub among-within : (classes : List DeclaredClass) (class x : ℕ) → class < length classes → is_among x (chain_of classes class) ≡ true
+    → x < length classes
 unfolding chain_of
 among-within classes class x h among = go (length classes) class h among where
   no_more : (bound : ℕ) → is_among x (upwards bound classes None) ≡ true → ⊥
@@ -288,7 +312,8 @@ among-within classes class x h among = go (length classes) class h among where
   by_parent bound c recursive None e rest = absurd (no_more bound rest)
   by_parent bound c recursive (Some q) e rest = recursive q (parent_of-within classes c q e) rest
 
-  by_first : (bound c : ℕ) → ((q : ℕ) → q < length classes → is_among x (upwards bound classes (Some q)) ≡ true → x < length classes) → c < length classes
+  by_first : (bound c : ℕ) → ((q : ℕ) → q < length classes → is_among x (upwards bound classes (Some q)) ≡ true → x < length classes)
+      → c < length classes
       → (nat_eq x c ≡ true) ⊎ (is_among x (upwards bound classes (parent_of classes c)) ≡ true) → x < length classes
   by_first bound c recursive inside (inl e) = let P : ℕ → Type 0 = λ n. n < length classes in subst P (sym (eqb-true x c e)) inside
   by_first bound c recursive inside (inr rest) = by_parent bound c recursive (parent_of classes c) refl rest
@@ -298,7 +323,8 @@ among-within classes class x h among = go (length classes) class h among where
   go (suc bound) c inside e = by_first bound c (go bound) inside (or_cases (nat_eq x c) (is_among x (upwards bound classes (parent_of classes c))) e)
 
 -- so are those of a display
-pub display-within : (classes : List DeclaredClass) (class : ℕ) (lower : List ℕ) (k x : ℕ) → class < length classes → lower ≡ reverse (chain_of classes class) → k < length lower
+pub display-within : (classes : List DeclaredClass) (class : ℕ) (lower : List ℕ) (k x : ℕ) → class < length classes
+    → lower ≡ reverse (chain_of classes class) → k < length lower
     → get_or lower k 0 ≡ x → x < length classes
 display-within classes class lower k x inside lower_is h there =
     among-within classes class x inside
@@ -306,8 +332,10 @@ display-within classes class lower k x inside lower_is h there =
 
 -- where none of a display is in the other chain, the nearest one is Object
 pub common-none : (classes : List DeclaredClass) (c d object : ℕ) (lower : List ℕ) → lower ≡ reverse (chain_of classes c)
-    → find (λ above. is_among above (chain_of classes d)) (reverse lower) ≡ None → object_number classes ≡ Some object → object ≡ common_class classes c d
+    → find (λ above. is_among above (chain_of classes d)) (reverse lower) ≡ None → object_number classes ≡ Some object
+    → object ≡ common_class classes c d
 common-none classes c d object lower lower_is none number =
     let turned : reverse lower ≡ chain_of classes c = ap reverse lower_is ∙ reverse-reverse (chain_of classes c) in
-    let missed : find (λ above. is_among above (chain_of classes d)) (chain_of classes c) ≡ None = sym (ap (find (λ above. is_among above (chain_of classes d))) turned) ∙ none in
+    let missed : find (λ above. is_among above (chain_of classes d)) (chain_of classes c) ≡ None =
+    sym (ap (find (λ above. is_among above (chain_of classes d))) turned) ∙ none in
     sym (ap (λ found. unwrap_or found (object_of classes)) missed ∙ ap (λ found. unwrap_or found 0) number)

@@ -3,8 +3,9 @@ use Rattle.std.proofs.Common.{◌≡◌, ◌⊎◌, inl, inr, refl, sym, subst, 
 use Rattle.std.specs.Prelude.{IsSomeAnd}
 use Rattle.std.proofs.lemmas.Bool.{false≢true}
 use Rattle.fm_base.specs.declared.kinds.Base.TheVariants as base
-use Rattle.fm_code.specs.Edges.{falls_through, FallsOff, IsEdge, IsFlowPath, insn_of, IsHandlerEdge, IsNormalEdge, IsReachable}
+use Rattle.fm_code.specs.Edges.{Catches, falls_through, FallsOff, IsEdge, IsFlowPath, insn_of, IsHandlerEdge, IsNormalEdge, IsReachable}
 use Rattle.fm_code.specs.declared.code_array.Code.{Code}
+use Rattle.fm_code.specs.declared.code_array.Handler.{Handler}
 use Rattle.fm_types.specs.CallRows.{special_call_row, return_row}
 use Rattle.fm_types.specs.Example.{array, joined, of_number, program_with, strings, of_b, of_throwable, typed_code, typed_states, untyped_code}
 use Rattle.fm_types.specs.Fits.{fits, fits_type}
@@ -57,7 +58,8 @@ Meets j second stack =
     MeetsItem (program_with typed_code) 86 typed_code typed_states j (record { locals = strings ∷ second ∷ []; stack = stack; built = true })
 
 abbrev Fitting : Slot → List Slot → ℕ → Type 0
-Fitting second stack next = FitsAt (program_with typed_code) typed_states next (record { locals = strings ∷ second ∷ []; stack = stack; built = true })
+Fitting second stack next =
+    FitsAt (program_with typed_code) typed_states next (record { locals = strings ∷ second ∷ []; stack = stack; built = true })
 
 meets_0 : Meets 0 slot.Top []
 unfolding built_in chain_of resolved_field resolved_method fields_of methods_of texts_of types_of classes_of outline_of uses_of codes_of program_of used_indices fits fits_type state_fits entry_state caught_type row_after new_row special_call_row return_row load_row move_row store_row
@@ -136,7 +138,8 @@ items_meet : (j : ℕ) (s : TypeState) → state_at typed_states j ≡ Some s �
 items_meet j s e = by_item j e where
   at_item : (k : ℕ) (t : TypeState) → MeetsItem (program_with typed_code) 86 typed_code typed_states k t → Some t ≡ Some s
       → MeetsItem (program_with typed_code) 86 typed_code typed_states k s
-  at_item k t meets same = let P : TypeState → Type 0 = λ u. MeetsItem (program_with typed_code) 86 typed_code typed_states k u in subst P (state-is same) meets
+  at_item k t meets same =
+      let P : TypeState → Type 0 = λ u. MeetsItem (program_with typed_code) 86 typed_code typed_states k u in subst P (state-is same) meets
 
   by_item : (k : ℕ) → state_at typed_states k ≡ Some s → MeetsItem (program_with typed_code) 86 typed_code typed_states k s
   by_item zero h = at_item 0 _ meets_0 h
@@ -166,7 +169,12 @@ edge_5 : IsNormalEdge typed_code 5 6
 edge_5 = record { inside = lit< tt; leads = inr (refl, refl) }
 
 thrown : IsHandlerEdge typed_code 0 5
-thrown = record { inside = lit< tt; from_item = lit< tt; caught = (0, record { start = 0; «end» = 3; handler = 5; catch_class = 0 }, lit< tt, refl, record { after_start = lit≤ tt; before_end = lit< tt; handler_is = refl }) }
+thrown = record { inside = lit< tt; from_item = lit< tt; caught = (0, entry, lit< tt, refl, holds) } where
+  entry : Handler
+  entry = record { start = 0; «end» = 3; handler = 5; catch_class = 0 }
+
+  holds : Catches 0 5 entry
+  holds = record { after_start = lit≤ tt; before_end = lit< tt; handler_is = refl }
 
 -- the path to each item: straight down to the return, and to the handler from the first item
 reached : (j : ℕ) → is_some (state_at typed_states j) ≡ true → IsReachable typed_code j
@@ -195,7 +203,8 @@ within j (path, flows) = by_path 0 path refl flows where
   inside i next (inl e) = e.inside
   inside i next (inr e) = e.inside
 
-  by_path : (i : ℕ) (path : List ℕ) → is_some (state_at typed_states i) ≡ true → IsFlowPath typed_code i path j → is_some (state_at typed_states j) ≡ true
+  by_path : (i : ℕ) (path : List ℕ) → is_some (state_at typed_states i) ≡ true → IsFlowPath typed_code i path j
+      → is_some (state_at typed_states j) ≡ true
   by_path i [] there e = let P : ℕ → Type 0 = λ k. is_some (state_at typed_states k) ≡ true in subst P e there
   by_path i (next ∷ path) there (e, rest) = by_path next path (by_number next (inside i next e)) rest
 
@@ -217,7 +226,8 @@ example_typed = (typed_states, by_code (code_at (program_with typed_code) 86) ty
       let P : Option Code → Type 0 = λ x. IsSomeAnd x (λ code. IsTypingOf (program_with typed_code) 86 code typed_states) in subst P (sym e) typing
 
 -- the first item asks for an int
-no_row : (states : List (Option TypeState)) → MeetsItem (program_with untyped_code) 86 untyped_code states 0 (entry_state (program_with untyped_code).outline 86 untyped_code) → ⊥
+no_row : (states : List (Option TypeState))
+    → MeetsItem (program_with untyped_code) 86 untyped_code states 0 (entry_state (program_with untyped_code).outline 86 untyped_code) → ⊥
 unfolding built_in chain_of resolved_field resolved_method fields_of methods_of texts_of types_of classes_of outline_of uses_of codes_of program_of used_indices fits fits_type state_fits entry_state caught_type row_after new_row special_call_row return_row load_row move_row store_row
 no_row states m = m.row
 

@@ -81,7 +81,8 @@ sort-cases base.Long base.Long h = inr refl
 sort-cases a b h = absurd (false≢true h)
 
 -- two bases that fit a third one are classes, or the same letter
-meet-cases : (classes : List DeclaredClass) (a b c : Base) → fits_base classes a c ≡ true → fits_base classes b c ≡ true → (are_classes a b ≡ true) ⊎ (same_base a b ≡ true)
+meet-cases : (classes : List DeclaredClass) (a b c : Base) → fits_base classes a c ≡ true → fits_base classes b c ≡ true
+    → (are_classes a b ≡ true) ⊎ (same_base a b ≡ true)
 meet-cases classes a b c f g = sort-cases a b (eq-eqb (sort_of a) (sort_of b) (fits-sort classes a c f ∙ sym (fits-sort classes b c g)))
 
 -- ---- types
@@ -94,7 +95,8 @@ pub record IsTypeJoin (classes : List DeclaredClass) (a b joined : TypeRef) : Ty
 
 -- the classes of two types of equal dimensions
 level-join : (classes : List DeclaredClass) → AreTree classes → (dims : ℕ) (a b : Base) → are_classes a b ≡ true
-    → IsTypeJoin classes (record { dims = dims; base = a }) (record { dims = dims; base = b }) (record { dims = dims; base = common_base classes a b })
+    → IsTypeJoin classes (record { dims = dims; base = a }) (record { dims = dims; base = b })
+    (record { dims = dims; base = common_base classes a b })
 level-join classes tree dims (base.OfClass c) (base.OfClass d) h = record {
   first = by_first (common-above classes c.0 d.0);
   second = by_second (common-above classes c.0 d.0);
@@ -113,11 +115,13 @@ level-join classes tree dims (base.OfClass c) (base.OfClass d) h = record {
   is_object : common_class classes c.0 d.0 ≡ object_of classes → is_seen_as_object classes (common_class classes c.0 d.0) ≡ true
   is_object e = ap (is_seen_as_object classes) e ∙ seen-object classes
 
-  by_first : IsCommon classes c.0 d.0 (common_class classes c.0 d.0) ⊎ (common_class classes c.0 d.0 ≡ object_of classes) → fits_type classes first_type joined ≡ true
+  by_first : IsCommon classes c.0 d.0 (common_class classes c.0 d.0) ⊎ (common_class classes c.0 d.0 ≡ object_of classes)
+      → fits_type classes first_type joined ≡ true
   by_first (inl w) = level-fits classes first_type joined refl w.first
   by_first (inr e) = below_objects-fits classes first_type joined (omega arith) (is_object e)
 
-  by_second : IsCommon classes c.0 d.0 (common_class classes c.0 d.0) ⊎ (common_class classes c.0 d.0 ≡ object_of classes) → fits_type classes second_type joined ≡ true
+  by_second : IsCommon classes c.0 d.0 (common_class classes c.0 d.0) ⊎ (common_class classes c.0 d.0 ≡ object_of classes)
+      → fits_type classes second_type joined ≡ true
   by_second (inl w) = level-fits classes second_type joined refl w.second
   by_second (inr e) = below_objects-fits classes second_type joined (omega arith) (is_object e)
 
@@ -126,7 +130,8 @@ level-join classes tree dims (base.OfClass c) (base.OfClass d) h = record {
   least_base (base.OfClass e) f g = common-least classes tree c.0 d.0 e.0 f g
   least_base e f g = absurd (false≢true f)
 
-  by_ways : (x : TypeRef) → IsBelowObjects classes first_type x ⊎ IsLevel classes first_type x → IsBelowObjects classes second_type x ⊎ IsLevel classes second_type x
+  by_ways : (x : TypeRef) → IsBelowObjects classes first_type x ⊎ IsLevel classes first_type x
+      → IsBelowObjects classes second_type x ⊎ IsLevel classes second_type x
       → fits_type classes joined x ≡ true
   by_ways x (inl v) w = below_objects-fits classes joined x v.within v.objects
   by_ways x (inr v) (inl w) = below_objects-fits classes joined x w.within w.objects
@@ -134,7 +139,8 @@ level-join classes tree dims (base.OfClass c) (base.OfClass d) h = record {
 level-join classes tree dims a b h = absurd (false≢true h)
 
 -- two types that aren't level have arrays of Object in common
-apart-join : (classes : List DeclaredClass) → AreTree classes → (a b : TypeRef) → same_type a b ≡ false → (nat_eq a.dims b.dims && are_classes a.base b.base) ≡ false
+apart-join : (classes : List DeclaredClass) → AreTree classes → (a b : TypeRef) → same_type a b ≡ false
+    → (nat_eq a.dims b.dims && are_classes a.base b.base) ≡ false
     → IsTypeJoin classes a b (objects_with classes (min (depth_of a) (depth_of b)))
 apart-join classes tree a b differ apart = record {
   first = below_objects-fits classes a joined (min-le_left (depth_of a) (depth_of b)) (seen-object classes);
@@ -152,7 +158,8 @@ apart-join classes tree a b differ apart = record {
   level_both e (inl h) = false≢true (sym apart ∙ and_from (nat_eq a.dims b.dims) (are_classes a.base b.base) (eq-eqb a.dims b.dims e) h)
   level_both e (inr h) = false≢true (sym differ ∙ and_from (nat_eq a.dims b.dims) (same_base a.base b.base) (eq-eqb a.dims b.dims e) h)
 
-  by_ways : (x : TypeRef) → IsBelowObjects classes a x ⊎ IsLevel classes a x → IsBelowObjects classes b x ⊎ IsLevel classes b x → fits_type classes joined x ≡ true
+  by_ways : (x : TypeRef) → IsBelowObjects classes a x ⊎ IsLevel classes a x → IsBelowObjects classes b x ⊎ IsLevel classes b x
+      → fits_type classes joined x ≡ true
   by_ways x (inl v) (inl w) = below_both x v.within w.within v.objects
   by_ways x (inl v) (inr w) = below_both x v.within (omega (arith, level-depth classes b x w v.objects)) v.objects
   by_ways x (inr v) (inl w) = below_both x (omega (arith, level-depth classes a x v w.objects)) w.within w.objects
@@ -181,7 +188,8 @@ type-join classes tree a b = by_same (same_type a b) refl where
       let P : ℕ → Type 0 = λ n. IsTypeJoin classes a (record { dims = n; base = b.base }) level in
       subst P (eqb-true a.dims b.dims parts.0) (level-join classes tree a.dims a.base b.base parts.1)
 
-  by_level : (t : Bool) → (nat_eq a.dims b.dims && are_classes a.base b.base) ≡ t → same_type a b ≡ false → IsTypeJoin classes a b (cond t level others)
+  by_level : (t : Bool) → (nat_eq a.dims b.dims && are_classes a.base b.base) ≡ t → same_type a b ≡ false
+      → IsTypeJoin classes a b (cond t level others)
   by_level true h differ = of_level h
   by_level false h differ = apart-join classes tree a b differ h
 
@@ -194,7 +202,12 @@ join_type-same : (classes : List DeclaredClass) (a b : TypeRef) → a ≡ b → 
 unfolding join_type
 join_type-same classes a b e =
     let same : same_type a b ≡ true = (let P : TypeRef → Type 0 = λ x. same_type a x ≡ true in subst P e (same_type-refl a)) in
-    ap (λ t. cond t a (cond (nat_eq a.dims b.dims && are_classes a.base b.base) (record { dims = a.dims; base = common_base classes a.base b.base }) (objects_with classes (min (depth_of a) (depth_of b))))) same
+    ap (λ t. cond t a (cond (nat_eq a.dims b.dims && are_classes a.base b.base) level others)) same where
+      level : TypeRef
+      level = record { dims = a.dims; base = common_base classes a.base b.base }
+
+      others : TypeRef
+      others = objects_with classes (min (depth_of a) (depth_of b))
 
 -- ---- slots
 

@@ -22,7 +22,8 @@ base-refl classes some base.Int = refl
 base-refl classes some base.Long = refl
 base-refl classes some (base.OfClass c) = among_own classes c.0 some
 
-base-trans : (classes : List DeclaredClass) → AreTree classes → (a b c : Base) → fits_base classes a b ≡ true → fits_base classes b c ≡ true → fits_base classes a c ≡ true
+base-trans : (classes : List DeclaredClass) → AreTree classes → (a b c : Base) → fits_base classes a b ≡ true → fits_base classes b c ≡ true
+    → fits_base classes a c ≡ true
 base-trans classes tree (base.OfClass a) (base.OfClass b) (base.OfClass c) f g = among-trans classes tree a.0 b.0 c.0 f g
 base-trans classes tree (base.OfClass a) (base.OfClass b) c f g = absurd (false≢true g)
 base-trans classes tree base.Boolean base.Boolean c f g = g
@@ -48,7 +49,8 @@ object-depth : (classes : List DeclaredClass) (dims : ℕ) (b : Base) → is_obj
 object-depth classes dims (base.OfClass c) seen = refl
 object-depth classes dims b seen = absurd (false≢true seen)
 
-object-above : (classes : List DeclaredClass) → AreTree classes → (a b : Base) → is_object_base classes a ≡ true → fits_base classes a b ≡ true → is_object_base classes b ≡ true
+object-above : (classes : List DeclaredClass) → AreTree classes → (a b : Base) → is_object_base classes a ≡ true → fits_base classes a b ≡ true
+    → is_object_base classes b ≡ true
 object-above classes tree (base.OfClass a) (base.OfClass b) seen f = seen_above classes tree a.0 b.0 seen f
 object-above classes tree (base.OfClass a) b seen f = absurd (false≢true f)
 object-above classes tree a b seen f = absurd (false≢true seen)
@@ -65,23 +67,26 @@ pub record IsLevel (classes : List DeclaredClass) (a b : TypeRef) : Type 0 where
 
 pub fits_type-cases : (classes : List DeclaredClass) (a b : TypeRef) → fits_type classes a b ≡ true → IsBelowObjects classes a b ⊎ IsLevel classes a b
 unfolding fits_type
-fits_type-cases classes a b h = by_way (or_cases (is_objects_within classes (depth_of a) b) (nat_eq a.dims b.dims && fits_base classes a.base b.base) h) where
-  by_way : (is_objects_within classes (depth_of a) b ≡ true) ⊎ ((nat_eq a.dims b.dims && fits_base classes a.base b.base) ≡ true)
-      → IsBelowObjects classes a b ⊎ IsLevel classes a b
-  by_way (inl e) =
-      let parts = and_parts (nat_le b.dims (depth_of a)) (is_object_base classes b.base) e in
-      inl (record { within = leb-true b.dims (depth_of a) parts.0; objects = parts.1 })
-  by_way (inr e) =
-      let parts = and_parts (nat_eq a.dims b.dims) (fits_base classes a.base b.base) e in
-      inr (record { dims = eqb-true a.dims b.dims parts.0; bases = parts.1 })
+fits_type-cases classes a b h =
+    by_way (or_cases (is_objects_within classes (depth_of a) b) (nat_eq a.dims b.dims && fits_base classes a.base b.base) h) where
+      by_way : (is_objects_within classes (depth_of a) b ≡ true) ⊎ ((nat_eq a.dims b.dims && fits_base classes a.base b.base) ≡ true)
+          → IsBelowObjects classes a b ⊎ IsLevel classes a b
+      by_way (inl e) =
+          let parts = and_parts (nat_le b.dims (depth_of a)) (is_object_base classes b.base) e in
+          inl (record { within = leb-true b.dims (depth_of a) parts.0; objects = parts.1 })
+      by_way (inr e) =
+          let parts = and_parts (nat_eq a.dims b.dims) (fits_base classes a.base b.base) e in
+          inr (record { dims = eqb-true a.dims b.dims parts.0; bases = parts.1 })
 
-pub below_objects-fits : (classes : List DeclaredClass) (a b : TypeRef) → b.dims ≤ depth_of a → is_object_base classes b.base ≡ true → fits_type classes a b ≡ true
+pub below_objects-fits : (classes : List DeclaredClass) (a b : TypeRef) → b.dims ≤ depth_of a → is_object_base classes b.base ≡ true
+    → fits_type classes a b ≡ true
 unfolding fits_type
 below_objects-fits classes a b within objects =
     or_left (is_objects_within classes (depth_of a) b) (nat_eq a.dims b.dims && fits_base classes a.base b.base)
     (and_from (nat_le b.dims (depth_of a)) (is_object_base classes b.base) (le-leb b.dims (depth_of a) within) objects)
 
-pub level-fits : (classes : List DeclaredClass) (a b : TypeRef) → a.dims ≡ b.dims → fits_base classes a.base b.base ≡ true → fits_type classes a b ≡ true
+pub level-fits : (classes : List DeclaredClass) (a b : TypeRef) → a.dims ≡ b.dims → fits_base classes a.base b.base ≡ true
+    → fits_type classes a b ≡ true
 unfolding fits_type
 level-fits classes a b dims bases =
     or_right (is_objects_within classes (depth_of a) b) (nat_eq a.dims b.dims && fits_base classes a.base b.base)
@@ -95,7 +100,8 @@ pub level-depth : (classes : List DeclaredClass) (a b : TypeRef) → IsLevel cla
 level-depth classes a b level objects =
     depth-same classes a.dims a.base b.base level.bases ∙ object-depth classes a.dims b.base objects ∙ level.dims
 
-pub type-trans : (classes : List DeclaredClass) → AreTree classes → (a b c : TypeRef) → fits_type classes a b ≡ true → fits_type classes b c ≡ true → fits_type classes a c ≡ true
+pub type-trans : (classes : List DeclaredClass) → AreTree classes → (a b c : TypeRef) → fits_type classes a b ≡ true
+    → fits_type classes b c ≡ true → fits_type classes a c ≡ true
 type-trans classes tree a b c f g = by_ways (fits_type-cases classes a b f) (fits_type-cases classes b c g) where
   by_ways : IsBelowObjects classes a b ⊎ IsLevel classes a b → IsBelowObjects classes b c ⊎ IsLevel classes b c → fits_type classes a c ≡ true
   by_ways (inl x) (inl y) =

@@ -69,9 +69,11 @@ entry_state o method code =
 
 -- the class that an entry of the exception table catches: Throwable where it names none
 unfoldable pub caught_type : Program → ℕ → Handler → Option TypeRef
-caught_type p method h = if h.catch_class == 0 then Some (throwable_type p.outline) else option_and_then below (type_of_use p.outline (use_in p method h.catch_class)) where
-  below : TypeRef → Option TypeRef
-  below t = if fits_type p.outline.classes t (throwable_type p.outline) then Some t else None
+caught_type p method h =
+    if h.catch_class == 0 then Some (throwable_type p.outline)
+    else option_and_then below (type_of_use p.outline (use_in p method h.catch_class)) where
+      below : TypeRef → Option TypeRef
+      below t = if fits_type p.outline.classes t (throwable_type p.outline) then Some t else None
 
 -- the state that an item brings to a handler: its own locals, and what is caught as the only word of the stack
 abbrev pub handler_state : TypeRef → TypeState → TypeState
@@ -92,13 +94,18 @@ abbrev pub after_item : Program → ℕ → Code → ℕ → TypeState → Optio
 after_item p method code j s =
     option_and_then (λ i. row_after p.outline method j (made_at p method code) (use_by p method i) i s) (insn_of code j)
 
+-- where the entry's range holds the item, its handler's state takes what the item brings
+abbrev pub FitsHandler : Program → ℕ → List (Option TypeState) → ℕ → TypeState → Handler → Type 0
+FitsHandler p method states j s h =
+    Catches j h.handler h → IsSomeAnd (caught_type p method h) (λ caught. FitsAt p states h.handler (handler_state caught s))
+
 -- an item's state is within the method's counts, meets its row, and what it brings fits the states at the ends of its edges
 pub record MeetsItem (p : Program) (method : ℕ) (code : Code) (states : List (Option TypeState)) (j : ℕ) (s : TypeState) : Type 0 where
   pub locals : length s.locals ≡ code.max_locals
   pub stack : length s.stack ≤ code.max_stack
   pub whole : is_whole s.stack ≡ true
   pub row : IsSomeAnd (after_item p method code j s) (λ after. (next : ℕ) → IsNormalEdge code j next → FitsAt p states next after)
-  pub handlers : AllByRecursion (λ h. Catches j h.handler h → IsSomeAnd (caught_type p method h) (λ caught. FitsAt p states h.handler (handler_state caught s))) code.handlers
+  pub handlers : AllByRecursion (FitsHandler p method states j s) code.handlers
 
 pub record IsTypingOf (p : Program) (method : ℕ) (code : Code) (states : List (Option TypeState)) : Type 0 where
   pub one_each : length states ≡ length code.items
