@@ -1,5 +1,5 @@
--- Which type fits which where a state is checked: the order of JVMS 4.10.1.2, in which an interface counts as Object (JVMS 4.10.1.2 and 4.10.2.2
--- leave calls of interfaces to the run).
+-- Which type fits which where states are checked: the order of JVMS 4.10.1.2, in which an interface counts as Object; whether an object implements
+-- it is looked at in the run.
 use Rattle.std.specs.Prelude.{◌≡◌, ℕ, ◌-◌, ◌==◌, ◌&&◌, ◌||◌, Bool, true, false, List, None, Some, unwrap_or, nat_le}
 use Rattle.fm_base.specs.declared.kinds.Base.{Base}
 use Rattle.fm_base.specs.declared.kinds.Base.TheVariants as base
