@@ -29,7 +29,7 @@ past_end (c ∷ classes) (suc class) h = past_end classes class (omega (arith, h
 -- a number that is no class's is the only one of its chain
 pub chain_past_end : (classes : List DeclaredClass) (class : ℕ) → 0 < length classes → length classes ≤ class → chain_of classes class ≡ class ∷ []
 unfolding chain_of
-chain_past_end classes class some past = by_length (length classes) some where
+chain_past_end classes class some past = by_length (suc (length classes)) (omega arith) where
   above : (bound : ℕ) (p : Option ℕ) → p ≡ None → upwards bound classes p ≡ []
   above zero p e = refl
   above (suc bound) p e = ap (upwards (suc bound) classes) e
@@ -44,7 +44,7 @@ chain_past_end classes class some past = by_length (length classes) some where
 -- a class is in its own chain
 pub among_own : (classes : List DeclaredClass) (class : ℕ) → 0 < length classes → is_among class (chain_of classes class) ≡ true
 unfolding chain_of
-among_own classes class some = by_length (length classes) some where
+among_own classes class some = by_length (suc (length classes)) (omega arith) where
   by_length : (n : ℕ) → 0 < n → is_among class (upwards n classes (Some class)) ≡ true
   by_length zero h = absurd (omega (arith, h))
   by_length (suc bound) h = or_left (nat_eq class class) (is_among class (upwards bound classes (parent_of classes class))) (eq-eqb class class refl)
@@ -302,7 +302,7 @@ common-proper classes tree c d apart = by_place (common-above classes c d) where
 pub among-within : (classes : List DeclaredClass) (class x : ℕ) → class < length classes → is_among x (chain_of classes class) ≡ true
     → x < length classes
 unfolding chain_of
-among-within classes class x h among = go (length classes) class h among where
+among-within classes class x h among = go (suc (length classes)) class h among where
   no_more : (bound : ℕ) → is_among x (upwards bound classes None) ≡ true → ⊥
   no_more zero e = false≢true e
   no_more (suc bound) e = false≢true e
