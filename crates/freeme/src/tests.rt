@@ -10,7 +10,7 @@ use crate::tests::changes::is_answered;
 use crate::top_call::freeme_run;
 use fm_base::NoMemory;
 use fm_files::{MemFiles, MemSink, SureFiles, SureSink};
-use fm_samples::{ClassSample, MAIN, MAKES_ARRAY, MethodSample, PRINTS_SUM, RETURNS};
+use fm_samples::{ClassSample, MAIN, MethodSample, PRINTS_SUM, RETURNS};
 use std::alloc::Global;
 use std::test::Fail;
 
@@ -241,22 +241,21 @@ fn words_of_no_form_are_refused(rt: HostRuntime) -> Result<(), Fail> {
     Ok(())
 }
 
-// Whether a class of which something is made or freed isn't built.
-fn is_not_yet(alloc: Global, sample: &ClassSample) -> Result<bool, NoMemory> {
-    let class = sample.bytes(alloc)?;
+// Whether a class isn't built that frees.
+fn is_free_not_yet(alloc: Global) -> Result<bool, NoMemory> {
+    let class = FREES.bytes(alloc)?;
     is_answered(alloc, class.as_slice(), 77, "refused: not-yet M.class\n")
 }
 
 #[test]
-fn a_class_that_makes_or_frees_is_not_built(rt: HostRuntime) -> Result<(), Fail> {
-    assert!(rt; is_not_yet(rt.alloc(), &MAKES_ARRAY)?);
-    assert!(rt; is_not_yet(rt.alloc(), &FREES)?);
+fn a_class_that_frees_is_not_built(rt: HostRuntime) -> Result<(), Fail> {
+    assert!(rt; is_free_not_yet(rt.alloc())?);
     Ok(())
 }
 
-// Whether a class is written as it was read, where nothing can fail.
-fn is_surely_written(alloc: Global, sample: &ClassSample) -> Result<bool, NoMemory> {
-    let bytes = sample.bytes(alloc)?;
+// Whether a class that prints is written as it was read, where nothing can fail.
+fn is_surely_written(alloc: Global) -> Result<bool, NoMemory> {
+    let bytes = PRINTS_SUM.bytes(alloc)?;
     let mut files = SureFiles::new(alloc);
     files.add("M.class", bytes.as_slice())?;
     let mut out = SureSink::new(alloc);
@@ -271,6 +270,6 @@ fn is_surely_written(alloc: Global, sample: &ClassSample) -> Result<bool, NoMemo
 
 #[test]
 fn nothing_fails_over_files_and_sinks_that_are_sure(rt: HostRuntime) -> Result<(), Fail> {
-    assert!(rt; is_surely_written(rt.alloc(), &PRINTS_SUM)?);
+    assert!(rt; is_surely_written(rt.alloc())?);
     Ok(())
 }

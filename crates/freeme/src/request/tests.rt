@@ -6,33 +6,33 @@ use fm_base::NoMemory;
 use std::alloc::Global;
 use std::test::Fail;
 
-// The words, a space between each two, and the values of the job that they ask for.
-const CASES: [(&str, Option<&str>); 22] = [
-    ("--out d --main M M.class", Some("d M M.class")),
-    ("--main M --out d M.class", Some("d M M.class")),
-    ("M.class --main M --out d", Some("d M M.class")),
+// The words, a space between each two, and the values of the job that they ask for, or nothing.
+const CASES: [(&str, &str); 22] = [
+    ("--out d --main M M.class", "d M M.class"),
+    ("--main M --out d M.class", "d M M.class"),
+    ("M.class --main M --out d", "d M M.class"),
     (
         "A.class --out d B.class --main M C.class",
-        Some("d M A.class B.class C.class"),
+        "d M A.class B.class C.class",
     ),
-    ("--out=d --main=M M.class", Some("d M M.class")),
-    ("--out d --main M -- M.class", Some("d M M.class")),
-    ("--out d --main M -- --x -", Some("d M --x -")),
-    ("--out - --main - -", Some("- - -")),
-    ("--out=-x --main=--y -", Some("-x --y -")),
-    ("", None),
-    ("--out d M.class", None),
-    ("--main M M.class", None),
-    ("--out d --main M", None),
-    ("--out d --main M --", None),
-    ("--out d --main M --out e M.class", None),
-    ("--out d --main M --out d M.class", None),
-    ("--out d --main M M.class --help", None),
-    ("--help", None),
-    ("--out  --main M M.class", None),
-    ("--out d --main M ", None),
-    ("--out -x --main M M.class", None),
-    ("--out d --main M --steps M.class", None),
+    ("--out=d --main=M M.class", "d M M.class"),
+    ("--out d --main M -- M.class", "d M M.class"),
+    ("--out d --main M -- --x -", "d M --x -"),
+    ("--out - --main - -", "- - -"),
+    ("--out=-x --main=--y -", "-x --y -"),
+    ("", ""),
+    ("--out d M.class", ""),
+    ("--main M M.class", ""),
+    ("--out d --main M", ""),
+    ("--out d --main M --", ""),
+    ("--out d --main M --out e M.class", ""),
+    ("--out d --main M --out d M.class", ""),
+    ("--out d --main M M.class --help", ""),
+    ("--help", ""),
+    ("--out  --main M M.class", ""),
+    ("--out d --main M ", ""),
+    ("--out -x --main M M.class", ""),
+    ("--out d --main M --steps M.class", ""),
 ];
 
 // The values of a request, a space between each two.
@@ -45,22 +45,22 @@ fn values(alloc: Global, request: &Request<'_>) -> Result<String, NoMemory> {
     Ok(text)
 }
 
-// Whether the words ask for this.
-fn asks(alloc: Global, text: &str, asked: Option<&str>) -> Result<bool, NoMemory> {
+// Whether the words ask for this, or for nothing where it's empty.
+fn asks(alloc: Global, text: &str, asked: &str) -> Result<bool, NoMemory> {
     let words = split_words(alloc, text)?;
     match request_of(alloc, &words)? {
         Some(request) => {
             let found = values(alloc, &request)?;
-            Ok(asked == Some(found.as_str()))
+            Ok(found.as_str() == asked)
         }
-        None => Ok(asked.is_none()),
+        None => Ok(asked.is_empty()),
     }
 }
 
 // The place of the first case whose words ask for something else.
-fn first_other(alloc: Global, cases: &[(&str, Option<&str>)]) -> Result<Option<usize>, NoMemory> {
+fn first_other(alloc: Global, cases: &[(&str, &str)]) -> Result<Option<usize>, NoMemory> {
     for (place, (text, asked)) in cases.iter().enumerate() {
-        if !asks(alloc, text, *asked)? {
+        if !asks(alloc, text, asked)? {
             return Ok(Some(place));
         }
     }

@@ -4,7 +4,7 @@ use crate::tests::changes::{
     Change, LongChange, first_other, first_other_long, first_other_part, is_answered,
 };
 use fm_base::NoMemory;
-use fm_samples::{ClassSample, INTERFACE, MAKES_ARRAY};
+use fm_samples::{INTERFACE, MAKES_ARRAY};
 use std::alloc::Global;
 use std::test::Fail;
 
@@ -296,8 +296,8 @@ fn what_is_too_long_is_malformed(rt: HostRuntime) -> Result<(), Fail> {
 }
 
 // The first length of a class file at which it isn't malformed where it is cut there.
-fn first_cut_taken(alloc: Global, sample: &ClassSample) -> Result<Option<usize>, NoMemory> {
-    let class = sample.bytes(alloc)?;
+fn first_cut_taken(alloc: Global) -> Result<Option<usize>, NoMemory> {
+    let class = MAKES_ARRAY.bytes(alloc)?;
     for length in 0..class.len() {
         if !is_answered(alloc, &class[..length], 66, MALFORMED)? {
             return Ok(Some(length));
@@ -308,6 +308,6 @@ fn first_cut_taken(alloc: Global, sample: &ClassSample) -> Result<Option<usize>,
 
 #[test]
 fn a_class_file_that_is_cut_is_malformed(rt: HostRuntime) -> Result<(), Fail> {
-    assert_eq!(rt; first_cut_taken(rt.alloc(), &MAKES_ARRAY)?, None);
+    assert_eq!(rt; first_cut_taken(rt.alloc())?, None);
     Ok(())
 }

@@ -177,6 +177,8 @@ fn code_of_a_few_bytes_is_refused(rt: HostRuntime) -> Result<(), Fail> {
             "refused: unsupported M.class main 0\n"
         )?
     );
+    let makes_array = b"\0\0\0\x11\0\x01\0\x01\0\0\0\x05\x04\xbc\x0a\x57\xb1";
+    assert!(rt; is_code_answered(alloc, makes_array, 77, "refused: not-yet M.class\n")?);
     let many_locals = b"\0\0\0\x0d\0\0\x08\x01\0\0\0\x01\xb1";
     assert!(rt;
         is_code_answered(
