@@ -101,19 +101,19 @@ IsFlowPath-more code a (b ∷ path) j next (first, rest) edge = (first, IsFlowPa
 -- the first item alone is marked, and waits
 pub Reaching-first : (code : Code) (n : ℕ) → 0 < n → n ≡ length code.items → Reaching code (set (replicate n false) 0 true) (0 ∷ [])
 Reaching-first code n some count =
-    let row = replicate n false in
-    let size : length row ≡ n = length-replicate n false in
-    let only : (j : ℕ) → has (set row 0 true) j ≡ true → j ≡ 0 = λ j is.
+    let marks = replicate n false in
+    let size : length marks ≡ n = length-replicate n false in
+    let only : (j : ℕ) → has (set marks 0 true) j ≡ true → j ≡ 0 = λ j is.
     ⊎_elim (λ same. same)
-    (λ (was : has row j ≡ true). absurd (let inside = has_inside row j was in false≢true (sym (get_or-replicate n j false false (omega arith)) ∙ was)))
-    (has-set_only row 0 j is) in
+    (λ (was : has marks j ≡ true). absurd (let inside = has_inside marks j was in false≢true (sym (get_or-replicate n j false false (omega arith)) ∙ was)))
+    (has-set_only marks 0 j is) in
     record {
-      bits = length-set row 0 true ∙ size ∙ count;
-      first = has-set_same row 0 (omega arith);
+      bits = length-set marks 0 true ∙ size ∙ count;
+      first = has-set_same marks 0 (omega arith);
       sound = λ j is. ([], sym (only j is));
       waiting_marked = λ j waits.
           ⊎_elim (λ (none : Contains [] j). absurd (let inside = none.1 in omega arith))
-          (λ (same : 0 ≡ j). subst (λ (k : ℕ). has (set row 0 true) k ≡ true) same (has-set_same row 0 (omega arith)))
+          (λ (same : 0 ≡ j). subst (λ (k : ℕ). has (set marks 0 true) k ≡ true) same (has-set_same marks 0 (omega arith)))
           (Contains-push_cases [] 0 j waits);
       closed = λ j is. inl (subst (λ (k : ℕ). Contains (0 ∷ []) k) (sym (only j is)) (Contains-push [] 0));
     }

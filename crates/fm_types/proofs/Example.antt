@@ -171,7 +171,7 @@ edge_5 = record { inside = lit< tt; leads = inr (refl, refl) }
 thrown : IsHandlerEdge typed_code 0 5
 thrown = record { inside = lit< tt; from_item = lit< tt; caught = (0, entry, lit< tt, refl, holds) } where
   entry : Handler
-  entry = record { start = 0; «end» = 3; handler = 5; catch_class = 0 }
+  entry = record { start = 0; end = 3; handler = 5; catch_class = 0 }
 
   holds : Catches 0 5 entry
   holds = record { after_start = lit≤ tt; before_end = lit< tt; handler_is = refl }

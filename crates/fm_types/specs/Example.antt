@@ -36,7 +36,7 @@ typed_items =
     ∷ item insn.Pop ∷ item (insn.Return None) ∷ []
 
 abbrev pub typed_code : Code
-typed_code = with_main typed_items (record { start = 0; «end» = 3; handler = 5; catch_class = 0 } ∷ [])
+typed_code = with_main typed_items (record { start = 0; end = 3; handler = 5; catch_class = 0 } ∷ [])
 
 -- the slots of String[], of B and of Throwable
 abbrev pub strings : Slot
