@@ -2,8 +2,8 @@ mod Example
 mod TableLemmas
 mod Told
 mod Selected
-mod LayerLemmas
+pub mod LayerLemmas
 pub mod Displays
 mod Marks
-mod Acyclic
+pub mod Acyclic
 mod ClassTypes

@@ -417,6 +417,28 @@ const SYSTEM_FIELDS: [BuiltInField; 2] = [
     },
 ];
 
+// A throwable with the two constructors; the others differ in name and superclass.
+const EXCEPTION: BuiltInClass = BuiltInClass {
+    name: "java/lang/Exception",
+    superclass: Some("java/lang/Throwable"),
+    interfaces: &[],
+    flags: CLASS,
+    hidden: false,
+    fields: &[],
+    methods: &THROWABLE_CONSTRUCTORS,
+};
+
+// An interface without methods.
+const CLONEABLE: BuiltInClass = BuiltInClass {
+    name: "java/lang/Cloneable",
+    superclass: Some("java/lang/Object"),
+    interfaces: &[],
+    flags: INTERFACE,
+    hidden: false,
+    fields: &[],
+    methods: &[],
+};
+
 static CLASSES: [BuiltInClass; 28] = [
     BuiltInClass {
         name: "java/lang/Object",
@@ -499,175 +521,89 @@ static CLASSES: [BuiltInClass; 28] = [
         fields: &[],
         methods: &FREE_ME_METHODS,
     },
-    BuiltInClass {
-        name: "java/lang/Exception",
-        superclass: Some("java/lang/Throwable"),
-        interfaces: &[],
-        flags: CLASS,
-        hidden: false,
-        fields: &[],
-        methods: &THROWABLE_CONSTRUCTORS,
-    },
+    EXCEPTION,
     BuiltInClass {
         name: "java/lang/Error",
-        superclass: Some("java/lang/Throwable"),
-        interfaces: &[],
-        flags: CLASS,
-        hidden: false,
-        fields: &[],
-        methods: &THROWABLE_CONSTRUCTORS,
+        ..EXCEPTION
     },
     BuiltInClass {
         name: "java/lang/RuntimeException",
         superclass: Some("java/lang/Exception"),
-        interfaces: &[],
-        flags: CLASS,
-        hidden: false,
-        fields: &[],
-        methods: &THROWABLE_CONSTRUCTORS,
+        ..EXCEPTION
     },
     BuiltInClass {
         name: "java/io/IOException",
         superclass: Some("java/lang/Exception"),
-        interfaces: &[],
-        flags: CLASS,
-        hidden: false,
-        fields: &[],
-        methods: &THROWABLE_CONSTRUCTORS,
+        ..EXCEPTION
     },
     BuiltInClass {
         name: "java/lang/ArithmeticException",
         superclass: Some("java/lang/RuntimeException"),
-        interfaces: &[],
-        flags: CLASS,
-        hidden: false,
-        fields: &[],
-        methods: &THROWABLE_CONSTRUCTORS,
+        ..EXCEPTION
     },
     BuiltInClass {
         name: "java/lang/ArrayStoreException",
         superclass: Some("java/lang/RuntimeException"),
-        interfaces: &[],
-        flags: CLASS,
-        hidden: false,
-        fields: &[],
-        methods: &THROWABLE_CONSTRUCTORS,
+        ..EXCEPTION
     },
     BuiltInClass {
         name: "java/lang/ClassCastException",
         superclass: Some("java/lang/RuntimeException"),
-        interfaces: &[],
-        flags: CLASS,
-        hidden: false,
-        fields: &[],
-        methods: &THROWABLE_CONSTRUCTORS,
+        ..EXCEPTION
     },
     BuiltInClass {
         name: "java/lang/IndexOutOfBoundsException",
         superclass: Some("java/lang/RuntimeException"),
-        interfaces: &[],
-        flags: CLASS,
-        hidden: false,
-        fields: &[],
-        methods: &THROWABLE_CONSTRUCTORS,
+        ..EXCEPTION
     },
     BuiltInClass {
         name: "java/lang/NegativeArraySizeException",
         superclass: Some("java/lang/RuntimeException"),
-        interfaces: &[],
-        flags: CLASS,
-        hidden: false,
-        fields: &[],
-        methods: &THROWABLE_CONSTRUCTORS,
+        ..EXCEPTION
     },
     BuiltInClass {
         name: "java/lang/NullPointerException",
         superclass: Some("java/lang/RuntimeException"),
-        interfaces: &[],
-        flags: CLASS,
-        hidden: false,
-        fields: &[],
-        methods: &THROWABLE_CONSTRUCTORS,
+        ..EXCEPTION
     },
     BuiltInClass {
         name: "java/lang/IllegalArgumentException",
         superclass: Some("java/lang/RuntimeException"),
-        interfaces: &[],
-        flags: CLASS,
-        hidden: false,
-        fields: &[],
-        methods: &THROWABLE_CONSTRUCTORS,
+        ..EXCEPTION
     },
     BuiltInClass {
         name: "java/lang/IllegalStateException",
         superclass: Some("java/lang/RuntimeException"),
-        interfaces: &[],
-        flags: CLASS,
-        hidden: false,
-        fields: &[],
-        methods: &THROWABLE_CONSTRUCTORS,
+        ..EXCEPTION
     },
     BuiltInClass {
         name: "java/lang/UnsupportedOperationException",
         superclass: Some("java/lang/RuntimeException"),
-        interfaces: &[],
-        flags: CLASS,
-        hidden: false,
-        fields: &[],
-        methods: &THROWABLE_CONSTRUCTORS,
+        ..EXCEPTION
     },
     BuiltInClass {
         name: "java/lang/ArrayIndexOutOfBoundsException",
         superclass: Some("java/lang/IndexOutOfBoundsException"),
-        interfaces: &[],
-        flags: CLASS,
-        hidden: false,
-        fields: &[],
-        methods: &THROWABLE_CONSTRUCTORS,
+        ..EXCEPTION
     },
     BuiltInClass {
         name: "java/lang/StringIndexOutOfBoundsException",
         superclass: Some("java/lang/IndexOutOfBoundsException"),
-        interfaces: &[],
-        flags: CLASS,
-        hidden: false,
-        fields: &[],
-        methods: &THROWABLE_CONSTRUCTORS,
+        ..EXCEPTION
     },
     BuiltInClass {
         name: "java/lang/LinkageError",
         superclass: Some("java/lang/Error"),
-        interfaces: &[],
-        flags: CLASS,
-        hidden: false,
-        fields: &[],
-        methods: &THROWABLE_CONSTRUCTORS,
+        ..EXCEPTION
     },
     BuiltInClass {
         name: "java/lang/IncompatibleClassChangeError",
         superclass: Some("java/lang/LinkageError"),
-        interfaces: &[],
-        flags: CLASS,
-        hidden: false,
-        fields: &[],
-        methods: &THROWABLE_CONSTRUCTORS,
+        ..EXCEPTION
     },
-    BuiltInClass {
-        name: "java/lang/Cloneable",
-        superclass: Some("java/lang/Object"),
-        interfaces: &[],
-        flags: INTERFACE,
-        hidden: false,
-        fields: &[],
-        methods: &[],
-    },
+    CLONEABLE,
     BuiltInClass {
         name: "java/io/Serializable",
-        superclass: Some("java/lang/Object"),
-        interfaces: &[],
-        flags: INTERFACE,
-        hidden: false,
-        fields: &[],
-        methods: &[],
+        ..CLONEABLE
     },
 ];

@@ -154,10 +154,7 @@ impl Program {
         ensures { option_map (λ (n : TypeId). n.0) result
             ≡ type_number self.now.outline.types t }
     {
-        match self.parts.numbers.get(&t) {
-            Some(number) => Some(TypeId(*number)),
-            None => None,
-        }
+        self.parts.numbers.get(&t).copied().map(TypeId)
     }
 
     /// The type of this number. Takes no memory.
@@ -198,10 +195,7 @@ impl Program {
         }
         let signature = self.parts.signatures.as_slice()[m.0 as usize];
         let table = self.parts.tops.as_slice()[c.0 as usize];
-        match self.parts.selected.get(table, signature) {
-            Some(number) => Some(MethodId(number)),
-            None => None,
-        }
+        self.parts.selected.get(table, signature).map(MethodId)
     }
 
     /// Whether the first class is the second one or below it: one of its superclasses, or an interface
@@ -482,10 +476,7 @@ impl Program {
             return None;
         }
         let table = &own[class as usize];
-        match table.get(&signature) {
-            Some(number) => Some(MethodId(*number)),
-            None => None,
-        }
+        table.get(&signature).copied().map(MethodId)
     }
 
     // The class's superclasses from the uppermost one down.

@@ -1,4 +1,5 @@
-use Rattle.std.proofs.Common.{◌≡◌, sym, ◌∙◌, ap, true, false, get_or}
+use Rattle.std.proofs.Common.{rules, ◌≡◌, sym, ◌∙◌, ap, true, false, get_or, option_map}
+use Rattle.fm_base.specs.declared.ids.MethodId.{MethodId}
 use Rattle.std.proofs.lemmas.List.{get_or_default}
 use Rattle.fm_code.specs.AccessFlags.{is_private}
 use Rattle.fm_world.proofs.Selected.{selected_by_table, selected_within}
@@ -16,28 +17,16 @@ bounds-as_slice-c c =
     selected_within c.self.inside.parts c.args.self.now c.args.c.0 c.args.m.0 c.as_slice-2.result.now c.self.view_is c.self.invariant c.requires.class
     c.requires.method c.as_slice-2.ensures
 
-pub returns-in-Some : goal.returns-in-Some
-returns-in-Some c =
+pub returns : goal.returns
+returns c =
     let flags = ap (λ m. is_private m.flags) c.method.ensures ∙ ap is_private (method_info-flags c.args.self.now c.args.m.0) in
     let other : is_private c.method.result.now.flags ≡ false = sym c.has_flag.ensures ∙ c.if-has_flag.false in
     let tops = c.as_slice-2.result.now in
     let within = selected_within c.self.inside.parts c.args.self.now c.args.c.0 c.args.m.0 tops c.self.view_is c.self.invariant c.requires.class
     c.requires.method c.as_slice-2.ensures in
     let table = get_or tops c.args.c.0 0 in
-    sym c.in-Some.is ∙ c.get.ensures
-    ∙ selected_by_table c.self.inside.parts c.args.self.now c.args.c.0 c.args.m.0 tops table c.as_slice.result.now c.self.view_is c.self.invariant
-    c.requires.class
-    c.requires.method (sym flags ∙ other) c.as_slice-2.ensures c.as_slice.ensures (get_or_default tops c.args.c.0 0 table within)
-
-pub returns-in-None : goal.returns-in-None
-returns-in-None c =
-    let flags = ap (λ m. is_private m.flags) c.method.ensures ∙ ap is_private (method_info-flags c.args.self.now c.args.m.0) in
-    let other : is_private c.method.result.now.flags ≡ false = sym c.has_flag.ensures ∙ c.if-has_flag.false in
-    let tops = c.as_slice-2.result.now in
-    let within = selected_within c.self.inside.parts c.args.self.now c.args.c.0 c.args.m.0 tops c.self.view_is c.self.invariant c.requires.class
-    c.requires.method c.as_slice-2.ensures in
-    let table = get_or tops c.args.c.0 0 in
-    sym c.in-None.is ∙ c.get.ensures
+    let same : option_map (λ (n : MethodId). n.0) c.map.result ≡ c.get.result = search rules in
+    same ∙ c.get.ensures
     ∙ selected_by_table c.self.inside.parts c.args.self.now c.args.c.0 c.args.m.0 tops table c.as_slice.result.now c.self.view_is c.self.invariant
     c.requires.class
     c.requires.method (sym flags ∙ other) c.as_slice-2.ensures c.as_slice.ensures (get_or_default tops c.args.c.0 0 table within)
