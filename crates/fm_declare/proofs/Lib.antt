@@ -1,0 +1,13 @@
+pub mod DeclareLemmas
+pub mod Drops
+pub mod FileLemmas
+pub mod KindLemmas
+pub mod MarkLemmas
+pub mod NameLemmas
+pub mod NumberSteps
+pub mod PlaceLemmas
+pub mod SpelledNames
+pub mod SpelledTypes
+pub mod TextLemmas
+pub mod TypeSteps
+pub mod WantLemmas

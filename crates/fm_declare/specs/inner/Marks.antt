@@ -1,0 +1,33 @@
+-- The marks of the indices that a class uses, set one after the other.
+use Rattle.std.specs.Prelude.{ℕ, Bool, true, List, [], ◌∷◌, Option, Some, None, slice_set}
+use Rattle.std.specs.List.{filter_map}
+use Rattle.fm_code.specs.declared.class_file.Member.{Member}
+use Rattle.fm_code.specs.declared.class_file.MemberAttr.{MemberAttr}
+use Rattle.fm_code.specs.declared.class_file.MemberAttr.TheVariants as attribute
+use Rattle.fm_code.specs.declared.code_array.Code.{Code}
+use Rattle.fm_code.specs.declared.code_array.Item.{Item}
+use Rattle.fm_world.specs.Uses.{items_of, operand_of}
+
+-- marks with those of the indices set
+abbrev pub marked : List Bool → List ℕ → List Bool
+marked marks [] = marks
+marked marks (index ∷ indices) = marked (slice_set marks index true) indices
+
+-- the code of the first attribute that has one
+abbrev pub first_code : List MemberAttr → Option Code
+first_code [] = None
+first_code (attribute.Coded name code ∷ attributes) = Some code
+first_code (a ∷ attributes) = first_code attributes
+
+-- the indices of the values that attributes give
+abbrev pub values_among : List MemberAttr → List ℕ
+values_among [] = []
+values_among (attribute.Constant name value ∷ attributes) = value ∷ values_among attributes
+values_among (a ∷ attributes) = values_among attributes
+
+-- the indices that items name
+abbrev pub operands_among : List Item → List ℕ
+operands_among items = filter_map (λ item. operand_of item.insn) items
+
+abbrev pub operands_in : Member → List ℕ
+operands_in m = operands_among (items_of m)

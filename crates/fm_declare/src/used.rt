@@ -1,0 +1,164 @@
+// Which indices of its pool a class uses.
+
+ghost use Rattle.std.specs.Prelude.{◌≡◌, IfOk, map, option_copied, slice_set, true};
+ghost use Rattle.std.specs.List.{flat_map};
+ghost use Rattle.fm_code.specs.Members.{code_of};
+ghost use Rattle.fm_declare.specs.inner.Marks.{first_code, marked, operands_among, operands_in, values_among};
+ghost use Rattle.fm_world.specs.Uses.{caught_by, is_used, items_of, operand_of, pool_indices, values_of};
+
+use fm_base::NoMemory;
+use fm_code::{ClassDef, Code, Handler, Insn, Item, Member, MemberAttr};
+use std::alloc::Global;
+
+/// The index that an instruction names.
+pub fn operand_of(insn: &Insn) -> Option<u16>
+    ensures { result ≡ operand_of insn.now }
+{
+    match insn {
+        Insn::LoadPool(index) => Some(*index),
+        Insn::GetStatic(index) => Some(*index),
+        Insn::PutStatic(index) => Some(*index),
+        Insn::GetField(index) => Some(*index),
+        Insn::PutField(index) => Some(*index),
+        Insn::Virtual(index) => Some(*index),
+        Insn::Special(index) => Some(*index),
+        Insn::Static(index) => Some(*index),
+        Insn::Interface(index) => Some(*index),
+        Insn::New(index) => Some(*index),
+        Insn::NewRefs(index) => Some(*index),
+        Insn::Cast(index) => Some(*index),
+        Insn::IsA(index) => Some(*index),
+        Insn::MultiArray(index, _) => Some(*index),
+        _ => None,
+    }
+}
+
+/// The code of a method.
+pub fn code_of(method: &Member) -> Option<&Code>
+    ensures { option_copied result ≡ code_of method.now }
+{
+    first_code(method.attributes.as_slice())
+}
+
+// The code of the first attribute that has one.
+fn first_code(attributes: &[MemberAttr]) -> Option<&Code>
+    ensures { option_copied result ≡ first_code attributes.now }
+{
+    for attribute in attributes {
+        if let MemberAttr::Coded(_, code) = attribute {
+            return Some(code);
+        }
+    }
+    None
+}
+
+/// For each index of the pool whether the class uses it. `NoMemory` where memory runs out.
+pub fn used_indices(alloc: Global, class: &ClassDef) -> Result<Vec<bool>, NoMemory>
+    ensures { IfOk result (λ used. used.items ≡ map (is_used class.now) (pool_indices class.now)) }
+{
+    let mut used = vec![in alloc; false; class.pool.entries.len()]?;
+    mark(&mut used, class.this_class);
+    mark(&mut used, class.super_class);
+    mark_all(&mut used, class.interfaces.as_slice());
+    mark_values(&mut used, class.fields.as_slice());
+    mark_operands(&mut used, class.methods.as_slice());
+    mark_caught(&mut used, class.methods.as_slice());
+    Ok(used)
+}
+
+// Sets the mark at an index, where the pool has it.
+fn mark(used: &mut Vec<bool>, index: u16)
+    ensures { used.new.items ≡ slice_set used.old.items index true }
+{
+    let place = usize::from(index);
+    if place < used.len() {
+        used[place] = true;
+    }
+}
+
+// Marks the indices.
+fn mark_all(used: &mut Vec<bool>, indices: &[u16])
+    ensures { used.new.items ≡ marked used.old.items indices.now }
+{
+    for index in indices {
+        mark(used, *index);
+    }
+}
+
+// Marks the values of fields.
+fn mark_values(used: &mut Vec<bool>, fields: &[Member])
+    ensures { used.new.items ≡ marked used.old.items (flat_map values_of fields.now) }
+{
+    for field in fields {
+        mark_value(used, field.attributes.as_slice());
+    }
+}
+
+// Marks the values among a field's attributes.
+fn mark_value(used: &mut Vec<bool>, attributes: &[MemberAttr])
+    ensures { used.new.items ≡ marked used.old.items (values_among attributes.now) }
+{
+    for attribute in attributes {
+        if let MemberAttr::Constant(_, value) = attribute {
+            mark(used, *value);
+        }
+    }
+}
+
+// Marks what the instructions of methods name.
+fn mark_operands(used: &mut Vec<bool>, methods: &[Member])
+    ensures { used.new.items ≡ marked used.old.items (flat_map operands_in methods.now) }
+{
+    for method in methods {
+        mark_items(used, items_of(method));
+    }
+}
+
+/// The items of a method.
+pub fn items_of(method: &Member) -> &[Item]
+    ensures { result.now ≡ items_of method.now }
+{
+    match code_of(method) {
+        Some(code) => code.items.as_slice(),
+        None => &[],
+    }
+}
+
+// Marks what instructions name.
+fn mark_items(used: &mut Vec<bool>, items: &[Item])
+    ensures { used.new.items ≡ marked used.old.items (operands_among items.now) }
+{
+    for item in items {
+        if let Some(index) = operand_of(&item.insn) {
+            mark(used, index);
+        }
+    }
+}
+
+// Marks the catch types of methods.
+fn mark_caught(used: &mut Vec<bool>, methods: &[Member])
+    ensures { used.new.items ≡ marked used.old.items (flat_map caught_by methods.now) }
+{
+    for method in methods {
+        mark_handlers(used, handlers_of(method));
+    }
+}
+
+// The handlers of a method.
+fn handlers_of(method: &Member) -> &[Handler]
+    ensures { map (λ h. h.catch_class) result.now ≡ caught_by method.now }
+{
+    match code_of(method) {
+        Some(code) => code.handlers.as_slice(),
+        None => &[],
+    }
+}
+
+// Marks the catch types of handlers.
+fn mark_handlers(used: &mut Vec<bool>, handlers: &[Handler])
+    ensures { used.new.items ≡ marked used.old.items (map (λ h. h.catch_class) handlers.now) }
+{
+    for handler in handlers {
+        mark(used, handler.catch_class);
+    }
+}
