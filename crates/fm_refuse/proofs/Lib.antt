@@ -1,0 +1,12 @@
+pub mod FirstRefusals
+pub mod EarlierNames
+pub mod Positions
+pub mod FileNames
+pub mod MissingNames
+pub mod UsedIndices
+pub mod ParentNames
+pub mod WantedMembers
+pub mod Sections
+pub mod CallsOfAbstracts
+pub mod LeftOver
+pub mod MainMethods

@@ -1,0 +1,6 @@
+pub mod Abstracts
+pub mod Ancestry
+pub mod GivenClasses
+pub mod Linking
+pub mod Naming
+pub mod MainClass

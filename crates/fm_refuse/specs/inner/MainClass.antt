@@ -1,0 +1,63 @@
+-- The main class and its main method, by the tables.
+use Rattle.std.specs.Prelude.{ℕ, ◌-◌, ◌&&◌, Bool, false, List, codes, length, Option, None, Some, option_and_then, option_map, slice_get}
+use Rattle.std.specs.List.{position_from}
+use Rattle.std.specs.Str.{bytes_eq}
+use Rattle.fm_code.specs.AccessFlags.{is_static}
+use Rattle.fm_declare.specs.declared.given.GivenFile.{GivenFile}
+use Rattle.fm_declare.specs.inner.Numbering.{text_of, texts_in}
+use Rattle.fm_lookup.specs.declared.members.MemberRow.{MemberRow}
+use Rattle.fm_lookup.specs.inner.ListTables.{list_in}
+use Rattle.fm_lookup.specs.inner.MemberRows.{section_of}
+use Rattle.fm_lookup.specs.inner.MemberTables.{first_from}
+use Rattle.fm_refuse.specs.declared.linking.Linking.{Linking}
+use Rattle.fm_refuse.specs.inner.GivenClasses.{class_in}
+use Rattle.fm_world.specs.BuiltIns.{built_in}
+use Rattle.fm_world.specs.Causes.{own_name}
+use Rattle.fm_world.specs.Chains.{first_found}
+use Rattle.fm_world.specs.Programs.{given_number, main_of}
+use Rattle.fm_world.specs.declared.declarations.DeclaredClass.{DeclaredClass}
+
+-- ---- by names
+
+abbrev pub main_name : List ℕ
+main_name = codes "main"
+
+abbrev pub main_descriptor : List ℕ
+main_descriptor = codes "([Ljava/lang/String;)V"
+
+-- the class of that name with its main method, where there are both
+abbrev pub main_found : List DeclaredClass → List ℕ → Option (ℕ × ℕ)
+main_found classes name = option_and_then (λ class. option_map (λ method. (class, method)) (main_of classes class)) (given_number classes name)
+
+-- ---- by the tables
+
+-- the file's class has the name
+abbrev pub is_named : List ℕ → GivenFile → Bool
+is_named name file = bytes_eq (own_name (class_in file)) name
+
+-- the number of the class of the first file that has the name
+abbrev pub number_among : List ℕ → List GivenFile → Option ℕ
+number_among name files = position_from (is_named name) (length built_in) files
+
+-- a static main([Ljava/lang/String;)V
+abbrev pub is_main_row : List (List ℕ) → MemberRow → Bool
+is_main_row texts row =
+    bytes_eq (text_of texts row.name) main_name && bytes_eq (text_of texts row.descriptor) main_descriptor && is_static row.flags
+
+abbrev pub is_main_in : List (List ℕ) → Option MemberRow → Bool
+is_main_in texts None = false
+is_main_in texts (Some row) = is_main_row texts row
+
+abbrev pub is_main_at : List (List ℕ) → List MemberRow → ℕ → Bool
+is_main_at texts rows member = is_main_in texts (slice_get rows member)
+
+-- the first one among members that stand together, and among those of a class
+abbrev pub main_between : List (List ℕ) → List MemberRow → ℕ × ℕ → Option ℕ
+main_between texts rows section = first_from (is_main_at texts rows) (section.1 - section.0) section.0
+
+abbrev pub own_main_in : Linking → ℕ → Option ℕ
+own_main_in l class = main_between (texts_in l.texts.now) l.methods.now.members.rows.items (section_of l.methods.now.members.first.items class)
+
+-- the first one of a class and its superclasses
+abbrev pub main_method_in : Linking → ℕ → Option ℕ
+main_method_in l class = first_found (own_main_in l) (list_in l.hierarchy.now.chains.items class)
