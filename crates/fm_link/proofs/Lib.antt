@@ -1,5 +1,1 @@
-pub mod FirstRefusals
-pub mod EarlierNames
-pub mod MarkLemmas
-pub mod Positions
-pub mod ChainSteps
+pub mod Phases

@@ -1,4 +1,2 @@
 -- What serves the proofs alone.
-pub mod ClassNumbering
-pub mod Marks
-pub mod ParentTable
+pub mod Judged

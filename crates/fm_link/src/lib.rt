@@ -4,12 +4,7 @@
 // `fm_world`: these look names up in lists, and the tables here answer the same at once.
 #![tactic(auto)]
 
-mod chains;
-mod class_numbers;
-mod duplicates;
-mod error;
-mod names;
-mod places;
-mod used;
+mod judging;
 
-pub use error::{LinkBad, LinkFail};
+pub use fm_refuse::{LinkBad, LinkFail};
+pub use judging::judge;

@@ -1,6 +1,0 @@
-use Rattle.std.proofs.Common.{◌≡◌, drop}
-use Rattle.fm_link.specs.inner.Marks.{marked, values_among}
-use Rattle.fm_link.proofs.used.mark_value.Given as goal
-
-abbrev pub invariant-loop-attribute : goal.invariant-loop-attribute
-invariant-loop-attribute l = marked l.used.items (values_among (drop l.attribute-index l.attributes)) ≡ marked l.initial.used.items (values_among l.attributes)
