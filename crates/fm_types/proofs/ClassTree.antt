@@ -27,9 +27,9 @@ past_end (c ∷ classes) zero h = absurd (omega (arith, h))
 past_end (c ∷ classes) (suc class) h = past_end classes class (omega (arith, h))
 
 -- a number that is no class's is the only one of its chain
-pub chain_past_end : (classes : List DeclaredClass) (class : ℕ) → 0 < length classes → length classes ≤ class → chain_of classes class ≡ class ∷ []
+pub chain_past_end : (classes : List DeclaredClass) (class : ℕ) → length classes ≤ class → chain_of classes class ≡ class ∷ []
 unfolding chain_of
-chain_past_end classes class some past = by_length (suc (length classes)) (omega arith) where
+chain_past_end classes class past = by_length (suc (length classes)) (omega arith) where
   above : (bound : ℕ) (p : Option ℕ) → p ≡ None → upwards bound classes p ≡ []
   above zero p e = refl
   above (suc bound) p e = ap (upwards (suc bound) classes) e
@@ -66,7 +66,7 @@ among-trans classes tree c d e first second = by_range (cases_lt c (length class
 
   past : length classes ≤ c → is_among e (chain_of classes c) ≡ true
   past h =
-      let same : d ≡ c = among_one d c (sym (ap (is_among d) (chain_past_end classes c some h)) ∙ first) in
+      let same : d ≡ c = among_one d c (sym (ap (is_among d) (chain_past_end classes c h)) ∙ first) in
       let P : ℕ → Type 0 = λ n. is_among e (chain_of classes n) ≡ true in subst P same second
 
   inside : c < length classes → is_among e (chain_of classes c) ≡ true
@@ -81,7 +81,7 @@ among-trans classes tree c d e first second = by_range (cases_lt c (length class
 
 -- ---- what counts as Object
 
-interface-within : (classes : List DeclaredClass) (class : ℕ) → is_interface_at classes class ≡ true → class < length classes
+pub interface-within : (classes : List DeclaredClass) (class : ℕ) → is_interface_at classes class ≡ true → class < length classes
 interface-within classes class h = by_range (cases_lt class (length classes)) where
   by_range : (class < length classes) ⊎ (length classes ≤ class) → class < length classes
   by_range (inl inside) = inside
@@ -209,7 +209,7 @@ common-least classes tree c d x first second = by_range (cases_lt c (length clas
 
   past : length classes ≤ c → is_among x (chain_of classes (common_class classes c d)) ≡ true
   past h =
-      let alone = chain_past_end classes c some h in
+      let alone = chain_past_end classes c h in
       let same : x ≡ c = among_one x c (sym (ap (is_among x) alone) ∙ first) in
       let passes : p c ≡ true = ap p (sym same) ∙ second in
       let there : find p (chain_of classes c) ≡ Some c = ap (find p) alone ∙ ap (λ b. cond b (Some c) None) passes in
@@ -279,7 +279,7 @@ proper classes tree x class among = by_range (cases_lt class (length classes)) w
   by_range : (class < length classes) ⊎ (length classes ≤ class) → (x ≡ class) ⊎ (is_interface_at classes x ≡ false)
   by_range (inl h) = proper_above classes tree x (length (chain_of classes class)) class (omega arith) h among
   by_range (inr h) =
-      inl (among_one x class (sym (ap (is_among x) (chain_past_end classes class (omega (arith, object-within classes tree)) h)) ∙ among))
+      inl (among_one x class (sym (ap (is_among x) (chain_past_end classes class h)) ∙ among))
 
 -- the nearest superclass of two different classes is no interface
 pub common-proper : (classes : List DeclaredClass) → AreTree classes → (c d : ℕ) → ¬ (c ≡ d)
@@ -321,6 +321,41 @@ among-within classes class x h among = go (suc (length classes)) class h among w
   go : (bound c : ℕ) → c < length classes → is_among x (upwards bound classes (Some c)) ≡ true → x < length classes
   go zero c inside e = absurd (false≢true e)
   go (suc bound) c inside e = by_first bound c (go bound) inside (or_cases (nat_eq x c) (is_among x (upwards bound classes (parent_of classes c))) e)
+
+-- a number that is no class's is in no chain but its own
+pub past_end-alone : (classes : List DeclaredClass) (c d : ℕ) → (length classes ≤ c) ⊎ (length classes ≤ d)
+    → nat_eq d c ≡ is_among d (chain_of classes c)
+past_end-alone classes c d past = by_range (cases_lt c (length classes)) past where
+  or-false : (b : Bool) → b ≡ (b || false)
+  or-false true = refl
+  or-false false = refl
+
+  alone : length classes ≤ c → nat_eq d c ≡ is_among d (chain_of classes c)
+  alone h = or-false (nat_eq d c) ∙ sym (ap (is_among d) (chain_past_end classes c h))
+
+  neither : c < length classes → length classes ≤ d → (p q : Bool) → nat_eq d c ≡ p → is_among d (chain_of classes c) ≡ q → p ≡ q
+  neither inside h true q e f = absurd (omega (arith, inside, h, eqb-true d c e))
+  neither inside h false true e f = absurd (omega (arith, h, among-within classes c d inside f))
+  neither inside h false false e f = refl
+
+  by_range : (c < length classes) ⊎ (length classes ≤ c) → (length classes ≤ c) ⊎ (length classes ≤ d)
+      → nat_eq d c ≡ is_among d (chain_of classes c)
+  by_range (inr h) either = alone h
+  by_range (inl h) (inl g) = alone g
+  by_range (inl h) (inr g) = neither h g (nat_eq d c) (is_among d (chain_of classes c)) refl refl
+
+-- the nearest one of a number that is no class's and of a class
+pub common-alone : (classes : List DeclaredClass) (c d : ℕ) (p : Bool) → length classes ≤ c → is_among c (chain_of classes d) ≡ p
+    → cond p c (object_of classes) ≡ common_class classes c d
+common-alone classes c d p past test = by_test p test ∙ sym (ap (λ found. unwrap_or found (object_of classes)) looked) where
+  looked : find (λ above. is_among above (chain_of classes d)) (chain_of classes c)
+      ≡ cond (is_among c (chain_of classes d)) (Some c) None
+  looked = ap (find (λ above. is_among above (chain_of classes d))) (chain_past_end classes c past)
+
+  by_test : (p : Bool) → is_among c (chain_of classes d) ≡ p
+      → cond p c (object_of classes) ≡ unwrap_or (cond (is_among c (chain_of classes d)) (Some c) None) (object_of classes)
+  by_test true e = ap (λ b. unwrap_or (cond b (Some c) None) (object_of classes)) (sym e)
+  by_test false e = ap (λ b. unwrap_or (cond b (Some c) None) (object_of classes)) (sym e)
 
 -- so are those of a display
 pub display-within : (classes : List DeclaredClass) (class : ℕ) (lower : List ℕ) (k x : ℕ) → class < length classes

@@ -2,3 +2,10 @@ pub mod ClassTree
 pub mod Order
 pub mod LeastJoins
 pub mod Example
+pub mod Zips
+pub mod StateOrder
+pub mod NumberOrder
+pub mod ArrayOrder
+pub mod ObjectOrder
+pub mod CallOrder
+pub mod RowOrder

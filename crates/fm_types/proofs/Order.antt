@@ -35,7 +35,7 @@ base-trans classes tree base.Long base.Long c f g = g
 base-trans classes tree a b c f g = absurd (false≢true f)
 
 -- one that fits another one has as deep arrays
-depth-same : (classes : List DeclaredClass) (dims : ℕ) (a b : Base) → fits_base classes a b ≡ true → depth_with dims a ≡ depth_with dims b
+pub depth-same : (classes : List DeclaredClass) (dims : ℕ) (a b : Base) → fits_base classes a b ≡ true → depth_with dims a ≡ depth_with dims b
 depth-same classes dims (base.OfClass a) (base.OfClass b) f = refl
 depth-same classes dims base.Boolean base.Boolean f = refl
 depth-same classes dims base.Byte base.Byte f = refl
@@ -45,7 +45,7 @@ depth-same classes dims base.Int base.Int f = refl
 depth-same classes dims base.Long base.Long f = refl
 depth-same classes dims a b f = absurd (false≢true f)
 
-object-depth : (classes : List DeclaredClass) (dims : ℕ) (b : Base) → is_object_base classes b ≡ true → depth_with dims b ≡ dims
+pub object-depth : (classes : List DeclaredClass) (dims : ℕ) (b : Base) → is_object_base classes b ≡ true → depth_with dims b ≡ dims
 object-depth classes dims (base.OfClass c) seen = refl
 object-depth classes dims b seen = absurd (false≢true seen)
 

@@ -8,7 +8,7 @@ use Rattle.fm_types.specs.declared.slots.Slot.{Slot}
 use Rattle.fm_types.specs.declared.slots.Slot.TheVariants as slot
 use Rattle.fm_world.specs.Chains.{chain_of, is_among, parent_of, same_base}
 use Rattle.fm_world.specs.Lookups.{is_interface_at, object_number}
-use Rattle.fm_world.specs.Programs.{IsTypeIn, Outline}
+use Rattle.fm_world.specs.Programs.{Outline}
 use Rattle.fm_world.specs.declared.declarations.DeclaredClass.{DeclaredClass}
 use Rattle.fm_world.specs.inner.Tables.{IsLinear}
 
@@ -73,8 +73,3 @@ fits o (slot.Ref a) (slot.Ref b) = fits_type o.classes a b
 fits o (slot.Uninit item) (slot.Uninit other) = item == other
 fits o slot.UninitThis slot.UninitThis = true
 fits o a b = false
-
--- a slot whose class, if it has one, is there
-abbrev pub IsSlotIn : List DeclaredClass → Slot → Type 0
-IsSlotIn classes (slot.Ref t) = IsTypeIn classes t
-IsSlotIn classes s = Unit {0}

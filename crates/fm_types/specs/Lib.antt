@@ -10,4 +10,5 @@ pub mod ObjectRows
 pub mod CallRows
 pub mod Rows
 pub mod Typed
+pub mod Typings
 pub mod Example

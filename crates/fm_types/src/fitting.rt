@@ -1,9 +1,9 @@
 // Which type fits which.
 
-ghost use Rattle.std.specs.Prelude.{◌≡◌, ◌<◌, length};
-ghost use Rattle.fm_types.specs.Fits.{depth_of, fits, fits_base, fits_type, is_object_base, is_objects_within, is_seen_as_object, IsSlotIn};
-ghost use Rattle.fm_world.specs.Programs.{IsBaseIn, IsTypeIn};
+ghost use Rattle.std.specs.Prelude.{◌≡◌};
+ghost use Rattle.fm_types.specs.Fits.{depth_of, fits, fits_base, fits_type, is_object_base, is_objects_within, is_seen_as_object};
 
+use crate::chains::is_in_chain;
 use crate::slots::Slot;
 use fm_base::{Base, ClassId, TypeRef};
 use fm_code::{ACC_INTERFACE, has_flag};
@@ -14,8 +14,6 @@ use fm_world::Program;
 /// answered at once.
 #[tactic(auto, unfolding(crate::specs::Fits::fits))]
 pub fn fits(program: &Program, a: Slot, b: Slot) -> bool
-    requires first { IsSlotIn program.now.outline.classes a }
-    requires second { IsSlotIn program.now.outline.classes b }
     ensures { result ≡ fits program.now.outline a b }
 {
     match (a, b) {
@@ -35,8 +33,6 @@ pub fn fits(program: &Program, a: Slot, b: Slot) -> bool
 /// by their dimensions and their classes. Takes no memory, and is answered at once.
 #[tactic(auto, unfolding(crate::specs::Fits::fits_type))]
 pub fn fits_type(program: &Program, a: TypeRef, b: TypeRef) -> bool
-    requires first { IsTypeIn program.now.outline.classes a }
-    requires second { IsTypeIn program.now.outline.classes b }
     ensures { result ≡ fits_type program.now.outline.classes a b }
 {
     if is_objects_within(program, depth_of(a), b) {
@@ -51,19 +47,16 @@ pub fn fits_type(program: &Program, a: TypeRef, b: TypeRef) -> bool
 
 // Whether a class is the other one or below it, or both are the same letter.
 fn fits_base(program: &Program, b: Base, c: Base) -> bool
-    requires first { IsBaseIn program.now.outline.classes b }
-    requires second { IsBaseIn program.now.outline.classes c }
     ensures { result ≡ fits_base program.now.outline.classes b c }
 {
     match (b, c) {
-        (Base::OfClass(c), Base::OfClass(d)) => program.is_in_chain(c, d),
+        (Base::OfClass(c), Base::OfClass(d)) => is_in_chain(program, c, d),
         _ => b == c,
     }
 }
 
 // Object, an interface, or an array of one of these, of at most so many dimensions.
 fn is_objects_within(program: &Program, depth: u8, t: TypeRef) -> bool
-    requires { IsTypeIn program.now.outline.classes t }
     ensures { result ≡ is_objects_within program.now.outline.classes depth t }
 {
     if t.dims <= depth {
@@ -75,7 +68,6 @@ fn is_objects_within(program: &Program, depth: u8, t: TypeRef) -> bool
 
 // Whether the class counts as Object.
 fn is_object_base(program: &Program, b: Base) -> bool
-    requires { IsBaseIn program.now.outline.classes b }
     ensures { result ≡ is_object_base program.now.outline.classes b }
 {
     match b {
@@ -87,13 +79,16 @@ fn is_object_base(program: &Program, b: Base) -> bool
 // Object and the interfaces.
 #[tactic(auto, unfolding(fm_world::specs::Programs::class_info))]
 fn is_seen_as_object(program: &Program, class: ClassId) -> bool
-    requires { class.0 < length program.now.outline.classes }
     ensures { result ≡ is_seen_as_object program.now.outline.classes class.0 }
 {
+    let object = program.object();
+    if class.0 >= program.classes() {
+        return false;
+    }
     if has_flag(program.class(class).flags, ACC_INTERFACE) {
         return true;
     }
-    class.0 == program.object().0
+    class.0 == object.0
 }
 
 /// How many dimensions of a type have references for elements: all, but for the innermost of an array

@@ -1,10 +1,9 @@
 // The least type that two types fit.
 
-ghost use Rattle.std.specs.Prelude.{◌≡◌, ◌<◌, length};
-ghost use Rattle.fm_types.specs.Fits.{IsSlotIn};
+ghost use Rattle.std.specs.Prelude.{◌≡◌};
 ghost use Rattle.fm_types.specs.Joins.{common_class, join, join_type};
-ghost use Rattle.fm_world.specs.Programs.{IsTypeIn};
 
+use crate::chains::is_in_chain;
 use crate::fitting::depth_of;
 use crate::slots::Slot;
 use fm_base::{Base, ClassId, TypeRef};
@@ -14,10 +13,7 @@ use fm_world::Program;
 /// of two types take a step for each superclass of the first one, and all else is answered at once.
 #[tactic(auto, unfolding(crate::specs::Joins::join))]
 pub fn join(program: &Program, a: Slot, b: Slot) -> Slot
-    requires first { IsSlotIn program.now.outline.classes a }
-    requires second { IsSlotIn program.now.outline.classes b }
-    ensures value { result ≡ join program.now.outline a b }
-    ensures within { IsSlotIn program.now.outline.classes result }
+    ensures { result ≡ join program.now.outline a b }
 {
     match (a, b) {
         (Slot::Int, Slot::Int) => Slot::Int,
@@ -42,10 +38,7 @@ pub fn join(program: &Program, a: Slot, b: Slot) -> Slot
 /// unless the types are equal. Takes no memory.
 #[tactic(auto, unfolding(crate::specs::Joins::join_type))]
 pub fn join_type(program: &Program, a: TypeRef, b: TypeRef) -> TypeRef
-    requires first { IsTypeIn program.now.outline.classes a }
-    requires second { IsTypeIn program.now.outline.classes b }
-    ensures value { result ≡ join_type program.now.outline.classes a b }
-    ensures within { IsTypeIn program.now.outline.classes result }
+    ensures { result ≡ join_type program.now.outline.classes a b }
 {
     if a == b {
         return a;
@@ -66,19 +59,24 @@ pub fn join_type(program: &Program, a: TypeRef, b: TypeRef) -> TypeRef
 
 // The nearest superclass of both, one of the two perhaps; Object where there is none.
 fn common_class(program: &Program, c: ClassId, d: ClassId) -> ClassId
-    requires first { c.0 < length program.now.outline.classes }
-    requires second { d.0 < length program.now.outline.classes }
-    ensures value { result.0 ≡ common_class program.now.outline.classes c.0 d.0 }
-    ensures within { result.0 < length program.now.outline.classes }
+    ensures { result.0 ≡ common_class program.now.outline.classes c.0 d.0 }
 {
+    let object = program.object();
+    if c.0 >= program.classes() {
+        return if is_in_chain(program, d, c) {
+            c
+        } else {
+            object
+        };
+    }
     let lower = program.display(c);
     let mut depth = lower.len();
     while depth > 0 {
         depth -= 1;
         let above = ClassId(lower[depth]);
-        if program.is_in_chain(d, above) {
+        if is_in_chain(program, d, above) {
             return above;
         }
     }
-    program.object()
+    object
 }

@@ -3,7 +3,7 @@
 ghost use Rattle.std.specs.Prelude.{◌≡◌};
 ghost use Rattle.fm_base.specs.declared.kinds.Base.TheVariants as base;
 ghost use Rattle.fm_types.specs.Example.{array, joined, of_number, program_with, typed_code, untyped_code};
-ghost use Rattle.fm_types.specs.Laws.{FitsIsReflexive, FitsIsTransitive, JoinIsLeast};
+ghost use Rattle.fm_types.specs.Laws.{FitsIsReflexive, FitsIsTransitive, JoinIsLeast, RowsKeepLongs, RowsKeepOrder};
 ghost use Rattle.fm_types.specs.Typed.{Typed};
 ghost use Rattle.fm_types.specs.declared.slots.Slot.TheVariants as slot;
 ghost use Rattle.fm_world.specs.Descriptors.{of_class};
@@ -18,6 +18,13 @@ pub fn law_fits()
 /// interface.
 pub fn law_join()
     ensures { JoinIsLeast }
+{}
+
+/// Each row of the instructions keeps the order of states: one that fits another one meets each row that
+/// the other meets, and is left with what fits. No row splits a long.
+pub fn law_rows()
+    ensures order { RowsKeepOrder }
+    ensures longs { RowsKeepLongs }
 {}
 
 /// Two methods that are written out by hand: one makes an object and keeps it, with a handler around,

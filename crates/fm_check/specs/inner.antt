@@ -1,0 +1,2 @@
+-- What serves the proofs alone: how code walks over a stack.
+pub mod Pieces
