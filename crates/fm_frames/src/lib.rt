@@ -1,0 +1,14 @@
+// The machine: what a state is, and what a step makes of it (JVMS 2.5, 2.6, 6.5).
+//
+// A step is an effect: data that a table gives for an instruction and what it sees of its operands, and
+// that names operands by their places and never a cell. One small function carries it out. So two machines
+// whose operands look alike do the same.
+#![tactic(auto)]
+
+mod ends;
+mod laws;
+mod values;
+
+pub use ends::Ended;
+pub use laws::{law_object_example, law_sum_example};
+pub use values::Value;
