@@ -1,0 +1,258 @@
+-- What each instruction takes off the stack, and which of the references that it takes, gives, loads and stores it joins.
+use Rattle.std.specs.Prelude.{ℕ, ◌+◌, Bool, true, false, List, [], ◌∷◌, length, Option, Some, None, if◌then◌else◌}
+use Rattle.fm_base.specs.declared.kinds.Kind.{Kind}
+use Rattle.fm_base.specs.declared.kinds.Kind.TheVariants as kind
+use Rattle.fm_code.specs.AccessFlags.{is_static}
+use Rattle.fm_code.specs.declared.instructions.Insn.{Insn}
+use Rattle.fm_code.specs.declared.instructions.Insn.TheVariants as insn
+use Rattle.fm_code.specs.declared.operations.Conv.{Conv}
+use Rattle.fm_code.specs.declared.operations.Conv.TheVariants as conv
+use Rattle.fm_code.specs.declared.operations.Elem.{Elem}
+use Rattle.fm_code.specs.declared.operations.Elem.TheVariants as elem
+use Rattle.fm_code.specs.declared.operations.Reg.{Reg}
+use Rattle.fm_code.specs.declared.operations.Reg.TheVariants as reg
+use Rattle.fm_types.specs.Moves.{Moves, moves_of}
+use Rattle.fm_world.specs.Descriptors.{argument_words, kind_words}
+use Rattle.fm_world.specs.Members.{field_at, field_kind, method_at}
+use Rattle.fm_world.specs.Programs.{Outline}
+use Rattle.fm_world.specs.declared.uses.Use.{Use}
+use Rattle.fm_world.specs.declared.uses.Use.TheVariants as resolved
+
+-- ---- fields and methods that an instruction names
+
+abbrev pub kind_of_field : Outline → ℕ → Kind
+kind_of_field o field = field_kind o.classes (field_at o.classes field).field
+
+abbrev pub is_reference_kind : Kind → Bool
+is_reference_kind (kind.Ref t) = true
+is_reference_kind kind.Boolean = false
+is_reference_kind kind.Byte = false
+is_reference_kind kind.Char = false
+is_reference_kind kind.Short = false
+is_reference_kind kind.Int = false
+is_reference_kind kind.Long = false
+
+-- the field, or the method, that a use is
+abbrev pub field_in : Use → Option ℕ
+field_in (resolved.OfField f t) = Some f.0
+field_in u = None
+
+abbrev pub method_in : Use → Option ℕ
+method_in (resolved.OfMethod m t) = Some m.0
+method_in u = None
+
+-- the words of a field's value
+abbrev pub field_words : Outline → Use → ℕ
+field_words o u = of_field (field_in u) where
+  of_field : Option ℕ → ℕ
+  of_field None = 0
+  of_field (Some f) = kind_words (kind_of_field o f)
+
+-- whether the field holds references
+abbrev pub is_reference_field : Outline → Use → Bool
+is_reference_field o u = of_field (field_in u) where
+  of_field : Option ℕ → Bool
+  of_field None = false
+  of_field (Some f) = is_reference_kind (kind_of_field o f)
+
+-- the words of a method's arguments, with its receiver
+abbrev pub words_of_call : Outline → ℕ → ℕ
+words_of_call o method =
+    let m = (method_at o.classes method).method in
+    (if is_static m.flags then 0 else 1) + argument_words o.classes m.descriptor
+
+abbrev pub call_words : Outline → Use → ℕ
+call_words o u = of_method (method_in u) where
+  of_method : Option ℕ → ℕ
+  of_method None = 0
+  of_method (Some m) = words_of_call o m
+
+-- ---- the words that are taken: those below them stay
+
+abbrev pub taken_to_store : Reg → ℕ
+taken_to_store reg.Int = 1
+taken_to_store reg.Long = 2
+taken_to_store reg.Ref = 1
+
+abbrev pub taken_to_convert : Conv → ℕ
+taken_to_convert conv.IntToLong = 1
+taken_to_convert conv.LongToInt = 2
+taken_to_convert conv.IntToByte = 1
+taken_to_convert conv.IntToChar = 1
+taken_to_convert conv.IntToShort = 1
+
+abbrev pub taken_to_put : Elem → ℕ
+taken_to_put elem.Long = 4
+taken_to_put elem.Boolean = 3
+taken_to_put elem.Byte = 3
+taken_to_put elem.Char = 3
+taken_to_put elem.Short = 3
+taken_to_put elem.Int = 3
+taken_to_put elem.Ref = 3
+
+abbrev pub taken_to_return : Option Reg → ℕ
+taken_to_return None = 0
+taken_to_return (Some r) = taken_to_store r
+
+abbrev pub taken_to_move : Option Moves → ℕ
+taken_to_move None = 0
+taken_to_move (Some m) = m.takes
+
+unfoldable pub words_taken : Outline → Use → Insn → ℕ
+words_taken o u insn.Nop = 0
+words_taken o u insn.Null = 0
+words_taken o u (insn.Const n) = 0
+words_taken o u (insn.LongConst n) = 0
+words_taken o u (insn.LoadPool index) = 0
+words_taken o u (insn.Load kind local) = 0
+words_taken o u (insn.Store kind local) = taken_to_store kind
+words_taken o u (insn.Inc local by) = 0
+words_taken o u insn.Pop = taken_to_move (moves_of insn.Pop)
+words_taken o u insn.Pop2 = taken_to_move (moves_of insn.Pop2)
+words_taken o u insn.Dup = taken_to_move (moves_of insn.Dup)
+words_taken o u insn.DupX1 = taken_to_move (moves_of insn.DupX1)
+words_taken o u insn.DupX2 = taken_to_move (moves_of insn.DupX2)
+words_taken o u insn.Dup2 = taken_to_move (moves_of insn.Dup2)
+words_taken o u insn.Dup2X1 = taken_to_move (moves_of insn.Dup2X1)
+words_taken o u insn.Dup2X2 = taken_to_move (moves_of insn.Dup2X2)
+words_taken o u insn.Swap = taken_to_move (moves_of insn.Swap)
+words_taken o u (insn.IntOp op) = 2
+words_taken o u (insn.LongOp op) = 4
+words_taken o u insn.IntNeg = 1
+words_taken o u insn.LongNeg = 2
+words_taken o u (insn.IntShift shift) = 2
+words_taken o u (insn.LongShift shift) = 3
+words_taken o u (insn.Convert to) = taken_to_convert to
+words_taken o u insn.LongCompare = 4
+words_taken o u (insn.IfInt test target) = 1
+words_taken o u (insn.IfPair test target) = 2
+words_taken o u (insn.IfSame same target) = 2
+words_taken o u (insn.IfNull null target) = 1
+words_taken o u (insn.Goto target) = 0
+words_taken o u (insn.Table low others targets) = 1
+words_taken o u (insn.Lookup others keys targets) = 1
+words_taken o u (insn.Return value) = taken_to_return value
+words_taken o u insn.Throw = 1
+words_taken o u (insn.New index) = 0
+words_taken o u (insn.GetStatic index) = 0
+words_taken o u (insn.PutStatic index) = field_words o u
+words_taken o u (insn.GetField index) = 1
+words_taken o u (insn.PutField index) = 1 + field_words o u
+words_taken o u (insn.Cast index) = 1
+words_taken o u (insn.IsA index) = 1
+words_taken o u (insn.ArrayLoad e) = 2
+words_taken o u (insn.ArrayStore e) = taken_to_put e
+words_taken o u insn.Length = 1
+words_taken o u (insn.NewArray e) = 1
+words_taken o u (insn.NewRefs index) = 1
+words_taken o u (insn.MultiArray index dimensions) = dimensions
+words_taken o u (insn.Virtual index) = call_words o u
+words_taken o u (insn.Interface index) = call_words o u
+words_taken o u (insn.Special index) = call_words o u
+words_taken o u (insn.Static index) = call_words o u
+words_taken o u (insn.LeftOut opcode) = 0
+
+-- ---- what is joined, but for calls
+
+-- a word that is taken, counted from the top; one that is given, by how many given words lie below it; a local; the result; static fields and
+-- thrown objects
+pub data Place : Type 0 where
+  Taken : ℕ → Place
+  Given : ℕ → Place
+  InLocal : ℕ → Place
+  AsResult : Place
+  Outside : Place
+
+-- each word that is moved with its copies
+abbrev pub moved_words : List ℕ → List (Place × Place)
+moved_words [] = []
+moved_words (place ∷ places) = (Taken place, Given (length places)) ∷ moved_words places
+
+abbrev pub joined_by_move : Option Moves → List (Place × Place)
+joined_by_move None = []
+joined_by_move (Some m) = moved_words m.gives
+
+abbrev pub joined_to_load : Reg → ℕ → List (Place × Place)
+joined_to_load reg.Int k = []
+joined_to_load reg.Long k = []
+joined_to_load reg.Ref k = (InLocal k, Given 0) ∷ []
+
+abbrev pub joined_to_store : Reg → ℕ → List (Place × Place)
+joined_to_store reg.Int k = []
+joined_to_store reg.Long k = []
+joined_to_store reg.Ref k = (Taken 0, InLocal k) ∷ []
+
+abbrev pub joined_to_return : Option Reg → List (Place × Place)
+joined_to_return (Some reg.Ref) = (Taken 0, AsResult) ∷ []
+joined_to_return (Some reg.Int) = []
+joined_to_return (Some reg.Long) = []
+joined_to_return None = []
+
+-- of an array of references
+abbrev pub of_references : Elem → List (Place × Place) → List (Place × Place)
+of_references elem.Ref places = places
+of_references elem.Boolean places = []
+of_references elem.Byte places = []
+of_references elem.Char places = []
+of_references elem.Short places = []
+of_references elem.Int places = []
+of_references elem.Long places = []
+
+abbrev pub of_reference_field : Outline → Use → List (Place × Place) → List (Place × Place)
+of_reference_field o u places = if is_reference_field o u then places else []
+
+-- an object with what is read from it or put into it; what static fields and throwing lead to is Outside; a new object is joined with nothing yet
+unfoldable pub joined_by : Outline → Use → Insn → List (Place × Place)
+joined_by o u insn.Pop = joined_by_move (moves_of insn.Pop)
+joined_by o u insn.Pop2 = joined_by_move (moves_of insn.Pop2)
+joined_by o u insn.Dup = joined_by_move (moves_of insn.Dup)
+joined_by o u insn.DupX1 = joined_by_move (moves_of insn.DupX1)
+joined_by o u insn.DupX2 = joined_by_move (moves_of insn.DupX2)
+joined_by o u insn.Dup2 = joined_by_move (moves_of insn.Dup2)
+joined_by o u insn.Dup2X1 = joined_by_move (moves_of insn.Dup2X1)
+joined_by o u insn.Dup2X2 = joined_by_move (moves_of insn.Dup2X2)
+joined_by o u insn.Swap = joined_by_move (moves_of insn.Swap)
+joined_by o u (insn.Load kind local) = joined_to_load kind local
+joined_by o u (insn.Store kind local) = joined_to_store kind local
+joined_by o u (insn.Cast index) = (Taken 0, Given 0) ∷ []
+joined_by o u (insn.GetField index) = of_reference_field o u ((Taken 0, Given 0) ∷ [])
+joined_by o u (insn.PutField index) = of_reference_field o u ((Taken 1, Taken 0) ∷ [])
+joined_by o u (insn.ArrayLoad e) = of_references e ((Taken 1, Given 0) ∷ [])
+joined_by o u (insn.ArrayStore e) = of_references e ((Taken 2, Taken 0) ∷ [])
+joined_by o u (insn.GetStatic index) = of_reference_field o u ((Given 0, Outside) ∷ [])
+joined_by o u (insn.PutStatic index) = of_reference_field o u ((Taken 0, Outside) ∷ [])
+joined_by o u insn.Throw = (Taken 0, Outside) ∷ []
+joined_by o u (insn.Return value) = joined_to_return value
+joined_by o u insn.Nop = []
+joined_by o u insn.Null = []
+joined_by o u (insn.Const n) = []
+joined_by o u (insn.LongConst n) = []
+joined_by o u (insn.LoadPool index) = []
+joined_by o u (insn.Inc local by) = []
+joined_by o u (insn.IntOp op) = []
+joined_by o u (insn.LongOp op) = []
+joined_by o u insn.IntNeg = []
+joined_by o u insn.LongNeg = []
+joined_by o u (insn.IntShift shift) = []
+joined_by o u (insn.LongShift shift) = []
+joined_by o u (insn.Convert to) = []
+joined_by o u insn.LongCompare = []
+joined_by o u (insn.IfInt test target) = []
+joined_by o u (insn.IfPair test target) = []
+joined_by o u (insn.IfSame same target) = []
+joined_by o u (insn.IfNull null target) = []
+joined_by o u (insn.Goto target) = []
+joined_by o u (insn.Table low others targets) = []
+joined_by o u (insn.Lookup others keys targets) = []
+joined_by o u (insn.New index) = []
+joined_by o u (insn.IsA index) = []
+joined_by o u insn.Length = []
+joined_by o u (insn.NewArray e) = []
+joined_by o u (insn.NewRefs index) = []
+joined_by o u (insn.MultiArray index dimensions) = []
+-- by what the methods that are called link
+joined_by o u (insn.Virtual index) = []
+joined_by o u (insn.Interface index) = []
+joined_by o u (insn.Special index) = []
+joined_by o u (insn.Static index) = []
+joined_by o u (insn.LeftOut opcode) = []
