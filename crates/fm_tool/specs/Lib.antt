@@ -1,4 +1,5 @@
 pub mod inner
+pub mod Encoding
 pub mod Line
 pub mod Outside
 pub mod Printed

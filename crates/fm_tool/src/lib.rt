@@ -5,6 +5,7 @@
 // had, and then nothing came out.
 #![tactic(auto)]
 
+mod encoding;
 mod line;
 mod printing;
 mod refusal;
@@ -13,6 +14,7 @@ pub mod status;
 mod tests;
 mod words;
 
+pub use encoding::modified;
 pub use line::put_line;
 pub use printing::printed;
 pub use refusal::Refusal;

@@ -23,6 +23,9 @@ pub const LIMIT: u8 = 68;
 /// A class has what isn't supported.
 pub const UNSUPPORTED: u8 = 69;
 
+/// The class files make no program.
+pub const LINK: u8 = 70;
+
 /// A file or a line couldn't be written.
 pub const WRITE: u8 = 75;
 
@@ -47,6 +50,7 @@ pub fn law_statuses()
     ensures version { VERSION ≡ 67 }
     ensures limit { LIMIT ≡ 68 }
     ensures unsupported { UNSUPPORTED ≡ 69 }
+    ensures link { LINK ≡ 70 }
     ensures write { WRITE ≡ 75 }
     ensures out_of_memory { OUT_OF_MEMORY ≡ 76 }
     ensures not_yet { NOT_YET ≡ 77 }

@@ -1,6 +1,6 @@
 // What no clause says: that lines can be had and put where there is memory, and the words of a process.
 
-use crate::{Refusal, command_words, printed, put_line};
+use crate::{Refusal, command_words, modified, printed, put_line};
 use fm_base::Name;
 use fm_files::MemSink;
 use std::env;
@@ -66,6 +66,24 @@ fn names_are_printed_as_their_characters(rt: HostRuntime) -> Result<(), Fail> {
     for (bytes, text) in rows {
         let name = Name::new(Vec::from_slice(alloc, bytes)?);
         assert_eq!(rt; printed(alloc, &name)?.as_str(), text);
+    }
+    Ok(())
+}
+
+#[test]
+fn texts_are_spelled_as_in_class_files(rt: HostRuntime) -> Result<(), Fail> {
+    let alloc = rt.alloc();
+    let rows = [
+        ("", b"".as_slice()),
+        ("p/Main", b"p/Main".as_slice()),
+        ("a\0b", b"a\xC0\x80b".as_slice()),
+        ("\u{7F}\u{80}\u{7FF}", b"\x7F\xC2\x80\xDF\xBF".as_slice()),
+        ("\u{800}\u{FFFF}", b"\xE0\xA0\x80\xEF\xBF\xBF".as_slice()),
+        ("\u{1F600}", b"\xED\xA0\xBD\xED\xB8\x80".as_slice()),
+    ];
+    for (text, bytes) in rows {
+        let name = modified(alloc, text)?;
+        assert_eq!(rt; name.as_slice(), bytes);
     }
     Ok(())
 }
