@@ -11,14 +11,18 @@ use Rattle.fm_tool.specs.Status.{ComesExactly}
 use Rattle.fm_tool.specs.declared.refusal.Refusal.TheVariants as refusal
 use Rattle.fm_tool.proofs.LineLemmas.{instead_for_file, instead_for_words, told_among, is_put, put_fails, told_of_file, told_of_words, comes_of_file, comes_of_words}
 use Rattle.fm_tool.proofs.OutsideLemmas.{no_fault_where_same, known_such}
-use Rattle.fm_tool.specs.declared.status.TheConstants.{DONE, WORDS, READ, MALFORMED, VERSION, LIMIT, UNSUPPORTED, WRITE, OUT_OF_MEMORY, NOT_YET}
+use Rattle.fm_tool.specs.declared.status.TheConstants.{DONE, WORDS, READ, MALFORMED, VERSION, LIMIT, UNSUPPORTED, LINK, WRITE, OUT_OF_MEMORY, NOT_YET}
 use Rattle.fm_code.specs.declared.class_file.ClassDef.{ClassDef}
+use Rattle.fm_refuse.specs.Refused.{refusal_of}
+use Rattle.fm_world.specs.Causes.{Refusal}
+use Rattle.fm_world.specs.Linking.{refusals}
 use Rattle.freeme.specs.Ahead.{IsBuilt, AreBuilt, IsFirstAhead}
 use Rattle.freeme.specs.ClassRefusal.{class_refusal_status}
-use Rattle.freeme.specs.Causes.{AskFor, FailsARead, FailsAWrite, IsMissing, HasTooMany, IsKnownLong, IsKnownRefused, IsKnownAhead, IsKnownPassed, SaysWords, SaysRead, SaysRefused, SaysLimit, SaysNotYet, SaysDone, SaysUnwritten, SaysWrite, SaysMemory, LacksLine, IsForWords, IsForRead, IsForBytes, IsForLimit, IsForNotYet, IsForDone, IsForWrite, IsForMemory, IsFaultless, KeepsContents, ChangesOnly}
-use Rattle.freeme.specs.Request.{Job, Asks, AskNothing}
+use Rattle.freeme.specs.Causes.{AskFor, FailsARead, FailsAWrite, IsMissing, HasTooMany, IsKnownLong, IsKnownRefused, IsKnownUnlinked, IsKnownAhead, IsKnownPassed, SaysWords, SaysRead, SaysRefused, SaysLimit, SaysLink, SaysNotYet, SaysDone, SaysUnwritten, SaysWrite, SaysMemory, LacksLine, IsForWords, IsForRead, IsForBytes, IsForLimit, IsForLink, IsForNotYet, IsForDone, IsForWrite, IsForMemory, IsFaultless, KeepsContents, ChangesOnly}
+use Rattle.freeme.specs.LinkRefusal.{cause_line}
+use Rattle.freeme.specs.Request.{Job, Asks, AskNothing, main_name}
 use Rattle.freeme.specs.Taking.{total_bytes, AllTaken, Reaches, IsTooLong, IsRefused}
-use Rattle.freeme.specs.TopCall.{StaysWithin, AreMany, IsUntouched, IsBroken, ComesTo, ComesOfJob, ComesOf, Outcome, outcome_line, outcome_status}
+use Rattle.freeme.specs.TopCall.{StaysWithin, AreMany, IsUntouched, IsBroken, AreRefused, IsNotLinked, ComesTo, ComesOfJob, ComesOf, Outcome, outcome_line, outcome_status}
 use Rattle.freeme.specs.declared.refusal.JobRefusal.TheVariants as job_refusal
 use Rattle.freeme.specs.Refusal.{many_line}
 use Rattle.freeme.specs.declared.class_refusal.ClassRefusal.{ClassRefusal}
@@ -50,6 +54,17 @@ module _ (words : List Bytes) (old new : Disk) (before after : Output) where
   read_said (Err (job_refusal.Shared (refusal.Read file))) j is line = record { job = j.job; asked = j.asked; file = file.now; unread = j.comes; line = line }
   read_said (Err (job_refusal.Class file r)) j is line = absurd (let c = class_status r in let low = c.low in let high = c.high in omega arith)
   read_said o j is line = absurd (omega arith)
+
+  -- 70
+  cause_said : (o : Outcome) (j : ComesOfJob words old new o) (cause : Option Refusal) → IsNotLinked j.job cause old new → after ≡ with_piece (cause_line cause) before → SaysLink words old new before after
+  cause_said o j None unlinked line = absurd unlinked.refused
+  cause_said o j (Some cause) unlinked line = record { job = j.job; asked = j.asked; cause = cause; unlinked = unlinked; line = line }
+
+  link_said : (o : Outcome) → ComesOfJob words old new o → outcome_status o ≡ LINK → after ≡ with_piece (outcome_line o) before → SaysLink words old new before after
+  link_said (Err (job_refusal.Link fail)) j is line = cause_said (Err (job_refusal.Link fail)) j (refusal_of fail) j.comes line
+  link_said (Err (job_refusal.Class file r)) j is line = absurd (let c = class_status r in let low = c.low in let high = c.high in omega arith)
+  link_said (Err (job_refusal.Shared refusal.Words)) j is line = absurd (omega arith)
+  link_said o j is line = absurd (omega arith)
 
   -- 77
   not_yet_said : (o : Outcome) → ComesOfJob words old new o → outcome_status o ≡ NOT_YET → after ≡ with_piece (outcome_line o) before → SaysNotYet words old new before after
@@ -108,6 +123,7 @@ job_fails job old new (Err (job_refusal.Shared refusal.OutOfMemory)) comes = ⊎
 job_fails job old new (Err (job_refusal.TooManyFiles count)) comes = inl (no_fault_where_same old new comes.kept)
 job_fails job old new (Err (job_refusal.TooLong file)) comes = inl comes.untouched.faultless
 job_fails job old new (Err (job_refusal.Class file r)) comes = inl comes.untouched.faultless
+job_fails job old new (Err (job_refusal.Link fail)) comes = inl comes.untouched.faultless
 job_fails job old new (Err (job_refusal.Write name)) comes = inr (inr (refl, comes.fails.fault.reads))
 
 pub fails_so : (words : List Bytes) (old new : Disk) (o : Outcome) → ComesOf words old new o → FailsSo old new (outcome_status o)
@@ -125,6 +141,7 @@ job_keeps job old new (Err (job_refusal.Shared refusal.OutOfMemory)) comes done 
 job_keeps job old new (Err (job_refusal.TooManyFiles count)) comes done write memory = ap (λ d. d.contents) comes.kept
 job_keeps job old new (Err (job_refusal.TooLong file)) comes done write memory = comes.untouched.kept
 job_keeps job old new (Err (job_refusal.Class file r)) comes done write memory = comes.untouched.kept
+job_keeps job old new (Err (job_refusal.Link fail)) comes done write memory = comes.untouched.kept
 job_keeps job old new (Err (job_refusal.Write name)) comes done write memory = absurd (write refl)
 
 keeps : (words : List Bytes) (old new : Disk) (o : Outcome) → ComesOf words old new o → outcome_status o ≢ DONE → outcome_status o ≢ WRITE → outcome_status o ≢ OUT_OF_MEMORY → new.contents ≡ old.contents
@@ -141,6 +158,10 @@ not_built classes place first built =
     let P : Option ClassDef → Type 0 = λ x. IfSome x (IsBuilt classes place) in
     found.2 (subst P found.1 (built place))
 
+-- a list that has a first refusal isn't empty
+not_empty : (rs : List Refusal) (cause : Refusal) → slice_get rs 0 ≡ Some cause → ¬ (rs ≡ [])
+not_empty rs cause first empty = let P : List Refusal → Type 0 = λ xs. slice_get xs 0 ≡ Some cause in let none = subst P empty first in cc
+
 module _ (job : Job) (old new : Disk) (held : Bytes → Option Bytes) (known : old.contents ≡ Some held) where
   reached : (file : Bytes) (before : List ClassDef) → Reaches old.contents job.files file before → Reaches (Some held) job.files file before
   reached file before = let P : Contents → Type 0 = λ c. Reaches c job.files file before in subst P known
@@ -149,7 +170,7 @@ module _ (job : Job) (old new : Disk) (held : Bytes → Option Bytes) (known : o
   all_taken classes = let P : Contents → Type 0 = λ c. AllTaken c job.files classes in subst P known
 
   -- a file that is too long or refused
-  long_stops : (file : Bytes) (before : List ClassDef) → Reaches (Some held) job.files file before → IsSomeAnd (held file) (IsTooLong (total_bytes before)) → Verdict held job.files LIMIT
+  long_stops : (file : Bytes) (before : List ClassDef) → Reaches (Some held) job.files file before → IsSomeAnd (held file) (IsTooLong (total_bytes before)) → Verdict held job.files (main_name job) LIMIT
   long_stops file before reaches long = inr (inl (record {
     file = file;
     before = before;
@@ -157,7 +178,7 @@ module _ (job : Job) (old new : Disk) (held : Bytes → Option Bytes) (known : o
     fails = inr (IsSomeAnd-weaker (held file) (IsTooLong (total_bytes before)) (FailsAs LIMIT (total_bytes before)) (λ bytes is. inl (is, refl)) long);
   }))
 
-  bytes_stop : (status : ℕ) (file : Bytes) (before : List ClassDef) (r : ClassRefusal) → class_refusal_status r ≡ status → Reaches (Some held) job.files file before → IsSomeAnd (held file) (IsRefused r (total_bytes before)) → Verdict held job.files status
+  bytes_stop : (status : ℕ) (file : Bytes) (before : List ClassDef) (r : ClassRefusal) → class_refusal_status r ≡ status → Reaches (Some held) job.files file before → IsSomeAnd (held file) (IsRefused r (total_bytes before)) → Verdict held job.files (main_name job) status
   bytes_stop status file before r is reaches refused = inr (inl (record {
     file = file;
     before = before;
@@ -167,24 +188,28 @@ module _ (job : Job) (old new : Disk) (held : Bytes → Option Bytes) (known : o
 
   -- the verdict of an outcome, unless it is for a fault or for memory
   abbrev Comes : ℕ → Type 0
-  Comes status = Verdict held job.files status ⊎ ((status ≡ READ) ⊎ ((status ≡ WRITE) ⊎ (status ≡ OUT_OF_MEMORY)))
+  Comes status = Verdict held job.files (main_name job) status ⊎ ((status ≡ READ) ⊎ ((status ≡ WRITE) ⊎ (status ≡ OUT_OF_MEMORY)))
 
   verdict_of : (o : Outcome) → ComesTo job old new o → Comes (outcome_status o)
-  verdict_of (Ok lines) comes = inl (inr (inr (record { classes = comes.classes; taken = all_taken comes.classes comes.passed.taken; last = inl (comes.passed.built, refl) })))
+  verdict_of (Ok lines) comes = inl (inr (inr (record { classes = comes.classes; taken = all_taken comes.classes comes.passed.linked.taken; last = inr (comes.passed.linked.linked, inl (comes.passed.built, refl)) })))
   verdict_of (Err (job_refusal.Shared refusal.Words)) comes = absurd comes
   verdict_of (Err (job_refusal.Shared (refusal.Read file))) comes = inr (inl refl)
-  verdict_of (Err (job_refusal.Shared (refusal.NotYet file))) comes = inl (inr (inr (record { classes = comes.classes; taken = all_taken comes.classes comes.taken; last = inr (not_built comes.classes comes.place comes.ahead, refl) })))
+  verdict_of (Err (job_refusal.Shared (refusal.NotYet file))) comes = inl (inr (inr (record { classes = comes.classes; taken = all_taken comes.classes comes.linked.taken; last = inr (comes.linked.linked, inr (not_built comes.classes comes.place comes.ahead, refl)) })))
   verdict_of (Err (job_refusal.Shared refusal.OutOfMemory)) comes = inr (inr (inr refl))
   verdict_of (Err (job_refusal.TooManyFiles count)) comes = let count = comes.count_is in let many = comes.many in inl (inl (omega arith, refl))
   verdict_of (Err (job_refusal.TooLong file)) comes = inl (long_stops file.now comes.before (reached file.now comes.before comes.reaches) (known_such old.contents held file.now (IsTooLong (total_bytes comes.before)) known comes.long))
   verdict_of (Err (job_refusal.Class file r)) comes = inl (bytes_stop (class_refusal_status r) file.now comes.before r refl (reached file.now comes.before comes.reaches) (known_such old.contents held file.now (IsRefused r (total_bytes comes.before)) known comes.refused))
+  verdict_of (Err (job_refusal.Link fail)) comes =
+      let found = Some-from_some_and (refusal_of fail) (AreRefused job old.contents) comes.refused in
+      let refused = found.2 in
+      inl (inr (inr (record { classes = refused.classes; taken = all_taken refused.classes refused.taken; last = inl (not_empty (refusals refused.classes (main_name job)) found.0 refused.first, refl) })))
   verdict_of (Err (job_refusal.Write name)) comes = inr (inr (inl refl))
 
   -- files of this verdict have its status, unless there was a fault or memory was lacking
-  status_of : (status : ℕ) (o : Outcome) → Verdict held job.files status → ComesTo job old new o → Contains (status ∷ instead_for_file) (outcome_status o)
+  status_of : (status : ℕ) (o : Outcome) → Verdict held job.files (main_name job) status → ComesTo job old new o → Contains (status ∷ instead_for_file) (outcome_status o)
   status_of status o verdict comes = go (verdict_of o comes) where
     go : Comes (outcome_status o) → Contains (status ∷ instead_for_file) (outcome_status o)
-    go (inl own) = (0, omega arith, one_verdict held job.files status (outcome_status o) verdict own)
+    go (inl own) = (0, omega arith, one_verdict held job.files (main_name job) status (outcome_status o) verdict own)
     go (inr (inl e)) = (1, omega arith, sym e)
     go (inr (inr (inl e))) = (2, omega arith, sym e)
     go (inr (inr (inr e))) = (3, omega arith, sym e)
@@ -193,14 +218,16 @@ module _ (job : Job) (old new : Disk) (held : Bytes → Option Bytes) (known : o
 
 -- too many files have one status, and memory may be lacking
 many_status : (job : Job) (old new : Disk) → HasTooMany job → (o : Outcome) → ComesTo job old new o → Contains (LIMIT ∷ instead_for_words) (outcome_status o)
-many_status job old new many (Ok lines) comes = absurd (let few = comes.passed.taken.few in omega arith)
+many_status job old new many (Ok lines) comes = absurd (let few = comes.passed.linked.taken.few in omega arith)
 many_status job old new many (Err (job_refusal.Shared refusal.Words)) comes = absurd comes
 many_status job old new many (Err (job_refusal.Shared (refusal.Read file))) comes = absurd (let few = comes.reaches.few in omega arith)
-many_status job old new many (Err (job_refusal.Shared (refusal.NotYet file))) comes = absurd (let few = comes.taken.few in omega arith)
+many_status job old new many (Err (job_refusal.Shared (refusal.NotYet file))) comes = absurd (let few = comes.linked.taken.few in omega arith)
 many_status job old new many (Err (job_refusal.Shared refusal.OutOfMemory)) comes = (2, omega arith, refl)
 many_status job old new many (Err (job_refusal.TooManyFiles count)) comes = (0, omega arith, refl)
 many_status job old new many (Err (job_refusal.TooLong file)) comes = (0, omega arith, refl)
 many_status job old new many (Err (job_refusal.Class file r)) comes = absurd (let few = comes.reaches.few in omega arith)
+many_status job old new many (Err (job_refusal.Link fail)) comes =
+    absurd (let found = Some-from_some_and (refusal_of fail) (AreRefused job old.contents) comes.refused in let few = found.2.taken.few in omega arith)
 many_status job old new many (Err (job_refusal.Write name)) comes = (1, omega arith, refl)
 
 -- a job isn't refused for its words
@@ -211,10 +238,10 @@ not_for_words job old new o comes is = omega arith
 
 -- the statuses at which nothing failed, and those at which contents are kept
 abbrev faultless_statuses : List ℕ
-faultless_statuses = DONE ∷ WORDS ∷ MALFORMED ∷ VERSION ∷ LIMIT ∷ UNSUPPORTED ∷ NOT_YET ∷ []
+faultless_statuses = DONE ∷ WORDS ∷ MALFORMED ∷ VERSION ∷ LIMIT ∷ UNSUPPORTED ∷ LINK ∷ NOT_YET ∷ []
 
 abbrev keeping_statuses : List ℕ
-keeping_statuses = WORDS ∷ READ ∷ MALFORMED ∷ VERSION ∷ LIMIT ∷ UNSUPPORTED ∷ NOT_YET ∷ []
+keeping_statuses = WORDS ∷ READ ∷ MALFORMED ∷ VERSION ∷ LIMIT ∷ UNSUPPORTED ∷ LINK ∷ NOT_YET ∷ []
 
 module _ (words : List Bytes) (old new : Disk) (o : Outcome) (comes : ComesOf words old new o) where
   -- the job that was asked for comes out so, or memory was lacking before
@@ -226,7 +253,7 @@ module _ (words : List Bytes) (old new : Disk) (o : Outcome) (comes : ComesOf wo
     go (inr (inr lacking)) = inr (ap outcome_status lacking.refused)
 
   -- a verdict of its files decides the status, unless there was a fault or memory was lacking
-  decided : (status : ℕ) (job : Job) (held : Bytes → Option Bytes) → old.contents ≡ Some held → Asks words job → Verdict held job.files status → Contains (status ∷ instead_for_file) (outcome_status o)
+  decided : (status : ℕ) (job : Job) (held : Bytes → Option Bytes) → old.contents ≡ Some held → Asks words job → Verdict held job.files (main_name job) status → Contains (status ∷ instead_for_file) (outcome_status o)
   decided status job held known asked verdict = ⊎_elim
       (λ (job_comes : ComesTo job old new o). status_of job old new held known status o verdict job_comes)
       (λ (lacking : outcome_status o ≡ OUT_OF_MEMORY). (3, omega arith, sym lacking))
@@ -261,8 +288,17 @@ module _ (words : List Bytes) (old new : Disk) (o : Outcome) (comes : ComesOf wo
       let found = Some-from_is_some old.contents cause.known in
       decided NOT_YET job found.0 found.1 asked (inr (inr (record {
         classes = cause.classes;
+        taken = all_taken job old new found.0 found.1 cause.classes cause.linked.taken;
+        last = inr (cause.linked.linked, inr (cause.ahead, refl));
+      })))
+
+  unlinked_decides : AskFor words (IsKnownUnlinked old) → Contains (LINK ∷ instead_for_file) (outcome_status o)
+  unlinked_decides (job, (asked, cause)) =
+      let found = Some-from_is_some old.contents cause.known in
+      decided LINK job found.0 found.1 asked (inr (inr (record {
+        classes = cause.classes;
         taken = all_taken job old new found.0 found.1 cause.classes cause.taken;
-        last = inr (cause.ahead, refl);
+        last = inl (cause.refused, refl);
       })))
 
   passed_decide : AskFor words (IsKnownPassed old) → Contains (DONE ∷ instead_for_file) (outcome_status o)
@@ -270,8 +306,8 @@ module _ (words : List Bytes) (old new : Disk) (o : Outcome) (comes : ComesOf wo
       let found = Some-from_is_some old.contents cause.known in
       decided DONE job found.0 found.1 asked (inr (inr (record {
         classes = cause.classes;
-        taken = all_taken job old new found.0 found.1 cause.classes cause.passed.taken;
-        last = inl (cause.passed.built, refl);
+        taken = all_taken job old new found.0 found.1 cause.classes cause.passed.linked.taken;
+        last = inr (cause.passed.linked.linked, inl (cause.passed.built, refl));
       })))
 
   many_decide : AskFor words HasTooMany → Contains (LIMIT ∷ instead_for_words) (outcome_status o)
@@ -338,6 +374,9 @@ module _ {words : List Bytes} {old new : Disk} {before after : Output} {result :
     long = λ cause. told_of_file (outcome_line o) (outcome_status o) before after result tells LIMIT (long_decides words old new o comes cause);
     bytes = λ cause. told_of_file (outcome_line o) (outcome_status o) before after result tells LIMIT (bytes_decide words old new o comes LIMIT cause);
   }
+
+  pub is_for_link : IsForLink words old new before after result
+  is_for_link = of_files LINK (λ e. omega arith) (λ e. omega arith) (λ e. omega arith) (link_said words old new before after o) (unlinked_decides words old new o comes)
 
   pub is_for_not_yet : IsForNotYet words old new before after result
   is_for_not_yet = of_files NOT_YET (λ e. omega arith) (λ e. omega arith) (λ e. omega arith) (not_yet_said words old new before after o) (ahead_decides words old new o comes)

@@ -1,5 +1,5 @@
 -- What a job leaves after its files are read, and after its classes are written.
-use Rattle.std.proofs.Common.{◌≡◌, ◌≢◌, ◌<◌, ◌≤◌, ℕ, ◌+◌, inr, ⊎_elim, List, [], ◌∷◌, length, map, take, Contains, Option, Some, None, IfSome, MatchOption, Bor, get_or, Result, Ok, Err, string_bytes, refl, sym, ap, ◌∙◌, subst, arith}
+use Rattle.std.proofs.Common.{◌≡◌, ◌≢◌, ◌<◌, ◌≤◌, ℕ, ◌+◌, inl, inr, ⊎_elim, List, [], ◌∷◌, length, map, take, Contains, Option, Some, None, IfSome, IsSomeAnd, MatchOption, Bor, get_or, Result, Ok, Err, string_bytes, refl, sym, ap, ◌∙◌, subst, arith}
 use Rattle.std.specs.List.{AllByRecursion, slice_get}
 use Rattle.std.proofs.lemmas.List.Elements.{All-contains, All-from_recursion}
 use Rattle.std.proofs.lemmas.List.{length-map}
@@ -8,16 +8,22 @@ use Rattle.fm_base.proofs.ListFacts.{AllByRecursion-weaker}
 use Rattle.fm_base.proofs.OptionFacts.{Some-from_some_and, IsSome-from_some}
 use Rattle.fm_base.proofs.TestFacts.{same_or_other}
 use Rattle.fm_files.specs.Files.{Bytes, Contents, Disk}
+use Rattle.fm_code.specs.ClassBytes.{class_bytes}
 use Rattle.fm_code.specs.ConstantPool.{class_name_at}
+use Rattle.fm_code.specs.Spells.{HasSpelling}
 use Rattle.fm_code.specs.declared.class_file.ClassDef.{ClassDef}
 use Rattle.fm_tool.specs.Outside.{HasWriteFault}
 use Rattle.fm_tool.specs.declared.refusal.Refusal.TheVariants as refusal
+use Rattle.fm_refuse.specs.Refused.{refusal_of}
+use Rattle.fm_world.specs.Causes.{Refusal}
+use Rattle.fm_world.specs.Linking.{refusals}
 use Rattle.freeme.specs.Ahead.{IsBuilt, AreBuilt, IsFirstAhead}
 use Rattle.freeme.specs.Changes.{RisesOnlyAt, ChangesOnlyAt}
-use Rattle.freeme.specs.Request.{Job, job_of}
+use Rattle.freeme.specs.Request.{Job, job_of, main_name}
 use Rattle.freeme.specs.Taking.{AreTaken}
-use Rattle.freeme.specs.TopCall.{StaysWithin, IsUntouched, IsNotYet, ArePassed, IsDone, ComesTo}
+use Rattle.freeme.specs.TopCall.{StaysWithin, IsUntouched, AreLinked, IsNotLinked, IsNotYet, ArePassed, IsDone, ComesTo}
 use Rattle.freeme.specs.Writing.{HasName, class_text, written_name, class_lines, IsClassFileIn, IsFileOf, AreWritten, AllWritten}
+use Rattle.freeme.specs.inner.Linking.{ComesOfLinks}
 use Rattle.freeme.specs.inner.Reading.{ReadsAll, AreRead}
 use Rattle.freeme.specs.inner.Writing.{IsSpelled, AreApart, KeepsReads, ComesOfClasses}
 use Rattle.freeme.specs.declared.refusal.JobRefusal.{JobRefusal}
@@ -42,6 +48,10 @@ have_names classes spelled = AllByRecursion-weaker IsSpelled HasName named class
   named : (c : ClassDef) → IsSpelled c → HasName c
   named c spells = let found = Some-from_some_and (class_name_at c.pool.entries c.this_class) _ spells.this_class in IsSome-from_some (class_name_at c.pool.entries c.this_class) found.0 found.1
 
+-- and so some bytes spell them
+pub have_spellings : (classes : List ClassDef) → AllByRecursion IsSpelled classes → AllByRecursion HasSpelling classes
+have_spellings classes spelled = AllByRecursion-weaker IsSpelled HasSpelling (λ c spells. (class_bytes c, spells)) classes spelled
+
 -- classes that are built have names of their own
 pub are_apart : (classes : List ClassDef) → AreBuilt classes → AreApart classes
 are_apart classes built place = at (slice_get classes place) (built place) where
@@ -62,14 +72,26 @@ has_file contents files classes place taken first =
 
 -- ---- after the files are read
 
-module _ (files : List Bytes) (old new : Disk) (classes : List ClassDef) (read : AreRead files classes old new) (all : ReadsAll files old new) where
+module _ (job : Job) (old new : Disk) (classes : List ClassDef) (read : AreRead job.files classes old new) (all : ReadsAll job.files old new) where
   -- nothing else was done
   pub read_untouched : IsUntouched old new
   read_untouched = record { faultless = read.faultless; kept = all.writes.contents }
 
+  -- they make no program
+  pub is_not_linked : (cause : Option Refusal) → IsSomeAnd cause (λ r. slice_get (refusals classes (main_name job)) 0 ≡ Some r) → IsNotLinked job cause old new
+  is_not_linked None first = absurd first
+  is_not_linked (Some r) first = record { refused = record { classes = classes; taken = read.taken; first = first }; untouched = read_untouched }
+
   -- a class isn't built
-  pub is_not_yet : (place : ℕ) (file : Bytes) → IsFirstAhead classes place → slice_get files place ≡ Some file → IsNotYet files file old new
-  is_not_yet place file first there = record { classes = classes; taken = read.taken; place = place; ahead = first; there = there; untouched = read_untouched }
+  pub is_not_yet : (place : ℕ) (file : Bytes) → refusals classes (main_name job) ≡ [] → IsFirstAhead classes place → slice_get job.files place ≡ Some file → IsNotYet job file old new
+  is_not_yet place file linked first there = record {
+    classes = classes;
+    linked = record { taken = read.taken; linked = linked };
+    place = place;
+    ahead = first;
+    there = there;
+    untouched = read_untouched;
+  }
 
 pub reads_within : (job : Job) (old new : Disk) → ReadsAll job.files old new → StaysWithin job old new
 reads_within job old new all = record {
@@ -137,9 +159,9 @@ module _ (job : Job) (old between new : Disk) (all : ReadsAll job.files old betw
     contents = let P : Contents → Type 0 = λ c. ChangesOnlyAt (IsClassFileIn job.folder) c new.contents in subst P same_contents writes.contents;
   }
 
-  module _ (classes : List ClassDef) (read : AreRead job.files classes old between) (built : AreBuilt classes) where
+  module _ (classes : List ClassDef) (read : AreRead job.files classes old between) (linked : refusals classes (main_name job) ≡ []) (built : AreBuilt classes) where
     passed : ArePassed job old.contents classes
-    passed = record { taken = read.taken; built = built }
+    passed = record { linked = record { taken = read.taken; linked = linked }; built = built }
 
     written : (begun done : List ClassDef) → AreWritten job.folder done begun between.contents new.contents → AreWritten job.folder done begun old.contents new.contents
     written begun done = let P : Contents → Type 0 = λ c. AreWritten job.folder done begun c new.contents in subst P same_contents
@@ -202,6 +224,15 @@ module _ {request : Request} {names : List (Bor Bytes)} {classes : List ClassDef
   pub named : AllByRecursion HasName classes
   named = have_names classes spelled
 
+  -- the classes make no program
+  pub ends_read : StaysWithin (job_of request) old between
+  ends_read = reads_within (job_of request) old between reads.all
+
+  pub ends_unlinked : (r : JobRefusal) → ComesOfLinks classes (main_name (job_of request)) (Err r) → ComesTo (job_of request) old between (Err r)
+  ends_unlinked (job_refusal.Link fail) now = is_not_linked (job_of request) old between classes reads.read reads.all (refusal_of fail) now
+  ends_unlinked (job_refusal.Shared refusal.OutOfMemory) now = inl (read_untouched (job_of request) old between classes reads.read reads.all)
+  ends_unlinked r now = absurd now
+
   -- the name of the first class that isn't built is there
   module _ {ahead : Option ℕ} (place : ℕ) (found : ahead ≡ Some place) (says : MatchOption ahead (AreBuilt classes) (IsFirstAhead classes)) where
     first : IsFirstAhead classes place
@@ -213,9 +244,9 @@ module _ {request : Request} {names : List (Bor Bytes)} {classes : List ClassDef
         let same : length names ≡ length (job_of request).files = sym (length-map names (λ n. n.now)) ∙ ap length reads.files_are in
         omega (arith, within, same)
 
-    pub ends_not_yet : (d : Bor Bytes) → IsNotYet (job_of request).files (get_or names place d).now old between
-    ends_not_yet d =
-        is_not_yet (job_of request).files old between classes reads.read reads.all place (get_or names place d).now first
+    pub ends_not_yet : (d : Bor Bytes) → refusals classes (main_name (job_of request)) ≡ [] → IsNotYet (job_of request) (get_or names place d).now old between
+    ends_not_yet d linked =
+        is_not_yet (job_of request) old between classes reads.read reads.all place (get_or names place d).now linked first
         (sym (ap (λ fs. slice_get fs place) reads.files_are) ∙ name_at names place d has_name)
 
   -- the classes are written, or a write didn't come off
@@ -223,12 +254,12 @@ module _ {request : Request} {names : List (Bor Bytes)} {classes : List ClassDef
     pub ends_within : (r : Result Unit JobRefusal) → ComesOfClasses request.folder.now classes between new r → StaysWithin (job_of request) old new
     ends_within r comes = writes_within (job_of request) old between new reads.all keeps (writes_in request.folder.now classes between new r comes)
 
-    module _ {ahead : Option ℕ} (none : ahead ≡ None) (says : MatchOption ahead (AreBuilt classes) (IsFirstAhead classes)) where
+    module _ {ahead : Option ℕ} (linked : refusals classes (main_name (job_of request)) ≡ []) (none : ahead ≡ None) (says : MatchOption ahead (AreBuilt classes) (IsFirstAhead classes)) where
       built : AreBuilt classes
       built = all_built classes none says
 
       pub ends_done : (lines : List ℕ) → lines ≡ class_lines classes → AllWritten request.folder.now classes between new → IsDone (job_of request) lines old new
-      ends_done lines is now = is_done (job_of request) old between new reads.all keeps classes reads.read built lines is now
+      ends_done lines is now = is_done (job_of request) old between new reads.all keeps classes reads.read linked built lines is now
 
       pub ends_unwritten : (r : JobRefusal) → ComesOfClasses request.folder.now classes between new (Err r) → ComesTo (job_of request) old new (Err r)
-      ends_unwritten r now = write_ended (job_of request) old between new reads.all keeps classes reads.read built r now
+      ends_unwritten r now = write_ended (job_of request) old between new reads.all keeps classes reads.read linked built r now

@@ -12,7 +12,8 @@ use Rattle.fm_code.specs.ClassBytes.{class_bytes}
 use Rattle.fm_code.specs.Spells.{Spells}
 use Rattle.fm_code.specs.declared.class_file.ClassDef.{ClassDef}
 use Rattle.fm_code.proofs.ClassLaw.{one_record}
-use Rattle.fm_tool.specs.declared.status.TheConstants.{DONE, READ, LIMIT, NOT_YET}
+use Rattle.fm_tool.specs.declared.status.TheConstants.{DONE, READ, LIMIT, LINK, NOT_YET}
+use Rattle.fm_world.specs.Linking.{refusals}
 use Rattle.freeme.specs.Ahead.{AreBuilt}
 use Rattle.freeme.specs.ClassRefusal.{class_refusal_status}
 use Rattle.freeme.specs.Taking.{IsTaken, AreTaken, total_bytes, AllTaken, Reaches, IsTooLong, IsRefused}
@@ -37,15 +38,23 @@ pub record Stops (held : Bytes → Option Bytes) (files : List Bytes) (status : 
   pub reaches : Reaches (Some held) files file before
   pub fails : Fails status (total_bytes before) (held file)
 
--- all files are taken, and all are built so far or not
-pub record Passes (held : Bytes → Option Bytes) (files : List Bytes) (status : ℕ) : Type 0 where
+-- classes that make a program are built so far or not
+abbrev pub Builds : List ClassDef → ℕ → Type 0
+Builds classes status = (AreBuilt classes × (status ≡ DONE)) ⊎ ((¬ AreBuilt classes) × (status ≡ NOT_YET))
+
+-- classes make no program with that main class, or they do
+abbrev pub Lasts : List ClassDef → List ℕ → ℕ → Type 0
+Lasts classes main status = ((¬ (refusals classes main ≡ [])) × (status ≡ LINK)) ⊎ ((refusals classes main ≡ []) × Builds classes status)
+
+-- all files are taken
+pub record Passes (held : Bytes → Option Bytes) (files : List Bytes) (main : List ℕ) (status : ℕ) : Type 0 where
   pub classes : List ClassDef
   pub taken : AllTaken (Some held) files classes
-  pub last : (AreBuilt classes × (status ≡ DONE)) ⊎ ((¬ AreBuilt classes) × (status ≡ NOT_YET))
+  pub last : Lasts classes main status
 
 -- what files come to, which begins with their number
-abbrev pub Verdict : (Bytes → Option Bytes) → List Bytes → ℕ → Type 0
-Verdict held files status = ((MAX_CLASS_FILES < length files) × (status ≡ LIMIT)) ⊎ (Stops held files status ⊎ Passes held files status)
+abbrev pub Verdict : (Bytes → Option Bytes) → List Bytes → List ℕ → ℕ → Type 0
+Verdict held files main status = ((MAX_CLASS_FILES < length files) × (status ≡ LIMIT)) ⊎ (Stops held files status ⊎ Passes held files main status)
 
 -- ---- one file
 
@@ -122,8 +131,8 @@ goes_on held files s n stops ds taken short within =
     taken_not_failing held stops.file found.0 (total_bytes stops.before) s found.2 (omega arith) stops.fails
 
 -- a call that stops doesn't pass
-not_both : (held : Bytes → Option Bytes) (files : List Bytes) (s t : ℕ) → Stops held files s → Passes held files t → ⊥
-not_both held files s t stops passes =
+not_both : (held : Bytes → Option Bytes) (files : List Bytes) (main : List ℕ) (s t : ℕ) → Stops held files s → Passes held files main t → ⊥
+not_both held files main s t stops passes =
     let all : take (length files) files ≡ files = take_all (length files) files (omega arith) in
     let P : List Bytes → Type 0 = λ fs. AreTaken (Some held) fs passes.classes in
     let number = same_number (Some held) files passes.classes passes.taken.taken in
@@ -149,8 +158,8 @@ one_stop held files s t p q = ⊎_elim
     (cases_lt (length p.before) (length q.before))
 
 -- a call passes in one way
-one_pass : (held : Bytes → Option Bytes) (files : List Bytes) (s t : ℕ) → Passes held files s → Passes held files t → s ≡ t
-one_pass held files s t p q = last p.last (subst Last classes q.last) where
+one_pass : (held : Bytes → Option Bytes) (files : List Bytes) (main : List ℕ) (s t : ℕ) → Passes held files main s → Passes held files main t → s ≡ t
+one_pass held files main s t p q = last p.last (subst Last classes q.last) where
   all : take (length files) files ≡ files
   all = take_all (length files) files (omega arith)
 
@@ -166,22 +175,28 @@ one_pass held files s t p q = last p.last (subst Last classes q.last) where
       ∙ begins held files (length files) (length files) p.classes q.classes (taken p.classes p.taken.taken) (taken q.classes q.taken.taken) (omega (arith, number))
 
   Last : List ClassDef → Type 0
-  Last cs = (AreBuilt cs × (t ≡ DONE)) ⊎ ((¬ AreBuilt cs) × (t ≡ NOT_YET))
+  Last cs = Lasts cs main t
 
-  last : (AreBuilt p.classes × (s ≡ DONE)) ⊎ ((¬ AreBuilt p.classes) × (s ≡ NOT_YET)) → Last p.classes → s ≡ t
+  builds : Builds p.classes s → Builds p.classes t → s ≡ t
+  builds (inl a) (inl b) = a.1 ∙ sym b.1
+  builds (inl a) (inr b) = absurd (b.0 a.0)
+  builds (inr a) (inl b) = absurd (a.0 b.0)
+  builds (inr a) (inr b) = a.1 ∙ sym b.1
+
+  last : Lasts p.classes main s → Lasts p.classes main t → s ≡ t
   last (inl a) (inl b) = a.1 ∙ sym b.1
-  last (inl a) (inr b) = absurd (b.0 a.0)
-  last (inr a) (inl b) = absurd (a.0 b.0)
-  last (inr a) (inr b) = a.1 ∙ sym b.1
+  last (inl a) (inr b) = absurd (a.0 b.0)
+  last (inr a) (inl b) = absurd (b.0 a.0)
+  last (inr a) (inr b) = builds a.1 b.1
 
 -- files come to one verdict
-pub one_verdict : (held : Bytes → Option Bytes) (files : List Bytes) (s t : ℕ) → Verdict held files s → Verdict held files t → s ≡ t
-one_verdict held files s t (inl p) (inl q) = p.1 ∙ sym q.1
-one_verdict held files s t (inl p) (inr (inl q)) = absurd (let many = p.0 in let few = q.reaches.few in omega arith)
-one_verdict held files s t (inl p) (inr (inr q)) = absurd (let many = p.0 in let few = q.taken.few in omega arith)
-one_verdict held files s t (inr (inl p)) (inl q) = absurd (let many = q.0 in let few = p.reaches.few in omega arith)
-one_verdict held files s t (inr (inr p)) (inl q) = absurd (let many = q.0 in let few = p.taken.few in omega arith)
-one_verdict held files s t (inr (inl p)) (inr (inl q)) = one_stop held files s t p q
-one_verdict held files s t (inr (inl p)) (inr (inr q)) = absurd (not_both held files s t p q)
-one_verdict held files s t (inr (inr p)) (inr (inl q)) = absurd (not_both held files t s q p)
-one_verdict held files s t (inr (inr p)) (inr (inr q)) = one_pass held files s t p q
+pub one_verdict : (held : Bytes → Option Bytes) (files : List Bytes) (main : List ℕ) (s t : ℕ) → Verdict held files main s → Verdict held files main t → s ≡ t
+one_verdict held files main s t (inl p) (inl q) = p.1 ∙ sym q.1
+one_verdict held files main s t (inl p) (inr (inl q)) = absurd (let many = p.0 in let few = q.reaches.few in omega arith)
+one_verdict held files main s t (inl p) (inr (inr q)) = absurd (let many = p.0 in let few = q.taken.few in omega arith)
+one_verdict held files main s t (inr (inl p)) (inl q) = absurd (let many = q.0 in let few = p.reaches.few in omega arith)
+one_verdict held files main s t (inr (inr p)) (inl q) = absurd (let many = q.0 in let few = p.taken.few in omega arith)
+one_verdict held files main s t (inr (inl p)) (inr (inl q)) = one_stop held files s t p q
+one_verdict held files main s t (inr (inl p)) (inr (inr q)) = absurd (not_both held files main s t p q)
+one_verdict held files main s t (inr (inr p)) (inr (inl q)) = absurd (not_both held files main t s q p)
+one_verdict held files main s t (inr (inr p)) (inr (inr q)) = one_pass held files main s t p q

@@ -1,5 +1,5 @@
 -- When each status comes, and what a call leaves then. All this follows from what a call does as a whole; a caller reads it one by one.
-use Rattle.std.specs.Prelude.{◌≡◌, ℕ, ◌<◌, ◌⊎◌, List, [], ◌∷◌, Contains, length, IsSome}
+use Rattle.std.specs.Prelude.{◌≡◌, ℕ, ◌<◌, ◌⊎◌, List, [], ◌∷◌, Contains, length, IsSome, Some}
 use Rattle.fm_base.specs.declared.limits.TheConstants.{MAX_CLASS_FILES}
 use Rattle.fm_files.specs.Files.{Bytes, Disk}
 use Rattle.fm_files.specs.Sink.{Output, FailsPut, with_piece}
@@ -7,19 +7,22 @@ use Rattle.fm_code.specs.declared.class_file.ClassDef.{ClassDef}
 use Rattle.fm_tool.specs.Outside.{HasNoFault, IsKnownSuch, IsKnownMissing}
 use Rattle.fm_tool.specs.Refusal.{words_line, read_line, not_yet_line, memory_line}
 use Rattle.fm_tool.specs.Status.{ComesExactly}
-use Rattle.fm_tool.specs.declared.status.TheConstants.{DONE, WORDS, READ, MALFORMED, VERSION, LIMIT, UNSUPPORTED, WRITE, OUT_OF_MEMORY, NOT_YET}
+use Rattle.fm_tool.specs.declared.status.TheConstants.{DONE, WORDS, READ, MALFORMED, VERSION, LIMIT, UNSUPPORTED, LINK, WRITE, OUT_OF_MEMORY, NOT_YET}
+use Rattle.fm_world.specs.Causes.{Refusal}
+use Rattle.fm_world.specs.Linking.{refusals}
 use Rattle.freeme.specs.Ahead.{AreBuilt}
 use Rattle.freeme.specs.ClassRefusal.{class_refusal_line, class_refusal_status}
+use Rattle.freeme.specs.LinkRefusal.{link_line}
 use Rattle.freeme.specs.Refusal.{many_line, long_line, write_line}
-use Rattle.freeme.specs.Request.{Job, Asks, AskNothing}
+use Rattle.freeme.specs.Request.{Job, Asks, AskNothing, main_name}
 use Rattle.freeme.specs.Taking.{total_bytes, AllTaken, Reaches, IsTooLong, IsRefused}
-use Rattle.freeme.specs.TopCall.{StaysWithin, IsUntouched, ArePassed, IsDone, IsUnwritten, IsBroken, AreMany, IsUnread, IsLong, IsRefusedFile, IsNotYet, Outcome, ComesOf, outcome_line}
+use Rattle.freeme.specs.TopCall.{StaysWithin, IsUntouched, ArePassed, IsDone, IsUnwritten, IsBroken, AreMany, IsUnread, IsLong, IsRefusedFile, IsNotLinked, AreLinked, IsNotYet, Outcome, ComesOf, outcome_line}
 use Rattle.freeme.specs.declared.class_refusal.ClassRefusal.{ClassRefusal}
 
 -- there is no other status
 abbrev pub IsStatus : ℕ → Type 0
 IsStatus result =
-    Contains (DONE ∷ WORDS ∷ READ ∷ MALFORMED ∷ VERSION ∷ LIMIT ∷ UNSUPPORTED ∷ WRITE ∷ OUT_OF_MEMORY ∷ NOT_YET ∷ []) result
+    Contains (DONE ∷ WORDS ∷ READ ∷ MALFORMED ∷ VERSION ∷ LIMIT ∷ UNSUPPORTED ∷ LINK ∷ WRITE ∷ OUT_OF_MEMORY ∷ NOT_YET ∷ []) result
 
 -- the words ask for a job such as this
 abbrev pub AskFor : List Bytes → (Job → Type 0) → Type 0
@@ -131,22 +134,44 @@ pub record IsForLimit (words : List Bytes) (old new : Disk) (before after : Outp
   pub long : AskFor words (IsKnownLong old) → Contains (LIMIT ∷ READ ∷ WRITE ∷ OUT_OF_MEMORY ∷ []) result
   pub bytes : AskFor words (IsKnownRefused LIMIT old) → Contains (LIMIT ∷ READ ∷ WRITE ∷ OUT_OF_MEMORY ∷ []) result
 
+-- ---- 70
+
+-- all files of the job are taken, their classes make no program, nothing failed, no contents changed, and the sink got one line, of the first cause
+pub record SaysLink (words : List Bytes) (old new : Disk) (before after : Output) : Type 0 where
+  pub job : Job
+  pub asked : Asks words job
+  pub cause : Refusal
+  pub unlinked : IsNotLinked job (Some cause) old new
+  pub line : after ≡ with_piece (link_line cause) before
+
+-- contents are known, all files of the job are taken, and their classes make no program
+pub record IsKnownUnlinked (old : Disk) (job : Job) : Type 0 where
+  pub known : IsSome old.contents
+  pub classes : List ClassDef
+  pub taken : AllTaken old.contents job.files classes
+  pub refused : ¬ (refusals classes (main_name job) ≡ [])
+
+-- exactly there, unless a read or the put fails or memory can't be had
+abbrev pub IsForLink : List Bytes → Disk → Disk → Output → Output → ℕ → Type 0
+IsForLink words old new before after result =
+    ComesExactly LINK (READ ∷ WRITE ∷ OUT_OF_MEMORY ∷ []) result (SaysLink words old new before after) (AskFor words (IsKnownUnlinked old))
+
 -- ---- 77
 
--- all files of the job are taken, the class of one is the first that isn't built so far, nothing failed, no contents changed, and the sink got one
--- line
+-- all files of the job are taken, their classes make a program, the class of one is the first that isn't built so far, nothing failed, no contents
+-- changed, and the sink got one line
 pub record SaysNotYet (words : List Bytes) (old new : Disk) (before after : Output) : Type 0 where
   pub job : Job
   pub asked : Asks words job
   pub file : Bytes
-  pub ahead : IsNotYet job.files file old new
+  pub ahead : IsNotYet job file old new
   pub line : after ≡ with_piece (not_yet_line file) before
 
--- contents are known, all files of the job are taken, and a class isn't built so far
+-- contents are known, all files of the job are taken, their classes make a program, and one isn't built so far
 pub record IsKnownAhead (old : Disk) (job : Job) : Type 0 where
   pub known : IsSome old.contents
   pub classes : List ClassDef
-  pub taken : AllTaken old.contents job.files classes
+  pub linked : AreLinked job old.contents classes
   pub ahead : ¬ AreBuilt classes
 
 -- exactly there, unless a read or the put fails or memory can't be had
@@ -156,8 +181,8 @@ IsForNotYet words old new before after result =
 
 -- ---- 0
 
--- all files of the job are taken, their classes are built and written, nothing failed, every other name is as before, and the sink got their lines
--- as one piece
+-- all files of the job are taken, their classes make a program, are built and written, nothing failed, every other name is as before, and the sink
+-- got their lines as one piece
 pub record SaysDone (words : List Bytes) (old new : Disk) (before after : Output) : Type 0 where
   pub job : Job
   pub asked : Asks words job
@@ -165,7 +190,7 @@ pub record SaysDone (words : List Bytes) (old new : Disk) (before after : Output
   pub done : IsDone job lines old new
   pub line : after ≡ with_piece lines before
 
--- contents are known, all files of the job are taken, and their classes are built so far
+-- contents are known, all files of the job are taken, and their classes make a program and are built so far
 pub record IsKnownPassed (old : Disk) (job : Job) : Type 0 where
   pub known : IsSome old.contents
   pub classes : List ClassDef
@@ -228,12 +253,12 @@ IsForMemory words old new before after result = result ≡ OUT_OF_MEMORY → Say
 -- at a status that isn't for a fault or for memory, no count of faults rose in this call
 abbrev pub IsFaultless : Disk → Disk → Output → Output → ℕ → Type 0
 IsFaultless old new before after result =
-    Contains (DONE ∷ WORDS ∷ MALFORMED ∷ VERSION ∷ LIMIT ∷ UNSUPPORTED ∷ NOT_YET ∷ []) result → HasNoFault old new × (after.faults ≡ before.faults)
+    Contains (DONE ∷ WORDS ∷ MALFORMED ∷ VERSION ∷ LIMIT ∷ UNSUPPORTED ∷ LINK ∷ NOT_YET ∷ []) result → HasNoFault old new × (after.faults ≡ before.faults)
 
 -- a refusal before the first write leaves all contents as they were
 abbrev pub KeepsContents : Disk → Disk → ℕ → Type 0
 KeepsContents old new result =
-    Contains (WORDS ∷ READ ∷ MALFORMED ∷ VERSION ∷ LIMIT ∷ UNSUPPORTED ∷ NOT_YET ∷ []) result → new.contents ≡ old.contents
+    Contains (WORDS ∷ READ ∷ MALFORMED ∷ VERSION ∷ LIMIT ∷ UNSUPPORTED ∷ LINK ∷ NOT_YET ∷ []) result → new.contents ≡ old.contents
 
 -- a job reads its files alone and changes no name but those of class files in its folder, and words that ask for nothing leave the files as they were
 pub record ChangesOnly (words : List Bytes) (old new : Disk) : Type 0 where

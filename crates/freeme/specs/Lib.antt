@@ -2,6 +2,7 @@ pub mod inner
 pub mod Request
 pub mod Changes
 pub mod ClassRefusal
+pub mod LinkRefusal
 pub mod Refusal
 pub mod Taking
 pub mod Ahead

@@ -2,8 +2,9 @@
 use Rattle.std.specs.Prelude.{ℕ, List, [], ◌∷◌, ◌++◌, codes, string_bytes}
 use Rattle.std.specs.Fmt.{decimal}
 use Rattle.fm_tool.specs.Refusal.{refusal_line as shared_line, refusal_status as shared_status}
-use Rattle.fm_tool.specs.declared.status.TheConstants.{LIMIT, WRITE}
+use Rattle.fm_tool.specs.declared.status.TheConstants.{LIMIT, LINK, WRITE}
 use Rattle.freeme.specs.ClassRefusal.{class_refusal_line, class_refusal_status}
+use Rattle.freeme.specs.LinkRefusal.{link_fail_line}
 use Rattle.freeme.specs.declared.refusal.JobRefusal.{JobRefusal}
 use Rattle.freeme.specs.declared.refusal.JobRefusal.TheVariants as job_refusal
 
@@ -25,6 +26,7 @@ refusal_line (job_refusal.Shared refusal) = shared_line refusal
 refusal_line (job_refusal.TooManyFiles count) = many_line count
 refusal_line (job_refusal.TooLong file) = long_line file.now
 refusal_line (job_refusal.Class file refusal) = class_refusal_line file.now refusal
+refusal_line (job_refusal.Link fail) = link_fail_line fail
 refusal_line (job_refusal.Write name) = write_line (string_bytes name)
 
 -- the status of a refusal
@@ -33,4 +35,5 @@ refusal_status (job_refusal.Shared refusal) = shared_status refusal
 refusal_status (job_refusal.TooManyFiles count) = LIMIT
 refusal_status (job_refusal.TooLong file) = LIMIT
 refusal_status (job_refusal.Class file refusal) = class_refusal_status refusal
+refusal_status (job_refusal.Link fail) = LINK
 refusal_status (job_refusal.Write name) = WRITE

@@ -5,6 +5,7 @@ use Rattle.clap.specs.Lexer.{usize_max}
 use Rattle.clap.specs.Words.{App, Kinds, Row, Rule, all_of, fault_of, first_of, matches_of, new_app, new_rule, with_rule}
 use Rattle.clap.specs.Simple.{Shape, on_top}
 use Rattle.fm_base.specs.declared.limits.TheConstants.{MAX_COMMAND_LINE_VALUE_BYTES}
+use Rattle.fm_tool.specs.Encoding.{modified}
 use Rattle.freeme.specs.declared.request.Request.{Request}
 
 -- the folder to write into, the main class, and the files to read in order
@@ -12,6 +13,10 @@ pub record Job : Type 0 where
   pub folder : List ℕ
   pub main : List ℕ
   pub files : List (List ℕ)
+
+-- the main class as class files spell it
+abbrev pub main_name : Job → List ℕ
+main_name job = modified job.main
 
 -- an option that has to be given, once, with a value, as `--out DIR`
 abbrev pub option_rule : List ℕ → Rule

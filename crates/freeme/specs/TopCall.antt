@@ -1,18 +1,21 @@
 -- What one call of the program does to the files and to the sink.
 use Rattle.std.specs.declared.alloc.Global.{Global}
-use Rattle.std.specs.Prelude.{◌≡◌, ℕ, ◌<◌, ◌⊎◌, List, length, Contains, Result, Ok, Err, Some, slice_get, String, string_bytes}
+use Rattle.std.specs.Prelude.{◌≡◌, ℕ, ◌<◌, ◌⊎◌, List, [], length, Contains, Result, Ok, Err, Option, Some, IsSomeAnd, slice_get, String, string_bytes}
 use Rattle.fm_base.specs.declared.limits.TheConstants.{MAX_CLASS_FILES}
 use Rattle.fm_files.specs.Files.{Bytes, Contents, Disk}
 use Rattle.fm_files.specs.Sink.{Output}
 use Rattle.fm_code.specs.declared.class_file.ClassDef.{ClassDef}
+use Rattle.fm_refuse.specs.Refused.{refusal_of}
 use Rattle.fm_tool.specs.Line.{Tells}
 use Rattle.fm_tool.specs.Outside.{HasNoFault, HasReadFault, HoldsSuch}
 use Rattle.fm_tool.specs.declared.refusal.Refusal.TheVariants as refusal
 use Rattle.fm_tool.specs.declared.status.TheConstants.{DONE}
+use Rattle.fm_world.specs.Causes.{Refusal}
+use Rattle.fm_world.specs.Linking.{refusals}
 use Rattle.freeme.specs.Ahead.{AreBuilt, IsFirstAhead}
 use Rattle.freeme.specs.Changes.{RisesOnlyAt, ChangesOnlyAt, ReadsOnly}
 use Rattle.freeme.specs.Refusal.{refusal_line, refusal_status}
-use Rattle.freeme.specs.Request.{Job, Asks, AskNothing}
+use Rattle.freeme.specs.Request.{Job, Asks, AskNothing, main_name}
 use Rattle.freeme.specs.Taking.{total_bytes, AllTaken, Reaches, IsTooLong, IsRefused, IsSeenTooLong}
 use Rattle.freeme.specs.Writing.{IsClassFileIn, class_lines, AllWritten, SomeWritten, FailsToWrite}
 use Rattle.freeme.specs.declared.class_refusal.ClassRefusal.{ClassRefusal}
@@ -62,20 +65,36 @@ pub record IsRefusedFile (files : List Bytes) (file : Bytes) (refusal : ClassRef
   pub refused : HoldsSuch old.contents file (IsRefused refusal (total_bytes before))
   pub untouched : IsUntouched old new
 
--- all are taken, and the class of this file is the first that isn't built so far
-pub record IsNotYet (files : List Bytes) (file : Bytes) (old new : Disk) : Type 0 where
-  pub classes : List ClassDef
-  pub taken : AllTaken old.contents files classes
-  pub place : ℕ
-  pub ahead : IsFirstAhead classes place
-  pub there : slice_get files place ≡ Some file
-  pub untouched : IsUntouched old new
-
 -- ---- how a job comes out
 
--- all of its files are taken, and their classes are built so far
-pub record ArePassed (job : Job) (contents : Contents) (classes : List ClassDef) : Type 0 where
+-- all of its files are taken, and their classes make a program with the main class of the job
+pub record AreLinked (job : Job) (contents : Contents) (classes : List ClassDef) : Type 0 where
   pub taken : AllTaken contents job.files classes
+  pub linked : refusals classes (main_name job) ≡ []
+
+-- all of its files are taken, and their classes make no program, of which this is the first cause
+pub record AreRefused (job : Job) (contents : Contents) (cause : Refusal) : Type 0 where
+  pub classes : List ClassDef
+  pub taken : AllTaken contents job.files classes
+  pub first : slice_get (refusals classes (main_name job)) 0 ≡ Some cause
+
+-- this is the first cause for which they make no program
+pub record IsNotLinked (job : Job) (cause : Option Refusal) (old new : Disk) : Type 0 where
+  pub refused : IsSomeAnd cause (AreRefused job old.contents)
+  pub untouched : IsUntouched old new
+
+-- they make a program, and the class of this file is the first that isn't built so far
+pub record IsNotYet (job : Job) (file : Bytes) (old new : Disk) : Type 0 where
+  pub classes : List ClassDef
+  pub linked : AreLinked job old.contents classes
+  pub place : ℕ
+  pub ahead : IsFirstAhead classes place
+  pub there : slice_get job.files place ≡ Some file
+  pub untouched : IsUntouched old new
+
+-- they make a program, and are built so far
+pub record ArePassed (job : Job) (contents : Contents) (classes : List ClassDef) : Type 0 where
+  pub linked : AreLinked job contents classes
   pub built : AreBuilt classes
 
 -- their classes are written, and these are their lines
@@ -109,7 +128,8 @@ ComesTo job old new (Err (job_refusal.TooManyFiles count)) = AreMany job.files c
 ComesTo job old new (Err (job_refusal.TooLong file)) = IsLong job.files file.now old new
 ComesTo job old new (Err (job_refusal.Class file refusal)) = IsRefusedFile job.files file.now refusal old new
 ComesTo job old new (Err (job_refusal.Shared (refusal.Read file))) = IsUnread job.files file.now old new
-ComesTo job old new (Err (job_refusal.Shared (refusal.NotYet file))) = IsNotYet job.files file.now old new
+ComesTo job old new (Err (job_refusal.Link fail)) = IsNotLinked job (refusal_of fail) old new
+ComesTo job old new (Err (job_refusal.Shared (refusal.NotYet file))) = IsNotYet job file.now old new
 ComesTo job old new (Err (job_refusal.Shared refusal.OutOfMemory)) = IsUntouched old new ⊎ IsBroken job old new
 ComesTo job old new (Err (job_refusal.Shared refusal.Words)) = ⊥
 

@@ -1,6 +1,7 @@
 // freeme: reads the class files of a program, and writes them again.
 //
-// So far it writes each class as it was read, and refuses those in which an object could be freed.
+// So far it judges whether they are one program, writes each class as it was read, and refuses those in
+// which an object could be freed.
 // `freeme_run` is the program over files and sinks of any kind, and carries its theorem; `main` hands it
 // the words of the command line, the files of the system and standard output.
 #![tactic(auto)]
@@ -8,6 +9,8 @@
 mod ahead;
 mod class_refusal;
 mod judging;
+mod link_refusal;
+mod linking;
 mod reading;
 mod refusal;
 mod request;

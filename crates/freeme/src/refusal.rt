@@ -6,7 +6,9 @@ ghost use Rattle.freeme.specs.Refusal.{refusal_line, refusal_status};
 ghost use Rattle.freeme.specs.declared.refusal.JobRefusal.TheVariants as job_refusal;
 
 use crate::class_refusal::ClassRefusal;
+use crate::link_refusal::link_line;
 use fm_base::NoMemory;
+use fm_refuse::LinkFail;
 use fm_tool::{Refusal, status};
 use std::alloc::{AllocError, AllocFailed, Global};
 
@@ -21,6 +23,8 @@ pub enum JobRefusal<'a> {
     TooLong(&'a str),
     /// This class file is refused by its bytes.
     Class(&'a str, ClassRefusal),
+    /// The classes make no program; want of memory is never told so.
+    Link(LinkFail),
     /// The file of this name couldn't be written.
     Write(String),
 }
@@ -37,6 +41,7 @@ impl JobRefusal<'_> {
             }
             JobRefusal::TooLong(file) => Ok(format!(in alloc; "refused: limit length {file}\n")?),
             JobRefusal::Class(file, refusal) => refusal.line(alloc, file),
+            JobRefusal::Link(fail) => link_line(alloc, fail),
             JobRefusal::Write(name) => Ok(format!(in alloc; "refused: write {name}\n")?),
         }
     }
@@ -49,6 +54,7 @@ impl JobRefusal<'_> {
             JobRefusal::Shared(refusal) => refusal.status(),
             JobRefusal::TooManyFiles(_) | JobRefusal::TooLong(_) => status::LIMIT,
             JobRefusal::Class(_, refusal) => refusal.status(),
+            JobRefusal::Link(_) => status::LINK,
             JobRefusal::Write(_) => status::WRITE,
         }
     }

@@ -2,6 +2,7 @@
 
 mod changes;
 mod lengths;
+mod linking;
 mod malformed;
 mod refused;
 mod taken;
@@ -191,8 +192,8 @@ fn a_file_that_fails_or_is_missing_ends_the_call(rt: HostRuntime) -> Result<(), 
 fn a_class_of_an_earlier_name_is_not_written(rt: HostRuntime) -> Result<(), Fail> {
     let call = Call {
         files: &[("A.class", A), ("B.class", A), ("M.class", M)],
-        status: 77,
-        lines: "refused: not-yet B.class\n",
+        status: 70,
+        lines: "refused: link duplicate A in A\n",
         after: &[],
         ..THREE
     };

@@ -60,7 +60,15 @@ fn a_file_is_taken_up_to_its_limit(rt: HostRuntime) -> Result<(), Fail> {
 fn files_are_taken_up_to_the_limit_of_all(rt: HostRuntime) -> Result<(), Fail> {
     let words = "--out d --main A A.class B.class";
     let both = [("A.class", 8_388_608), ("B.class", 8_388_608)];
-    assert!(rt; is_answered(rt.alloc(), &both, words, 77, "refused: not-yet B.class\n")?);
+    assert!(rt;
+        is_answered(
+            rt.alloc(),
+            &both,
+            words,
+            70,
+            "refused: link duplicate A in A\n"
+        )?
+    );
     let words = "--out d --main A A.class B.class M.class";
     let three = [
         ("A.class", 8_388_608),

@@ -5,7 +5,7 @@ use crate::tests::changes::{
     Change, LongChange, first_other_part, is_answered, is_change_answered, is_long_change_answered,
 };
 use fm_base::NoMemory;
-use fm_samples::EVERY_PART;
+use fm_samples::{ClassSample, EVERY_PART, MAIN, MethodSample, RETURNS};
 use std::alloc::Global;
 use std::test::Fail;
 
@@ -85,13 +85,34 @@ const HANDLERS: LongChange = (
     b"",
 );
 
-const NOT_YET: [Change; 5] = [
+const NOT_YET: [Change; 4] = [
     (b"\x01\xc0\0\x20", b"\xbb\0\x04\0"), // an object is made
     (b"\x12\x17\x57", b"\xbc\x0a\x57"), // an array of ints
     (b"\x01\xc0\0\x20", b"\x03\xbd\0\x20"), // an array of references
     (b"\xb9\0\x0d\x01\0", b"\xc5\0\x20\x01\0"), // an array of arrays
-    (b"\x0c\0\x0a\0\x0b", b"\x0c\0\x0a\0\x27"), // a method is called that gives a reference
 ];
+
+// Main calls a method that gives a reference.
+const GIVES_TEXT: ClassSample<'static> = ClassSample {
+    pool_count: b"\0\x0c",
+    more_pool: &[
+        b"\x01\0\x08toString", // 8
+        b"\x01\0\x14()Ljava/lang/String;", // 9
+        b"\x0c\0\x08\0\x09", // 10: NameAndType 8 9
+        b"\x0a\0\x04\0\x0a", // 11: Methodref 4 10
+    ],
+    methods: &[MethodSample {
+        attribute_length: b"\0\0\0\x12",
+        max_stack: b"\0\x01",
+        code_length: b"\0\0\0\x06",
+        code: &[
+            b"\x01\xb6\0\x0b\x57", // 0: null.toString(), which throws
+            b"\xb1", // 5: return
+        ],
+        ..MAIN
+    }],
+    ..RETURNS
+};
 
 // The place of the first row that isn't refused with this status, by a line of this start.
 fn first_other(
@@ -149,6 +170,8 @@ fn what_is_not_supported_or_built_is_refused(rt: HostRuntime) -> Result<(), Fail
         first_other_part(alloc, &NOT_YET, 77, "refused: not-yet M.class\n")?,
         None
     );
+    let class = GIVES_TEXT.bytes(alloc)?;
+    assert!(rt; is_answered(alloc, class.as_slice(), 77, "refused: not-yet M.class\n")?);
     Ok(())
 }
 
