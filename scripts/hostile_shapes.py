@@ -169,4 +169,5 @@ def main():
             file.write(shape())
 
 
-main()
+if __name__ == "__main__":
+    main()
