@@ -1,0 +1,5 @@
+pub mod WordLemmas
+pub mod PieceLemmas
+pub mod MarkLemmas
+pub mod NameLemmas
+pub mod OwnerLemmas
