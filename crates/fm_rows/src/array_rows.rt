@@ -1,9 +1,9 @@
 // The rows of arrays (JVMS 6.5.aaload and its like, 6.5.arraylength, 6.5.newarray and its like).
 
-ghost use Rattle.std.specs.Prelude.{◌≡◌, ◌-◌, ◌++◌, IfOk, None, Some, [], ◌∷◌, if◌then◌else◌, nat_lt};
+ghost use Rattle.std.specs.Prelude.{◌≡◌, ◌-◌, ◌++◌, IfOk, None, Some, [], ◌∷◌, if◌then◌else◌, nat_lt, replicate, reverse};
 ghost use Rattle.std.specs.Option.{option_map};
 ghost use Rattle.fm_rows.specs.Outcomes.{outcome};
-ghost use Rattle.fm_types.specs.ArrayRows.{array_load_row, array_store_row, element_of, has_letter, is_array_of, length_row, new_array_row, new_references_row, null_element, on_array, stored_element};
+ghost use Rattle.fm_types.specs.ArrayRows.{array_load_row, array_store_row, element_of, has_letter, is_array_of, length_row, multi_array_row, new_array_row, new_references_row, null_element, on_array, stored_element};
 ghost use Rattle.fm_types.specs.States.{pushed, taken};
 ghost use Rattle.fm_types.specs.Typings.{type_state};
 ghost use Rattle.fm_types.specs.declared.slots.Slot.TheVariants as slot;
@@ -15,6 +15,7 @@ use fm_base::{Base, NoMemory, TypeRef};
 use fm_code::Elem;
 use fm_types::{Slot, State, depth_of};
 use fm_world::{Program, Use};
+use std::alloc::Global;
 
 // Whether an array of the letter is loaded and stored so.
 fn has_letter(elem: Elem, base: Base) -> bool
@@ -236,4 +237,39 @@ pub fn new_references_row(
         base: named.base,
     };
     work(program, state, &[Slot::Int], &[Slot::Ref(array)])
+}
+
+/// A new array of arrays, of which so many dimensions are made.
+#[tactic(auto, unfolding(fm_types::specs::ArrayRows::multi_array_row))]
+pub fn multi_array_row(
+    alloc: Global,
+    program: &Program,
+    resolved: Use,
+    dimensions: u8,
+    state: &mut State,
+) -> Result<bool, NoMemory>
+    ensures { IfOk result (λ met. outcome met state.new
+        ≡ multi_array_row program.now.outline resolved dimensions (type_state state.old)) }
+{
+    let Use::OfType(t) = resolved else {
+        return Ok(false);
+    };
+    let Some(named) = type_at(program, t) else {
+        return Ok(false);
+    };
+    if dimensions == 0 {
+        return Ok(false);
+    }
+    if dimensions > named.dims {
+        return Ok(false);
+    }
+    let lengths = lengths(alloc, dimensions)?;
+    work(program, state, lengths.as_slice(), &[Slot::Ref(named)])
+}
+
+// So many lengths of arrays, the last one uppermost.
+fn lengths(alloc: Global, dimensions: u8) -> Result<Vec<Slot>, NoMemory>
+    ensures { IfOk result (λ words. reverse words.items ≡ replicate dimensions slot.Int) }
+{
+    Ok(vec![in alloc; Slot::Int; usize::from(dimensions)]?)
 }

@@ -10,10 +10,13 @@ mod moves;
 mod named;
 mod number_rows;
 mod object_rows;
+mod rows;
+mod special_rows;
 mod words;
 
 pub use call_rows::is_constructor;
 pub use method::{built_in_type, class_of_method, use_in};
 pub use moves::is_whole;
 pub use named::{type_of_class, type_of_use};
+pub use rows::apply;
 pub use words::{push_words, words_of};

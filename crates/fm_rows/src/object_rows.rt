@@ -3,9 +3,10 @@
 
 ghost use Rattle.std.specs.Prelude.{◌≡◌, ◌<◌, IfOk, None, Some, [], if◌then◌else◌, length, slice_get};
 ghost use Rattle.std.specs.List.{list_any};
+ghost use Rattle.fm_base.specs.declared.kinds.Base.TheVariants as base;
 ghost use Rattle.fm_rows.specs.Members.{NamesMember};
 ghost use Rattle.fm_rows.specs.Outcomes.{is_some_marked, marks, outcome};
-ghost use Rattle.fm_types.specs.ObjectRows.{put_field_row, takes_field};
+ghost use Rattle.fm_types.specs.ObjectRows.{has_objects, new_row, put_field_row, takes_field};
 ghost use Rattle.fm_types.specs.States.{replaced};
 ghost use Rattle.fm_types.specs.Typings.{type_state};
 ghost use Rattle.fm_world.specs.Members.{field_at, fields_of, methods_of};
@@ -14,7 +15,8 @@ use crate::field_rows::field_words;
 use crate::method::class_of_method;
 use crate::named::{type_at, type_of_class};
 use crate::words::take;
-use fm_base::{ClassId, FieldId, MethodId, NoMemory, TypeRef};
+use fm_base::{Base, ClassId, FieldId, MethodId, NoMemory, TypeRef};
+use fm_code::{ACC_ABSTRACT, ACC_INTERFACE, has_flag};
 use fm_types::{Slot, Stack, State, fits, fits_type};
 use fm_world::{Program, Use};
 use std::alloc::Global;
@@ -77,6 +79,61 @@ fn is_marked_at(stack: &Stack, depth: usize, mark: Option<u32>) -> bool
         Some(slot) => is_marked(mark, slot),
         None => false,
     }
+}
+
+// Whether objects of the class are made: it is neither abstract nor an interface.
+#[tactic(auto, unfolding(fm_world::specs::Programs::class_info))]
+fn makes_objects(program: &Program, class: ClassId) -> bool
+    ensures { result ≡ has_objects program.now.outline.classes (base.OfClass class) }
+{
+    if class.0 >= program.classes() {
+        return true;
+    }
+    let flags = program.class(class).flags;
+    !has_flag(flags, ACC_ABSTRACT) && !has_flag(flags, ACC_INTERFACE)
+}
+
+// The same of a type without dimensions.
+fn has_objects(program: &Program, b: Base) -> bool
+    ensures { result ≡ has_objects program.now.outline.classes b }
+{
+    match b {
+        Base::OfClass(class) => makes_objects(program, class),
+        _ => false,
+    }
+}
+
+/// Makes an object, which isn't initialised: the one that the item made before may not be on the stack,
+/// and copies of it in locals are lost.
+#[tactic(auto, unfolding(fm_types::specs::ObjectRows::new_row))]
+pub fn new_row(
+    alloc: Global,
+    program: &Program,
+    item: u32,
+    resolved: Use,
+    state: &mut State,
+) -> Result<bool, NoMemory>
+    ensures { IfOk result (λ met. outcome met state.new
+        ≡ new_row program.now.outline item resolved (type_state state.old)) }
+{
+    let Use::OfType(t) = resolved else {
+        return Ok(false);
+    };
+    let Some(named) = type_at(program, t) else {
+        return Ok(false);
+    };
+    if named.dims != 0 {
+        return Ok(false);
+    }
+    if !has_objects(program, named.base) {
+        return Ok(false);
+    }
+    if holds(&state.stack, Some(item)) {
+        return Ok(false);
+    }
+    state.locals = replaced(alloc, state.locals.as_slice(), Some(item), Slot::Top)?;
+    state.stack.push(Slot::Uninit(item))?;
+    Ok(true)
 }
 
 // The class that declares a field.
