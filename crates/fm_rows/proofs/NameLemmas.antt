@@ -1,5 +1,5 @@
 -- The first class of a name, looked for from the first class on.
-use Rattle.std.proofs.Common.{◌≡◌, ◌∙◌, ap, ℕ, ◌+◌, ◌<◌, ◌≤◌, cond, Bool, true, false, List, ◌∷◌, [], length, drop, drop-cons, add-one, Some, None, arith}
+use Rattle.std.proofs.Common.{◌≡◌, ◌∙◌, ap, ℕ, ◌+◌, ◌<◌, ◌≤◌, cond, true, false, List, ◌∷◌, length, drop, drop-cons, add-one, Some, None}
 use Rattle.std.specs.List.{position_from}
 use Rattle.std.specs.Str.{bytes_eq}
 use Rattle.std.proofs.lemmas.Iterator.Adapters.{position_from-zero}

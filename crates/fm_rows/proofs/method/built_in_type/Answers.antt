@@ -1,4 +1,4 @@
-use Rattle.std.proofs.Common.{ap, sym, ◌∙◌, ◌≡◌, ◌<◌, length, true, false, unwrap_or, arith}
+use Rattle.std.proofs.Common.{ap, sym, ◌∙◌, ◌<◌, length, unwrap_or, arith}
 use Rattle.fm_rows.proofs.NameLemmas.{from_first, from_found, from_next, from_past}
 use Rattle.fm_world.specs.Numbers.{type_of_class}
 use Rattle.fm_rows.proofs.method.built_in_type.Goals as goal
