@@ -3,3 +3,4 @@ pub mod PieceLemmas
 pub mod MarkLemmas
 pub mod NameLemmas
 pub mod OwnerLemmas
+pub mod UseLemmas

@@ -1,9 +1,9 @@
 // The rows of calls and returns (JVMS 6.5.invokevirtual and its like, 6.5.return).
 
-ghost use Rattle.std.specs.Prelude.{◌≡◌, ◌<◌, ◌++◌, [], ◌∷◌, IfOk, None, codes, if◌then◌else◌, length, reverse};
+ghost use Rattle.std.specs.Prelude.{◌≡◌, ◌<◌, ◌++◌, [], ◌∷◌, IfOk, None, if◌then◌else◌, length, reverse};
 ghost use Rattle.fm_rows.specs.Members.{NamesMember};
 ghost use Rattle.fm_rows.specs.Outcomes.{outcome};
-ghost use Rattle.fm_types.specs.CallRows.{has_name, instance_call_row, is_constructor, is_initializer, return_row, returned_by, same_reg, static_call_row};
+ghost use Rattle.fm_types.specs.CallRows.{instance_call_row, is_constructor, is_initializer, return_row, returned_by, same_reg, static_call_row};
 ghost use Rattle.fm_types.specs.Named.{argument_words, result_of, result_words};
 ghost use Rattle.fm_types.specs.States.{stack_slots, worked};
 ghost use Rattle.fm_types.specs.Typings.{type_state};
@@ -27,16 +27,8 @@ pub fn is_constructor(program: &Program, m: MethodId) -> bool
     program.method(m).name.as_slice() == b"<init>".as_slice()
 }
 
-// Whether the method has the name of those that start classes.
-#[tactic(auto, unfolding(fm_world::specs::Programs::method_info))]
-fn is_start(program: &Program, m: MethodId) -> bool
-    requires { m.0 < length (methods_of program.now.outline.classes) }
-    ensures { result ≡ has_name program.now.outline m.0 (codes "<clinit>") }
-{
-    program.method(m).name.as_slice() == b"<clinit>".as_slice()
-}
-
 /// A constructor, or a method of the name of those that start classes.
+#[tactic(auto, unfolding(fm_world::specs::Programs::method_info))]
 pub fn is_initializer(program: &Program, m: MethodId) -> bool
     requires { m.0 < length (methods_of program.now.outline.classes) }
     ensures { result ≡ is_initializer program.now.outline m.0 }
@@ -44,7 +36,7 @@ pub fn is_initializer(program: &Program, m: MethodId) -> bool
     if is_constructor(program, m) {
         return true;
     }
-    is_start(program, m)
+    program.method(m).name.as_slice() == b"<clinit>".as_slice()
 }
 
 /// The words of a method's result, the last one uppermost.

@@ -5,6 +5,7 @@
 mod array_rows;
 mod call_rows;
 mod field_rows;
+mod laws;
 mod method;
 mod moves;
 mod named;
@@ -15,6 +16,7 @@ mod special_rows;
 mod words;
 
 pub use call_rows::is_constructor;
+pub use laws::law_uses;
 pub use method::{built_in_type, class_of_method, use_in};
 pub use moves::is_whole;
 pub use named::{type_of_class, type_of_use};

@@ -1,6 +1,6 @@
 // What an instruction names, and the types that rows speak of.
 
-ghost use Rattle.std.specs.Prelude.{◌≡◌, ◌<◌, Some, length, slice_get};
+ghost use Rattle.std.specs.Prelude.{◌≡◌, ◌<◌, Some, slice_get};
 ghost use Rattle.fm_types.specs.Named.{object_slot};
 ghost use Rattle.fm_types.specs.Typed.{type_of_use};
 ghost use Rattle.fm_world.specs.Numbers.{type_of_class};

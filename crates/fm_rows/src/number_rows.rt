@@ -1,10 +1,10 @@
 // The rows of constants, locals and numbers (JVMS 6.5).
 
-ghost use Rattle.std.specs.Prelude.{codes, ◌≡◌, ◌<◌, [], ◌∷◌, if◌then◌else◌, IfOk, None, Some, length, slice_set, vec_len};
+ghost use Rattle.std.specs.Prelude.{◌≡◌, ◌<◌, [], ◌∷◌, if◌then◌else◌, IfOk, None, Some, vec_len};
 ghost use Rattle.fm_code.specs.declared.operations.Reg.TheVariants as reg;
 ghost use Rattle.fm_rows.specs.Outcomes.{outcome};
 ghost use Rattle.fm_types.specs.Named.{built_in_type};
-ghost use Rattle.fm_types.specs.NumberRows.{constant_row, convert_row, increment_row, load_row, loaded, stored_from, store_row, suits};
+ghost use Rattle.fm_types.specs.NumberRows.{constant_row, convert_row, increment_row, load_row, loaded, store_row, suits};
 ghost use Rattle.fm_types.specs.States.{cut_before, int_word, is_reference, long_words, pushed, stored};
 ghost use Rattle.fm_types.specs.Typings.{type_state};
 ghost use Rattle.fm_types.specs.declared.slots.Slot.TheVariants as slot;
@@ -213,17 +213,6 @@ pub fn convert_row(program: &Program, conv: Conv, state: &mut State) -> Result<b
     }
 }
 
-// Puts a text on the stack.
-fn push_text(program: &Program, state: &mut State) -> Result<bool, NoMemory>
-    ensures { IfOk result (λ met. outcome met state.new
-        ≡ Some (pushed (slot.Ref (built_in_type program.now.outline (codes "java/lang/String"))
-        ∷ []) (type_state state.old))) }
-{
-    let string = built_in_type(program, b"java/lang/String");
-    state.stack.push(Slot::Ref(string))?;
-    Ok(true)
-}
-
 /// ldc, ldc_w and ldc2_w.
 #[tactic(auto, unfolding(fm_types::specs::NumberRows::constant_row))]
 pub fn constant_row(program: &Program, resolved: Use, state: &mut State) -> Result<bool, NoMemory>
@@ -233,7 +222,11 @@ pub fn constant_row(program: &Program, resolved: Use, state: &mut State) -> Resu
     match resolved {
         Use::OfInt(_) => push_int(state),
         Use::OfLong(_) => push_long(state),
-        Use::OfText(_) => push_text(program, state),
+        Use::OfText(_) => {
+            let string = built_in_type(program, b"java/lang/String");
+            state.stack.push(Slot::Ref(string))?;
+            Ok(true)
+        }
         _ => Ok(false),
     }
 }

@@ -3,19 +3,18 @@
 
 ghost use Rattle.std.specs.Prelude.{◌≡◌, ◌<◌, IfOk, None, Some, [], if◌then◌else◌, length, slice_get};
 ghost use Rattle.std.specs.List.{list_any};
-ghost use Rattle.fm_base.specs.declared.kinds.Base.TheVariants as base;
 ghost use Rattle.fm_rows.specs.Members.{NamesMember};
 ghost use Rattle.fm_rows.specs.Outcomes.{is_some_marked, marks, outcome};
 ghost use Rattle.fm_types.specs.ObjectRows.{has_objects, new_row, put_field_row, takes_field};
 ghost use Rattle.fm_types.specs.States.{replaced};
 ghost use Rattle.fm_types.specs.Typings.{type_state};
-ghost use Rattle.fm_world.specs.Members.{field_at, fields_of, methods_of};
+ghost use Rattle.fm_world.specs.Members.{fields_of, methods_of};
 
 use crate::field_rows::field_words;
 use crate::method::class_of_method;
 use crate::named::{type_at, type_of_class};
 use crate::words::take;
-use fm_base::{Base, ClassId, FieldId, MethodId, NoMemory, TypeRef};
+use fm_base::{Base, FieldId, MethodId, NoMemory, TypeRef};
 use fm_code::{ACC_ABSTRACT, ACC_INTERFACE, has_flag};
 use fm_types::{Slot, Stack, State, fits, fits_type};
 use fm_world::{Program, Use};
@@ -81,26 +80,19 @@ fn is_marked_at(stack: &Stack, depth: usize, mark: Option<u32>) -> bool
     }
 }
 
-// Whether objects of the class are made: it is neither abstract nor an interface.
+// Whether it is a class that is neither abstract nor an interface.
 #[tactic(auto, unfolding(fm_world::specs::Programs::class_info))]
-fn makes_objects(program: &Program, class: ClassId) -> bool
-    ensures { result ≡ has_objects program.now.outline.classes (base.OfClass class) }
+fn has_objects(program: &Program, b: Base) -> bool
+    ensures { result ≡ has_objects program.now.outline.classes b }
 {
+    let Base::OfClass(class) = b else {
+        return false;
+    };
     if class.0 >= program.classes() {
         return true;
     }
     let flags = program.class(class).flags;
     !has_flag(flags, ACC_ABSTRACT) && !has_flag(flags, ACC_INTERFACE)
-}
-
-// The same of a type without dimensions.
-fn has_objects(program: &Program, b: Base) -> bool
-    ensures { result ≡ has_objects program.now.outline.classes b }
-{
-    match b {
-        Base::OfClass(class) => makes_objects(program, class),
-        _ => false,
-    }
 }
 
 /// Makes an object, which isn't initialised: the one that the item made before may not be on the stack,
@@ -136,17 +128,9 @@ pub fn new_row(
     Ok(true)
 }
 
-// The class that declares a field.
-#[tactic(auto, unfolding(fm_world::specs::Programs::field_info))]
-fn class_of_field(program: &Program, field: FieldId) -> ClassId
-    requires { field.0 < length (fields_of program.now.outline.classes) }
-    ensures { result.0 ≡ (field_at program.now.outline.classes field.0).class }
-{
-    program.field(field).class
-}
-
 // Whether the receiver may be put to: a constructor may put fields of its own class into its object
 // before another constructor has returned.
+#[tactic(auto, unfolding(fm_world::specs::Programs::field_info))]
 fn takes_field(
     program: &Program,
     method: MethodId,
@@ -161,7 +145,7 @@ fn takes_field(
 {
     if let Slot::UninitThis = receiver {
         let own = class_of_method(program, method);
-        if class_of_field(program, field).0 != own.0 {
+        if program.field(field).class.0 != own.0 {
             return false;
         }
         return fits_type(program, type_of_class(own), named);

@@ -1,7 +1,7 @@
 // The row of special calls: of constructors, and of methods of the own class and its superclasses
 // (JVMS 6.5.invokespecial, 4.10.1.9).
 
-ghost use Rattle.std.specs.Prelude.{◌≡◌, ◌<◌, IfOk, None, OnOk, Some, if◌then◌else◌, length};
+ghost use Rattle.std.specs.Prelude.{◌≡◌, ◌<◌, IfOk, None, OnOk, Some, length};
 ghost use Rattle.std.specs.Option.{option_map};
 ghost use Rattle.fm_rows.specs.Members.{NamesMember};
 ghost use Rattle.fm_rows.specs.Outcomes.{marks, outcome};
@@ -63,22 +63,13 @@ fn names_own_or_above(program: &Program, own: ClassId, named: TypeRef) -> bool
     }
 }
 
-// The superclass of a class.
-#[tactic(auto, unfolding(fm_world::specs::Programs::class_info))]
-fn parent_of(program: &Program, class: ClassId) -> Option<ClassId>
-    requires { class.0 < length program.now.outline.classes }
-    ensures { option_map (λ (c : ClassId). c.0) result
-        ≡ parent_of program.now.outline.classes class.0 }
-{
-    program.class(class).parent
-}
-
 // Whether the class has that superclass.
+#[tactic(auto, unfolding(fm_world::specs::Programs::class_info))]
 fn is_parent(program: &Program, own: ClassId, class: ClassId) -> bool
     requires { own.0 < length program.now.outline.classes }
     ensures { result ≡ is_class class.0 (parent_of program.now.outline.classes own.0) }
 {
-    match parent_of(program, own) {
+    match program.class(own).parent {
         Some(parent) => class.0 == parent.0,
         None => false,
     }
