@@ -1,2 +1,0 @@
--- What serves the proofs alone: how code walks over a stack.
-pub mod Pieces
