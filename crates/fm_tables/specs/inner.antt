@@ -1,0 +1,3 @@
+-- What serves the proofs alone.
+pub mod Resolved
+pub mod MemberLists
