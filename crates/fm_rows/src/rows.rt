@@ -72,44 +72,14 @@ fn row(
         (use_by program.now method.0 insn.now) insn.now (type_state state.old)) }
 {
     match insn {
-        Insn::Nop
-        | Insn::Null
-        | Insn::Const(_)
-        | Insn::LongConst(_)
-        | Insn::LoadPool(_)
-        | Insn::Load(..)
-        | Insn::Store(..)
-        | Insn::Inc(..) => local_rows(program, method, insn, state),
-        Insn::Pop
-        | Insn::Pop2
-        | Insn::Dup
-        | Insn::DupX1
-        | Insn::DupX2
-        | Insn::Dup2
-        | Insn::Dup2X1
-        | Insn::Dup2X2
-        | Insn::Swap => move_row(alloc, insn, state),
-        Insn::IntOp(_)
-        | Insn::LongOp(_)
-        | Insn::IntNeg
-        | Insn::LongNeg
-        | Insn::IntShift(_)
-        | Insn::LongShift(_)
-        | Insn::Convert(_)
-        | Insn::LongCompare => number_rows(program, insn, state),
-        Insn::IfInt(..)
-        | Insn::IfPair(..)
-        | Insn::IfSame(..)
-        | Insn::IfNull(..)
-        | Insn::Goto(_)
-        | Insn::Table(..)
-        | Insn::Lookup(..) => jump_rows(program, insn, state),
-        Insn::ArrayLoad(_)
-        | Insn::ArrayStore(_)
-        | Insn::Length
-        | Insn::NewArray(_)
-        | Insn::NewRefs(_)
-        | Insn::MultiArray(..) => array_rows(alloc, program, method, insn, state),
+        Insn::New(index) => new_row(alloc, program, item, use_in(program, method, *index), state),
+        Insn::Special(index) => {
+            let resolved = use_in(program, method, *index);
+            special_call_row(alloc, program, method, code, resolved, state)
+        }
+        Insn::Virtual(_) | Insn::Interface(_) | Insn::Static(_) | Insn::Return(_) => {
+            call_rows(alloc, program, method, insn, state)
+        }
         Insn::GetStatic(_)
         | Insn::PutStatic(_)
         | Insn::GetField(_)
@@ -117,22 +87,20 @@ fn row(
         | Insn::Cast(_)
         | Insn::IsA(_)
         | Insn::Throw => object_rows(alloc, program, method, insn, state),
-        Insn::Virtual(_) | Insn::Interface(_) | Insn::Static(_) | Insn::Return(_) => call_rows(
-            alloc, program, method, insn, state,
-        ),
-        Insn::New(index) => {
-            new_row(alloc, program, item, use_in(program, method, *index), state)
-        }
-        Insn::Special(index) => {
-            let resolved = use_in(program, method, *index);
-            special_call_row(alloc, program, method, code, resolved, state)
-        }
+        Insn::ArrayLoad(_)
+        | Insn::ArrayStore(_)
+        | Insn::Length
+        | Insn::NewArray(_)
+        | Insn::NewRefs(_)
+        | Insn::MultiArray(..) => array_rows(alloc, program, method, insn, state),
         Insn::LeftOut(_) => Ok(false),
+        _ => local_rows(alloc, program, method, insn, state),
     }
 }
 
-// Constants and locals.
+// Constants and locals; what else is no call and names nothing goes on to numbers.
 fn local_rows(
+    alloc: Global,
     program: &Program,
     method: MethodId,
     insn: &Insn,
@@ -151,12 +119,17 @@ fn local_rows(
         Insn::Load(kind, local) => load_row(*kind, *local, state),
         Insn::Store(kind, local) => Ok(store_row(program, *kind, *local, state)),
         Insn::Inc(local, _) => Ok(increment_row(*local, state)),
-        _ => Ok(false),
+        _ => number_rows(alloc, program, insn, state),
     }
 }
 
-// Operations on numbers.
-fn number_rows(program: &Program, insn: &Insn, state: &mut State) -> Result<bool, NoMemory>
+// Operations on numbers; other instructions go on to jumps.
+fn number_rows(
+    alloc: Global,
+    program: &Program,
+    insn: &Insn,
+    state: &mut State,
+) -> Result<bool, NoMemory>
     ensures { IfOk result (λ met. outcome met state.new
         ≡ number_rows program.now insn.now (type_state state.old)) }
 {
@@ -170,12 +143,17 @@ fn number_rows(program: &Program, insn: &Insn, state: &mut State) -> Result<bool
         Insn::LongShift(_) => work(program, state, &[long, top, int], &[long, top]),
         Insn::Convert(conv) => convert_row(program, *conv, state),
         Insn::LongCompare => work(program, state, &[long, top, long, top], &[int]),
-        _ => Ok(false),
+        _ => jump_rows(alloc, program, insn, state),
     }
 }
 
-// Jumps and switches.
-fn jump_rows(program: &Program, insn: &Insn, state: &mut State) -> Result<bool, NoMemory>
+// Jumps and switches; other instructions go on to the moves of the stack.
+fn jump_rows(
+    alloc: Global,
+    program: &Program,
+    insn: &Insn,
+    state: &mut State,
+) -> Result<bool, NoMemory>
     ensures { IfOk result (λ met. outcome met state.new
         ≡ jump_rows program.now insn.now (type_state state.old)) }
 {
@@ -188,7 +166,7 @@ fn jump_rows(program: &Program, insn: &Insn, state: &mut State) -> Result<bool, 
         Insn::Goto(_) => Ok(true),
         Insn::Table(..) => work(program, state, &[Slot::Int], &[]),
         Insn::Lookup(..) => work(program, state, &[Slot::Int], &[]),
-        _ => Ok(false),
+        _ => move_row(alloc, insn, state),
     }
 }
 
