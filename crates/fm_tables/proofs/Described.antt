@@ -1,20 +1,21 @@
 -- The descriptor of each member is a text that has a mark.
-use Rattle.std.proofs.Common.{◌≡◌, refl, sym, ◌∙◌, ap, subst, ℕ, zero, suc, ◌<◌, ◌||◌, Bool, true, false, List, [], ◌∷◌, length, map, replicate, get_or, Option, Some, None, slice_get, nat_eq, arith}
+use Rattle.std.proofs.Common.{◌≡◌, refl, sym, ◌∙◌, ap, subst, ℕ, ◌<◌, ◌||◌, Bool, true, false, List, [], length, map, replicate, get_or, nat_eq, arith}
 use Rattle.std.specs.List.{list_any, AllByRecursion}
+use Rattle.std.proofs.lemmas.Bool.{or_right}
 use Rattle.std.proofs.lemmas.List.{get_or-map, length-map, length-replicate}
 use Rattle.std.proofs.lemmas.Option.{slice_get-get_or}
+use Rattle.fm_base.proofs.ListFacts.{AllByRecursion-get_or}
 use Rattle.fm_code.specs.Spells.{HasSpelling}
 use Rattle.fm_code.specs.declared.class_file.ClassDef.{ClassDef}
-use Rattle.fm_declare.proofs.MarkLemmas.{get_or-marked, length-marked, same_number}
+use Rattle.fm_declare.proofs.MarkLemmas.{get_or-marked, length-marked}
 use Rattle.fm_declare.proofs.SpelledNames.{few_fields, few_methods, FewField, FewMethod}
-use Rattle.fm_declare.specs.inner.DescriptorTypes.{HaveFewDimensions}
 use Rattle.fm_declare.specs.inner.Marks.{marked}
 use Rattle.fm_lookup.specs.declared.members.MemberRow.{MemberRow}
 use Rattle.fm_lookup.specs.inner.MemberRows.{field_alike, method_alike, no_row, row_alike, AreRows, Owned}
 use Rattle.fm_records.proofs.KindLaws.{IsDescribed}
 use Rattle.fm_tables.specs.inner.MemberLists.{descriptors_in}
+use Rattle.fm_world.proofs.Displays.{is_among_at}
 use Rattle.fm_world.specs.Declarations.{no_field, no_method}
-use Rattle.fm_world.specs.Descriptors.{types_in}
 use Rattle.fm_world.specs.Members.{OwnedField, OwnedMethod, field_at, fields_of, method_at, methods_of}
 use Rattle.fm_world.specs.Programs.{classes_of}
 
@@ -23,27 +24,17 @@ use Rattle.fm_world.specs.Programs.{classes_of}
 -- a mark that is set stays so
 kept_mark : (marks : List Bool) (more : List ℕ) (k : ℕ) → k < length marks → get_or marks k false ≡ true
     → get_or (marked marks more) k false ≡ true
-kept_mark marks more k within is = get_or-marked marks more k within ∙ ap (λ b. list_any (nat_eq k) more || b) is ∙ or_true (list_any (nat_eq k) more) where
-  or_true : (b : Bool) → (b || true) ≡ true
-  or_true true = refl
-  or_true false = refl
-
-among_at : (xs : List ℕ) (k : ℕ) → k < length xs → list_any (nat_eq (get_or xs k 0)) xs ≡ true
-among_at [] k within = absurd (omega (arith, within))
-among_at (x ∷ xs) zero within = ap (λ b. b || list_any (nat_eq x) xs) (same_number x)
-among_at (x ∷ xs) (suc k) within = later (nat_eq (get_or xs k 0) x) (among_at xs k (omega (arith, within))) where
-  later : (b : Bool) → list_any (nat_eq (get_or xs k 0)) xs ≡ true → (b || list_any (nat_eq (get_or xs k 0)) xs) ≡ true
-  later true h = refl
-  later false h = h
+kept_mark marks more k within is =
+    get_or-marked marks more k within ∙ or_right (list_any (nat_eq k) more) (get_or marks k false) is
 
 -- each of the numbers has a mark
 own_mark : (marks : List Bool) (numbers : List ℕ) (k : ℕ) → k < length numbers → get_or numbers k 0 < length marks
     → get_or (marked marks numbers) (get_or numbers k 0) false ≡ true
 own_mark marks numbers k within inside =
     get_or-marked marks numbers (get_or numbers k 0) inside
-    ∙ ap (λ b. b || get_or marks (get_or numbers k 0) false) (among_at numbers k within)
+    ∙ ap (λ b. b || get_or marks (get_or numbers k 0) false) (is_among_at numbers k (get_or numbers k 0) within refl)
 
--- the marks of the numbers of both lists
+-- so has each number of two lists, of the first
 pub first_marks : (texts : ℕ) (fields methods : List ℕ) (k : ℕ) → k < length fields → get_or fields k 0 < texts
     → get_or (marked (marked (replicate texts false) fields) methods) (get_or fields k 0) false ≡ true
 first_marks texts fields methods k within inside =
@@ -53,6 +44,7 @@ first_marks texts fields methods k within inside =
     let there : get_or fields k 0 < length (marked (replicate texts false) fields) = omega (arith, inside, long, longer) in
     kept_mark (marked (replicate texts false) fields) methods (get_or fields k 0) there (own_mark (replicate texts false) fields k within here)
 
+-- and of the second
 pub second_marks : (texts : ℕ) (fields methods : List ℕ) (k : ℕ) → k < length methods → get_or methods k 0 < texts
     → get_or (marked (marked (replicate texts false) fields) methods) (get_or methods k 0) false ≡ true
 second_marks texts fields methods k within inside =
@@ -63,6 +55,7 @@ second_marks texts fields methods k within inside =
 
 -- ---- rows
 
+-- as many rows as members
 pub length-rows : (texts : List (List ℕ)) (owned : List Owned) (rows : List MemberRow) → AreRows texts owned rows → length rows ≡ length owned
 length-rows texts owned rows are = sym (length-map rows (row_alike texts)) ∙ ap length are.same
 
@@ -73,19 +66,16 @@ descriptor_at texts owned rows k d are within =
     ap (λ n. get_or texts n []) (get_or-map (λ (r : MemberRow). r.descriptor) rows k no_row 0 within)
     ∙ ap (λ (o : Owned). o.descriptor) (sym (get_or-map (row_alike texts) rows k no_row d within) ∙ ap (λ os. get_or os k d) are.same)
 
+-- whose number is in range
 descriptor_within : (texts : List (List ℕ)) (owned : List Owned) (rows : List MemberRow) (k : ℕ) → AreRows texts owned rows
     → k < length rows → get_or (descriptors_in rows) k 0 < length texts
 descriptor_within texts owned rows k are within =
     subst (λ n. n < length texts) (sym (get_or-map (λ (r : MemberRow). r.descriptor) rows k no_row 0 within))
     (are.descriptors k (get_or rows k no_row) (slice_get-get_or rows k no_row within))
 
-few_at : {A : Type 0} (P : A → Type 0) (xs : List A) (d : A) → AllByRecursion P xs → (k : ℕ) → k < length xs → P (get_or xs k d)
-few_at P [] d all k within = absurd (omega (arith, within))
-few_at P (x ∷ xs) d all zero within = all.0
-few_at P (x ∷ xs) d all (suc k) within = few_at P xs d all.1 k (omega (arith, within))
-
 -- ---- all members
 
+-- each field, and each method, has a descriptor that is kept
 pub fields_described : (texts : List (List ℕ)) (given : List ClassDef) (rows : List MemberRow) (methods : List ℕ) → AllByRecursion HasSpelling given
     → AreRows texts (map field_alike (fields_of (classes_of given))) rows
     → (k : ℕ) → k < length (fields_of (classes_of given))
@@ -106,7 +96,7 @@ fields_described texts given rows methods spelled are k within =
       text = descriptor_at texts owned rows k (field_alike none) are inside
           ∙ ap (λ (o : Owned). o.descriptor) (get_or-map field_alike (fields_of classes) k none (field_alike none) within);
       marked = first_marks (length texts) (descriptors_in rows) methods k listed here;
-      few = few_at FewField (fields_of classes) none (few_fields given spelled) k within;
+      few = AllByRecursion-get_or FewField (fields_of classes) none (few_fields given spelled) tt k;
     }
 
 pub methods_described : (texts : List (List ℕ)) (given : List ClassDef) (rows : List MemberRow) (fields : List ℕ) → AllByRecursion HasSpelling given
@@ -129,5 +119,5 @@ methods_described texts given rows fields spelled are k within =
       text = descriptor_at texts owned rows k (method_alike none) are inside
           ∙ ap (λ (o : Owned). o.descriptor) (get_or-map method_alike (methods_of classes) k none (method_alike none) within);
       marked = second_marks (length texts) fields (descriptors_in rows) k listed here;
-      few = few_at FewMethod (methods_of classes) none (few_methods given spelled) k within;
+      few = AllByRecursion-get_or FewMethod (methods_of classes) none (few_methods given spelled) tt k;
     }

@@ -1,5 +1,5 @@
 -- What files name, by number, is what their program names.
-use Rattle.std.proofs.Common.{◌≡◌, refl, sym, ◌∙◌, ap, subst, ℕ, ◌<◌, List, [], ◌++◌, length, map, replicate, get_or, Option, Some, option_to_list}
+use Rattle.std.proofs.Common.{◌≡◌, sym, ◌∙◌, ap, subst, ℕ, ◌<◌, List, [], ◌++◌, length, map, replicate, get_or, Option, Some, option_to_list}
 use Rattle.std.specs.Borrow.{Bor}
 use Rattle.std.specs.List.{flat_map, AllByRecursion}
 use Rattle.std.proofs.lemmas.Option.{slice_get-get_or}
@@ -34,14 +34,17 @@ apart t are m n m_within n_within same =
     are.once m n (get_or texts m []) (slice_get-get_or texts m [] m_within)
     (slice_get-get_or texts n [] n_within ∙ ap (λ (x : List ℕ). Some x) (sym same))
 
+-- an outline without a main
 bare : List DeclaredClass → List TypeRef → List (List ℕ) → Outline
 bare classes types texts = record { classes = classes; types = types; texts = texts; main_class = 0; main = 0 }
 
+-- what indices are resolved to by the tables' classes, which are those of the files
 uses-of : (classes : List DeclaredClass) (types : List TypeRef) (texts : List (List ℕ)) (given : List ClassDef) → classes ≡ classes_of given
     → replicate (length built_in) [] ++ map (class_uses (bare classes types texts)) given ≡ uses_of (bare (classes_of given) types texts) given
 unfolding uses_of
 uses-of classes types texts given is = ap (λ cs. replicate (length built_in) [] ++ map (class_uses (bare cs types texts)) given) is
 
+-- the types, texts and uses that are made of what files name
 pub named-made : (texts : List (List ℕ)) (given : List ClassDef) (files : List GivenFile) (classes : List DeclaredClass)
     (by_text : List (Option TypeRef)) (arguments : Option TypeRef) (used arrays : List TypeRef) (naming : List ℕ) (n : Named)
     → classes ≡ classes_of given → by_text ≡ map (type_of_name (classes_of given)) texts → AllByRecursion HasSpelling given

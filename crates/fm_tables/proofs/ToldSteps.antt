@@ -1,12 +1,11 @@
 -- What is told of methods and fields is what a program tells of them.
-use Rattle.std.proofs.Common.{◌≡◌, refl, sym, ◌∙◌, ap, subst, ℕ, zero, suc, ◌<◌, Bool, List, [], ◌∷◌, ◌++◌, length, map, drop, replicate, get_or, false, Option, Some, None, arith}
+use Rattle.std.proofs.Common.{◌≡◌, refl, sym, ◌∙◌, ap, subst, ℕ, zero, suc, Bool, List, [], ◌∷◌, ◌++◌, length, map, drop, replicate, get_or, false, Option, None}
 use Rattle.std.specs.Borrow.{Bor}
 use Rattle.std.specs.List.{flat_map, AllByRecursion}
-use Rattle.std.proofs.lemmas.List.{length-map}
+use Rattle.std.proofs.lemmas.List.{drop_at, length-map, length-replicate}
 use Rattle.fm_code.specs.Members.{code_of}
 use Rattle.fm_code.specs.Spells.{HasSpelling}
 use Rattle.fm_code.specs.declared.class_file.ClassDef.{ClassDef}
-use Rattle.fm_code.specs.declared.code_array.Code.{Code}
 use Rattle.fm_declare.specs.declared.descriptors.Kinds.{Kinds}
 use Rattle.fm_declare.specs.declared.given.GivenFile.{GivenFile}
 use Rattle.fm_declare.specs.inner.Files.{AreFiles}
@@ -24,7 +23,7 @@ use Rattle.fm_records.specs.inner.Firsts.{firsts_told}
 use Rattle.fm_records.specs.inner.Methods.{methods_told}
 use Rattle.fm_records.specs.inner.Rows.{codes_in}
 use Rattle.fm_records.specs.inner.Sizes.{base_of}
-use Rattle.fm_refuse.specs.inner.GivenClasses.{class_in, given_in}
+use Rattle.fm_refuse.specs.inner.GivenClasses.{given_in}
 use Rattle.fm_tables.proofs.Described.{fields_described, length-rows, methods_described}
 use Rattle.fm_tables.specs.declared.told.Told.{Told}
 use Rattle.fm_tables.specs.inner.MemberLists.{descriptors_in}
@@ -37,10 +36,12 @@ use Rattle.fm_world.specs.declared.uses.Use.{Use}
 use Rattle.fm_world.specs.declared.uses.Use.TheVariants as resolved
 use Rattle.fm_world.specs.inner.Tables.{numbers_below}
 
+-- the codes of all files, by their classes
 codes-files : (files : List GivenFile) → flat_map codes_in files ≡ flat_map (λ (c : ClassDef). map code_of c.methods) (given_in files)
 codes-files [] = refl
 codes-files (f ∷ files) = ap (λ cs. codes_in f ++ cs) (codes-files files)
 
+-- the built-in classes have so many methods
 methods-counted : length (methods_of built_in) ≡ 86
 unfolding methods_of built_in
 methods-counted = refl
@@ -58,16 +59,15 @@ pub slots_are : (classes : List DeclaredClass) (bases slots : List ℕ) → base
 slots_are classes bases slots bases_are is =
     is ∙ slots-all classes bases (λ class h. table_default (base_of classes) (length classes) class bases 0 bases_are h)
 
-drop-replicate : {A : Type 0} (n : ℕ) (x : A) (xs : List A) → drop n (replicate n x ++ xs) ≡ xs
-drop-replicate zero x xs = refl
-drop-replicate (suc n) x xs = drop-replicate n x xs
-
 -- the uses of given classes
 pub uses-given : (o : Outline) (given : List ClassDef) (uses : List (List Use)) → uses ≡ uses_of o given
     → drop (length built_in) uses ≡ map (class_uses o) given
 unfolding uses_of
-uses-given o given uses is = ap (drop (length built_in)) is ∙ drop-replicate (length built_in) [] (map (class_uses o) given)
+uses-given o given uses is =
+    let none : List (List Use) = replicate (length built_in) [] in
+    ap (drop (length built_in)) is ∙ drop_at none (map (class_uses o) given) (length built_in) (length-replicate (length built_in) [])
 
+-- what is told by kinds, codes, places and first values that are those of the files' classes
 pub told-made : (texts : List (List ℕ)) (given : List ClassDef) (files : List GivenFile) (o : Outline) (fields methods : List MemberRow)
     (kinds of_fields of_methods : List (Option Kinds)) (uses : List (List Use)) (t : Told)
     → o.classes ≡ classes_of given → AllByRecursion HasSpelling given → AreFiles texts given files
@@ -125,12 +125,15 @@ kinds-kept classes read texts count marks fields methods field_rows method_rows 
 
 -- ---- lists that were read
 
+-- as many texts are lent as there are references
 pub same_lent : (read : List (Bor (List ℕ))) → length read ≡ length (lent read)
 same_lent read = sym (length-map read (λ (b : Bor (List ℕ)). b.now))
 
+-- what is declared by descriptors, which go by the numbers of their texts
 abbrev pub kinds_at : List (Option Kinds) → List ℕ → List (Option Kinds)
 kinds_at kinds descriptors = map (λ d. get_or kinds d None) descriptors
 
+-- the methods, and the fields, of the tables' classes are those of the files' classes
 pub methods_of_classes : (kinds : List (Option Kinds)) (classes : List DeclaredClass) (given : List ClassDef) → classes ≡ classes_of given
     → methods_told kinds (codes_of given) 0 (methods_of classes) ≡ methods_told kinds (codes_of given) 0 (methods_of (classes_of given))
 methods_of_classes kinds classes given is = ap (λ cs. methods_told kinds (codes_of given) 0 (methods_of cs)) is

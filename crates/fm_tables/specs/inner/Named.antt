@@ -16,6 +16,7 @@ outline_named given n = record {
   main = 0;
 }
 
+-- they are those of the program that the class files make
 pub record IsNamed (given : List ClassDef) (n : Named) : Type 0 where
   pub types : n.types.types.items ≡ types_of (classes_of given) given
   pub numbers : AreNumbered n.types.numbers n.types.types.items

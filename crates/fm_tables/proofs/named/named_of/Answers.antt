@@ -1,8 +1,7 @@
-use Rattle.std.proofs.Common.{◌≡◌, sym, ◌∙◌, ap, subst, ℕ, ◌<◌, List, length, get_or}
+use Rattle.std.proofs.Common.{sym, ◌∙◌, ap, subst, ℕ, List}
 use Rattle.std.specs.Borrow.{Bor}
 use Rattle.fm_declare.specs.inner.Numbering.{lent, texts_in}
-use Rattle.fm_records.specs.inner.TextNumbers.{literals_by, AreApart, IsModified}
-use Rattle.fm_records.specs.inner.TypeNumbers.{types_by}
+use Rattle.fm_records.specs.inner.TextNumbers.{literals_by, AreApart}
 use Rattle.fm_refuse.specs.inner.GivenClasses.{given_in}
 use Rattle.fm_tables.proofs.NamedSteps.{apart, is_resolving, modified_texts, named-made}
 use Rattle.fm_tables.proofs.named.named_of.Goals as goal

@@ -1,5 +1,4 @@
-use Rattle.std.proofs.Common.{◌≡◌, ◌++◌, ◌∙◌, ap, length, map, replicate}
-use Rattle.fm_lookup.specs.inner.ListTables.{lists}
+use Rattle.std.proofs.Common.{◌∙◌, ap, length, map}
 use Rattle.fm_records.proofs.SlotLaws.{statics-all}
 use Rattle.fm_records.specs.inner.Fields.{fields_told}
 use Rattle.fm_records.specs.inner.Rows.{lent_kinds}

@@ -1,4 +1,4 @@
-use Rattle.std.proofs.Common.{◌≡◌, sym, ◌∙◌, ap, subst, length}
+use Rattle.std.proofs.Common.{sym, ◌∙◌, ap, subst, length}
 use Rattle.fm_declare.specs.inner.Numbering.{lent, texts_in}
 use Rattle.fm_lookup.specs.inner.Hierarchy.{IsHierarchy}
 use Rattle.fm_records.specs.inner.DeclaredKinds.{AreKinds}
