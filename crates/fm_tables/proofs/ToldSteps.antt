@@ -1,5 +1,5 @@
 -- What is told of methods and fields is what a program tells of them.
-use Rattle.std.proofs.Common.{◌≡◌, refl, sym, ◌∙◌, ap, subst, ℕ, zero, suc, Bool, List, [], ◌∷◌, ◌++◌, length, map, drop, replicate, get_or, false, Option, None}
+use Rattle.std.proofs.Common.{◌≡◌, refl, sym, ◌∙◌, ap, subst, ℕ, Bool, List, [], ◌∷◌, ◌++◌, length, map, drop, replicate, get_or, false, Option, None}
 use Rattle.std.specs.Borrow.{Bor}
 use Rattle.std.specs.List.{flat_map, AllByRecursion}
 use Rattle.std.proofs.lemmas.List.{drop_at, length-map, length-replicate}
