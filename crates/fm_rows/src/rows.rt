@@ -1,5 +1,5 @@
 // The table of the checker: what each instruction asks of the state before it, and the state that it
-// leaves (JVMS 4.10.1.9). The instructions go by groups, and each group has a call.
+// leaves (JVMS 4.10.1.9). The instructions go by groups, and each group has a function.
 
 ghost use Rattle.std.specs.Prelude.{◌≡◌, ◌<◌, IfOk, length};
 ghost use Rattle.fm_rows.specs.Members.{UsesNameMembers};
@@ -98,7 +98,7 @@ fn row(
     }
 }
 
-// Constants and locals; what else is no call and names nothing goes on to numbers.
+// Constants and locals; other instructions go on to numbers.
 fn local_rows(
     alloc: Global,
     program: &Program,
