@@ -1,0 +1,2 @@
+-- What serves the proofs alone: the join of states.
+pub mod Merging

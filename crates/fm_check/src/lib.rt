@@ -1,0 +1,5 @@
+// The stack checker: a method is accepted exactly where it is typed, and gets its least typing
+// (JVMS 4.10).
+#![tactic(auto)]
+
+mod merging;
