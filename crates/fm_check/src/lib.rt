@@ -2,4 +2,12 @@
 // (JVMS 4.10).
 #![tactic(auto)]
 
+mod checking;
+mod error;
 mod merging;
+mod method;
+mod steps;
+mod walk;
+
+pub use checking::check;
+pub use error::CheckFail;

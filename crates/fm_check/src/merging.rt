@@ -3,14 +3,30 @@
 ghost use Rattle.std.specs.Prelude.{◌≡◌, IfOk, length};
 ghost use Rattle.std.specs.Option.{option_map};
 ghost use Rattle.fm_check.specs.inner.Merging.{have_same_sizes, join_slots, join_state};
-ghost use Rattle.fm_types.specs.States.{state_fits};
+ghost use Rattle.fm_types.specs.States.{all_fit, state_fits};
 ghost use Rattle.fm_types.specs.Typings.{type_state};
 
 use fm_base::NoMemory;
-use fm_rows::{all_fit, is_whole};
-use fm_types::{Slot, Stack, State, join};
+use fm_rows::is_whole;
+use fm_types::{Slot, Stack, State, fits, join};
 use fm_world::Program;
 use std::alloc::Global;
+
+// Whether each slot fits the one at its place, in lists of one length.
+fn all_fit(program: &Program, slots: &[Slot], others: &[Slot]) -> bool
+    requires { length slots.now ≡ length others.now }
+    ensures { result ≡ all_fit program.now.outline slots.now others.now }
+{
+    let size = slots.len();
+    let mut index = 0;
+    while index < size {
+        if !fits(program, slots[index], others[index]) {
+            return false;
+        }
+        index += 1;
+    }
+    true
+}
 
 // Whether the states have as many locals and words of the stack.
 fn have_same_sizes(a: &State, b: &State) -> bool
