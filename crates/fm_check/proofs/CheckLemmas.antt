@@ -1,5 +1,5 @@
 -- From the code that is walked over to the method.
-use Rattle.std.proofs.Common.{◌≡◌, refl, sym, ◌∙◌, ap, ℕ, List, Option, Some, None, subst}
+use Rattle.std.proofs.Common.{◌≡◌, sym, ◌∙◌, ℕ, List, Option, Some, None, subst}
 use Rattle.std.specs.Prelude.{Err, IfOk, IsSomeAnd, Ok, OnOk, Result}
 use Rattle.fm_check.specs.declared.error.CheckFail.{CheckFail}
 use Rattle.fm_check.specs.declared.error.CheckFail.TheVariants as fail
@@ -14,7 +14,6 @@ use Rattle.fm_types.specs.States.{TypeState}
 use Rattle.fm_types.specs.Typed.{IsTypingOf, Typed}
 use Rattle.fm_world.specs.Members.{methods_of}
 use Rattle.fm_world.specs.Programs.{code_at, method_info, Program}
-use Rattle.fm_world.specs.declared.records.Body.{Body}
 use Rattle.std.specs.Prelude.{◌<◌, length}
 
 abbrev pub task_of : Program → ℕ → Code → Task

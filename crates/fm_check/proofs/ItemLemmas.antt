@@ -1,5 +1,5 @@
 -- What an item brings on, and what that shows of typings; and that states at which no item waits are the least typing.
-use Rattle.std.proofs.Common.{◌≡◌, ◌≢◌, refl, sym, ◌∙◌, ap, inl, inr, ◌⊎◌, ⊎_elim, ℕ, zero, suc, ◌+◌, ◌<◌, ◌≤◌, ◌==◌, ◌&&◌, nat_le, Bool, true, false, List, [], ◌∷◌, ◌++◌, length, take, get_or, set, replicate, Option, Some, None, is_some, option_and_then, cond, Contains, subst, arith, length-set}
+use Rattle.std.proofs.Common.{◌≡◌, ◌≢◌, refl, sym, ◌∙◌, ap, inl, inr, ⊎_elim, ℕ, zero, suc, ◌+◌, ◌<◌, ◌≤◌, ◌==◌, nat_le, Bool, true, false, List, [], ◌∷◌, ◌++◌, length, take, get_or, set, replicate, Option, Some, None, is_some, option_and_then, cond, Contains, subst, arith, length-set}
 use Rattle.std.specs.Prelude.{Any, Err, IfOk, IsSomeAnd, MatchBool, Ok, Result, slice_get}
 use Rattle.std.specs.List.{AllByRecursion, slice_index_or}
 use Rattle.std.specs.Option.{option_map}
@@ -9,11 +9,11 @@ use Rattle.std.proofs.lemmas.List.Elements.{All-contains, All-from_recursion, Co
 use Rattle.std.proofs.lemmas.Option.{slice_get_past}
 use Rattle.fm_base.proofs.ListFacts.{AllByRecursion-append, AllByRecursion-weaker}
 use Rattle.fm_base.proofs.OptionFacts.{IsSomeAnd-at_some, IsSomeAnd-from_some, option_map-some, same_value, Some-from_some_and}
-use Rattle.fm_check.proofs.MergingLemmas.{fits-from, fits-parts, FitsByParts, state-refl, state-trans}
-use Rattle.fm_check.proofs.WalkLemmas.{fits_at, fits_later, fits_one, FitsOne, given_at, Rises-then, Waits, Went-none, Went-then, with_waiting-waits}
-use Rattle.fm_check.specs.inner.Walks.{Brings, BringsAll, BringsCaught, BringsHandlers, BringsOn, falls_off, GoesOver, HasSettled, is_marked, IsForced, IsItem, IsKept, IsLeast, IsMet, IsSound, is_within, next_items, not_begun, Rises, Stands, Takes, Task, Untypable, Walked, Walking, Went, with_state}
+use Rattle.fm_check.proofs.MergingLemmas.{fits-from, fits-parts, state-refl, state-trans}
+use Rattle.fm_check.proofs.WalkLemmas.{fits_at, fits_later, fits_one, given_at, Went-none, Went-then, with_waiting-waits}
+use Rattle.fm_check.specs.inner.Walks.{Brings, BringsAll, BringsCaught, BringsHandlers, BringsOn, falls_off, GoesOver, HasSettled, is_marked, IsForced, IsItem, IsKept, IsLeast, IsMet, IsSound, is_within, next_items, not_begun, Rises, Stands, Takes, Task, Untypable, Walked, Walking, with_state}
 use Rattle.fm_code.specs.CodeRules.{HandlerIsValid}
-use Rattle.fm_code.specs.Edges.{Catches, FallsOff, falls_through, insn_of, IsEdge, IsFlowPath, IsHandlerEdge, IsNormalEdge, IsReachable, LeadsTo}
+use Rattle.fm_code.specs.Edges.{Catches, falls_through, insn_of, IsEdge, IsFlowPath, IsHandlerEdge, IsNormalEdge, IsReachable, LeadsTo}
 use Rattle.fm_code.specs.SpellsCode.{targets_of}
 use Rattle.fm_code.specs.declared.code_array.Code.{Code}
 use Rattle.fm_code.specs.declared.code_array.Handler.{Handler}
@@ -27,7 +27,7 @@ use Rattle.fm_types.proofs.Order.{fits-refl}
 use Rattle.fm_types.proofs.RowOrder.{rows-keep_order, rows-keep_whole}
 use Rattle.fm_types.specs.Rows.{row_after}
 use Rattle.fm_types.specs.States.{state_fits, TypeState}
-use Rattle.fm_types.specs.Typed.{after_item, caught_type, entry_state, FitsAt, FitsHandler, handler_state, IsTypingOf, made_at, MeetsItem, state_at, use_by}
+use Rattle.fm_types.specs.Typed.{after_item, caught_type, entry_state, FitsAt, FitsHandler, handler_state, IsTypingOf, made_at, state_at, use_by}
 use Rattle.fm_types.specs.declared.slots.Slot.TheVariants as slot
 
 -- ---- what a call tells in its two cases
@@ -95,7 +95,7 @@ row_at t j i s = row_after t.program.outline t.number j (made_at t.program t.num
 
 after-row : (t : Task) (j : ℕ) (i : Insn) (s : TypeState) → insn_of t.code j ≡ Some i
     → after_item t.program t.number t.code j s
-      ≡ row_after t.program.outline t.number j (made_at t.program t.number t.code) (use_by t.program t.number i) i s
+    ≡ row_after t.program.outline t.number j (made_at t.program t.number t.code) (use_by t.program t.number i) i s
 after-row t j i s is =
     ap (option_and_then (λ (x : Insn). row_after t.program.outline t.number j (made_at t.program t.number t.code) (use_by t.program t.number x) x s)) is
 
@@ -112,12 +112,12 @@ row_below t states j i s sound forced is typing =
     let found = fits_one t states j s (forced.below states typing) in
     let meets = typing.items j found.state found.is in
     let row = Some-from_some_and (after_item t.program t.number t.code j found.state)
-      (λ after. (next : ℕ) → IsNormalEdge t.code j next → FitsAt t.program states next after) meets.row in
+    (λ after. (next : ℕ) → IsNormalEdge t.code j next → FitsAt t.program states next after) meets.row in
     let above = sym (after-row t j i found.state is) ∙ row.1 in
     let kept = rows-keep_order o sound.tree t.number j (made_at t.program t.number t.code) (use_by t.program t.number i) i s found.state row.0
-      forced.whole meets.whole found.fits above in
+    forced.whole meets.whole found.fits above in
     let own = Some-from_some_and (row_after o t.number j (made_at t.program t.number t.code) (use_by t.program t.number i) i s)
-      (λ given. state_fits o given row.0 ≡ true) kept in
+    (λ given. state_fits o given row.0 ≡ true) kept in
     record {
       given = own.0;
       is = after-row t j i s is ∙ own.1;
@@ -199,7 +199,7 @@ caught_forced t j h caught s sound forced listed after before is =
           let meets = typing.items j found.state found.is in
           let fits = each_handler (FitsHandler t.program t.number states j found.state) t.code.handlers h listed meets.handlers catches in
           let at = fits_one t states h.handler (handler_state caught found.state)
-            (IsSomeAnd-at_some (caught_type t.program t.number h) (λ c. FitsAt t.program states h.handler (handler_state c found.state)) caught is fits) in
+          (IsSomeAnd-at_some (caught_type t.program t.number h) (λ c. FitsAt t.program states h.handler (handler_state c found.state)) caught is fits) in
           fits_at t states h.handler (handler_state caught s) at.state at.is
           (state-trans t.program.outline sound.tree (handler_state caught s) (handler_state caught found.state) at.state
           (handler-fits t caught s found.state sound found.fits) at.fits);
@@ -375,7 +375,7 @@ GoesOver-none t j w sound stands none = record { went = Went-none t w sound stan
 met_later : (t : Task) (a b : Walked) (j : ℕ) (s : TypeState) → IsSound t → Rises t.program.outline a b → IsMet t a.states j s → IsMet t b.states j s
 met_later t a b j s sound rises met =
     let row = Some-from_some_and (after_item t.program t.number t.code j s)
-      (λ given. (next : ℕ) → IsNormalEdge t.code j next → FitsAt t.program a.states next given) met.meets.row in
+    (λ given. (next : ℕ) → IsNormalEdge t.code j next → FitsAt t.program a.states next given) met.meets.row in
     record {
       meets = record {
         locals = met.meets.locals;
@@ -468,7 +468,7 @@ edge_state : (t : Task) (w : Walked) (j next : ℕ) (s : TypeState) → HasSettl
 edge_state t w j next s settled is (inl edge) =
     let met = settled_met t w j s settled is in
     let row = Some-from_some_and (after_item t.program t.number t.code j s)
-      (λ given. (next : ℕ) → IsNormalEdge t.code j next → FitsAt t.program w.states next given) met.meets.row in
+    (λ given. (next : ℕ) → IsNormalEdge t.code j next → FitsAt t.program w.states next given) met.meets.row in
     some_fits t w.states next row.0 (row.2 next edge)
 edge_state t w j next s settled is (inr edge) = by_entry edge.caught where
   by_entry : Any (Catches j next) t.code.handlers → (u : TypeState) × (state_at w.states next ≡ Some u)

@@ -1,23 +1,20 @@
 -- Steps of the walk: what a state that is brought to an item shows, and what it leaves.
-use Rattle.std.proofs.Common.{◌≡◌, ◌≢◌, refl, sym, ◌∙◌, ap, inl, inr, ◌⊎◌, ⊎_elim, ℕ, ◌+◌, ◌<◌, ◌≤◌, ◌==◌, ◌&&◌, nat_le, Bool, true, false, List, [], ◌∷◌, ◌++◌, length, get_or, set, Option, Some, None, cond, Contains, subst, arith, length-set}
-use Rattle.std.specs.Prelude.{IsSomeAnd}
+use Rattle.std.proofs.Common.{◌≡◌, ◌≢◌, refl, sym, ◌∙◌, ap, inl, inr, ◌⊎◌, ⊎_elim, ℕ, ◌<◌, ◌≤◌, ◌==◌, ◌&&◌, nat_le, Bool, true, false, List, [], ◌∷◌, ◌++◌, length, get_or, set, Option, Some, None, cond, Contains, subst, arith, length-set}
 use Rattle.std.proofs.lemmas.Bool.{and_from, cases_eq, eq-eqb, false≢true, le-leb}
 use Rattle.std.proofs.lemmas.List.{get_or-set_same, get_or-set_other}
 use Rattle.std.proofs.lemmas.List.Elements.{Contains-append_left, Contains-push, Contains-push_cases}
 use Rattle.fm_base.proofs.OptionFacts.{IsSomeAnd-from_some, same_value, Some-from_some_and}
 use Rattle.fm_check.proofs.MergingLemmas.{fits-parts, IsStateJoin, join_state-least, join_state-some, state-refl, state-trans}
 use Rattle.fm_check.specs.inner.Merging.{join_state}
-use Rattle.fm_check.specs.inner.Walks.{Brings, is_marked, is_within, IsForced, IsKept, IsSound, Rises, Stands, states_seen, Takes, Task, Untypable, Walked, Went, with_state, with_waiting}
+use Rattle.fm_check.specs.inner.Walks.{Brings, is_marked, is_within, IsForced, IsKept, IsSound, Rises, Stands, states_seen, Task, Untypable, Walked, Went, with_state, with_waiting}
 use Rattle.fm_code.specs.declared.code_array.Code.{Code}
-use Rattle.fm_flow.proofs.RowFacts.{has-set_kept, has-set_only, has-set_same}
+use Rattle.fm_flow.proofs.RowFacts.{has-set_only}
 use Rattle.fm_types.proofs.StateOrder.{Fitting}
 use Rattle.fm_types.proofs.Zips.{zip-length}
-use Rattle.fm_types.specs.Fits.{AreTree}
 use Rattle.fm_types.specs.States.{state_fits, TypeState}
-use Rattle.fm_types.specs.Typed.{FitsAt, IsTypingOf, state_at}
-use Rattle.fm_types.specs.declared.slots.Slot.{Slot}
+use Rattle.fm_types.specs.Typed.{FitsAt, state_at}
 use Rattle.fm_types.specs.declared.states.State.{State}
-use Rattle.fm_world.specs.Programs.{Outline, Program}
+use Rattle.fm_world.specs.Programs.{Outline}
 
 -- ---- states as they are seen
 

@@ -44,7 +44,14 @@ pub fn check(alloc: Global, program: &Program, method: MethodId) -> Result<Typin
     let Some(code) = code_of(program, method) else {
         return Err(CheckFail::NotTyped);
     };
-    judge(alloc, &Method { program, number: method, code })
+    judge(
+        alloc,
+        &Method {
+            program,
+            number: method,
+            code,
+        },
+    )
 }
 
 // The same of a method whose code was looked up.
@@ -117,7 +124,11 @@ fn is_static(program: &Program, method: MethodId) -> bool
 
 // The words of the parameters.
 #[tactic(auto, unfolding(fm_world::specs::Programs::method_info))]
-fn parameter_slots(alloc: Global, program: &Program, method: MethodId) -> Result<Vec<Slot>, NoMemory>
+fn parameter_slots(
+    alloc: Global,
+    program: &Program,
+    method: MethodId,
+) -> Result<Vec<Slot>, NoMemory>
     requires { method.0 < length (methods_of program.now.outline.classes) }
     ensures { IfOk result (λ slots. slots.items
         ≡ flat_map local_slots (parameters_of program.now.outline method.0)) }
@@ -172,7 +183,7 @@ fn entry_state(alloc: Global, method: &Method<'_>) -> Result<State, NoMemory>
     requires { (task method.now).number < length (methods_of (task method.now).program.outline.classes) }
     ensures { IfOk result (λ state. type_state state
         ≡ entry_state (task method.now).program.outline (task method.now).number
-            (task method.now).code) }
+        (task method.now).code) }
 {
     let mut locals = entry_slots(alloc, method.program, method.number)?;
     fill(&mut locals, usize::from(method.code.max_locals))?;

@@ -121,7 +121,7 @@ impl Walk {
         requires listed { Contains (task method.now).code.handlers handler.now }
         ensures { IfOk result (λ fits. MatchBool fits
             (BringsCaught (task method.now) item (type_state state.now) handler.now
-                (walked self.old) (walked self.new))
+            (walked self.old) (walked self.new))
             (Untypable (task method.now))) }
     {
         if item < handler.start {
@@ -152,7 +152,7 @@ impl Walk {
         requires listed { handlers.now ≡ (task method.now).code.handlers }
         ensures { IfOk result (λ fits. MatchBool fits
             (BringsHandlers (task method.now) item (type_state state.now) handlers.now
-                (walked self.old) (walked self.new))
+            (walked self.old) (walked self.new))
             (Untypable (task method.now))) }
     {
         for handler in handlers {
@@ -177,7 +177,7 @@ impl Walk {
             → IsForced (task method.now) item (type_state brought.now) }
         ensures { IfOk result (λ fits. MatchBool fits
             (BringsAll (task method.now) items.now (type_state brought.now) (walked self.old)
-                (walked self.new))
+            (walked self.new))
             (Untypable (task method.now))) }
     {
         for item in items {
@@ -205,7 +205,7 @@ impl Walk {
             → IsForced (task method.now) next (type_state after.now) }
         ensures { IfOk result (λ fits. MatchBool fits
             (BringsOn (task method.now) item insn.now (type_state after.now) (walked self.old)
-                (walked self.new))
+            (walked self.new))
             (Untypable (task method.now))) }
     {
         if falls_off(method.code, insn, item) {
@@ -216,12 +216,7 @@ impl Walk {
     }
 
     // Goes over one item that waited; false where no typing has room for what it brings.
-    fn go_over(
-        &mut self,
-        alloc: Global,
-        method: &Method<'_>,
-        item: u32,
-    ) -> Result<bool, NoMemory>
+    fn go_over(&mut self, alloc: Global, method: &Method<'_>, item: u32) -> Result<bool, NoMemory>
         requires sound { IsSound (task method.now) }
         requires stands { Stands (task method.now) (walked self.old) }
         requires inside { item < length (task method.now).code.items }
@@ -237,7 +232,14 @@ impl Walk {
         if !self.bring_to_handlers(alloc, method, item, handlers, &state)? {
             return Ok(false);
         }
-        if !apply(alloc, method.program, method.number, method.code, item, &mut state)? {
+        if !apply(
+            alloc,
+            method.program,
+            method.number,
+            method.code,
+            item,
+            &mut state,
+        )? {
             return Ok(false);
         }
         let insn = &method.code.items.as_slice()[item as usize].insn;

@@ -123,7 +123,7 @@ impl Walk {
         requires forced { IsForced (task method.now) item (type_state brought.now) }
         ensures { IfOk result (λ fits. MatchBool fits
             (Brings (task method.now) item (type_state brought.now) (walked self.old)
-                (walked self.new))
+            (walked self.new))
             (Untypable (task method.now))) }
     {
         if !is_within(method.code, brought) {

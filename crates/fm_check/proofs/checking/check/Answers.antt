@@ -1,6 +1,4 @@
-use Rattle.std.proofs.Common.{◌≡◌, ◌∙◌, sym, ap, Some, None}
-use Rattle.std.specs.Option.{option_copied}
-use Rattle.fm_check.proofs.CheckLemmas.{found_code, IsFound, judged_least, judged_narrow, judged_untyped, judged_untyped_narrow, judged_wide, method_there, no_code, sound_task}
+use Rattle.fm_check.proofs.CheckLemmas.{found_code, judged_least, judged_narrow, judged_untyped, judged_untyped_narrow, judged_wide, method_there, no_code, sound_task}
 use Rattle.fm_check.proofs.checking.check.Goals as goal
 
 pub code_of-requires : goal.code_of-requires

@@ -1,4 +1,4 @@
-use Rattle.std.proofs.Common.{◌≡◌, ◌∙◌, sym, ap, subst, ℕ, List, Option, true, false}
+use Rattle.std.proofs.Common.{◌∙◌, sym, ap, subst, List, Option}
 use Rattle.fm_check.proofs.ItemLemmas.{entry_forced, match_true, settled-is_least, Walking-first}
 use Rattle.fm_check.proofs.WalkLemmas.{too_large}
 use Rattle.fm_check.specs.inner.Walks.{HasSettled, IsForced, IsLeast, not_begun, states_seen, task, Untypable, Walked, walked, Walking, with_state}

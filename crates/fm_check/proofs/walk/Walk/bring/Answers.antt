@@ -1,4 +1,4 @@
-use Rattle.std.proofs.Common.{◌≡◌, ◌∙◌, sym, ap, subst, Some, None}
+use Rattle.std.proofs.Common.{◌∙◌, sym, ap, subst, Some, None}
 use Rattle.std.specs.Option.{option_map}
 use Rattle.fm_check.proofs.WalkLemmas.{Brings-first, Brings-fit, Brings-joined, no_join, state_seen, too_large}
 use Rattle.fm_check.specs.inner.Walks.{Brings, task, Walked, walked, with_state}

@@ -1,11 +1,8 @@
-use Rattle.std.proofs.Common.{◌≡◌, ◌∙◌, sym, ap, subst, ℕ, List, Option, Some, None, Contains, get_or, take}
-use Rattle.std.proofs.lemmas.List.{take_all}
-use Rattle.std.proofs.lemmas.List.Elements.{Contains-get_or}
+use Rattle.std.proofs.Common.{◌∙◌, sym, subst}
 use Rattle.fm_types.specs.States.{TypeState}
 use Rattle.fm_types.specs.Typings.{type_state}
 use Rattle.fm_check.proofs.ItemLemmas.{BringsCaught-before, BringsCaught-behind, BringsCaught-brings, caught_forced, ok_weaker, uncaught}
 use Rattle.fm_check.specs.inner.Walks.{Brings, BringsCaught, IsForced, task, Untypable, walked}
-use Rattle.fm_types.specs.Typed.{handler_state}
 use Rattle.fm_check.proofs.walk.Walk.bring_caught.Goals as goal
 
 pub returns-then-item-handler : goal.returns-then-item-handler

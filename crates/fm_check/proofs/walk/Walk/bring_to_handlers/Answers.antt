@@ -1,7 +1,5 @@
-use Rattle.std.proofs.Common.{◌≡◌, ◌∙◌, sym, ap, subst, ℕ, List, Option, Some, None, Contains, get_or, take}
+use Rattle.std.proofs.Common.{subst, List, get_or}
 use Rattle.std.proofs.lemmas.List.{take_all}
-use Rattle.std.proofs.lemmas.List.Elements.{Contains-get_or}
-use Rattle.fm_types.specs.States.{TypeState}
 use Rattle.fm_types.specs.Typings.{type_state}
 use Rattle.fm_check.proofs.ItemLemmas.{blank, BringsHandlers-more, BringsHandlers-none, match_true}
 use Rattle.fm_check.specs.inner.Walks.{BringsCaught, BringsHandlers, task, Untypable, walked}

@@ -1,4 +1,4 @@
-use Rattle.std.proofs.Common.{◌<◌, ◌∷◌, [], ◌++◌, ℕ, List, Contains, length, subst, sym, arith}
+use Rattle.std.proofs.Common.{◌<◌, ℕ, List, Contains, length, subst, sym, arith}
 use Rattle.std.proofs.lemmas.List.Elements.{Contains-push}
 use Rattle.fm_check.proofs.walk.Walk.next.Goals as goal
 

@@ -1,4 +1,3 @@
-use Rattle.std.proofs.Common.{true}
 use Rattle.fm_check.proofs.ItemLemmas.{match_true, Stands-taken, taken-inside, waiting_marked, Walking-more}
 use Rattle.fm_check.specs.inner.Walks.{GoesOver, task, Untypable, walked}
 use Rattle.fm_check.proofs.walk.Walk.run.Goals as goal
