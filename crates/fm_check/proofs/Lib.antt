@@ -1,0 +1,4 @@
+pub mod MergingLemmas
+pub mod WalkLemmas
+pub mod ItemLemmas
+pub mod CheckLemmas

@@ -1,0 +1,13 @@
+// The stack checker: a method is accepted exactly where it is typed, and gets its least typing
+// (JVMS 4.10).
+#![tactic(auto)]
+
+mod checking;
+mod error;
+mod merging;
+mod method;
+mod steps;
+mod walk;
+
+pub use checking::check;
+pub use error::CheckFail;
