@@ -6,9 +6,13 @@
 #![tactic(auto)]
 
 mod ends;
+mod frames;
 mod laws;
+mod machine;
 mod values;
 
 pub use ends::Ended;
+pub use frames::{Cursor, Frames};
 pub use laws::{law_object_example, law_sum_example};
+pub use machine::Machine;
 pub use values::Value;
