@@ -1,14 +1,14 @@
 -- Frames that lie in one list: what a change of the list, or of the topmost cursor, does to them.
-use Rattle.std.proofs.Common.{◌≡◌, ℕ, ◌+◌, ◌-◌, ◌<◌, ◌≤◌, ◌⊎◌, inl, inr, List, [], ◌∷◌, ◌++◌, length, take, drop, set, reverse, Option, Some, None, get_or, refl, ap, sym, ◌∙◌, subst, slice_get, true, false, leb, arith}
+use Rattle.std.proofs.Common.{◌≡◌, ℕ, ◌+◌, ◌-◌, ◌<◌, ◌≤◌, ◌⊎◌, inl, inr, List, [], ◌∷◌, ◌++◌, length, take, drop, set, reverse, Option, Some, None, get_or, refl, ap, sym, ◌∙◌, subst, slice_get, option_map, map, zero, suc, ◌≢◌, add-one, true, false, leb, arith}
 use Rattle.std.proofs.Math.ListN.{drop_of_length-le}
 use Rattle.std.proofs.Math.Seq.{drop-append_seam, take-set-lt}
 use Rattle.std.proofs.lemmas.List.{drop-append-le, take-append-le, take-append-drop, drop-take, reverse-append, reverse-reverse, length-reverse, length-take, length-drop, length-take-le, get_or-reverse, length-append, take-set-le, drop-set-lt, drop-set-add, length-set, set_past}
-use Rattle.std.proofs.lemmas.Option.{slice_get-get_or, slice_get_past}
+use Rattle.std.proofs.lemmas.Option.{slice_get-get_or, slice_get-map, slice_get_past}
 use Rattle.std.proofs.lemmas.Bool.Decides.{leb_tells}
 use Rattle.fm_frames.specs.States.{Frame}
 use Rattle.fm_frames.specs.declared.frames.Cursor.{Cursor}
 use Rattle.fm_frames.specs.declared.values.Value.{Value}
-use Rattle.fm_frames.specs.inner.Frames.{AreTiled, cursors, frame_at, frames_at, on_top}
+use Rattle.fm_frames.specs.inner.Frames.{AreTiled, cursors, frames_at, on_top, place, place_of}
 
 -- frames are equal by their parts
 same_frame : (method item : ℕ) {l1 l2 s1 s2 : List Value} → l1 ≡ l2 → s1 ≡ s2
@@ -42,7 +42,7 @@ frames-pushed values (Some c) callers v tiled =
 -- ---- values after which the list is cut
 
 -- a place is below the other, or not
-below_or_not : (a b : ℕ) → (a < b) ⊎ (b ≤ a)
+pub below_or_not : (a b : ℕ) → (a < b) ⊎ (b ≤ a)
 below_or_not a b = by_test (leb_tells b a) where
   by_test : ((leb b a ≡ true) × (b ≤ a)) ⊎ ((leb b a ≡ false) × (a < b)) → (a < b) ⊎ (b ≤ a)
   by_test (inl t) = inr t.1
@@ -151,3 +151,62 @@ set_at values t c callers place v x known tiled is within =
     subst P (sym known)
     (λ tiled is. frames-set values c callers place v tiled within ∙ ap (on_top (λ f. record f { locals = set f.locals place v })) is)
     tiled is
+
+-- ---- how many frames there are, and where each one stands
+
+length-frames : (values : List Value) (all : List Cursor) → length (frames_at values all) ≡ length all
+length-frames values [] = refl
+length-frames values (c ∷ callers) = ap suc (length-frames (take c.locals values) callers)
+
+pub counted : (values : List Value) (t : Option Cursor) (c : Cursor) (callers : List Cursor) (x : List Frame)
+    → t ≡ Some c → frames_at values (cursors t (reverse callers)) ≡ x → length callers + 1 ≡ length x
+counted values t c callers x known is =
+    let count : length (frames_at values (c ∷ reverse callers)) ≡ length callers + 1 =
+    length-frames values (c ∷ reverse callers) ∙ ap suc (length-reverse callers) ∙ sym (add-one (length callers)) in
+    sym (ap length (sym is) ∙ ap (λ t. length (frames_at values (cursors t (reverse callers)))) known ∙ count)
+
+map-places : (values : List Value) (all : List Cursor) → map place_of (frames_at values all) ≡ map place all
+map-places values [] = refl
+map-places values (c ∷ callers) = ap (λ rest. place c ∷ rest) (map-places (take c.locals values) callers)
+
+place-at : (values : List Value) (all : List Cursor) (above : ℕ)
+    → option_map place_of (slice_get (frames_at values all) above) ≡ option_map place (slice_get all above)
+place-at values all above =
+    sym (slice_get-map place_of (frames_at values all) above) ∙ ap (λ places. slice_get places above) (map-places values all)
+    ∙ slice_get-map place all above
+
+pub no-cursor : (values : List Value) (t : Option Cursor) (c : Cursor) (callers : List Cursor) (above : ℕ) (x : List Frame)
+    → t ≡ Some c → frames_at values (cursors t (reverse callers)) ≡ x → length callers < above → None ≡ option_map place_of (slice_get x above)
+no-cursor values t c callers above x known is past =
+    let few : length x ≤ above = omega (arith, counted values t c callers x known is) in
+    sym (ap (option_map place_of) (slice_get_past x above few))
+
+from-end : (c : Cursor) (callers : List Cursor) (above : ℕ) → above ≢ 0 → above ≤ length callers
+    → slice_get (c ∷ reverse callers) above ≡ slice_get callers (length callers - above)
+from-end c callers zero some within = absurd (some refl)
+from-end c callers (suc k) some within =
+    let turned = length-reverse callers in
+    slice_get-get_or (c ∷ reverse callers) (suc k) c (omega (arith, turned))
+    ∙ ap Some (get_or-reverse callers k c (omega arith))
+    ∙ ap (λ n. Some (get_or callers n c)) (let e : length callers - 1 - k ≡ length callers - suc k = omega arith in e)
+    ∙ sym (slice_get-get_or callers (length callers - suc k) c (omega arith))
+
+pub cursor-below : (values : List Value) (t : Option Cursor) (c : Cursor) (callers : List Cursor) (above : ℕ) (x : List Frame)
+    → t ≡ Some c → frames_at values (cursors t (reverse callers)) ≡ x → above ≢ 0 → above ≤ length callers
+    → option_map place (slice_get callers (length callers - above)) ≡ option_map place_of (slice_get x above)
+cursor-below values t c callers above x known is some within =
+    sym (ap (λ fs. option_map place_of (slice_get fs above)) (sym is)
+    ∙ ap (λ t. option_map place_of (slice_get (frames_at values (cursors t (reverse callers))) above)) known
+    ∙ place-at values (c ∷ reverse callers) above ∙ ap (option_map place) (from-end c callers above some within))
+
+-- the same as calls leave it, where the callers were lent
+pub cursor-is : (values : List Value) (t : Option Cursor) (c d : Cursor) (callers lent : List Cursor) (above : ℕ) (x : List Frame)
+    → t ≡ Some c → frames_at values (cursors t (reverse callers)) ≡ x → lent ≡ callers → above ≢ 0 → above ≤ length lent
+    → Some (place (get_or lent (length lent - above) d)) ≡ option_map place_of (slice_get x above)
+cursor-is values t c d callers lent above x known is same some within =
+    let P : List Cursor → Type 0 = λ lent. above ≤ length lent
+    → Some (place (get_or lent (length lent - above) d)) ≡ option_map place_of (slice_get x above) in
+    subst P (sym same)
+    (λ within. ap (option_map place) (sym (slice_get-get_or callers (length callers - above) d (omega arith)))
+    ∙ cursor-below values t c callers above x known is some within)
+    within

@@ -1,3 +1,5 @@
 pub mod Example
 pub mod FrameValues
 pub mod Finishes
+pub mod Programs
+pub mod Makings

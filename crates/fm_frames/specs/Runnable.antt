@@ -1,6 +1,7 @@
 -- What linking makes sure of, so that numbers of the machine fit those of the code (JVMS 4.1, 5.3, 5.4).
-use Rattle.std.specs.Prelude.{◌≡◌, ℕ, ◌^◌, ◌<◌, ◌≤◌, List, ◌++◌, length, None, IsSome}
+use Rattle.std.specs.Prelude.{◌≡◌, ℕ, ◌^◌, ◌<◌, ◌≤◌, List, ◌++◌, length, None, Some}
 use Rattle.std.specs.List.{AllByRecursion}
+use Rattle.fm_code.specs.declared.code_array.Code.{Code}
 use Rattle.fm_world.specs.BuiltIns.{built_in}
 use Rattle.fm_world.specs.Members.{fields_of, method_at, methods_of, size_of}
 use Rattle.fm_world.specs.Programs.{code_at, IsTypeIn, Outline, Program, use_of}
@@ -30,4 +31,4 @@ pub record IsRunnable (p : Program) : Type 0 where
   pub uses : (class index : ℕ) → IsUseIn p.outline (use_of p class index)
   -- a code for each method that has one, and none for a built-in method
   pub codes : length p.codes ≡ length (methods_of p.outline.classes)
-  pub no_row : (method : ℕ) → IsSome (code_at p method) → (method_at p.outline.classes method).method.row ≡ None
+  pub no_row : (method : ℕ) (code : Code) → code_at p method ≡ Some code → (method_at p.outline.classes method).method.row ≡ None

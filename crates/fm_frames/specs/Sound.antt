@@ -1,6 +1,6 @@
 -- What holds of each state to which the run of a typed program comes, whatever it frees (JVMS 2.6, 4.10): its areas have the sizes of the program, its
 -- objects are of types of which objects are made, and each frame has what the checker knows of its item.
-use Rattle.std.specs.Prelude.{◌≡◌, ℕ, ℤ, ◌+◌, ◌*◌, ◌^◌, ◌<◌, ◌≤◌, ◌⊎◌, Bool, true, false, List, [], ◌∷◌, length, drop, Option, Some, None, IsSome, IsSomeAnd, slice_get, if◌then◌else◌}
+use Rattle.std.specs.Prelude.{◌≡◌, ℕ, ℤ, ◌+◌, ◌*◌, ◌^◌, ◌<◌, ◌≤◌, ◌⊎◌, Bool, true, false, List, [], ◌∷◌, length, drop, Option, Some, None, IsSomeAnd, slice_get, if◌then◌else◌}
 use Rattle.std.specs.FinMap as map
 use Rattle.std.specs.List.{flat_map}
 use Rattle.fm_base.specs.declared.kinds.Kind.{Kind}
@@ -9,6 +9,7 @@ use Rattle.fm_base.specs.declared.limits.TheConstants.{MAX_FILE_BYTES, MAX_LIVE_
 use Rattle.fm_cells.specs.Objects.{Object}
 use Rattle.fm_cells.specs.Stores.{object_at}
 use Rattle.fm_code.specs.AccessFlags.{is_abstract, is_interface, is_static}
+use Rattle.fm_code.specs.declared.code_array.Code.{Code}
 use Rattle.fm_code.specs.declared.instructions.Insn.{Insn}
 use Rattle.fm_code.specs.declared.instructions.Insn.TheVariants as insn
 use Rattle.fm_types.specs.States.{local_slots, TypeState}
@@ -144,7 +145,7 @@ Stand p (f ∷ callers) = StandsWithout p 0 f × StandBelow p f callers
 
 pub record IsSound (p : Program) (x : State) : Type 0 where
   -- each method that has code is typed
-  pub typed : (method : ℕ) → IsSome (code_at p method) → Typed p method
+  pub typed : (method : ℕ) (code : Code) → code_at p method ≡ Some code → Typed p method
   -- a value of its kind for each static field, a mark for each class, a cell for each text
   pub statics : HaveKinds (static_slots p.outline) x.areas.statics
   pub started : length x.areas.started ≡ length p.outline.classes

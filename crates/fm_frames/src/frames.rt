@@ -8,7 +8,7 @@ ghost use Rattle.std.specs.Option.{option_map};
 ghost use Rattle.fm_frames.specs.States.{word_at};
 ghost use Rattle.fm_frames.specs.inner.Frames as spec;
 ghost use Rattle.fm_frames.specs.inner.Doings.{NextFits};
-ghost use Rattle.fm_frames.specs.inner.Frames.{on_top, stack_in, locals_in};
+ghost use Rattle.fm_frames.specs.inner.Frames.{on_top, place, place_of, stack_in, locals_in};
 
 use crate::values::Value;
 use fm_base::{MethodId, NoMemory};
@@ -135,6 +135,58 @@ impl Frames {
                 item: topmost.item + 1,
                 ..topmost
             });
+        }
+    }
+
+    /// The cursor of the topmost frame; none where there are no frames.
+    pub fn topmost(&self) -> Option<Cursor>
+        ensures { option_map place result ≡ option_map place_of (spec.topmost self.now) }
+    {
+        let _values = &self.values;
+        self.topmost
+    }
+
+    /// How many frames there are.
+    pub fn count(&self) -> usize
+        ensures { result ≡ length self.now }
+    {
+        match self.topmost {
+            Some(_) => self.callers.as_slice().len() + 1,
+            None => 0,
+        }
+    }
+
+    /// The cursor of the frame above which so many frames lie; none where there are fewer.
+    pub fn cursor(&self, above: usize) -> Option<Cursor>
+        ensures { option_map place result ≡ option_map place_of (slice_get self.now above) }
+    {
+        let topmost = self.topmost?;
+        if above == 0 {
+            return Some(topmost);
+        }
+        let callers = self.callers.as_slice();
+        if above > callers.len() {
+            return None;
+        }
+        Some(callers[callers.len() - above])
+    }
+
+    /// Takes the topmost frame off.
+    pub fn pop(&mut self)
+        ensures { self.new ≡ drop 1 self.old }
+    {
+        if let Some(topmost) = self.topmost {
+            self.values.truncate(topmost.locals);
+            self.topmost = self.callers.pop();
+        }
+    }
+
+    /// Takes all words off the stack.
+    pub fn clear_words(&mut self)
+        ensures { self.new ≡ on_top (λ f. record f { stack = [] }) self.old }
+    {
+        if let Some(topmost) = self.topmost {
+            self.values.truncate(topmost.stack);
         }
     }
 }

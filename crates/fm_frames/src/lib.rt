@@ -5,12 +5,17 @@
 // whose operands look alike do the same.
 #![tactic(auto)]
 
+mod coded;
 mod ends;
+mod faults;
 mod frames;
 mod laws;
 mod machine;
+mod makes;
+mod moves;
 mod values;
 
+pub use coded::{code_of, offset_of, pack_of};
 pub use ends::Ended;
 pub use frames::{Cursor, Frames};
 pub use laws::{law_object_example, law_sum_example};

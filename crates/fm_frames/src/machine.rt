@@ -1,16 +1,14 @@
 // The machine: a state of the run over any memory.
 
-ghost use Rattle.std.specs.Prelude.{◌≡◌, ◌+◌, [], ◌∷◌, slice_get, OnOk};
-ghost use Rattle.fm_frames.specs.Acts.{value_of};
-ghost use Rattle.fm_frames.specs.Effects.{Source, words};
+ghost use Rattle.std.specs.Prelude.{◌≡◌, slice_get};
 ghost use Rattle.fm_frames.specs.States.{word_at};
 ghost use Rattle.fm_frames.specs.Steps.{locals_of, stack_of};
-ghost use Rattle.fm_frames.specs.inner.Doings.{before, int_in, long_in, Does, IsReady};
+ghost use Rattle.fm_frames.specs.inner.Doings.{int_in, long_in};
 
 use crate::ends::Ended;
 use crate::frames::Frames;
 use crate::values::Value;
-use fm_base::{NoMemory, Row};
+use fm_base::Row;
 use fm_cells::{Cell, Memory};
 use std::marker::Model;
 
@@ -80,23 +78,20 @@ impl<M: Memory> Machine<M> {
         }
     }
 
+    /// The long at this place of the stack; none where there is no long. Takes no memory.
+    pub fn long_operand(&self, place: usize) -> Option<i64>
+        ensures { result ≡ long_in (slice_get (stack_of self.now) place) }
+    {
+        match self.frames.operand(place) {
+            Some(Value::Long(n)) => Some(n),
+            _ => None,
+        }
+    }
+
     /// The local at this place; no value where there is none. Takes no memory.
     pub fn local(&self, place: usize) -> Value
         ensures { result ≡ word_at (locals_of self.now) place }
     {
         self.frames.local(place)
-    }
-
-    /// Goes on to the next item, and puts a value in place of so many words.
-    pub fn give(&mut self, takes: usize, value: Value) -> Result<(), NoMemory>
-        requires { IsReady self.old }
-        ensures { OnOk result ((source : Source) → value_of (before self.old) source ≡ value
-            → Does self.old self.new (words takes (source ∷ []))) }
-    {
-        self.frames.advance();
-        self.frames.drop_words(takes);
-        self.frames.push(value)?;
-        self.steps += 1;
-        Ok(())
     }
 }

@@ -1,10 +1,11 @@
 -- What the calls of a machine do, told by effects.
 use Rattle.std.specs.Prelude.{◌≡◌, ℕ, ◌+◌, ◌^◌, ◌<◌, ℤ, List, [], ◌∷◌, Option, Some, None}
 use Rattle.fm_world.specs.Programs.{Program}
-use Rattle.fm_frames.specs.Acts.{Choose, Sources}
+use Rattle.fm_cells.specs.declared.answers.Cell.{Cell}
+use Rattle.fm_frames.specs.Acts.{Choose, Did, Sources}
 use Rattle.fm_frames.specs.Effects.{Effect}
 use Rattle.fm_frames.specs.States.{Frame, Moved, State}
-use Rattle.fm_frames.specs.Steps.{attempted, locals_of, stack_of}
+use Rattle.fm_frames.specs.Steps.{attempted, done_by, locals_of, stack_of}
 use Rattle.fm_frames.specs.declared.values.Value.{Value}
 use Rattle.fm_frames.specs.declared.values.Value.TheVariants as value
 
@@ -50,3 +51,11 @@ Does x y e = (p : Program) (choose : Choose) → silent y ≡ attempted p choose
 -- in this program, with the choices of this memory
 abbrev pub DoesIn : Program → Choose → State → State → Effect → Type 0
 DoesIn p choose x y e = silent y ≡ attempted p choose x e
+
+-- ---- in the midst of it
+
+-- where an effect makes one object: with the object made only the areas are others, and the effect has still to be finished; or the run has ended
+abbrev pub MakesOne : Program → Choose → State → State → Effect → Option Cell → Type 0
+MakesOne p choose x y e None = DoesIn p choose x y e
+MakesOne p choose x y e (Some cell) =
+    (attempted p choose x e ≡ done_by p 1 e x (Did y.areas (cell.0 ∷ []))) × (y ≡ record x { areas = y.areas })

@@ -48,3 +48,10 @@ stack_in (f ∷ callers) = f.stack
 abbrev pub locals_in : List Frame → List Value
 locals_in [] = []
 locals_in (f ∷ callers) = f.locals
+
+-- the method and the item of a frame, and of a cursor
+abbrev pub place_of : Frame → ℕ × ℕ
+place_of f = (f.method, f.item)
+
+abbrev pub place : Cursor → ℕ × ℕ
+place c = (c.method.0, c.item)
