@@ -210,3 +210,12 @@ cursor-is values t c d callers lent above x known is same some within =
     (λ within. ap (option_map place) (sym (slice_get-get_or callers (length callers - above) d (omega arith)))
     ∙ cursor-below values t c callers above x known is some within)
     within
+
+-- one value less
+drop-next : (k : ℕ) (xs : List Frame) → drop 1 (drop k xs) ≡ drop (suc k) xs
+drop-next zero xs = refl
+drop-next (suc k) [] = refl
+drop-next (suc k) (x ∷ xs) = drop-next k xs
+
+pub dropped-next : (k : ℕ) (xs all now : List Frame) → xs ≡ drop k all → now ≡ drop 1 xs → now ≡ drop (k + 1) all
+dropped-next k xs all now is next = next ∙ ap (drop 1) is ∙ drop-next k all ∙ ap (λ n. drop n all) (sym (add-one k))

@@ -3,3 +3,4 @@ pub mod FrameValues
 pub mod Finishes
 pub mod Programs
 pub mod Makings
+pub mod Catches

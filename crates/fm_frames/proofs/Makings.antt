@@ -1,11 +1,12 @@
 -- An effect that makes one object: what comes of each answer of the memory.
-use Rattle.std.proofs.Common.{◌≡◌, ◌⊎◌, inl, inr, length, ℕ, ◌+◌, ◌<◌, ◌≤◌, Bool, true, false, nat_lt, ◌&&◌, if◌then◌else◌, List, [], ◌∷◌, max, Option, Some, None, refl, ap, sym, ◌∙◌, subst, arith}
-use Rattle.std.proofs.lemmas.Bool.{lt-ltb, le-ltb}
+use Rattle.std.proofs.Common.{◌≡◌, ◌⊎◌, inl, inr, length, ℕ, ◌+◌, ◌<◌, ◌≤◌, Bool, true, false, cond, nat_lt, ◌&&◌, if◌then◌else◌, List, [], ◌∷◌, max, Option, Some, None, refl, ap, sym, ◌∙◌, subst, arith}
+use Rattle.std.proofs.lemmas.Bool.{eq-eqb, lt-ltb, le-ltb}
+use Rattle.fm_cells.proofs.Changes.{object_at-made_by}
 use Rattle.fm_base.specs.declared.kinds.TypeRef.{TypeRef}
 use Rattle.fm_cells.specs.Changes.{Choice, Take, RefuseStore, made_by}
-use Rattle.fm_cells.specs.Objects.{Request, request_words}
+use Rattle.fm_cells.specs.Objects.{new_object, Request, request_words}
 use Rattle.fm_cells.specs.Sizes.{cell_words}
-use Rattle.fm_cells.specs.Stores.{IsOverBudget, Store, live_words, words_needed}
+use Rattle.fm_cells.specs.Stores.{IsOverBudget, object_at, Store, live_words, words_needed}
 use Rattle.fm_world.specs.Programs.{Program}
 use Rattle.fm_frames.specs.Acts.{Choose, Did, made_then, performed, requested}
 use Rattle.fm_frames.specs.Effects.{Action, Effect, Make}
@@ -111,3 +112,10 @@ not-over store r not = by_case (below_or_not store.budget (words_needed store r)
   by_case : (store.budget < words_needed store r) ⊎ (words_needed store r ≤ store.budget) → words_needed store r ≤ store.budget
   by_case (inl over) = absurd (not over)
   by_case (inr within) = within
+
+-- the object that was made lies in its cell
+pub made-object : (store new : Store) (r : Request) (choice : Choice) (cell : ℕ) (grows : Bool) → choice ≡ Take cell grows → new ≡ made_by store r choice
+    → object_at new cell ≡ Some (new_object store.births r)
+made-object store new r choice cell grows taken made =
+    ap (λ (s : Store). object_at s cell) (made ∙ ap (made_by store r) taken) ∙ object_at-made_by store r cell grows cell
+    ∙ ap (λ (b : Bool). cond b (Some (new_object store.births r)) (object_at store cell)) (eq-eqb cell cell refl)

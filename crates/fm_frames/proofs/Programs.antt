@@ -1,5 +1,5 @@
 -- What is known of a program that the machine can run.
-use Rattle.std.proofs.Common.{◌≡◌, ℕ, ◌+◌, ◌<◌, ◌≤◌, List, ◌∷◌, ◌++◌, codes, Option, Some, None, if◌then◌else◌, ◌==◌, refl, ap, sym, ◌∙◌, subst, unwrap_or}
+use Rattle.std.proofs.Common.{◌≡◌, ℕ, ◌+◌, ◌<◌, ◌≤◌, List, ◌∷◌, ◌++◌, codes, Option, Some, None, if◌then◌else◌, ◌==◌, refl, ap, sym, ◌∙◌, subst, unwrap_or, option_map, Bool, false, length, arith}
 use Rattle.std.specs.Str.{bytes_eq}
 use Rattle.std.proofs.lemmas.Iterator.Adapters.{position_from-zero}
 use Rattle.fm_base.specs.declared.kinds.TypeRef.{TypeRef}
@@ -10,7 +10,11 @@ use Rattle.fm_world.specs.Chains.{same_type}
 use Rattle.fm_world.specs.Descriptors.{class_number}
 use Rattle.fm_world.specs.Members.{method_at}
 use Rattle.fm_world.specs.Numbers.{type_of_class}
-use Rattle.fm_world.specs.Programs.{code_at, method_info, body_of, Outline, Program}
+use Rattle.fm_base.specs.declared.ids.MethodId.{MethodId}
+use Rattle.fm_types.specs.Named.{class_of_method}
+use Rattle.fm_world.specs.Members.{start_of}
+use Rattle.fm_world.specs.Programs.{class_info, code_at, IsTypeIn, method_id, method_info, body_of, Outline, Program}
+use Rattle.fm_frames.specs.Steps.{is_start}
 use Rattle.fm_world.specs.declared.declarations.DeclaredClass.{DeclaredClass}
 use Rattle.fm_world.specs.declared.declarations.DeclaredMethod.{DeclaredMethod}
 use Rattle.fm_world.specs.declared.records.Body.{Body}
@@ -49,3 +53,38 @@ is_text-by p t runnable = ap (λ text. same_type text t) (sym (string-is p.outli
 pub pack-is : (p : Program) (t : TypeRef) → IsRunnable p
     → (if t.dims == 1 then pack_of_base t.base else (if same_type (type_of_class 1) t then 4 else 1)) ≡ pack_of p.outline t
 pack-is p t runnable = ap (λ text. if t.dims == 1 then pack_of_base t.base else (if text then 4 else 1)) (is_text-by p t runnable)
+
+-- ---- classes of methods, and types
+
+pub method-class : (p : Program) (method : ℕ) → (method_info p method).class.0 ≡ class_of_method p.outline method
+unfolding method_info
+method-class p method = refl
+
+pub class-start : (o : Outline) (class : ℕ) → (class_info o class).start ≡ option_map method_id (start_of o.classes class)
+unfolding class_info
+class-start o class = refl
+
+-- Object is there
+pub object-inside : (p : Program) → IsRunnable p → IsTypeIn p.outline.classes (type_of_class 0)
+unfolding built_in
+object-inside p runnable =
+    let P : List DeclaredClass → Type 0 = λ classes. 0 < length classes in
+    subst P (sym runnable.classes) (omega arith)
+
+-- whether the method is the one that is told, if one is
+abbrev pub told_start : Option MethodId → ℕ → Bool
+told_start None method = false
+told_start (Some start) method = start.0 == method
+
+abbrev start_by : ℕ → Option ℕ → Bool
+start_by method None = false
+start_by method (Some start) = start == method
+
+pub start-is : (o : Outline) (method class : ℕ) (found : Option MethodId) → class ≡ class_of_method o method
+    → found ≡ option_map method_id (start_of o.classes class) → told_start found method ≡ is_start o method
+start-is o method class found owner is =
+    ap (λ f. told_start f method) (is ∙ ap (λ c. option_map method_id (start_of o.classes c)) owner)
+    ∙ by_start (start_of o.classes (class_of_method o method)) where
+      by_start : (start : Option ℕ) → told_start (option_map method_id start) method ≡ start_by method start
+      by_start None = refl
+      by_start (Some start) = refl

@@ -1,6 +1,6 @@
 -- What linking makes sure of, so that numbers of the machine fit those of the code (JVMS 4.1, 5.3, 5.4).
-use Rattle.std.specs.Prelude.{◌≡◌, ℕ, ◌^◌, ◌<◌, ◌≤◌, List, ◌++◌, length, None, Some}
-use Rattle.std.specs.List.{AllByRecursion}
+use Rattle.std.specs.Prelude.{◌≡◌, ℕ, ◌^◌, ◌<◌, ◌≤◌, List, ◌++◌, length, None, Some, slice_get}
+use Rattle.fm_base.specs.declared.kinds.TypeRef.{TypeRef}
 use Rattle.fm_code.specs.declared.code_array.Code.{Code}
 use Rattle.fm_world.specs.BuiltIns.{built_in}
 use Rattle.fm_world.specs.Members.{fields_of, method_at, methods_of, size_of}
@@ -27,7 +27,8 @@ pub record IsRunnable (p : Program) : Type 0 where
   pub few_types : length p.outline.types ≤ 2 ^ 28
   pub sizes : (class : ℕ) → size_of p.outline.classes class < 2 ^ 31
   -- what has a number is there
-  pub types : AllByRecursion (IsTypeIn p.outline.classes) p.outline.types
+  pub types : (n : ℕ) (t : TypeRef) → slice_get p.outline.types n ≡ Some t → IsTypeIn p.outline.classes t
+  pub owners : (method : ℕ) → (method_at p.outline.classes method).class < length p.outline.classes
   pub uses : (class index : ℕ) → IsUseIn p.outline (use_of p class index)
   -- a code for each method that has one, and none for a built-in method
   pub codes : length p.codes ≡ length (methods_of p.outline.classes)

@@ -1,17 +1,18 @@
 // What the code of a method tells at an item.
 
-ghost use Rattle.std.specs.Prelude.{◌≡◌, ◌==◌, if◌then◌else◌};
+ghost use Rattle.std.specs.Prelude.{◌≡◌, ◌==◌, ◌^◌, ◌<◌, if◌then◌else◌, unwrap_or};
 ghost use Rattle.std.specs.Option.{option_copied};
 ghost use Rattle.fm_cells.specs.Sizes.{IsPack};
 ghost use Rattle.fm_frames.specs.Elements.{pack_of, pack_of_base};
 ghost use Rattle.fm_frames.specs.Runnable.{IsRunnable};
+ghost use Rattle.fm_frames.specs.Sights.{type_numbered};
 ghost use Rattle.fm_frames.specs.States.{Frame};
 ghost use Rattle.fm_frames.specs.Steps.{offset_at};
 ghost use Rattle.fm_world.specs.Chains.{same_type};
-ghost use Rattle.fm_world.specs.Numbers.{type_of_class};
-ghost use Rattle.fm_world.specs.Programs.{code_at};
+ghost use Rattle.fm_world.specs.Numbers.{type_number, type_of_class};
+ghost use Rattle.fm_world.specs.Programs.{code_at, IsTypeIn};
 
-use fm_base::{Base, ClassId, MethodId, TypeRef};
+use fm_base::{Base, ClassId, MethodId, TypeId, TypeRef};
 use fm_code::Code;
 use fm_world::{Body, Program};
 
@@ -91,4 +92,37 @@ pub fn pack_of(program: &Program, t: TypeRef) -> u8
 {
     let _classes = program.classes();
     pack_by(t)
+}
+
+/// A class as a type. Takes no memory.
+pub fn type_of_class(class: ClassId) -> TypeRef
+    ensures { result ≡ type_of_class class.0 }
+{
+    TypeRef {
+        dims: 0,
+        base: Base::OfClass(class),
+    }
+}
+
+/// The number of a type; 0 where it has none. Takes no memory.
+pub fn type_id(program: &Program, t: TypeRef) -> TypeId
+    ensures number { result.0 ≡ unwrap_or (type_number program.now.outline.types t) 0 }
+    ensures few { IsRunnable program.now → result.0 < 2 ^ 28 }
+{
+    match program.id_of(t) {
+        Some(id) => id,
+        None => TypeId(0),
+    }
+}
+
+/// The type of this number; that of Object where there is none. Takes no memory.
+pub fn type_numbered(program: &Program, id: TypeId) -> TypeRef
+    ensures value { result ≡ type_numbered program.now.outline id.0 }
+    ensures inside { IsRunnable program.now → IsTypeIn program.now.outline.classes result }
+{
+    if id.0 < program.types() {
+        program.type_of(id)
+    } else {
+        type_of_class(ClassId(0))
+    }
 }

@@ -189,4 +189,18 @@ impl Frames {
             self.values.truncate(topmost.stack);
         }
     }
+
+    /// Takes so many frames off, and goes on at a handler in the one that is then on top, with a value as
+    /// the only word of its stack.
+    pub fn catch(&mut self, above: usize, handler: usize, value: Value) -> Result<(), NoMemory>
+        ensures { OnOk result (self.new
+            ≡ on_top (λ f. record f { item = handler; stack = value ∷ [] }) (drop above self.old)) }
+    {
+        for popped in 0..above {
+            self.pop();
+        }
+        self.clear_words();
+        self.go_to(handler);
+        self.push(value)
+    }
 }

@@ -13,11 +13,13 @@ mod laws;
 mod machine;
 mod makes;
 mod moves;
+mod throws;
 mod values;
 
-pub use coded::{code_of, offset_of, pack_of};
+pub use coded::{code_of, offset_of, pack_of, type_id, type_numbered, type_of_class};
 pub use ends::Ended;
 pub use frames::{Cursor, Frames};
 pub use laws::{law_object_example, law_sum_example};
 pub use machine::Machine;
+pub use throws::{Catch, is_start};
 pub use values::Value;

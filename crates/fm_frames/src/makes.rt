@@ -1,10 +1,12 @@
 // Objects are made.
 
-ghost use Rattle.std.specs.Prelude.{◌≡◌, ◌-◌, ◌^◌, ◌<◌, ℕ, [], ◌∷◌, IfOk, OnOk, false};
+ghost use Rattle.std.specs.Prelude.{◌≡◌, ◌-◌, ◌^◌, ◌<◌, ℕ, [], ◌∷◌, IfOk, IfSome, OnOk, Some, false};
 ghost use Rattle.fm_base.specs.declared.kinds.TypeRef.{TypeRef};
-ghost use Rattle.fm_cells.specs.Objects.{request_of};
+ghost use Rattle.fm_cells.specs.Objects.{new_object, request_of};
 ghost use Rattle.fm_cells.specs.Sizes as spec;
 ghost use Rattle.fm_cells.specs.Sizes.{packed_words, IsPack};
+ghost use Rattle.fm_cells.specs.Stores.{object_at};
+ghost use Rattle.fm_cells.specs.declared.answers.Cell.{Cell};
 ghost use Rattle.fm_frames.specs.Acts.{requested};
 ghost use Rattle.fm_frames.specs.Effects.{Effect, Make};
 ghost use Rattle.fm_frames.specs.Steps.{is_deep};
@@ -47,7 +49,10 @@ impl<M: Memory> Machine<M> {
         requires len_fits { len < 2 ^ 31 }
         requires pack_is { IsPack pack }
         requires birth_fits { self.old.areas.store.births < 2 ^ 32 - 1 }
-        ensures { IfOk result (λ made. (p : Program) (t : TypeRef) (e : Effect)
+        ensures kept { OnOk result ((self.new.frames ≡ self.old.frames) × (self.new.steps ≡ self.old.steps)) }
+        ensures object { IfOk result (λ made. IfSome made (λ (cell : Cell). object_at self.new.areas.store cell.0
+            ≡ Some (new_object self.old.areas.store.births (request_of class.0 len pack false)))) }
+        ensures makes { IfOk result (λ made. (p : Program) (t : TypeRef) (e : Effect)
             → requested p.outline t len false ≡ request_of class.0 len pack false
             → e.actions ≡ Make t len [] ∷ [] → is_deep self.old e.next ≡ false
             → MakesOne p M.choose self.old self.new e made) }

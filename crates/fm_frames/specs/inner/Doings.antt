@@ -1,9 +1,11 @@
 -- What the calls of a machine do, told by effects.
-use Rattle.std.specs.Prelude.{◌≡◌, ℕ, ◌+◌, ◌^◌, ◌<◌, ℤ, List, [], ◌∷◌, Option, Some, None}
+use Rattle.std.specs.Prelude.{◌≡◌, ℕ, ◌+◌, ◌^◌, ◌-◌, ◌<◌, ℤ, List, [], ◌∷◌, length, slice_get, Option, Some, None}
+use Rattle.fm_world.specs.Members.{methods_of}
 use Rattle.fm_world.specs.Programs.{Program}
 use Rattle.fm_cells.specs.declared.answers.Cell.{Cell}
 use Rattle.fm_frames.specs.Acts.{Choose, Did, Sources}
 use Rattle.fm_frames.specs.Effects.{Effect}
+use Rattle.fm_frames.specs.Runnable.{IsRunnable}
 use Rattle.fm_frames.specs.States.{Frame, Moved, State}
 use Rattle.fm_frames.specs.Steps.{attempted, done_by, locals_of, stack_of}
 use Rattle.fm_frames.specs.declared.values.Value.{Value}
@@ -19,6 +21,17 @@ NextFits (f ∷ callers) = f.item + 1 < 2 ^ 64
 pub record IsReady (x : State) : Type 0 where
   pub next_fits : NextFits x.frames
   pub step_fits : x.steps + 1 < 2 ^ 64
+
+-- each frame is of a method of the program
+abbrev pub AreFramesIn : Program → List Frame → Type 0
+AreFramesIn p frames = (k : ℕ) (f : Frame) → slice_get frames k ≡ Some f → f.method < length (methods_of p.outline.classes)
+
+-- what a step asks of the program and of the state, so that numbers fit
+pub record CanStep (p : Program) (x : State) : Type 0 where
+  pub runnable : IsRunnable p
+  pub ready : IsReady x
+  pub frames : AreFramesIn p x.frames
+  pub birth_fits : x.areas.store.births < 2 ^ 32 - 1
 
 -- where the values of an effect come from that makes nothing
 abbrev pub before : State → Sources
