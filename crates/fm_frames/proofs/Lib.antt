@@ -4,3 +4,4 @@ pub mod Finishes
 pub mod Programs
 pub mod Makings
 pub mod Catches
+pub mod Throwing

@@ -12,7 +12,7 @@ use Rattle.fm_world.specs.Members.{method_at}
 use Rattle.fm_world.specs.Numbers.{type_of_class}
 use Rattle.fm_base.specs.declared.ids.MethodId.{MethodId}
 use Rattle.fm_types.specs.Named.{class_of_method}
-use Rattle.fm_world.specs.Members.{start_of}
+use Rattle.fm_world.specs.Members.{size_of, start_of}
 use Rattle.fm_world.specs.Programs.{class_info, code_at, IsTypeIn, method_id, method_info, body_of, Outline, Program}
 use Rattle.fm_frames.specs.Steps.{is_start}
 use Rattle.fm_world.specs.declared.declarations.DeclaredClass.{DeclaredClass}
@@ -88,3 +88,14 @@ start-is o method class found owner is =
       by_start : (start : Option ℕ) → told_start (option_map method_id start) method ≡ start_by method start
       by_start None = refl
       by_start (Some start) = refl
+
+pub class-size : (o : Outline) (class : ℕ) → (class_info o class).size ≡ size_of o.classes class
+unfolding class_info
+class-size o class = refl
+
+-- each built-in class is there
+pub built_in-inside : (p : Program) (class : ℕ) → IsRunnable p → class < 28 → class < length p.outline.classes
+unfolding built_in
+built_in-inside p class runnable within =
+    let P : List DeclaredClass → Type 0 = λ classes. class < length classes in
+    subst P (sym runnable.classes) (omega arith)

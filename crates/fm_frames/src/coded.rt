@@ -12,12 +12,10 @@ ghost use Rattle.fm_world.specs.Chains.{same_type};
 ghost use Rattle.fm_world.specs.Numbers.{type_number, type_of_class};
 ghost use Rattle.fm_world.specs.Programs.{code_at, IsTypeIn};
 
+use crate::built_ins::STRING;
 use fm_base::{Base, ClassId, MethodId, TypeId, TypeRef};
 use fm_code::Code;
 use fm_world::{Body, Program};
-
-/// The number of `java/lang/String` in each program.
-pub const STRING: ClassId = ClassId(1);
 
 /// The code of a method, if it has one. Takes no memory.
 pub fn code_of(program: &Program, method: MethodId) -> Option<&Code>

@@ -5,6 +5,7 @@
 // whose operands look alike do the same.
 #![tactic(auto)]
 
+mod built_ins;
 mod coded;
 mod ends;
 mod faults;
@@ -16,6 +17,7 @@ mod moves;
 mod throws;
 mod values;
 
+pub use built_ins::{ARITHMETIC_EXCEPTION, NULL_POINTER_EXCEPTION, STRING};
 pub use coded::{code_of, offset_of, pack_of, type_id, type_numbered, type_of_class};
 pub use ends::Ended;
 pub use frames::{Cursor, Frames};

@@ -1,19 +1,22 @@
 // Exceptions: which frame catches what is thrown (JVMS 2.10).
 
-ghost use Rattle.std.specs.Prelude.{◌≡◌, ◌+◌, ◌^◌, ◌<◌, length, unwrap_or, OnOk, false};
+ghost use Rattle.std.specs.Prelude.{◌≡◌, ◌+◌, ◌^◌, ◌<◌, length, unwrap_or, OnOk, false, List, ℕ};
 ghost use Rattle.std.specs.Option.{option_map};
+ghost use Rattle.fm_frames.specs.Operands.{thrown};
 ghost use Rattle.fm_frames.specs.States.{ref};
 ghost use Rattle.fm_frames.specs.Runnable.{IsRunnable};
 ghost use Rattle.fm_frames.specs.Steps.{catches, caught, class_at_type, handler_among, handler_of, is_start, thrown_by};
 ghost use Rattle.fm_frames.specs.declared.values.Value.{Value};
 ghost use Rattle.fm_frames.specs.inner.Catching.{caught_as, placed, IsCaughtAt};
-ghost use Rattle.fm_frames.specs.inner.Doings.{AreFramesIn};
+ghost use Rattle.fm_frames.specs.inner.Doings.{AreFramesIn, CanStep, DoesIn};
+ghost use Rattle.fm_types.specs.Named.{built_in_type};
 ghost use Rattle.fm_types.specs.Typed.{type_of_use};
 ghost use Rattle.fm_world.specs.Chains.{is_sub};
 ghost use Rattle.fm_world.specs.Members.{methods_of};
+ghost use Rattle.fm_world.specs.Numbers.{type_of_class};
 ghost use Rattle.fm_world.specs.Programs.{IsTypeIn};
 
-use crate::coded::code_of;
+use crate::coded::{code_of, pack_of, type_id, type_numbered, type_of_class};
 use crate::ends::Ended;
 use crate::frames::Frames;
 use crate::machine::Machine;
@@ -187,5 +190,21 @@ impl<M: Memory> Machine<M> {
                 Ok(())
             }
         }
+    }
+
+    /// Throws a new object of a built-in class, without a message.
+    pub fn throw_new(&mut self, program: &Program, class: ClassId) -> Result<(), NoMemory>
+        requires can { CanStep program.now self.old }
+        requires built_in { class.0 < 28 }
+        ensures { OnOk result ((name : List ℕ) → built_in_type program.now.outline name ≡ type_of_class class.0
+            → DoesIn program.now M.choose self.old self.new (thrown program.now.outline name)) }
+    {
+        let t = type_of_class(class);
+        let id = type_id(program, t);
+        let pack = pack_of(program, t);
+        let Some(cell) = self.make_one(id, program.class(class).size, pack)? else {
+            return Ok(());
+        };
+        self.throw(program, cell, type_numbered(program, id))
     }
 }
