@@ -68,6 +68,16 @@ impl<M: Memory> Machine<M> {
         self.frames.operand(place)
     }
 
+    /// The word at this place of the stack; no value where there is none. Takes no memory.
+    pub fn word(&self, place: usize) -> Value
+        ensures { result ≡ word_at (stack_of self.now) place }
+    {
+        match self.frames.operand(place) {
+            Some(value) => value,
+            None => Value::Top,
+        }
+    }
+
     /// The int at this place of the stack; none where there is no int. Takes no memory.
     pub fn int_operand(&self, place: usize) -> Option<i32>
         ensures { result ≡ int_in (slice_get (stack_of self.now) place) }
