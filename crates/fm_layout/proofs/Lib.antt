@@ -8,3 +8,9 @@ pub mod LayoutLemmas
 pub mod NumbersLemmas
 pub mod StillLemmas
 pub mod ReadsLemmas
+pub mod SwitchRows
+pub mod SwitchLemmas
+pub mod MovedLemmas
+pub mod SpelledLemmas
+pub mod BytesLemmas
+pub mod LawLemmas

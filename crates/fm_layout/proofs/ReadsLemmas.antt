@@ -97,7 +97,7 @@ same_untargeted i j same plain =
     (sym (untargeted z i plain) ∙ same ∙ untargeted z j other, other)
 
 -- a kept instruction without targets
-kept_read : (old : List Item) (item : Item) (i : Insn) (start : ℕ) (f : ℕ → ℕ) → IsSpelled old item → IsSameButTargets i item.insn → names_target i ≡ false
+pub kept_read : (old : List Item) (item : Item) (i : Insn) (start : ℕ) (f : ℕ → ℕ) → IsSpelled old item → IsSameButTargets i item.insn → names_target i ≡ false
     → insn_at start item.bytes ≡ Some (with_targets f i)
 kept_read old item i start f spelled same plain =
     let (whole, other) = same_untargeted i item.insn same plain in

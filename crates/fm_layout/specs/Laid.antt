@@ -1,6 +1,9 @@
 -- The laid-out code.
 use Rattle.std.specs.Prelude.{ℕ, zero, suc, ◌+◌, ◌<◌, ◌≤◌, ◌≡◌, Bool, true, false, List, [], ◌∷◌, ◌++◌, length, Option, Some, None, pos, nat_lt, slice_index, if◌then◌else◌}
-use Rattle.fm_code.specs.SpellsCode.{with_targets}
+use Rattle.std.specs.List.{flat_map, AllByRecursion}
+use Rattle.fm_code.specs.ClassBytes.{item_bytes}
+use Rattle.fm_code.specs.Fits.{AreBytes}
+use Rattle.fm_code.specs.SpellsCode.{SpellsCode, with_targets}
 use Rattle.fm_code.specs.declared.code_array.TheConstants.{MAX_CODE_BYTES}
 use Rattle.fm_code.specs.declared.code_array.Item.{Item}
 use Rattle.fm_code.specs.declared.instructions.Insn.{Insn}
@@ -86,6 +89,12 @@ laid_in old items rooms = record {
 -- the laid-out code of new items over the old ones
 unfoldable pub laid_of : List Item → List NewItem → Laid
 laid_of old items = laid_in old items (widened_rooms (rooms_of old items))
+
+-- laid-out code is code: its bytes are bytes, they spell its items, and its length is their number (JVMS 4.7.3)
+pub record IsCode (laid : Laid) : Type 0 where
+  pub bytes : AllByRecursion (λ (item : Item). AreBytes item.bytes) laid.items
+  pub spelled : SpellsCode (flat_map item_bytes laid.items) laid.items
+  pub measured : laid.length ≡ length (flat_map item_bytes laid.items)
 
 -- ---- code that is too long
 

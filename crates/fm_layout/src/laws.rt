@@ -1,11 +1,15 @@
 // Laws of the definitions, each as the contract of a function that does nothing.
 
-ghost use Rattle.std.specs.Prelude.{◌≡◌, ◌∷◌, [], List, Some, None, true, false};
+ghost use Rattle.std.specs.Prelude.{◌≡◌, ◌≤◌, ◌∷◌, [], List, Some, None, true, false};
 ghost use Rattle.std.specs.List.{flat_map};
 ghost use Rattle.fm_code.specs.ClassBytes.{item_bytes};
+ghost use Rattle.fm_code.specs.declared.code_array.Item.{Item};
+ghost use Rattle.fm_code.specs.declared.code_array.TheConstants.{MAX_CODE_BYTES};
 ghost use Rattle.fm_code.specs.declared.operations.Test.TheVariants as test;
 ghost use Rattle.fm_layout.specs.Example.{goto_back, goto_over, loop_bytes, loop_new, loop_old, switch_bytes, switch_new, switch_old, two_gotos, wide_goto};
-ghost use Rattle.fm_layout.specs.Laid.{laid_of, wide_items};
+ghost use Rattle.fm_layout.specs.Conditions.{AreNewItems, AreOldItems};
+ghost use Rattle.fm_layout.specs.Laid.{IsCode, laid_length, laid_of, wide_items};
+ghost use Rattle.fm_layout.specs.declared.new_items.NewItem.{NewItem};
 ghost use Rattle.fm_layout.specs.Rooms.{narrow, round_after, widened_rooms};
 ghost use Rattle.fm_layout.specs.declared.rooms.Condition.TheVariants as condition;
 ghost use Rattle.fm_layout.specs.declared.rooms.Room.{Room};
@@ -14,6 +18,12 @@ ghost use Rattle.fm_layout.specs.declared.rooms.Room.TheVariants as room;
 /// After the last round a further one widens no branch.
 pub fn law_settled()
     ensures { (rooms : List Room) → widened_rooms rooms ≡ round_after (widened_rooms rooms) }
+{}
+
+/// Laid-out code that isn't too long is code, whose bytes spell its items.
+pub fn law_spelled()
+    ensures { (old : List Item) (items : List NewItem) → AreOldItems old → AreNewItems old items
+        → laid_length old items ≤ MAX_CODE_BYTES → IsCode (laid_of old items) }
 {}
 
 /// Codes that were laid out by hand: a loop and a switch; branches at both ends of their reach, and

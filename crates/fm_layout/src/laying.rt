@@ -4,7 +4,7 @@ ghost use Rattle.std.specs.Prelude.{◌≡◌, ◌+◌, ◌++◌, ◌≤◌, ◌
 ghost use Rattle.std.specs.Option.{option_copied};
 ghost use Rattle.fm_code.specs.declared.code_array.TheConstants.{MAX_CODE_BYTES};
 ghost use Rattle.fm_layout.specs.Conditions.{AreNewItems, AreOldItems};
-ghost use Rattle.fm_layout.specs.Laid.{IsCause, laid_from, laid_items, laid_length, laid_of, wide_items};
+ghost use Rattle.fm_layout.specs.Laid.{IsCause, IsCode, laid_from, laid_items, laid_length, laid_of, wide_items};
 ghost use Rattle.fm_layout.specs.Rooms.{end_from, size_at, wide_size};
 ghost use Rattle.fm_layout.specs.inner.Weights.{AreOffsetsWithin};
 
@@ -37,6 +37,8 @@ pub fn layout(alloc: Global, old: &[Item], items: &[NewItem]) -> Result<Laid, La
     requires old_items { AreOldItems old.now }
     requires new_items { AreNewItems old.now items.now }
     ensures laid { IfOk result (λ laid. laid ≡ laid_of old.now items.now) }
+    // Its bytes spell its items.
+    ensures code { IfOk result IsCode }
     // What is laid out isn't too long, and what is refused is.
     ensures fits { OnOk result (laid_length old.now items.now ≤ MAX_CODE_BYTES) }
     ensures refused { IfErr result (IsCause old.now items.now) }

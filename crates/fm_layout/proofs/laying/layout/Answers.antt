@@ -2,7 +2,9 @@ use Rattle.std.proofs.Common.{◌≡◌, List, ℕ, length, ap, sym, subst, ◌�
 use Rattle.fm_layout.proofs.BoundsLemmas.{old_short, weight_fits}
 use Rattle.fm_layout.proofs.LayoutLemmas.{narrow_fits, wide_fits, one_each, refused_narrow, refused_wide, fits_short, laid_is}
 use Rattle.fm_layout.proofs.RoomsLemmas.{starts_within}
-use Rattle.fm_layout.specs.Laid.{firsts_from, laid_from}
+use Rattle.fm_layout.proofs.LawLemmas.{laid_is_code}
+use Rattle.fm_layout.specs.Laid.{IsCode, firsts_from, laid_from}
+use Rattle.fm_layout.specs.declared.laying.Laid.{Laid}
 use Rattle.fm_layout.specs.Rooms.{end_from, rooms_of, starts_from, widened_rooms}
 use Rattle.fm_layout.specs.inner.Weights.{AreOffsetsWithin, weight_of}
 use Rattle.fm_layout.specs.declared.rooms.Room.{Room}
@@ -80,6 +82,21 @@ returns-clause-laid c =
     let laid = c.new.ensures ∙ c.in_ok-laid.ensures
     ∙ (λ k. laid_from old c.as_slice-5.result.now ((c.as_slice-6.ensures.value ∙ sym c.new-2.ensures) k) 0 0 items (c.as_slice-4.ensures.value k)) in
     laid_is old items rooms c.new.result c.new-2.result c.as_slice-5.result.now c.length_of-length.result whole starts firsts laid length
+
+pub returns-clause-code : goal.returns-clause-code
+returns-clause-code c =
+    let rooms = c.in_ok-rooms.rooms.items in
+    let whole = c.in_ok-rooms.ensures ∙ ap (λ (rs : List Room). widened_rooms rs) c.in_ok-rooms_of.ensures in
+    let starts = c.as_slice-5.ensures.value ∙ c.in_ok-starts.ensures ∙ ap (λ (rs : List Room). starts_from 0 rs) c.as_slice-2.ensures.value in
+    let firsts = c.new-2.ensures ∙ c.in_ok-firsts.ensures ∙ ap (λ (rs : List Room). firsts_from 0 rs) c.as_slice-3.ensures.value in
+    let length = c.length_of-length.ensures ∙ ap (λ (rs : List Room). end_from 0 rs) c.as_slice.ensures.value in
+    let old = c.args.old.now in
+    let items = c.args.items.now in
+    let laid = c.new.ensures ∙ c.in_ok-laid.ensures
+    ∙ (λ k. laid_from old c.as_slice-5.result.now ((c.as_slice-6.ensures.value ∙ sym c.new-2.ensures) k) 0 0 items (c.as_slice-4.ensures.value k)) in
+    let short = fits_short old items c.length_of-length.result (length ∙ ap (λ (rs : List Room). end_from 0 rs) whole) c.if-length-gt-MAX_CODE_BYTES.false in
+    subst (λ (made : Laid). IsCode made) (sym (laid_is old items rooms c.new.result c.new-2.result c.as_slice-5.result.now c.length_of-length.result whole starts firsts laid length))
+    (laid_is_code old items c.requires.old_items c.requires.new_items short)
 
 pub returns-clause-fits : goal.returns-clause-fits
 returns-clause-fits c =
