@@ -1,0 +1,16 @@
+pub mod LoopLemmas
+pub mod RoomsLemmas
+pub mod BoundsLemmas
+pub mod WideningLemmas
+pub mod SizesLemmas
+pub mod PairsLemmas
+pub mod LayoutLemmas
+pub mod NumbersLemmas
+pub mod StillLemmas
+pub mod ReadsLemmas
+pub mod SwitchRows
+pub mod SwitchLemmas
+pub mod MovedLemmas
+pub mod SpelledLemmas
+pub mod BytesLemmas
+pub mod LawLemmas
