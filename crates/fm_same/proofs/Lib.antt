@@ -1,0 +1,4 @@
+pub mod LinkedClasses
+pub mod RegionLemmas
+pub mod CallRegions
+pub mod StoreChanges

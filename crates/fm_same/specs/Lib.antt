@@ -1,0 +1,5 @@
+pub mod Regions
+pub mod Colours
+pub mod Standing
+pub mod Evenness
+pub mod Laws
