@@ -2,3 +2,4 @@ pub mod LinkedClasses
 pub mod RegionLemmas
 pub mod CallRegions
 pub mod StoreChanges
+pub mod ActsKeep

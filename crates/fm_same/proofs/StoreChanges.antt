@@ -10,7 +10,7 @@ use Rattle.fm_cells.specs.Soundness.{IsOrderly}
 use Rattle.fm_cells.proofs.Changes.{object_at-made_by, object_at-with_object}
 use Rattle.fm_frames.specs.declared.values.Value.{Value}
 use Rattle.fm_frames.specs.declared.values.Value.TheVariants as value
-use Rattle.fm_same.specs.Colours.{Colour, HasColour, IsOf, OfNull, OfObject}
+use Rattle.fm_same.specs.Colours.{Colour, HasColour, IsFixed, IsNull, IsOf, LivesForEver, OfNull, OfObject}
 use Rattle.fm_same.specs.Regions.{Region}
 
 -- ---- objects stay
@@ -56,6 +56,15 @@ is_of-later store later colour r cell more (OfObject object held (inl fixed)) =
     let kept : IsKept later cell object = more.kept cell object held in OfObject kept.now kept.is (inl (kept.fixed ∙ fixed))
 is_of-later store later colour r cell more (OfObject object held (inr has)) =
     let kept : IsKept later cell object = more.kept cell object held in OfObject kept.now kept.is (inr (ap colour kept.birth ∙ has))
+
+pub for_ever-later : (store later : Store) (cell : ℕ) → Extends store later → LivesForEver store cell → LivesForEver later cell
+for_ever-later store later cell more (IsNull e) = IsNull e
+for_ever-later store later cell more (IsFixed object held fixed) =
+    let kept : IsKept later cell object = more.kept cell object held in IsFixed kept.now kept.is (kept.fixed ∙ fixed)
+
+pub for_ever-is_of : (store : Store) (colour : Colour) (r : Region) (cell : ℕ) → LivesForEver store cell → IsOf store colour r cell
+for_ever-is_of store colour r cell (IsNull e) = OfNull e
+for_ever-is_of store colour r cell (IsFixed object held fixed) = OfObject object held (inl fixed)
 
 pub has-later : (store later : Store) (colour : Colour) (r : Region) (v : Value) → Extends store later → HasColour store colour r v
     → HasColour later colour r v

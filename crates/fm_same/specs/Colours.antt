@@ -28,7 +28,12 @@ pub data IsOf (store : Store) (colour : Colour) (r : Region) (cell : ℕ) : Type
   OfNull : cell ≡ 0 → IsOf store colour r cell
   OfObject : (object : Object) → object_at store cell ≡ Some object → (object.fixed ≡ true) ⊎ (colour object.birth ≡ r) → IsOf store colour r cell
 
--- a value that is a number, or a reference to such a cell
+-- a cell that is null's, or holds an object that lives for ever
+pub data LivesForEver (store : Store) (cell : ℕ) : Type 0 where
+  IsNull : cell ≡ 0 → LivesForEver store cell
+  IsFixed : (object : Object) → object_at store cell ≡ Some object → object.fixed ≡ true → LivesForEver store cell
+
+-- a value that is a number, or a reference to a cell of the region
 abbrev pub HasColour : Store → Colour → Region → Value → Type 0
 HasColour store colour r value.Top = Unit {0}
 HasColour store colour r (value.Int n) = Unit {0}
@@ -73,7 +78,7 @@ pub record AreAreasColoured (o : Outline) (colour : Colour) (x : Areas) : Type 0
   pub statics : (slot : ℕ) (v : Value) → slice_get x.statics slot ≡ Some v → HasColour x.store colour Everywhere v
   pub edges : (cell : ℕ) (object : Object) → object_at x.store cell ≡ Some object → (place : ℕ) (t : TypeRef)
       → kind_in o object place ≡ Some (kind.Ref t) → IsEdgeEven x.store colour object place
-  pub literals : (text : ℕ) (r : Region) → IsOf x.store colour r (slice_index_or x.literals text 0)
+  pub literals : (text : ℕ) → LivesForEver x.store (slice_index_or x.literals text 0)
 
 -- ---- a state
 
