@@ -133,7 +133,7 @@ module _ (o : Outline) (store : Store) (colour : Colour) (home : Region) (locals
   source_leads x made SameOperands h = absurd h
 
 -- the cell of a reference has its region
-cell_has : (store : Store) (colour : Colour) (r : Region) (v : Value) → HasColour store colour r v → IsOf store colour r (cell_of v)
+pub cell_has : (store : Store) (colour : Colour) (r : Region) (v : Value) → HasColour store colour r v → IsOf store colour r (cell_of v)
 cell_has store colour r value.Top h = OfNull refl
 cell_has store colour r (value.Int n) h = OfNull refl
 cell_has store colour r (value.Long n) h = OfNull refl
@@ -146,7 +146,7 @@ kept_reference t (value.Long n) h = absurd h
 kept_reference t (value.Ref cell) h = refl
 
 -- an object that a reference of a region leads to, and that doesn't live for ever, has the region
-object_has : (store : Store) (colour : Colour) (r : Region) (cell : ℕ) (object : Object) → IsOrderly store → IsOf store colour r cell
+pub object_has : (store : Store) (colour : Colour) (r : Region) (cell : ℕ) (object : Object) → IsOrderly store → IsOf store colour r cell
     → object_at store cell ≡ Some object → object.fixed ≡ false → colour object.birth ≡ r
 object_has store colour r cell object orderly (OfNull e) held not_fixed =
     absurd (none-some object (sym orderly.null_not_held ∙ ap (λ c. object_at store c) (sym e) ∙ held))

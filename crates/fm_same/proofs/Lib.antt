@@ -3,3 +3,4 @@ pub mod RegionLemmas
 pub mod CallRegions
 pub mod StoreChanges
 pub mod ActsKeep
+pub mod SourcesKeep
