@@ -4,3 +4,4 @@ pub mod CallRegions
 pub mod StoreChanges
 pub mod ActsKeep
 pub mod SourcesKeep
+pub mod GoesOnKeep

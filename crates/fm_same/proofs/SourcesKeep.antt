@@ -92,7 +92,7 @@ module _ (p : Program) (facts : Facts) (f : Frame) (callers : List Frame) (at : 
   abbrev region_in : ℕ → Region
   region_in class = region p.outline facts f.method callers class
 
-  operand_has : (n class : ℕ) → (IsNode point.method (word point n) → point.class (word point n) ≡ class)
+  pub operand_has : (n class : ℕ) → (IsNode point.method (word point n) → point.class (word point n) ≡ class)
       → HasColour store colour (region_in class) (word_at f.stack n)
   operand_has n class same = ⊎_elim
       (λ found.

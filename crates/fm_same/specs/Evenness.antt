@@ -61,6 +61,13 @@ ComesFrom x home class (OfMade n) = home ≡ class
 ComesFrom x home class (OfLiteral text) = Unit {0}
 ComesFrom x home class SameOperands = Unit {0}
 
+-- the same of what is written into a local
+abbrev pub WritesFrom : Point → (class : ℕ) → Source → Type 0
+WritesFrom x class (Plain v) = IsPlain v
+WritesFrom x class (OfOperand n) = IsNode x.method (word x n) → x.class (word x n) ≡ class
+WritesFrom x class (LocalPlus k by) = Unit {0}
+WritesFrom x class other = ⊥
+
 -- a value that may be put where a reference stands: it is one
 abbrev pub LeadsOn : Point → Source → Type 0
 LeadsOn x (Plain v) = v ≡ value.Ref (record { 0 = 0 })
@@ -133,7 +140,7 @@ pub record GoesOn (x : Point) (home : ℕ) (e : Effect) (next : ℕ) : Type 0 wh
       → x.class (Slot x.item depth) ≡ x.class (Slot next depth)
   pub gives : (q : ℕ) (s : Source) → slice_get e.gives q ≡ Some s → IsNode x.method (given x e next q)
       → ComesFrom x home (x.class (given x e next q)) s
-  pub writes : AllByRecursion (λ (w : ℕ × Source). ComesFrom x home (x.class (Local w.0)) w.1) e.writes
+  pub writes : AllByRecursion (λ (w : ℕ × Source). WritesFrom x (x.class (Local w.0)) w.1) e.writes
   pub lives : (k : ℕ) → x.live k next ≡ true → is_written k e.writes ≡ false → x.live k x.item ≡ true
 
 -- whether it goes on in the frame
