@@ -71,12 +71,12 @@ module _ (p : Program) (facts : Facts) (exact : AreFacts p facts) (f g : Frame) 
   call_sort callers k ended (WithGlobal same is) =
       is
       ∙ sym (region_global p.outline facts g.method callers (facts.class g.method (argument g k))
-      (call_class end.Global (end.Parameter k) Global (argument g k) tt ended refl (stands_for_parameter k) tt (h.arguments k ended) same))
+      (call_class end.Global (end.Parameter k) Global (argument g k) tt ended refl (stands_for_parameter k) tt ((h.arguments k).0 ended) same))
   call_sort callers k ended (WithParameter other other_end same is) =
       is
       ∙ ap (λ class. region p.outline facts g.method callers class)
       (call_class (end.Parameter other) (end.Parameter k) (argument g other) (argument g k) other_end ended
-      (stands_for_parameter other) (stands_for_parameter k) (h.arguments other other_end) (h.arguments k ended) same)
+      (stands_for_parameter other) (stands_for_parameter k) ((h.arguments other).0 other_end) ((h.arguments k).0 ended) same)
   call_sort callers k ended (WithNeither not_global none is) = absurd (parameter_there p.outline facts f.method k ended none)
 
   -- a parameter has the region of the word that was handed over
@@ -106,7 +106,7 @@ module _ (p : Program) (facts : Facts) (exact : AreFacts p facts) (f g : Frame) 
       inl (is
       ∙ ap (λ class. region p.outline facts g.method callers class)
       (call_class (end.Parameter k) end.Return (argument g k) (Slot next (length g.stack)) k_end ended
-      (stands_for_parameter k) (stands_for_result next edge) (h.arguments k k_end) node same))
+      (stands_for_parameter k) (stands_for_result next edge) ((h.arguments k).0 k_end) node same))
   return_sort callers next ended edge node (WithNeither not_global none is) = inr is
 
   -- the class of the result has the region of the word that is given, or one of its own

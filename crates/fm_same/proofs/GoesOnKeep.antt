@@ -122,7 +122,7 @@ went_first o colour home x h = record { areas = h; extends = extends-refl x.stor
 
 -- ---- a frame that goes on
 
-same_node : (p : Program) (facts : Facts) (f : Frame) (code other : Code) (a : Node) → other ≡ code → IsNode (method_of p facts f other) a
+pub same_node : (p : Program) (facts : Facts) (f : Frame) (code other : Code) (a : Node) → other ≡ code → IsNode (method_of p facts f other) a
     → IsNode (method_of p facts f code) a
 same_node p facts f code other a same h = subst (λ c. IsNode (method_of p facts f c) a) same h
 

@@ -5,3 +5,5 @@ pub mod StoreChanges
 pub mod ActsKeep
 pub mod SourcesKeep
 pub mod GoesOnKeep
+pub mod EdgesKeep
+pub mod CallsKeep

@@ -23,6 +23,7 @@ use Rattle.fm_frames.specs.Acts.{requested}
 use Rattle.fm_frames.specs.NativeRows.{text_type}
 use Rattle.fm_frames.specs.Sights.{type_numbered}
 use Rattle.fm_frames.specs.States.{word_at}
+use Rattle.fm_frames.specs.Steps.{is_start}
 use Rattle.fm_frames.specs.declared.values.Value.{Value}
 use Rattle.fm_frames.specs.declared.values.Value.TheVariants as value
 use Rattle.fm_same.specs.Colours.{kind_in}
@@ -159,12 +160,13 @@ LeadsRight i other = Unit {0}
 
 -- ---- the frame that ends
 
--- a result that is a reference is of the result's class, and what is thrown of Global's; what throws stores over no local
+-- a result that is a reference is of the result's class, and what is thrown of Global's; what throws stores over no local; and what starts a class isn't called
 abbrev pub EndsEvenly : Outline → Point → ℕ → Insn → Next → Type 0
 EndsEvenly o x home i (Returns words) =
     (q : ℕ) → q < words → IsNode x.method (word x q)
     → (x.class (word x q) ≡ x.class Return) × IsEnd o x.method.number end.Return × (words ≡ 1)
 EndsEvenly o x home i (Throws s) = ComesFrom x home (x.class Global) s × ((k : ℕ) → stores_over k i ≡ false)
+EndsEvenly o x home i (Calls m) = is_start o m ≡ false
 EndsEvenly o x home i other = Unit {0}
 
 -- ---- the whole effect

@@ -1,6 +1,6 @@
 -- What the law of dead regions uses of the soundness of the machine: each frame stands at an item that can be reached, its stack is as deep as the item's
 -- state, words are references where their slots are, and a frame that waits is at the call of the frame above it, or that one starts a class.
-use Rattle.std.specs.Prelude.{◌≡◌, ℕ, ◌-◌, ◌⊎◌, true, false, List, [], ◌∷◌, length, Option, Some, IsSomeAnd, Contains, slice_get}
+use Rattle.std.specs.Prelude.{◌≡◌, ℕ, ◌-◌, ◌⊎◌, ◌↔◌, true, false, List, [], ◌∷◌, length, Option, Some, IsSomeAnd, Contains, slice_get}
 use Rattle.fm_code.specs.Edges.{insn_of}
 use Rattle.fm_code.specs.declared.code_array.Code.{Code}
 use Rattle.fm_code.specs.declared.instructions.Insn.{Insn}
@@ -46,14 +46,15 @@ pub record Goes (p : Program) (facts : Facts) (f : Frame) : Type 0 where
   pub at : StandsAt p facts f
   pub depth : length f.stack ≡ depth_at (method_of p facts f at.code) f.item
 
--- a frame that called the one above it: the method called is among the targets, and its parameters that are references got words that are
+-- a frame that called the one above it: the method called is among the targets, and its parameters are references where the words that they
+-- got are
 pub record Called (p : Program) (facts : Facts) (callee f : Frame) : Type 0 where
   pub at : StandsAt p facts f
   pub call : Call
   pub call_is : call_of (method_of p facts f at.code) at.insn ≡ Some call
   pub among : Contains (targets p call) callee.method
   pub depth : length f.stack ≡ depth_below (method_of p facts f at.code) f.item at.insn
-  pub arguments : (k : ℕ) → IsEnd p.outline callee.method (end.Parameter k) → IsNode (method_of p facts f at.code) (argument f k)
+  pub arguments : (k : ℕ) → IsEnd p.outline callee.method (end.Parameter k) ↔ IsNode (method_of p facts f at.code) (argument f k)
 
 -- a frame that waits for the start of a class: that has no parameters, and the frame goes on at its item
 pub record Waits (p : Program) (facts : Facts) (start f : Frame) : Type 0 where
