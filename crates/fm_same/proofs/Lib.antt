@@ -7,3 +7,4 @@ pub mod SourcesKeep
 pub mod GoesOnKeep
 pub mod EdgesKeep
 pub mod CallsKeep
+pub mod ThrowsKeep
