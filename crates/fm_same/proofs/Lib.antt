@@ -8,3 +8,4 @@ pub mod GoesOnKeep
 pub mod EdgesKeep
 pub mod CallsKeep
 pub mod ThrowsKeep
+pub mod ReturnsKeep
