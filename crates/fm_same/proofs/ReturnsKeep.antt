@@ -157,6 +157,14 @@ reference_or_not (value.Int n) = inr (λ h. h)
 reference_or_not (value.Long n) = inr (λ h. h)
 reference_or_not (value.Ref cell) = inl tt
 
+-- whether the first word is a reference
+first_of : (words : List Value) → ((v : Value) × (slice_get words 0 ≡ Some v) × IsReference v) ⊎ ((v : Value) → slice_get words 0 ≡ Some v → IsReference v → ⊥)
+first_of [] = inr (λ v is leads. absurd (cc))
+first_of (x ∷ words) = ⊎_elim
+    (λ leads. inl (x, refl, leads))
+    (λ none. inr (λ v is leads. none (subst IsReference (sym (same_Some x v is)) leads)))
+    (reference_or_not x)
+
 -- ---- a return
 
 pub record Kept (p : Program) (facts : Facts) (before : List Frame) (colour : Colour) (births : ℕ) (frames : List Frame) (areas : Areas) : Type 0 where
@@ -349,3 +357,26 @@ module _ (p : Program) (facts : Facts) (exact : AreFacts p facts) (f g : Frame) 
           ⊎_elim same_kept own_kept
           (region_return p facts exact f g at.code at.code_is h callers (g.item + 1) evenly_first.1 edge top_node)
 
+    no_words : n ≡ 0 → (q : ℕ) (v : Value) → slice_get (take n f.stack) q ≡ Some v → IsReference v → ⊥
+    no_words none q v found leads = let lt : q < n = (take_found n f.stack q v found).0 in absurd (omega arith)
+
+    no_first : ((v : Value) → slice_get f.stack 0 ≡ Some v → IsReference v → ⊥)
+        → (q : ℕ) (v : Value) → slice_get (take n f.stack) q ≡ Some v → IsReference v → ⊥
+    no_first none q v found leads =
+        let there : (q < n) × (slice_get f.stack q ≡ Some v) = take_found n f.stack q v found in
+        let lt : q < n = there.0 in
+        let one : n ≡ 1 = (evenly q there.0 (at.is_node q v there.1 leads)).2 in
+        let zero_is : q ≡ 0 = omega arith in
+        none v (ap (λ i. slice_get f.stack i) (sym zero_is) ∙ there.1) leads
+
+    -- whether the result is a reference or not
+    pub return_kept : Kept p facts (f ∷ g ∷ callers) colour areas.store.births (resumed ∷ callers) areas
+    return_kept = ⊎_elim
+        (λ (none : n ≡ 0). plain_kept (no_words none))
+        (λ (some : n ≢ 0). ⊎_elim
+            (λ first.
+                let lt : 0 < n = omega arith in
+                one_kept first.0 first.1 first.2 (evenly 0 lt (at.is_node 0 first.0 first.1 first.2)).2)
+            (λ none. plain_kept (no_first none))
+            (first_of f.stack))
+        (cases_eq n 0)
