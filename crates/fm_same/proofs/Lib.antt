@@ -9,3 +9,4 @@ pub mod EdgesKeep
 pub mod CallsKeep
 pub mod ThrowsKeep
 pub mod ReturnsKeep
+pub mod NextKeeps

@@ -165,7 +165,7 @@ abbrev pub EndsEvenly : Outline → Point → ℕ → Insn → Next → Type 0
 EndsEvenly o x home i (Returns words) =
     (q : ℕ) → q < words → IsNode x.method (word x q)
     → (x.class (word x q) ≡ x.class Return) × IsEnd o x.method.number end.Return × (words ≡ 1)
-EndsEvenly o x home i (Throws s) = ComesFrom x home (x.class Global) s × ((k : ℕ) → stores_over k i ≡ false)
+EndsEvenly o x home i (Throws s) = IsObjectSource s × ComesFrom x home (x.class Global) s × ((k : ℕ) → stores_over k i ≡ false)
 EndsEvenly o x home i (Calls m) = is_start o m ≡ false
 EndsEvenly o x home i other = Unit {0}
 
