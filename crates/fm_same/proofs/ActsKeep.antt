@@ -28,9 +28,9 @@ use Rattle.fm_frames.specs.declared.values.Value.{Value}
 use Rattle.fm_frames.specs.declared.values.Value.TheVariants as value
 use Rattle.fm_same.specs.Colours.{AreAreasColoured, Colour, HasColour, IsEdgeEven, IsFixed, IsOf, kind_in, LivesForEver, OfNull, OfObject}
 use Rattle.fm_same.specs.Evenness.{HoldsNumbers, IsPlain, IsPlainKind}
-use Rattle.fm_same.specs.Regions.{Everywhere, Region}
+use Rattle.fm_same.specs.Regions.{Everywhere, Region, Retired}
 use Rattle.fm_same.specs.Standing.{IsReference}
-use Rattle.fm_same.proofs.StoreChanges.{Extends, extends-refl, extends-then, for_ever-is_of, for_ever-later, has-later, held_later, is_of-later, IsChanged, changed-extends, IsKept, IsMade, made-extends, Puts, put_here, set_cases, set_found, zeros_at}
+use Rattle.fm_same.proofs.StoreChanges.{Extends, extends-refl, extends-then, for_ever-is_of, for_ever-later, has-later, held_later, is_of-later, IsChanged, changed-extends, IsKept, IsMade, made-extends, Puts, put_elsewhere, put_here, set_cases, set_found, zeros_at}
 
 -- ---- what is known of sources when the step begins
 
@@ -67,8 +67,9 @@ NoEdge o store stack place other = ⊥
 -- what is put and the object that it is put into have one region; or a number is put where no reference stands
 abbrev pub PutHas : Outline → Store → Colour → List Value → Region → Source → ℕ → Source → Kind → Type 0
 PutHas o store colour stack home object place v (kind.Ref t) =
-    (r : Region) × SourceHas store colour stack home r object × SourceHas store colour stack home r v × SourceLeads stack v
-PutHas o store colour stack home object place v other = (r : Region) × SourceHas store colour stack home r object × NoEdge o store stack place object
+    (r : Region) × (r ≢ Retired) × SourceHas store colour stack home r object × SourceHas store colour stack home r v × SourceLeads stack v
+PutHas o store colour stack home object place v other =
+    (r : Region) × (r ≢ Retired) × SourceHas store colour stack home r object × NoEdge o store stack place object
 
 abbrev pub StaticHas : Store → Colour → List Value → Region → Source → Kind → Type 0
 StaticHas store colour stack home v (kind.Ref t) = SourceHas store colour stack home Everywhere v × SourceLeads stack v
@@ -87,14 +88,21 @@ ActHas o store colour stack home (FreeChain operand) = ⊥
 
 -- ---- what holds along the actions
 
+-- what is retired stays as it is
+abbrev pub IsStill : Store → Colour → Store → Type 0
+IsStill store colour later =
+    (cell : ℕ) (object : Object) → object_at store cell ≡ Some object → object.fixed ≡ false → colour object.birth ≡ Retired
+    → object_at later cell ≡ Some object
+
 pub record Went (o : Outline) (store : Store) (colour : Colour) (home : Region) (x : Areas) (cells : List ℕ) : Type 0 where
   pub areas : AreAreasColoured o colour x
   pub extends : Extends store x.store
   pub made : (n : ℕ) → IsOf x.store colour home (slice_index_or cells n 0)
+  pub still : IsStill store colour x.store
 
 abbrev pub WentTo : Outline → Store → Colour → Region → Performed → Type 0
 WentTo o store colour home (Did x made) = Went o store colour home x made
-WentTo o store colour home (FullAt x needed) = AreAreasColoured o colour x × Extends store x.store
+WentTo o store colour home (FullAt x needed) = AreAreasColoured o colour x × Extends store x.store × IsStill store colour x.store
 WentTo o store colour home (LostAt v) = Unit {0}
 
 -- ---- values
@@ -292,15 +300,18 @@ went_pushed o store colour home x made cell went new = record {
       (λ last. subst (λ c. IsOf x.store colour home c) (sym last) new)
       (λ before. subst (λ c. IsOf x.store colour home c) (sym before) (went.made n))
       (push_cases made cell n);
+  still = went.still;
 }
 
 -- the areas with another store, which goes on from the one before
 went_stored : (o : Outline) (store : Store) (colour : Colour) (home : Region) (x : Areas) (made : List ℕ) (later : Store) → Went o store colour home x made
-    → AreAreasColoured o colour (record x { store = later }) → Extends x.store later → Went o store colour home (record x { store = later }) made
-went_stored o store colour home x made later went areas more = record {
+    → AreAreasColoured o colour (record x { store = later }) → Extends x.store later → IsStill x.store colour later
+    → Went o store colour home (record x { store = later }) made
+went_stored o store colour home x made later went areas more still = record {
   areas = areas;
   extends = extends-then store x.store later went.extends more;
   made = λ n. is_of-later x.store later colour home (slice_index_or made n 0) more (went.made n);
+  still = λ cell object held not_fixed retired. still cell object (went.still cell object held not_fixed retired) not_fixed retired;
 }
 
 -- what a make leaves
@@ -325,7 +336,10 @@ module _ (o : Outline) (store : Store) (colour : Colour) (home : Region) (new : 
       (make_orderly x.store request cell grows content went.areas.orderly may) is.puts
       (blank_edges o x.store later colour request content blank) in
       record {
-        went = went_stored o store colour home x made later went areas more;
+        went = went_stored o store colour home x made later went areas more
+            (λ q old held not_fixed retired.
+                let apart : q ≢ cell = λ same. none-some old (sym is.free ∙ ap (λ c. object_at x.store c) (sym same) ∙ held) in
+                put_elsewhere x.store later cell object q is.puts apart ∙ held);
         object = object;
         held = put_here x.store later cell object is.puts;
         fixed = made_fixed x.store request content;
@@ -336,7 +350,7 @@ module _ (o : Outline) (store : Store) (colour : Colour) (home : Region) (new : 
       → Went o store colour home x made → MayReuse x.store request choice → IsBlank o request content
       → ((y : Areas) (cell : ℕ) → Makes o store colour home made request y cell → WentTo o store colour home (follows y cell))
       → WentTo o store colour home (made_then x request content choice follows)
-  made_then_goes x made request content RefuseStore follows went may blank then = (went.areas, went.extends)
+  made_then_goes x made request content RefuseStore follows went may blank then = (went.areas, went.extends, went.still)
   made_then_goes x made request content (Take cell grows) follows went may blank then =
       then (record x { store = stored_as x.store request cell grows content }) cell (make_goes x made request cell grows content went may blank)
 
@@ -358,15 +372,17 @@ module _ (o : Outline) (store : Store) (colour : Colour) (home : Region) (new : 
     };
     extends = h.went.extends;
     made = h.went.made;
+    still = h.went.still;
   }
 
   -- ---- puts
 
   put_goes_at : (x : Areas) (made : List ℕ) (cell place element : ℕ) (old : Object) → Went o store colour home x made → object_at x.store cell ≡ Some old
+      → (old.fixed ≡ false → colour old.birth ≢ Retired)
       → ((other : ℕ) (t : TypeRef) → kind_in o old other ≡ Some (kind.Ref t)
       → IsOf x.store colour (colour old.birth) (slice_index_or (slice_set old.elements place element) other 0))
       → Went o store colour home (record x { store = with_object x.store cell (with_element old place element) }) made
-  put_goes_at x made cell place element old went held even =
+  put_goes_at x made cell place element old went held live even =
       let object : Object = with_element old place element in
       let later : Store = with_object x.store cell object in
       let is : IsChanged x.store later cell old object = record {
@@ -385,23 +401,35 @@ module _ (o : Outline) (store : Store) (colour : Colour) (home : Region) (new : 
         even = is_of-later x.store later colour (colour old.birth) (slice_index_or object.elements other 0) more (even other t kind_is);
       }) in
       went_stored o store colour home x made later went areas more
+      (λ q found there not_fixed retired.
+          let apart : q ≢ cell = λ same.
+          let is_old : found ≡ old = same_Some found old (sym there ∙ ap (λ c. object_at x.store c) same ∙ held) in
+          live (ap (λ (y : Object). y.fixed) (sym is_old) ∙ not_fixed) (ap (λ (y : Object). colour y.birth) (sym is_old) ∙ retired) in
+          put_elsewhere x.store later cell object q is.puts apart ∙ there)
 
   put_goes : (x : Areas) (made : List ℕ) (cell place element : ℕ) (found : Option Object) → object_at x.store cell ≡ found → Went o store colour home x made
+      → ((old : Object) → object_at x.store cell ≡ Some old → old.fixed ≡ false → colour old.birth ≢ Retired)
       → ((old : Object) → object_at x.store cell ≡ Some old → (other : ℕ) (t : TypeRef) → kind_in o old other ≡ Some (kind.Ref t)
       → IsOf x.store colour (colour old.birth) (slice_index_or (slice_set old.elements place element) other 0))
       → Went o store colour home (record x { store = put_by x.store cell place element }) made
-  put_goes x made cell place element None none went even =
+  put_goes x made cell place element None none went live even =
       subst (λ later. Went o store colour home (record x { store = later }) made) (sym (put_by-none x.store cell place element none)) went
-  put_goes x made cell place element (Some old) held went even =
+  put_goes x made cell place element (Some old) held went live even =
       subst (λ later. Went o store colour home (record x { store = later }) made) (sym (put_by-some x.store cell place element old held))
-      (put_goes_at x made cell place element old went held (even old held))
+      (put_goes_at x made cell place element old went held (live old held) (even old held))
 
   -- a reference of the object's region is put into it
-  reference_goes : (x : Areas) (made : List ℕ) (r : Region) (t : TypeRef) (object v : Value) (place : ℕ) → Went o store colour home x made
+  live_object : (x : Areas) (made : List ℕ) (r : Region) (object : Value) → r ≢ Retired → Went o store colour home x made → HasColour x.store colour r object
+      → (old : Object) → object_at x.store (cell_of object) ≡ Some old → old.fixed ≡ false → colour old.birth ≢ Retired
+  live_object x made r object live went has old held not_fixed retired =
+      live (sym (object_has x.store colour r (cell_of object) old went.areas.orderly (cell_has x.store colour r object has) held not_fixed) ∙ retired)
+
+  reference_goes : (x : Areas) (made : List ℕ) (r : Region) (t : TypeRef) (object v : Value) (place : ℕ) → r ≢ Retired → Went o store colour home x made
       → HasColour x.store colour r object → HasColour x.store colour r v → IsReference v
       → Went o store colour home (put_value x object place (kind.Ref t) v) made
-  reference_goes x made r t object v place went of_object of_value leads =
+  reference_goes x made r t object v place live went of_object of_value leads =
       put_goes x made (cell_of object) place (kept (kind.Ref t) v) (object_at x.store (cell_of object)) refl went
+      (live_object x made r object live went of_object)
       (λ old held other u kind_is.
           let before : IsEdgeEven x.store colour old other = went.areas.edges (cell_of object) old held other u kind_is in
           let region : colour old.birth ≡ r =
@@ -415,11 +443,13 @@ module _ (o : Outline) (store : Store) (colour : Colour) (home : Region) (new : 
           (set_cases old.elements place (kept (kind.Ref t) v) other 0))
 
   -- a number is put where no reference stands
-  number_goes : (x : Areas) (made : List ℕ) (object : Value) (place element : ℕ) → Went o store colour home x made
+  number_goes : (x : Areas) (made : List ℕ) (r : Region) (object : Value) (place element : ℕ) → r ≢ Retired → Went o store colour home x made
+      → HasColour x.store colour r object
       → ((old : Object) → object_at x.store (cell_of object) ≡ Some old → (t : TypeRef) → kind_in o old place ≡ Some (kind.Ref t) → ⊥)
       → Went o store colour home (record x { store = put_by x.store (cell_of object) place element }) made
-  number_goes x made object place element went no_edge =
+  number_goes x made r object place element live went of_object no_edge =
       put_goes x made (cell_of object) place element (object_at x.store (cell_of object)) refl went
+      (live_object x made r object live went of_object)
       (λ old held other u kind_is.
           let before : IsEdgeEven x.store colour old other = went.areas.edges (cell_of object) old held other u kind_is in
           let apart : other ≢ place = λ same. no_edge old held u (ap (λ n. kind_in o old n) (sym same) ∙ kind_is) in
@@ -442,6 +472,7 @@ module _ (o : Outline) (store : Store) (colour : Colour) (home : Region) (new : 
     };
     extends = went.extends;
     made = went.made;
+    still = went.still;
   }
 
   started_goes : (x : Areas) (made : List ℕ) (started : List Bool) → Went o store colour home x made
@@ -455,6 +486,7 @@ module _ (o : Outline) (store : Store) (colour : Colour) (home : Region) (new : 
     };
     extends = went.extends;
     made = went.made;
+    still = went.still;
   }
 
 -- a reference that a static field gets
@@ -508,21 +540,22 @@ module _ (o : Outline) (choose : Choose) (may : (s : Store) (request : Request) 
       none object there t (ap (λ c. kind_at o.classes (type_numbered o c) place) class ∙ is)
 
   number_put : (x : Areas) (made : List ℕ) (object v : Source) (place : ℕ) (k : Kind) → Went o store colour home x made
-      → (r : Region) → SourceHas store colour stack home r object → NoEdge o store stack place object
+      → (r : Region) → r ≢ Retired → SourceHas store colour stack home r object → NoEdge o store stack place object
       → Went o store colour home (put_value x (value_of (before x made) object) place k (value_of (before x made) v)) made
-  number_put x made (OfOperand n) v place k went r has none =
-      number_goes o store colour home new x made (word_at stack n) place (kept k (value_of (before x made) v)) went
+  number_put x made (OfOperand n) v place k went r live has none =
+      number_goes o store colour home new x made r (word_at stack n) place (kept k (value_of (before x made) v)) live went
+      (source_has o store colour home locals stack x made r (OfOperand n) went has)
       (no_edge_later x made r (word_at stack n) place went (cell_has store colour r (word_at stack n) has) none)
-  number_put x made other v place k went r has none = absurd none
+  number_put x made other v place k went r live has none = absurd none
 
   put_kinds : (x : Areas) (made : List ℕ) (object v : Source) (place : ℕ) (k : Kind) → Went o store colour home x made
       → PutHas o store colour stack home object place v k
       → Went o store colour home (put_value x (value_of (before x made) object) place k (value_of (before x made) v)) made
   put_kinds x made object v place (kind.Ref t) went h =
-      reference_goes o store colour home new x made h.0 t (value_of (before x made) object) (value_of (before x made) v) place went
-      (source_has o store colour home locals stack x made h.0 object went h.1) (source_has o store colour home locals stack x made h.0 v went h.2)
-      (source_leads o store colour home locals stack x made v h.3)
-  put_kinds x made object v place k went h = number_put x made object v place k went h.0 h.1 h.2
+      reference_goes o store colour home new x made h.0 t (value_of (before x made) object) (value_of (before x made) v) place h.1 went
+      (source_has o store colour home locals stack x made h.0 object went h.2) (source_has o store colour home locals stack x made h.0 v went h.3)
+      (source_leads o store colour home locals stack x made v h.4)
+  put_kinds x made object v place k went h = number_put x made object v place k went h.0 h.1 h.2 h.3
 
   static_kinds : (x : Areas) (made : List ℕ) (slot : ℕ) (v : Source) (k : Kind) → Went o store colour home x made → StaticHas store colour stack home v k
       → Went o store colour home (set_static x slot k (value_of (before x made) v)) made

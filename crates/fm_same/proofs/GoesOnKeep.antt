@@ -118,7 +118,12 @@ pub grown_new : (store : Store) (r : Region) (colour : Colour) (birth : ℕ) →
 grown_new store r colour birth le = grind (arith, nat_tests)
 
 pub went_first : (o : Outline) (colour : Colour) (home : Region) (x : Areas) → AreAreasColoured o colour x → Went o x.store colour home x []
-went_first o colour home x h = record { areas = h; extends = extends-refl x.store; made = λ n. OfNull refl }
+went_first o colour home x h = record {
+  areas = h;
+  extends = extends-refl x.store;
+  made = λ n. OfNull refl;
+  still = λ cell object held not_fixed retired. held;
+}
 
 -- ---- a frame that goes on
 

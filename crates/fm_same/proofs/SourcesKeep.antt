@@ -21,10 +21,10 @@ use Rattle.fm_frames.specs.declared.values.Value.{Value}
 use Rattle.fm_frames.specs.declared.values.Value.TheVariants as value
 use Rattle.fm_same.specs.Colours.{AreAreasColoured, Colour, HasColour, IsEdgeEven, IsFrameColoured, IsOf, kind_in, node_of_word, OfNull, OfObject}
 use Rattle.fm_same.specs.Evenness.{ActsEvenly, ComesFrom, IsObjectSource, IsOperand, IsPlain, IsPlainKind, LeadsOn, Point, PutAgrees, PutsEvenly, ReadAgrees, SetsEvenly, word}
-use Rattle.fm_same.specs.Regions.{Everywhere, Region, region}
+use Rattle.fm_same.specs.Regions.{Everywhere, Region, region, Retired}
 use Rattle.fm_same.specs.Standing.{IsReference, method_of, StandsAt}
 use Rattle.fm_same.proofs.ActsKeep.{ActHas, cell_has, NoEdge, PutHas, SourceHas, SourceLeads, StaticHas, Went}
-use Rattle.fm_same.proofs.RegionLemmas.{region_global}
+use Rattle.fm_same.proofs.RegionLemmas.{region_global, region_within}
 use Rattle.fm_same.proofs.StoreChanges.{Extends, for_ever-is_of, has-later, IsKept}
 
 -- ---- words of lists
@@ -92,6 +92,9 @@ module _ (p : Program) (facts : Facts) (f : Frame) (callers : List Frame) (at : 
   abbrev region_in : ℕ → Region
   region_in class = region p.outline facts f.method callers class
 
+  live_in : (class : ℕ) → region_in class ≢ Retired
+  live_in class = (region_within p.outline facts f.method callers class).not_retired
+
   pub operand_has : (n class : ℕ) → (IsNode point.method (word point n) → point.class (word point n) ≡ class)
       → HasColour store colour (region_in class) (word_at f.stack n)
   operand_has n class same = ⊎_elim
@@ -141,13 +144,13 @@ module _ (p : Program) (facts : Facts) (f : Frame) (callers : List Frame) (at : 
       → PutHas p.outline store colour f.stack (region_in home) (OfOperand n) place v k
   number_has home n place (kind.Ref t) v plain agrees = absurd plain
   number_has home n place k v plain agrees =
-      (region_in (point.class (word point n)), operand_has n (point.class (word point n)) (λ _. refl), agrees)
+      (region_in (point.class (word point n)), live_in (point.class (word point n)), operand_has n (point.class (word point n)) (λ _. refl), agrees)
 
   put_has : (home : ℕ) (object v : Source) (place : ℕ) (k : Kind) → PutsEvenly point home object v k
       → PutAgrees p.outline store f.stack (Put object place k v)
       → PutHas p.outline store colour f.stack (region_in home) object place v k
   put_has home object v place (kind.Ref t) h agrees =
-      (region_in h.0, object_source home h.0 object h.1 h.2, value_source home h.0 v h.4 h.3, leads_source v h.4)
+      (region_in h.0, live_in h.0, object_source home h.0 object h.1 h.2, value_source home h.0 v h.4 h.3, leads_source v h.4)
   put_has home (OfOperand n) v place k h agrees = number_has home n place k v tt agrees
   put_has home other v place k h agrees = absurd h
 
