@@ -26,6 +26,7 @@ use Rattle.fm_frames.specs.Sights.{type_numbered}
 use Rattle.fm_frames.specs.States.{Areas, null, ref, word_at}
 use Rattle.fm_frames.specs.declared.values.Value.{Value}
 use Rattle.fm_frames.specs.declared.values.Value.TheVariants as value
+use Rattle.fm_same.specs.Advances.{IsStill}
 use Rattle.fm_same.specs.Colours.{AreAreasColoured, Colour, HasColour, IsEdgeEven, IsFixed, IsOf, kind_in, LivesForEver, OfNull, OfObject}
 use Rattle.fm_same.specs.Evenness.{HoldsNumbers, IsPlain, IsPlainKind}
 use Rattle.fm_same.specs.Regions.{Everywhere, Region, Retired}
@@ -87,12 +88,6 @@ ActHas o store colour stack home (SetChain operand to) = ⊥
 ActHas o store colour stack home (FreeChain operand) = ⊥
 
 -- ---- what holds along the actions
-
--- what is retired stays as it is
-abbrev pub IsStill : Store → Colour → Store → Type 0
-IsStill store colour later =
-    (cell : ℕ) (object : Object) → object_at store cell ≡ Some object → object.fixed ≡ false → colour object.birth ≡ Retired
-    → object_at later cell ≡ Some object
 
 pub record Went (o : Outline) (store : Store) (colour : Colour) (home : Region) (x : Areas) (cells : List ℕ) : Type 0 where
   pub areas : AreAreasColoured o colour x

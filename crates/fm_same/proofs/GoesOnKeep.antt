@@ -15,12 +15,13 @@ use Rattle.fm_frames.specs.Effects.{Effect, Source, Plain, OfOperand, OfLocal, L
 use Rattle.fm_frames.specs.States.{Areas, Frame}
 use Rattle.fm_frames.specs.Steps as steps
 use Rattle.fm_frames.specs.declared.values.Value.{Value}
+use Rattle.fm_same.specs.Advances.{point_of}
 use Rattle.fm_same.specs.Colours.{AreAreasColoured, AreFramesColoured, Colour, HasColour, IsEdgeEven, IsFrameColoured, IsOf, node_of_word, OfNull}
 use Rattle.fm_same.specs.Evenness.{ComesFrom, given, GoesOn, is_written, Point, ReadAgrees, word, WritesFrom}
 use Rattle.fm_same.specs.Regions.{Region, region}
 use Rattle.fm_same.specs.Standing.{Goes, IsReference, method_of, StandsAt}
 use Rattle.fm_same.proofs.ActsKeep.{Went}
-use Rattle.fm_same.proofs.SourcesKeep.{has_if_reference, operand_has, point_of, source_gives}
+use Rattle.fm_same.proofs.SourcesKeep.{has_if_reference, operand_has, source_gives}
 use Rattle.fm_same.proofs.StoreChanges.{Agree, Extends, extends-refl, has-agree, has-later, is_of-agree, set_found}
 
 -- ---- lists

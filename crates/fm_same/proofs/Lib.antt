@@ -10,3 +10,4 @@ pub mod CallsKeep
 pub mod ThrowsKeep
 pub mod ReturnsKeep
 pub mod NextKeeps
+pub mod StepKeeps

@@ -19,6 +19,7 @@ use Rattle.fm_frames.specs.Steps.{caught, Caught, continued, fault_of, InFrames,
 use Rattle.fm_frames.specs.Steps as steps
 use Rattle.fm_frames.specs.declared.ends.Ended.TheVariants as end
 use Rattle.fm_frames.specs.declared.values.Value.{Value}
+use Rattle.fm_same.specs.Advances.{point_of}
 use Rattle.fm_same.specs.Colours.{AreAreasColoured, AreFramesColoured, Colour, HasColour}
 use Rattle.fm_same.specs.Evenness.{ComesFrom, EndsEvenly, GoesOn, IsGoing, IsObjectSource, LeadsRight, Point, ReadAgrees}
 use Rattle.fm_same.specs.Regions.{Everywhere, region}
@@ -28,8 +29,8 @@ use Rattle.fm_same.proofs.CallsKeep.{called, called_coloured, calling, calling_c
 use Rattle.fm_same.proofs.EdgesKeep.{edge_to_next, edge_to_target, item_with_state}
 use Rattle.fm_same.proofs.GoesOnKeep.{frame_goes, frames-later}
 use Rattle.fm_same.proofs.RegionLemmas.{region_global}
-use Rattle.fm_same.proofs.ReturnsKeep.{Advances, Kept, return_kept}
-use Rattle.fm_same.proofs.SourcesKeep.{point_of, source_gives}
+use Rattle.fm_same.proofs.ReturnsKeep.{Kept, return_kept}
+use Rattle.fm_same.proofs.SourcesKeep.{source_gives}
 use Rattle.fm_same.proofs.ThrowsKeep.{thrown_coloured}
 
 -- ---- the table of what comes next, with a name
@@ -53,6 +54,35 @@ pub continued_is : (p : Program) (from : Sources) (e : Effect) (f : Frame) (call
     → continued p from e f callers x ≡ followed p from e f callers x e.next
 unfolding continued
 continued_is p from e f callers x = refl
+
+-- what comes next leaves the areas
+
+either_areas : (b : Bool) (one other : State) (areas : Areas) → one.areas ≡ areas → other.areas ≡ areas → (cond b one other).areas ≡ areas
+either_areas true one other areas first second = first
+either_areas false one other areas first second = second
+
+returned_areas : (p : Program) (n : ℕ) (f : Frame) (callers : List Frame) (x : State) → (returned p n f callers x).areas ≡ x.areas
+returned_areas p n f [] x = refl
+returned_areas p n f (g ∷ callers) x =
+    either_areas (is_start p.outline f.method) (record x { frames = g ∷ callers })
+    (record x { frames = record g { item = g.item + 1; stack = take n f.stack ++ g.stack } ∷ callers }) x.areas refl refl
+
+thrown_areas : (x : State) (c : Caught) → (thrown_by x c).areas ≡ x.areas
+thrown_areas x (InFrames frames) = refl
+thrown_areas x (Leaves e) = refl
+
+pub followed_areas : (p : Program) (from : Sources) (e : Effect) (f : Frame) (callers : List Frame) (x : State) (nx : Next)
+    → (followed p from e f callers x nx).areas ≡ x.areas
+followed_areas p from e f callers x Falls = refl
+followed_areas p from e f callers x (Jumps n) = refl
+followed_areas p from e f callers x (JumpsIfSame same) = refl
+followed_areas p from e f callers x (Calls m) = refl
+followed_areas p from e f callers x (Returns n) = returned_areas p n f callers x
+followed_areas p from e f callers x (Throws source) =
+    thrown_areas x (caught p (type_at p.outline x.areas.store (value_of from source)) (value_of from source) (f ∷ callers))
+followed_areas p from e f callers x (Enters methods) = refl
+followed_areas p from e f callers x (Exits n) = refl
+followed_areas p from e f callers x (Faults source) = refl
 
 -- ---- targets
 

@@ -17,6 +17,7 @@ use Rattle.fm_world.specs.Programs.{code_at, Outline, Program}
 use Rattle.fm_frames.specs.States.{Areas, Frame, word_at}
 use Rattle.fm_frames.specs.declared.values.Value.{Value}
 use Rattle.fm_frames.specs.declared.values.Value.TheVariants as value
+use Rattle.fm_same.specs.Advances.{Advances}
 use Rattle.fm_same.specs.Colours.{AreAreasColoured, AreFramesColoured, Colour, HasColour, IsEdgeEven, IsFrameColoured, IsOf, node_of_word}
 use Rattle.fm_same.specs.Laws.{IsWithin}
 use Rattle.fm_same.specs.Regions.{Everywhere, Given, Own, Region, region, Retired}
@@ -121,18 +122,6 @@ moved_cases depth class to (Own d c) = ⊎_elim
     (λ (apart : d ≢ depth). inl (first_apart (d == depth) (c == class) to (Own d c) (ne_eqb d depth apart)))
     (cases_eq d depth)
 moved_cases depth class to Retired = inl refl
-
--- ---- how colours go on
-
--- a region that a return of the topmost frame gives up
-abbrev pub IsResult : Facts → List Frame → Region → Type 0
-IsResult facts [] r = ⊥
-IsResult facts (f ∷ callers) r = r ≡ Own (length callers) (facts.class f.method Return)
-
--- each object keeps its region, but for those of the result's own class of the topmost frame
-abbrev pub Advances : Facts → List Frame → Colour → Colour → ℕ → Type 0
-Advances facts frames colour other births =
-    (birth : ℕ) → birth < births → (other birth ≡ colour birth) ⊎ IsResult facts frames (colour birth)
 
 -- ---- lists
 

@@ -19,6 +19,7 @@ use Rattle.fm_frames.specs.Sights.{type_numbered}
 use Rattle.fm_frames.specs.States.{Areas, Frame, word_at}
 use Rattle.fm_frames.specs.declared.values.Value.{Value}
 use Rattle.fm_frames.specs.declared.values.Value.TheVariants as value
+use Rattle.fm_same.specs.Advances.{point_of}
 use Rattle.fm_same.specs.Colours.{AreAreasColoured, Colour, HasColour, IsEdgeEven, IsFrameColoured, IsOf, kind_in, node_of_word, OfNull, OfObject}
 use Rattle.fm_same.specs.Evenness.{ActsEvenly, ComesFrom, IsObjectSource, IsOperand, IsPlain, IsPlainKind, LeadsOn, Point, PutAgrees, PutsEvenly, ReadAgrees, SetsEvenly, word}
 use Rattle.fm_same.specs.Regions.{Everywhere, Region, region, Retired}
@@ -74,16 +75,6 @@ no_elements : (store : Store) (cell : ℕ) → object_at store cell ≡ None →
 no_elements store cell none = cc
 
 -- ---- at a frame
-
--- the point at which a frame stands
-abbrev pub point_of : Program → Facts → Frame → Code → Point
-point_of p facts f code = record {
-  method = method_of p facts f code;
-  item = f.item;
-  depth = length f.stack;
-  class = facts.class f.method;
-  live = facts.live f.method;
-}
 
 module _ (p : Program) (facts : Facts) (f : Frame) (callers : List Frame) (at : StandsAt p facts f) (store : Store) (colour : Colour) (coloured : IsFrameColoured p.outline facts store colour f callers) where
   abbrev point : Point

@@ -2,4 +2,5 @@ pub mod Regions
 pub mod Colours
 pub mod Standing
 pub mod Evenness
+pub mod Advances
 pub mod Laws
