@@ -1,16 +1,17 @@
 -- A step keeps colours, where its effect owes to the classes what it should.
-use Rattle.std.proofs.Common.{◌≡◌, ◌≢◌, ℕ, zero, suc, ◌+◌, ◌<◌, ◌≤◌, ◌⊎◌, max, Bool, true, false, cond, List, [], ◌∷◌, Option, Some, None, refl, sym, ◌∙◌, ap, subst, inl, inr, arith, ⊎_elim}
+use Rattle.std.proofs.Common.{◌≡◌, ◌≢◌, ℕ, zero, suc, ◌+◌, ◌<◌, ◌≤◌, ◌⊎◌, max, Bool, true, false, cond, List, [], ◌∷◌, length, Option, Some, None, refl, sym, ◌∙◌, ap, subst, inl, inr, arith, ⊎_elim}
 use Rattle.std.specs.List.{AllByRecursion}
 use Rattle.fm_cells.specs.Choices.{lawful, MayReuse}
 use Rattle.fm_cells.specs.Objects.{Request}
-use Rattle.fm_cells.specs.Stores.{object_at, Store}
+use Rattle.fm_cells.specs.Stores.{live_words, object_at, Store}
 use Rattle.fm_conn.specs.Facts.{AreFacts, Facts}
 use Rattle.fm_world.specs.Programs.{Program}
 use Rattle.fm_frames.specs.Acts.{Choose, Did, FullAt, LostAt, performed, Performed, Sources}
-use Rattle.fm_frames.specs.Effects.{Effect}
-use Rattle.fm_frames.specs.States.{Areas, Frame, State}
-use Rattle.fm_frames.specs.Steps.{attempted, done_by, finished, input_after, is_deep, is_done, is_over, next_effect, objects_made, step}
+use Rattle.fm_frames.specs.Effects.{Action, Effect}
+use Rattle.fm_frames.specs.States.{Areas, Frame, Moved, State}
+use Rattle.fm_frames.specs.Steps.{attempted, done_by, finished, halted, input_after, is_deep, is_done, is_over, next_effect, objects_made, step, words_made}
 use Rattle.fm_frames.specs.declared.ends.Ended.{Ended}
+use Rattle.fm_frames.specs.declared.ends.Ended.TheVariants as end
 use Rattle.fm_same.specs.Advances.{Advances, GoesOver, IsResult, IsStill, OwesAt, point_of}
 use Rattle.fm_same.specs.Colours.{AreAreasColoured, AreFramesColoured, Colour, Coloured}
 use Rattle.fm_same.specs.Evenness.{HoldsNumbers, Obeys, PlacesAgree}
@@ -112,8 +113,81 @@ module _ (p : Program) (facts : Facts) (exact : AreFacts p facts) (choose : Choo
 
   -- ---- the whole step
 
-  either_over : (b : Bool) (one other : State) → (Stand p facts one.frames → GoesOver p facts before one colour)
-      → (Stand p facts other.frames → GoesOver p facts before other colour) → Stand p facts (cond b one other).frames
-      → GoesOver p facts before (cond b one other) colour
-  either_over true one other first second after = first after
-  either_over false one other first second after = second after
+  either_moved : (b : Bool) (one other : Moved) → (Stand p facts one.state.frames → GoesOver p facts before one.state colour)
+      → (Stand p facts other.state.frames → GoesOver p facts before other.state colour) → Stand p facts (cond b one other).state.frames
+      → GoesOver p facts before (cond b one other).state colour
+  either_moved true one other first second after = first after
+  either_moved false one other first second after = second after
+
+  halted_over : (ended : Ended) → Stand p facts (f ∷ callers) → GoesOver p facts before (halted before ended).state colour
+  halted_over ended after = stays_over p facts before (halted before ended).state colour coloured refl refl
+
+  pub attempted_over : Stand p facts (attempted p choose before e).state.frames → GoesOver p facts before (attempted p choose before e).state colour
+  attempted_over =
+      either_moved (is_deep before e.next) (halted before (end.TooDeep (length (f ∷ callers))))
+      (cond (is_over p.outline y.areas e.actions) (halted before (end.Exhausted (live_words y.areas.store) (words_made p.outline y.areas e.actions)))
+      (done_by p (max 1 (objects_made e.actions)) e before result))
+      (halted_over (end.TooDeep (length (f ∷ callers))))
+      (either_moved (is_over p.outline y.areas e.actions)
+      (halted before (end.Exhausted (live_words y.areas.store) (words_made p.outline y.areas e.actions)))
+      (done_by p (max 1 (objects_made e.actions)) e before result)
+      (halted_over (end.Exhausted (live_words y.areas.store) (words_made p.outline y.areas e.actions)))
+      (finished_over (max 1 (objects_made e.actions)) result went))
+
+-- ---- no frames
+
+either_frameless : (p : Program) (facts : Facts) (x : State) (colour : Colour) (b : Bool) (one other : Moved) → GoesOver p facts x one.state colour
+    → GoesOver p facts x other.state colour → GoesOver p facts x (cond b one other).state colour
+either_frameless p facts x colour true one other first second = first
+either_frameless p facts x colour false one other first second = second
+
+frameless_over : (p : Program) (facts : Facts) (choose : Choose) (y : State) (colour : Colour) → Coloured p facts (record y { frames = [] }) colour
+    → (e : Effect) → e.actions ≡ []
+    → GoesOver p facts (record y { frames = [] }) (attempted p choose (record y { frames = [] }) e).state colour
+unfolding performed
+frameless_over p facts choose y colour coloured e none =
+    let x : State = record y { frames = [] } in
+    either_frameless p facts x colour (is_deep x e.next) (halted x (end.TooDeep 0))
+    (cond (is_over p.outline y.areas e.actions) (halted x (end.Exhausted (live_words y.areas.store) (words_made p.outline y.areas e.actions)))
+    (done_by p (max 1 (objects_made e.actions)) e x (performed p.outline choose [] [] e.actions y.areas [])))
+    (stays_over p facts x (halted x (end.TooDeep 0)).state colour coloured refl refl)
+    (either_frameless p facts x colour (is_over p.outline y.areas e.actions)
+    (halted x (end.Exhausted (live_words y.areas.store) (words_made p.outline y.areas e.actions)))
+    (done_by p (max 1 (objects_made e.actions)) e x (performed p.outline choose [] [] e.actions y.areas []))
+    (stays_over p facts x (halted x (end.Exhausted (live_words y.areas.store) (words_made p.outline y.areas e.actions))).state colour coloured refl refl)
+    (subst (λ (actions : List Action). GoesOver p facts x
+        (done_by p (max 1 (objects_made e.actions)) e x (performed p.outline choose [] [] actions y.areas [])).state colour) (sym none)
+    (stays_over p facts x (done_by p (max 1 (objects_made e.actions)) e x (Did y.areas [])).state colour coloured refl refl)))
+
+-- ---- from a state to the next
+
+abbrev stepped : Program → Choose → State → Option Ended → Moved
+stepped p choose x (Some e) = record { state = x; printed = [] }
+stepped p choose x None = attempted p choose x (next_effect p x)
+
+step_is : (p : Program) (choose : Choose) (x : State) → step p choose x ≡ stepped p choose x x.ended
+unfolding step
+step_is p choose x = refl
+
+module _ (p : Program) (facts : Facts) (exact : AreFacts p facts) (choose : Choose) (may : (s : Store) (request : Request) → MayReuse s request (choose s request)) (numbers : HoldsNumbers p.outline) where
+  attempt_over : (y : State) (frames : List Frame) (colour : Colour) (e : Effect) → Coloured p facts (record y { frames = frames }) colour
+      → Stand p facts frames → OwesAt p facts y.areas.store e frames
+      → Stand p facts (attempted p choose (record y { frames = frames }) e).state.frames
+      → GoesOver p facts (record y { frames = frames }) (attempted p choose (record y { frames = frames }) e).state colour
+  attempt_over y [] colour e coloured stand owes after = frameless_over p facts choose y colour coloured e owes
+  attempt_over y (f ∷ callers) colour e coloured stand owes after =
+      attempted_over p facts exact choose may numbers y f callers colour coloured stand e owes after
+
+  stepped_over : (x : State) (colour : Colour) (o : Option Ended) → Coloured p facts x colour → Stand p facts x.frames
+      → OwesAt p facts x.areas.store (next_effect p x) x.frames → Stand p facts (stepped p choose x o).state.frames
+      → GoesOver p facts x (stepped p choose x o).state colour
+  stepped_over x colour (Some e) coloured stand owes after = stays_over p facts x x colour coloured refl refl
+  stepped_over x colour None coloured stand owes after = attempt_over x x.frames colour (next_effect p x) coloured stand owes after
+
+  -- colours of a state lead to colours of the next
+  pub step_over : (x : State) (colour : Colour) → Coloured p facts x colour → Stand p facts x.frames
+      → OwesAt p facts x.areas.store (next_effect p x) x.frames → Stand p facts (step p choose x).state.frames
+      → GoesOver p facts x (step p choose x).state colour
+  step_over x colour coloured stand owes after =
+      subst (λ (m : Moved). GoesOver p facts x m.state colour) (sym (step_is p choose x))
+      (stepped_over x colour x.ended coloured stand owes (subst (λ (m : Moved). Stand p facts m.state.frames) (step_is p choose x) after))
