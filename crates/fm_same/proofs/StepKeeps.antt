@@ -37,6 +37,7 @@ stays_over p facts x next colour h same_frames same_areas = record {
   advances = λ birth lt. inl refl;
   still = λ cell object held not_fixed retired.
       ap (λ (y : Areas). object_at y.store cell) same_areas ∙ held;
+  births = subst (λ (y : Areas). x.areas.store.births ≤ y.store.births) (sym same_areas) (omega arith);
 }
 
 module _ (p : Program) (facts : Facts) (exact : AreFacts p facts) (choose : Choose) (may : (s : Store) (request : Request) → MayReuse s request (choose s request)) (numbers : HoldsNumbers p.outline) (y : State) (f : Frame) (callers : List Frame) (colour : Colour) (coloured : Coloured p facts (record y { frames = f ∷ callers }) colour) (stand : Stand p facts (f ∷ callers)) (e : Effect) (owes : OwesAt p facts y.areas.store e (f ∷ callers)) where
@@ -71,9 +72,9 @@ module _ (p : Program) (facts : Facts) (exact : AreFacts p facts) (choose : Choo
       (acts_have p facts f callers stand.0.at y.areas.store with_born frames_born.0 obeys.home e.actions obeys.acts agrees.puts)
       (went_first p.outline with_born home y.areas (areas-agree p.outline y.areas colour with_born agree coloured.areas))
 
-  over : (births : ℕ) (next : State) → y.areas.store.births ≤ births → IsStill y.areas.store with_born next.areas.store
+  over : (births : ℕ) (next : State) → y.areas.store.births ≤ births → next.areas.store.births ≡ births → IsStill y.areas.store with_born next.areas.store
       → Kept p facts (f ∷ callers) with_born births next.frames next.areas → GoesOver p facts before next colour
-  over births next le still kept = record {
+  over births next le same still kept = record {
     other = kept.other;
     coloured = record { frames = kept.frames_coloured; areas = kept.areas_coloured };
     advances = λ birth lt. ⊎_elim
@@ -82,6 +83,7 @@ module _ (p : Program) (facts : Facts) (exact : AreFacts p facts) (choose : Choo
         (kept.advances birth (omega arith));
     still = λ cell object held not_fixed retired.
         still cell object held not_fixed (agree object.birth (coloured.areas.orderly.born cell object held) ∙ retired);
+    births = omega arith;
   }
 
   finished_over : (price : ℕ) (r : Performed) → WentTo p.outline y.areas.store with_born home r → Stand p facts (finished p price e before r).frames
@@ -97,12 +99,12 @@ module _ (p : Program) (facts : Facts) (exact : AreFacts p facts) (choose : Choo
       let same : (followed p from e f callers x e.next).areas ≡ areas = followed_areas p from e f callers x e.next in
       subst (λ (next : State). GoesOver p facts before next colour) (sym is)
       (let stands = subst (λ (next : State). Stand p facts next.frames) is after in
-      over areas.store.births (followed p from e f callers x e.next) gone.extends.births
+      over areas.store.births (followed p from e f callers x e.next) gone.extends.births (ap (λ (z : Areas). z.store.births) same)
       (subst (λ (z : Areas). IsStill y.areas.store with_born z.store) (sym same) gone.still)
       (next_kept p facts exact f callers stand.0.at stand.1 y.areas.store with_born frames_born obeys.home x refl made gone e agrees.reads e.next
       obeys.leads obeys.goes obeys.ends stands))
   finished_over price (FullAt areas needed) gone after =
-      over areas.store.births (finished p price e before (FullAt areas needed)) gone.1.births gone.2
+      over areas.store.births (finished p price e before (FullAt areas needed)) gone.1.births refl gone.2
       (record {
         other = with_born;
         frames_coloured = frames-later p.outline facts y.areas.store areas.store with_born (f ∷ callers) gone.1 frames_born;

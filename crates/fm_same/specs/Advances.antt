@@ -1,5 +1,5 @@
 -- How colours go on from one state to the next.
-use Rattle.std.specs.Prelude.{◌≡◌, ℕ, ◌<◌, ◌⊎◌, false, List, [], ◌∷◌, length, Option, Some}
+use Rattle.std.specs.Prelude.{◌≡◌, ℕ, ◌<◌, ◌≤◌, ◌⊎◌, false, List, [], ◌∷◌, length, Option, Some}
 use Rattle.fm_cells.specs.Objects.{Object}
 use Rattle.fm_cells.specs.Stores.{object_at, Store}
 use Rattle.fm_code.specs.declared.code_array.Code.{Code}
@@ -51,3 +51,4 @@ pub record GoesOver (p : Program) (facts : Facts) (x next : State) (colour : Col
   pub coloured : Coloured p facts next other
   pub advances : Advances facts x.frames colour other x.areas.store.births
   pub still : IsStill x.areas.store colour next.areas.store
+  pub births : x.areas.store.births ≤ next.areas.store.births

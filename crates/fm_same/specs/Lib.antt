@@ -3,4 +3,5 @@ pub mod Colours
 pub mod Standing
 pub mod Evenness
 pub mod Advances
+pub mod DeadRegions
 pub mod Laws
