@@ -11,3 +11,4 @@ pub mod ThrowsKeep
 pub mod ReturnsKeep
 pub mod NextKeeps
 pub mod StepKeeps
+pub mod Retiring
