@@ -12,3 +12,4 @@ pub mod ReturnsKeep
 pub mod NextKeeps
 pub mod StepKeeps
 pub mod Retiring
+pub mod RegionsDie

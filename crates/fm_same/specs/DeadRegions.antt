@@ -10,12 +10,14 @@ use Rattle.fm_code.specs.declared.code_array.Code.{Code}
 use Rattle.fm_conn.specs.Facts.{Facts}
 use Rattle.fm_conn.specs.Nodes.{IsNode, Local}
 use Rattle.fm_world.specs.Programs.{code_at, Outline, Program}
-use Rattle.fm_frames.specs.Acts.{cell_of}
-use Rattle.fm_frames.specs.States.{Areas, Frame, State}
+use Rattle.fm_frames.specs.Acts.{cell_of, Choose}
+use Rattle.fm_frames.specs.States.{Frame, State}
+use Rattle.fm_frames.specs.Steps.{next_effect, step}
 use Rattle.fm_frames.specs.declared.values.Value.{Value}
+use Rattle.fm_same.specs.Advances.{OwesAt}
 use Rattle.fm_same.specs.Colours.{kind_in, node_of_word}
 use Rattle.fm_same.specs.Regions.{IsCaptured}
-use Rattle.fm_same.specs.Standing.{method_of}
+use Rattle.fm_same.specs.Standing.{method_of, Stand}
 
 -- ---- what leads where
 
@@ -102,3 +104,11 @@ pub record IsRetired (p : Program) (facts : Facts) (xs : ℕ → State) (method 
   pub held : IsHeldAt facts depth class (xs first).frames from
   pub leads : LeadsTo p.outline (xs first).areas.store from birth
   pub over : IsOver p facts method depth class (xs (first + suc count)).frames
+
+-- ---- runs
+
+-- states of which each is the next one's step, where frames stand as a sound machine has them and effects owe to the classes what they should
+pub record IsSoundRun (p : Program) (facts : Facts) (choose : Choose) (xs : ℕ → State) : Type 0 where
+  pub next : (k : ℕ) → xs (suc k) ≡ (step p choose (xs k)).state
+  pub stand : (k : ℕ) → Stand p facts (xs k).frames
+  pub owes : (k : ℕ) → OwesAt p facts (xs k).areas.store (next_effect p (xs k)) (xs k).frames

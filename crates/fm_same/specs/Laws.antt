@@ -1,5 +1,5 @@
 -- The laws that the functions of `laws` prove.
-use Rattle.std.specs.Prelude.{◌≡◌, ◌≢◌, ℕ, ◌≤◌, ◌⊎◌, List, ◌∷◌, length, Some}
+use Rattle.std.specs.Prelude.{◌≡◌, ◌≢◌, ℕ, suc, ◌+◌, ◌≤◌, ◌⊎◌, List, ◌∷◌, length, Some}
 use Rattle.fm_code.specs.Edges.{IsNormalEdge}
 use Rattle.fm_code.specs.declared.code_array.Code.{Code}
 use Rattle.fm_conn.specs.Facts.{AreFacts, Facts}
@@ -9,9 +9,16 @@ use Rattle.fm_conn.specs.Pairs.{IsEnd, PairAt}
 use Rattle.fm_conn.specs.declared.ends.End2.{End2}
 use Rattle.fm_conn.specs.declared.ends.End2.TheVariants as end
 use Rattle.fm_world.specs.Programs.{code_at, Outline, Program}
-use Rattle.fm_frames.specs.States.{Frame}
+use Rattle.fm_cells.specs.Choices.{lawful}
+use Rattle.fm_frames.specs.Acts.{Choose}
+use Rattle.fm_frames.specs.States.{Frame, State}
+use Rattle.fm_frames.specs.Steps.{next_effect, step}
+use Rattle.fm_same.specs.Advances.{GoesOver, OwesAt}
+use Rattle.fm_same.specs.Colours.{Colour, Coloured}
+use Rattle.fm_same.specs.DeadRegions.{IsDead, IsOver, IsRetired, IsSoundRun}
+use Rattle.fm_same.specs.Evenness.{HoldsNumbers}
 use Rattle.fm_same.specs.Regions.{argument, IsCaptured, Own, region, Region, Retired}
-use Rattle.fm_same.specs.Standing.{Called, method_of}
+use Rattle.fm_same.specs.Standing.{Called, method_of, Stand}
 
 -- ---- classes of nodes
 
@@ -63,3 +70,30 @@ RegionsGoAlongReturns =
     → (region p.outline facts f.method (g ∷ callers) (facts.class f.method Return)
     ≡ region p.outline facts g.method callers (facts.class g.method (Slot next (length g.stack))))
     ⊎ (region p.outline facts f.method (g ∷ callers) (facts.class f.method Return) ≡ Own (length (g ∷ callers)) (facts.class f.method Return))
+
+-- ---- colours
+
+-- a step leads from colours of a state to colours of the next, which go on from them
+abbrev pub StepsKeepColours : Type 0
+StepsKeepColours =
+    (p : Program) (facts : Facts) → AreFacts p facts → HoldsNumbers p.outline → (choose : Choose) (x : State) (colour : Colour)
+    → Coloured p facts x colour → Stand p facts x.frames → OwesAt p facts x.areas.store (next_effect p x) x.frames
+    → Stand p facts (step p (lawful choose) x).state.frames
+    → GoesOver p facts x (step p (lawful choose) x).state colour
+
+-- a captured class that isn't busy can be retired: colours stay so where what has its region is retired
+abbrev pub QuietClassesRetire : Type 0
+QuietClassesRetire =
+    (p : Program) (facts : Facts) (x : State) (colour : Colour) (method depth class : ℕ) → Coloured p facts x colour → Stand p facts x.frames
+    → IsOver p facts method depth class x.frames
+    → (other : Colour) × Coloured p facts x other × ((birth : ℕ) → colour birth ≡ Own depth class → other birth ≡ Retired)
+
+-- ---- the law of dead regions
+
+-- in a run whose first state has colours: what a captured class led to is dead from the state on in which the class isn't busy, or the activation is gone
+abbrev pub RegionsDie : Type 0
+RegionsDie =
+    (p : Program) (facts : Facts) → AreFacts p facts → HoldsNumbers p.outline → (choose : Choose) (xs : ℕ → State)
+    → IsSoundRun p facts (lawful choose) xs → (colour : Colour) → Coloured p facts (xs 0) colour
+    → (method depth class birth first count : ℕ) → IsRetired p facts xs method depth class birth first count
+    → (later : ℕ) → first + suc count ≤ later → IsDead p facts birth (xs later) (xs (suc later))
