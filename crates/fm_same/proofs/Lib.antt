@@ -13,3 +13,4 @@ pub mod NextKeeps
 pub mod StepKeeps
 pub mod Retiring
 pub mod RegionsDie
+pub mod ItemFacts
