@@ -14,3 +14,5 @@ pub mod StepKeeps
 pub mod Retiring
 pub mod RegionsDie
 pub mod ItemFacts
+pub mod Cases
+pub mod PlainRows
