@@ -16,3 +16,4 @@ pub mod RegionsDie
 pub mod ItemFacts
 pub mod Cases
 pub mod PlainRows
+pub mod MoveRows
