@@ -17,3 +17,4 @@ pub mod ItemFacts
 pub mod Cases
 pub mod PlainRows
 pub mod MoveRows
+pub mod ObjectRows

@@ -1,0 +1,146 @@
+-- The rows of objects, fields, casts and arrays: what is read from an object is of its class, and so is what is put into it; a new object's home is the word
+-- that it becomes.
+use Rattle.std.proofs.Common.{◌≡◌, ◌≢◌, ℕ, ℤ, pos, zero, suc, ◌+◌, ◌-◌, ◌<◌, ◌≤◌, ◌⊎◌, ◌==◌, ◌&&◌, ◌||◌, not, int_lt, Bool, true, false, cond, List, [], ◌∷◌, ◌++◌, length, map, Option, Some, None, option_and_then, option_map, codes, IsSomeAnd, Contains, refl, sym, ◌∙◌, ap, subst, inl, inr, slice_get, slice_index_or, nat_lt, unsigned_abs, arith, eqb-true, ⊎_elim}
+use Rattle.std.specs.List.{AllByRecursion}
+use Rattle.std.proofs.lemmas.Bool.{and_parts, false≢true}
+use Rattle.std.proofs.lemmas.Option.{none-some, same_Some, slice_get_within}
+use Rattle.fm_base.proofs.OptionFacts.{Some-from_some_and}
+use Rattle.fm_base.specs.declared.ids.FieldId.{FieldId}
+use Rattle.fm_base.specs.declared.ids.TypeId.{TypeId}
+use Rattle.fm_base.specs.declared.kinds.Base.{Base}
+use Rattle.fm_base.specs.declared.kinds.Base.TheVariants as base
+use Rattle.fm_base.specs.declared.kinds.Kind.{Kind}
+use Rattle.fm_base.specs.declared.kinds.Kind.TheVariants as kind
+use Rattle.fm_base.specs.declared.kinds.TypeRef.{TypeRef}
+use Rattle.fm_code.specs.Edges.{falls_through, insn_of, IsNormalEdge, LeadsTo}
+use Rattle.fm_code.specs.Live.{stores_over}
+use Rattle.fm_code.specs.SpellsCode.{targets_of}
+use Rattle.fm_code.specs.declared.code_array.Code.{Code}
+use Rattle.fm_code.specs.declared.instructions.Insn.{Insn}
+use Rattle.fm_code.specs.declared.instructions.Insn.TheVariants as insn
+use Rattle.fm_code.specs.declared.operations.Elem.{Elem}
+use Rattle.fm_code.specs.declared.operations.Elem.TheVariants as elem
+use Rattle.fm_conn.specs.Facts.{AreFacts, Facts}
+use Rattle.fm_conn.specs.Nodes.{Global, IsNode, Local, Node, Slot}
+use Rattle.fm_conn.specs.Pairs.{StandsAt}
+use Rattle.fm_conn.specs.Rows as pairs
+use Rattle.fm_types.specs.Fits.{fits}
+use Rattle.fm_types.specs.Named as named_rows
+use Rattle.fm_types.specs.ObjectRows.{get_static_row, put_field_row, put_static_row}
+use Rattle.fm_types.specs.Rows.{row_after}
+use Rattle.fm_types.specs.States.{is_reference, stack_slots, taken, TypeState, worked, worked_below}
+use Rattle.fm_types.specs.Typed.{FitsAt}
+use Rattle.fm_types.specs.declared.slots.Slot as slots
+use Rattle.fm_types.specs.declared.slots.Slot.TheVariants as slot
+use Rattle.fm_world.specs.Descriptors.{kind_words}
+use Rattle.fm_world.specs.Members.{slot_of}
+use Rattle.fm_world.specs.Programs.{class_of_type, Outline, Program}
+use Rattle.fm_world.specs.Chains.{is_sub}
+use Rattle.fm_world.specs.declared.uses.Use.{Use}
+use Rattle.fm_world.specs.declared.uses.Use.TheVariants as resolved
+use Rattle.fm_frames.specs.Effects.{Action, Make, Put, SetStatic, Effect, Source, Plain, OfOperand, OfLocal, LocalPlus, OfPlace, OfStatic, OfMade, OfLiteral, SameOperands, acting, int_word, loaded, making, stuck, words}
+use Rattle.fm_frames.specs.ObjectRows.{cast_effect, class_of_field, get_field_effect, get_static_effect, is_a_effect, kind_of_field, made_of, new_effect, put_field_effect, put_static_effect, starting}
+use Rattle.fm_frames.specs.Operands.{on_object, size_of_type, thrown}
+use Rattle.fm_frames.specs.Sights.{Looks, Sight, Thing}
+use Rattle.fm_frames.specs.States.{Frame}
+use Rattle.fm_frames.specs.declared.values.Value.TheVariants as value
+use Rattle.fm_same.specs.Evenness.{ComesFrom, depth_after, given, LeadsOn, Obeys, word}
+use Rattle.fm_same.proofs.Cases.{by_held, by_if, by_object, by_on_field, by_on_type}
+use Rattle.fm_same.proofs.ItemFacts.{AtInsn, given_word, goes_obey, joined_class, node_of_slot, point, row, stays_class, taken_word, used, x}
+use Rattle.fm_same.proofs.MoveRows.{given_stands, gives_one, gives_two, GivesOne, not_given}
+use Rattle.fm_same.proofs.PlainRows.{faulty_obeys, null_obeys, Owes, plain_from, stuck_obeys, thrown_obeys, words_obey, IsPlainSource}
+
+-- ---- uses
+
+-- a field of references, as the pairs ask for it
+reference_field : (o : Outline) (u : Use) (f : FieldId) (n : TypeId) (t : TypeRef) → u ≡ resolved.OfField f n → kind_of_field o f.0 ≡ kind.Ref t
+    → pairs.is_reference_field o u ≡ true
+reference_field o u f n t is kind_is = ap (pairs.is_reference_field o) is ∙ ap pairs.is_reference_kind kind_is
+
+field_words_is : (o : Outline) (u : Use) (f : FieldId) (n : TypeId) → u ≡ resolved.OfField f n → pairs.field_words o u ≡ kind_words (kind_of_field o f.0)
+field_words_is o u f n is = ap (pairs.field_words o) is
+
+row_there : (b : Bool) (places : List (pairs.Place × pairs.Place)) (place : pairs.Place × pairs.Place) → b ≡ true → Contains places place
+    → Contains (cond b places []) place
+row_there true places place e h = h
+row_there false places place e h = absurd (false≢true e)
+
+-- ---- the one item that follows
+
+only_next : (code : Code) (j next : ℕ) (i : Insn) → insn_of code j ≡ Some i → targets_of i ≡ [] → IsNormalEdge code j next → next ≡ j + 1
+only_next code j next i at none edge =
+    let found : (other : Insn) × (insn_of code j ≡ Some other) × LeadsTo other j next =
+    Some-from_some_and (insn_of code j) (λ other. LeadsTo other j next) edge.leads in
+    let same : found.0 ≡ i = same_Some found.0 i (sym found.1 ∙ at) in
+    ⊎_elim
+    (λ named.
+        let here : Contains [] next = subst (λ (ts : List ℕ). Contains ts next) (ap targets_of same ∙ none) named in
+        let within : here.0 < 0 = here.1 in absurd (omega arith))
+    (λ falls. falls.1) found.2
+
+module _ (p : Program) (facts : Facts) (exact : AreFacts p facts) (f : Frame) (i : Insn) (h : AtInsn p facts f i) where
+  -- the class of the word that is given at the next item
+  abbrev pub home_of : Effect → ℕ
+  home_of e = facts.class f.method (given (point p facts exact f i h) e (f.item + 1) 0)
+
+  -- an object is made and given, and nothing is taken that the pairs don't take
+  pub making_obeys : ((k : ℕ) → stores_over k i ≡ false) → falls_through i ≡ true → targets_of i ≡ [] → (takes : ℕ) (t : TypeRef) (len : ℕ)
+      → pairs.words_taken p.outline (used p facts exact f i h) i ≤ takes → Owes p facts exact f i h (making takes (Make t len []))
+  making_obeys keeps falls none takes t len le =
+      let e : Effect = making takes (Make t len []) in
+      goes_obey p facts exact f i h e (home_of e) (inl refl, tt) falls tt
+      (gives_one p facts exact f i h e (home_of e) (OfMade 0) refl
+      (λ next edge there. ap (λ n. facts.class f.method (given (point p facts exact f i h) e n 0))
+          (sym (only_next h.code f.item next i h.insn_is none edge))))
+      tt (λ k unwritten. keeps k) le
+
+  -- an element of an operand's object is read, where the pairs join the operand with what is given
+  pub loaded_obeys : ((k : ℕ) → stores_over k i ≡ false) → falls_through i ≡ true → (takes operand place : ℕ) (k : Kind)
+      → takes ≡ pairs.words_taken p.outline (used p facts exact f i h) i
+      → ((t : TypeRef) → k ≡ kind.Ref t
+      → Contains (pairs.joined_by p.outline (used p facts exact f i h) i) (pairs.Taken operand, pairs.Given 0))
+      → Owes p facts exact f i h (words takes (loaded k (OfPlace operand place k)))
+  loaded_obeys keeps falls takes operand place kind.Boolean taken joins = words_obey p facts exact f i h keeps falls takes _ (tt, tt) (omega arith)
+  loaded_obeys keeps falls takes operand place kind.Byte taken joins = words_obey p facts exact f i h keeps falls takes _ (tt, tt) (omega arith)
+  loaded_obeys keeps falls takes operand place kind.Char taken joins = words_obey p facts exact f i h keeps falls takes _ (tt, tt) (omega arith)
+  loaded_obeys keeps falls takes operand place kind.Short taken joins = words_obey p facts exact f i h keeps falls takes _ (tt, tt) (omega arith)
+  loaded_obeys keeps falls takes operand place kind.Int taken joins = words_obey p facts exact f i h keeps falls takes _ (tt, tt) (omega arith)
+  loaded_obeys keeps falls takes operand place kind.Long taken joins = words_obey p facts exact f i h keeps falls takes _ (tt, (tt, tt)) (omega arith)
+  loaded_obeys keeps falls takes operand place (kind.Ref t) taken joins =
+      let e : Effect = words takes (OfPlace operand place (kind.Ref t) ∷ []) in
+      goes_obey p facts exact f i h e 0 tt falls tt
+      (gives_one p facts exact f i h e 0 (OfPlace operand place (kind.Ref t)) refl
+      (λ next edge there taken_node. joined_class p facts exact f i h (pairs.Taken operand) (pairs.Given 0) (word (point p facts exact f i h) operand)
+          (given (point p facts exact f i h) e next 0) (joins t refl) (taken_word p facts exact f i h operand)
+          (given_stands p facts exact f i h e next 0 0 edge taken refl) taken_node there))
+      tt (λ k unwritten. keeps k) (omega arith)
+
+  -- a value is put into an operand's object, where the pairs join both
+  pub put_obeys : ((k : ℕ) → stores_over k i ≡ false) → falls_through i ≡ true → (takes object place v : ℕ) (k : Kind)
+      → pairs.words_taken p.outline (used p facts exact f i h) i ≤ takes
+      → ((t : TypeRef) → k ≡ kind.Ref t
+      → Contains (pairs.joined_by p.outline (used p facts exact f i h) i) (pairs.Taken object, pairs.Taken v) × LeadsOn (point p facts exact f i h) (OfOperand v))
+      → Owes p facts exact f i h (acting takes (Put (OfOperand object) place k (OfOperand v) ∷ []))
+  put_obeys keeps falls takes object place v (kind.Ref t) taken joins =
+      let e : Effect = acting takes (Put (OfOperand object) place (kind.Ref t) (OfOperand v) ∷ []) in
+      let pair = joins t refl in
+      goes_obey p facts exact f i h e 0
+      ((
+        facts.class f.method (word (point p facts exact f i h) v),
+        tt,
+        λ node. joined_class p facts exact f i h (pairs.Taken object) (pairs.Taken v) (word (point p facts exact f i h) object)
+            (word (point p facts exact f i h) v) pair.0 (taken_word p facts exact f i h object) (taken_word p facts exact f i h v) node pair.1.0,
+        (λ node. refl),
+        pair.1,
+      ), tt)
+      falls tt (λ next edge q s at node. absurd (cc)) tt (λ k unwritten. keeps k) taken
+  put_obeys keeps falls takes object place v k taken joins =
+      goes_obey p facts exact f i h (acting takes (Put (OfOperand object) place k (OfOperand v) ∷ [])) 0 (tt, tt) falls tt
+      (λ next edge q s at node. absurd (cc)) tt (λ k unwritten. keeps k) taken
+
+  -- a word of the state whose slot fits a reference is a reference
+  pub leads_operand : (n : ℕ) (s : slots.Slot) → slice_get h.state.stack n ≡ Some s → is_reference s ≡ true → LeadsOn (point p facts exact f i h) (OfOperand n)
+  leads_operand n s at is =
+      let within : n < length h.state.stack = slice_get_within h.state.stack n s at in
+      let level = h.depth in
+      (node_of_slot p facts exact f i h n s at is, omega (arith, level))
