@@ -144,3 +144,106 @@ module _ (p : Program) (facts : Facts) (exact : AreFacts p facts) (f : Frame) (i
       let within : n < length h.state.stack = slice_get_within h.state.stack n s at in
       let level = h.depth in
       (node_of_slot p facts exact f i h n s at is, omega (arith, level))
+
+  -- a class that is started first owes nothing more
+  pub started_obeys : (class : ℕ) (e : Effect) → Owes p facts exact f i h e → Owes p facts exact f i h (starting class e)
+  started_obeys class e owes = record {
+    home = owes.home;
+    acts = owes.acts;
+    leads = owes.leads;
+    goes = λ next going edge.
+        let on = owes.goes next going edge in
+        record { stays = on.stays; gives = on.gives; writes = on.writes; lives = on.lives };
+    ends = owes.ends;
+  }
+
+-- ---- what rows ask of slots
+
+bound_some : {X Y : Type 0} (k : X → Option Y) (o : Option X) (y : Y) → option_and_then k o ≡ Some y → (x : X) × (o ≡ Some x) × (k x ≡ Some y)
+bound_some k None y h = absurd (cc)
+bound_some k (Some x) y h = (x, refl, h)
+
+mapped_some : {X Y : Type 0} (k : X → Y) (o : Option X) (y : Y) → option_map k o ≡ Some y → (x : X) × (o ≡ Some x)
+mapped_some k None y h = absurd (cc)
+mapped_some k (Some x) y h = (x, refl)
+
+fits_reference : (o : Outline) (s : slots.Slot) (t : TypeRef) → fits o s (slot.Ref t) ≡ true → is_reference s ≡ true
+unfolding fits
+fits_reference o slot.Null t h = refl
+fits_reference o (slot.Ref s) t h = refl
+fits_reference o s t h = absurd (false≢true h)
+
+some_if : {X : Type 0} (b : Bool) (o : Option X) (y : X) → cond b o None ≡ Some y → (b ≡ true) × (o ≡ Some y)
+some_if true o y h = (refl, h)
+some_if false o y h = absurd (cc)
+
+taken_top : (o : Outline) (wanted : slots.Slot) (more stack rest : List slots.Slot) → taken o (wanted ∷ more) stack ≡ Some rest
+    → (s : slots.Slot) × (slice_get stack 0 ≡ Some s) × (fits o s wanted ≡ true)
+taken_top o wanted more [] rest h = absurd (cc)
+taken_top o wanted more (s ∷ stack) rest h = (s, refl, (some_if (fits o s wanted) (taken o more stack) rest h).0)
+
+-- where a reference is wanted on top, one is there
+reference_on_top : (o : Outline) (wanted more stack rest : List slots.Slot) (t : TypeRef) → wanted ≡ slot.Ref t ∷ more → taken o wanted stack ≡ Some rest
+    → (s : slots.Slot) × (slice_get stack 0 ≡ Some s) × (is_reference s ≡ true)
+reference_on_top o wanted more stack rest t is h =
+    let top : (s : slots.Slot) × (slice_get stack 0 ≡ Some s) × (fits o s (slot.Ref t) ≡ true) =
+    taken_top o (slot.Ref t) more stack rest (ap (λ w. taken o w stack) (sym is) ∙ h) in
+    (top.0, top.1, fits_reference o top.0 t top.2)
+
+-- the words of a field of references
+field_slot : (o : Outline) (f : ℕ) (t : TypeRef) → kind_of_field o f ≡ kind.Ref t → named_rows.field_words o f ≡ slot.Ref t ∷ []
+field_slot o f t is = ap (λ k. stack_slots (k ∷ [])) is
+
+put_field_top : (o : Outline) (method : ℕ) (f : FieldId) (n : TypeId) (t : TypeRef) (s after : TypeState) → kind_of_field o f.0 ≡ kind.Ref t
+    → put_field_row o method (resolved.OfField f n) s ≡ Some after
+    → (top : slots.Slot) × (slice_get s.stack 0 ≡ Some top) × (is_reference top ≡ true)
+unfolding put_field_row
+put_field_top o method f n t s after is h =
+    let named = bound_some _ (slice_get o.types n.0) after h in
+    let rest = bound_some _ (taken o (named_rows.field_words o f.0) s.stack) after named.2 in
+    reference_on_top o (named_rows.field_words o f.0) [] s.stack rest.0 t (field_slot o f.0 t is) rest.1
+
+put_static_top : (o : Outline) (f : FieldId) (n : TypeId) (t : TypeRef) (s after : TypeState) → kind_of_field o f.0 ≡ kind.Ref t
+    → put_static_row o (resolved.OfField f n) s ≡ Some after
+    → (top : slots.Slot) × (slice_get s.stack 0 ≡ Some top) × (is_reference top ≡ true)
+unfolding put_static_row
+put_static_top o f n t s after is h =
+    let named = bound_some _ (slice_get o.types n.0) after h in
+    let rest = mapped_some _ (taken o (named_rows.field_words o f.0) s.stack) after named.2 in
+    reference_on_top o (named_rows.field_words o f.0) [] s.stack rest.0 t (field_slot o f.0 t is) rest.1
+
+get_static_stack : (o : Outline) (f : FieldId) (n : TypeId) (s after : TypeState) → get_static_row o (resolved.OfField f n) s ≡ Some after
+    → after.stack ≡ named_rows.field_words o f.0 ++ s.stack
+unfolding get_static_row
+get_static_stack o f n s after h =
+    let named = bound_some _ (slice_get o.types n.0) after h in
+    ap (λ (q : TypeState). q.stack) (same_Some after _ (sym named.2))
+
+-- ---- objects and fields
+
+module _ (p : Program) (facts : Facts) (exact : AreFacts p facts) (f : Frame) where
+  made_of_obeys : (index : ℕ) (h : AtInsn p facts f (insn.New index)) (t : TypeRef) (class : Option ℕ)
+      → Owes p facts exact f (insn.New index) h (made_of p.outline t class)
+  unfolding pairs.words_taken
+  made_of_obeys index h t None = stuck_obeys p facts exact f (insn.New index) h
+  made_of_obeys index h t (Some class) =
+      started_obeys p facts exact f (insn.New index) h class (making 0 (Make t (size_of_type p.outline t) []))
+      (making_obeys p facts exact f (insn.New index) h (λ k. refl) refl refl 0 t (size_of_type p.outline t) (omega arith))
+
+  pub new_obeys : (index : ℕ) (h : AtInsn p facts f (insn.New index)) (u : Use) → Owes p facts exact f (insn.New index) h (new_effect p.outline u)
+  unfolding new_effect
+  new_obeys index h u =
+      by_on_type (Owes p facts exact f (insn.New index) h) p.outline u _ (stuck_obeys p facts exact f (insn.New index) h)
+      (λ n t is there. made_of_obeys index h t (class_of_type t))
+
+  pub get_field_obeys : (index : ℕ) (h : AtInsn p facts f (insn.GetField index)) (s : List Sight)
+      → Owes p facts exact f (insn.GetField index) h (get_field_effect p.outline (used p facts exact f (insn.GetField index) h) s)
+  unfolding get_field_effect pairs.words_taken pairs.joined_by
+  get_field_obeys index h s =
+      let i : Insn = insn.GetField index in
+      let u : Use = used p facts exact f i h in
+      by_on_field (Owes p facts exact f i h) p.outline u _ (stuck_obeys p facts exact f i h)
+      (λ m n t is there. by_object (Owes p facts exact f i h) p.outline t s 0 _
+          (null_obeys p facts exact f i h (λ k. refl)) (stuck_obeys p facts exact f i h) (faulty_obeys p facts exact f i h 0)
+          (λ it seen fits_it. loaded_obeys p facts exact f i h (λ k. refl) refl 1 0 (slot_of p.outline.classes m.0) (kind_of_field p.outline m.0) refl
+              (λ ref kind_is. row_there (pairs.is_reference_field p.outline u) _ _ (reference_field p.outline u m n ref is kind_is) (0, omega arith, refl))))
