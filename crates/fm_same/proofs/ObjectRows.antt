@@ -1,6 +1,6 @@
 -- The rows of objects, fields, casts and arrays: what is read from an object is of its class, and so is what is put into it; a new object's home is the word
 -- that it becomes.
-use Rattle.std.proofs.Common.{◌≡◌, ◌≢◌, ℕ, ℤ, pos, zero, suc, ◌+◌, ◌-◌, ◌<◌, ◌≤◌, ◌⊎◌, ◌==◌, ◌&&◌, ◌||◌, not, int_lt, Bool, true, false, cond, List, [], ◌∷◌, ◌++◌, length, map, Option, Some, None, option_and_then, option_map, codes, IsSomeAnd, Contains, refl, sym, ◌∙◌, ap, subst, inl, inr, slice_get, slice_index_or, nat_lt, unsigned_abs, arith, eqb-true, ⊎_elim}
+use Rattle.std.proofs.Common.{◌≡◌, ◌≢◌, ℕ, ℤ, pos, zero, suc, ◌+◌, ◌-◌, ◌<◌, ◌≤◌, ◌⊎◌, ◌==◌, ◌&&◌, ◌||◌, not, int_lt, Bool, true, false, cond, List, [], ◌∷◌, ◌++◌, length, map, Option, Some, None, option_and_then, option_map, codes, IsSomeAnd, Contains, refl, sym, ◌∙◌, ap, subst, inl, inr, slice_get, slice_index_or, nat_lt, unsigned_abs, arith, eqb-true, ⊎_elim, length-append}
 use Rattle.std.specs.List.{AllByRecursion}
 use Rattle.std.proofs.lemmas.Bool.{and_parts, false≢true}
 use Rattle.std.proofs.lemmas.Option.{none-some, same_Some, slice_get_within}
@@ -219,6 +219,11 @@ get_static_stack o f n s after h =
     let named = bound_some _ (slice_get o.types n.0) after h in
     ap (λ (q : TypeState). q.stack) (same_Some after _ (sym named.2))
 
+front_found : (xs ys : List slots.Slot) (q : ℕ) (s : slots.Slot) → slice_get xs q ≡ Some s → slice_get (xs ++ ys) q ≡ Some s
+front_found [] ys q s h = absurd (cc)
+front_found (x ∷ xs) ys zero s h = h
+front_found (x ∷ xs) ys (suc q) s h = front_found xs ys q s h
+
 -- ---- objects and fields
 
 module _ (p : Program) (facts : Facts) (exact : AreFacts p facts) (f : Frame) where
@@ -247,3 +252,152 @@ module _ (p : Program) (facts : Facts) (exact : AreFacts p facts) (f : Frame) wh
           (null_obeys p facts exact f i h (λ k. refl)) (stuck_obeys p facts exact f i h) (faulty_obeys p facts exact f i h 0)
           (λ it seen fits_it. loaded_obeys p facts exact f i h (λ k. refl) refl 1 0 (slot_of p.outline.classes m.0) (kind_of_field p.outline m.0) refl
               (λ ref kind_is. row_there (pairs.is_reference_field p.outline u) _ _ (reference_field p.outline u m n ref is kind_is) (0, omega arith, refl))))
+
+  -- the state after the item's row
+  abbrev RowGives : (i : Insn) (h : AtInsn p facts f i) → Option TypeState → Type 0
+  RowGives i h given_by = (s : TypeState) × (given_by ≡ Some s) × ((next : ℕ) → IsNormalEdge h.code f.item next → FitsAt p (facts.typing f.method) next s)
+
+  row_gives : (i : Insn) (h : AtInsn p facts f i) (given_by : Option TypeState)
+      → IsSomeAnd given_by (λ s. (next : ℕ) → IsNormalEdge h.code f.item next → FitsAt p (facts.typing f.method) next s) → RowGives i h given_by
+  row_gives i h given_by is = Some-from_some_and given_by (λ s. (next : ℕ) → IsNormalEdge h.code f.item next → FitsAt p (facts.typing f.method) next s) is
+
+  words_of_reference : (m : ℕ) (ref : TypeRef) → kind_of_field p.outline m ≡ kind.Ref ref → kind_words (kind_of_field p.outline m) ≡ 1
+  words_of_reference m ref is = ap kind_words is
+
+  -- the value of a field that is put: the object lies below the words of the value
+  put_by_kind : (index : ℕ) (h : AtInsn p facts f (insn.PutField index)) (m : FieldId) (n : TypeId)
+      → used p facts exact f (insn.PutField index) h ≡ resolved.OfField m n → (k : Kind) → kind_of_field p.outline m.0 ≡ k
+      → Owes p facts exact f (insn.PutField index) h
+      (acting (kind_words k + 1) (Put (OfOperand (kind_words k)) (slot_of p.outline.classes m.0) k (OfOperand (kind_words k - 1)) ∷ []))
+  unfolding pairs.words_taken pairs.joined_by row_after
+  put_by_kind index h m n is k kind_is =
+      let i : Insn = insn.PutField index in
+      let u : Use = used p facts exact f i h in
+      let count : pairs.field_words p.outline u ≡ kind_words k = field_words_is p.outline u m n is ∙ ap kind_words kind_is in
+      put_obeys p facts exact f i h (λ l. refl) refl (kind_words k + 1) (kind_words k) (slot_of p.outline.classes m.0) (kind_words k - 1) k
+      (omega (arith, count))
+      (λ ref k_is.
+          let after : RowGives i h (put_field_row p.outline f.method u h.state) =
+          row_gives i h (put_field_row p.outline f.method u h.state) (row p facts exact f i h) in
+          let top : (s : slots.Slot) × (slice_get h.state.stack 0 ≡ Some s) × (is_reference s ≡ true) =
+          put_field_top p.outline f.method m n ref h.state after.0 (kind_is ∙ k_is)
+          (ap (λ v. put_field_row p.outline f.method v h.state) (sym is) ∙ after.1) in
+          let one : kind_words k ≡ 1 = ap kind_words k_is in
+          let below : 1 - 1 ≡ kind_words k - 1 = omega (arith, one) in (
+            subst (λ a. Contains (pairs.joined_by p.outline u i) (pairs.Taken a, pairs.Taken (kind_words k - 1))) (sym one)
+            (subst (λ b. Contains (pairs.joined_by p.outline u i) (pairs.Taken 1, pairs.Taken b)) below
+            (row_there (pairs.is_reference_field p.outline u) _ _ (reference_field p.outline u m n ref is (kind_is ∙ k_is)) (0, omega arith, refl))),
+            subst (λ b. LeadsOn (point p facts exact f i h) (OfOperand b)) below (leads_operand p facts exact f i h 0 top.0 top.1 top.2),
+          ))
+
+  pub put_field_obeys : (index : ℕ) (h : AtInsn p facts f (insn.PutField index)) (s : List Sight)
+      → Owes p facts exact f (insn.PutField index) h (put_field_effect p.outline (used p facts exact f (insn.PutField index) h) s)
+  unfolding put_field_effect
+  put_field_obeys index h s =
+      let i : Insn = insn.PutField index in
+      by_on_field (Owes p facts exact f i h) p.outline (used p facts exact f i h) _ (stuck_obeys p facts exact f i h)
+      (λ m n t is there. by_object (Owes p facts exact f i h) p.outline t s (kind_words (kind_of_field p.outline m.0)) _
+          (null_obeys p facts exact f i h (λ k. refl)) (stuck_obeys p facts exact f i h)
+          (faulty_obeys p facts exact f i h (kind_words (kind_of_field p.outline m.0)))
+          (λ it seen fits_it. put_by_kind index h m n is (kind_of_field p.outline m.0) refl))
+
+  -- ---- static fields
+
+  set_by_kind : (index : ℕ) (h : AtInsn p facts f (insn.PutStatic index)) (m : FieldId) (n : TypeId)
+      → used p facts exact f (insn.PutStatic index) h ≡ resolved.OfField m n → (k : Kind) → kind_of_field p.outline m.0 ≡ k
+      → Owes p facts exact f (insn.PutStatic index) h
+      (acting (kind_words k) (SetStatic (slot_of p.outline.classes m.0) k (OfOperand (kind_words k - 1)) ∷ []))
+  unfolding pairs.words_taken pairs.joined_by row_after
+  set_by_kind index h m n is (kind.Ref ref) kind_is =
+      let i : Insn = insn.PutStatic index in
+      let u : Use = used p facts exact f i h in
+      let count : pairs.field_words p.outline u ≡ 1 = field_words_is p.outline u m n is ∙ ap kind_words kind_is in
+      let after : RowGives i h (put_static_row p.outline u h.state) =
+      row_gives i h (put_static_row p.outline u h.state) (row p facts exact f i h) in
+      let top : (s : slots.Slot) × (slice_get h.state.stack 0 ≡ Some s) × (is_reference s ≡ true) =
+      put_static_top p.outline m n ref h.state after.0 kind_is (ap (λ v. put_static_row p.outline v h.state) (sym is) ∙ after.1) in
+      goes_obey p facts exact f i h (acting 1 (SetStatic (slot_of p.outline.classes m.0) (kind.Ref ref) (OfOperand 0) ∷ [])) 0
+      ((
+        λ node. joined_class p facts exact f i h (pairs.Taken 0) pairs.Outside (word (point p facts exact f i h) 0) Global
+            (row_there (pairs.is_reference_field p.outline u) _ _ (reference_field p.outline u m n ref is kind_is) (0, omega arith, refl))
+            (taken_word p facts exact f i h 0) refl node tt,
+        leads_operand p facts exact f i h 0 top.0 top.1 top.2,
+      ), tt)
+      refl tt (λ next edge q s at node. absurd (cc)) tt (λ l unwritten. refl) (omega (arith, count))
+  set_by_kind index h m n is k kind_is =
+      let i : Insn = insn.PutStatic index in
+      let u : Use = used p facts exact f i h in
+      let count : pairs.field_words p.outline u ≡ kind_words k = field_words_is p.outline u m n is ∙ ap kind_words kind_is in
+      goes_obey p facts exact f i h (acting (kind_words k) (SetStatic (slot_of p.outline.classes m.0) k (OfOperand (kind_words k - 1)) ∷ [])) 0
+      (tt, tt) refl tt (λ next edge q s at node. absurd (cc)) tt (λ l unwritten. refl) (omega (arith, count))
+
+  pub put_static_obeys : (index : ℕ) (h : AtInsn p facts f (insn.PutStatic index))
+      → Owes p facts exact f (insn.PutStatic index) h (put_static_effect p.outline (used p facts exact f (insn.PutStatic index) h))
+  unfolding put_static_effect
+  put_static_obeys index h =
+      let i : Insn = insn.PutStatic index in
+      by_on_field (Owes p facts exact f i h) p.outline (used p facts exact f i h) _ (stuck_obeys p facts exact f i h)
+      (λ m n t is there. started_obeys p facts exact f i h (class_of_field p.outline m.0) _ (set_by_kind index h m n is (kind_of_field p.outline m.0) refl))
+
+  -- a static field of numbers gives a word that is no reference
+  number_given : (index : ℕ) (h : AtInsn p facts f (insn.GetStatic index)) (m : FieldId) (n : TypeId)
+      → used p facts exact f (insn.GetStatic index) h ≡ resolved.OfField m n → (e : Effect) (q : ℕ) (s : slots.Slot)
+      → slice_get (named_rows.field_words p.outline m.0) q ≡ Some s → is_reference s ≡ false
+      → length (named_rows.field_words p.outline m.0) ≡ length e.gives → e.takes ≡ 0
+      → (next : ℕ) → IsNormalEdge h.code f.item next
+      → IsNode (x p facts exact f (insn.GetStatic index) h) (given (point p facts exact f (insn.GetStatic index) h) e next q) → ⊥
+  unfolding row_after
+  number_given index h m n is e q s at plain size none next edge node =
+      let i : Insn = insn.GetStatic index in
+      let u : Use = used p facts exact f i h in
+      let after : RowGives i h (get_static_row p.outline u h.state) = row_gives i h (get_static_row p.outline u h.state) (row p facts exact f i h) in
+      let stack : after.0.stack ≡ named_rows.field_words p.outline m.0 ++ h.state.stack =
+      get_static_stack p.outline m n h.state after.0 (ap (λ v. get_static_row p.outline v h.state) (sym is) ∙ after.1) in
+      let sizes : length after.0.stack ≡ length (named_rows.field_words p.outline m.0) + length h.state.stack = ap length stack ∙ simp length-append in
+      let level = h.depth in
+      not_given p facts exact f i h e after.0 next q s (after.2 next edge)
+      (ap (λ xs. slice_get xs q) stack ∙ front_found (named_rows.field_words p.outline m.0) h.state.stack q s at) plain (omega (arith, level)) node
+
+  static_int : (index : ℕ) (h : AtInsn p facts f (insn.GetStatic index)) (m : FieldId) (n : TypeId)
+      → used p facts exact f (insn.GetStatic index) h ≡ resolved.OfField m n → named_rows.field_words p.outline m.0 ≡ slot.Int ∷ []
+      → Owes p facts exact f (insn.GetStatic index) h (words 0 (OfStatic (slot_of p.outline.classes m.0) ∷ []))
+  unfolding pairs.words_taken
+  static_int index h m n is slots_are =
+      let i : Insn = insn.GetStatic index in
+      let e : Effect = words 0 (OfStatic (slot_of p.outline.classes m.0) ∷ []) in
+      goes_obey p facts exact f i h e 0 tt refl tt
+      (gives_one p facts exact f i h e 0 (OfStatic (slot_of p.outline.classes m.0)) refl
+      (λ next edge there. absurd (number_given index h m n is e 0 slot.Int (ap (λ xs. slice_get xs 0) slots_are) refl (ap length slots_are) refl next edge there)))
+      tt (λ l unwritten. refl) (omega arith)
+
+  static_by_kind : (index : ℕ) (h : AtInsn p facts f (insn.GetStatic index)) (m : FieldId) (n : TypeId)
+      → used p facts exact f (insn.GetStatic index) h ≡ resolved.OfField m n → (k : Kind) → kind_of_field p.outline m.0 ≡ k
+      → Owes p facts exact f (insn.GetStatic index) h (words 0 (loaded k (OfStatic (slot_of p.outline.classes m.0))))
+  unfolding pairs.words_taken pairs.joined_by
+  static_by_kind index h m n is (kind.Ref ref) kind_is =
+      let i : Insn = insn.GetStatic index in
+      let u : Use = used p facts exact f i h in
+      let e : Effect = words 0 (OfStatic (slot_of p.outline.classes m.0) ∷ []) in
+      goes_obey p facts exact f i h e 0 tt refl tt
+      (gives_one p facts exact f i h e 0 (OfStatic (slot_of p.outline.classes m.0)) refl
+      (λ next edge there. sym (joined_class p facts exact f i h (pairs.Given 0) pairs.Outside (given (point p facts exact f i h) e next 0) Global
+          (row_there (pairs.is_reference_field p.outline u) _ _ (reference_field p.outline u m n ref is kind_is) (0, omega arith, refl))
+          (given_stands p facts exact f i h e next 0 0 edge refl refl) refl there tt)))
+      tt (λ l unwritten. refl) (omega arith)
+  static_by_kind index h m n is kind.Long kind_is =
+      let i : Insn = insn.GetStatic index in
+      let e : Effect = words 0 (Plain value.Top ∷ OfStatic (slot_of p.outline.classes m.0) ∷ []) in
+      let slots_are : named_rows.field_words p.outline m.0 ≡ slot.Top ∷ slot.Long ∷ [] = ap (λ k. stack_slots (k ∷ [])) kind_is in
+      goes_obey p facts exact f i h e 0 tt refl tt
+      (gives_two p facts exact f i h e 0 (Plain value.Top) (OfStatic (slot_of p.outline.classes m.0)) refl (λ next edge there. tt)
+      (λ next edge there. absurd (number_given index h m n is e 1 slot.Long (ap (λ xs. slice_get xs 1) slots_are) refl (ap length slots_are) refl next edge there)))
+      tt (λ l unwritten. refl) (omega arith)
+  static_by_kind index h m n is k kind_is = static_int index h m n is (ap (λ q. stack_slots (q ∷ [])) kind_is)
+
+  pub get_static_obeys : (index : ℕ) (h : AtInsn p facts f (insn.GetStatic index))
+      → Owes p facts exact f (insn.GetStatic index) h (get_static_effect p.outline (used p facts exact f (insn.GetStatic index) h))
+  unfolding get_static_effect
+  get_static_obeys index h =
+      let i : Insn = insn.GetStatic index in
+      by_on_field (Owes p facts exact f i h) p.outline (used p facts exact f i h) _ (stuck_obeys p facts exact f i h)
+      (λ m n t is there. started_obeys p facts exact f i h (class_of_field p.outline m.0) _ (static_by_kind index h m n is (kind_of_field p.outline m.0) refl))
