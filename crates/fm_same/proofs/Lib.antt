@@ -18,3 +18,4 @@ pub mod Cases
 pub mod PlainRows
 pub mod MoveRows
 pub mod ObjectRows
+pub mod EndRows

@@ -159,31 +159,31 @@ module _ (p : Program) (facts : Facts) (exact : AreFacts p facts) (f : Frame) (i
 
 -- ---- what rows ask of slots
 
-bound_some : {X Y : Type 0} (k : X → Option Y) (o : Option X) (y : Y) → option_and_then k o ≡ Some y → (x : X) × (o ≡ Some x) × (k x ≡ Some y)
+pub bound_some : {X Y : Type 0} (k : X → Option Y) (o : Option X) (y : Y) → option_and_then k o ≡ Some y → (x : X) × (o ≡ Some x) × (k x ≡ Some y)
 bound_some k None y h = absurd (cc)
 bound_some k (Some x) y h = (x, refl, h)
 
-mapped_some : {X Y : Type 0} (k : X → Y) (o : Option X) (y : Y) → option_map k o ≡ Some y → (x : X) × (o ≡ Some x)
+pub mapped_some : {X Y : Type 0} (k : X → Y) (o : Option X) (y : Y) → option_map k o ≡ Some y → (x : X) × (o ≡ Some x)
 mapped_some k None y h = absurd (cc)
 mapped_some k (Some x) y h = (x, refl)
 
-fits_reference : (o : Outline) (s : slots.Slot) (t : TypeRef) → fits o s (slot.Ref t) ≡ true → is_reference s ≡ true
+pub fits_reference : (o : Outline) (s : slots.Slot) (t : TypeRef) → fits o s (slot.Ref t) ≡ true → is_reference s ≡ true
 unfolding fits
 fits_reference o slot.Null t h = refl
 fits_reference o (slot.Ref s) t h = refl
 fits_reference o s t h = absurd (false≢true h)
 
-some_if : {X : Type 0} (b : Bool) (o : Option X) (y : X) → cond b o None ≡ Some y → (b ≡ true) × (o ≡ Some y)
+pub some_if : {X : Type 0} (b : Bool) (o : Option X) (y : X) → cond b o None ≡ Some y → (b ≡ true) × (o ≡ Some y)
 some_if true o y h = (refl, h)
 some_if false o y h = absurd (cc)
 
-taken_top : (o : Outline) (wanted : slots.Slot) (more stack rest : List slots.Slot) → taken o (wanted ∷ more) stack ≡ Some rest
+pub taken_top : (o : Outline) (wanted : slots.Slot) (more stack rest : List slots.Slot) → taken o (wanted ∷ more) stack ≡ Some rest
     → (s : slots.Slot) × (slice_get stack 0 ≡ Some s) × (fits o s wanted ≡ true)
 taken_top o wanted more [] rest h = absurd (cc)
 taken_top o wanted more (s ∷ stack) rest h = (s, refl, (some_if (fits o s wanted) (taken o more stack) rest h).0)
 
 -- where a reference is wanted on top, one is there
-reference_on_top : (o : Outline) (wanted more stack rest : List slots.Slot) (t : TypeRef) → wanted ≡ slot.Ref t ∷ more → taken o wanted stack ≡ Some rest
+pub reference_on_top : (o : Outline) (wanted more stack rest : List slots.Slot) (t : TypeRef) → wanted ≡ slot.Ref t ∷ more → taken o wanted stack ≡ Some rest
     → (s : slots.Slot) × (slice_get stack 0 ≡ Some s) × (is_reference s ≡ true)
 reference_on_top o wanted more stack rest t is h =
     let top : (s : slots.Slot) × (slice_get stack 0 ≡ Some s) × (fits o s (slot.Ref t) ≡ true) =
