@@ -1,0 +1,176 @@
+-- The rows of casts, athrow, returns and switches.
+use Rattle.std.proofs.Common.{◌≡◌, ◌≢◌, ℕ, ℤ, pos, zero, suc, ◌+◌, ◌-◌, ◌<◌, ◌≤◌, ◌⊎◌, ◌==◌, ◌&&◌, ◌||◌, ◌+ℤ◌, ◌-ℤ◌, not, int_lt, int_le, unsigned_abs, Bool, true, false, cond, List, [], ◌∷◌, ◌++◌, length, position, Option, Some, None, codes, IsSomeAnd, Contains, refl, sym, ◌∙◌, ap, subst, inl, inr, slice_get, arith, ⊎_elim}
+use Rattle.std.proofs.lemmas.Bool.{cases_eq, false≢true}
+use Rattle.std.proofs.lemmas.Option.{none-some, same_Some}
+use Rattle.std.specs.Ordering.{int_eq}
+use Rattle.fm_base.proofs.OptionFacts.{IsSomeAnd-from_some, Some-from_some_and}
+use Rattle.fm_base.specs.declared.kinds.Kind.{Kind}
+use Rattle.fm_base.specs.declared.kinds.Kind.TheVariants as kind
+use Rattle.fm_base.specs.declared.kinds.TypeRef.{TypeRef}
+use Rattle.fm_code.specs.Edges.{falls_through, IsNormalEdge}
+use Rattle.fm_code.specs.declared.instructions.Insn.{Insn}
+use Rattle.fm_code.specs.declared.instructions.Insn.TheVariants as insn
+use Rattle.fm_code.specs.declared.operations.Reg.{Reg}
+use Rattle.fm_code.specs.declared.operations.Reg.TheVariants as reg
+use Rattle.fm_conn.specs.Facts.{AreFacts, Facts}
+use Rattle.fm_conn.specs.Nodes.{Global, IsNode, Node, Return, Slot}
+use Rattle.fm_conn.specs.Pairs.{IsEnd, StandsAt}
+use Rattle.fm_conn.specs.declared.ends.End2.TheVariants as end
+use Rattle.fm_conn.specs.Rows as pairs
+use Rattle.fm_types.specs.CallRows.{return_row, returned_by, same_reg}
+use Rattle.fm_types.specs.Fits.{fits}
+use Rattle.fm_types.specs.Named.{result_of, throwable_type}
+use Rattle.fm_types.specs.Rows.{row_after}
+use Rattle.fm_types.specs.States.{is_reference, is_whole, stack_slots, taken, TypeState, worked}
+use Rattle.fm_types.specs.Typed.{FitsAt}
+use Rattle.fm_types.specs.declared.slots.Slot as slots
+use Rattle.fm_types.specs.declared.slots.Slot.TheVariants as slot
+use Rattle.fm_types.proofs.StateOrder.{long_below, whole-long}
+use Rattle.fm_world.specs.Chains.{is_sub}
+use Rattle.fm_world.specs.Programs.{Outline, Program}
+use Rattle.fm_world.specs.declared.uses.Use.{Use}
+use Rattle.fm_frames.specs.Effects.{Effect, Falls, Jumps, Returns, Throws, OfOperand, going, int_word, stuck, words}
+use Rattle.fm_frames.specs.JumpRows.{key_target, lookup_effect, return_effect, table_effect, table_target, throw_effect}
+use Rattle.fm_frames.specs.ObjectRows.{cast_effect, is_a_effect}
+use Rattle.fm_frames.specs.Operands.{thrown}
+use Rattle.fm_frames.specs.Sights.{Sight}
+use Rattle.fm_frames.specs.States.{Frame}
+use Rattle.fm_same.specs.Evenness.{Obeys, word}
+use Rattle.fm_same.proofs.Cases.{by_held, by_if, by_int, by_object, by_on_type}
+use Rattle.fm_same.proofs.EdgesKeep.{live_before}
+use Rattle.fm_same.proofs.ItemFacts.{AtInsn, given_word, joined_class, point, row, stays_class, taken_word, used, x}
+use Rattle.fm_same.proofs.MoveRows.{not_taken}
+use Rattle.fm_same.proofs.ObjectRows.{mapped_some, some_if, taken_top}
+use Rattle.fm_same.proofs.PlainRows.{faulty_obeys, null_obeys, Owes, plain_obeys, stuck_obeys, thrown_obeys, words_obey}
+
+module _ (p : Program) (facts : Facts) (exact : AreFacts p facts) (f : Frame) where
+  -- ---- casts
+
+  -- the word that is cast stays, and the pairs join it with itself
+  cast_stays : (index : ℕ) (h : AtInsn p facts f (insn.Cast index)) (depth next : ℕ) → depth < length f.stack → IsNormalEdge h.code f.item next
+      → IsNode (x p facts exact f (insn.Cast index) h) (Slot f.item depth) → IsNode (x p facts exact f (insn.Cast index) h) (Slot next depth)
+      → facts.class f.method (Slot f.item depth) ≡ facts.class f.method (Slot next depth)
+  unfolding pairs.words_taken pairs.joined_by
+  cast_stays index h depth next lt edge first second =
+      let i : Insn = insn.Cast index in
+      ⊎_elim
+      (λ (top : depth ≡ length f.stack - 1).
+          let before : length f.stack - 1 - 0 ≡ depth = omega arith in
+          let after : length f.stack - 1 + 0 ≡ depth = omega arith in
+          joined_class p facts exact f i h (pairs.Taken 0) (pairs.Given 0) (Slot f.item depth) (Slot next depth) (0, omega arith, refl)
+          (subst (λ d. StandsAt (x p facts exact f i h) f.item i (pairs.Taken 0) (Slot f.item d)) before (taken_word p facts exact f i h 0))
+          (subst (λ d. StandsAt (x p facts exact f i h) f.item i (pairs.Given 0) (Slot next d)) after (given_word p facts exact f i h next 0 edge))
+          first second)
+      (λ (apart : depth ≢ length f.stack - 1). stays_class p facts exact f i h depth next (omega arith) edge first second)
+      (cases_eq depth (length f.stack - 1))
+
+  cast_words : (index : ℕ) (h : AtInsn p facts f (insn.Cast index)) → Owes p facts exact f (insn.Cast index) h (words 0 [])
+  cast_words index h = record {
+    home = 0;
+    acts = tt;
+    leads = refl;
+    goes = λ next going edge. record {
+      stays = λ depth lt first second. cast_stays index h depth next (omega arith) edge first second;
+      gives = λ q s at node. absurd (cc);
+      writes = tt;
+      lives = λ k live unwritten.
+          live_before p facts exact f.method h.code h.code_is f.item next k (insn.Cast index) h.insn_is (inl edge) refl live;
+    };
+    ends = tt;
+  }
+
+  pub cast_obeys : (index : ℕ) (h : AtInsn p facts f (insn.Cast index)) (u : Use) (s : List Sight)
+      → Owes p facts exact f (insn.Cast index) h (cast_effect p.outline u s)
+  unfolding cast_effect
+  cast_obeys index h u s =
+      let i : Insn = insn.Cast index in
+      by_on_type (Owes p facts exact f i h) p.outline u _ (stuck_obeys p facts exact f i h)
+      (λ n t is there. by_held (Owes p facts exact f i h) (words 0 []) s 0 _ (cast_words index h) (stuck_obeys p facts exact f i h)
+          (faulty_obeys p facts exact f i h 0)
+          (λ it seen. by_if (Owes p facts exact f i h) (is_sub p.outline.classes it.type t) (words 0 []) (thrown p.outline (codes "java/lang/ClassCastException"))
+              (λ passes. cast_words index h)
+              (λ fails. thrown_obeys p facts exact f i h (λ k. refl) (codes "java/lang/ClassCastException"))))
+
+  pub is_a_obeys : (index : ℕ) (h : AtInsn p facts f (insn.IsA index)) (u : Use) (s : List Sight)
+      → Owes p facts exact f (insn.IsA index) h (is_a_effect p.outline u s)
+  unfolding is_a_effect pairs.words_taken
+  is_a_obeys index h u s =
+      let i : Insn = insn.IsA index in
+      by_on_type (Owes p facts exact f i h) p.outline u _ (stuck_obeys p facts exact f i h)
+      (λ n t is there. by_held (Owes p facts exact f i h) _ s 0 _ (words_obey p facts exact f i h (λ k. refl) refl 1 _ (tt, tt) (omega arith))
+          (stuck_obeys p facts exact f i h) (faulty_obeys p facts exact f i h 0)
+          (λ it seen. words_obey p facts exact f i h (λ k. refl) refl 1 _ (tt, tt) (omega arith)))
+
+  -- ---- athrow
+
+  pub throw_obeys : (h : AtInsn p facts f insn.Throw) (s : List Sight) → Owes p facts exact f insn.Throw h (throw_effect p.outline s)
+  unfolding throw_effect pairs.joined_by
+  throw_obeys h s =
+      let i : Insn = insn.Throw in
+      by_object (Owes p facts exact f i h) p.outline (throwable_type p.outline) s 0 _ (null_obeys p facts exact f i h (λ k. refl))
+      (stuck_obeys p facts exact f i h) (faulty_obeys p facts exact f i h 0)
+      (λ it seen fits_it. record {
+        home = 0;
+        acts = tt;
+        leads = tt;
+        goes = λ next going edge. absurd going;
+        ends = (
+          tt,
+          λ node. joined_class p facts exact f i h (pairs.Taken 0) pairs.Outside (word (point p facts exact f i h) 0) Global (0, omega arith, refl)
+              (taken_word p facts exact f i h 0) refl node tt,
+          λ k. refl,
+        );
+      })
+
+  -- ---- returns
+
+  returns_with : (value : Option Reg) (h : AtInsn p facts f (insn.Return value)) (n : ℕ)
+      → ((q : ℕ) → q < n → IsNode (x p facts exact f (insn.Return value) h) (word (point p facts exact f (insn.Return value) h) q)
+      → (facts.class f.method (word (point p facts exact f (insn.Return value) h) q) ≡ facts.class f.method Return)
+      × IsEnd p.outline f.method end.Return × (n ≡ 1))
+      → Owes p facts exact f (insn.Return value) h (going 0 (Returns n))
+  returns_with value h n evenly = record { home = 0; acts = tt; leads = tt; goes = λ next going edge. absurd going; ends = evenly }
+
+-- the state after a return of a value, by the kind of the result
+abbrev return_by : Outline → TypeState → Reg → Option Kind → Option TypeState
+return_by o s r None = None
+return_by o s r (Some k) = cond (same_reg r (returned_by k)) (worked o (stack_slots (k ∷ [])) [] s) None
+
+return_is : (o : Outline) (method : ℕ) (r : Reg) (s : TypeState) → return_row o method (Some r) s ≡ return_by o s r (result_of o method)
+unfolding return_row
+return_is o method r s = refl
+
+pub record IsReturned (o : Outline) (method : ℕ) (r : Reg) (s : TypeState) : Type 0 where
+  pub kind : Kind
+  pub result : result_of o method ≡ Some kind
+  pub same : same_reg r (returned_by kind) ≡ true
+  pub rest : List slots.Slot
+  pub stack : taken o (stack_slots (kind ∷ [])) s.stack ≡ Some rest
+
+returned_case : (o : Outline) (method : ℕ) (r : Reg) (s after : TypeState) (result : Option Kind) → result_of o method ≡ result
+    → return_by o s r result ≡ Some after → IsReturned o method r s
+returned_case o method r s after None is h = absurd (cc)
+returned_case o method r s after (Some k) is h =
+    let parts = some_if (same_reg r (returned_by k)) (worked o (stack_slots (k ∷ [])) [] s) after h in
+    let rest = mapped_some _ (taken o (stack_slots (k ∷ [])) s.stack) after parts.1 in
+    record { kind = k; result = is; same = parts.0; rest = rest.0; stack = rest.1 }
+
+pub returned_from : (o : Outline) (method : ℕ) (r : Reg) (s after : TypeState) → return_row o method (Some r) s ≡ Some after → IsReturned o method r s
+returned_from o method r s after h = returned_case o method r s after (result_of o method) refl (sym (return_is o method r s) ∙ h)
+
+int_below : (o : Outline) (s : slots.Slot) → fits o s slot.Int ≡ true → is_reference s ≡ false
+unfolding fits
+int_below o slot.Int h = refl
+int_below o s h = absurd (false≢true h)
+
+int_top : (o : Outline) (stack rest : List slots.Slot) → taken o (slot.Int ∷ []) stack ≡ Some rest
+    → (s : slots.Slot) × (slice_get stack 0 ≡ Some s) × (is_reference s ≡ false)
+int_top o stack rest h =
+    let top = taken_top o slot.Int [] stack rest h in (top.0, top.1, int_below o top.0 top.2)
+
+-- an int on top, where the result is one
+int_result : (o : Outline) (k : Kind) (stack rest : List slots.Slot) → same_reg reg.Int (returned_by k) ≡ true → taken o (stack_slots (k ∷ [])) stack ≡ Some rest
+    → (s : slots.Slot) × (slice_get stack 0 ≡ Some s) × (is_reference s ≡ false)
+int_result o kind.Long stack rest same h = absurd (false≢true same)
+int_result o (kind.Ref t) stack rest same h = absurd (false≢true same)
+int_result o k stack rest same h = int_top o stack rest h

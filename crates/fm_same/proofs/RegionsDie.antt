@@ -1,0 +1,123 @@
+-- The law of dead regions, along a run: what a captured class leads to keeps the class's own region while the activation stands, is retired when the class
+-- isn't busy, and is dead from then on.
+use Rattle.std.proofs.Common.{◌≡◌, ◌≢◌, ℕ, zero, suc, ◌+◌, ◌-◌, ◌<◌, ◌≤◌, ◌⊎◌, List, [], ◌∷◌, length, refl, sym, ◌∙◌, ap, subst, inl, inr, arith, ⊎_elim}
+use Rattle.fm_cells.specs.Choices.{lawful, MayReuse}
+use Rattle.fm_cells.specs.Objects.{Request}
+use Rattle.fm_cells.specs.Stores.{Store}
+use Rattle.fm_conn.specs.Facts.{AreFacts, Facts}
+use Rattle.fm_conn.specs.Nodes.{Return}
+use Rattle.fm_world.specs.Programs.{Program}
+use Rattle.fm_frames.specs.Acts.{Choose}
+use Rattle.fm_frames.specs.States.{Frame, State}
+use Rattle.fm_frames.specs.Steps.{step}
+use Rattle.fm_same.specs.Advances.{GoesOver, IsResult}
+use Rattle.fm_same.specs.Colours.{Colour, Coloured}
+use Rattle.fm_same.specs.DeadRegions.{IsDead, IsMethodAt, IsRetired, IsSoundRun}
+use Rattle.fm_same.specs.Evenness.{HoldsNumbers}
+use Rattle.fm_same.specs.Regions.{IsCaptured, Own, Region, Retired}
+use Rattle.fm_same.specs.Standing.{Stand}
+use Rattle.fm_same.proofs.Retiring.{dead_if_retired, held_at_has, led_has, method_there, retire, retired_on}
+use Rattle.fm_same.proofs.ReturnsKeep.{mapped, moved, moved_own}
+use Rattle.fm_same.proofs.StepKeeps.{step_over}
+
+-- the own region of a captured class stays while the activation does
+own_on : (p : Program) (facts : Facts) (frames : List Frame) (method depth class : ℕ) (before after : Region) → IsCaptured p.outline facts method class
+    → IsMethodAt method depth frames → before ≡ Own depth class → (after ≡ before) ⊎ IsResult facts frames before → after ≡ Own depth class
+own_on p facts frames method depth class before after captured at own (inl same) = same ∙ own
+own_on p facts [] method depth class before after captured at own (inr result) = absurd result
+own_on p facts (f ∷ callers) method depth class before after captured at own (inr result) =
+    let both : Own (length callers) (facts.class f.method Return) ≡ Own depth class = sym result ∙ own in
+    let level : length callers ≡ depth = cc in
+    let returned : facts.class f.method Return ≡ class = cc in
+    absurd (captured.not_result (ap (λ m. facts.class m Return) (sym (method_there method depth f callers at level)) ∙ returned))
+
+module _ (p : Program) (facts : Facts) (exact : AreFacts p facts) (numbers : HoldsNumbers p.outline) (choose : Choose) (may : (s : Store) (request : Request) → MayReuse s request (choose s request)) (xs : ℕ → State) (run : IsSoundRun p facts choose xs) where
+  over_at : (k : ℕ) (colour : Colour) → Coloured p facts (xs k) colour → GoesOver p facts (xs k) (xs (suc k)) colour
+  over_at k colour h =
+      subst (λ next. GoesOver p facts (xs k) next colour) (sym (run.next k))
+      (step_over p facts exact choose may numbers (xs k) colour h (run.stand k) (run.owes k)
+      (subst (λ (next : State). Stand p facts next.frames) (run.next k) (run.stand (suc k))))
+
+  -- each state has colours
+  colours_at : (k : ℕ) (colour : Colour) → Coloured p facts (xs 0) colour → (other : Colour) × Coloured p facts (xs k) other
+  colours_at zero colour h = (colour, h)
+  colours_at (suc k) colour h =
+      let before : (other : Colour) × Coloured p facts (xs k) other = colours_at k colour h in
+      let over : GoesOver p facts (xs k) (xs (suc k)) before.0 = over_at k before.0 before.1 in (over.other, over.coloured)
+
+  -- colours of a state by which an object that was born has the region
+  record HasAt (k birth : ℕ) (r : Region) : Type 0 where
+    colour : Colour
+    coloured : Coloured p facts (xs k) colour
+    born : birth < (xs k).areas.store.births
+    has : colour birth ≡ r
+
+  retired_step : (k birth : ℕ) → HasAt k birth Retired → HasAt (suc k) birth Retired
+  retired_step k birth h =
+      let over : GoesOver p facts (xs k) (xs (suc k)) h.colour = over_at k h.colour h.coloured in
+      let more = over.births in
+      let lt = h.born in
+      record {
+        colour = over.other;
+        coloured = over.coloured;
+        born = omega arith;
+        has = retired_on facts (xs k).frames h.colour over.other birth h.has (over.advances birth h.born);
+      }
+
+  retired_later : (j k birth : ℕ) → HasAt k birth Retired → HasAt (j + k) birth Retired
+  retired_later zero k birth h = let same : k ≡ 0 + k = omega arith in subst (λ i. HasAt i birth Retired) same h
+  retired_later (suc j) k birth h =
+      let same : suc (j + k) ≡ suc j + k = omega arith in
+      subst (λ i. HasAt i birth Retired) same (retired_step (j + k) birth (retired_later j k birth h))
+
+  module _ (colour : Colour) (first_colours : Coloured p facts (xs 0) colour) (method depth class birth first count : ℕ) (h : IsRetired p facts xs method depth class birth first count) where
+    own_first : HasAt first birth (Own depth class)
+    own_first =
+        let here : (other : Colour) × Coloured p facts (xs first) other = colours_at first colour first_colours in
+        let index : first + 0 ≡ first = omega arith in
+        let stands : IsMethodAt method depth (xs first).frames =
+        subst (λ i. IsMethodAt method depth (xs i).frames) index (h.stands 0 (omega arith)) in
+        record {
+          colour = here.0;
+          coloured = here.1;
+          born = subst (λ b. b < (xs first).areas.store.births) h.leads.is (here.1.areas.orderly.born h.leads.last h.leads.object h.leads.held);
+          has = led_has p.outline here.0 (xs first).areas (Own depth class) h.from birth here.1.areas
+              (held_at_has p.outline facts (xs first).areas.store here.0 method depth class (xs first).frames h.from here.1.frames h.captured stands h.held)
+              h.leads;
+        }
+
+    own_step : (i : ℕ) → i ≤ count → HasAt (first + i) birth (Own depth class) → HasAt (suc (first + i)) birth (Own depth class)
+    own_step i le at =
+        let over : GoesOver p facts (xs (first + i)) (xs (suc (first + i))) at.colour = over_at (first + i) at.colour at.coloured in
+        let more = over.births in
+        let lt = at.born in
+        record {
+          colour = over.other;
+          coloured = over.coloured;
+          born = omega arith;
+          has = own_on p facts (xs (first + i)).frames method depth class (at.colour birth) (over.other birth) h.captured (h.stands i le) at.has
+              (over.advances birth at.born);
+        }
+
+    own_at : (i : ℕ) → i ≤ suc count → HasAt (first + i) birth (Own depth class)
+    own_at zero le = let index : first ≡ first + 0 = omega arith in subst (λ k. HasAt k birth (Own depth class)) index own_first
+    own_at (suc i) le =
+        let index : suc (first + i) ≡ first + suc i = omega arith in
+        subst (λ k. HasAt k birth (Own depth class)) index (own_step i (omega arith) (own_at i (omega arith)))
+
+    retired_first : HasAt (first + suc count) birth Retired
+    retired_first =
+        let at : HasAt (first + suc count) birth (Own depth class) = own_at (suc count) (omega arith) in
+        record {
+          colour = mapped (moved depth class Retired) at.colour;
+          coloured = retire p facts (xs (first + suc count)) at.colour method depth class at.coloured (run.stand (first + suc count)) h.over;
+          born = at.born;
+          has = ap (moved depth class Retired) at.has ∙ moved_own depth class Retired;
+        }
+
+    pub dead_later : (later : ℕ) → first + suc count ≤ later → IsDead p facts birth (xs later) (xs (suc later))
+    dead_later later le =
+        let index : (later - (first + suc count)) + (first + suc count) ≡ later = omega arith in
+        let at : HasAt later birth Retired =
+        subst (λ k. HasAt k birth Retired) index (retired_later (later - (first + suc count)) (first + suc count) birth retired_first) in
+        dead_if_retired p facts (xs later) (xs (suc later)) at.colour birth at.coloured at.has (over_at later at.colour at.coloured)

@@ -1,0 +1,99 @@
+-- The laws that the functions of `laws` prove.
+use Rattle.std.specs.Prelude.{◌≡◌, ◌≢◌, ℕ, suc, ◌+◌, ◌≤◌, ◌⊎◌, List, ◌∷◌, length, Some}
+use Rattle.fm_code.specs.Edges.{IsNormalEdge}
+use Rattle.fm_code.specs.declared.code_array.Code.{Code}
+use Rattle.fm_conn.specs.Facts.{AreFacts, Facts}
+use Rattle.fm_conn.specs.Links.{Linked, node_of, typed_method}
+use Rattle.fm_conn.specs.Nodes.{IsNode, Local, Node, Return, Slot}
+use Rattle.fm_conn.specs.Pairs.{IsEnd, PairAt}
+use Rattle.fm_conn.specs.declared.ends.End2.{End2}
+use Rattle.fm_conn.specs.declared.ends.End2.TheVariants as end
+use Rattle.fm_world.specs.Programs.{code_at, Outline, Program}
+use Rattle.fm_cells.specs.Choices.{lawful}
+use Rattle.fm_frames.specs.Acts.{Choose}
+use Rattle.fm_frames.specs.States.{Frame, State}
+use Rattle.fm_frames.specs.Steps.{next_effect, step}
+use Rattle.fm_same.specs.Advances.{GoesOver, OwesAt}
+use Rattle.fm_same.specs.Colours.{Colour, Coloured}
+use Rattle.fm_same.specs.DeadRegions.{IsDead, IsOver, IsRetired, IsSoundRun}
+use Rattle.fm_same.specs.Evenness.{HoldsNumbers}
+use Rattle.fm_same.specs.Regions.{argument, IsCaptured, Own, region, Region, Retired}
+use Rattle.fm_same.specs.Standing.{Called, method_of, Stand}
+
+-- ---- classes of nodes
+
+-- two ends of a method that has code are linked where their nodes are in one class
+abbrev pub ClassesLink : Type 0
+ClassesLink =
+    (p : Program) (facts : Facts) → AreFacts p facts → (method : ℕ) (code : Code) (a b : End2) → code_at p method ≡ Some code
+    → facts.class method (node_of a) ≡ facts.class method (node_of b) → Linked p facts.typing method a b
+
+-- two nodes that an item pairs are in one class
+abbrev pub PairsAreInOneClass : Type 0
+PairsAreInOneClass =
+    (p : Program) (facts : Facts) → AreFacts p facts → (method : ℕ) (code : Code) → code_at p method ≡ Some code
+    → (j : ℕ) (a b : Node) → PairAt (Linked p facts.typing) (typed_method p facts.typing method code) j a b
+    → facts.class method a ≡ facts.class method b
+
+-- ---- regions
+
+-- an own region is of a frame that stands no higher; of the frame itself it is that of the class alone; and no class has the region of what is retired
+pub record IsWithin (depth class : ℕ) (r : Region) : Type 0 where
+  pub not_retired : r ≢ Retired
+  pub below : (d c : ℕ) → r ≡ Own d c → d ≤ depth
+  pub own : (c : ℕ) → r ≡ Own depth c → c ≡ class
+
+abbrev pub RegionsAreWithin : Type 0
+RegionsAreWithin =
+    (o : Outline) (facts : Facts) (method : ℕ) (callers : List Frame) (class : ℕ) → IsWithin (length callers) class (region o facts method callers class)
+
+-- a captured class has a region of its own
+abbrev pub CapturedIsOwn : Type 0
+CapturedIsOwn =
+    (o : Outline) (facts : Facts) (method : ℕ) (callers : List Frame) (class : ℕ) → IsCaptured o facts method class
+    → region o facts method callers class ≡ Own (length callers) class
+
+-- a parameter that is a reference has the region of the word that the caller handed over
+abbrev pub RegionsGoAlongCalls : Type 0
+RegionsGoAlongCalls =
+    (p : Program) (facts : Facts) → AreFacts p facts → (f g : Frame) (code : Code) → code_at p f.method ≡ Some code → Called p facts f g
+    → (callers : List Frame) (k : ℕ) → IsEnd p.outline f.method (end.Parameter k)
+    → region p.outline facts f.method (g ∷ callers) (facts.class f.method (Local k))
+    ≡ region p.outline facts g.method callers (facts.class g.method (argument g k))
+
+-- the result's class has the region of the word that the caller gets, or a region of its own that ends with the frame
+abbrev pub RegionsGoAlongReturns : Type 0
+RegionsGoAlongReturns =
+    (p : Program) (facts : Facts) → AreFacts p facts → (f g : Frame) (code : Code) → code_at p f.method ≡ Some code → (h : Called p facts f g)
+    → (callers : List Frame) (next : ℕ) → IsEnd p.outline f.method end.Return → IsNormalEdge h.at.code g.item next
+    → IsNode (method_of p facts g h.at.code) (Slot next (length g.stack))
+    → (region p.outline facts f.method (g ∷ callers) (facts.class f.method Return)
+    ≡ region p.outline facts g.method callers (facts.class g.method (Slot next (length g.stack))))
+    ⊎ (region p.outline facts f.method (g ∷ callers) (facts.class f.method Return) ≡ Own (length (g ∷ callers)) (facts.class f.method Return))
+
+-- ---- colours
+
+-- a step leads from colours of a state to colours of the next, which go on from them
+abbrev pub StepsKeepColours : Type 0
+StepsKeepColours =
+    (p : Program) (facts : Facts) → AreFacts p facts → HoldsNumbers p.outline → (choose : Choose) (x : State) (colour : Colour)
+    → Coloured p facts x colour → Stand p facts x.frames → OwesAt p facts x.areas.store (next_effect p x) x.frames
+    → Stand p facts (step p (lawful choose) x).state.frames
+    → GoesOver p facts x (step p (lawful choose) x).state colour
+
+-- a captured class that isn't busy can be retired: colours stay so where what has its region is retired
+abbrev pub QuietClassesRetire : Type 0
+QuietClassesRetire =
+    (p : Program) (facts : Facts) (x : State) (colour : Colour) (method depth class : ℕ) → Coloured p facts x colour → Stand p facts x.frames
+    → IsOver p facts method depth class x.frames
+    → (other : Colour) × Coloured p facts x other × ((birth : ℕ) → colour birth ≡ Own depth class → other birth ≡ Retired)
+
+-- ---- the law of dead regions
+
+-- in a run whose first state has colours: what a captured class led to is dead from the state on in which the class isn't busy, or the activation is gone
+abbrev pub RegionsDie : Type 0
+RegionsDie =
+    (p : Program) (facts : Facts) → AreFacts p facts → HoldsNumbers p.outline → (choose : Choose) (xs : ℕ → State)
+    → IsSoundRun p facts (lawful choose) xs → (colour : Colour) → Coloured p facts (xs 0) colour
+    → (method depth class birth first count : ℕ) → IsRetired p facts xs method depth class birth first count
+    → (later : ℕ) → first + suc count ≤ later → IsDead p facts birth (xs later) (xs (suc later))

@@ -1,0 +1,7 @@
+pub mod Regions
+pub mod Colours
+pub mod Standing
+pub mod Evenness
+pub mod Advances
+pub mod DeadRegions
+pub mod Laws

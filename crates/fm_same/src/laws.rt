@@ -1,0 +1,33 @@
+// Laws over definitions alone, each the contract of a function that does nothing.
+
+ghost use Rattle.fm_same.specs.Laws as law;
+
+/// The classes of nodes and the links of ends say the same: what an item pairs is in one class, and ends
+/// of one class are linked, in the round after the last that a chain of pairs between them uses.
+pub fn law_classes()
+    ensures linked { law.ClassesLink }
+    ensures paired { law.PairsAreInOneClass }
+{}
+
+/// Regions of classes: a frame's own regions are told apart by its classes and end with it, and what is
+/// handed over by a call or given back by a return has one region on both sides.
+pub fn law_regions()
+    ensures within { law.RegionsAreWithin }
+    ensures captured { law.CapturedIsOwn }
+    ensures calls { law.RegionsGoAlongCalls }
+    ensures returns { law.RegionsGoAlongReturns }
+{}
+
+/// Colours of objects by regions go on: a step leads from colours of a state to colours of the next, and
+/// where a captured class isn't busy, or its activation is gone, its region can be retired.
+pub fn law_colours()
+    ensures steps { law.StepsKeepColours }
+    ensures retire { law.QuietClassesRetire }
+{}
+
+/// The law of dead regions, for runs whose states are sound and whose effects owe to the classes what
+/// they should: what a captured class of an activation led to is dead from the state on in which the
+/// class isn't busy, or the activation is gone. Nothing leads to it, and no step changes it.
+pub fn law_dead_regions_of_sound_runs()
+    ensures { law.RegionsDie }
+{}
