@@ -1,30 +1,26 @@
 -- The listed pairs of calls are those of the definition, as summaries link ends.
-use Rattle.std.proofs.Common.{◌≡◌, ℕ, zero, suc, ◌+◌, ◌-◌, ◌<◌, ◌≤◌, ◌⊎◌, ◌↔◌, Bool, true, false, cond, eqb, List, [], ◌∷◌, ◌++◌, length, map, Option, Some, None, is_some, Contains, refl, ap, sym, ◌∙◌, subst, inl, inr, ⊎_elim, arith}
-use Rattle.std.proofs.lemmas.Bool.{cases_lt, eqb-true, eq-eqb, false≢true}
+use Rattle.std.proofs.Common.{◌≡◌, ℕ, ◌+◌, ◌-◌, ◌<◌, Bool, true, false, cond, List, [], ◌∷◌, ◌++◌, length, Option, Some, None, is_some, Contains, refl, ap, sym, ◌∙◌, subst, inl, inr, ⊎_elim, arith}
+use Rattle.std.proofs.lemmas.Bool.{eqb-true, eq-eqb, false≢true}
 use Rattle.std.proofs.lemmas.List.Elements.{Contains-append_left, Contains-append_right, Contains-append_cases}
 use Rattle.std.specs.List.{flat_map, range_with_len}
 use Rattle.fm_base.proofs.ContainsFacts.{Contains-cons_cases}
-use Rattle.fm_base.specs.Graph.{AreJoined}
-use Rattle.fm_code.specs.Edges.{falls_through}
-use Rattle.fm_code.specs.SpellsCode.{targets_of}
 use Rattle.fm_code.specs.declared.instructions.Insn.{Insn}
 use Rattle.fm_code.specs.declared.instructions.Insn.TheVariants as insn
 use Rattle.fm_types.specs.States.{TypeState}
 use Rattle.fm_world.specs.Programs.{targets}
 use Rattle.fm_world.specs.declared.calls.Call.{Call}
-use Rattle.fm_conn.proofs.ChainLemmas.{numbers_back, numbers_one, numbers_then}
-use Rattle.fm_conn.proofs.ListLemmas.{Contains-flat_map, Contains-from_flat_map, Contains-from_range, Contains-none, Contains-one, Contains-range}
+use Rattle.fm_conn.proofs.ListLemmas.{Contains-flat_map, Contains-from_flat_map, Contains-none, Contains-one, Contains-range}
 use Rattle.fm_conn.proofs.PairLemmas.{below_is, IsTabled, number_pair-has, number_pair-some, PairNumbers, place_complete, place_sound, PlaceFits, slot_is, state_inside}
-use Rattle.fm_conn.proofs.WordLemmas.{HasNumber, Located, located-at, located-some, node_below, reached_at, slot_number-node, slot_number-some, words_count}
+use Rattle.fm_conn.proofs.WordLemmas.{HasNumber, Located, located-at, located-some, node_below, reached_at, slot_number-some, words_count}
 use Rattle.fm_conn.specs.Nodes.{Global, IsNode, Node, Slot, TypedMethod}
-use Rattle.fm_conn.specs.Pairs.{call_of, CalledAt, depth_below, IsEnd, PairAt, StandsAt, StandsFor}
+use Rattle.fm_conn.specs.Pairs.{call_of, CalledAt, IsEnd, StandsFor}
 use Rattle.fm_conn.specs.Rows.{Given}
-use Rattle.fm_conn.specs.Summaries.{end_number, ends_at, is_same_end, linked_by, links, same_number, AreSummariesOf}
+use Rattle.fm_conn.specs.Summaries.{end_number, ends_at, linked_by, links, same_number, AreSummariesOf}
 use Rattle.fm_conn.specs.declared.ends.End2.{End2}
 use Rattle.fm_conn.specs.declared.ends.End2.TheVariants as end
 use Rattle.fm_conn.specs.declared.summaries.Summaries.{Summaries}
-use Rattle.fm_conn.specs.inner.NodeTables.{global_number, number_of, slot_number, table_of, words_at}
-use Rattle.fm_conn.specs.inner.PairLists.{at_place, call_pairs, call_pairs_at, call_pairs_in, end_entry, first_linked, ItemPlace, link_pairs, located, number_pair, pairs_of_call, pairs_of_targets, place_at, place_number, stand_ins}
+use Rattle.fm_conn.specs.inner.NodeTables.{global_number, number_of, slot_number, table_of}
+use Rattle.fm_conn.specs.inner.PairLists.{at_place, call_pairs, call_pairs_at, call_pairs_in, end_entry, first_linked, ItemPlace, link_pairs, located, number_pair, pairs_of_targets, place_at, place_number, stand_ins}
 
 -- ---- numbers of ends
 

@@ -1,16 +1,14 @@
 -- Chains of pairs: nodes are joined exactly where their numbers are, and exactly where the least numbers that are joined with them are the same.
-use Rattle.std.proofs.Common.{◌≡◌, ◌≢◌, ℕ, ◌+◌, ◌<◌, ◌≤◌, ◌⊎◌, ◌↔◌, List, [], ◌∷◌, ◌++◌, length, get_or, Contains, refl, ap, sym, ◌∙◌, subst, inl, inr, ⊎_elim, arith}
+use Rattle.std.proofs.Common.{◌≡◌, ℕ, ◌<◌, ◌≤◌, ◌↔◌, List, [], ◌∷◌, get_or, Contains, refl, ap, sym, ◌∙◌, subst, inl, inr, ⊎_elim, arith}
 use Rattle.std.proofs.lemmas.Bool.{cases_lt}
 use Rattle.std.proofs.lemmas.List.{get_or_default, get_or_past}
-use Rattle.std.proofs.lemmas.List.Elements.{All-contains, Contains-get_or}
-use Rattle.std.specs.List.{All}
+use Rattle.std.proofs.lemmas.List.Elements.{All-contains}
 use Rattle.fm_base.specs.Graph.{AreJoined, AreLeastJoined, AreNodes, ArePaired as NumbersPaired, IsPath as IsNumberPath}
 use Rattle.fm_conn.proofs.NumberLemmas.{number_of-same}
 use Rattle.fm_conn.proofs.PairLemmas.{PairNumbers}
-use Rattle.fm_conn.proofs.WordLemmas.{HasNumber}
 use Rattle.fm_conn.specs.Nodes.{Node, TypedMethod}
 use Rattle.fm_conn.specs.Pairs.{ArePaired, IsPath, Joined, Linking, PairAt}
-use Rattle.fm_conn.specs.inner.NodeTables.{class_at, class_in, NodeTable, number_of, table_of}
+use Rattle.fm_conn.specs.inner.NodeTables.{class_at, class_in, number_of, table_of}
 
 -- ---- chains of numbers
 

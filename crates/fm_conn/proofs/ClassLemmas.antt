@@ -1,13 +1,13 @@
 -- The numbers of a method's nodes are those of its classes.
-use Rattle.std.proofs.Common.{◌≡◌, ◌↔◌, ℕ, Bool, true, List, ap, sym, ◌∙◌, subst}
+use Rattle.std.proofs.Common.{◌≡◌, ◌↔◌, Bool, true, List, ap, sym, subst}
 use Rattle.fm_base.specs.Graph.{AreLeastJoined}
 use Rattle.fm_base.specs.Rows.{has}
 use Rattle.fm_conn.proofs.ChainLemmas.{classes_same}
 use Rattle.fm_conn.proofs.MethodLemmas.{all_lists, lists_nodes}
 use Rattle.fm_conn.proofs.PairLemmas.{IsTabled}
 use Rattle.fm_conn.proofs.WordLemmas.{node_of_word, word_of_node}
-use Rattle.fm_conn.specs.Classes.{class_of, AreClassesOf}
-use Rattle.fm_conn.specs.Nodes.{IsNode, Node, Slot, TypedMethod}
+use Rattle.fm_conn.specs.Classes.{AreClassesOf}
+use Rattle.fm_conn.specs.Nodes.{IsNode, Slot, TypedMethod}
 use Rattle.fm_conn.specs.Pairs.{Joined}
 use Rattle.fm_conn.specs.Summaries.{linked_by, AreSummariesOf}
 use Rattle.fm_conn.specs.declared.class_numbers.Classes.{Classes}

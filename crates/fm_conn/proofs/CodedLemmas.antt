@@ -1,11 +1,9 @@
 -- The code of a method that has some, and what is known of it.
-use Rattle.std.proofs.Common.{◌≡◌, ℕ, Option, Some, None, IsSomeAnd, refl, ap, sym, ◌∙◌, subst}
-use Rattle.fm_base.proofs.OptionFacts.{IsSomeAnd-at_some}
+use Rattle.std.proofs.Common.{◌≡◌, ℕ, Option, Some, None, refl}
 use Rattle.fm_code.specs.declared.code_array.Code.{Code}
 use Rattle.fm_world.specs.Members.{method_at}
 use Rattle.fm_world.specs.Programs.{body_of, code_at, method_info, Program}
 use Rattle.fm_world.specs.declared.declarations.DeclaredMethod.{DeclaredMethod}
-use Rattle.fm_world.specs.declared.records.Body.{Body}
 use Rattle.fm_world.specs.declared.records.Body.TheVariants as body
 
 body_coded : (m : DeclaredMethod) (row : Option ℕ) (o : Option Code) (code : Code) → m.row ≡ row → body_of m o ≡ body.Coded code → o ≡ Some code

@@ -1,10 +1,9 @@
 -- Links in rounds: a later round links at least as much, and ends that are joined by what is linked in some round are linked in some round.
-use Rattle.std.proofs.Common.{◌≡◌, ℕ, zero, suc, ◌+◌, ◌≤◌, ◌⊎◌, ◌↔◌, true, List, [], ◌∷◌, Some, IsSomeAnd, inl, inr, refl, sym, subst, zero-add, arith}
+use Rattle.std.proofs.Common.{◌≡◌, ℕ, zero, suc, ◌+◌, ◌⊎◌, List, [], ◌∷◌, Some, inl, inr, refl, subst, zero-add}
 use Rattle.std.proofs.Math.Nat.{add_comm, suc-add}
 use Rattle.fm_base.proofs.OptionFacts.{IsSomeAnd-from_some, IsSomeAnd-weaker}
 use Rattle.fm_code.specs.declared.code_array.Code.{Code}
 use Rattle.fm_world.specs.Programs.{code_at, Program}
-use Rattle.fm_conn.specs.Facts.{AreFacts, Facts}
 use Rattle.fm_conn.specs.Laws.{links_of, EndsOfOneClassAreLinked, PairsHaveOneClass}
 use Rattle.fm_conn.specs.Links.{node_of, typed_method, Linked, LinkedIn, Typings}
 use Rattle.fm_conn.specs.Nodes.{Node, TypedMethod}

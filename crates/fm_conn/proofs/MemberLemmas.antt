@@ -1,5 +1,5 @@
 -- What an instruction of a linked program names is there.
-use Rattle.std.proofs.Common.{◌≡◌, ℕ, zero, suc, ◌+◌, ◌-◌, ◌<◌, ◌≤◌, ◌⊎◌, List, [], ◌∷◌, ◌++◌, length, map, get_or, Option, Some, None, refl, ap, sym, ◌∙◌, subst, ⊎_elim, arith, length-append}
+use Rattle.std.proofs.Common.{◌≡◌, ℕ, ◌+◌, ◌-◌, ◌<◌, ◌≤◌, List, [], ◌∷◌, ◌++◌, length, get_or, Some, refl, ap, subst, ⊎_elim, arith, length-append}
 use Rattle.std.proofs.lemmas.Bool.{cases_lt}
 use Rattle.std.proofs.lemmas.List.{get_or_append_left, get_or-append_right, get_or-map, length-map}
 use Rattle.std.specs.List.{slice_get}
@@ -8,11 +8,9 @@ use Rattle.fm_base.specs.declared.kinds.TypeRef.{TypeRef}
 use Rattle.fm_code.specs.declared.instructions.Insn.{Insn}
 use Rattle.fm_code.specs.declared.instructions.Insn.TheVariants as insn
 use Rattle.fm_types.specs.Named.{class_of_method}
-use Rattle.fm_types.specs.Typed.{use_in}
 use Rattle.fm_world.specs.Declarations.{no_method}
 use Rattle.fm_world.specs.Members.{method_at, methods_from, methods_of, owned_methods, OwnedMethod}
-use Rattle.fm_world.specs.Programs.{class_id, Program}
-use Rattle.fm_world.specs.Uses.{operand_of}
+use Rattle.fm_world.specs.Programs.{class_id}
 use Rattle.fm_world.specs.declared.calls.Call.{Call}
 use Rattle.fm_world.specs.declared.calls.CallKind.{CallKind}
 use Rattle.fm_world.specs.declared.calls.CallKind.TheVariants as call

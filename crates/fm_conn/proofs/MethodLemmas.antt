@@ -1,12 +1,10 @@
 -- The pairs that are listed of a method join what the definitions join.
-use Rattle.std.proofs.Common.{◌≡◌, ℕ, zero, suc, ◌+◌, ◌<◌, ◌≤◌, ◌⊎◌, ◌↔◌, Bool, true, List, [], ◌∷◌, ◌++◌, length, get_or, Option, Some, None, is_some, IsSomeAnd, Contains, refl, ap, sym, ◌∙◌, subst, inl, inr, ⊎_elim, arith}
+use Rattle.std.proofs.Common.{◌≡◌, ℕ, zero, suc, ◌<◌, ◌⊎◌, Bool, List, [], ◌∷◌, length, get_or, Some, Contains, sym, ◌∙◌, subst, inl, inr, ⊎_elim, arith}
 use Rattle.std.proofs.lemmas.List.{length-map}
 use Rattle.std.proofs.lemmas.List.Elements.{Contains-append_left, Contains-append_right, Contains-append_cases, Contains-get_or}
 use Rattle.std.specs.List.{AllByRecursion, flat_map, range_with_len, slice_get}
 use Rattle.std.specs.Option.{option_map}
-use Rattle.fm_base.proofs.OptionFacts.{IsSomeAnd-at_some, Some-from_some_and}
 use Rattle.fm_base.specs.Graph.{AreJoined, AreNodes}
-use Rattle.fm_code.specs.Edges.{insn_of}
 use Rattle.fm_code.specs.SpellsCode.{LocalsFit}
 use Rattle.fm_code.specs.declared.code_array.Code.{Code}
 use Rattle.fm_code.specs.declared.code_array.Item.{Item}
@@ -15,8 +13,7 @@ use Rattle.fm_flow.proofs.CodeFacts.{items_counted}
 use Rattle.fm_flow.specs.Flow.{IsFlowOf}
 use Rattle.fm_flow.specs.declared.flow.Flow.{Flow}
 use Rattle.fm_types.specs.States.{TypeState}
-use Rattle.fm_types.specs.Typed.{IsTypingOf}
-use Rattle.fm_types.specs.Typings.{states_of, type_state}
+use Rattle.fm_types.specs.Typings.{type_state}
 use Rattle.fm_conn.proofs.CallLemmas.{called_listed, calls_sound}
 use Rattle.fm_conn.proofs.ChainLemmas.{numbers_back, numbers_one, numbers_then, Lists}
 use Rattle.fm_conn.proofs.NumberLemmas.{number_below}
@@ -29,7 +26,7 @@ use Rattle.fm_conn.specs.Summaries.{linked_by, AreSummariesOf}
 use Rattle.fm_conn.specs.declared.method.Method.{Method}
 use Rattle.fm_conn.specs.declared.summaries.Summaries.{Summaries}
 use Rattle.fm_conn.specs.inner.NodeTables.{node_count, number_of, table_of}
-use Rattle.fm_conn.specs.inner.PairLists.{all_pairs, call_pairs_at, method_in, own_pairs, IsAsked, IsTypedAs}
+use Rattle.fm_conn.specs.inner.PairLists.{all_pairs, call_pairs_at, method_in, own_pairs, IsTypedAs}
 
 -- ---- what is known of a method
 

@@ -1,14 +1,14 @@
 -- The listed pairs of a method are those of the definition, but for calls.
-use Rattle.std.proofs.Common.{◌≡◌, ℕ, zero, suc, ◌+◌, ◌-◌, ◌<◌, ◌≤◌, ◌⊎◌, ◌↔◌, Bool, true, false, cond, List, [], ◌∷◌, ◌++◌, length, map, Option, Some, None, is_some, IsSomeAnd, Contains, refl, ap, sym, ◌∙◌, subst, inl, inr, ⊎_elim, arith}
+use Rattle.std.proofs.Common.{◌≡◌, ℕ, zero, suc, ◌+◌, ◌-◌, ◌<◌, ◌≤◌, ◌↔◌, Bool, true, false, cond, List, [], ◌∷◌, length, Option, Some, None, is_some, Contains, refl, ap, sym, ◌∙◌, subst, inl, inr, ⊎_elim, arith}
 use Rattle.std.proofs.lemmas.Bool.{cases_lt, false≢true}
 use Rattle.std.proofs.lemmas.List.{get_or_past, length-map}
 use Rattle.std.proofs.lemmas.List.Elements.{All-contains, All-from_recursion, Contains-append_left, Contains-append_right, Contains-append_cases}
 use Rattle.std.proofs.lemmas.List.Folds.{Any-from_list_any, list_any-from_Any}
-use Rattle.std.specs.List.{Any, AllByRecursion, flat_map, list_any, range_with_len, slice_get}
+use Rattle.std.specs.List.{AllByRecursion, flat_map, list_any, range_with_len, slice_get}
 use Rattle.std.specs.Option.{option_map}
 use Rattle.fm_base.proofs.OptionFacts.{IsSomeAnd-at_some, IsSomeAnd-from_some}
 use Rattle.fm_base.specs.Rows.{has}
-use Rattle.fm_code.specs.Edges.{Catches, falls_through, insn_of, IsHandlerEdge, IsNormalEdge, LeadsTo}
+use Rattle.fm_code.specs.Edges.{falls_through, insn_of, IsNormalEdge, LeadsTo}
 use Rattle.fm_code.specs.SpellsCode.{LocalsFit, targets_of}
 use Rattle.fm_code.specs.declared.code_array.Handler.{Handler}
 use Rattle.fm_code.specs.declared.code_array.Item.{Item}
@@ -22,11 +22,11 @@ use Rattle.fm_world.specs.Programs.{Outline}
 use Rattle.fm_world.specs.declared.uses.Use.{Use}
 use Rattle.fm_conn.proofs.ListLemmas.{Contains-flat_map, Contains-from_flat_map, Contains-from_range, Contains-none, Contains-one, Contains-range}
 use Rattle.fm_conn.proofs.NumberLemmas.{IsThere, item_inside}
-use Rattle.fm_conn.proofs.WordLemmas.{depth_is, HasNumber, IsLocated, Located, located-at, located-some, local_number-some, local_number-there, node_below, reached_at, slot_number-node, slot_number-some, state_reached, words_count}
-use Rattle.fm_conn.specs.Nodes.{depth_at, Global, IsNode, Local, Node, Return, Slot, TypedMethod}
+use Rattle.fm_conn.proofs.WordLemmas.{depth_is, HasNumber, Located, located-at, located-some, local_number-some, local_number-there, reached_at, slot_number-node, slot_number-some}
+use Rattle.fm_conn.specs.Nodes.{Global, IsNode, Local, Node, Return, Slot, TypedMethod}
 use Rattle.fm_conn.specs.Pairs.{CaughtAt, depth_below, JoinedAt, Linking, PairAt, StandsAt, StaysAt, use_at}
 use Rattle.fm_conn.specs.Rows.{is_reference_field, joined_by, moved_words, Place, Taken, Given, InLocal, AsResult, Outside, words_taken}
-use Rattle.fm_conn.specs.inner.NodeTables.{global_number, local_number, NodeTable, number_of, return_number, slot_number, table_of, words_at, words_of_state}
+use Rattle.fm_conn.specs.inner.NodeTables.{global_number, number_of, slot_number, table_of, words_of_state}
 use Rattle.fm_conn.specs.inner.PairLists.{at_place, caught_pairs, following, item_pairs, item_pairs_at, ItemPlace, joined_pairs, located, number_pair, own_pairs, place_at, place_number, place_pair, stay_pairs, staying_pairs}
 
 -- ---- what the code is known to meet

@@ -1,14 +1,13 @@
 -- The ends and the calls that are listed make the method's shape.
-use Rattle.std.proofs.Common.{◌≡◌, ℕ, zero, suc, ◌+◌, ◌-◌, ◌<◌, ◌≤◌, ◌⊎◌, ◌↔◌, Bool, true, false, cond, List, [], ◌∷◌, ◌++◌, length, map, get_or, replicate, Option, Some, None, IsSomeAnd, Contains, refl, ap, sym, ◌∙◌, subst, inl, inr, ⊎_elim, arith, length-append}
+use Rattle.std.proofs.Common.{◌≡◌, ℕ, zero, suc, ◌-◌, ◌<◌, ◌↔◌, Bool, true, false, cond, List, [], ◌∷◌, ◌++◌, length, get_or, replicate, Option, Some, None, IsSomeAnd, Contains, refl, ap, sym, ◌∙◌, subst, ⊎_elim, arith, length-append}
 use Rattle.std.proofs.lemmas.Bool.{cond_below, false≢true}
 use Rattle.std.proofs.lemmas.List.Elements.{Contains-append_left, Contains-append_right, Contains-append_cases}
 use Rattle.std.proofs.lemmas.Option.{slice_get_within}
-use Rattle.std.specs.List.{flat_map, range_with_len, slice_get}
+use Rattle.std.specs.List.{range_with_len, slice_get}
 use Rattle.fm_base.proofs.OptionFacts.{Some-from_some_and}
 use Rattle.fm_base.specs.Graph.{AreLeastJoined}
 use Rattle.fm_base.specs.declared.kinds.Kind.{Kind}
 use Rattle.fm_code.proofs.EdgesLemmas.{Contains-map, Contains-from_map}
-use Rattle.fm_code.specs.Edges.{insn_of}
 use Rattle.fm_code.specs.declared.instructions.Insn.{Insn}
 use Rattle.fm_types.specs.Named.{result_of}
 use Rattle.fm_types.specs.States.{is_reference, TypeState}

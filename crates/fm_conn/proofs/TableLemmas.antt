@@ -1,15 +1,15 @@
 -- The numbers of nodes as they lie in memory.
-use Rattle.std.proofs.Common.{◌≡◌, ℕ, zero, suc, ◌+◌, ◌^◌, ◌<◌, ◌≤◌, ◌⊎◌, Bool, true, false, cond, Option, Some, None, List, [], ◌∷◌, ◌++◌, length, map, get_or, refl, ap, sym, ◌∙◌, subst, ⊎_elim, arith}
+use Rattle.std.proofs.Common.{◌≡◌, ℕ, suc, ◌+◌, ◌^◌, ◌<◌, ◌≤◌, Bool, true, false, cond, Some, None, List, [], ◌∷◌, ◌++◌, length, map, get_or, refl, ap, sym, ◌∙◌, ⊎_elim, arith}
 use Rattle.std.proofs.lemmas.Bool.{cases_lt, cond_below}
-use Rattle.std.proofs.lemmas.List.{ext_get_or, get_or_append_left, get_or_push, get_or_past, get_or_default, length_push}
+use Rattle.std.proofs.lemmas.List.{ext_get_or, get_or_append_left, get_or_push, get_or_default, length_push}
 use Rattle.std.proofs.lemmas.List.FromFn.{length-map-range_with_len, get_or-map-range_with_len}
 use Rattle.std.specs.List.{range_with_len}
 use Rattle.fm_base.proofs.OptionFacts.{cond-some_then}
 use Rattle.fm_base.specs.Rows.{has}
 use Rattle.fm_flow.proofs.RowFacts.{has_inside}
 use Rattle.fm_conn.proofs.NumberLemmas.{word_below, words_before-append, words_before_le, words_before_next}
-use Rattle.fm_conn.specs.Nodes.{Global, Local, Node, Return, Slot}
-use Rattle.fm_conn.specs.inner.NodeTables.{class_at, class_in, first_word, global_number, node_count, number_of, return_number, slot_number, table_in, words_at, words_before, AreStarts, NodeTable}
+use Rattle.fm_conn.specs.Nodes.{Global, Local, Return, Slot}
+use Rattle.fm_conn.specs.inner.NodeTables.{class_at, class_in, first_word, global_number, node_count, return_number, slot_number, table_in, words_at, words_before, AreStarts, NodeTable}
 
 -- the words of one item more
 pub next_more : (locals : ℕ) (words : List (List Bool)) (w : List Bool) →

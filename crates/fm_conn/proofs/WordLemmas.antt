@@ -1,12 +1,12 @@
 -- The words of a method's items: which have numbers, and what a place at an item that can be reached is.
-use Rattle.std.proofs.Common.{◌≡◌, ℕ, zero, suc, ◌+◌, ◌-◌, ◌<◌, ◌≤◌, ◌⊎◌, Bool, true, false, cond, List, [], ◌∷◌, length, map, get_or, Option, Some, None, is_some, IsSomeAnd, refl, ap, sym, ◌∙◌, subst, inl, inr, ⊎_elim, arith, reverse}
+use Rattle.std.proofs.Common.{◌≡◌, ℕ, zero, suc, ◌+◌, ◌<◌, ◌≤◌, true, false, cond, List, [], ◌∷◌, length, Option, Some, None, is_some, IsSomeAnd, refl, ap, sym, ◌∙◌, subst, ⊎_elim, reverse}
 use Rattle.std.proofs.lemmas.Bool.{cases_lt, cond_below, false≢true, ltb-true}
 use Rattle.std.proofs.lemmas.List.{get_or_past, length-map, length-reverse}
 use Rattle.std.proofs.lemmas.Option.{slice_get-get_or}
 use Rattle.std.proofs.Math.ListN.{get_or-map}
 use Rattle.std.specs.List.{slice_get}
 use Rattle.std.specs.Option.{option_and_then}
-use Rattle.fm_base.proofs.OptionFacts.{cond-some_then, Some-from_some_and}
+use Rattle.fm_base.proofs.OptionFacts.{cond-some_then}
 use Rattle.fm_base.specs.Rows.{has}
 use Rattle.fm_code.specs.Edges.{insn_of}
 use Rattle.fm_code.specs.declared.instructions.Insn.{Insn}
@@ -15,7 +15,7 @@ use Rattle.fm_types.specs.States.{is_reference, TypeState}
 use Rattle.fm_types.specs.Typed.{state_at}
 use Rattle.fm_conn.proofs.ListLemmas.{has-from_map, has-map}
 use Rattle.fm_conn.proofs.NumberLemmas.{IsThere}
-use Rattle.fm_conn.specs.Nodes.{depth_at, IsNode, Local, Node, Slot, TypedMethod, word_at}
+use Rattle.fm_conn.specs.Nodes.{depth_at, IsNode, Local, Node, Slot, TypedMethod}
 use Rattle.fm_conn.specs.Shapes.{IsReached}
 use Rattle.fm_conn.specs.inner.NodeTables.{first_word, local_number, NodeTable, number_of, slot_number, table_of, words_at, words_of_state}
 use Rattle.fm_conn.specs.inner.PairLists.{ItemPlace, located, place_at, place_in, place_with}

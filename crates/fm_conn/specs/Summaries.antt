@@ -6,7 +6,6 @@ use Rattle.fm_world.specs.Programs.{Outline}
 use Rattle.fm_conn.specs.Pairs.{IsEnd, Linking}
 use Rattle.fm_conn.specs.declared.ends.End2.{End2}
 use Rattle.fm_conn.specs.declared.ends.End2.TheVariants as end
-use Rattle.fm_conn.specs.declared.summaries.Ends.{Ends}
 use Rattle.fm_conn.specs.declared.summaries.Summaries.{Summaries}
 
 -- whether two ends of a method are one

@@ -1,4 +1,4 @@
-use Rattle.std.proofs.Common.{◌≡◌, ◌++◌, ◌+◌, ◌-◌, ◌*◌, ◌≤◌, drop, take, map, length}
+use Rattle.std.proofs.Common.{◌≡◌, drop}
 use Rattle.fm_conn.specs.inner.PairLists.{first_linked}
 use Rattle.fm_conn.proofs.links.first_linked.Given as goal
 

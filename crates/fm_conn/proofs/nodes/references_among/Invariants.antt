@@ -1,4 +1,4 @@
-use Rattle.std.proofs.Common.{◌≡◌, ◌++◌, ◌+◌, ◌-◌, ◌*◌, ◌≤◌, drop, take, map, length}
+use Rattle.std.proofs.Common.{◌≡◌, take, map}
 use Rattle.fm_types.specs.States.{is_reference}
 use Rattle.fm_conn.proofs.nodes.references_among.Given as goal
 

@@ -1,4 +1,4 @@
-use Rattle.std.proofs.Common.{◌≡◌, ◌++◌, ◌+◌, ◌-◌, ◌*◌, ◌≤◌, drop, take, map, length}
+use Rattle.std.proofs.Common.{◌≡◌, take}
 use Rattle.fm_conn.specs.inner.PairLists.{with_classes}
 use Rattle.fm_conn.proofs.own_classes.with_classes.Given as goal
 

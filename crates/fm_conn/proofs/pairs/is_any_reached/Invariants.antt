@@ -1,4 +1,4 @@
-use Rattle.std.proofs.Common.{◌≡◌, ◌++◌, ◌+◌, ◌-◌, ◌*◌, ◌≤◌, drop, take, map, length}
+use Rattle.std.proofs.Common.{◌≡◌, ◌-◌}
 use Rattle.std.specs.List.{list_any, range_with_len}
 use Rattle.fm_base.specs.Rows.{has}
 use Rattle.fm_conn.proofs.pairs.is_any_reached.Given as goal

@@ -1,4 +1,4 @@
-use Rattle.std.proofs.Common.{◌≡◌, ◌++◌, ◌+◌, ◌-◌, ◌*◌, ◌≤◌, drop, take, map, length}
+use Rattle.std.proofs.Common.{◌≡◌, drop}
 use Rattle.fm_conn.specs.Summaries.{end_number}
 use Rattle.fm_conn.proofs.summaries.end_number.Given as goal
 

@@ -1,4 +1,4 @@
-use Rattle.std.proofs.Common.{◌≡◌, ◌∙◌, ◌++◌, ◌-◌, length, get_or, ap, arith}
+use Rattle.std.proofs.Common.{◌∙◌, ◌++◌, arith}
 use Rattle.fm_conn.proofs.StepLemmas.{moved_step}
 use Rattle.fm_conn.specs.inner.PairLists.{number_pair, place_of}
 use Rattle.fm_conn.proofs.item_nodes.ItemNodes.push_moved.Goals as goal

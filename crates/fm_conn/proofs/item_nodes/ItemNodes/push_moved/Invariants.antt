@@ -1,4 +1,4 @@
-use Rattle.std.proofs.Common.{◌≡◌, ◌++◌, ◌+◌, ◌-◌, ◌*◌, ◌≤◌, drop, take, map, length}
+use Rattle.std.proofs.Common.{◌≡◌, ◌++◌, ◌+◌, drop, length}
 use Rattle.fm_conn.specs.Rows.{moved_words}
 use Rattle.fm_conn.specs.inner.PairLists.{joined_pairs, place_of}
 use Rattle.fm_conn.proofs.item_nodes.ItemNodes.push_moved.Given as goal

@@ -1,4 +1,4 @@
-use Rattle.std.proofs.Common.{◌≡◌, ◌++◌, ◌+◌, ◌-◌, ◌*◌, ◌≤◌, drop, take, map, length}
+use Rattle.std.proofs.Common.{◌≡◌, ◌++◌, take}
 use Rattle.std.specs.List.{flat_map}
 use Rattle.fm_conn.specs.inner.PairLists.{place_of, stay_pairs}
 use Rattle.fm_conn.proofs.item_nodes.ItemNodes.push_stays_at.Given as goal

@@ -4,7 +4,7 @@ use Rattle.std.specs.Option.{option_map}
 use Rattle.std.specs.Slice.Iter.{iter_rest}
 use Rattle.fm_types.specs.Typings.{type_state}
 use Rattle.fm_conn.proofs.TableLemmas.{first_of_none, next_more, starts_done, starts_more}
-use Rattle.fm_conn.specs.inner.NodeTables.{first_word, table_in, words_of_state, AreStarts}
+use Rattle.fm_conn.specs.inner.NodeTables.{first_word, table_in, words_of_state}
 use Rattle.fm_conn.proofs.nodes.Nodes.of.Goals as goal
 
 pub loop-state-init : goal.loop-state-init
