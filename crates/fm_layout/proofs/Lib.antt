@@ -14,3 +14,5 @@ pub mod MovedLemmas
 pub mod SpelledLemmas
 pub mod BytesLemmas
 pub mod LawLemmas
+pub mod TablesLemmas
+pub mod MarksLemmas

@@ -178,7 +178,7 @@ head_offset : (start size count : ℕ) (chunk rest : List Item) (end : ℕ) → 
 head_offset start size count [] rest end some chunk = let number = chunk.number in absurd (omega arith)
 head_offset start size count (x ∷ chunk) rest end some is = is.offsets.0
 
-item_count-ge : (r : Room) → 0 < item_count r
+pub item_count-ge : (r : Room) → 0 < item_count r
 item_count-ge (room.Plain n) = omega arith
 item_count-ge (room.Switch n) = omega arith
 item_count-ge (room.Narrow b) = omega arith

@@ -90,6 +90,28 @@ laid_in old items rooms = record {
 unfoldable pub laid_of : List Item → List NewItem → Laid
 laid_of old items = laid_in old items (widened_rooms (rooms_of old items))
 
+-- ---- marks
+
+-- of each laid item of a new one, the old item that it is, if it isn't inserted. Of a branch that is widened with a condition, the opposite
+-- test is the old item, and the goto_w is inserted.
+abbrev pub branch_marks : Option ℕ → Option Condition → List (Option ℕ)
+branch_marks kept None = kept ∷ []
+branch_marks kept (Some taken) = kept ∷ None ∷ []
+
+abbrev pub marks_in : Option ℕ → Room → List (Option ℕ)
+marks_in kept (room.Wide branch) = branch_marks kept branch.condition
+marks_in kept r = kept ∷ []
+
+abbrev pub marks_from : List NewItem → List Room → List (Option ℕ)
+marks_from (new ∷ items) (r ∷ rooms) = marks_in new.kept r ++ marks_from items rooms
+marks_from items rooms = []
+
+-- the marks of all laid items
+unfoldable pub marks_of : List Item → List NewItem → List (Option ℕ)
+marks_of old items = marks_from items (widened_rooms (rooms_of old items))
+
+-- ---- code
+
 -- laid-out code is code: its bytes are bytes, they spell its items, and its length is their number (JVMS 4.7.3)
 pub record IsCode (laid : Laid) : Type 0 where
   pub bytes : AllByRecursion (λ (item : Item). AreBytes item.bytes) laid.items

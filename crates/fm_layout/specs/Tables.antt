@@ -1,7 +1,9 @@
 -- The tables of code whose items have moved.
 use Rattle.std.specs.Prelude.{ℕ, ◌+◌, ◌<◌, ◌≡◌, List, length, map, Option, Some, None, slice_index}
-use Rattle.std.specs.List.{filter_map}
+use Rattle.std.specs.List.{filter_map, AllByRecursion}
 use Rattle.std.specs.List.Sorted.{IsStrictlyIncreasing}
+use Rattle.fm_code.specs.CodeRules.{CodeAttrIsValid, HandlerIsValid}
+use Rattle.fm_code.specs.declared.constant_pool.Entry.{Entry}
 use Rattle.fm_code.specs.declared.code_array.Code.{Code}
 use Rattle.fm_code.specs.declared.code_array.Handler.{Handler}
 use Rattle.fm_code.specs.declared.code_array.CodeAttr.{CodeAttr}
@@ -47,6 +49,11 @@ moved_tables code laid anchors = record {
   handlers = map (moved_handler laid.firsts anchors) code.handlers;
   attributes = filter_map (moved_attribute laid.firsts anchors) code.attributes;
 }
+
+-- the tables of code with so many items are valid (JVMS 4.7.3, 4.7.12 to 4.7.14)
+pub record AreValid (entries : List Entry) (count : ℕ) (tables : Tables) : Type 0 where
+  pub handlers : AllByRecursion (HandlerIsValid entries count) tables.handlers
+  pub attributes : AllByRecursion (CodeAttrIsValid entries count) tables.attributes
 
 -- an anchor for each old item and for the end, rising, each one a new item or their end
 pub record AreAnchors (code : Code) (laid : Laid) (anchors : List ℕ) : Type 0 where
