@@ -1,8 +1,10 @@
 -- The rows of casts, athrow, returns and switches.
-use Rattle.std.proofs.Common.{◌≡◌, ◌≢◌, ℕ, ℤ, pos, zero, suc, ◌+◌, ◌-◌, ◌<◌, ◌≤◌, ◌⊎◌, ◌==◌, ◌&&◌, ◌||◌, ◌+ℤ◌, ◌-ℤ◌, not, int_lt, int_le, unsigned_abs, Bool, true, false, cond, List, [], ◌∷◌, ◌++◌, length, position, Option, Some, None, codes, IsSomeAnd, Contains, refl, sym, ◌∙◌, ap, subst, inl, inr, slice_get, arith, ⊎_elim}
+use Rattle.std.proofs.Common.{◌≡◌, ◌≢◌, ℕ, ℤ, pos, zero, suc, ◌+◌, ◌-◌, ◌<◌, ◌≤◌, ◌⊎◌, ◌==◌, ◌&&◌, ◌||◌, ◌+ℤ◌, ◌-ℤ◌, not, int_lt, int_le, unsigned_abs, Bool, true, false, cond, List, [], ◌∷◌, ◌++◌, length, position, nat_lt, Option, Some, None, codes, IsSomeAnd, Contains, refl, sym, ◌∙◌, ap, subst, inl, inr, slice_get, arith, ltb-true, ⊎_elim}
 use Rattle.std.proofs.lemmas.Bool.{cases_eq, false≢true}
 use Rattle.std.proofs.lemmas.Option.{none-some, same_Some}
 use Rattle.std.specs.Ordering.{int_eq}
+use Rattle.std.specs.List.{prefix_len}
+use Rattle.std.proofs.lemmas.Int.{ints}
 use Rattle.fm_base.proofs.OptionFacts.{IsSomeAnd-from_some, Some-from_some_and}
 use Rattle.fm_base.specs.declared.kinds.Kind.{Kind}
 use Rattle.fm_base.specs.declared.kinds.Kind.TheVariants as kind
@@ -174,3 +176,131 @@ int_result : (o : Outline) (k : Kind) (stack rest : List slots.Slot) → same_re
 int_result o kind.Long stack rest same h = absurd (false≢true same)
 int_result o (kind.Ref t) stack rest same h = absurd (false≢true same)
 int_result o k stack rest same h = int_top o stack rest h
+
+long_top : (o : Outline) (stack rest : List slots.Slot) → taken o (slot.Top ∷ slot.Long ∷ []) stack ≡ Some rest → is_whole stack ≡ true
+    → (slice_get stack 0 ≡ Some slot.Top) × (slice_get stack 1 ≡ Some slot.Long)
+unfolding fits
+long_top o [] rest h whole = absurd (cc)
+long_top o (s ∷ []) rest h whole = absurd (cc)
+long_top o (s ∷ t ∷ stack) rest h whole =
+    let is : t ≡ slot.Long = long_below o t (some_if (fits o t slot.Long) (Some stack) rest h).0 in
+    let top : s ≡ slot.Top = (whole-long s stack (sym (ap (λ q. is_whole (s ∷ q ∷ stack)) is) ∙ whole)).0 in
+    (ap Some top, ap Some is)
+
+long_result : (o : Outline) (k : Kind) (stack rest : List slots.Slot) → same_reg reg.Long (returned_by k) ≡ true
+    → taken o (stack_slots (k ∷ [])) stack ≡ Some rest → is_whole stack ≡ true
+    → (slice_get stack 0 ≡ Some slot.Top) × (slice_get stack 1 ≡ Some slot.Long)
+long_result o kind.Long stack rest same h whole = long_top o stack rest h whole
+long_result o (kind.Ref t) stack rest same h whole = absurd (false≢true same)
+long_result o k stack rest same h whole = absurd (false≢true same)
+
+reference_result : (k : Kind) → same_reg reg.Ref (returned_by k) ≡ true → pairs.is_reference_kind k ≡ true
+reference_result (kind.Ref t) same = refl
+reference_result kind.Long same = absurd (false≢true same)
+reference_result k same = absurd (false≢true same)
+
+module _ (p : Program) (facts : Facts) (exact : AreFacts p facts) (f : Frame) where
+  typed_return : (r : Reg) (h : AtInsn p facts f (insn.Return (Some r))) → IsReturned p.outline f.method r h.state
+  unfolding row_after
+  typed_return r h =
+      let after = Some-from_some_and (return_row p.outline f.method (Some r) h.state)
+      (λ s. (next : ℕ) → IsNormalEdge h.code f.item next → FitsAt p (facts.typing f.method) next s) (row p facts exact f (insn.Return (Some r)) h) in
+      returned_from p.outline f.method r h.state after.0 after.1
+
+  return_int : (h : AtInsn p facts f (insn.Return (Some reg.Int))) → Owes p facts exact f (insn.Return (Some reg.Int)) h (going 0 (Returns 1))
+  return_int h =
+      let i : Insn = insn.Return (Some reg.Int) in
+      let t : IsReturned p.outline f.method reg.Int h.state = typed_return reg.Int h in
+      let top : (s : slots.Slot) × (slice_get h.state.stack 0 ≡ Some s) × (is_reference s ≡ false) =
+      int_result p.outline t.kind h.state.stack t.rest t.same t.stack in
+      returns_with p facts exact f (Some reg.Int) h 1
+      (λ q lt node.
+          let zero_is : q ≡ 0 = omega arith in
+          absurd (not_taken p facts exact f i h 0 top.0 top.1 top.2 (subst (λ n. IsNode (x p facts exact f i h) (word (point p facts exact f i h) n)) zero_is node)))
+
+  return_long : (h : AtInsn p facts f (insn.Return (Some reg.Long))) → Owes p facts exact f (insn.Return (Some reg.Long)) h (going 0 (Returns 2))
+  return_long h =
+      let i : Insn = insn.Return (Some reg.Long) in
+      let t : IsReturned p.outline f.method reg.Long h.state = typed_return reg.Long h in
+      let whole : is_whole h.state.stack ≡ true = ((exact.methods f.method h.code h.code_is).typing.items f.item h.state h.state_is).whole in
+      let both : (slice_get h.state.stack 0 ≡ Some slot.Top) × (slice_get h.state.stack 1 ≡ Some slot.Long) =
+      long_result p.outline t.kind h.state.stack t.rest t.same t.stack whole in
+      returns_with p facts exact f (Some reg.Long) h 2
+      (λ q lt node. ⊎_elim
+          (λ (zero_is : q ≡ 0).
+              absurd (not_taken p facts exact f i h 0 slot.Top both.0 refl (subst (λ n. IsNode (x p facts exact f i h) (word (point p facts exact f i h) n)) zero_is node)))
+          (λ (other : q ≢ 0).
+              let one_is : q ≡ 1 = omega arith in
+              absurd (not_taken p facts exact f i h 1 slot.Long both.1 refl (subst (λ n. IsNode (x p facts exact f i h) (word (point p facts exact f i h) n)) one_is node)))
+          (cases_eq q 0))
+
+  return_reference : (h : AtInsn p facts f (insn.Return (Some reg.Ref))) → Owes p facts exact f (insn.Return (Some reg.Ref)) h (going 0 (Returns 1))
+  unfolding pairs.joined_by
+  return_reference h =
+      let i : Insn = insn.Return (Some reg.Ref) in
+      let t : IsReturned p.outline f.method reg.Ref h.state = typed_return reg.Ref h in
+      returns_with p facts exact f (Some reg.Ref) h 1
+      (λ q lt node.
+          let zero_is : q ≡ 0 = omega arith in
+          let same : facts.class f.method (word (point p facts exact f i h) 0) ≡ facts.class f.method Return =
+          joined_class p facts exact f i h (pairs.Taken 0) pairs.AsResult (word (point p facts exact f i h) 0) Return (0, omega arith, refl)
+          (taken_word p facts exact f i h 0) refl (subst (λ n. IsNode (x p facts exact f i h) (word (point p facts exact f i h) n)) zero_is node) tt in (
+            subst (λ n. facts.class f.method (word (point p facts exact f i h) n) ≡ facts.class f.method Return) (sym zero_is) same,
+            IsSomeAnd-from_some (result_of p.outline f.method) (λ k. pairs.is_reference_kind k ≡ true) t.kind t.result (reference_result t.kind t.same),
+            refl,
+          ))
+
+  pub return_obeys : (value : Option Reg) (h : AtInsn p facts f (insn.Return value)) → Owes p facts exact f (insn.Return value) h (return_effect value)
+  unfolding return_effect
+  return_obeys None h = returns_with p facts exact f None h 0 (λ q lt node. absurd (omega arith))
+  return_obeys (Some reg.Int) h = return_int h
+  return_obeys (Some reg.Long) h = return_long h
+  return_obeys (Some reg.Ref) h = return_reference h
+
+-- ---- switches
+
+within_if : (b : Bool) (i n : ℕ) → (b ≡ true → i < n) → key_target (cond b (Some i) None) < suc n
+within_if true i n h = let lt : i < n = h refl in omega arith
+within_if false i n h = omega arith
+
+key_within : (keys : List ℤ) (key : ℤ) (n : ℕ) → length keys ≤ n → key_target (position (int_eq key) keys) < suc n
+key_within keys key n le =
+    let i : ℕ = prefix_len (λ other. not (int_eq key other)) keys in
+    within_if (nat_lt i (length keys)) i n (λ e. let lt : i < length keys = ltb-true i (length keys) e in omega arith)
+
+between : (low : ℤ) (count : ℕ) (key : ℤ) → int_lt key low ≡ false → int_le (low +ℤ pos count) key ≡ false → unsigned_abs (key -ℤ low) < count
+between low count key first second = omega (arith, ints)
+
+or_parts : (a b : Bool) → (a || b) ≡ false → (a ≡ false) × (b ≡ false)
+or_parts false false e = (refl, refl)
+or_parts false true e = absurd (false≢true (sym e))
+or_parts true b e = absurd (false≢true (sym e))
+
+table_if : (b : Bool) (i n : ℕ) → (b ≡ false → i < n) → cond b 0 (i + 1) < suc n
+table_if true i n h = omega arith
+table_if false i n h = let lt : i < n = h refl in omega arith
+
+table_within : (low : ℤ) (count : ℕ) (key : ℤ) → table_target low count key < suc count
+table_within low count key =
+    table_if (int_lt key low || int_le (low +ℤ pos count) key) (unsigned_abs (key -ℤ low)) count
+    (λ e. let parts = or_parts (int_lt key low) (int_le (low +ℤ pos count) key) e in between low count key parts.0 parts.1)
+
+module _ (p : Program) (facts : Facts) (exact : AreFacts p facts) (f : Frame) where
+  pub table_obeys : (low : ℤ) (others : ℕ) (targets : List ℕ) (h : AtInsn p facts f (insn.Table low others targets)) (s : List Sight)
+      → Owes p facts exact f (insn.Table low others targets) h (table_effect low (length targets) s)
+  unfolding table_effect pairs.words_taken
+  table_obeys low others targets h s =
+      let i : Insn = insn.Table low others targets in
+      by_int (Owes p facts exact f i h) s 0 _ (stuck_obeys p facts exact f i h)
+      (λ key. plain_obeys p facts exact f i h (λ k. refl) (going 1 (Jumps (table_target low (length targets) key))) refl refl tt
+          (table_within low (length targets) key) tt (omega arith))
+
+  -- a switch by keys has a target for each
+  pub lookup_obeys : (others : ℕ) (keys : List ℤ) (targets : List ℕ) (h : AtInsn p facts f (insn.Lookup others keys targets)) (s : List Sight)
+      → length keys ≤ length targets → Owes p facts exact f (insn.Lookup others keys targets) h (lookup_effect keys s)
+  unfolding lookup_effect pairs.words_taken
+  lookup_obeys others keys targets h s le =
+      let i : Insn = insn.Lookup others keys targets in
+      by_int (Owes p facts exact f i h) s 0 _ (stuck_obeys p facts exact f i h)
+      (λ key. plain_obeys p facts exact f i h (λ k. refl) (going 1 (Jumps (key_target (position (int_eq key) keys)))) refl refl tt
+          (key_within keys key (length targets) le) tt (omega arith))

@@ -19,3 +19,4 @@ pub mod PlainRows
 pub mod MoveRows
 pub mod ObjectRows
 pub mod EndRows
+pub mod ArrayRows

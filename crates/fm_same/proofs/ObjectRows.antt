@@ -67,7 +67,7 @@ row_there false places place e h = absurd (false≢true e)
 
 -- ---- the one item that follows
 
-only_next : (code : Code) (j next : ℕ) (i : Insn) → insn_of code j ≡ Some i → targets_of i ≡ [] → IsNormalEdge code j next → next ≡ j + 1
+pub only_next : (code : Code) (j next : ℕ) (i : Insn) → insn_of code j ≡ Some i → targets_of i ≡ [] → IsNormalEdge code j next → next ≡ j + 1
 only_next code j next i at none edge =
     let found : (other : Insn) × (insn_of code j ≡ Some other) × LeadsTo other j next =
     Some-from_some_and (insn_of code j) (λ other. LeadsTo other j next) edge.leads in
