@@ -1,5 +1,5 @@
 -- How an exception goes down the frames.
-use Rattle.std.proofs.Common.{◌≡◌, ℕ, ◌+◌, ◌<◌, ◌≤◌, Bool, true, false, ◌&&◌, nat_le, nat_lt, ◌==◌, if◌then◌else◌, List, [], ◌∷◌, drop, Option, Some, None, slice_get, get_or, option_map, unwrap_or, refl, ap, sym, ◌∙◌, subst, add-one, drop-cons, suc, length, ◌⊎◌, inl, inr, arith}
+use Rattle.std.proofs.Common.{◌≡◌, ℕ, ◌+◌, ◌<◌, ◌≤◌, Bool, true, false, ◌&&◌, nat_lt, ◌==◌, if◌then◌else◌, List, [], ◌∷◌, drop, Option, Some, None, slice_get, option_map, unwrap_or, refl, ap, sym, ◌∙◌, add-one, drop-cons, suc, length, ◌⊎◌, inl, inr, arith}
 use Rattle.std.proofs.lemmas.Bool.{lt-ltb, le-leb, ne_eqb}
 use Rattle.std.proofs.Math.ListN.{drop_of_length-le}
 use Rattle.std.proofs.lemmas.Option.{none-some, same_Some, get_or_from_slice_get, slice_get-get_or, slice_get_within}
@@ -14,10 +14,9 @@ use Rattle.fm_frames.proofs.FrameValues.{below_or_not}
 use Rattle.fm_frames.specs.States.{Frame}
 use Rattle.fm_frames.specs.Steps.{catches, caught, caught_in, Caught, class_at_type, handler_of, InFrames, is_start, Leaves}
 use Rattle.fm_frames.specs.declared.ends.Ended.TheVariants as end
-use Rattle.fm_frames.specs.declared.throws.Catch.{Catch}
 use Rattle.fm_frames.specs.declared.throws.Catch.TheVariants as catch
 use Rattle.fm_frames.specs.declared.values.Value.{Value}
-use Rattle.fm_frames.specs.inner.Catching.{caught_as, IsCaughtAt, placed}
+use Rattle.fm_frames.specs.inner.Catching.{IsCaughtAt, placed}
 use Rattle.fm_frames.specs.inner.Frames.{on_top, place_of}
 
 -- ---- one entry of a table

@@ -2,7 +2,7 @@
 use Rattle.std.proofs.Common.{◌≡◌, ℕ, ◌+◌, ◌-◌, ◌<◌, ◌≤◌, ◌⊎◌, inl, inr, List, [], ◌∷◌, ◌++◌, length, take, drop, set, reverse, Option, Some, None, get_or, refl, ap, sym, ◌∙◌, subst, slice_get, option_map, map, zero, suc, ◌≢◌, add-one, true, false, leb, arith}
 use Rattle.std.proofs.Math.ListN.{drop_of_length-le}
 use Rattle.std.proofs.Math.Seq.{drop-append_seam, take-set-lt}
-use Rattle.std.proofs.lemmas.List.{drop-append-le, take-append-le, take-append-drop, drop-take, reverse-append, reverse-reverse, length-reverse, length-take, length-drop, length-take-le, get_or-reverse, length-append, take-set-le, drop-set-lt, drop-set-add, length-set, set_past}
+use Rattle.std.proofs.lemmas.List.{drop-append-le, take-append-le, take-append-drop, drop-take, reverse-append, length-reverse, length-take, length-drop, get_or-reverse, length-append, take-set-le, drop-set-lt, drop-set-add, length-set, set_past}
 use Rattle.std.proofs.lemmas.Option.{slice_get-get_or, slice_get-map, slice_get_past}
 use Rattle.std.proofs.lemmas.Bool.Decides.{leb_tells}
 use Rattle.fm_frames.specs.States.{Frame}
@@ -25,9 +25,11 @@ pub tiled-pushed : (values : List Value) (c : Option Cursor) (callers : List Cur
     → AreTiled (values ++ v ∷ []) (cursors c callers)
 tiled-pushed values None callers v tiled = tt
 tiled-pushed values (Some c) callers v tiled =
-    let P : List Value → Type 0 = λ front. AreTiled front callers in
-    (tiled.0, omega (arith, length-append values (v ∷ [])),
-    subst P (sym (take-append-le c.locals values (v ∷ []) (omega arith))) tiled.2)
+    let P : List Value → Type 0 = λ front. AreTiled front callers in (
+      tiled.0,
+      omega (arith, length-append values (v ∷ [])),
+      subst P (sym (take-append-le c.locals values (v ∷ []) (omega arith))) tiled.2,
+    )
 
 pub frames-pushed : (values : List Value) (c : Option Cursor) (callers : List Cursor) (v : Value) → AreTiled values (cursors c callers)
     → frames_at (values ++ v ∷ []) (cursors c callers) ≡ on_top (λ f. record f { stack = v ∷ f.stack }) (frames_at values (cursors c callers))
@@ -74,9 +76,11 @@ kept_by c values count = c.stack + (length values - c.stack - count)
 pub tiled-dropped : (values : List Value) (c : Cursor) (callers : List Cursor) (count : ℕ) → AreTiled values (c ∷ callers)
     → AreTiled (take (kept_by c values count) values) (c ∷ callers)
 tiled-dropped values c callers count tiled =
-    let P : List Value → Type 0 = λ front. AreTiled front callers in
-    (tiled.0, omega (arith, length-take (kept_by c values count) values),
-    subst P (sym (take_take c.locals (kept_by c values count) values (omega arith) (omega arith))) tiled.2)
+    let P : List Value → Type 0 = λ front. AreTiled front callers in (
+      tiled.0,
+      omega (arith, length-take (kept_by c values count) values),
+      subst P (sym (take_take c.locals (kept_by c values count) values (omega arith) (omega arith))) tiled.2,
+    )
 
 pub frames-dropped : (values : List Value) (c : Cursor) (callers : List Cursor) (count : ℕ) → AreTiled values (c ∷ callers)
     → frames_at (take (kept_by c values count) values) (c ∷ callers)
@@ -103,9 +107,11 @@ operand-is xs place v within is =
 pub tiled-set : (values : List Value) (c : Cursor) (callers : List Cursor) (place : ℕ) (v : Value) → AreTiled values (c ∷ callers)
     → AreTiled (set values (c.locals + place) v) (c ∷ callers)
 tiled-set values c callers place v tiled =
-    let P : List Value → Type 0 = λ front. AreTiled front callers in
-    (tiled.0, omega (arith, length-set values (c.locals + place) v),
-    subst P (sym (take-set-le c.locals values (c.locals + place) v (omega arith))) tiled.2)
+    let P : List Value → Type 0 = λ front. AreTiled front callers in (
+      tiled.0,
+      omega (arith, length-set values (c.locals + place) v),
+      subst P (sym (take-set-le c.locals values (c.locals + place) v (omega arith))) tiled.2,
+    )
 
 pub frames-set : (values : List Value) (c : Cursor) (callers : List Cursor) (place : ℕ) (v : Value) → AreTiled values (c ∷ callers)
     → place < c.stack - c.locals

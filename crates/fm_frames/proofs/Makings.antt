@@ -1,5 +1,5 @@
 -- An effect that makes one object: what comes of each answer of the memory.
-use Rattle.std.proofs.Common.{◌≡◌, ◌⊎◌, inl, inr, length, ℕ, ◌+◌, ◌<◌, ◌≤◌, Bool, true, false, cond, nat_lt, ◌&&◌, if◌then◌else◌, List, [], ◌∷◌, max, Option, Some, None, refl, ap, sym, ◌∙◌, subst, arith}
+use Rattle.std.proofs.Common.{◌≡◌, ◌⊎◌, inl, inr, length, ℕ, ◌+◌, ◌<◌, ◌≤◌, Bool, true, false, cond, nat_lt, ◌&&◌, if◌then◌else◌, List, [], ◌∷◌, max, Some, refl, ap, sym, ◌∙◌, subst, arith}
 use Rattle.std.proofs.lemmas.Bool.{eq-eqb, lt-ltb, le-ltb}
 use Rattle.fm_cells.proofs.Changes.{object_at-made_by}
 use Rattle.fm_base.specs.declared.kinds.TypeRef.{TypeRef}
@@ -97,13 +97,14 @@ one-made p choose old x e t len r store cell grows is request actions deep withi
     let P : State → Type 0 = λ x. is_deep x e.next ≡ false
     → MakesOne p choose x (record old { areas = record old.areas { store = store } }) e (Some cell) in
     subst P is
-    (λ deep.
-    (attempted-one p choose old e t len r request actions deep
-    ∙ ap (λ b. after_choice p old e r b (choose old.areas.store r))
-    (fits-budget (live_words old.areas.store) old.areas.store.budget (request_words r) within)
-    ∙ ap (after_choice p old e r false) taken
-    ∙ ap (λ s. done_by p 1 e old (Did (record old.areas { store = s }) (cell.0 ∷ []))) (sym (made ∙ ap (made_by old.areas.store r) taken)),
-    refl))
+    (λ deep. (
+      attempted-one p choose old e t len r request actions deep
+          ∙ ap (λ b. after_choice p old e r b (choose old.areas.store r))
+          (fits-budget (live_words old.areas.store) old.areas.store.budget (request_words r) within)
+          ∙ ap (after_choice p old e r false) taken
+          ∙ ap (λ s. done_by p 1 e old (Did (record old.areas { store = s }) (cell.0 ∷ []))) (sym (made ∙ ap (made_by old.areas.store r) taken)),
+      refl,
+    ))
     deep
 
 -- what isn't over the budget is within it

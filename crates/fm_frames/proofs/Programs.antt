@@ -1,5 +1,5 @@
 -- What is known of a program that the machine can run.
-use Rattle.std.proofs.Common.{◌≡◌, ℕ, ◌+◌, ◌<◌, ◌≤◌, List, ◌∷◌, ◌++◌, codes, Option, Some, None, if◌then◌else◌, ◌==◌, refl, ap, sym, ◌∙◌, subst, unwrap_or, option_map, Bool, false, length, arith}
+use Rattle.std.proofs.Common.{◌≡◌, ℕ, ◌<◌, List, ◌++◌, Option, Some, None, if◌then◌else◌, ◌==◌, refl, ap, sym, ◌∙◌, subst, unwrap_or, option_map, Bool, false, length, arith}
 use Rattle.std.specs.Str.{bytes_eq}
 use Rattle.std.proofs.lemmas.Iterator.Adapters.{position_from-zero}
 use Rattle.fm_base.specs.declared.kinds.TypeRef.{TypeRef}
@@ -17,8 +17,6 @@ use Rattle.fm_world.specs.Programs.{class_info, code_at, IsTypeIn, method_id, me
 use Rattle.fm_frames.specs.Steps.{is_start}
 use Rattle.fm_world.specs.declared.declarations.DeclaredClass.{DeclaredClass}
 use Rattle.fm_world.specs.declared.declarations.DeclaredMethod.{DeclaredMethod}
-use Rattle.fm_world.specs.declared.records.Body.{Body}
-use Rattle.fm_world.specs.declared.records.Body.TheVariants as body
 use Rattle.fm_world.specs.inner.Tables.{code_in}
 use Rattle.fm_frames.specs.Elements.{is_text_type, pack_of, pack_of_base}
 use Rattle.fm_frames.specs.Runnable.{IsRunnable}

@@ -3,7 +3,6 @@
 use Rattle.std.specs.Prelude.{◌≡◌, ℕ, ℤ, ◌+◌, ◌*◌, ◌^◌, ◌<◌, ◌≤◌, ◌⊎◌, Bool, true, false, List, [], ◌∷◌, length, drop, Option, Some, None, IsSomeAnd, slice_get, if◌then◌else◌}
 use Rattle.std.specs.FinMap as map
 use Rattle.std.specs.List.{flat_map}
-use Rattle.fm_base.specs.declared.kinds.Kind.{Kind}
 use Rattle.fm_base.specs.declared.kinds.TypeRef.{TypeRef}
 use Rattle.fm_base.specs.declared.limits.TheConstants.{MAX_FILE_BYTES, MAX_LIVE_WORDS}
 use Rattle.fm_cells.specs.Objects.{Object}

@@ -100,7 +100,8 @@ impl Frames {
     {
         if let Some(topmost) = self.topmost {
             let height = self.values.len() - topmost.stack;
-            self.values.truncate(topmost.stack + height.saturating_sub(count));
+            self.values
+                .truncate(topmost.stack + height.saturating_sub(count));
         }
     }
 

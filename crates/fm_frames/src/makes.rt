@@ -39,12 +39,7 @@ fn object_cell_words(len: u32, pack: u8) -> u64
 impl<M: Memory> Machine<M> {
     /// Makes the one object of an effect. None where the run has ended, since too many words would live or
     /// the store is full; else only the memory has changed, and the effect has to be finished.
-    pub fn make_one(
-        &mut self,
-        class: TypeId,
-        len: u32,
-        pack: u8,
-    ) -> Result<Option<Cell>, NoMemory>
+    pub fn make_one(&mut self, class: TypeId, len: u32, pack: u8) -> Result<Option<Cell>, NoMemory>
         requires class_fits { class.0 < 2 ^ 28 }
         requires len_fits { len < 2 ^ 31 }
         requires pack_is { IsPack pack }

@@ -1,7 +1,6 @@
 use Rattle.std.proofs.Common.{◌∙◌, ap, ◌+◌, length}
 use Rattle.fm_frames.proofs.FrameValues.{counted}
 use Rattle.fm_frames.proofs.frames.Frames.count.Goals as goal
-use Rattle.fm_frames.specs.declared.frames.Cursor.{Cursor}
 
 pub returns-in-Some : goal.returns-in-Some
 returns-in-Some c =

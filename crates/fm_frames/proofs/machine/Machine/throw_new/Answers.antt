@@ -1,4 +1,4 @@
-use Rattle.std.proofs.Common.{◌≡◌, ◌<◌, ◌^◌, List, ℕ, Option, Some, IfSome, refl, ap, sym, ◌∙◌, subst, false}
+use Rattle.std.proofs.Common.{◌≡◌, ◌<◌, ◌^◌, Option, Some, IfSome, refl, ap, sym, ◌∙◌, subst, false}
 use Rattle.fm_cells.specs.Objects.{new_object, request_of}
 use Rattle.fm_cells.specs.Stores.{object_at}
 use Rattle.fm_cells.specs.declared.answers.Cell.{Cell}
@@ -6,9 +6,8 @@ use Rattle.fm_frames.proofs.Programs.{built_in-inside, class-size}
 use Rattle.fm_frames.proofs.Throwing.{thrown-actions, thrown-new, thrown-request, told-ok}
 use Rattle.fm_frames.proofs.machine.Machine.throw_new.Goals as goal
 use Rattle.fm_frames.specs.Operands.{thrown}
-use Rattle.fm_frames.specs.inner.Doings.{DoesIn, MakesOne}
+use Rattle.fm_frames.specs.inner.Doings.{MakesOne}
 use Rattle.fm_types.specs.Named.{built_in_type}
-use Rattle.fm_world.specs.Numbers.{type_of_class}
 use Rattle.fm_world.specs.declared.records.ClassInfo.{ClassInfo}
 
 pub class-requires : goal.class-requires
