@@ -1,8 +1,8 @@
 -- Whatever comes next after the actions of a step, the frames that follow are coloured.
-use Rattle.std.proofs.Common.{◌≡◌, ◌≢◌, ℕ, zero, suc, ◌+◌, ◌-◌, ◌<◌, ◌≤◌, ◌⊎◌, not, Bool, true, false, cond, if◌then◌else◌, List, [], ◌∷◌, ◌++◌, length, take, drop, reverse, Option, Some, None, option_and_then, refl, sym, ◌∙◌, ap, subst, inl, inr, slice_get, slice_index_or, arith, ⊎_elim}
+use Rattle.std.proofs.Common.{◌≡◌, ℕ, ◌+◌, ◌<◌, not, Bool, true, false, cond, if◌then◌else◌, List, [], ◌∷◌, ◌++◌, length, take, drop, reverse, Option, Some, None, option_and_then, refl, sym, ◌∙◌, ap, subst, inl, slice_index_or, ⊎_elim}
 use Rattle.std.specs.List.{AllByRecursion}
 use Rattle.std.proofs.lemmas.Bool.{false≢true}
-use Rattle.std.proofs.lemmas.Option.{get_or_from_slice_get, same_Some, slice_get-get_or}
+use Rattle.std.proofs.lemmas.Option.{get_or_from_slice_get, slice_get-get_or}
 use Rattle.fm_cells.specs.Stores.{Store}
 use Rattle.fm_code.specs.Edges.{falls_through, insn_of, IsNormalEdge}
 use Rattle.fm_code.specs.Live.{stores_over}
@@ -13,7 +13,7 @@ use Rattle.fm_conn.specs.Facts.{AreFacts, Facts}
 use Rattle.fm_conn.specs.Nodes.{Global}
 use Rattle.fm_world.specs.Programs.{code_at, Outline, Program}
 use Rattle.fm_frames.specs.Acts.{same_cell, Sources, value_of}
-use Rattle.fm_frames.specs.Effects.{Effect, Next, Falls, Jumps, JumpsIfSame, Calls, Returns, Throws, Enters, Exits, Faults, Source, Plain, OfOperand, OfLocal, LocalPlus, OfPlace, OfStatic, OfMade, OfLiteral, SameOperands}
+use Rattle.fm_frames.specs.Effects.{Effect, Next, Falls, Jumps, JumpsIfSame, Calls, Returns, Throws, Enters, Exits, Faults, Source, OfOperand, OfMade}
 use Rattle.fm_frames.specs.States.{Areas, Frame, State, word_at}
 use Rattle.fm_frames.specs.Steps.{caught, Caught, continued, fault_of, InFrames, insn_at, is_start, Leaves, new_frame, returned, start_frames, stopped, target_at, thrown_by, type_at}
 use Rattle.fm_frames.specs.Steps as steps
@@ -25,7 +25,7 @@ use Rattle.fm_same.specs.Evenness.{ComesFrom, EndsEvenly, GoesOn, IsGoing, IsObj
 use Rattle.fm_same.specs.Regions.{Everywhere, region}
 use Rattle.fm_same.specs.Standing.{Called, Goes, Stand, StandBelow, StandsAt, Waits}
 use Rattle.fm_same.proofs.ActsKeep.{Went}
-use Rattle.fm_same.proofs.CallsKeep.{called, called_coloured, calling, calling_coloured, starts_coloured}
+use Rattle.fm_same.proofs.CallsKeep.{called_coloured, calling_coloured, starts_coloured}
 use Rattle.fm_same.proofs.EdgesKeep.{edge_to_next, edge_to_target, item_with_state}
 use Rattle.fm_same.proofs.GoesOnKeep.{frame_goes, frames-later}
 use Rattle.fm_same.proofs.RegionLemmas.{region_global}
@@ -163,12 +163,12 @@ module _ (p : Program) (facts : Facts) (exact : AreFacts p facts) (f : Frame) (c
       → To (new_frame p m (reverse (take e.takes f.stack)) ∷ record f { stack = drop e.takes f.stack } ∷ callers)
   calls m no_start stands = ⊎_elim
       (λ (is : (is_start p.outline m ≡ false) × Called p facts (new_frame p m (reverse (take e.takes f.stack))) (record f { stack = drop e.takes f.stack })).
-          with_frames (new_frame p m (reverse (take e.takes f.stack)) ∷ record f { stack = drop e.takes f.stack } ∷ callers) (
-            called_coloured p facts exact f callers at x.areas.store colour frames_now.0 m e.takes stands.0.at.code stands.0.at.code_is is.1,
-            (calling_coloured p facts exact f callers at x.areas.store colour frames_now.0 m e.takes, frames_now.1),
-          ))
+      with_frames (new_frame p m (reverse (take e.takes f.stack)) ∷ record f { stack = drop e.takes f.stack } ∷ callers) (
+        called_coloured p facts exact f callers at x.areas.store colour frames_now.0 m e.takes stands.0.at.code stands.0.at.code_is is.1,
+        (calling_coloured p facts exact f callers at x.areas.store colour frames_now.0 m e.takes, frames_now.1),
+      ))
       (λ (waits : (is_start p.outline m ≡ true) × Waits p facts (new_frame p m (reverse (take e.takes f.stack))) (record f { stack = drop e.takes f.stack })).
-          absurd (false≢true (sym no_start ∙ waits.0)))
+      absurd (false≢true (sym no_start ∙ waits.0)))
       stands.1.0
 
   -- out of the frame
@@ -201,7 +201,7 @@ returns_to p facts exact f g callers at below x colour coloured shared home i n 
     record { other = colour; frames_coloured = coloured.1; areas_coloured = shared; advances = λ birth lt. inl refl }
 returns_to p facts exact f g callers at below x colour coloured shared home i n evenly false is stands = ⊎_elim
     (λ (call : (is_start p.outline f.method ≡ false) × Called p facts f g).
-        return_kept p facts exact f g callers at call.1 x.areas colour coloured.0 coloured.1.0 coloured.1.1 shared n evenly stands.0)
+    return_kept p facts exact f g callers at call.1 x.areas colour coloured.0 coloured.1.0 coloured.1.1 shared n evenly stands.0)
     (λ (waits : (is_start p.outline f.method ≡ true) × Waits p facts f g). absurd (false≢true (sym is ∙ waits.0)))
     below.0
 
