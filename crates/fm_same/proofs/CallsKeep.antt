@@ -1,5 +1,5 @@
 -- A call colours the frame that it makes: a parameter has the region of the word that was handed over. Frames that start classes hold nothing.
-use Rattle.std.proofs.Common.{◌≡◌, ℕ, zero, suc, ◌+◌, ◌-◌, ◌<◌, min, List, [], ◌∷◌, ◌++◌, length, drop, take, reverse, replicate, Some, sym, ◌∙◌, ap, subst, slice_get, get_or, arith, ⊎_elim, length-drop, length-take}
+use Rattle.std.proofs.Common.{◌≡◌, refl, ℕ, zero, suc, ◌+◌, ◌-◌, ◌<◌, min, List, [], ◌∷◌, ◌++◌, length, drop, take, reverse, replicate, Some, sym, ◌∙◌, ap, subst, slice_get, get_or, arith, ⊎_elim, length-drop, length-take}
 use Rattle.std.proofs.lemmas.List.{get_or-reverse, get_or-take, length-reverse}
 use Rattle.std.proofs.lemmas.Option.{get_or_from_slice_get, same_Some, slice_get-get_or, slice_get_within}
 use Rattle.fm_cells.specs.Stores.{Store}
@@ -45,7 +45,7 @@ top_found (suc n) (suc m) v h = top_found n m v h
 
 -- ---- frames that start classes
 
-start_coloured : (p : Program) (facts : Facts) (store : Store) (colour : Colour) (method : ℕ) (callers : List Frame)
+pub start_coloured : (p : Program) (facts : Facts) (store : Store) (colour : Colour) (method : ℕ) (callers : List Frame)
     → IsFrameColoured p.outline facts store colour (new_frame p method []) callers
 start_coloured p facts store colour method callers = record {
   locals = λ k v at live.
@@ -61,6 +61,11 @@ pub starts_coloured : (p : Program) (facts : Facts) (store : Store) (colour : Co
 starts_coloured p facts store colour [] frames h = h
 starts_coloured p facts store colour (method ∷ methods) frames h =
     (start_coloured p facts store colour method (start_frames p methods ++ frames), starts_coloured p facts store colour methods frames h)
+
+-- a list without elements
+pub no_words : (words : List Value) → length words ≡ 0 → words ≡ []
+no_words [] h = refl
+no_words (v ∷ words) h = absurd (omega arith)
 
 -- ---- a call
 

@@ -100,7 +100,7 @@ module _ (p : Program) (facts : Facts) (exact : AreFacts p facts) (choose : Choo
       (let stands = subst (λ (next : State). Stand p facts next.frames) is after in
       over areas.store.births (followed p from e f callers x e.next) gone.extends.births (ap (λ (z : Areas). z.store.births) same)
       (subst (λ (z : Areas). IsStill y.areas.store with_born z.store) (sym same) gone.still)
-      (next_kept p facts exact f callers stand.0.at stand.1 y.areas.store with_born frames_born obeys.home x refl made gone e agrees.reads e.next
+      (next_kept p facts exact f callers stand.0.at stand.1 y.areas.store with_born frames_born obeys.home x refl made gone e agrees.reads stand.0.depth e.next
       obeys.leads obeys.goes obeys.ends stands))
   finished_over price (FullAt areas needed) gone after =
       over areas.store.births (finished p price e before (FullAt areas needed)) gone.1.births refl gone.2

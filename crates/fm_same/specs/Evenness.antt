@@ -16,11 +16,10 @@ use Rattle.fm_conn.specs.Pairs.{IsEnd}
 use Rattle.fm_conn.specs.declared.ends.End2.TheVariants as end
 use Rattle.fm_world.specs.Programs.{Outline}
 use Rattle.fm_frames.specs.Acts.{cell_of}
-use Rattle.fm_frames.specs.Effects.{Action, Make, MakeFixed, MakeLiteral, Put, SetStatic, Start, Free, SetChain, FreeChain, Effect, Next, Falls, Jumps, JumpsIfSame, Calls, Returns, Throws, Source, Plain, OfOperand, OfLocal, LocalPlus, OfPlace, OfStatic, OfMade, OfLiteral, SameOperands}
+use Rattle.fm_frames.specs.Effects.{Action, Make, MakeFixed, MakeLiteral, Put, SetStatic, Start, Free, SetChain, FreeChain, Effect, Next, Falls, Jumps, JumpsIfSame, Returns, Throws, Source, Plain, OfOperand, OfLocal, LocalPlus, OfPlace, OfStatic, OfMade, OfLiteral, SameOperands}
 use Rattle.fm_frames.specs.Acts.{requested}
 use Rattle.fm_frames.specs.NativeRows.{text_type}
 use Rattle.fm_frames.specs.States.{word_at}
-use Rattle.fm_frames.specs.Steps.{is_start}
 use Rattle.fm_frames.specs.declared.values.Value.{Value}
 use Rattle.fm_frames.specs.declared.values.Value.TheVariants as value
 use Rattle.fm_same.specs.Colours.{kind_in}
@@ -157,13 +156,12 @@ LeadsRight i other = Unit {0}
 
 -- ---- the frame that ends
 
--- a result that is a reference is of the result's class, and what is thrown of Global's; what throws stores over no local; and what starts a class isn't called
+-- a result that is a reference is of the result's class, and what is thrown of Global's; what throws stores over no local
 abbrev pub EndsEvenly : Outline → Point → ℕ → Insn → Next → Type 0
 EndsEvenly o x home i (Returns words) =
     (q : ℕ) → q < words → IsNode x.method (word x q)
     → (x.class (word x q) ≡ x.class Return) × IsEnd o x.method.number end.Return × (words ≡ 1)
 EndsEvenly o x home i (Throws s) = IsObjectSource s × ComesFrom x home (x.class Global) s × ((k : ℕ) → stores_over k i ≡ false)
-EndsEvenly o x home i (Calls m) = is_start o m ≡ false
 EndsEvenly o x home i other = Unit {0}
 
 -- ---- the whole effect
