@@ -84,6 +84,13 @@ call_falls x (insn.Special index) call h = refl
 call_falls x (insn.Static index) call h = refl
 call_falls x other call h = absurd (none-some call h)
 
+pub call_no_targets : (x : TypedMethod) (i : Insn) (call : Call) → call_of x i ≡ Some call → targets_of i ≡ []
+call_no_targets x (insn.Virtual index) call h = refl
+call_no_targets x (insn.Interface index) call h = refl
+call_no_targets x (insn.Special index) call h = refl
+call_no_targets x (insn.Static index) call h = refl
+call_no_targets x other call h = absurd (none-some call h)
+
 pub call_keeps : (x : TypedMethod) (i : Insn) (call : Call) → call_of x i ≡ Some call → (k : ℕ) → stores_over k i ≡ false
 call_keeps x (insn.Virtual index) call h k = refl
 call_keeps x (insn.Interface index) call h k = refl

@@ -114,8 +114,8 @@ module _ (p : Program) (facts : Facts) (exact : AreFacts p facts) (f : Frame) (i
   abbrev pub used : Use
   used = use_by p f.method i
 
-  level : depth_at x f.item ≡ length f.stack
-  level = depth_is p facts f h.code f.item h.state h.state_is ∙ sym h.depth
+  pub depth_level : depth_at x f.item ≡ length f.stack
+  depth_level = depth_is p facts f h.code f.item h.state h.state_is ∙ sym h.depth
 
   -- ---- pairs
 
@@ -135,7 +135,7 @@ module _ (p : Program) (facts : Facts) (exact : AreFacts p facts) (f : Frame) (i
       → IsNode x (Slot f.item depth) → IsNode x (Slot next depth)
       → facts.class f.method (Slot f.item depth) ≡ facts.class f.method (Slot next depth)
   stays_class depth next lt edge first second =
-      let same = level in
+      let same = depth_level in
       pair_at (Slot f.item depth) (Slot next depth) first second
       (inl (record { depth = depth; next = next; below = omega (arith, same); edge = edge; before = refl; after = refl }))
 
@@ -146,12 +146,12 @@ module _ (p : Program) (facts : Facts) (exact : AreFacts p facts) (f : Frame) (i
 
   -- what is taken, counted from the top
   pub taken_word : (n : ℕ) → StandsAt x f.item i (pairs.Taken n) (Slot f.item (length f.stack - 1 - n))
-  taken_word n = ap (λ depth. Slot f.item (depth - 1 - n)) (sym level)
+  taken_word n = ap (λ depth. Slot f.item (depth - 1 - n)) (sym depth_level)
 
   -- what is given, by how many given words lie below it
   pub given_word : (next n : ℕ) → IsNormalEdge h.code f.item next
       → StandsAt x f.item i (pairs.Given n) (Slot next (length f.stack - pairs.words_taken p.outline used i + n))
-  given_word next n edge = (next, (edge, ap (λ depth. Slot next (depth - pairs.words_taken p.outline used i + n)) (sym level)))
+  given_word next n edge = (next, (edge, ap (λ depth. Slot next (depth - pairs.words_taken p.outline used i + n)) (sym depth_level)))
 
   -- ---- words of the state
 

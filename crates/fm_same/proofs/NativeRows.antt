@@ -24,9 +24,18 @@ use Rattle.fm_frames.specs.Effects.{Action, Make, Put, Effect, OfMade, OfOperand
 use Rattle.fm_frames.specs.NativeRows as table
 use Rattle.fm_frames.specs.Natives.{Shown, ShownInt, ShownLong, ShownChar, ShownBoolean, ShownText, Native, ObjectInit, ObjectHashCode, ObjectEquals, ObjectToString, StringLength, CharAt, StringEquals, StringHashCode, CompareTo, StringToString, Substring, ValueOf, BuilderInit, Append, BuilderLength, BuilderToString, BufferInitOf, Exit, Print, Println, PrintlnNothing, Read, ThrowableInit, ThrowableInitOf, GetMessage, ThrowableToString, FreeMeFree, FreeMeLink, FreeMeFreeChain, natives, native_of_row}
 use Rattle.fm_frames.specs.States.{Frame}
+use Rattle.fm_frames.specs.Effects.{Source}
+use Rattle.fm_conn.specs.Nodes.{depth_at}
+use Rattle.fm_conn.specs.Pairs.{depth_below}
+use Rattle.std.specs.List.{AllByRecursion}
+use Rattle.fm_frames.specs.States.{null}
 use Rattle.fm_same.specs.Covering.{CallsNative, native_words}
-use Rattle.fm_same.specs.Evenness.{ComesFrom, given, Obeys, word}
-use Rattle.fm_same.proofs.ItemFacts.{AtInsn, given_word, goes_obey, pair_at, point, taken_word, used, x}
+use Rattle.fm_same.specs.Evenness.{ComesFrom, EndsEvenly, given, LeadsRight, Obeys, word}
+use Rattle.fm_same.proofs.EdgesKeep.{call_falls, call_keeps, call_no_targets}
+use Rattle.fm_same.proofs.ItemFacts.{AtInsn, depth_level, given_word, goes_obey, pair_at, point, taken_word, used, x}
+use Rattle.fm_same.proofs.MoveRows.{given_stands, gives_one}
+use Rattle.fm_same.proofs.ObjectRows.{home_of, only_next}
+use Rattle.fm_same.proofs.PlainRows.{IsPlainSource, Owes, plain_obeys, words_obey}
 
 -- ---- rows by number
 
@@ -129,3 +138,105 @@ linked_by_row : (p : Program) (facts : Facts) (target number : ℕ) (a b : End2)
 unfolding LinkedIn
 linked_by_row p facts target number a b is link =
     (0, IsSomeAnd-from_some (method_at p.outline.classes target).method.row (λ row. IsNativeLink row a b) number is link)
+
+-- ---- at a call
+
+module _ (p : Program) (facts : Facts) (exact : AreFacts p facts) (f : Frame) (i : Insn) (h : AtInsn p facts f i) (target : ℕ) (row : Native) (c : CallsNative p facts f h.code i target row) where
+  abbrev Row : Effect → Type 0
+  Row e = Owes p facts exact f i h e
+
+  keeps : (k : ℕ) → stores_over k i ≡ false
+  keeps k = call_keeps (x p facts exact f i h) i c.call c.call_is k
+
+  falls : falls_through i ≡ true
+  falls = call_falls (x p facts exact f i h) i c.call c.call_is
+
+  native_class : (one other : End2) (a b : Node) → IsEnd p.outline target one → IsEnd p.outline target other → IsNativeLink c.number one other
+      → StandsFor (x p facts exact f i h) f.item i one a → StandsFor (x p facts exact f i h) f.item i other b
+      → IsNode (x p facts exact f i h) a → IsNode (x p facts exact f i h) b → facts.class f.method a ≡ facts.class f.method b
+  native_class one other a b first_end second_end link first second first_node second_node =
+      pair_at p facts exact f i h a b first_node second_node (inr (inr (inl (record {
+        called = c.call;
+        is = c.call_is;
+        target = target;
+        among = c.among;
+        one = one;
+        other = other;
+        first_end = first_end;
+        second_end = second_end;
+        links = linked_by_row p facts target c.number one other c.number_is link;
+        first = first;
+        second = second;
+      }))))
+
+  -- the words of the parameters: the receiver is the lowest that is taken
+  parameter_word : (n k : ℕ) → n + k + 1 ≡ native_words row → StandsFor (x p facts exact f i h) f.item i (end.Parameter k) (word (point p facts exact f i h) n)
+  parameter_word n k place =
+      let taken = c.words in
+      let deep = c.deep in
+      let level : length f.stack - 1 - n ≡ depth_below (x p facts exact f i h) f.item i + k = let same = depth_level p facts exact f i h in omega (arith, same, taken) in
+      ap (λ d. Slot f.item d) level
+
+  result_word : (e : Effect) (next : ℕ) → IsNormalEdge h.code f.item next → length e.gives ≡ 1 → e.takes ≡ native_words row
+      → StandsFor (x p facts exact f i h) f.item i end.Return (given (point p facts exact f i h) e next 0)
+  result_word e next edge one takes =
+      let taken = c.words in given_stands p facts exact f i h e next 0 0 edge (takes ∙ sym taken) (sym one)
+
+  -- ---- shapes
+
+  words_of : (takes : ℕ) (gives : List Source) → native_words row ≤ takes → AllByRecursion IsPlainSource gives → Row (words takes gives)
+  words_of takes gives le plain = let taken = c.words in words_obey p facts exact f i h keeps falls takes gives plain (omega (arith, taken))
+
+  plain_of : (e : Effect) → e.actions ≡ [] → e.writes ≡ [] → AllByRecursion IsPlainSource e.gives → LeadsRight i e.next
+      → EndsEvenly p.outline (point p facts exact f i h) 0 i e.next → native_words row ≤ e.takes → Row e
+  plain_of e acts writes plain leads ends le =
+      let taken = c.words in plain_obeys p facts exact f i h keeps e acts writes plain leads ends (omega (arith, taken))
+
+  text_of : (takes : ℕ) (units : List ℕ) → native_words row ≤ takes → Row (making takes (table.text_made p.outline units))
+  text_of takes units le =
+      let taken = c.words in
+      let e : Effect = making takes (table.text_made p.outline units) in
+      goes_obey p facts exact f i h e (home_of p facts exact f i h e) (inr refl, tt) falls tt
+      (gives_one p facts exact f i h e (home_of p facts exact f i h e) (OfMade 0) refl
+      (λ next edge there. ap (λ n. facts.class f.method (given (point p facts exact f i h) e n 0))
+          (sym (only_next h.code f.item next i h.insn_is (call_no_targets (x p facts exact f i h) i c.call c.call_is) edge))))
+      tt (λ k unwritten. keeps k) (omega (arith, taken))
+
+  null_put : (takes : ℕ) → native_words row ≤ takes → Row (acting takes (Put (OfOperand 0) 0 (table.text_kind p.outline) (Plain null) ∷ []))
+  null_put takes le =
+      let taken = c.words in
+      goes_obey p facts exact f i h (acting takes (Put (OfOperand 0) 0 (table.text_kind p.outline) (Plain null) ∷ [])) 0
+      ((facts.class f.method (word (point p facts exact f i h) 0), tt, (λ node. refl), refl, refl), tt) falls tt (λ next edge q s at node. absurd (cc)) tt
+      (λ k unwritten. keeps k) (omega (arith, taken))
+
+  -- a new text is put into an operand's object
+  text_put : (takes operand : ℕ) (units : List ℕ) → native_words row ≤ takes → Row (acting takes (table.has_text p.outline operand units))
+  text_put takes operand units le =
+      let taken = c.words in
+      let home : ℕ = facts.class f.method (word (point p facts exact f i h) operand) in
+      goes_obey p facts exact f i h (acting takes (table.has_text p.outline operand units)) home
+      (inr refl, ((home, tt, (λ node. refl), refl, tt), tt)) falls tt (λ next edge q s at node. absurd (cc)) tt
+      (λ k unwritten. keeps k) (omega (arith, taken))
+
+  -- an operand that the receiver is is given back
+  receiver_given : (e : Effect) (home next n : ℕ) → IsNormalEdge h.code f.item next → length e.gives ≡ 1 → e.takes ≡ native_words row
+      → n + 1 ≡ native_words row → IsEnd p.outline target end.Return → IsEnd p.outline target (end.Parameter 0)
+      → IsNativeLink c.number end.Return (end.Parameter 0)
+      → IsNode (x p facts exact f i h) (given (point p facts exact f i h) e next 0) → IsNode (x p facts exact f i h) (word (point p facts exact f i h) n)
+      → facts.class f.method (word (point p facts exact f i h) n) ≡ facts.class f.method (given (point p facts exact f i h) e next 0)
+  receiver_given e home next n edge one takes place result receiver link there node =
+      sym (native_class end.Return (end.Parameter 0) (given (point p facts exact f i h) e next 0) (word (point p facts exact f i h) n) result receiver link
+      (result_word e next edge one takes) (parameter_word n 0 (omega (arith, place))) there node)
+
+  -- append: the receiver gets the longer text, and is given back
+  append_put : (n : ℕ) (units : List ℕ) → n + 1 ≡ native_words row → IsEnd p.outline target end.Return → IsEnd p.outline target (end.Parameter 0)
+      → IsNativeLink c.number end.Return (end.Parameter 0)
+      → Row (record (acting (n + 1) (table.has_text p.outline n units)) { gives = OfOperand n ∷ [] })
+  append_put n units place result receiver link =
+      let taken = c.words in
+      let home : ℕ = facts.class f.method (word (point p facts exact f i h) n) in
+      let e : Effect = record (acting (n + 1) (table.has_text p.outline n units)) { gives = OfOperand n ∷ [] } in
+      goes_obey p facts exact f i h e home (inr refl, ((home, tt, (λ node. refl), refl, tt), tt)) falls tt
+      (gives_one p facts exact f i h e home (OfOperand n) refl
+      (λ next edge there node. receiver_given e home next n edge refl place place result receiver link there node))
+      tt (λ k unwritten. keeps k) (omega (arith, taken, place))

@@ -1,5 +1,5 @@
 -- What is asked of calls: the method that a call leads to is among its targets, and a built-in method has the words and the ends that its row works on.
-use Rattle.std.specs.Prelude.{◌≡◌, ℕ, ◌+◌, ◌-◌, Option, Some, None, List, length, Contains, slice_get}
+use Rattle.std.specs.Prelude.{◌≡◌, ℕ, ◌+◌, ◌-◌, ◌≤◌, Option, Some, None, List, length, Contains, slice_get}
 use Rattle.fm_base.specs.declared.ids.MethodId.{MethodId}
 use Rattle.fm_base.specs.declared.ids.TypeId.{TypeId}
 use Rattle.fm_base.specs.declared.kinds.TypeRef.{TypeRef}
@@ -110,6 +110,7 @@ pub record CallsNative (p : Program) (facts : Facts) (f : Frame) (code : Code) (
   pub call_is : call_of (method_of p facts f code) i ≡ Some call
   pub among : Contains (targets p call) target
   pub words : pairs.words_taken p.outline (use_by p f.method i) i ≡ native_words row
+  pub deep : native_words row ≤ length f.stack
   pub number : ℕ
   pub number_is : (method_at p.outline.classes target).method.row ≡ Some number
   pub row_is : native_of_row number ≡ Some row
