@@ -21,3 +21,4 @@ pub mod ObjectRows
 pub mod EndRows
 pub mod ArrayRows
 pub mod NativeRows
+pub mod Owing

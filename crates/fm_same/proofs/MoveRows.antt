@@ -96,9 +96,9 @@ module _ (p : Program) (facts : Facts) (exact : AreFacts p facts) (f : Frame) wh
   unfolding pairs.words_taken
   nop_obeys h = words_obey p facts exact f insn.Nop h (λ k. refl) refl 0 [] tt (omega arith)
 
-  pub null_obeys : (h : AtInsn p facts f insn.Null) → Owes p facts exact f insn.Null h (words 0 null_word)
+  pub null_constant_obeys : (h : AtInsn p facts f insn.Null) → Owes p facts exact f insn.Null h (words 0 null_word)
   unfolding pairs.words_taken
-  null_obeys h = words_obey p facts exact f insn.Null h (λ k. refl) refl 0 null_word (refl, tt) (omega arith)
+  null_constant_obeys h = words_obey p facts exact f insn.Null h (λ k. refl) refl 0 null_word (refl, tt) (omega arith)
 
   pub const_obeys : (n : ℤ) (h : AtInsn p facts f (insn.Const n)) → Owes p facts exact f (insn.Const n) h (words 0 (int_word n))
   unfolding pairs.words_taken
