@@ -1,9 +1,7 @@
 -- The actions of a step keep the colours of what frames share: objects that are made get the region of their home, and what is put leads on within one
 -- region.
-use Rattle.std.proofs.Common.{◌≡◌, ◌≢◌, ℕ, zero, suc, ◌+◌, ◌<◌, ◌≤◌, ◌⊎◌, Bool, true, false, cond, nat_eq, nat_lt, not, ◌&&◌, List, [], ◌∷◌, ◌++◌, length, Option, Some, None, option_map, refl, sym, ◌∙◌, ap, subst, inl, inr, replicate, slice_get, slice_set, slice_index_or, arith, ltb-true, ⊎_elim}
+use Rattle.std.proofs.Common.{◌≡◌, ◌≢◌, ℕ, zero, suc, ◌≤◌, ◌⊎◌, Bool, true, false, cond, nat_eq, List, [], ◌∷◌, ◌++◌, length, Option, Some, None, refl, sym, ◌∙◌, ap, subst, inl, inr, slice_get, slice_set, slice_index_or, ⊎_elim}
 use Rattle.std.specs.List.{AllByRecursion}
-use Rattle.std.proofs.lemmas.Bool.{cases_Bool, cases_eq}
-use Rattle.std.proofs.lemmas.Bool.Decides.{nat_tests}
 use Rattle.std.proofs.lemmas.List.{get_or-set_other}
 use Rattle.std.proofs.lemmas.Option.{none-some, same_Some}
 use Rattle.fm_base.specs.declared.kinds.Kind.{Kind}
@@ -23,7 +21,7 @@ use Rattle.fm_frames.specs.Effects.{Action, Make, MakeFixed, MakeLiteral, Put, S
 use Rattle.fm_frames.specs.Elements.{cut, kept, read}
 use Rattle.fm_frames.specs.NativeRows.{text_type}
 use Rattle.fm_frames.specs.Sights.{type_numbered}
-use Rattle.fm_frames.specs.States.{Areas, null, ref, word_at}
+use Rattle.fm_frames.specs.States.{Areas, word_at}
 use Rattle.fm_frames.specs.declared.values.Value.{Value}
 use Rattle.fm_frames.specs.declared.values.Value.TheVariants as value
 use Rattle.fm_same.specs.Advances.{IsStill}
@@ -31,7 +29,7 @@ use Rattle.fm_same.specs.Colours.{AreAreasColoured, Colour, HasColour, IsEdgeEve
 use Rattle.fm_same.specs.Evenness.{HoldsNumbers, IsPlain, IsPlainKind}
 use Rattle.fm_same.specs.Regions.{Everywhere, Region, Retired}
 use Rattle.fm_same.specs.Standing.{IsReference}
-use Rattle.fm_same.proofs.StoreChanges.{Extends, extends-refl, extends-then, for_ever-is_of, for_ever-later, has-later, held_later, is_of-later, IsChanged, changed-extends, IsKept, IsMade, made-extends, Puts, put_elsewhere, put_here, set_cases, set_found, zeros_at}
+use Rattle.fm_same.proofs.StoreChanges.{Extends, extends-then, for_ever-is_of, for_ever-later, has-later, held_later, is_of-later, IsChanged, changed-extends, IsKept, IsMade, made-extends, Puts, put_elsewhere, put_here, set_cases, set_found, zeros_at}
 
 -- ---- what is known of sources when the step begins
 
@@ -333,8 +331,8 @@ module _ (o : Outline) (store : Store) (colour : Colour) (home : Region) (new : 
       record {
         went = went_stored o store colour home x made later went areas more
             (λ q old held not_fixed retired.
-                let apart : q ≢ cell = λ same. none-some old (sym is.free ∙ ap (λ c. object_at x.store c) (sym same) ∙ held) in
-                put_elsewhere x.store later cell object q is.puts apart ∙ held);
+            let apart : q ≢ cell = λ same. none-some old (sym is.free ∙ ap (λ c. object_at x.store c) (sym same) ∙ held) in
+            put_elsewhere x.store later cell object q is.puts apart ∙ held);
         object = object;
         held = put_here x.store later cell object is.puts;
         fixed = made_fixed x.store request content;
@@ -397,10 +395,10 @@ module _ (o : Outline) (store : Store) (colour : Colour) (home : Region) (new : 
       }) in
       went_stored o store colour home x made later went areas more
       (λ q found there not_fixed retired.
-          let apart : q ≢ cell = λ same.
-          let is_old : found ≡ old = same_Some found old (sym there ∙ ap (λ c. object_at x.store c) same ∙ held) in
-          live (ap (λ (y : Object). y.fixed) (sym is_old) ∙ not_fixed) (ap (λ (y : Object). colour y.birth) (sym is_old) ∙ retired) in
-          put_elsewhere x.store later cell object q is.puts apart ∙ there)
+      let apart : q ≢ cell = λ same.
+      let is_old : found ≡ old = same_Some found old (sym there ∙ ap (λ c. object_at x.store c) same ∙ held) in
+      live (ap (λ (y : Object). y.fixed) (sym is_old) ∙ not_fixed) (ap (λ (y : Object). colour y.birth) (sym is_old) ∙ retired) in
+      put_elsewhere x.store later cell object q is.puts apart ∙ there)
 
   put_goes : (x : Areas) (made : List ℕ) (cell place element : ℕ) (found : Option Object) → object_at x.store cell ≡ found → Went o store colour home x made
       → ((old : Object) → object_at x.store cell ≡ Some old → old.fixed ≡ false → colour old.birth ≢ Retired)
@@ -426,16 +424,16 @@ module _ (o : Outline) (store : Store) (colour : Colour) (home : Region) (new : 
       put_goes x made (cell_of object) place (kept (kind.Ref t) v) (object_at x.store (cell_of object)) refl went
       (live_object x made r object live went of_object)
       (λ old held other u kind_is.
-          let before : IsEdgeEven x.store colour old other = went.areas.edges (cell_of object) old held other u kind_is in
-          let region : colour old.birth ≡ r =
-          object_has x.store colour r (cell_of object) old went.areas.orderly (cell_has x.store colour r object of_object) held before.not_fixed in
-          let value_even : IsOf x.store colour (colour old.birth) (kept (kind.Ref t) v) =
-          subst (λ c. IsOf x.store colour (colour old.birth) c) (sym (kept_reference t v leads))
-          (subst (λ s. IsOf x.store colour s (cell_of v)) (sym region) (cell_has x.store colour r v of_value)) in
-          ⊎_elim
-          (λ this. subst (λ c. IsOf x.store colour (colour old.birth) c) (sym this) value_even)
-          (λ that. subst (λ c. IsOf x.store colour (colour old.birth) c) (sym that) before.even)
-          (set_cases old.elements place (kept (kind.Ref t) v) other 0))
+      let before : IsEdgeEven x.store colour old other = went.areas.edges (cell_of object) old held other u kind_is in
+      let region : colour old.birth ≡ r =
+      object_has x.store colour r (cell_of object) old went.areas.orderly (cell_has x.store colour r object of_object) held before.not_fixed in
+      let value_even : IsOf x.store colour (colour old.birth) (kept (kind.Ref t) v) =
+      subst (λ c. IsOf x.store colour (colour old.birth) c) (sym (kept_reference t v leads))
+      (subst (λ s. IsOf x.store colour s (cell_of v)) (sym region) (cell_has x.store colour r v of_value)) in
+      ⊎_elim
+      (λ this. subst (λ c. IsOf x.store colour (colour old.birth) c) (sym this) value_even)
+      (λ that. subst (λ c. IsOf x.store colour (colour old.birth) c) (sym that) before.even)
+      (set_cases old.elements place (kept (kind.Ref t) v) other 0))
 
   -- a number is put where no reference stands
   number_goes : (x : Areas) (made : List ℕ) (r : Region) (object : Value) (place element : ℕ) → r ≢ Retired → Went o store colour home x made
@@ -446,10 +444,9 @@ module _ (o : Outline) (store : Store) (colour : Colour) (home : Region) (new : 
       put_goes x made (cell_of object) place element (object_at x.store (cell_of object)) refl went
       (live_object x made r object live went of_object)
       (λ old held other u kind_is.
-          let before : IsEdgeEven x.store colour old other = went.areas.edges (cell_of object) old held other u kind_is in
-          let apart : other ≢ place = λ same. no_edge old held u (ap (λ n. kind_in o old n) (sym same) ∙ kind_is) in
-          subst (λ c. IsOf x.store colour (colour old.birth) c) (sym (get_or-set_other old.elements place other element 0 apart)) before.even)
-
+      let before : IsEdgeEven x.store colour old other = went.areas.edges (cell_of object) old held other u kind_is in
+      let apart : other ≢ place = λ same. no_edge old held u (ap (λ n. kind_in o old n) (sym same) ∙ kind_is) in
+      subst (λ c. IsOf x.store colour (colour old.birth) c) (sym (get_or-set_other old.elements place other element 0 apart)) before.even)
 
   -- ---- static fields
 

@@ -1,10 +1,10 @@
 -- The rows of arrays: an element is of the array's class, and all arrays that one step makes have one home.
-use Rattle.std.proofs.Common.{◌≡◌, ◌≢◌, ℕ, ℤ, pos, zero, suc, ◌+◌, ◌-◌, ◌*◌, ◌<◌, ◌≤◌, ◌⊎◌, ◌==◌, ◌&&◌, ◌||◌, not, int_lt, Bool, true, false, cond, List, [], ◌∷◌, ◌++◌, length, reverse, Option, Some, None, option_map, option_and_then, codes, unsigned_abs, nat_lt, nat_le, Contains, refl, sym, ◌∙◌, ap, subst, inl, inr, slice_get, arith, eqb-true, ne_eqb, ltb-true, leb-true, ⊎_elim}
+use Rattle.std.proofs.Common.{◌≡◌, ◌≢◌, ℕ, ℤ, pos, suc, ◌+◌, ◌-◌, ◌*◌, ◌<◌, ◌≤◌, ◌==◌, ◌&&◌, ◌||◌, not, int_lt, Bool, true, false, cond, List, [], ◌∷◌, ◌++◌, length, reverse, Option, Some, None, codes, unsigned_abs, nat_lt, nat_le, Contains, refl, sym, ◌∙◌, ap, subst, inl, slice_get, arith, eqb-true, ne_eqb, leb-true}
 use Rattle.std.specs.List.{AllByRecursion, flat_map, list_any, range_with_len}
 use Rattle.std.proofs.lemmas.Bool.{and_parts, false≢true}
 use Rattle.std.proofs.lemmas.List.{length-reverse}
 use Rattle.std.proofs.lemmas.List.FromFn.{length-range_with_len}
-use Rattle.std.proofs.lemmas.Option.{none-some, same_Some}
+use Rattle.std.proofs.lemmas.Option.{same_Some}
 use Rattle.fm_base.proofs.OptionFacts.{Some-from_some_and}
 use Rattle.fm_base.specs.declared.kinds.Base.{Base}
 use Rattle.fm_base.specs.declared.kinds.Base.TheVariants as base
@@ -28,19 +28,19 @@ use Rattle.fm_types.specs.States.{is_reference, taken, TypeState}
 use Rattle.fm_types.specs.Typed.{FitsAt}
 use Rattle.fm_types.specs.declared.slots.Slot as slots
 use Rattle.fm_types.specs.declared.slots.Slot.TheVariants as slot
-use Rattle.fm_world.specs.Chains.{is_sub, same_base}
+use Rattle.fm_world.specs.Chains.{is_sub}
 use Rattle.fm_world.specs.Descriptors.{kind_with}
 use Rattle.fm_world.specs.Numbers.{type_of_class}
 use Rattle.fm_world.specs.Programs.{Outline, Program}
-use Rattle.fm_world.specs.Uses.{array_of, base_of_elem}
+use Rattle.fm_world.specs.Uses.{array_of}
 use Rattle.fm_world.specs.declared.uses.Use.{Use}
 use Rattle.fm_world.specs.declared.uses.Use.TheVariants as resolved
-use Rattle.fm_frames.specs.ArrayRows.{array_actions, array_load_effect, array_made, array_store_effect, arrays_made, arrays_of, element_kind, element_type, element_words, int_at, ints_at, length_effect, multi_array_effect, new_array_effect, new_references_effect, on_element, put_element, put_reference, thrown_negative}
-use Rattle.fm_frames.specs.Effects.{Action, Make, Put, Effect, OfMade, OfOperand, OfPlace, faulty, making, stuck, words}
+use Rattle.fm_frames.specs.ArrayRows.{array_actions, array_load_effect, array_made, array_store_effect, arrays_made, arrays_of, element_kind, element_type, element_words, int_at, ints_at, length_effect, multi_array_effect, new_array_effect, new_references_effect, on_element, put_element, thrown_negative}
+use Rattle.fm_frames.specs.Effects.{Action, Make, Put, Effect, OfMade, faulty, making, stuck, words}
 use Rattle.fm_frames.specs.Operands.{thrown, thrown_null}
 use Rattle.fm_frames.specs.Sights.{Looks, Sight}
 use Rattle.fm_frames.specs.States.{Frame}
-use Rattle.fm_same.specs.Evenness.{ActsEvenly, given, LeadsOn, Obeys, Point, PutsEvenly, word}
+use Rattle.fm_same.specs.Evenness.{ActsEvenly, given, Point, PutsEvenly}
 use Rattle.fm_same.proofs.Cases.{by_held, by_if, by_int, by_on_type, by_passing}
 use Rattle.fm_same.proofs.ItemFacts.{AtInsn, goes_obey, point, row, used, x}
 use Rattle.fm_same.proofs.MoveRows.{gives_one}
@@ -55,8 +55,8 @@ by_element : (P : Effect → Type 0) (o : Outline) (e : Elem) (s : List Sight) (
 by_element P o e s index follows null none gone outside some =
     by_passing P o (λ it. is_array_of e it.type) s (index + 1) _ null none gone
     (λ it seen passes. by_int P s index _ none
-        (λ i. by_if P (int_lt i (pos 0) || not (int_lt i (pos it.len))) (thrown o (codes "java/lang/ArrayIndexOutOfBoundsException")) (follows it (unsigned_abs i))
-            (λ out. outside) (λ inside. some it (unsigned_abs i) passes)))
+    (λ i. by_if P (int_lt i (pos 0) || not (int_lt i (pos it.len))) (thrown o (codes "java/lang/ArrayIndexOutOfBoundsException")) (follows it (unsigned_abs i))
+    (λ out. outside) (λ inside. some it (unsigned_abs i) passes)))
 
 -- a letter's elements are no references
 letter_plain : (e : Elem) (b : Base) (u : TypeRef) → has_letter e b ≡ true → kind_with 0 b ≡ kind.Ref u → ⊥
@@ -118,7 +118,7 @@ module _ (p : Program) (facts : Facts) (exact : AreFacts p facts) (f : Frame) wh
       by_element (Owes p facts exact f i h) p.outline e s 0 _ (null_obeys p facts exact f i h (λ k. refl)) (stuck_obeys p facts exact f i h)
       (faulty_obeys p facts exact f i h 1) (thrown_obeys p facts exact f i h (λ k. refl) (codes "java/lang/ArrayIndexOutOfBoundsException"))
       (λ it place passes. loaded_obeys p facts exact f i h (λ k. refl) refl 2 1 place (element_kind it.type) refl
-          (λ v is. load_joins p.outline (used p facts exact f i h) e it.type v passes is))
+      (λ v is. load_joins p.outline (used p facts exact f i h) e it.type v passes is))
 
   -- a reference is put
   stored_reference : (h : AtInsn p facts f (insn.ArrayStore elem.Ref)) (it : Looks) (place : ℕ)
@@ -157,11 +157,11 @@ module _ (p : Program) (facts : Facts) (exact : AreFacts p facts) (f : Frame) wh
   array_store_obeys elem.Ref h s =
       let i : Insn = insn.ArrayStore elem.Ref in
       store_by elem.Ref h s _ (λ it place passes.
-          by_held (Owes p facts exact f i h) (put_element 1 it place) s 0 _ (stored_reference h it place) (stuck_obeys p facts exact f i h)
-          (faulty_obeys p facts exact f i h 0)
-          (λ v seen. by_if (Owes p facts exact f i h) (is_sub p.outline.classes v.type (element_type it.type)) (put_element 1 it place)
-              (thrown p.outline (codes "java/lang/ArrayStoreException")) (λ fits_it. stored_reference h it place)
-              (λ fails. thrown_obeys p facts exact f i h (λ k. refl) (codes "java/lang/ArrayStoreException"))))
+      by_held (Owes p facts exact f i h) (put_element 1 it place) s 0 _ (stored_reference h it place) (stuck_obeys p facts exact f i h)
+      (faulty_obeys p facts exact f i h 0)
+      (λ v seen. by_if (Owes p facts exact f i h) (is_sub p.outline.classes v.type (element_type it.type)) (put_element 1 it place)
+      (thrown p.outline (codes "java/lang/ArrayStoreException")) (λ fits_it. stored_reference h it place)
+      (λ fails. thrown_obeys p facts exact f i h (λ k. refl) (codes "java/lang/ArrayStoreException"))))
   array_store_obeys elem.Boolean h s = store_by elem.Boolean h s _ (λ it place passes. stored_number elem.Boolean h it place passes)
   array_store_obeys elem.Byte h s = store_by elem.Byte h s _ (λ it place passes. stored_number elem.Byte h it place passes)
   array_store_obeys elem.Char h s = store_by elem.Char h s _ (λ it place passes. stored_number elem.Char h it place passes)
@@ -185,8 +185,8 @@ module _ (p : Program) (facts : Facts) (exact : AreFacts p facts) (f : Frame) wh
   array_made_obeys i h keeps falls none le (Some t) s =
       by_int (Owes p facts exact f i h) s 0 _ (stuck_obeys p facts exact f i h)
       (λ n. by_if (Owes p facts exact f i h) (int_lt n (pos 0)) (thrown_negative p.outline) (making 1 (Make t (unsigned_abs n) []))
-          (λ negative. thrown_obeys p facts exact f i h keeps (codes "java/lang/NegativeArraySizeException"))
-          (λ counts. making_obeys p facts exact f i h keeps falls none 1 t (unsigned_abs n) le))
+      (λ negative. thrown_obeys p facts exact f i h keeps (codes "java/lang/NegativeArraySizeException"))
+      (λ counts. making_obeys p facts exact f i h keeps falls none 1 t (unsigned_abs n) le))
 
   pub new_array_obeys : (e : Elem) (h : AtInsn p facts f (insn.NewArray e)) (s : List Sight)
       → Owes p facts exact f (insn.NewArray e) h (new_array_effect p.outline e s)
@@ -233,10 +233,10 @@ arrays_even o x home (count ∷ next ∷ counts) t first le =
     let size : ℕ = arrays_made (next ∷ counts) in (
       inl refl,
       all_flat (ActsEvenly o x home)
-      (λ place. array_actions (element_type t) (next ∷ counts) (first + 1 + place * size)
+          (λ place. array_actions (element_type t) (next ∷ counts) (first + 1 + place * size)
           ++ Put (OfMade first) place (element_kind t) (OfMade (first + 1 + place * size)) ∷ [])
-      (range_with_len 0 count)
-      (λ place. all_append (ActsEvenly o x home) (array_actions (element_type t) (next ∷ counts) (first + 1 + place * size)) _
+          (range_with_len 0 count)
+          (λ place. all_append (ActsEvenly o x home) (array_actions (element_type t) (next ∷ counts) (first + 1 + place * size)) _
           (arrays_even o x home (next ∷ counts) (element_type t) (first + 1 + place * size) (omega arith))
           (put_made x home first (first + 1 + place * size) (element_kind t) deep.0 deep.1, tt)),
     )
@@ -289,11 +289,11 @@ module _ (p : Program) (facts : Facts) (exact : AreFacts p facts) (f : Frame) wh
       by_if (Owes p facts exact f i h) (list_any (λ n. int_lt n (pos 0)) counts) (thrown_negative p.outline) e
       (λ negative. thrown_obeys p facts exact f i h (λ k. refl) (codes "java/lang/NegativeArraySizeException"))
       (λ sizes. goes_obey p facts exact f i h e (home_of p facts exact f i h e)
-          (arrays_even p.outline (point p facts exact f i h) (home_of p facts exact f i h e) (sizes_of counts) t 0 (omega (arith, fits_in))) refl tt
-          (gives_one p facts exact f i h e (home_of p facts exact f i h e) (OfMade 0) refl
-          (λ next edge there. ap (λ n. facts.class f.method (given (point p facts exact f i h) e n 0))
-              (sym (only_next h.code f.item next i h.insn_is refl edge))))
-          tt (λ k unwritten. refl) (omega arith))
+      (arrays_even p.outline (point p facts exact f i h) (home_of p facts exact f i h e) (sizes_of counts) t 0 (omega (arith, fits_in))) refl tt
+      (gives_one p facts exact f i h e (home_of p facts exact f i h e) (OfMade 0) refl
+      (λ next edge there. ap (λ n. facts.class f.method (given (point p facts exact f i h) e n 0))
+      (sym (only_next h.code f.item next i h.insn_is refl edge))))
+      tt (λ k unwritten. refl) (omega arith))
 
   pub multi_array_obeys : (index dimensions : ℕ) (h : AtInsn p facts f (insn.MultiArray index dimensions)) (s : List Sight)
       → Owes p facts exact f (insn.MultiArray index dimensions) h
@@ -304,9 +304,9 @@ module _ (p : Program) (facts : Facts) (exact : AreFacts p facts) (f : Frame) wh
       let u : Use = used p facts exact f i h in
       by_on_type (Owes p facts exact f i h) p.outline u _ (stuck_obeys p facts exact f i h)
       (λ n t is there.
-          let after = Some-from_some_and (multi_array_row p.outline u dimensions h.state)
-          (λ q. (next : ℕ) → IsNormalEdge h.code f.item next → FitsAt p (facts.typing f.method) next q) (row p facts exact f i h) in
-          let le : dimensions ≤ t.dims =
-          multi_dims p.outline n t dimensions h.state after.0 there (ap (λ v. multi_array_row p.outline v dimensions h.state) (sym is) ∙ after.1) in
-          arrays_of_obeys index dimensions h t le (ints_at s (reverse (range_with_len 0 dimensions)))
-          (λ found at. ints_length s (reverse (range_with_len 0 dimensions)) found at ∙ length-reverse (range_with_len 0 dimensions) ∙ length-range_with_len 0 dimensions))
+      let after = Some-from_some_and (multi_array_row p.outline u dimensions h.state)
+      (λ q. (next : ℕ) → IsNormalEdge h.code f.item next → FitsAt p (facts.typing f.method) next q) (row p facts exact f i h) in
+      let le : dimensions ≤ t.dims =
+      multi_dims p.outline n t dimensions h.state after.0 there (ap (λ v. multi_array_row p.outline v dimensions h.state) (sym is) ∙ after.1) in
+      arrays_of_obeys index dimensions h t le (ints_at s (reverse (range_with_len 0 dimensions)))
+      (λ found at. ints_length s (reverse (range_with_len 0 dimensions)) found at ∙ length-reverse (range_with_len 0 dimensions) ∙ length-range_with_len 0 dimensions))

@@ -1,11 +1,11 @@
 -- Along a call the classes of what is handed over have the regions of the words that were handed, and along a return those of the result.
-use Rattle.std.proofs.Common.{◌≡◌, ℕ, zero, suc, ◌+◌, ◌⊎◌, List, [], ◌∷◌, length, Option, Some, None, IsSomeAnd, refl, sym, ◌∙◌, ap, subst, inl, inr, slice_get, slice_index_or, arith}
+use Rattle.std.proofs.Common.{◌≡◌, ℕ, zero, suc, ◌+◌, ◌⊎◌, List, [], ◌∷◌, length, Option, Some, None, IsSomeAnd, refl, sym, ◌∙◌, ap, inl, inr, slice_get, slice_index_or, arith}
 use Rattle.fm_code.specs.Edges.{IsNormalEdge}
 use Rattle.fm_code.specs.declared.code_array.Code.{Code}
 use Rattle.fm_conn.specs.Facts.{AreFacts, Facts}
 use Rattle.fm_conn.specs.Links.{Linked, node_of}
 use Rattle.fm_conn.specs.Nodes.{Node, Local, Slot, Return, Global, IsNode}
-use Rattle.fm_conn.specs.Pairs.{CalledAt, depth_below, IsEnd, PairAt, StandsFor}
+use Rattle.fm_conn.specs.Pairs.{depth_below, IsEnd, PairAt, StandsFor}
 use Rattle.fm_conn.specs.declared.ends.End2.{End2}
 use Rattle.fm_conn.specs.declared.ends.End2.TheVariants as end
 use Rattle.fm_world.specs.Programs.{code_at, Program}

@@ -1,22 +1,21 @@
 -- A call colours the frame that it makes: a parameter has the region of the word that was handed over. Frames that start classes hold nothing.
-use Rattle.std.proofs.Common.{◌≡◌, ◌≢◌, ℕ, zero, suc, ◌+◌, ◌-◌, ◌<◌, ◌≤◌, ◌⊎◌, min, Bool, true, false, List, [], ◌∷◌, ◌++◌, length, drop, take, reverse, replicate, Option, Some, None, refl, sym, ◌∙◌, ap, subst, inl, inr, map, slice_get, slice_index_or, get_or, arith, ⊎_elim, length-append, length-drop, length-take}
-use Rattle.std.proofs.lemmas.Bool.{false≢true}
+use Rattle.std.proofs.Common.{◌≡◌, refl, ℕ, zero, suc, ◌+◌, ◌-◌, ◌<◌, min, List, [], ◌∷◌, ◌++◌, length, drop, take, reverse, replicate, Some, sym, ◌∙◌, ap, subst, slice_get, get_or, arith, ⊎_elim, length-drop, length-take}
 use Rattle.std.proofs.lemmas.List.{get_or-reverse, get_or-take, length-reverse}
 use Rattle.std.proofs.lemmas.Option.{get_or_from_slice_get, same_Some, slice_get-get_or, slice_get_within}
 use Rattle.fm_cells.specs.Stores.{Store}
 use Rattle.fm_code.specs.declared.code_array.Code.{Code}
 use Rattle.fm_conn.specs.Facts.{AreFacts, Facts}
-use Rattle.fm_conn.specs.Nodes.{IsNode, Local, Node, Slot}
+use Rattle.fm_conn.specs.Nodes.{IsNode, Local, Slot}
 use Rattle.fm_conn.specs.Pairs.{IsEnd}
 use Rattle.fm_conn.specs.declared.ends.End2.TheVariants as end
-use Rattle.fm_world.specs.Programs.{code_at, Outline, Program}
+use Rattle.fm_world.specs.Programs.{code_at, Program}
 use Rattle.fm_frames.specs.States.{Frame}
 use Rattle.fm_frames.specs.Steps.{max_locals_of, new_frame, start_frames}
 use Rattle.fm_frames.specs.declared.values.Value.{Value}
 use Rattle.fm_frames.specs.declared.values.Value.TheVariants as value
 use Rattle.fm_same.specs.Colours.{AreFramesColoured, Colour, HasColour, IsFrameColoured, node_of_word}
-use Rattle.fm_same.specs.Regions.{argument, Region, region}
-use Rattle.fm_same.specs.Standing.{Called, IsReference, method_of, StandsAt}
+use Rattle.fm_same.specs.Regions.{argument, region}
+use Rattle.fm_same.specs.Standing.{Called, method_of, StandsAt}
 use Rattle.fm_same.proofs.CallRegions.{region_call}
 use Rattle.fm_same.proofs.GoesOnKeep.{append_found, drop_found, same_node}
 use Rattle.fm_same.proofs.SourcesKeep.{has_if_reference}
@@ -46,7 +45,7 @@ top_found (suc n) (suc m) v h = top_found n m v h
 
 -- ---- frames that start classes
 
-start_coloured : (p : Program) (facts : Facts) (store : Store) (colour : Colour) (method : ℕ) (callers : List Frame)
+pub start_coloured : (p : Program) (facts : Facts) (store : Store) (colour : Colour) (method : ℕ) (callers : List Frame)
     → IsFrameColoured p.outline facts store colour (new_frame p method []) callers
 start_coloured p facts store colour method callers = record {
   locals = λ k v at live.
@@ -62,6 +61,11 @@ pub starts_coloured : (p : Program) (facts : Facts) (store : Store) (colour : Co
 starts_coloured p facts store colour [] frames h = h
 starts_coloured p facts store colour (method ∷ methods) frames h =
     (start_coloured p facts store colour method (start_frames p methods ++ frames), starts_coloured p facts store colour methods frames h)
+
+-- a list without elements
+pub no_words : (words : List Value) → length words ≡ 0 → words ≡ []
+no_words [] h = refl
+no_words (v ∷ words) h = absurd (omega arith)
 
 -- ---- a call
 
@@ -107,14 +111,14 @@ module _ (p : Program) (facts : Facts) (exact : AreFacts p facts) (f : Frame) (c
       let same : at.code ≡ h.at.code = same_Some at.code h.at.code (sym at.code_is ∙ h.at.code_is) in
       has_if_reference store colour (region p.outline facts method (calling ∷ callers) (facts.class method (Local k))) v
       (λ leads.
-          let before : IsNode (method_of p facts f at.code) (node_of_word f (length (take takes f.stack) - 1 - k)) =
-          at.is_node (length (take takes f.stack) - 1 - k) v there.1 leads in
-          let now : IsNode (method_of p facts calling h.at.code) (argument calling k) =
-          same_node p facts f h.at.code at.code (argument calling k) same (subst (λ a. IsNode (method_of p facts f at.code) a) node before) in
-          let ended : IsEnd p.outline method (end.Parameter k) = (h.arguments k).1 now in
-          subst (λ r. HasColour store colour r v) (sym (region_call p facts exact called calling code code_is h callers k ended))
-          (subst (λ a. HasColour store colour (region p.outline facts f.method callers (facts.class f.method a)) v) node
-          (coloured.words (length (take takes f.stack) - 1 - k) v there.1)))
+      let before : IsNode (method_of p facts f at.code) (node_of_word f (length (take takes f.stack) - 1 - k)) =
+      at.is_node (length (take takes f.stack) - 1 - k) v there.1 leads in
+      let now : IsNode (method_of p facts calling h.at.code) (argument calling k) =
+      same_node p facts f h.at.code at.code (argument calling k) same (subst (λ a. IsNode (method_of p facts f at.code) a) node before) in
+      let ended : IsEnd p.outline method (end.Parameter k) = (h.arguments k).1 now in
+      subst (λ r. HasColour store colour r v) (sym (region_call p facts exact called calling code code_is h callers k ended))
+      (subst (λ a. HasColour store colour (region p.outline facts f.method callers (facts.class f.method a)) v) node
+      (coloured.words (length (take takes f.stack) - 1 - k) v there.1)))
 
   pub called_coloured : (code : Code) → code_at p method ≡ Some code → Called p facts called calling
       → IsFrameColoured p.outline facts store colour called (calling ∷ callers)
@@ -122,8 +126,8 @@ module _ (p : Program) (facts : Facts) (exact : AreFacts p facts) (f : Frame) (c
     locals = λ k v found live. ⊎_elim
         (λ front. argument_coloured code code_is h k v front.1)
         (λ back.
-            subst (λ w. HasColour store colour (region p.outline facts method (calling ∷ callers) (facts.class method (Local k))) w)
-            (sym (top_found (max_locals_of p method - length (reverse (take takes f.stack))) back.0 v back.2)) tt)
+        subst (λ w. HasColour store colour (region p.outline facts method (calling ∷ callers) (facts.class method (Local k))) w)
+        (sym (top_found (max_locals_of p method - length (reverse (take takes f.stack))) back.0 v back.2)) tt)
         (append_found (reverse (take takes f.stack))
         (replicate (max_locals_of p method - length (reverse (take takes f.stack))) value.Top) k v found);
     words = λ n v found. absurd (cc);

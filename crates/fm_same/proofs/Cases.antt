@@ -1,5 +1,5 @@
 -- What holds of each effect that a row can come to holds of the row: one lemma for each way in which rows ask of their operands.
-use Rattle.std.proofs.Common.{◌≡◌, ℕ, ℤ, Bool, true, false, cond, List, [], ◌∷◌, codes, Option, Some, None, refl, slice_get}
+use Rattle.std.proofs.Common.{◌≡◌, ℕ, ℤ, Bool, true, false, cond, List, codes, Option, Some, None, refl, slice_get}
 use Rattle.fm_base.specs.declared.kinds.TypeRef.{TypeRef}
 use Rattle.fm_base.specs.declared.ids.FieldId.{FieldId}
 use Rattle.fm_base.specs.declared.ids.MethodId.{MethodId}
@@ -11,7 +11,9 @@ use Rattle.fm_types.specs.Fits.{fits_type}
 use Rattle.fm_types.specs.Named.{built_in_type}
 use Rattle.fm_world.specs.BuiltIns.{string_name}
 use Rattle.fm_frames.specs.Effects.{Effect, faulty, Faults, going, OfPlace, stuck}
-use Rattle.fm_frames.specs.Operands.{on_any, on_held, on_held_of, on_inner, on_inner_of, on_int, on_int_of, on_long, on_long_of, on_object, on_passing, on_reference, on_reference_of, or_thrown, thrown, thrown_null}
+use Rattle.fm_frames.specs.Operands.{on_any, on_held, on_held_of, on_inner, on_inner_of, on_int, on_int_of, on_long, on_long_of, on_object, on_passing, on_reference, on_reference_of, on_text, on_text_or_null, or_thrown, thrown, thrown_null}
+use Rattle.fm_frames.specs.NativeRows.{is_builder, on_builder, on_built, on_shown}
+use Rattle.fm_frames.specs.Natives.{Shown, ShownBoolean, ShownChar, ShownInt, ShownLong, ShownText}
 use Rattle.fm_frames.specs.Sights.{Gone, Inner, Looks, Lost, Missing, NoField, Null, Sight, Text, Thing, Word}
 use Rattle.fm_frames.specs.Uses.{by_type, on_field, on_method, on_type}
 use Rattle.fm_frames.specs.declared.values.Value.TheVariants as value
@@ -91,6 +93,38 @@ module _ (P : Effect → Type 0) where
       → P (or_thrown o r k)
   by_thrown o None k none some = none
   by_thrown o (Some n) k none some = some n
+
+  -- ---- texts
+
+  pub by_text_or_null : (o : Outline) (sights : List Sight) (operand : ℕ) (k : List ℕ → Effect) → P stuck → P (faulty operand)
+      → ((units : List ℕ) → P (k units)) → P (on_text_or_null o sights operand k)
+  by_text_or_null o sights operand k none gone some =
+      by_held (k (codes "null")) sights operand _ (some (codes "null")) none gone
+      (λ it seen. by_if (fits_type o.classes it.type (built_in_type o string_name)) (k it.units) (faulty operand) (λ passes. some it.units) (λ fails. gone))
+
+  pub by_text : (o : Outline) (sights : List Sight) (operand : ℕ) (k : List ℕ → Effect) → P (thrown_null o) → P stuck → P (faulty operand)
+      → ((units : List ℕ) → P (k units)) → P (on_text o sights operand k)
+  by_text o sights operand k null none gone some =
+      by_object o (built_in_type o string_name) sights operand (λ it. k it.units) null none gone (λ it seen passes. some it.units)
+
+  pub by_shown : (o : Outline) (shown : Shown) (sights : List Sight) (k : List ℕ → Effect) → P stuck → P (faulty 0)
+      → ((units : List ℕ) → P (k units)) → P (on_shown o shown sights k)
+  by_shown o ShownInt sights k none gone some = by_int sights 0 _ none (λ n. some _)
+  by_shown o ShownLong sights k none gone some = by_long sights 1 _ none (λ n. some _)
+  by_shown o ShownChar sights k none gone some = by_int sights 0 _ none (λ n. some _)
+  by_shown o ShownBoolean sights k none gone some = by_int sights 0 _ none (λ n. some _)
+  by_shown o ShownText sights k none gone some = by_text_or_null o sights 0 k none gone some
+
+  pub by_builder : (o : Outline) (sights : List Sight) (operand : ℕ) (k : Looks → Effect) → P (thrown_null o) → P stuck → P (faulty operand)
+      → ((it : Looks) → P (k it)) → P (on_builder o sights operand k)
+  by_builder o sights operand k null none gone some =
+      by_passing o (is_builder o) sights operand k null none gone (λ it seen passes. some it)
+
+  pub by_built : (o : Outline) (sights : List Sight) (operand : ℕ) (k : List ℕ → Effect) → P (thrown_null o) → P stuck → P (faulty operand)
+      → P (going 0 (Faults (OfPlace operand 0 (kind.Ref (built_in_type o string_name))))) → ((units : List ℕ) → P (k units))
+      → P (on_built o sights operand k)
+  by_built o sights operand k null none gone lost some =
+      by_builder o sights operand _ null none gone (λ it. by_inner o operand it _ gone lost (λ units. some _))
 
   -- ---- what an instruction names
 

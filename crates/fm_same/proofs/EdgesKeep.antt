@@ -1,11 +1,11 @@
 -- What is live at the end of an edge was live before it; and which edges a call, a jump and what is caught take.
-use Rattle.std.proofs.Common.{◌≡◌, ℕ, zero, suc, ◌+◌, ◌<◌, ◌≤◌, ◌⊎◌, ◌&&◌, Bool, true, false, cond, List, [], ◌∷◌, length, Option, Some, None, option_map, option_and_then, is_some, IsSomeAnd, Any, Contains, refl, sym, ◌∙◌, ap, subst, inl, inr, slice_get, slice_index_or, nat_le, nat_lt, arith, ltb-true, leb-true, ⊎_elim}
-use Rattle.std.proofs.lemmas.Bool.{and_parts, cases_Bool, false≢true}
-use Rattle.std.proofs.lemmas.Option.{get_or_from_slice_get, none-some, same_Some, slice_get_within}
+use Rattle.std.proofs.Common.{◌≡◌, ℕ, zero, suc, ◌+◌, ◌<◌, ◌≤◌, ◌⊎◌, ◌&&◌, Bool, true, false, cond, List, [], ◌∷◌, length, Option, Some, None, option_map, option_and_then, Any, refl, sym, ◌∙◌, ap, subst, inl, inr, slice_get, slice_index_or, nat_le, nat_lt, arith, ltb-true, leb-true, ⊎_elim}
+use Rattle.std.proofs.lemmas.Bool.{and_parts}
+use Rattle.std.proofs.lemmas.Option.{none-some, same_Some}
 use Rattle.fm_base.proofs.OptionFacts.{IsSomeAnd-from_some}
 use Rattle.fm_base.specs.declared.kinds.TypeRef.{TypeRef}
 use Rattle.fm_code.specs.Edges.{Catches, falls_through, insn_of, IsEdge, IsHandlerEdge, IsNormalEdge, LeadsTo}
-use Rattle.fm_code.specs.Live.{Keeps, LeadsToLoad, Live, stores_over}
+use Rattle.fm_code.specs.Live.{Keeps, Live, stores_over}
 use Rattle.fm_code.specs.SpellsCode.{targets_of}
 use Rattle.fm_code.specs.declared.code_array.Code.{Code}
 use Rattle.fm_code.specs.declared.code_array.Handler.{Handler}
@@ -22,7 +22,6 @@ use Rattle.fm_world.specs.Programs.{code_at, Program}
 use Rattle.fm_world.specs.declared.calls.Call.{Call}
 use Rattle.fm_frames.specs.States.{Frame}
 use Rattle.fm_frames.specs.Steps.{catches, handler_among, handler_of}
-use Rattle.fm_same.specs.Standing.{StandsAt}
 
 -- ---- liveness
 
@@ -85,6 +84,13 @@ call_falls x (insn.Special index) call h = refl
 call_falls x (insn.Static index) call h = refl
 call_falls x other call h = absurd (none-some call h)
 
+pub call_no_targets : (x : TypedMethod) (i : Insn) (call : Call) → call_of x i ≡ Some call → targets_of i ≡ []
+call_no_targets x (insn.Virtual index) call h = refl
+call_no_targets x (insn.Interface index) call h = refl
+call_no_targets x (insn.Special index) call h = refl
+call_no_targets x (insn.Static index) call h = refl
+call_no_targets x other call h = absurd (none-some call h)
+
 pub call_keeps : (x : TypedMethod) (i : Insn) (call : Call) → call_of x i ≡ Some call → (k : ℕ) → stores_over k i ≡ false
 call_keeps x (insn.Virtual index) call h k = refl
 call_keeps x (insn.Interface index) call h k = refl
@@ -109,12 +115,12 @@ handler_found : (p : Program) (f : Frame) (t : TypeRef) (handlers : List Handler
 handler_found p f t [] h e = absurd (cc)
 handler_found p f t (entry ∷ handlers) h e = ⊎_elim
     (λ here.
-        let range : (entry.start ≤ f.item) × (f.item < entry.end) = catches_range p f t entry here.0 in
-        (0, entry, omega arith, refl, record { after_start = range.0; before_end = range.1; handler_is = here.1 }))
+    let range : (entry.start ≤ f.item) × (f.item < entry.end) = catches_range p f t entry here.0 in
+    (0, entry, omega arith, refl, record { after_start = range.0; before_end = range.1; handler_is = here.1 }))
     (λ later.
-        let rest : Any (Catches f.item h) handlers = handler_found p f t handlers h later in
-        let within : rest.0 < length handlers = rest.2 in
-        (suc rest.0, rest.1, omega arith, rest.3, rest.4))
+    let rest : Any (Catches f.item h) handlers = handler_found p f t handlers h later in
+    let within : rest.0 < length handlers = rest.2 in
+    (suc rest.0, rest.1, omega arith, rest.3, rest.4))
     (either_found (catches p f t entry) entry.handler (handler_among p f t handlers) h e)
 
 pub handler_edge : (p : Program) (f : Frame) (t : TypeRef) (code : Code) (h : ℕ) → code_at p f.method ≡ Some code → handler_of p f t ≡ Some h

@@ -1,21 +1,19 @@
 -- The rows of casts, athrow, returns and switches.
-use Rattle.std.proofs.Common.{◌≡◌, ◌≢◌, ℕ, ℤ, pos, zero, suc, ◌+◌, ◌-◌, ◌<◌, ◌≤◌, ◌⊎◌, ◌==◌, ◌&&◌, ◌||◌, ◌+ℤ◌, ◌-ℤ◌, not, int_lt, int_le, unsigned_abs, Bool, true, false, cond, List, [], ◌∷◌, ◌++◌, length, position, nat_lt, Option, Some, None, codes, IsSomeAnd, Contains, refl, sym, ◌∙◌, ap, subst, inl, inr, slice_get, arith, ltb-true, ⊎_elim}
+use Rattle.std.proofs.Common.{◌≡◌, ◌≢◌, ℕ, ℤ, pos, suc, ◌+◌, ◌-◌, ◌<◌, ◌≤◌, ◌||◌, ◌+ℤ◌, ◌-ℤ◌, not, int_lt, int_le, unsigned_abs, Bool, true, false, cond, List, [], ◌∷◌, length, position, nat_lt, Option, Some, None, codes, refl, sym, ◌∙◌, ap, subst, inl, slice_get, arith, ltb-true, ⊎_elim}
 use Rattle.std.proofs.lemmas.Bool.{cases_eq, false≢true}
-use Rattle.std.proofs.lemmas.Option.{none-some, same_Some}
 use Rattle.std.specs.Ordering.{int_eq}
 use Rattle.std.specs.List.{prefix_len}
 use Rattle.std.proofs.lemmas.Int.{ints}
 use Rattle.fm_base.proofs.OptionFacts.{IsSomeAnd-from_some, Some-from_some_and}
 use Rattle.fm_base.specs.declared.kinds.Kind.{Kind}
 use Rattle.fm_base.specs.declared.kinds.Kind.TheVariants as kind
-use Rattle.fm_base.specs.declared.kinds.TypeRef.{TypeRef}
-use Rattle.fm_code.specs.Edges.{falls_through, IsNormalEdge}
+use Rattle.fm_code.specs.Edges.{IsNormalEdge}
 use Rattle.fm_code.specs.declared.instructions.Insn.{Insn}
 use Rattle.fm_code.specs.declared.instructions.Insn.TheVariants as insn
 use Rattle.fm_code.specs.declared.operations.Reg.{Reg}
 use Rattle.fm_code.specs.declared.operations.Reg.TheVariants as reg
 use Rattle.fm_conn.specs.Facts.{AreFacts, Facts}
-use Rattle.fm_conn.specs.Nodes.{Global, IsNode, Node, Return, Slot}
+use Rattle.fm_conn.specs.Nodes.{Global, IsNode, Return, Slot}
 use Rattle.fm_conn.specs.Pairs.{IsEnd, StandsAt}
 use Rattle.fm_conn.specs.declared.ends.End2.TheVariants as end
 use Rattle.fm_conn.specs.Rows as pairs
@@ -31,16 +29,16 @@ use Rattle.fm_types.proofs.StateOrder.{long_below, whole-long}
 use Rattle.fm_world.specs.Chains.{is_sub}
 use Rattle.fm_world.specs.Programs.{Outline, Program}
 use Rattle.fm_world.specs.declared.uses.Use.{Use}
-use Rattle.fm_frames.specs.Effects.{Effect, Falls, Jumps, Returns, Throws, OfOperand, going, int_word, stuck, words}
+use Rattle.fm_frames.specs.Effects.{Jumps, Returns, going, words}
 use Rattle.fm_frames.specs.JumpRows.{key_target, lookup_effect, return_effect, table_effect, table_target, throw_effect}
 use Rattle.fm_frames.specs.ObjectRows.{cast_effect, is_a_effect}
 use Rattle.fm_frames.specs.Operands.{thrown}
 use Rattle.fm_frames.specs.Sights.{Sight}
 use Rattle.fm_frames.specs.States.{Frame}
-use Rattle.fm_same.specs.Evenness.{Obeys, word}
+use Rattle.fm_same.specs.Evenness.{word}
 use Rattle.fm_same.proofs.Cases.{by_held, by_if, by_int, by_object, by_on_type}
 use Rattle.fm_same.proofs.EdgesKeep.{live_before}
-use Rattle.fm_same.proofs.ItemFacts.{AtInsn, given_word, joined_class, point, row, stays_class, taken_word, used, x}
+use Rattle.fm_same.proofs.ItemFacts.{AtInsn, given_word, joined_class, point, row, stays_class, taken_word, x}
 use Rattle.fm_same.proofs.MoveRows.{not_taken}
 use Rattle.fm_same.proofs.ObjectRows.{mapped_some, some_if, taken_top}
 use Rattle.fm_same.proofs.PlainRows.{faulty_obeys, null_obeys, Owes, plain_obeys, stuck_obeys, thrown_obeys, words_obey}
@@ -57,12 +55,12 @@ module _ (p : Program) (facts : Facts) (exact : AreFacts p facts) (f : Frame) wh
       let i : Insn = insn.Cast index in
       ⊎_elim
       (λ (top : depth ≡ length f.stack - 1).
-          let before : length f.stack - 1 - 0 ≡ depth = omega arith in
-          let after : length f.stack - 1 + 0 ≡ depth = omega arith in
-          joined_class p facts exact f i h (pairs.Taken 0) (pairs.Given 0) (Slot f.item depth) (Slot next depth) (0, omega arith, refl)
-          (subst (λ d. StandsAt (x p facts exact f i h) f.item i (pairs.Taken 0) (Slot f.item d)) before (taken_word p facts exact f i h 0))
-          (subst (λ d. StandsAt (x p facts exact f i h) f.item i (pairs.Given 0) (Slot next d)) after (given_word p facts exact f i h next 0 edge))
-          first second)
+      let before : length f.stack - 1 - 0 ≡ depth = omega arith in
+      let after : length f.stack - 1 + 0 ≡ depth = omega arith in
+      joined_class p facts exact f i h (pairs.Taken 0) (pairs.Given 0) (Slot f.item depth) (Slot next depth) (0, omega arith, refl)
+      (subst (λ d. StandsAt (x p facts exact f i h) f.item i (pairs.Taken 0) (Slot f.item d)) before (taken_word p facts exact f i h 0))
+      (subst (λ d. StandsAt (x p facts exact f i h) f.item i (pairs.Given 0) (Slot next d)) after (given_word p facts exact f i h next 0 edge))
+      first second)
       (λ (apart : depth ≢ length f.stack - 1). stays_class p facts exact f i h depth next (omega arith) edge first second)
       (cases_eq depth (length f.stack - 1))
 
@@ -88,10 +86,10 @@ module _ (p : Program) (facts : Facts) (exact : AreFacts p facts) (f : Frame) wh
       let i : Insn = insn.Cast index in
       by_on_type (Owes p facts exact f i h) p.outline u _ (stuck_obeys p facts exact f i h)
       (λ n t is there. by_held (Owes p facts exact f i h) (words 0 []) s 0 _ (cast_words index h) (stuck_obeys p facts exact f i h)
-          (faulty_obeys p facts exact f i h 0)
-          (λ it seen. by_if (Owes p facts exact f i h) (is_sub p.outline.classes it.type t) (words 0 []) (thrown p.outline (codes "java/lang/ClassCastException"))
-              (λ passes. cast_words index h)
-              (λ fails. thrown_obeys p facts exact f i h (λ k. refl) (codes "java/lang/ClassCastException"))))
+      (faulty_obeys p facts exact f i h 0)
+      (λ it seen. by_if (Owes p facts exact f i h) (is_sub p.outline.classes it.type t) (words 0 []) (thrown p.outline (codes "java/lang/ClassCastException"))
+      (λ passes. cast_words index h)
+      (λ fails. thrown_obeys p facts exact f i h (λ k. refl) (codes "java/lang/ClassCastException"))))
 
   pub is_a_obeys : (index : ℕ) (h : AtInsn p facts f (insn.IsA index)) (u : Use) (s : List Sight)
       → Owes p facts exact f (insn.IsA index) h (is_a_effect p.outline u s)
@@ -100,8 +98,8 @@ module _ (p : Program) (facts : Facts) (exact : AreFacts p facts) (f : Frame) wh
       let i : Insn = insn.IsA index in
       by_on_type (Owes p facts exact f i h) p.outline u _ (stuck_obeys p facts exact f i h)
       (λ n t is there. by_held (Owes p facts exact f i h) _ s 0 _ (words_obey p facts exact f i h (λ k. refl) refl 1 _ (tt, tt) (omega arith))
-          (stuck_obeys p facts exact f i h) (faulty_obeys p facts exact f i h 0)
-          (λ it seen. words_obey p facts exact f i h (λ k. refl) refl 1 _ (tt, tt) (omega arith)))
+      (stuck_obeys p facts exact f i h) (faulty_obeys p facts exact f i h 0)
+      (λ it seen. words_obey p facts exact f i h (λ k. refl) refl 1 _ (tt, tt) (omega arith)))
 
   -- ---- athrow
 
@@ -215,8 +213,8 @@ module _ (p : Program) (facts : Facts) (exact : AreFacts p facts) (f : Frame) wh
       int_result p.outline t.kind h.state.stack t.rest t.same t.stack in
       returns_with p facts exact f (Some reg.Int) h 1
       (λ q lt node.
-          let zero_is : q ≡ 0 = omega arith in
-          absurd (not_taken p facts exact f i h 0 top.0 top.1 top.2 (subst (λ n. IsNode (x p facts exact f i h) (word (point p facts exact f i h) n)) zero_is node)))
+      let zero_is : q ≡ 0 = omega arith in
+      absurd (not_taken p facts exact f i h 0 top.0 top.1 top.2 (subst (λ n. IsNode (x p facts exact f i h) (word (point p facts exact f i h) n)) zero_is node)))
 
   return_long : (h : AtInsn p facts f (insn.Return (Some reg.Long))) → Owes p facts exact f (insn.Return (Some reg.Long)) h (going 0 (Returns 2))
   return_long h =
@@ -227,12 +225,12 @@ module _ (p : Program) (facts : Facts) (exact : AreFacts p facts) (f : Frame) wh
       long_result p.outline t.kind h.state.stack t.rest t.same t.stack whole in
       returns_with p facts exact f (Some reg.Long) h 2
       (λ q lt node. ⊎_elim
-          (λ (zero_is : q ≡ 0).
-              absurd (not_taken p facts exact f i h 0 slot.Top both.0 refl (subst (λ n. IsNode (x p facts exact f i h) (word (point p facts exact f i h) n)) zero_is node)))
-          (λ (other : q ≢ 0).
-              let one_is : q ≡ 1 = omega arith in
-              absurd (not_taken p facts exact f i h 1 slot.Long both.1 refl (subst (λ n. IsNode (x p facts exact f i h) (word (point p facts exact f i h) n)) one_is node)))
-          (cases_eq q 0))
+      (λ (zero_is : q ≡ 0).
+      absurd (not_taken p facts exact f i h 0 slot.Top both.0 refl (subst (λ n. IsNode (x p facts exact f i h) (word (point p facts exact f i h) n)) zero_is node)))
+      (λ (other : q ≢ 0).
+      let one_is : q ≡ 1 = omega arith in
+      absurd (not_taken p facts exact f i h 1 slot.Long both.1 refl (subst (λ n. IsNode (x p facts exact f i h) (word (point p facts exact f i h) n)) one_is node)))
+      (cases_eq q 0))
 
   return_reference : (h : AtInsn p facts f (insn.Return (Some reg.Ref))) → Owes p facts exact f (insn.Return (Some reg.Ref)) h (going 0 (Returns 1))
   unfolding pairs.joined_by
@@ -241,14 +239,14 @@ module _ (p : Program) (facts : Facts) (exact : AreFacts p facts) (f : Frame) wh
       let t : IsReturned p.outline f.method reg.Ref h.state = typed_return reg.Ref h in
       returns_with p facts exact f (Some reg.Ref) h 1
       (λ q lt node.
-          let zero_is : q ≡ 0 = omega arith in
-          let same : facts.class f.method (word (point p facts exact f i h) 0) ≡ facts.class f.method Return =
-          joined_class p facts exact f i h (pairs.Taken 0) pairs.AsResult (word (point p facts exact f i h) 0) Return (0, omega arith, refl)
-          (taken_word p facts exact f i h 0) refl (subst (λ n. IsNode (x p facts exact f i h) (word (point p facts exact f i h) n)) zero_is node) tt in (
-            subst (λ n. facts.class f.method (word (point p facts exact f i h) n) ≡ facts.class f.method Return) (sym zero_is) same,
-            IsSomeAnd-from_some (result_of p.outline f.method) (λ k. pairs.is_reference_kind k ≡ true) t.kind t.result (reference_result t.kind t.same),
-            refl,
-          ))
+      let zero_is : q ≡ 0 = omega arith in
+      let same : facts.class f.method (word (point p facts exact f i h) 0) ≡ facts.class f.method Return =
+      joined_class p facts exact f i h (pairs.Taken 0) pairs.AsResult (word (point p facts exact f i h) 0) Return (0, omega arith, refl)
+      (taken_word p facts exact f i h 0) refl (subst (λ n. IsNode (x p facts exact f i h) (word (point p facts exact f i h) n)) zero_is node) tt in (
+        subst (λ n. facts.class f.method (word (point p facts exact f i h) n) ≡ facts.class f.method Return) (sym zero_is) same,
+        IsSomeAnd-from_some (result_of p.outline f.method) (λ k. pairs.is_reference_kind k ≡ true) t.kind t.result (reference_result t.kind t.same),
+        refl,
+      ))
 
   pub return_obeys : (value : Option Reg) (h : AtInsn p facts f (insn.Return value)) → Owes p facts exact f (insn.Return value) h (return_effect value)
   unfolding return_effect
@@ -293,7 +291,7 @@ module _ (p : Program) (facts : Facts) (exact : AreFacts p facts) (f : Frame) wh
       let i : Insn = insn.Table low others targets in
       by_int (Owes p facts exact f i h) s 0 _ (stuck_obeys p facts exact f i h)
       (λ key. plain_obeys p facts exact f i h (λ k. refl) (going 1 (Jumps (table_target low (length targets) key))) refl refl tt
-          (table_within low (length targets) key) tt (omega arith))
+      (table_within low (length targets) key) tt (omega arith))
 
   -- a switch by keys has a target for each
   pub lookup_obeys : (others : ℕ) (keys : List ℤ) (targets : List ℕ) (h : AtInsn p facts f (insn.Lookup others keys targets)) (s : List Sight)
@@ -303,4 +301,4 @@ module _ (p : Program) (facts : Facts) (exact : AreFacts p facts) (f : Frame) wh
       let i : Insn = insn.Lookup others keys targets in
       by_int (Owes p facts exact f i h) s 0 _ (stuck_obeys p facts exact f i h)
       (λ key. plain_obeys p facts exact f i h (λ k. refl) (going 1 (Jumps (key_target (position (int_eq key) keys)))) refl refl tt
-          (key_within keys key (length targets) le) tt (omega arith))
+      (key_within keys key (length targets) le) tt (omega arith))

@@ -1,5 +1,5 @@
 -- A frame that goes on at an item is coloured there, by what the item's effect owes to the classes.
-use Rattle.std.proofs.Common.{◌≡◌, ◌≢◌, ℕ, zero, suc, ◌+◌, ◌-◌, ◌<◌, ◌≤◌, ◌⊎◌, ◌==◌, ◌||◌, Bool, true, false, cond, List, [], ◌∷◌, ◌++◌, length, drop, Option, Some, None, refl, sym, ◌∙◌, ap, subst, inl, inr, map, nat_lt, slice_get, slice_set, slice_index_or, arith, ne_eqb, ⊎_elim, length-append, length-drop}
+use Rattle.std.proofs.Common.{◌≡◌, ℕ, zero, suc, ◌+◌, ◌-◌, ◌<◌, ◌≤◌, ◌⊎◌, ◌||◌, true, false, cond, List, [], ◌∷◌, ◌++◌, length, drop, Some, refl, sym, ◌∙◌, ap, subst, inl, inr, map, nat_lt, slice_get, slice_set, slice_index_or, arith, ne_eqb, ⊎_elim, length-append, length-drop}
 use Rattle.std.proofs.lemmas.List.{length-map}
 use Rattle.std.specs.List.{AllByRecursion}
 use Rattle.std.proofs.lemmas.Bool.Decides.{nat_tests}
@@ -11,17 +11,17 @@ use Rattle.fm_conn.specs.Facts.{Facts}
 use Rattle.fm_conn.specs.Nodes.{IsNode, Local, Node, Slot}
 use Rattle.fm_world.specs.Programs.{Outline, Program}
 use Rattle.fm_frames.specs.Acts.{Sources, value_of}
-use Rattle.fm_frames.specs.Effects.{Effect, Source, Plain, OfOperand, OfLocal, LocalPlus, OfPlace, OfStatic, OfMade, OfLiteral, SameOperands}
+use Rattle.fm_frames.specs.Effects.{Effect, Source, Plain, OfOperand, LocalPlus}
 use Rattle.fm_frames.specs.States.{Areas, Frame}
 use Rattle.fm_frames.specs.Steps as steps
 use Rattle.fm_frames.specs.declared.values.Value.{Value}
 use Rattle.fm_same.specs.Advances.{point_of}
 use Rattle.fm_same.specs.Colours.{AreAreasColoured, AreFramesColoured, Colour, HasColour, IsEdgeEven, IsFrameColoured, IsOf, node_of_word, OfNull}
-use Rattle.fm_same.specs.Evenness.{ComesFrom, given, GoesOn, is_written, Point, ReadAgrees, word, WritesFrom}
+use Rattle.fm_same.specs.Evenness.{given, GoesOn, is_written, Point, ReadAgrees, WritesFrom}
 use Rattle.fm_same.specs.Regions.{Region, region}
 use Rattle.fm_same.specs.Standing.{Goes, IsReference, method_of, StandsAt}
 use Rattle.fm_same.proofs.ActsKeep.{Went}
-use Rattle.fm_same.proofs.SourcesKeep.{has_if_reference, operand_has, source_gives}
+use Rattle.fm_same.proofs.SourcesKeep.{has_if_reference, source_gives}
 use Rattle.fm_same.proofs.StoreChanges.{Agree, Extends, extends-refl, has-agree, has-later, is_of-agree, set_found}
 
 -- ---- lists
@@ -60,9 +60,9 @@ written_found P from [] locals k v all h = inr (refl, h)
 written_found P from (w ∷ writes) locals k v all h = ⊎_elim
     (λ found. inl found)
     (λ kept. ⊎_elim
-        (λ here. inl (w.1, subst (λ i. P i w.1) here.0 all.0, here.1))
-        (λ there. inr (ap (λ b. b || is_written k writes) (ne_eqb w.0 k there.0) ∙ kept.0, there.1))
-        (set_found locals w.0 (value_of from w.1) k v kept.1))
+    (λ here. inl (w.1, subst (λ i. P i w.1) here.0 all.0, here.1))
+    (λ there. inr (ap (λ b. b || is_written k writes) (ne_eqb w.0 k there.0) ∙ kept.0, there.1))
+    (set_found locals w.0 (value_of from w.1) k v kept.1))
     (written_found P from writes (slice_set locals w.0 (value_of from w.1)) k v all.1 h)
 
 -- ---- colours of frames and areas that stay
@@ -155,9 +155,9 @@ module _ (p : Program) (facts : Facts) (f : Frame) (callers : List Frame) (at : 
       → HasColour y.store colour (region_in (facts.class f.method (Local k))) v
   local_goes k v found live = ⊎_elim
       (λ written. subst (λ w. HasColour y.store colour (region_in (facts.class f.method (Local k))) w) written.2
-          (writes_has (facts.class f.method (Local k)) written.0 written.1))
+      (writes_has (facts.class f.method (Local k)) written.0 written.1))
       (λ kept. has-later store y.store colour (region_in (facts.class f.method (Local k))) v gone.extends
-          (coloured.locals k v kept.1 (owes.lives k live kept.0)))
+      (coloured.locals k v kept.1 (owes.lives k live kept.0)))
       (written_found (λ i s. WritesFrom point (facts.class f.method (Local i)) s) from e.writes f.locals k v owes.writes found)
 
   depth_is : length frame.stack ≡ length e.gives + (length f.stack - e.takes)
@@ -171,8 +171,8 @@ module _ (p : Program) (facts : Facts) (f : Frame) (callers : List Frame) (at : 
   given_goes n v s is same node =
       has_if_reference y.store colour (region_in (facts.class f.method (given point e next n))) v
       (λ leads. subst (λ w. HasColour y.store colour (region_in (facts.class f.method (given point e next n))) w) same
-          (source_gives p facts f callers at store colour coloured home y made gone (facts.class f.method (given point e next n)) s
-          (owes.gives n s is (node leads)) (all_at (ReadAgrees p.outline store f.stack) e.gives n s reads is)))
+      (source_gives p facts f callers at store colour coloured home y made gone (facts.class f.method (given point e next n)) s
+      (owes.gives n s is (node leads)) (all_at (ReadAgrees p.outline store f.stack) e.gives n s reads is)))
 
   stays_goes : (n m : ℕ) (v : Value) → n ≡ length e.gives + m → slice_get f.stack (e.takes + m) ≡ Some v
       → (IsReference v → IsNode point.method (given point e next n))
@@ -184,11 +184,11 @@ module _ (p : Program) (facts : Facts) (f : Frame) (callers : List Frame) (at : 
       let level : length e.gives + (length f.stack - e.takes) - 1 - n ≡ depth = omega arith in
       has_if_reference y.store colour (region_in (facts.class f.method (given point e next n))) v
       (λ leads.
-          let new_node : IsNode point.method (Slot next depth) = subst (λ d. IsNode point.method (Slot next d)) level (node leads) in
-          let same : point.class (Slot f.item depth) ≡ point.class (Slot next depth) =
-          owes.stays depth below (at.is_node (e.takes + m) v found leads) new_node in
-          subst (λ c. HasColour y.store colour (region_in c) v) (same ∙ ap (λ d. facts.class f.method (Slot next d)) (sym level))
-          (has-later store y.store colour (region_in (facts.class f.method (Slot f.item depth))) v gone.extends (coloured.words (e.takes + m) v found)))
+      let new_node : IsNode point.method (Slot next depth) = subst (λ d. IsNode point.method (Slot next d)) level (node leads) in
+      let same : point.class (Slot f.item depth) ≡ point.class (Slot next depth) =
+      owes.stays depth below (at.is_node (e.takes + m) v found leads) new_node in
+      subst (λ c. HasColour y.store colour (region_in c) v) (same ∙ ap (λ d. facts.class f.method (Slot next d)) (sym level))
+      (has-later store y.store colour (region_in (facts.class f.method (Slot f.item depth))) v gone.extends (coloured.words (e.takes + m) v found)))
 
   word_goes : Goes p facts frame → (n : ℕ) (v : Value) → slice_get frame.stack n ≡ Some v
       → HasColour y.store colour (region_in (facts.class f.method (node_of_word frame n))) v
@@ -200,10 +200,10 @@ module _ (p : Program) (facts : Facts) (f : Frame) (callers : List Frame) (at : 
       subst (λ a. HasColour y.store colour (region_in (facts.class f.method a)) v) (sym (node_is n))
       (⊎_elim
       (λ front. let s : (x : Source) × (slice_get e.gives n ≡ Some x) × (value_of from x ≡ v) = map_found (value_of from) e.gives n v front.1 in
-          given_goes n v s.0 s.1 s.2 node)
+      given_goes n v s.0 s.1 s.2 node)
       (λ back. let is : length (map (value_of from) e.gives) ≡ length e.gives = simp length-map in
-          let place : n ≡ length (map (value_of from) e.gives) + back.0 = back.1 in
-          stays_goes n back.0 v (omega arith) (drop_found e.takes f.stack back.0 v back.2) node)
+      let place : n ≡ length (map (value_of from) e.gives) + back.0 = back.1 in
+      stays_goes n back.0 v (omega arith) (drop_found e.takes f.stack back.0 v back.2) node)
       (append_found (map (value_of from) e.gives) (drop e.takes f.stack) n v found))
 
   -- the frame is coloured at the item where it goes on

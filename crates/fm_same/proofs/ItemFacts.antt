@@ -1,10 +1,10 @@
 -- What is known at an item where a frame goes on: its pairs join classes, and its row says which words are references.
-use Rattle.std.proofs.Common.{◌≡◌, ◌≢◌, ℕ, zero, suc, ◌+◌, ◌-◌, ◌<◌, ◌≤◌, ◌⊎◌, ◌&&◌, ◌||◌, not, Bool, true, false, List, [], ◌∷◌, ◌++◌, length, reverse, Option, Some, None, option_and_then, IsSomeAnd, Contains, refl, sym, ◌∙◌, ap, subst, inl, inr, slice_get, slice_index_or, arith, ⊎_elim}
+use Rattle.std.proofs.Common.{◌≡◌, ℕ, zero, suc, ◌+◌, ◌-◌, ◌<◌, ◌≤◌, ◌⊎◌, ◌&&◌, ◌||◌, not, true, false, List, [], ◌∷◌, length, reverse, Option, Some, None, option_and_then, IsSomeAnd, Contains, refl, sym, ◌∙◌, ap, subst, inl, inr, slice_get, slice_index_or, arith}
 use Rattle.std.specs.List.{AllByRecursion, AllZip}
 use Rattle.std.proofs.lemmas.Bool.{and_parts, false≢true}
 use Rattle.std.proofs.lemmas.List.{get_or-reverse, length-reverse}
-use Rattle.std.proofs.lemmas.Option.{get_or_from_slice_get, none-some, same_Some, slice_get-get_or, slice_get_within}
-use Rattle.fm_base.proofs.OptionFacts.{IsSomeAnd-at_some, Some-from_some_and}
+use Rattle.std.proofs.lemmas.Option.{same_Some, slice_get-get_or, slice_get_within}
+use Rattle.fm_base.proofs.OptionFacts.{Some-from_some_and}
 use Rattle.fm_code.specs.Edges.{insn_of, IsNormalEdge}
 use Rattle.fm_code.specs.Live.{stores_over}
 use Rattle.fm_code.specs.declared.code_array.Code.{Code}
@@ -12,22 +12,22 @@ use Rattle.fm_code.specs.declared.instructions.Insn.{Insn}
 use Rattle.fm_conn.specs.Facts.{AreFacts, Facts}
 use Rattle.fm_conn.specs.Links.{Linked}
 use Rattle.fm_conn.specs.Nodes.{depth_at, IsNode, Local, Node, Slot, TypedMethod}
-use Rattle.fm_conn.specs.Pairs.{CalledAt, CaughtAt, JoinedAt, PairAt, StandsAt, StaysAt}
+use Rattle.fm_conn.specs.Pairs.{CalledAt, CaughtAt, JoinedAt, StandsAt, StaysAt}
 use Rattle.fm_conn.specs.Rows as pairs
 use Rattle.fm_types.specs.Fits.{fits}
 use Rattle.fm_types.specs.States.{all_fit, is_reference, state_fits, TypeState}
 use Rattle.fm_types.specs.Rows.{row_after}
-use Rattle.fm_types.specs.Typed.{after_item, FitsAt, made_at, MeetsItem, state_at, use_by}
+use Rattle.fm_types.specs.Typed.{FitsAt, made_at, MeetsItem, state_at, use_by}
 use Rattle.fm_types.specs.declared.slots.Slot as slots
 use Rattle.fm_types.specs.declared.slots.Slot.TheVariants as slot
 use Rattle.fm_types.proofs.StateOrder.{all_fit-parts, Fitting}
 use Rattle.fm_types.proofs.Zips.{zip-length}
 use Rattle.fm_world.specs.Programs.{code_at, Outline, Program}
 use Rattle.fm_world.specs.declared.uses.Use.{Use}
-use Rattle.fm_frames.specs.Effects.{Effect, Source, Plain, OfOperand, OfLocal, LocalPlus, OfPlace, OfStatic, OfMade, OfLiteral, SameOperands}
+use Rattle.fm_frames.specs.Effects.{Effect, Source}
 use Rattle.fm_frames.specs.States.{Frame}
 use Rattle.fm_same.specs.Advances.{point_of}
-use Rattle.fm_same.specs.Evenness.{ActsEvenly, ComesFrom, depth_after, EndsEvenly, given, GoesOn, is_written, LeadsRight, Obeys, Point, WritesFrom}
+use Rattle.fm_same.specs.Evenness.{ActsEvenly, ComesFrom, EndsEvenly, given, is_written, LeadsRight, Obeys, Point, WritesFrom}
 use Rattle.fm_same.specs.Standing.{Goes, method_of}
 use Rattle.fm_same.proofs.CallRegions.{state_found}
 use Rattle.fm_same.proofs.EdgesKeep.{live_before}
@@ -114,8 +114,8 @@ module _ (p : Program) (facts : Facts) (exact : AreFacts p facts) (f : Frame) (i
   abbrev pub used : Use
   used = use_by p f.method i
 
-  level : depth_at x f.item ≡ length f.stack
-  level = depth_is p facts f h.code f.item h.state h.state_is ∙ sym h.depth
+  pub depth_level : depth_at x f.item ≡ length f.stack
+  depth_level = depth_is p facts f h.code f.item h.state h.state_is ∙ sym h.depth
 
   -- ---- pairs
 
@@ -135,7 +135,7 @@ module _ (p : Program) (facts : Facts) (exact : AreFacts p facts) (f : Frame) (i
       → IsNode x (Slot f.item depth) → IsNode x (Slot next depth)
       → facts.class f.method (Slot f.item depth) ≡ facts.class f.method (Slot next depth)
   stays_class depth next lt edge first second =
-      let same = level in
+      let same = depth_level in
       pair_at (Slot f.item depth) (Slot next depth) first second
       (inl (record { depth = depth; next = next; below = omega (arith, same); edge = edge; before = refl; after = refl }))
 
@@ -146,12 +146,12 @@ module _ (p : Program) (facts : Facts) (exact : AreFacts p facts) (f : Frame) (i
 
   -- what is taken, counted from the top
   pub taken_word : (n : ℕ) → StandsAt x f.item i (pairs.Taken n) (Slot f.item (length f.stack - 1 - n))
-  taken_word n = ap (λ depth. Slot f.item (depth - 1 - n)) (sym level)
+  taken_word n = ap (λ depth. Slot f.item (depth - 1 - n)) (sym depth_level)
 
   -- what is given, by how many given words lie below it
   pub given_word : (next n : ℕ) → IsNormalEdge h.code f.item next
       → StandsAt x f.item i (pairs.Given n) (Slot next (length f.stack - pairs.words_taken p.outline used i + n))
-  given_word next n edge = (next, (edge, ap (λ depth. Slot next (depth - pairs.words_taken p.outline used i + n)) (sym level)))
+  given_word next n edge = (next, (edge, ap (λ depth. Slot next (depth - pairs.words_taken p.outline used i + n)) (sym depth_level)))
 
   -- ---- words of the state
 

@@ -20,3 +20,5 @@ pub mod MoveRows
 pub mod ObjectRows
 pub mod EndRows
 pub mod ArrayRows
+pub mod NativeRows
+pub mod Owing

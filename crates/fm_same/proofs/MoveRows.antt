@@ -1,9 +1,8 @@
 -- The rows of constants, locals and moves of the stack: what they give is of the class of what they take or load.
-use Rattle.std.proofs.Common.{◌≡◌, ◌≢◌, ℕ, ℤ, zero, suc, ◌+◌, ◌-◌, ◌<◌, ◌≤◌, ◌⊎◌, ◌==◌, ◌||◌, not, Bool, true, false, cond, List, [], ◌∷◌, ◌++◌, length, map, Option, Some, None, option_and_then, codes, IsSomeAnd, Contains, refl, sym, ◌∙◌, ap, subst, inl, inr, slice_get, slice_index_or, nat_lt, arith, ⊎_elim}
-use Rattle.std.specs.List.{AllByRecursion}
+use Rattle.std.proofs.Common.{◌≡◌, ℕ, ℤ, zero, suc, ◌+◌, ◌-◌, ◌<◌, ◌==◌, ◌||◌, Bool, true, false, cond, List, [], ◌∷◌, ◌++◌, length, map, Option, Some, None, option_and_then, Contains, refl, sym, ◌∙◌, ap, subst, slice_get, arith}
 use Rattle.std.proofs.lemmas.Bool.{false≢true}
 use Rattle.std.proofs.lemmas.List.{length-map}
-use Rattle.std.proofs.lemmas.Option.{none-some, same_Some}
+use Rattle.std.proofs.lemmas.Option.{same_Some}
 use Rattle.fm_base.proofs.OptionFacts.{Some-from_some_and}
 use Rattle.fm_code.specs.Edges.{falls_through, IsNormalEdge}
 use Rattle.fm_code.specs.Live.{stores_over}
@@ -12,27 +11,27 @@ use Rattle.fm_code.specs.declared.instructions.Insn.TheVariants as insn
 use Rattle.fm_code.specs.declared.operations.Reg.{Reg}
 use Rattle.fm_code.specs.declared.operations.Reg.TheVariants as reg
 use Rattle.fm_conn.specs.Facts.{AreFacts, Facts}
-use Rattle.fm_conn.specs.Nodes.{Global, IsNode, Local, Node, Slot}
+use Rattle.fm_conn.specs.Nodes.{IsNode, Local, Slot}
 use Rattle.fm_conn.specs.Pairs.{StandsAt}
 use Rattle.fm_conn.specs.Rows as pairs
-use Rattle.fm_types.specs.Moves.{Moves, moves_of}
+use Rattle.fm_types.specs.Moves.{Moves}
 use Rattle.fm_types.specs.NumberRows.{is_int, load_row, loaded, store_row, suits}
 use Rattle.fm_types.specs.Rows.{row_after}
 use Rattle.fm_types.specs.States.{is_long, is_reference, pushed, TypeState}
-use Rattle.fm_types.specs.Typed.{FitsAt, made_at}
+use Rattle.fm_types.specs.Typed.{FitsAt}
 use Rattle.fm_types.specs.declared.slots.Slot as slots
 use Rattle.fm_types.specs.declared.slots.Slot.TheVariants as slot
-use Rattle.fm_world.specs.Programs.{Outline, Program}
+use Rattle.fm_world.specs.Programs.{Program}
 use Rattle.fm_world.specs.declared.uses.Use.{Use}
 use Rattle.fm_world.specs.declared.uses.Use.TheVariants as resolved
-use Rattle.fm_frames.specs.Effects.{Effect, Source, Plain, OfOperand, OfLocal, LocalPlus, OfPlace, OfStatic, OfMade, OfLiteral, SameOperands, int_word, long_words, null_word, stuck, words}
-use Rattle.fm_frames.specs.NumberRows.{constant_effect, load_effect, move_effect, moved_words, store_effect}
+use Rattle.fm_frames.specs.Effects.{Effect, Source, Plain, OfOperand, OfLocal, OfLiteral, int_word, long_words, null_word, words}
+use Rattle.fm_frames.specs.NumberRows.{constant_effect, load_effect, move_effect, store_effect}
 use Rattle.fm_frames.specs.States.{Frame}
 use Rattle.fm_frames.specs.declared.values.Value.TheVariants as value
-use Rattle.fm_same.specs.Evenness.{ComesFrom, depth_after, given, is_written, Obeys, word}
+use Rattle.fm_same.specs.Evenness.{ComesFrom, depth_after, given, word}
 use Rattle.fm_same.proofs.EdgesKeep.{live_loaded}
 use Rattle.fm_same.proofs.GoesOnKeep.{map_found}
-use Rattle.fm_same.proofs.ItemFacts.{AtInsn, GivesEvenly, given_reference, given_word, goes_obey, joined_class, point, row, Row, slot_of_node, taken_word, used, x}
+use Rattle.fm_same.proofs.ItemFacts.{AtInsn, GivesEvenly, given_reference, given_word, goes_obey, joined_class, point, row, slot_of_node, taken_word, used, x}
 use Rattle.fm_same.proofs.PlainRows.{Owes, stuck_obeys, words_obey}
 
 -- ---- one and two words
@@ -97,9 +96,9 @@ module _ (p : Program) (facts : Facts) (exact : AreFacts p facts) (f : Frame) wh
   unfolding pairs.words_taken
   nop_obeys h = words_obey p facts exact f insn.Nop h (λ k. refl) refl 0 [] tt (omega arith)
 
-  pub null_obeys : (h : AtInsn p facts f insn.Null) → Owes p facts exact f insn.Null h (words 0 null_word)
+  pub null_constant_obeys : (h : AtInsn p facts f insn.Null) → Owes p facts exact f insn.Null h (words 0 null_word)
   unfolding pairs.words_taken
-  null_obeys h = words_obey p facts exact f insn.Null h (λ k. refl) refl 0 null_word (refl, tt) (omega arith)
+  null_constant_obeys h = words_obey p facts exact f insn.Null h (λ k. refl) refl 0 null_word (refl, tt) (omega arith)
 
   pub const_obeys : (n : ℤ) (h : AtInsn p facts f (insn.Const n)) → Owes p facts exact f (insn.Const n) h (words 0 (int_word n))
   unfolding pairs.words_taken
@@ -134,7 +133,7 @@ module _ (p : Program) (facts : Facts) (exact : AreFacts p facts) (f : Frame) wh
       (gives_one p facts exact f i h e 0 (OfLocal k) refl (λ next edge there. (
         live_loaded p facts exact f.method h.code h.code_is f.item k h.insn_is,
         joined_class p facts exact f i h (pairs.InLocal k) (pairs.Given 0) (Local k) (given (point p facts exact f i h) e next 0) (0, omega arith, refl) refl
-        (given_stands p facts exact f i h e next 0 0 edge refl refl) tt there,
+            (given_stands p facts exact f i h e next 0 0 edge refl refl) tt there,
       )))
       tt (λ l unwritten. refl) (omega arith)
 
@@ -179,8 +178,8 @@ module _ (p : Program) (facts : Facts) (exact : AreFacts p facts) (f : Frame) wh
       goes_obey p facts exact f i h e 0 tt refl tt
       (gives_one p facts exact f i h e 0 (OfLocal k) refl
       (λ next edge there. absurd (not_given p facts exact f i h e after.0 next 0 pushed_by.found (after.2 next edge)
-          (ap (λ xs. slice_get xs 0) pushed_by.stack) (int_plain pushed_by.found pushed_by.suited)
-          (let level = h.depth in ap length pushed_by.stack ∙ omega (arith, level)) there)))
+      (ap (λ xs. slice_get xs 0) pushed_by.stack) (int_plain pushed_by.found pushed_by.suited)
+      (let level = h.depth in ap length pushed_by.stack ∙ omega (arith, level)) there)))
       tt (λ l unwritten. refl) (omega arith)
 
   load_long : (k : ℕ) (h : AtInsn p facts f (insn.Load reg.Long k))
@@ -196,8 +195,8 @@ module _ (p : Program) (facts : Facts) (exact : AreFacts p facts) (f : Frame) wh
       goes_obey p facts exact f i h e 0 tt refl tt
       (gives_two p facts exact f i h e 0 (Plain value.Top) (OfLocal k) refl (λ next edge there. tt)
       (λ next edge there. absurd (not_given p facts exact f i h e after.0 next 1 pushed_by.found (after.2 next edge)
-          (ap (λ xs. slice_get xs 1) pushed_by.stack) (long_plain pushed_by.found pushed_by.suited)
-          (let level = h.depth in ap length pushed_by.stack ∙ omega (arith, level)) there)))
+      (ap (λ xs. slice_get xs 1) pushed_by.stack) (long_plain pushed_by.found pushed_by.suited)
+      (let level = h.depth in ap length pushed_by.stack ∙ omega (arith, level)) there)))
       tt (λ l unwritten. refl) (omega arith)
 
   pub load_obeys : (r : Reg) (k : ℕ) (h : AtInsn p facts f (insn.Load r k)) → Owes p facts exact f (insn.Load r k) h (load_effect r k)
@@ -240,9 +239,11 @@ module _ (p : Program) (facts : Facts) (exact : AreFacts p facts) (f : Frame) wh
   unfolding pairs.words_taken pairs.joined_by store_effect
   store_reference k h =
       let i : Insn = insn.Store reg.Ref k in
-      goes_obey p facts exact f i h (store_effect reg.Ref k) 0 tt refl tt (λ next edge q s at node. absurd (cc))
-      ((λ there. joined_class p facts exact f i h (pairs.Taken 0) (pairs.InLocal k) (word (point p facts exact f i h) 0) (Local k) (0, omega arith, refl)
-          (taken_word p facts exact f i h 0) refl there tt), tt)
+      goes_obey p facts exact f i h (store_effect reg.Ref k) 0 tt refl tt (λ next edge q s at node. absurd (cc)) (
+        (λ there. joined_class p facts exact f i h (pairs.Taken 0) (pairs.InLocal k) (word (point p facts exact f i h) 0) (Local k) (0, omega arith, refl)
+            (taken_word p facts exact f i h 0) refl there tt),
+        tt,
+      )
       (λ l unwritten. unwritten_one (k == l) false unwritten) (omega arith)
 
   store_int : (k : ℕ) (h : AtInsn p facts f (insn.Store reg.Int k)) → Owes p facts exact f (insn.Store reg.Int k) h (store_effect reg.Int k)
@@ -298,16 +299,16 @@ module _ (p : Program) (facts : Facts) (exact : AreFacts p facts) (f : Frame) wh
       let e : Effect = words m.takes (map OfOperand m.gives) in
       goes_obey p facts exact f i h e 0 tt falls tt
       (λ next edge q s at node.
-          let found : (n : ℕ) × (slice_get m.gives q ≡ Some n) × (OfOperand n ≡ s) = map_found OfOperand m.gives q s at in
-          let pair : (k : ℕ) × (q + suc k ≡ length m.gives) × Contains (pairs.moved_words m.gives) (pairs.Taken found.0, pairs.Given k) =
-          moved_has m.gives q found.0 found.1 in
-          let size : length (map OfOperand m.gives) ≡ length m.gives = simp length-map in
-          let place : q + suc pair.0 ≡ length (map OfOperand m.gives) = pair.1 ∙ sym size in
-          subst (λ t. ComesFrom (point p facts exact f i h) 0 (facts.class f.method (given (point p facts exact f i h) e next q)) t) found.2
-          (λ there. joined_class p facts exact f i h (pairs.Taken found.0) (pairs.Given pair.0) (word (point p facts exact f i h) found.0)
-              (given (point p facts exact f i h) e next q)
-              (subst (λ rows. Contains rows (pairs.Taken found.0, pairs.Given pair.0)) (sym joins) pair.2)
-              (taken_word p facts exact f i h found.0) (given_stands p facts exact f i h e next q pair.0 edge (sym takes) place) there node))
+      let found : (n : ℕ) × (slice_get m.gives q ≡ Some n) × (OfOperand n ≡ s) = map_found OfOperand m.gives q s at in
+      let pair : (k : ℕ) × (q + suc k ≡ length m.gives) × Contains (pairs.moved_words m.gives) (pairs.Taken found.0, pairs.Given k) =
+      moved_has m.gives q found.0 found.1 in
+      let size : length (map OfOperand m.gives) ≡ length m.gives = simp length-map in
+      let place : q + suc pair.0 ≡ length (map OfOperand m.gives) = pair.1 ∙ sym size in
+      subst (λ t. ComesFrom (point p facts exact f i h) 0 (facts.class f.method (given (point p facts exact f i h) e next q)) t) found.2
+      (λ there. joined_class p facts exact f i h (pairs.Taken found.0) (pairs.Given pair.0) (word (point p facts exact f i h) found.0)
+      (given (point p facts exact f i h) e next q)
+      (subst (λ rows. Contains rows (pairs.Taken found.0, pairs.Given pair.0)) (sym joins) pair.2)
+      (taken_word p facts exact f i h found.0) (given_stands p facts exact f i h e next q pair.0 edge (sym takes) place) there node))
       tt (λ k unwritten. keeps k) (omega (arith, takes))
 
   pub pop_obeys : (h : AtInsn p facts f insn.Pop) → Owes p facts exact f insn.Pop h (move_effect insn.Pop)

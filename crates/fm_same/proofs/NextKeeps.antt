@@ -1,5 +1,6 @@
 -- Whatever comes next after the actions of a step, the frames that follow are coloured.
-use Rattle.std.proofs.Common.{◌≡◌, ◌≢◌, ℕ, zero, suc, ◌+◌, ◌-◌, ◌<◌, ◌≤◌, ◌⊎◌, not, Bool, true, false, cond, if◌then◌else◌, List, [], ◌∷◌, ◌++◌, length, take, drop, reverse, Option, Some, None, option_and_then, refl, sym, ◌∙◌, ap, subst, inl, inr, slice_get, slice_index_or, arith, ⊎_elim}
+use Rattle.std.proofs.Common.{◌≡◌, ℕ, ◌+◌, ◌-◌, ◌<◌, not, Bool, true, false, cond, if◌then◌else◌, List, [], ◌∷◌, ◌++◌, length, take, drop, reverse, Option, Some, None, option_and_then, refl, sym, ◌∙◌, ap, subst, inl, slice_index_or, min, arith, ⊎_elim, length-drop, length-take}
+use Rattle.std.proofs.lemmas.List.{length-reverse}
 use Rattle.std.specs.List.{AllByRecursion}
 use Rattle.std.proofs.lemmas.Bool.{false≢true}
 use Rattle.std.proofs.lemmas.Option.{get_or_from_slice_get, same_Some, slice_get-get_or}
@@ -10,22 +11,22 @@ use Rattle.fm_code.specs.SpellsCode.{targets_of}
 use Rattle.fm_code.specs.declared.code_array.Code.{Code}
 use Rattle.fm_code.specs.declared.instructions.Insn.{Insn}
 use Rattle.fm_conn.specs.Facts.{AreFacts, Facts}
-use Rattle.fm_conn.specs.Nodes.{Global}
+use Rattle.fm_conn.specs.Nodes.{depth_at, Global}
 use Rattle.fm_world.specs.Programs.{code_at, Outline, Program}
 use Rattle.fm_frames.specs.Acts.{same_cell, Sources, value_of}
-use Rattle.fm_frames.specs.Effects.{Effect, Next, Falls, Jumps, JumpsIfSame, Calls, Returns, Throws, Enters, Exits, Faults, Source, Plain, OfOperand, OfLocal, LocalPlus, OfPlace, OfStatic, OfMade, OfLiteral, SameOperands}
+use Rattle.fm_frames.specs.Effects.{Effect, Next, Falls, Jumps, JumpsIfSame, Calls, Returns, Throws, Enters, Exits, Faults, Source, OfOperand, OfMade}
 use Rattle.fm_frames.specs.States.{Areas, Frame, State, word_at}
 use Rattle.fm_frames.specs.Steps.{caught, Caught, continued, fault_of, InFrames, insn_at, is_start, Leaves, new_frame, returned, start_frames, stopped, target_at, thrown_by, type_at}
 use Rattle.fm_frames.specs.Steps as steps
 use Rattle.fm_frames.specs.declared.ends.Ended.TheVariants as end
 use Rattle.fm_frames.specs.declared.values.Value.{Value}
 use Rattle.fm_same.specs.Advances.{point_of}
-use Rattle.fm_same.specs.Colours.{AreAreasColoured, AreFramesColoured, Colour, HasColour}
+use Rattle.fm_same.specs.Colours.{AreAreasColoured, AreFramesColoured, Colour, HasColour, IsFrameColoured}
 use Rattle.fm_same.specs.Evenness.{ComesFrom, EndsEvenly, GoesOn, IsGoing, IsObjectSource, LeadsRight, Point, ReadAgrees}
 use Rattle.fm_same.specs.Regions.{Everywhere, region}
-use Rattle.fm_same.specs.Standing.{Called, Goes, Stand, StandBelow, StandsAt, Waits}
+use Rattle.fm_same.specs.Standing.{Called, Goes, method_of, Stand, StandBelow, StandsAt, Waits}
 use Rattle.fm_same.proofs.ActsKeep.{Went}
-use Rattle.fm_same.proofs.CallsKeep.{called, called_coloured, calling, calling_coloured, starts_coloured}
+use Rattle.fm_same.proofs.CallsKeep.{called_coloured, calling_coloured, no_words, start_coloured, starts_coloured}
 use Rattle.fm_same.proofs.EdgesKeep.{edge_to_next, edge_to_target, item_with_state}
 use Rattle.fm_same.proofs.GoesOnKeep.{frame_goes, frames-later}
 use Rattle.fm_same.proofs.RegionLemmas.{region_global}
@@ -158,17 +159,37 @@ module _ (p : Program) (facts : Facts) (exact : AreFacts p facts) (f : Frame) (c
   either_way false one other first second stands = second stands
 
   -- to a method
-  calls : (m : ℕ) → is_start p.outline m ≡ false
+  -- a frame that starts a class is called with nothing: the one below keeps its stack
+  nothing_taken : length f.stack ≡ depth_at (method_of p facts f at.code) f.item → Goes p facts (record f { stack = drop e.takes f.stack })
+      → reverse (take e.takes f.stack) ≡ []
+  nothing_taken depth goes =
+      let same : goes.at.code ≡ at.code = same_Some goes.at.code at.code (sym goes.at.code_is ∙ at.code_is) in
+      let level : depth_at (method_of p facts f goes.at.code) f.item ≡ depth_at (method_of p facts f at.code) f.item =
+      ap (λ code. depth_at (method_of p facts f code) f.item) same in
+      let kept : length (drop e.takes f.stack) ≡ depth_at (method_of p facts f goes.at.code) f.item = goes.depth in
+      let left : length (drop e.takes f.stack) ≡ length f.stack - e.takes = length-drop e.takes f.stack in
+      let count : length (take e.takes f.stack) ≡ min e.takes (length f.stack) = length-take e.takes f.stack in
+      let size : length (reverse (take e.takes f.stack)) ≡ length (take e.takes f.stack) = length-reverse (take e.takes f.stack) in
+      no_words (reverse (take e.takes f.stack)) (omega arith)
+
+  calls : length f.stack ≡ depth_at (method_of p facts f at.code) f.item → (m : ℕ)
       → Stand p facts (new_frame p m (reverse (take e.takes f.stack)) ∷ record f { stack = drop e.takes f.stack } ∷ callers)
       → To (new_frame p m (reverse (take e.takes f.stack)) ∷ record f { stack = drop e.takes f.stack } ∷ callers)
-  calls m no_start stands = ⊎_elim
-      (λ (is : (is_start p.outline m ≡ false) × Called p facts (new_frame p m (reverse (take e.takes f.stack))) (record f { stack = drop e.takes f.stack })).
-          with_frames (new_frame p m (reverse (take e.takes f.stack)) ∷ record f { stack = drop e.takes f.stack } ∷ callers) (
+  calls depth m stands =
+      let callee : Frame = new_frame p m (reverse (take e.takes f.stack)) in
+      let caller : Frame = record f { stack = drop e.takes f.stack } in
+      ⊎_elim
+      (λ (is : (is_start p.outline m ≡ false) × Called p facts callee caller).
+          with_frames (callee ∷ caller ∷ callers) (
             called_coloured p facts exact f callers at x.areas.store colour frames_now.0 m e.takes stands.0.at.code stands.0.at.code_is is.1,
             (calling_coloured p facts exact f callers at x.areas.store colour frames_now.0 m e.takes, frames_now.1),
           ))
-      (λ (waits : (is_start p.outline m ≡ true) × Waits p facts (new_frame p m (reverse (take e.takes f.stack))) (record f { stack = drop e.takes f.stack })).
-          absurd (false≢true (sym no_start ∙ waits.0)))
+      (λ (waits : (is_start p.outline m ≡ true) × Waits p facts callee caller).
+          with_frames (callee ∷ caller ∷ callers) (
+            subst (λ words. IsFrameColoured p.outline facts x.areas.store colour (new_frame p m words) (caller ∷ callers))
+            (sym (nothing_taken depth waits.1.goes)) (start_coloured p facts x.areas.store colour m (caller ∷ callers)),
+            (calling_coloured p facts exact f callers at x.areas.store colour frames_now.0 m e.takes, frames_now.1),
+          ))
       stands.1.0
 
   -- out of the frame
@@ -201,7 +222,7 @@ returns_to p facts exact f g callers at below x colour coloured shared home i n 
     record { other = colour; frames_coloured = coloured.1; areas_coloured = shared; advances = λ birth lt. inl refl }
 returns_to p facts exact f g callers at below x colour coloured shared home i n evenly false is stands = ⊎_elim
     (λ (call : (is_start p.outline f.method ≡ false) × Called p facts f g).
-        return_kept p facts exact f g callers at call.1 x.areas colour coloured.0 coloured.1.0 coloured.1.1 shared n evenly stands.0)
+    return_kept p facts exact f g callers at call.1 x.areas colour coloured.0 coloured.1.0 coloured.1.1 shared n evenly stands.0)
     (λ (waits : (is_start p.outline f.method ≡ true) × Waits p facts f g). absurd (false≢true (sym is ∙ waits.0)))
     below.0
 
@@ -220,34 +241,34 @@ module _ (p : Program) (facts : Facts) (exact : AreFacts p facts) (f : Frame) (c
   abbrev follow : Next → State
   follow nx = followed p (from p facts exact f callers at below store colour coloured home x frames_are made gone e reads) e f callers x nx
 
-  pub next_kept : (nx : Next) → LeadsRight at.insn nx
+  pub next_kept : length f.stack ≡ depth_at (method_of p facts f at.code) f.item → (nx : Next) → LeadsRight at.insn nx
       → ((next : ℕ) → IsGoing nx → IsNormalEdge at.code f.item next → GoesOn (point_of p facts f at.code) home e next)
       → EndsEvenly p.outline (point_of p facts f at.code) home at.insn nx → Stand p facts (follow nx).frames
       → Kept p facts (f ∷ callers) colour x.areas.store.births (follow nx).frames (follow nx).areas
-  next_kept Falls leads goes ends stands =
+  next_kept depth Falls leads goes ends stands =
       falls p facts exact f callers at below store colour coloured home x frames_are made gone e reads (λ next edge. goes next tt edge) leads stands.0
-  next_kept (Jumps n) leads goes ends stands =
+  next_kept depth (Jumps n) leads goes ends stands =
       jumps p facts exact f callers at below store colour coloured home x frames_are made gone e reads (λ next edge. goes next tt edge) n leads stands.0
-  next_kept (JumpsIfSame same) leads goes ends stands =
+  next_kept depth (JumpsIfSame same) leads goes ends stands =
       let is_same : Bool = same_cell (word_at f.stack 0) (word_at f.stack 1) in
       either_way p facts exact f callers at below store colour coloured home x frames_are made gone e reads
       (if same then is_same else not is_same) (target_at p f 0) (f.item + 1)
       (jumps p facts exact f callers at below store colour coloured home x frames_are made gone e reads (λ next edge. goes next tt edge) 0 leads.0)
       (falls p facts exact f callers at below store colour coloured home x frames_are made gone e reads (λ next edge. goes next tt edge) leads.1)
       stands.0
-  next_kept (Calls m) leads goes ends stands =
-      calls p facts exact f callers at below store colour coloured home x frames_are made gone e reads m ends stands
-  next_kept (Returns n) leads goes ends stands =
+  next_kept depth (Calls m) leads goes ends stands =
+      calls p facts exact f callers at below store colour coloured home x frames_are made gone e reads depth m stands
+  next_kept depth (Returns n) leads goes ends stands =
       returns_kept p facts exact f callers at below x colour
       (frames_now p facts exact f callers at below store colour coloured home x frames_are made gone e reads) gone.areas home at.insn n ends
       (stays p facts exact f callers at below store colour coloured home x frames_are made gone e reads) stands
-  next_kept (Throws s) leads goes ends stands =
+  next_kept depth (Throws s) leads goes ends stands =
       throws p facts exact f callers at below store colour coloured home x frames_are made gone e reads s ends.0 ends.1 ends.2
       (caught p (type_at p.outline x.areas.store (value_of (from p facts exact f callers at below store colour coloured home x frames_are made gone e reads) s))
       (value_of (from p facts exact f callers at below store colour coloured home x frames_are made gone e reads) s) (f ∷ callers)) refl stands
-  next_kept (Enters methods) leads goes ends stands =
+  next_kept depth (Enters methods) leads goes ends stands =
       with_frames p facts exact f callers at below store colour coloured home x frames_are made gone e reads (start_frames p (reverse methods) ++ f ∷ callers)
       (starts_coloured p facts x.areas.store colour (reverse methods) (f ∷ callers)
       (frames_now p facts exact f callers at below store colour coloured home x frames_are made gone e reads))
-  next_kept (Exits n) leads goes ends stands = stays p facts exact f callers at below store colour coloured home x frames_are made gone e reads
-  next_kept (Faults s) leads goes ends stands = stays p facts exact f callers at below store colour coloured home x frames_are made gone e reads
+  next_kept depth (Exits n) leads goes ends stands = stays p facts exact f callers at below store colour coloured home x frames_are made gone e reads
+  next_kept depth (Faults s) leads goes ends stands = stays p facts exact f callers at below store colour coloured home x frames_are made gone e reads

@@ -1,14 +1,11 @@
 -- The rows of objects, fields, casts and arrays: what is read from an object is of its class, and so is what is put into it; a new object's home is the word
 -- that it becomes.
-use Rattle.std.proofs.Common.{◌≡◌, ◌≢◌, ℕ, ℤ, pos, zero, suc, ◌+◌, ◌-◌, ◌<◌, ◌≤◌, ◌⊎◌, ◌==◌, ◌&&◌, ◌||◌, not, int_lt, Bool, true, false, cond, List, [], ◌∷◌, ◌++◌, length, map, Option, Some, None, option_and_then, option_map, codes, IsSomeAnd, Contains, refl, sym, ◌∙◌, ap, subst, inl, inr, slice_get, slice_index_or, nat_lt, unsigned_abs, arith, eqb-true, ⊎_elim, length-append}
-use Rattle.std.specs.List.{AllByRecursion}
-use Rattle.std.proofs.lemmas.Bool.{and_parts, false≢true}
-use Rattle.std.proofs.lemmas.Option.{none-some, same_Some, slice_get_within}
+use Rattle.std.proofs.Common.{◌≡◌, ℕ, zero, suc, ◌+◌, ◌-◌, ◌<◌, ◌≤◌, Bool, true, false, cond, List, [], ◌∷◌, ◌++◌, length, Option, Some, None, option_and_then, option_map, IsSomeAnd, Contains, refl, sym, ◌∙◌, ap, subst, inl, slice_get, arith, ⊎_elim, length-append}
+use Rattle.std.proofs.lemmas.Bool.{false≢true}
+use Rattle.std.proofs.lemmas.Option.{same_Some, slice_get_within}
 use Rattle.fm_base.proofs.OptionFacts.{Some-from_some_and}
 use Rattle.fm_base.specs.declared.ids.FieldId.{FieldId}
 use Rattle.fm_base.specs.declared.ids.TypeId.{TypeId}
-use Rattle.fm_base.specs.declared.kinds.Base.{Base}
-use Rattle.fm_base.specs.declared.kinds.Base.TheVariants as base
 use Rattle.fm_base.specs.declared.kinds.Kind.{Kind}
 use Rattle.fm_base.specs.declared.kinds.Kind.TheVariants as kind
 use Rattle.fm_base.specs.declared.kinds.TypeRef.{TypeRef}
@@ -18,37 +15,33 @@ use Rattle.fm_code.specs.SpellsCode.{targets_of}
 use Rattle.fm_code.specs.declared.code_array.Code.{Code}
 use Rattle.fm_code.specs.declared.instructions.Insn.{Insn}
 use Rattle.fm_code.specs.declared.instructions.Insn.TheVariants as insn
-use Rattle.fm_code.specs.declared.operations.Elem.{Elem}
-use Rattle.fm_code.specs.declared.operations.Elem.TheVariants as elem
 use Rattle.fm_conn.specs.Facts.{AreFacts, Facts}
-use Rattle.fm_conn.specs.Nodes.{Global, IsNode, Local, Node, Slot}
-use Rattle.fm_conn.specs.Pairs.{StandsAt}
+use Rattle.fm_conn.specs.Nodes.{Global, IsNode}
 use Rattle.fm_conn.specs.Rows as pairs
 use Rattle.fm_types.specs.Fits.{fits}
 use Rattle.fm_types.specs.Named as named_rows
 use Rattle.fm_types.specs.ObjectRows.{get_static_row, put_field_row, put_static_row}
 use Rattle.fm_types.specs.Rows.{row_after}
-use Rattle.fm_types.specs.States.{is_reference, stack_slots, taken, TypeState, worked, worked_below}
+use Rattle.fm_types.specs.States.{is_reference, stack_slots, taken, TypeState}
 use Rattle.fm_types.specs.Typed.{FitsAt}
 use Rattle.fm_types.specs.declared.slots.Slot as slots
 use Rattle.fm_types.specs.declared.slots.Slot.TheVariants as slot
 use Rattle.fm_world.specs.Descriptors.{kind_words}
 use Rattle.fm_world.specs.Members.{slot_of}
 use Rattle.fm_world.specs.Programs.{class_of_type, Outline, Program}
-use Rattle.fm_world.specs.Chains.{is_sub}
 use Rattle.fm_world.specs.declared.uses.Use.{Use}
 use Rattle.fm_world.specs.declared.uses.Use.TheVariants as resolved
-use Rattle.fm_frames.specs.Effects.{Action, Make, Put, SetStatic, Effect, Source, Plain, OfOperand, OfLocal, LocalPlus, OfPlace, OfStatic, OfMade, OfLiteral, SameOperands, acting, int_word, loaded, making, stuck, words}
-use Rattle.fm_frames.specs.ObjectRows.{cast_effect, class_of_field, get_field_effect, get_static_effect, is_a_effect, kind_of_field, made_of, new_effect, put_field_effect, put_static_effect, starting}
-use Rattle.fm_frames.specs.Operands.{on_object, size_of_type, thrown}
-use Rattle.fm_frames.specs.Sights.{Looks, Sight, Thing}
+use Rattle.fm_frames.specs.Effects.{Make, Put, SetStatic, Effect, Plain, OfOperand, OfPlace, OfStatic, OfMade, acting, loaded, making, words}
+use Rattle.fm_frames.specs.ObjectRows.{class_of_field, get_field_effect, get_static_effect, kind_of_field, made_of, new_effect, put_field_effect, put_static_effect, starting}
+use Rattle.fm_frames.specs.Operands.{size_of_type}
+use Rattle.fm_frames.specs.Sights.{Sight}
 use Rattle.fm_frames.specs.States.{Frame}
 use Rattle.fm_frames.specs.declared.values.Value.TheVariants as value
-use Rattle.fm_same.specs.Evenness.{ComesFrom, depth_after, given, LeadsOn, Obeys, word}
-use Rattle.fm_same.proofs.Cases.{by_held, by_if, by_object, by_on_field, by_on_type}
-use Rattle.fm_same.proofs.ItemFacts.{AtInsn, given_word, goes_obey, joined_class, node_of_slot, point, row, stays_class, taken_word, used, x}
-use Rattle.fm_same.proofs.MoveRows.{given_stands, gives_one, gives_two, GivesOne, not_given}
-use Rattle.fm_same.proofs.PlainRows.{faulty_obeys, null_obeys, Owes, plain_from, stuck_obeys, thrown_obeys, words_obey, IsPlainSource}
+use Rattle.fm_same.specs.Evenness.{given, LeadsOn, word}
+use Rattle.fm_same.proofs.Cases.{by_object, by_on_field, by_on_type}
+use Rattle.fm_same.proofs.ItemFacts.{AtInsn, goes_obey, joined_class, node_of_slot, point, row, taken_word, used, x}
+use Rattle.fm_same.proofs.MoveRows.{given_stands, gives_one, gives_two, not_given}
+use Rattle.fm_same.proofs.PlainRows.{faulty_obeys, null_obeys, Owes, stuck_obeys, words_obey}
 
 -- ---- uses
 
@@ -74,8 +67,8 @@ only_next code j next i at none edge =
     let same : found.0 ≡ i = same_Some found.0 i (sym found.1 ∙ at) in
     ⊎_elim
     (λ named.
-        let here : Contains [] next = subst (λ (ts : List ℕ). Contains ts next) (ap targets_of same ∙ none) named in
-        let within : here.0 < 0 = here.1 in absurd (omega arith))
+    let here : Contains [] next = subst (λ (ts : List ℕ). Contains ts next) (ap targets_of same ∙ none) named in
+    let within : here.0 < 0 = here.1 in absurd (omega arith))
     (λ falls. falls.1) found.2
 
 module _ (p : Program) (facts : Facts) (exact : AreFacts p facts) (f : Frame) (i : Insn) (h : AtInsn p facts f i) where
@@ -91,7 +84,7 @@ module _ (p : Program) (facts : Facts) (exact : AreFacts p facts) (f : Frame) (i
       goes_obey p facts exact f i h e (home_of e) (inl refl, tt) falls tt
       (gives_one p facts exact f i h e (home_of e) (OfMade 0) refl
       (λ next edge there. ap (λ n. facts.class f.method (given (point p facts exact f i h) e n 0))
-          (sym (only_next h.code f.item next i h.insn_is none edge))))
+      (sym (only_next h.code f.item next i h.insn_is none edge))))
       tt (λ k unwritten. keeps k) le
 
   -- an element of an operand's object is read, where the pairs join the operand with what is given
@@ -111,8 +104,8 @@ module _ (p : Program) (facts : Facts) (exact : AreFacts p facts) (f : Frame) (i
       goes_obey p facts exact f i h e 0 tt falls tt
       (gives_one p facts exact f i h e 0 (OfPlace operand place (kind.Ref t)) refl
       (λ next edge there taken_node. joined_class p facts exact f i h (pairs.Taken operand) (pairs.Given 0) (word (point p facts exact f i h) operand)
-          (given (point p facts exact f i h) e next 0) (joins t refl) (taken_word p facts exact f i h operand)
-          (given_stands p facts exact f i h e next 0 0 edge taken refl) taken_node there))
+      (given (point p facts exact f i h) e next 0) (joins t refl) (taken_word p facts exact f i h operand)
+      (given_stands p facts exact f i h e next 0 0 edge taken refl) taken_node there))
       tt (λ k unwritten. keeps k) (omega arith)
 
   -- a value is put into an operand's object, where the pairs join both
@@ -124,15 +117,17 @@ module _ (p : Program) (facts : Facts) (exact : AreFacts p facts) (f : Frame) (i
   put_obeys keeps falls takes object place v (kind.Ref t) taken joins =
       let e : Effect = acting takes (Put (OfOperand object) place (kind.Ref t) (OfOperand v) ∷ []) in
       let pair = joins t refl in
-      goes_obey p facts exact f i h e 0
-      ((
-        facts.class f.method (word (point p facts exact f i h) v),
+      goes_obey p facts exact f i h e 0 (
+        (
+          facts.class f.method (word (point p facts exact f i h) v),
+          tt,
+          λ node. joined_class p facts exact f i h (pairs.Taken object) (pairs.Taken v) (word (point p facts exact f i h) object)
+              (word (point p facts exact f i h) v) pair.0 (taken_word p facts exact f i h object) (taken_word p facts exact f i h v) node pair.1.0,
+          (λ node. refl),
+          pair.1,
+        ),
         tt,
-        λ node. joined_class p facts exact f i h (pairs.Taken object) (pairs.Taken v) (word (point p facts exact f i h) object)
-            (word (point p facts exact f i h) v) pair.0 (taken_word p facts exact f i h object) (taken_word p facts exact f i h v) node pair.1.0,
-        (λ node. refl),
-        pair.1,
-      ), tt)
+      )
       falls tt (λ next edge q s at node. absurd (cc)) tt (λ k unwritten. keeps k) taken
   put_obeys keeps falls takes object place v k taken joins =
       goes_obey p facts exact f i h (acting takes (Put (OfOperand object) place k (OfOperand v) ∷ [])) 0 (tt, tt) falls tt
@@ -249,9 +244,9 @@ module _ (p : Program) (facts : Facts) (exact : AreFacts p facts) (f : Frame) wh
       let u : Use = used p facts exact f i h in
       by_on_field (Owes p facts exact f i h) p.outline u _ (stuck_obeys p facts exact f i h)
       (λ m n t is there. by_object (Owes p facts exact f i h) p.outline t s 0 _
-          (null_obeys p facts exact f i h (λ k. refl)) (stuck_obeys p facts exact f i h) (faulty_obeys p facts exact f i h 0)
-          (λ it seen fits_it. loaded_obeys p facts exact f i h (λ k. refl) refl 1 0 (slot_of p.outline.classes m.0) (kind_of_field p.outline m.0) refl
-              (λ ref kind_is. row_there (pairs.is_reference_field p.outline u) _ _ (reference_field p.outline u m n ref is kind_is) (0, omega arith, refl))))
+      (null_obeys p facts exact f i h (λ k. refl)) (stuck_obeys p facts exact f i h) (faulty_obeys p facts exact f i h 0)
+      (λ it seen fits_it. loaded_obeys p facts exact f i h (λ k. refl) refl 1 0 (slot_of p.outline.classes m.0) (kind_of_field p.outline m.0) refl
+      (λ ref kind_is. row_there (pairs.is_reference_field p.outline u) _ _ (reference_field p.outline u m n ref is kind_is) (0, omega arith, refl))))
 
   -- the state after the item's row
   abbrev RowGives : (i : Insn) (h : AtInsn p facts f i) → Option TypeState → Type 0
@@ -277,18 +272,18 @@ module _ (p : Program) (facts : Facts) (exact : AreFacts p facts) (f : Frame) wh
       put_obeys p facts exact f i h (λ l. refl) refl (kind_words k + 1) (kind_words k) (slot_of p.outline.classes m.0) (kind_words k - 1) k
       (omega (arith, count))
       (λ ref k_is.
-          let after : RowGives i h (put_field_row p.outline f.method u h.state) =
-          row_gives i h (put_field_row p.outline f.method u h.state) (row p facts exact f i h) in
-          let top : (s : slots.Slot) × (slice_get h.state.stack 0 ≡ Some s) × (is_reference s ≡ true) =
-          put_field_top p.outline f.method m n ref h.state after.0 (kind_is ∙ k_is)
-          (ap (λ v. put_field_row p.outline f.method v h.state) (sym is) ∙ after.1) in
-          let one : kind_words k ≡ 1 = ap kind_words k_is in
-          let below : 1 - 1 ≡ kind_words k - 1 = omega (arith, one) in (
-            subst (λ a. Contains (pairs.joined_by p.outline u i) (pairs.Taken a, pairs.Taken (kind_words k - 1))) (sym one)
+      let after : RowGives i h (put_field_row p.outline f.method u h.state) =
+      row_gives i h (put_field_row p.outline f.method u h.state) (row p facts exact f i h) in
+      let top : (s : slots.Slot) × (slice_get h.state.stack 0 ≡ Some s) × (is_reference s ≡ true) =
+      put_field_top p.outline f.method m n ref h.state after.0 (kind_is ∙ k_is)
+      (ap (λ v. put_field_row p.outline f.method v h.state) (sym is) ∙ after.1) in
+      let one : kind_words k ≡ 1 = ap kind_words k_is in
+      let below : 1 - 1 ≡ kind_words k - 1 = omega (arith, one) in (
+        subst (λ a. Contains (pairs.joined_by p.outline u i) (pairs.Taken a, pairs.Taken (kind_words k - 1))) (sym one)
             (subst (λ b. Contains (pairs.joined_by p.outline u i) (pairs.Taken 1, pairs.Taken b)) below
             (row_there (pairs.is_reference_field p.outline u) _ _ (reference_field p.outline u m n ref is (kind_is ∙ k_is)) (0, omega arith, refl))),
-            subst (λ b. LeadsOn (point p facts exact f i h) (OfOperand b)) below (leads_operand p facts exact f i h 0 top.0 top.1 top.2),
-          ))
+        subst (λ b. LeadsOn (point p facts exact f i h) (OfOperand b)) below (leads_operand p facts exact f i h 0 top.0 top.1 top.2),
+      ))
 
   pub put_field_obeys : (index : ℕ) (h : AtInsn p facts f (insn.PutField index)) (s : List Sight)
       → Owes p facts exact f (insn.PutField index) h (put_field_effect p.outline (used p facts exact f (insn.PutField index) h) s)
@@ -297,9 +292,9 @@ module _ (p : Program) (facts : Facts) (exact : AreFacts p facts) (f : Frame) wh
       let i : Insn = insn.PutField index in
       by_on_field (Owes p facts exact f i h) p.outline (used p facts exact f i h) _ (stuck_obeys p facts exact f i h)
       (λ m n t is there. by_object (Owes p facts exact f i h) p.outline t s (kind_words (kind_of_field p.outline m.0)) _
-          (null_obeys p facts exact f i h (λ k. refl)) (stuck_obeys p facts exact f i h)
-          (faulty_obeys p facts exact f i h (kind_words (kind_of_field p.outline m.0)))
-          (λ it seen fits_it. put_by_kind index h m n is (kind_of_field p.outline m.0) refl))
+      (null_obeys p facts exact f i h (λ k. refl)) (stuck_obeys p facts exact f i h)
+      (faulty_obeys p facts exact f i h (kind_words (kind_of_field p.outline m.0)))
+      (λ it seen fits_it. put_by_kind index h m n is (kind_of_field p.outline m.0) refl))
 
   -- ---- static fields
 
@@ -316,13 +311,15 @@ module _ (p : Program) (facts : Facts) (exact : AreFacts p facts) (f : Frame) wh
       row_gives i h (put_static_row p.outline u h.state) (row p facts exact f i h) in
       let top : (s : slots.Slot) × (slice_get h.state.stack 0 ≡ Some s) × (is_reference s ≡ true) =
       put_static_top p.outline m n ref h.state after.0 kind_is (ap (λ v. put_static_row p.outline v h.state) (sym is) ∙ after.1) in
-      goes_obey p facts exact f i h (acting 1 (SetStatic (slot_of p.outline.classes m.0) (kind.Ref ref) (OfOperand 0) ∷ [])) 0
-      ((
-        λ node. joined_class p facts exact f i h (pairs.Taken 0) pairs.Outside (word (point p facts exact f i h) 0) Global
-            (row_there (pairs.is_reference_field p.outline u) _ _ (reference_field p.outline u m n ref is kind_is) (0, omega arith, refl))
-            (taken_word p facts exact f i h 0) refl node tt,
-        leads_operand p facts exact f i h 0 top.0 top.1 top.2,
-      ), tt)
+      goes_obey p facts exact f i h (acting 1 (SetStatic (slot_of p.outline.classes m.0) (kind.Ref ref) (OfOperand 0) ∷ [])) 0 (
+        (
+          λ node. joined_class p facts exact f i h (pairs.Taken 0) pairs.Outside (word (point p facts exact f i h) 0) Global
+              (row_there (pairs.is_reference_field p.outline u) _ _ (reference_field p.outline u m n ref is kind_is) (0, omega arith, refl))
+              (taken_word p facts exact f i h 0) refl node tt,
+          leads_operand p facts exact f i h 0 top.0 top.1 top.2,
+        ),
+        tt,
+      )
       refl tt (λ next edge q s at node. absurd (cc)) tt (λ l unwritten. refl) (omega (arith, count))
   set_by_kind index h m n is k kind_is =
       let i : Insn = insn.PutStatic index in
@@ -381,8 +378,8 @@ module _ (p : Program) (facts : Facts) (exact : AreFacts p facts) (f : Frame) wh
       goes_obey p facts exact f i h e 0 tt refl tt
       (gives_one p facts exact f i h e 0 (OfStatic (slot_of p.outline.classes m.0)) refl
       (λ next edge there. sym (joined_class p facts exact f i h (pairs.Given 0) pairs.Outside (given (point p facts exact f i h) e next 0) Global
-          (row_there (pairs.is_reference_field p.outline u) _ _ (reference_field p.outline u m n ref is kind_is) (0, omega arith, refl))
-          (given_stands p facts exact f i h e next 0 0 edge refl refl) refl there tt)))
+      (row_there (pairs.is_reference_field p.outline u) _ _ (reference_field p.outline u m n ref is kind_is) (0, omega arith, refl))
+      (given_stands p facts exact f i h e next 0 0 edge refl refl) refl there tt)))
       tt (λ l unwritten. refl) (omega arith)
   static_by_kind index h m n is kind.Long kind_is =
       let i : Insn = insn.GetStatic index in

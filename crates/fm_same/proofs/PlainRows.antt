@@ -1,9 +1,9 @@
 -- The rows that give no reference owe nothing; and what a row throws, or where it faults, is alike for all.
-use Rattle.std.proofs.Common.{◌≡◌, ◌≢◌, ℕ, ℤ, zero, suc, ◌+◌, ◌-◌, ◌<◌, ◌≤◌, ◌⊎◌, not, Bool, true, false, cond, List, [], ◌∷◌, ◌++◌, length, map, Option, Some, None, codes, refl, sym, ◌∙◌, ap, subst, inl, inr, slice_get, arith, ⊎_elim}
+use Rattle.std.proofs.Common.{◌≡◌, ℕ, ℤ, zero, suc, ◌<◌, ◌≤◌, Bool, true, false, List, [], ◌∷◌, length, Some, codes, refl, sym, subst, inl, slice_get, arith}
 use Rattle.std.specs.List.{AllByRecursion}
 use Rattle.fm_base.specs.declared.kinds.Kind.{Kind}
 use Rattle.fm_base.specs.declared.kinds.Kind.TheVariants as kind
-use Rattle.fm_code.specs.Edges.{falls_through, IsNormalEdge}
+use Rattle.fm_code.specs.Edges.{falls_through}
 use Rattle.fm_code.specs.Live.{stores_over}
 use Rattle.fm_code.specs.SpellsCode.{targets_of}
 use Rattle.fm_code.specs.declared.instructions.Insn.{Insn}
@@ -16,10 +16,10 @@ use Rattle.fm_code.specs.declared.operations.Test.{Test}
 use Rattle.fm_conn.specs.Facts.{AreFacts, Facts}
 use Rattle.fm_conn.specs.Nodes.{Global, Local}
 use Rattle.fm_conn.specs.Rows as pairs
-use Rattle.fm_world.specs.Programs.{Outline, Program}
-use Rattle.fm_frames.specs.Effects.{Effect, Next, Falls, Jumps, JumpsIfSame, Throws, Faults, going, Source, Plain, OfOperand, OfLocal, LocalPlus, OfPlace, OfStatic, OfMade, OfLiteral, SameOperands, printing, stuck, words, faulty, int_word, long_words, Make}
-use Rattle.fm_frames.specs.JumpRows.{int_jump_effect, jumps_if, key_target, lookup_effect, null_jump_effect, pair_jump_effect, same_jump_effect, table_effect, table_target}
-use Rattle.fm_frames.specs.NumberRows.{compare_effect, convert_effect, increment_effect, int_converted, int_negate_effect, int_op_effect, int_shift_effect, long_negate_effect, long_op_effect, long_shift_effect}
+use Rattle.fm_world.specs.Programs.{Program}
+use Rattle.fm_frames.specs.Effects.{Effect, Next, Falls, Jumps, JumpsIfSame, Faults, going, Source, Plain, OfOperand, OfLocal, LocalPlus, OfPlace, OfStatic, OfMade, OfLiteral, SameOperands, stuck, words, faulty, int_word, long_words}
+use Rattle.fm_frames.specs.JumpRows.{int_jump_effect, jumps_if, null_jump_effect, pair_jump_effect, same_jump_effect}
+use Rattle.fm_frames.specs.NumberRows.{compare_effect, convert_effect, increment_effect, int_negate_effect, int_op_effect, int_shift_effect, long_negate_effect, long_op_effect, long_shift_effect}
 use Rattle.fm_frames.specs.Operands.{thrown, thrown_null}
 use Rattle.fm_frames.specs.Sights.{Sight}
 use Rattle.fm_frames.specs.States.{Frame}
@@ -93,7 +93,7 @@ module _ (p : Program) (facts : Facts) (exact : AreFacts p facts) (f : Frame) (i
       goes_obey p facts exact f i h e 0 (subst (λ acts. AllByRecursion (ActsEvenly p.outline (point p facts exact f i h) 0) acts) (sym no_acts) tt) leads ends
       (λ next edge q s at node. plain_from (point p facts exact f i h) 0 _ s (plain_at e.gives q s plain at))
       (subst (λ writes. AllByRecursion
-          (λ (w : ℕ × Source). WritesFrom (point p facts exact f i h) (facts.class f.method (Local w.0)) w.1) writes) (sym no_writes) tt) (λ k unwritten. keeps k) taken
+      (λ (w : ℕ × Source). WritesFrom (point p facts exact f i h) (facts.class f.method (Local w.0)) w.1) writes) (sym no_writes) tt) (λ k unwritten. keeps k) taken
 
   pub words_obey : ((k : ℕ) → stores_over k i ≡ false) → falls_through i ≡ true → (takes : ℕ) (gives : List Source) → AllByRecursion IsPlainSource gives
       → pairs.words_taken p.outline (used p facts exact f i h) i ≤ takes → Owes (words takes gives)

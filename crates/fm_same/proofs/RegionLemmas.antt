@@ -1,17 +1,17 @@
 -- Regions of classes: which there are, that they go along calls and returns, and that a frame's own regions are told apart by its classes.
-use Rattle.std.proofs.Common.{◌≡◌, ◌≢◌, ℕ, zero, suc, ◌+◌, ◌≤◌, ◌⊎◌, ◌==◌, ◌&&◌, cond, Bool, true, false, List, [], ◌∷◌, length, Option, Some, None, IsSomeAnd, Contains, refl, sym, ◌∙◌, ap, subst, inl, inr, slice_get, arith, eqb-true, eq-eqb, ne_eqb, ⊎_elim}
+use Rattle.std.proofs.Common.{◌≡◌, ◌≢◌, ℕ, zero, suc, ◌+◌, ◌≤◌, ◌⊎◌, ◌==◌, ◌&&◌, cond, Bool, true, false, List, [], ◌∷◌, length, Option, Some, None, IsSomeAnd, refl, sym, ◌∙◌, ap, subst, inl, inr, slice_get, arith, eqb-true, eq-eqb, ne_eqb, ⊎_elim}
 use Rattle.std.proofs.lemmas.Bool.{and_from, and_parts, cases_Bool, eqb-false, false≢true}
 use Rattle.fm_types.specs.States.{is_reference}
 use Rattle.fm_types.specs.Typed.{entry_slots}
 use Rattle.fm_types.specs.declared.slots.Slot as slots
-use Rattle.fm_world.specs.Programs.{code_at, Outline, Program}
-use Rattle.fm_conn.specs.Facts.{AreFacts, Facts}
-use Rattle.fm_conn.specs.Nodes.{Node, Local, Slot, Return, Global}
+use Rattle.fm_world.specs.Programs.{Outline}
+use Rattle.fm_conn.specs.Facts.{Facts}
+use Rattle.fm_conn.specs.Nodes.{Local, Global}
 use Rattle.fm_conn.specs.Pairs.{IsEnd}
 use Rattle.fm_conn.specs.declared.ends.End2.TheVariants as end
 use Rattle.fm_frames.specs.States.{Frame}
 use Rattle.fm_same.specs.Laws.{IsWithin}
-use Rattle.fm_same.specs.Regions.{IsCaptured, Region, Everywhere, Given, Own, Retired, argument, parameter_from, parameter_in, region, region_by}
+use Rattle.fm_same.specs.Regions.{IsCaptured, Region, Everywhere, Given, Own, argument, parameter_from, parameter_in, region, region_by}
 
 -- ---- the first parameter of a class
 

@@ -1,7 +1,7 @@
 -- The law of dead regions, along a run: what a captured class leads to keeps the class's own region while the activation stands, is retired when the class
 -- isn't busy, and is dead from then on.
-use Rattle.std.proofs.Common.{◌≡◌, ◌≢◌, ℕ, zero, suc, ◌+◌, ◌-◌, ◌<◌, ◌≤◌, ◌⊎◌, List, [], ◌∷◌, length, refl, sym, ◌∙◌, ap, subst, inl, inr, arith, ⊎_elim}
-use Rattle.fm_cells.specs.Choices.{lawful, MayReuse}
+use Rattle.std.proofs.Common.{◌≡◌, ℕ, zero, suc, ◌+◌, ◌-◌, ◌<◌, ◌≤◌, ◌⊎◌, List, [], ◌∷◌, length, sym, ◌∙◌, ap, subst, inl, inr, arith}
+use Rattle.fm_cells.specs.Choices.{MayReuse}
 use Rattle.fm_cells.specs.Objects.{Request}
 use Rattle.fm_cells.specs.Stores.{Store}
 use Rattle.fm_conn.specs.Facts.{AreFacts, Facts}
@@ -9,7 +9,6 @@ use Rattle.fm_conn.specs.Nodes.{Return}
 use Rattle.fm_world.specs.Programs.{Program}
 use Rattle.fm_frames.specs.Acts.{Choose}
 use Rattle.fm_frames.specs.States.{Frame, State}
-use Rattle.fm_frames.specs.Steps.{step}
 use Rattle.fm_same.specs.Advances.{GoesOver, IsResult}
 use Rattle.fm_same.specs.Colours.{Colour, Coloured}
 use Rattle.fm_same.specs.DeadRegions.{IsDead, IsMethodAt, IsRetired, IsSoundRun}

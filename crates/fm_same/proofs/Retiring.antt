@@ -1,25 +1,20 @@
 -- A captured class that isn't busy is retired, and what is retired isn't led to any more.
-use Rattle.std.proofs.Common.{◌≡◌, ◌≢◌, ℕ, zero, suc, ◌+◌, ◌<◌, ◌≤◌, ◌⊎◌, Bool, true, false, List, [], ◌∷◌, length, Option, Some, None, refl, sym, ◌∙◌, ap, subst, inl, inr, slice_get, slice_index_or, arith, ⊎_elim}
-use Rattle.std.proofs.lemmas.Bool.{false≢true}
-use Rattle.std.proofs.lemmas.Option.{none-some, same_Some}
-use Rattle.fm_base.specs.declared.kinds.Kind.TheVariants as kind
-use Rattle.fm_cells.specs.Objects.{Object}
-use Rattle.fm_cells.specs.Stores.{object_at, Store}
+use Rattle.std.proofs.Common.{◌≡◌, ◌≢◌, ℕ, ◌<◌, ◌≤◌, ◌⊎◌, List, [], ◌∷◌, length, refl, sym, ◌∙◌, ap, subst, inl, inr, slice_index_or, arith, ⊎_elim}
+use Rattle.fm_cells.specs.Stores.{Store}
 use Rattle.fm_conn.specs.Facts.{Facts}
-use Rattle.fm_conn.specs.Nodes.{IsNode, Local, Node}
+use Rattle.fm_conn.specs.Nodes.{Local, Node}
 use Rattle.fm_world.specs.Programs.{Outline, Program}
 use Rattle.fm_frames.specs.Acts.{cell_of}
 use Rattle.fm_frames.specs.States.{Areas, Frame, State}
 use Rattle.fm_frames.specs.declared.values.Value.{Value}
 use Rattle.fm_same.specs.Advances.{GoesOver, IsResult}
-use Rattle.fm_same.specs.Colours.{AreAreasColoured, AreFramesColoured, Colour, Coloured, HasColour, IsEdgeEven, IsFrameColoured, IsOf, node_of_word, OfNull, OfObject}
+use Rattle.fm_same.specs.Colours.{AreAreasColoured, AreFramesColoured, Colour, Coloured, HasColour, IsEdgeEven, IsFrameColoured, IsOf, node_of_word}
 use Rattle.fm_same.specs.DeadRegions.{InLocal, InLocalOf, InWord, InWordOf, IsDead, IsHeldAt, IsHeldBy, IsHeldIn, IsMethodAt, IsOver, IsQuiet, IsRoot, IsStep, IsTrail, LeadsTo}
-use Rattle.fm_same.specs.Laws.{IsWithin}
 use Rattle.fm_same.specs.Regions.{Everywhere, IsCaptured, Own, Region, region, Retired}
-use Rattle.fm_same.specs.Standing.{Goes, IsReference, Stand, StandBelow, StandsAt}
+use Rattle.fm_same.specs.Standing.{Stand, StandsAt}
 use Rattle.fm_same.proofs.ActsKeep.{cell_has, object_has}
 use Rattle.fm_same.proofs.RegionLemmas.{captured_is_own, region_within}
-use Rattle.fm_same.proofs.ReturnsKeep.{areas-mapped, frames-mapped, mapped, moved, moved_below, moved_cases, moved_own}
+use Rattle.fm_same.proofs.ReturnsKeep.{areas-mapped, frames-mapped, mapped, moved, moved_below, moved_cases}
 use Rattle.fm_same.proofs.SourcesKeep.{has_if_reference}
 use Rattle.fm_same.proofs.StoreChanges.{has-mapped}
 
@@ -149,9 +144,9 @@ retired_frames p facts store colour method depth class (f ∷ callers) stand (in
     let same : length callers ≡ depth = quiet.0 in
     let le : length callers ≤ depth = omega arith in (
       subst (λ d. IsFrameColoured p.outline facts store (mapped (moved d class Retired) colour) f callers) same
-      (retired_words p facts store colour class f callers stand.0.at quiet.2 h.0),
+          (retired_words p facts store colour class f callers stand.0.at quiet.2 h.0),
       frames-mapped p.outline facts store colour (moved depth class Retired) depth
-      (λ lower other r lt within. moved_below depth class Retired lower other r lt within) callers le h.1,
+          (λ lower other r lt within. moved_below depth class Retired lower other r lt within) callers le h.1,
     )
 
 -- colours of a state in which the class isn't busy stay so where it is retired

@@ -1,24 +1,21 @@
 -- A return keeps the colours of the frames below: where the result's class has a region of its own, all that is of it goes over to the region of the word
 -- that the caller gets.
-use Rattle.std.proofs.Common.{◌≡◌, ◌≢◌, ℕ, zero, suc, ◌+◌, ◌-◌, ◌<◌, ◌≤◌, ◌⊎◌, ◌==◌, ◌&&◌, min, Bool, true, false, cond, List, [], ◌∷◌, ◌++◌, length, take, Option, Some, None, refl, sym, ◌∙◌, ap, subst, inl, inr, slice_get, slice_index_or, arith, eq-eqb, ne_eqb, ⊎_elim, length-append, length-take}
+use Rattle.std.proofs.Common.{◌≡◌, ◌≢◌, ℕ, zero, suc, ◌+◌, ◌-◌, ◌<◌, ◌≤◌, ◌⊎◌, ◌==◌, ◌&&◌, Bool, true, false, cond, List, [], ◌∷◌, ◌++◌, length, take, Some, refl, sym, ◌∙◌, ap, subst, inl, inr, slice_get, slice_index_or, arith, eq-eqb, ne_eqb, ⊎_elim, length-append}
 use Rattle.std.proofs.lemmas.Bool.{cases_eq, false≢true}
-use Rattle.std.proofs.lemmas.Option.{none-some, same_Some, slice_get_within}
-use Rattle.fm_base.specs.declared.kinds.TypeRef.{TypeRef}
-use Rattle.fm_cells.specs.Objects.{Object}
+use Rattle.std.proofs.lemmas.Option.{same_Some, slice_get_within}
 use Rattle.fm_cells.specs.Stores.{Store}
 use Rattle.fm_code.specs.Edges.{IsNormalEdge}
-use Rattle.fm_code.specs.declared.code_array.Code.{Code}
 use Rattle.fm_conn.specs.Facts.{AreFacts, Facts}
 use Rattle.fm_conn.specs.Links.{Linked}
 use Rattle.fm_conn.specs.Nodes.{IsNode, Local, Node, Return, Slot}
 use Rattle.fm_conn.specs.Pairs.{IsEnd, PairAt}
 use Rattle.fm_conn.specs.declared.ends.End2.TheVariants as end
-use Rattle.fm_world.specs.Programs.{code_at, Outline, Program}
-use Rattle.fm_frames.specs.States.{Areas, Frame, word_at}
+use Rattle.fm_world.specs.Programs.{Outline, Program}
+use Rattle.fm_frames.specs.States.{Areas, Frame}
 use Rattle.fm_frames.specs.declared.values.Value.{Value}
 use Rattle.fm_frames.specs.declared.values.Value.TheVariants as value
 use Rattle.fm_same.specs.Advances.{Advances}
-use Rattle.fm_same.specs.Colours.{AreAreasColoured, AreFramesColoured, Colour, HasColour, IsEdgeEven, IsFrameColoured, IsOf, node_of_word}
+use Rattle.fm_same.specs.Colours.{AreAreasColoured, AreFramesColoured, Colour, HasColour, IsEdgeEven, IsFrameColoured, node_of_word}
 use Rattle.fm_same.specs.Laws.{IsWithin}
 use Rattle.fm_same.specs.Regions.{Everywhere, Given, Own, Region, region, Retired}
 use Rattle.fm_same.specs.Standing.{Called, Goes, IsReference, method_of, StandsAt}
@@ -27,7 +24,7 @@ use Rattle.fm_same.proofs.EdgesKeep.{call_falls, call_keeps, edge_to_next, item_
 use Rattle.fm_same.proofs.GoesOnKeep.{append_found, same_node}
 use Rattle.fm_same.proofs.LinkedClasses.{same_class_if_paired}
 use Rattle.fm_same.proofs.RegionLemmas.{region_within}
-use Rattle.fm_same.proofs.SourcesKeep.{has_if_reference, word_found}
+use Rattle.fm_same.proofs.SourcesKeep.{has_if_reference}
 use Rattle.fm_same.proofs.StoreChanges.{has-mapped, is_of-mapped}
 
 -- ---- one region goes over to another
@@ -91,7 +88,7 @@ frames-mapped o facts store colour f depth stays (g ∷ callers) le h =
     let lt : length callers < depth = omega arith in
     let below : length callers ≤ depth = omega arith in (
       frame-mapped o facts store colour f g callers
-      (λ class. stays (length callers) class (region o facts g.method callers class) lt (region_within o facts g.method callers class)) h.0,
+          (λ class. stays (length callers) class (region o facts g.method callers class) lt (region_within o facts g.method callers class)) h.0,
       frames-mapped o facts store colour f depth stays callers below h.1,
     )
 
@@ -116,9 +113,9 @@ moved_cases depth class to Everywhere = inl refl
 moved_cases depth class to Given = inl refl
 moved_cases depth class to (Own d c) = ⊎_elim
     (λ (same_depth : d ≡ depth). ⊎_elim
-        (λ (same_class : c ≡ class). inr (ap (λ x. Own x c) same_depth ∙ ap (λ x. Own depth x) same_class))
-        (λ (apart : c ≢ class). inl (second_apart (d == depth) (c == class) to (Own d c) (ne_eqb c class apart)))
-        (cases_eq c class))
+    (λ (same_class : c ≡ class). inr (ap (λ x. Own x c) same_depth ∙ ap (λ x. Own depth x) same_class))
+    (λ (apart : c ≢ class). inl (second_apart (d == depth) (c == class) to (Own d c) (ne_eqb c class apart)))
+    (cases_eq c class))
     (λ (apart : d ≢ depth). inl (first_apart (d == depth) (c == class) to (Own d c) (ne_eqb d depth apart)))
     (cases_eq d depth)
 moved_cases depth class to Retired = inl refl
@@ -224,16 +221,16 @@ module _ (p : Program) (facts : Facts) (exact : AreFacts p facts) (f g : Frame) 
           let level : length resumed.stack - 1 - i ≡ depth = omega arith in
           has_if_reference areas.store (mapped m colour) (region_g (facts.class g.method (node_of_word resumed i))) v
           (λ leads.
-              let old_node : IsNode (method_of p facts g h.at.code) (Slot g.item depth) = h.at.is_node k v found leads in
-              let new_node : IsNode (method_of p facts g h.at.code) (Slot (g.item + 1) depth) =
-              subst (λ d. IsNode (method_of p facts g h.at.code) (Slot (g.item + 1) d)) level (node leads) in
-              let same : facts.class g.method (Slot g.item depth) ≡ facts.class g.method (Slot (g.item + 1) depth) =
-              same_class_if_paired p facts exact g.method h.at.code h.at.code_is g.item (Slot g.item depth) (Slot (g.item + 1) depth)
-              (stay_pair depth lt old_node new_node) in
-              subst (λ c. HasColour areas.store (mapped m colour) (region_g c) v)
-              (same ∙ ap (λ d. facts.class g.method (Slot (g.item + 1) d)) (sym level))
-              (subst (λ r. HasColour areas.store (mapped m colour) r v) (stays (facts.class g.method (Slot g.item depth)))
-              (has-mapped areas.store colour m (region_g (facts.class g.method (Slot g.item depth))) v (frame_g.words k v found))))
+          let old_node : IsNode (method_of p facts g h.at.code) (Slot g.item depth) = h.at.is_node k v found leads in
+          let new_node : IsNode (method_of p facts g h.at.code) (Slot (g.item + 1) depth) =
+          subst (λ d. IsNode (method_of p facts g h.at.code) (Slot (g.item + 1) d)) level (node leads) in
+          let same : facts.class g.method (Slot g.item depth) ≡ facts.class g.method (Slot (g.item + 1) depth) =
+          same_class_if_paired p facts exact g.method h.at.code h.at.code_is g.item (Slot g.item depth) (Slot (g.item + 1) depth)
+          (stay_pair depth lt old_node new_node) in
+          subst (λ c. HasColour areas.store (mapped m colour) (region_g c) v)
+          (same ∙ ap (λ d. facts.class g.method (Slot (g.item + 1) d)) (sym level))
+          (subst (λ r. HasColour areas.store (mapped m colour) r v) (stays (facts.class g.method (Slot g.item depth)))
+          (has-mapped areas.store colour m (region_g (facts.class g.method (Slot g.item depth))) v (frame_g.words k v found))))
 
       resumed_coloured : IsFrameColoured p.outline facts areas.store (mapped m colour) resumed callers
       resumed_coloured = record {
@@ -245,7 +242,7 @@ module _ (p : Program) (facts : Facts) (exact : AreFacts p facts) (f g : Frame) 
             (call_keeps (method_of p facts g h.at.code) h.at.insn h.call h.call_is k) live)));
         words = λ i v found. ⊎_elim
             (λ front. has_if_reference areas.store (mapped m colour) (region_g (facts.class g.method (node_of_word resumed i))) v
-                (λ leads. result i v front.1 leads))
+            (λ leads. result i v front.1 leads))
             (λ back. stay_coloured i back.0 v back.1 back.2 (node_later i v found))
             (append_found (take n f.stack) g.stack i v found);
       }
@@ -330,12 +327,12 @@ module _ (p : Program) (facts : Facts) (exact : AreFacts p facts) (f g : Frame) 
             other = mapped m colour;
             frames_coloured = (
               resumed_coloured m
-              (λ class. moved_below (length (g ∷ callers)) (facts.class f.method Return) to (length callers) class (region_g class) lt
+                  (λ class. moved_below (length (g ∷ callers)) (facts.class f.method Return) to (length callers) class (region_g class) lt
                   (region_within p.outline facts g.method callers class))
-              (result_to m has),
+                  (result_to m has),
               frames-mapped p.outline facts areas.store colour m (length callers)
-              (λ lower class r less within. moved_below (length (g ∷ callers)) (facts.class f.method Return) to lower class r (omega arith) within)
-              callers (omega arith) below,
+                  (λ lower class r less within. moved_below (length (g ∷ callers)) (facts.class f.method Return) to lower class r (omega arith) within)
+                  callers (omega arith) below,
             );
             areas_coloured = areas-mapped p.outline colour m areas refl shared;
             advances = λ birth less. moved_cases (length (g ∷ callers)) (facts.class f.method Return) to (colour birth);
@@ -363,9 +360,9 @@ module _ (p : Program) (facts : Facts) (exact : AreFacts p facts) (f g : Frame) 
     return_kept = ⊎_elim
         (λ (none : n ≡ 0). plain_kept (no_words none))
         (λ (some : n ≢ 0). ⊎_elim
-            (λ first.
-                let lt : 0 < n = omega arith in
-                one_kept first.0 first.1 first.2 (evenly 0 lt (at.is_node 0 first.0 first.1 first.2)).2)
-            (λ none. plain_kept (no_first none))
-            (first_of f.stack))
+        (λ first.
+        let lt : 0 < n = omega arith in
+        one_kept first.0 first.1 first.2 (evenly 0 lt (at.is_node 0 first.0 first.1 first.2)).2)
+        (λ none. plain_kept (no_first none))
+        (first_of f.stack))
         (cases_eq n 0)

@@ -1,32 +1,31 @@
 -- Where the values of an effect come from: what they lead to has the region of the class that they come from.
-use Rattle.std.proofs.Common.{◌≡◌, ◌≢◌, ℕ, ℤ, zero, suc, ◌+◌, ◌-◌, ◌<◌, ◌≤◌, ◌⊎◌, Bool, true, false, cond, List, [], ◌∷◌, ◌++◌, length, Option, Some, None, option_map, refl, sym, ◌∙◌, ap, subst, inl, inr, map, slice_get, slice_set, slice_index_or, arith, ⊎_elim}
+use Rattle.std.proofs.Common.{◌≡◌, ◌≢◌, ℕ, ℤ, zero, suc, ◌<◌, ◌⊎◌, true, false, List, [], ◌∷◌, length, Some, None, refl, sym, ◌∙◌, ap, subst, inl, inr, slice_get, slice_index_or, ⊎_elim}
 use Rattle.std.specs.List.{AllByRecursion}
 use Rattle.std.proofs.lemmas.Bool.{false≢true}
-use Rattle.std.proofs.lemmas.Option.{none-some, same_Some, slice_get-get_or}
+use Rattle.std.proofs.lemmas.Option.{slice_get-get_or}
 use Rattle.fm_base.specs.declared.kinds.Kind.{Kind}
 use Rattle.fm_base.specs.declared.kinds.Kind.TheVariants as kind
 use Rattle.fm_base.specs.declared.kinds.TypeRef.{TypeRef}
 use Rattle.fm_cells.specs.Objects.{Object}
 use Rattle.fm_cells.specs.Stores.{elements_at, Store, object_at}
-use Rattle.fm_code.specs.declared.code_array.Code.{Code}
 use Rattle.fm_conn.specs.Facts.{Facts}
-use Rattle.fm_conn.specs.Nodes.{Global, IsNode, Local, Node}
-use Rattle.fm_world.specs.Programs.{kind_at, Outline, Program}
+use Rattle.fm_conn.specs.Nodes.{Global, IsNode, Local}
+use Rattle.fm_world.specs.Programs.{kind_at, Program}
 use Rattle.fm_frames.specs.Acts.{cell_of, Sources, sum_of, value_of}
-use Rattle.fm_frames.specs.Effects.{Action, Make, MakeFixed, MakeLiteral, Put, SetStatic, Start, Free, SetChain, FreeChain, Effect, Source, Plain, OfOperand, OfLocal, LocalPlus, OfPlace, OfStatic, OfMade, OfLiteral, SameOperands}
+use Rattle.fm_frames.specs.Effects.{Action, Make, MakeFixed, MakeLiteral, Put, SetStatic, Start, Free, SetChain, FreeChain, Source, Plain, OfOperand, OfLocal, LocalPlus, OfPlace, OfStatic, OfMade, OfLiteral, SameOperands}
 use Rattle.fm_frames.specs.Elements.{read}
 use Rattle.fm_frames.specs.Sights.{type_numbered}
 use Rattle.fm_frames.specs.States.{Areas, Frame, word_at}
 use Rattle.fm_frames.specs.declared.values.Value.{Value}
 use Rattle.fm_frames.specs.declared.values.Value.TheVariants as value
 use Rattle.fm_same.specs.Advances.{point_of}
-use Rattle.fm_same.specs.Colours.{AreAreasColoured, Colour, HasColour, IsEdgeEven, IsFrameColoured, IsOf, kind_in, node_of_word, OfNull, OfObject}
-use Rattle.fm_same.specs.Evenness.{ActsEvenly, ComesFrom, IsObjectSource, IsOperand, IsPlain, IsPlainKind, LeadsOn, Point, PutAgrees, PutsEvenly, ReadAgrees, SetsEvenly, word}
+use Rattle.fm_same.specs.Colours.{Colour, HasColour, IsEdgeEven, IsFrameColoured, IsOf, kind_in, OfNull, OfObject}
+use Rattle.fm_same.specs.Evenness.{ActsEvenly, ComesFrom, IsObjectSource, IsPlain, IsPlainKind, LeadsOn, Point, PutAgrees, PutsEvenly, ReadAgrees, SetsEvenly, word}
 use Rattle.fm_same.specs.Regions.{Everywhere, Region, region, Retired}
-use Rattle.fm_same.specs.Standing.{IsReference, method_of, StandsAt}
-use Rattle.fm_same.proofs.ActsKeep.{ActHas, cell_has, NoEdge, PutHas, SourceHas, SourceLeads, StaticHas, Went}
+use Rattle.fm_same.specs.Standing.{IsReference, StandsAt}
+use Rattle.fm_same.proofs.ActsKeep.{ActHas, cell_has, PutHas, SourceHas, SourceLeads, StaticHas, Went}
 use Rattle.fm_same.proofs.RegionLemmas.{region_global, region_within}
-use Rattle.fm_same.proofs.StoreChanges.{Extends, for_ever-is_of, has-later, IsKept}
+use Rattle.fm_same.proofs.StoreChanges.{for_ever-is_of, has-later, IsKept}
 
 -- ---- words of lists
 
@@ -90,10 +89,10 @@ module _ (p : Program) (facts : Facts) (f : Frame) (callers : List Frame) (at : 
       → HasColour store colour (region_in class) (word_at f.stack n)
   operand_has n class same = ⊎_elim
       (λ found.
-          subst (λ v. HasColour store colour (region_in class) v) (sym found.2)
-          (has_if_reference store colour (region_in class) found.0
-          (λ leads. subst (λ c. HasColour store colour (region_in c) found.0) (same (at.is_node n found.0 found.1 leads))
-              (coloured.words n found.0 found.1))))
+      subst (λ v. HasColour store colour (region_in class) v) (sym found.2)
+      (has_if_reference store colour (region_in class) found.0
+      (λ leads. subst (λ c. HasColour store colour (region_in c) found.0) (same (at.is_node n found.0 found.1 leads))
+      (coloured.words n found.0 found.1))))
       (λ missing. subst (λ v. HasColour store colour (region_in class) v) (sym missing) tt)
       (word_found f.stack n)
 
@@ -101,8 +100,8 @@ module _ (p : Program) (facts : Facts) (f : Frame) (callers : List Frame) (at : 
       → HasColour store colour (region_in class) (word_at f.locals k)
   local_has k class live same = ⊎_elim
       (λ found.
-          subst (λ v. HasColour store colour (region_in class) v) (sym found.2)
-          (subst (λ c. HasColour store colour (region_in c) found.0) same (coloured.locals k found.0 found.1 live)))
+      subst (λ v. HasColour store colour (region_in class) v) (sym found.2)
+      (subst (λ c. HasColour store colour (region_in c) found.0) same (coloured.locals k found.0 found.1 live)))
       (λ missing. subst (λ v. HasColour store colour (region_in class) v) (sym missing) tt)
       (word_found f.locals k)
 

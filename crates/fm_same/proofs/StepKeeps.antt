@@ -1,7 +1,6 @@
 -- A step keeps colours, where its effect owes to the classes what it should.
-use Rattle.std.proofs.Common.{◌≡◌, ◌≢◌, ℕ, zero, suc, ◌+◌, ◌<◌, ◌≤◌, ◌⊎◌, max, Bool, true, false, cond, List, [], ◌∷◌, length, Option, Some, None, refl, sym, ◌∙◌, ap, subst, inl, inr, arith, ⊎_elim}
-use Rattle.std.specs.List.{AllByRecursion}
-use Rattle.fm_cells.specs.Choices.{lawful, MayReuse}
+use Rattle.std.proofs.Common.{◌≡◌, ℕ, ◌+◌, ◌≤◌, max, Bool, true, false, cond, List, [], ◌∷◌, length, Option, Some, None, refl, sym, ◌∙◌, ap, subst, inl, inr, arith, ⊎_elim}
+use Rattle.fm_cells.specs.Choices.{MayReuse}
 use Rattle.fm_cells.specs.Objects.{Request}
 use Rattle.fm_cells.specs.Stores.{live_words, object_at, Store}
 use Rattle.fm_conn.specs.Facts.{AreFacts, Facts}
@@ -12,12 +11,12 @@ use Rattle.fm_frames.specs.States.{Areas, Frame, Moved, State}
 use Rattle.fm_frames.specs.Steps.{attempted, done_by, finished, halted, input_after, is_deep, is_done, is_over, next_effect, objects_made, step, words_made}
 use Rattle.fm_frames.specs.declared.ends.Ended.{Ended}
 use Rattle.fm_frames.specs.declared.ends.Ended.TheVariants as end
-use Rattle.fm_same.specs.Advances.{Advances, GoesOver, IsResult, IsStill, OwesAt, point_of}
+use Rattle.fm_same.specs.Advances.{GoesOver, IsResult, IsStill, OwesAt, point_of}
 use Rattle.fm_same.specs.Colours.{AreAreasColoured, AreFramesColoured, Colour, Coloured}
 use Rattle.fm_same.specs.Evenness.{HoldsNumbers, Obeys, PlacesAgree}
-use Rattle.fm_same.specs.Regions.{Region, region, Retired}
+use Rattle.fm_same.specs.Regions.{Region, region}
 use Rattle.fm_same.specs.Standing.{Stand}
-use Rattle.fm_same.proofs.ActsKeep.{ActHas, acts_go, Went, WentTo}
+use Rattle.fm_same.proofs.ActsKeep.{acts_go, WentTo}
 use Rattle.fm_same.proofs.GoesOnKeep.{areas-agree, frames-agree, frames-later, grown, grown_agrees, grown_new, went_first}
 use Rattle.fm_same.proofs.NextKeeps.{continued_is, followed, followed_areas, next_kept}
 use Rattle.fm_same.proofs.ReturnsKeep.{Kept}
@@ -101,7 +100,7 @@ module _ (p : Program) (facts : Facts) (exact : AreFacts p facts) (choose : Choo
       (let stands = subst (λ (next : State). Stand p facts next.frames) is after in
       over areas.store.births (followed p from e f callers x e.next) gone.extends.births (ap (λ (z : Areas). z.store.births) same)
       (subst (λ (z : Areas). IsStill y.areas.store with_born z.store) (sym same) gone.still)
-      (next_kept p facts exact f callers stand.0.at stand.1 y.areas.store with_born frames_born obeys.home x refl made gone e agrees.reads e.next
+      (next_kept p facts exact f callers stand.0.at stand.1 y.areas.store with_born frames_born obeys.home x refl made gone e agrees.reads stand.0.depth e.next
       obeys.leads obeys.goes obeys.ends stands))
   finished_over price (FullAt areas needed) gone after =
       over areas.store.births (finished p price e before (FullAt areas needed)) gone.1.births refl gone.2
@@ -158,7 +157,7 @@ frameless_over p facts choose y colour coloured e none =
     (done_by p (max 1 (objects_made e.actions)) e x (performed p.outline choose [] [] e.actions y.areas []))
     (stays_over p facts x (halted x (end.Exhausted (live_words y.areas.store) (words_made p.outline y.areas e.actions))).state colour coloured refl refl)
     (subst (λ (actions : List Action). GoesOver p facts x
-        (done_by p (max 1 (objects_made e.actions)) e x (performed p.outline choose [] [] actions y.areas [])).state colour) (sym none)
+    (done_by p (max 1 (objects_made e.actions)) e x (performed p.outline choose [] [] actions y.areas [])).state colour) (sym none)
     (stays_over p facts x (done_by p (max 1 (objects_made e.actions)) e x (Did y.areas [])).state colour coloured refl refl)))
 
 -- ---- from a state to the next

@@ -1,18 +1,17 @@
 -- What is thrown is everywhere, and so is the word of the handler that catches it: frames that an exception leaves take their holders with them, and the
 -- frame that catches it goes on with the locals that were live before.
-use Rattle.std.proofs.Common.{◌≡◌, ◌≢◌, ℕ, zero, suc, ◌+◌, ◌-◌, ◌<◌, ◌≤◌, ◌⊎◌, Bool, true, false, cond, List, [], ◌∷◌, ◌++◌, length, Option, Some, None, refl, sym, ◌∙◌, ap, subst, inl, inr, slice_get, arith, ⊎_elim}
+use Rattle.std.proofs.Common.{◌≡◌, ℕ, zero, suc, Bool, true, false, cond, List, [], ◌∷◌, Option, Some, None, refl, sym, ◌∙◌, subst, inr, slice_get, ⊎_elim}
 use Rattle.std.proofs.lemmas.Bool.{false≢true}
-use Rattle.std.proofs.lemmas.Option.{none-some, same_Some}
+use Rattle.std.proofs.lemmas.Option.{same_Some}
 use Rattle.fm_base.specs.declared.kinds.TypeRef.{TypeRef}
 use Rattle.fm_cells.specs.Stores.{Store}
 use Rattle.fm_code.specs.Edges.{IsHandlerEdge}
 use Rattle.fm_code.specs.Live.{stores_over}
-use Rattle.fm_code.specs.declared.code_array.Code.{Code}
 use Rattle.fm_conn.specs.Facts.{AreFacts, Facts}
 use Rattle.fm_conn.specs.Links.{Linked}
-use Rattle.fm_conn.specs.Nodes.{Global, IsNode, Local, Node, Slot}
+use Rattle.fm_conn.specs.Nodes.{Global, IsNode, Slot}
 use Rattle.fm_conn.specs.Pairs.{PairAt}
-use Rattle.fm_world.specs.Programs.{code_at, Outline, Program}
+use Rattle.fm_world.specs.Programs.{Program}
 use Rattle.fm_frames.specs.States.{Frame}
 use Rattle.fm_frames.specs.Steps.{caught, Caught, caught_in, handler_of, InFrames, is_start, Leaves}
 use Rattle.fm_frames.specs.declared.ends.Ended.{Ended}
@@ -20,8 +19,8 @@ use Rattle.fm_frames.specs.declared.ends.Ended.TheVariants as end
 use Rattle.fm_frames.specs.declared.values.Value.{Value}
 use Rattle.fm_types.specs.Named.{class_of_method}
 use Rattle.fm_same.specs.Colours.{AreFramesColoured, Colour, HasColour, IsFrameColoured, node_of_word}
-use Rattle.fm_same.specs.Regions.{Everywhere, Region, region}
-use Rattle.fm_same.specs.Standing.{Called, Goes, IsReference, method_of, Stand, StandBelow, StandsAt, Waits}
+use Rattle.fm_same.specs.Regions.{Everywhere, region}
+use Rattle.fm_same.specs.Standing.{Called, Goes, method_of, Stand, StandBelow, StandsAt, Waits}
 use Rattle.fm_same.proofs.CallRegions.{state_found}
 use Rattle.fm_same.proofs.EdgesKeep.{call_keeps, handler_edge, item_with_insn, item_with_state, live_before}
 use Rattle.fm_same.proofs.GoesOnKeep.{same_node}
@@ -59,12 +58,12 @@ module _ (p : Program) (facts : Facts) (exact : AreFacts p facts) (f : Frame) (c
       let same : stands.at.code ≡ at.code = same_Some stands.at.code at.code (sym stands.at.code_is ∙ at.code_is) in
       has_if_reference store colour (region p.outline facts f.method callers (facts.class f.method (Slot h 0))) w
       (λ leads.
-          let node : IsNode (method_of p facts f at.code) (Slot h 0) =
-          same_node p facts f at.code stands.at.code (Slot h 0) same (stands.at.is_node 0 w is leads) in
-          let global : facts.class f.method Global ≡ facts.class f.method (Slot h 0) =
-          sym (same_class_if_paired p facts exact f.method at.code at.code_is f.item (Slot h 0) Global (handler_pair stands node)) in
-          subst (λ r. HasColour store colour r w) (sym (region_global p.outline facts f.method callers (facts.class f.method (Slot h 0)) global))
-          (subst (λ x. HasColour store colour Everywhere x) (same_Some v w is) has))
+      let node : IsNode (method_of p facts f at.code) (Slot h 0) =
+      same_node p facts f at.code stands.at.code (Slot h 0) same (stands.at.is_node 0 w is leads) in
+      let global : facts.class f.method Global ≡ facts.class f.method (Slot h 0) =
+      sym (same_class_if_paired p facts exact f.method at.code at.code_is f.item (Slot h 0) Global (handler_pair stands node)) in
+      subst (λ r. HasColour store colour r w) (sym (region_global p.outline facts f.method callers (facts.class f.method (Slot h 0)) global))
+      (subst (λ x. HasColour store colour Everywhere x) (same_Some v w is) has))
   word_caught stands (suc n) w is = absurd (cc)
 
   pub catching_coloured : Goes p facts catching → IsFrameColoured p.outline facts store colour catching callers
@@ -91,9 +90,11 @@ module _ (p : Program) (facts : Facts) (exact : AreFacts p facts) (store : Store
       → (Stand p facts after) → caught_in p v f callers found below ≡ InFrames after → AreFramesColoured p.outline facts store colour after
   caught_one f callers at keeps h (Some handler) found below after rest stand is =
       let same : record f { item = handler; stack = v ∷ [] } ∷ callers ≡ after = cc in
-      subst (λ frames. AreFramesColoured p.outline facts store colour frames) same
-      (catching_coloured p facts exact f callers at keeps store colour h.0 t v has handler found
-      (subst (λ frames. Stand p facts frames) (sym same) stand).0, h.1)
+      subst (λ frames. AreFramesColoured p.outline facts store colour frames) same (
+        catching_coloured p facts exact f callers at keeps store colour h.0 t v has handler found
+            (subst (λ frames. Stand p facts frames) (sym same) stand).0,
+        h.1,
+      )
   caught_one f callers at keeps h None found below after rest stand is =
       not_left (is_start p.outline f.method) (end.InitFailed (record { 0 = class_of_method p.outline f.method })) below after rest is
 
@@ -107,9 +108,9 @@ module _ (p : Program) (facts : Facts) (exact : AreFacts p facts) (store : Store
   thrown_coloured f (g ∷ callers) at keeps h below after stand is =
       caught_one f (g ∷ callers) at keeps h (handler_of p f t) refl (caught p t v (g ∷ callers)) after
       (λ no_start rest. ⊎_elim
-          (λ (called : (is_start p.outline f.method ≡ false) × Called p facts f g).
-              thrown_coloured g callers called.1.at
-              (call_keeps (method_of p facts g called.1.at.code) called.1.at.insn called.1.call called.1.call_is) h.1 below.1 after stand rest)
-          (λ (waits : (is_start p.outline f.method ≡ true) × Waits p facts f g). absurd (false≢true (sym no_start ∙ waits.0)))
-          below.0)
+      (λ (called : (is_start p.outline f.method ≡ false) × Called p facts f g).
+      thrown_coloured g callers called.1.at
+      (call_keeps (method_of p facts g called.1.at.code) called.1.at.insn called.1.call called.1.call_is) h.1 below.1 after stand rest)
+      (λ (waits : (is_start p.outline f.method ≡ true) × Waits p facts f g). absurd (false≢true (sym no_start ∙ waits.0)))
+      below.0)
       stand is

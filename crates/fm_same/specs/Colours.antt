@@ -1,6 +1,6 @@
 -- Colours: a region for each object by its birth, such that what a frame holds has the region of the node that holds it, and objects that lead to one
 -- another are of one region. That objects are reached from elsewhere only as far as the analysis of classes says is then a matter of three lines.
-use Rattle.std.specs.Prelude.{◌≡◌, ℕ, ◌-◌, ◌⊎◌, Bool, true, false, List, [], ◌∷◌, length, Option, Some, slice_get}
+use Rattle.std.specs.Prelude.{◌≡◌, ℕ, ◌-◌, ◌⊎◌, true, false, List, [], ◌∷◌, length, Option, Some, slice_get}
 use Rattle.std.specs.List.{slice_index_or}
 use Rattle.fm_base.specs.declared.kinds.Kind.{Kind}
 use Rattle.fm_base.specs.declared.kinds.Kind.TheVariants as kind

@@ -1,7 +1,7 @@
 -- What an effect owes to the classes of nodes, so that colours are kept: values go from one node to another of the same class, and the objects that a step
 -- makes have one home. It follows from the pairs of the item, row by row.
-use Rattle.std.specs.Prelude.{◌≡◌, ℕ, ◌+◌, ◌-◌, ◌<◌, ◌≤◌, ◌==◌, ◌⊎◌, Bool, true, false, List, [], ◌∷◌, length, Option, Some, slice_get}
-use Rattle.std.specs.List.{AllByRecursion, list_any, slice_index_or}
+use Rattle.std.specs.Prelude.{◌≡◌, ℕ, ◌+◌, ◌-◌, ◌<◌, ◌==◌, ◌⊎◌, Bool, true, false, List, [], length, Some, slice_get}
+use Rattle.std.specs.List.{AllByRecursion, list_any}
 use Rattle.fm_base.specs.declared.kinds.Kind.{Kind}
 use Rattle.fm_base.specs.declared.kinds.Kind.TheVariants as kind
 use Rattle.fm_base.specs.declared.kinds.TypeRef.{TypeRef}
@@ -11,19 +11,15 @@ use Rattle.fm_code.specs.Edges.{falls_through, IsNormalEdge}
 use Rattle.fm_code.specs.SpellsCode.{targets_of}
 use Rattle.fm_code.specs.Live.{stores_over}
 use Rattle.fm_code.specs.declared.instructions.Insn.{Insn}
-use Rattle.fm_conn.specs.Facts.{Facts}
 use Rattle.fm_conn.specs.Nodes.{Node, Local, Slot, Return, Global, IsNode, TypedMethod}
 use Rattle.fm_conn.specs.Pairs.{IsEnd}
 use Rattle.fm_conn.specs.declared.ends.End2.TheVariants as end
-use Rattle.fm_world.specs.Members.{field_at}
 use Rattle.fm_world.specs.Programs.{Outline}
 use Rattle.fm_frames.specs.Acts.{cell_of}
-use Rattle.fm_frames.specs.Effects.{Action, Make, MakeFixed, MakeLiteral, Put, SetStatic, Start, Free, SetChain, FreeChain, Effect, Next, Falls, Jumps, JumpsIfSame, Calls, Returns, Throws, Enters, Exits, Faults, Source, Plain, OfOperand, OfLocal, LocalPlus, OfPlace, OfStatic, OfMade, OfLiteral, SameOperands}
+use Rattle.fm_frames.specs.Effects.{Action, Make, MakeFixed, MakeLiteral, Put, SetStatic, Start, Free, SetChain, FreeChain, Effect, Next, Falls, Jumps, JumpsIfSame, Returns, Throws, Source, Plain, OfOperand, OfLocal, LocalPlus, OfPlace, OfStatic, OfMade, OfLiteral, SameOperands}
 use Rattle.fm_frames.specs.Acts.{requested}
 use Rattle.fm_frames.specs.NativeRows.{text_type}
-use Rattle.fm_frames.specs.Sights.{type_numbered}
 use Rattle.fm_frames.specs.States.{word_at}
-use Rattle.fm_frames.specs.Steps.{is_start}
 use Rattle.fm_frames.specs.declared.values.Value.{Value}
 use Rattle.fm_frames.specs.declared.values.Value.TheVariants as value
 use Rattle.fm_same.specs.Colours.{kind_in}
@@ -160,13 +156,12 @@ LeadsRight i other = Unit {0}
 
 -- ---- the frame that ends
 
--- a result that is a reference is of the result's class, and what is thrown of Global's; what throws stores over no local; and what starts a class isn't called
+-- a result that is a reference is of the result's class, and what is thrown of Global's; what throws stores over no local
 abbrev pub EndsEvenly : Outline → Point → ℕ → Insn → Next → Type 0
 EndsEvenly o x home i (Returns words) =
     (q : ℕ) → q < words → IsNode x.method (word x q)
     → (x.class (word x q) ≡ x.class Return) × IsEnd o x.method.number end.Return × (words ≡ 1)
 EndsEvenly o x home i (Throws s) = IsObjectSource s × ComesFrom x home (x.class Global) s × ((k : ℕ) → stores_over k i ≡ false)
-EndsEvenly o x home i (Calls m) = is_start o m ≡ false
 EndsEvenly o x home i other = Unit {0}
 
 -- ---- the whole effect

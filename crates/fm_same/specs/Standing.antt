@@ -1,6 +1,6 @@
 -- What the law of dead regions uses of the soundness of the machine: each frame stands at an item that can be reached, its stack is as deep as the item's
 -- state, words are references where their slots are, and a frame that waits is at the call of the frame above it, or that one starts a class.
-use Rattle.std.specs.Prelude.{◌≡◌, ℕ, ◌-◌, ◌⊎◌, ◌↔◌, true, false, List, [], ◌∷◌, length, Option, Some, IsSomeAnd, Contains, slice_get}
+use Rattle.std.specs.Prelude.{◌≡◌, ℕ, ◌⊎◌, ◌↔◌, true, false, List, [], ◌∷◌, length, Some, Contains, slice_get}
 use Rattle.fm_code.specs.Edges.{insn_of}
 use Rattle.fm_code.specs.declared.code_array.Code.{Code}
 use Rattle.fm_code.specs.declared.instructions.Insn.{Insn}
@@ -13,7 +13,7 @@ use Rattle.fm_types.specs.Typed.{state_at}
 use Rattle.fm_types.specs.States.{TypeState}
 use Rattle.fm_world.specs.Programs.{code_at, Program, targets}
 use Rattle.fm_world.specs.declared.calls.Call.{Call}
-use Rattle.fm_frames.specs.States.{Frame, State}
+use Rattle.fm_frames.specs.States.{Frame}
 use Rattle.fm_frames.specs.Steps.{is_start}
 use Rattle.fm_frames.specs.declared.values.Value.{Value}
 use Rattle.fm_frames.specs.declared.values.Value.TheVariants as value

@@ -1,0 +1,119 @@
+-- What is asked of calls: the method that a call leads to is among its targets, and a built-in method has the words and the ends that its row works on.
+use Rattle.std.specs.Prelude.{◌≡◌, ℕ, ◌+◌, ◌-◌, ◌≤◌, Option, Some, None, List, length, Contains, slice_get}
+use Rattle.fm_base.specs.declared.ids.MethodId.{MethodId}
+use Rattle.fm_base.specs.declared.ids.TypeId.{TypeId}
+use Rattle.fm_base.specs.declared.kinds.TypeRef.{TypeRef}
+use Rattle.fm_code.specs.declared.code_array.Code.{Code}
+use Rattle.fm_code.specs.declared.instructions.Insn.{Insn}
+use Rattle.fm_code.specs.declared.instructions.Insn.TheVariants as insn
+use Rattle.fm_conn.specs.Facts.{Facts}
+use Rattle.fm_conn.specs.Nodes.{IsNode, Slot}
+use Rattle.fm_conn.specs.Pairs.{call_of, IsEnd, use_at}
+use Rattle.fm_conn.specs.Rows as pairs
+use Rattle.fm_conn.specs.declared.ends.End2.TheVariants as end
+use Rattle.fm_types.specs.Named.{class_of_method}
+use Rattle.fm_types.specs.Typed.{use_by}
+use Rattle.fm_world.specs.Lookups.{select, special_target}
+use Rattle.fm_world.specs.Members.{method_at}
+use Rattle.fm_world.specs.Programs.{class_of_type, Outline, Program, targets}
+use Rattle.fm_world.specs.declared.calls.Call.{Call}
+use Rattle.fm_world.specs.declared.uses.Use.{Use}
+use Rattle.fm_world.specs.declared.uses.Use.TheVariants as resolved
+use Rattle.fm_frames.specs.CallRows.{native_of, receiver_class, words_of_arguments}
+use Rattle.fm_frames.specs.NativeRows.{shown_words}
+use Rattle.fm_frames.specs.Natives.{Native, ObjectInit, ObjectHashCode, ObjectEquals, ObjectToString, StringLength, CharAt, StringEquals, StringHashCode, CompareTo, StringToString, Substring, ValueOf, BuilderInit, Append, BuilderLength, BuilderToString, BufferInitOf, Exit, Print, Println, PrintlnNothing, Read, ThrowableInit, ThrowableInitOf, GetMessage, ThrowableToString, FreeMeFree, FreeMeLink, FreeMeFreeChain, native_of_row}
+use Rattle.fm_frames.specs.Sights.{Looks, Sight, Thing}
+use Rattle.fm_frames.specs.States.{Frame}
+use Rattle.fm_same.specs.Standing.{method_of}
+
+-- ---- the method that a call leads to
+
+-- by the object that is seen at the receiver's place
+pub record EntersSelected (o : Outline) (u : Use) (s : List Sight) (target : ℕ) : Type 0 where
+  pub method : MethodId
+  pub type : TypeId
+  pub named : u ≡ resolved.OfMethod method type
+  pub receiver : Looks
+  pub seen : slice_get s (words_of_arguments o method.0) ≡ Some (Thing receiver)
+  pub selected : select o.classes (receiver_class o receiver) method.0 ≡ Some target
+
+-- by the class of the caller and the named type
+pub record EntersSpecial (o : Outline) (caller : ℕ) (u : Use) (target : ℕ) : Type 0 where
+  pub method : MethodId
+  pub type : TypeId
+  pub named : u ≡ resolved.OfMethod method type
+  pub of : TypeRef
+  pub of_is : slice_get o.types type.0 ≡ Some of
+  pub is : special_target o.classes (class_of_method o caller) (class_of_type of) method.0 ≡ target
+
+pub record EntersNamed (u : Use) (target : ℕ) : Type 0 where
+  pub method : MethodId
+  pub type : TypeId
+  pub named : u ≡ resolved.OfMethod method type
+  pub is : method.0 ≡ target
+
+abbrev pub Enters : Outline → (caller : ℕ) → Use → List Sight → Insn → (target : ℕ) → Type 0
+Enters o caller u s (insn.Virtual index) target = EntersSelected o u s target
+Enters o caller u s (insn.Interface index) target = EntersSelected o u s target
+Enters o caller u s (insn.Special index) target = EntersSpecial o caller u target
+Enters o caller u s (insn.Static index) target = EntersNamed u target
+Enters o caller u s other target = ⊥
+
+-- ---- built-in methods
+
+-- the words that a row takes, with the receiver
+abbrev pub native_words : Native → ℕ
+native_words ObjectInit = 1
+native_words ObjectHashCode = 1
+native_words ObjectEquals = 2
+native_words ObjectToString = 1
+native_words StringLength = 1
+native_words CharAt = 2
+native_words StringEquals = 2
+native_words StringHashCode = 1
+native_words CompareTo = 2
+native_words StringToString = 1
+native_words Substring = 3
+native_words (ValueOf shown) = shown_words shown
+native_words BuilderInit = 1
+native_words (Append shown) = shown_words shown + 1
+native_words BuilderLength = 1
+native_words BuilderToString = 1
+native_words BufferInitOf = 2
+native_words Exit = 1
+native_words (Print shown) = shown_words shown + 1
+native_words (Println shown) = shown_words shown + 1
+native_words PrintlnNothing = 1
+native_words Read = 1
+native_words ThrowableInit = 1
+native_words ThrowableInitOf = 2
+native_words GetMessage = 1
+native_words ThrowableToString = 1
+native_words FreeMeFree = 1
+native_words FreeMeLink = 2
+native_words FreeMeFreeChain = 1
+
+-- the ends that a row works on are references; and nothing is freed or chained
+abbrev pub NativeEnds : Outline → (method : ℕ) → Native → Type 0
+NativeEnds o method StringToString = IsEnd o method end.Return × IsEnd o method (end.Parameter 0)
+NativeEnds o method (Append shown) = IsEnd o method end.Return × IsEnd o method (end.Parameter 0)
+NativeEnds o method GetMessage = IsEnd o method end.Return × IsEnd o method (end.Parameter 0)
+NativeEnds o method ThrowableInitOf = IsEnd o method (end.Parameter 0) × IsEnd o method (end.Parameter 1)
+NativeEnds o method FreeMeFree = ⊥
+NativeEnds o method FreeMeLink = ⊥
+NativeEnds o method FreeMeFreeChain = ⊥
+NativeEnds o method row = Unit {0}
+
+-- a call of a built-in method: it is among the targets, the words that are taken are its row's, and its parameters that are references got words that are
+pub record CallsNative (p : Program) (facts : Facts) (f : Frame) (code : Code) (i : Insn) (target : ℕ) (row : Native) : Type 0 where
+  pub call : Call
+  pub call_is : call_of (method_of p facts f code) i ≡ Some call
+  pub among : Contains (targets p call) target
+  pub words : pairs.words_taken p.outline (use_by p f.method i) i ≡ native_words row
+  pub deep : native_words row ≤ length f.stack
+  pub number : ℕ
+  pub number_is : (method_at p.outline.classes target).method.row ≡ Some number
+  pub row_is : native_of_row number ≡ Some row
+  pub ends : NativeEnds p.outline target row
+  pub arguments : (k : ℕ) → IsEnd p.outline target (end.Parameter k)
+      → IsNode (method_of p facts f code) (Slot f.item (length f.stack - native_words row + k))
