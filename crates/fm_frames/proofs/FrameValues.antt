@@ -1,14 +1,15 @@
 -- Frames that lie in one list: what a change of the list, or of the topmost cursor, does to them.
-use Rattle.std.proofs.Common.{◌≡◌, ℕ, ◌+◌, ◌-◌, ◌<◌, ◌≤◌, ◌⊎◌, inl, inr, List, [], ◌∷◌, ◌++◌, length, take, drop, set, reverse, Option, Some, None, get_or, refl, ap, sym, ◌∙◌, subst, slice_get, option_map, map, zero, suc, ◌≢◌, add-one, true, false, leb, arith}
+use Rattle.std.proofs.Common.{◌≡◌, ℕ, ◌+◌, ◌-◌, ◌<◌, ◌≤◌, ◌⊎◌, inl, inr, List, [], ◌∷◌, ◌++◌, length, take, drop, set, reverse, Option, Some, None, get_or, refl, ap, sym, ◌∙◌, subst, slice_get, option_map, map, zero, suc, ◌≢◌, add-one, replicate, max, take_all, true, false, leb, arith}
 use Rattle.std.proofs.Math.ListN.{drop_of_length-le}
 use Rattle.std.proofs.Math.Seq.{drop-append_seam, take-set-lt}
-use Rattle.std.proofs.lemmas.List.{drop-append-le, take-append-le, take-append-drop, drop-take, reverse-append, length-reverse, length-take, length-drop, get_or-reverse, length-append, take-set-le, drop-set-lt, drop-set-add, length-set, set_past}
+use Rattle.std.proofs.lemmas.List.{drop-append-le, take-append-le, take-append-drop, drop-take, reverse-append, length-reverse, length-take, length-drop, get_or-reverse, length-append, take-set-le, drop-set-lt, drop-set-add, length-set, set_past, drop-drop, length-replicate, reverse-reverse}
 use Rattle.std.proofs.lemmas.Option.{slice_get-get_or, slice_get-map, slice_get_past}
 use Rattle.std.proofs.lemmas.Bool.Decides.{leb_tells}
 use Rattle.fm_frames.specs.States.{Frame}
 use Rattle.fm_frames.specs.declared.frames.Cursor.{Cursor}
 use Rattle.fm_frames.specs.declared.values.Value.{Value}
-use Rattle.fm_frames.specs.inner.Frames.{AreTiled, cursors, frames_at, on_top, place, place_of}
+use Rattle.fm_frames.specs.declared.values.Value.TheVariants as value
+use Rattle.fm_frames.specs.inner.Frames.{AreTiled, cursors, frames_at, on_top, place, place_of, with_called}
 
 -- frames are equal by their parts
 same_frame : (method item : ℕ) {l1 l2 s1 s2 : List Value} → l1 ≡ l2 → s1 ≡ s2
@@ -225,3 +226,81 @@ drop-next (suc k) (x ∷ xs) = drop-next k xs
 
 pub dropped-next : (k : ℕ) (xs all now : List Frame) → xs ≡ drop k all → now ≡ drop 1 xs → now ≡ drop (k + 1) all
 dropped-next k xs all now is next = next ∙ ap (drop 1) is ∙ drop-next k all ∙ ap (λ n. drop n all) (sym (add-one k))
+
+-- ---- calls
+
+-- the last values of a list, by the list turned round
+last-values : (xs : List Value) (words : ℕ) → reverse (take words (reverse xs)) ≡ drop (length xs - words) xs
+last-values xs words =
+    let turned : List Value = reverse xs in
+    let kept = reverse-take turned (length xs - words) in
+    let count : length turned ≡ length xs = length-reverse xs in
+    by_count (below_or_not (length xs) words) where
+      by_count : (length xs < words) ⊎ (words ≤ length xs) → reverse (take words (reverse xs)) ≡ drop (length xs - words) xs
+      by_count (inl many) =
+          let none : length xs - words ≡ 0 = omega arith in
+          ap reverse (take_all words (reverse xs) (omega (arith, length-reverse xs))) ∙ reverse-reverse xs ∙ ap (λ n. drop n xs) (sym none)
+      by_count (inr few) =
+          let left : length (reverse xs) - (length xs - words) ≡ words = omega (arith, length-reverse xs) in
+          ap (λ n. reverse (take n (reverse xs))) (sym left) ∙ reverse-take (reverse xs) (length xs - words)
+          ∙ ap (drop (length xs - words)) (reverse-reverse xs)
+
+-- the values with room for the callee's locals behind them
+abbrev pub with_room : List Value → ℕ → List Value
+with_room values stack = values ++ replicate (stack - length values) value.Top
+
+abbrev pub callee : ℕ → ℕ → ℕ → Cursor
+callee method locals stack = record { method = record { 0 = method }; item = 0; locals = locals; stack = stack }
+
+pub tiled-called : (values : List Value) (c : Cursor) (callers : List Cursor) (method words stack : ℕ) → AreTiled values (c ∷ callers)
+    → length values ≤ stack → AreTiled (with_room values stack) (callee method (kept_by c values words) stack ∷ c ∷ callers)
+tiled-called values c callers method words stack tiled room =
+    let front : take (kept_by c values words) (with_room values stack) ≡ take (kept_by c values words) values =
+    take-append-le (kept_by c values words) values (replicate (stack - length values) value.Top) (omega arith) in
+    let P : List Value → Type 0 = λ front. AreTiled front (c ∷ callers) in
+    (omega arith,
+    omega (arith, length-append values (replicate (stack - length values) value.Top), length-replicate (stack - length values) value.Top),
+    subst P (sym front) (tiled-dropped values c callers words tiled))
+
+pub frames-called : (values : List Value) (c : Cursor) (callers : List Cursor) (method max_locals words stack : ℕ) → AreTiled values (c ∷ callers)
+    → stack ≡ max (kept_by c values words + max_locals) (length values)
+    → frames_at (with_room values stack) (callee method (kept_by c values words) stack ∷ c ∷ callers)
+    ≡ with_called method max_locals words (frames_at values (c ∷ callers))
+frames-called values c callers method max_locals words stack tiled is =
+    let base : ℕ = kept_by c values words in
+    let more : List Value = replicate (stack - length values) value.Top in
+    let ws : List Value = drop c.stack values in
+    let h : length ws ≡ length values - c.stack = length-drop c.stack values in
+    let long : length (with_room values stack) ≡ stack =
+    omega (arith, length-append values more, length-replicate (stack - length values) value.Top) in
+    let whole : take stack (with_room values stack) ≡ with_room values stack = take_all stack (with_room values stack) (omega arith) in
+    let arguments : reverse (take words (reverse ws)) ≡ drop base values =
+    last-values ws words ∙ drop-drop (length ws - words) c.stack values
+    ∙ ap (λ n. drop n values) (let e : c.stack + (length ws - words) ≡ base = omega arith in e) in
+    let count : length (drop base values) ≡ length values - base = length-drop base values in
+    let room : stack - length values ≡ max_locals - length (reverse (take words (reverse ws))) = omega (arith, ap length arguments) in
+    both
+    (same_frame method 0
+    (ap (drop base) whole ∙ drop-append-le base values more (omega arith) ∙ ap (λ xs. xs ++ more) (sym arguments)
+    ∙ ap (λ n. reverse (take words (reverse ws)) ++ replicate n value.Top) room)
+    (ap reverse (drop_of_length-le (with_room values stack) (omega arith))))
+    (ap (λ front. frames_at front (c ∷ callers)) (take-append-le base values more (omega arith)) ∙ frames-dropped values c callers words tiled)
+
+-- the same as calls leave it
+pub entered : (values new : List Value) (t : Option Cursor) (c : Cursor) (callers pushed : List Cursor) (method max_locals words kept stack missing : ℕ) (x : List Frame)
+    → t ≡ Some c → AreTiled values (cursors t (reverse callers)) → frames_at values (cursors t (reverse callers)) ≡ x
+    → kept ≡ kept_by c values words → stack ≡ max (kept + max_locals) (length values)
+    → new ≡ take stack values ++ replicate missing value.Top → missing ≡ stack - length values → pushed ≡ callers ++ c ∷ []
+    → frames_at new (callee method kept stack ∷ reverse pushed) ≡ with_called method max_locals words x
+entered values new t c callers pushed method max_locals words kept stack missing x known tiled is much room made more last =
+    let P : Option Cursor → Type 0 = λ t. AreTiled values (cursors t (reverse callers)) → frames_at values (cursors t (reverse callers)) ≡ x
+    → frames_at new (callee method kept stack ∷ reverse pushed) ≡ with_called method max_locals words x in
+    let all : new ≡ with_room values stack =
+    made ∙ ap (λ xs. xs ++ replicate missing value.Top) (take_all stack values (omega arith)) ∙ ap (λ n. values ++ replicate n value.Top) more in
+    let turned : reverse pushed ≡ c ∷ reverse callers = ap reverse last ∙ reverse-append callers (c ∷ []) in
+    subst P (sym known)
+    (λ tiled is.
+    (λ i. frames_at (all i) (callee method (much i) stack ∷ turned i))
+    ∙ frames-called values c (reverse callers) method max_locals words stack tiled (room ∙ ap (λ n. max (n + max_locals) (length values)) much)
+    ∙ ap (with_called method max_locals words) is)
+    tiled is

@@ -5,3 +5,4 @@ pub mod Programs
 pub mod Makings
 pub mod Catches
 pub mod Throwing
+pub mod Calling

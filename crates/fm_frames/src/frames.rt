@@ -8,7 +8,7 @@ ghost use Rattle.std.specs.Option.{option_map};
 ghost use Rattle.fm_frames.specs.States.{word_at};
 ghost use Rattle.fm_frames.specs.inner.Frames as spec;
 ghost use Rattle.fm_frames.specs.inner.Doings.{NextFits};
-ghost use Rattle.fm_frames.specs.inner.Frames.{on_top, place, place_of, stack_in, locals_in};
+ghost use Rattle.fm_frames.specs.inner.Frames.{on_top, place, place_of, stack_in, locals_in, with_called};
 
 use crate::values::Value;
 use fm_base::{MethodId, NoMemory};
@@ -203,5 +203,27 @@ impl Frames {
         self.clear_words();
         self.go_to(handler);
         self.push(value)
+    }
+
+    /// Calls a method: so many words of the stack become the first locals of its frame.
+    pub fn enter(&mut self, method: MethodId, max_locals: u16, words: usize) -> Result<(), NoMemory>
+        ensures { OnOk result (self.new ≡ with_called method.0 max_locals words self.old) }
+    {
+        let Some(topmost) = self.topmost else {
+            return Ok(());
+        };
+        let len = self.values.len();
+        let height = len - topmost.stack;
+        let locals = topmost.stack + height.saturating_sub(words);
+        let stack = (locals + max_locals as usize).max(len);
+        self.values.resize(stack, Value::Top)?;
+        self.callers.push(topmost)?;
+        self.topmost = Some(Cursor {
+            method,
+            item: 0,
+            locals,
+            stack,
+        });
+        Ok(())
     }
 }

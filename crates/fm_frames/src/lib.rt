@@ -6,6 +6,7 @@
 #![tactic(auto)]
 
 mod built_ins;
+mod calls;
 mod coded;
 mod ends;
 mod faults;

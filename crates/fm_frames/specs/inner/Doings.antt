@@ -1,5 +1,5 @@
 -- What the calls of a machine do, told by effects.
-use Rattle.std.specs.Prelude.{◌≡◌, ℕ, ◌+◌, ◌^◌, ◌-◌, ◌<◌, ℤ, List, [], ◌∷◌, length, slice_get, Option, Some, None}
+use Rattle.std.specs.Prelude.{◌≡◌, ℕ, ◌+◌, ◌^◌, ◌-◌, ◌<◌, ◌≤◌, ℤ, List, [], ◌∷◌, length, slice_get, Option, Some, None}
 use Rattle.fm_world.specs.Members.{methods_of}
 use Rattle.fm_world.specs.Programs.{Program}
 use Rattle.fm_cells.specs.declared.answers.Cell.{Cell}
@@ -31,6 +31,8 @@ pub record CanStep (p : Program) (x : State) : Type 0 where
   pub runnable : IsRunnable p
   pub ready : IsReady x
   pub frames : AreFramesIn p x.frames
+  pub items_fit : (k : ℕ) (f : Frame) → slice_get x.frames k ≡ Some f → f.item + 1 < 2 ^ 64
+  pub within : length x.frames ≤ x.depth
   pub birth_fits : x.areas.store.births < 2 ^ 32 - 1
 
 -- where the values of an effect come from that makes nothing

@@ -1,9 +1,10 @@
 -- How frames lie among the values of one list: the lowest first, and of each first its locals and then its stack, whose last value is its top. And what
 -- changes the topmost frame.
-use Rattle.std.specs.Prelude.{ℕ, ◌≤◌, List, [], ◌∷◌, length, take, drop, reverse, Option, Some, None}
+use Rattle.std.specs.Prelude.{ℕ, ◌-◌, ◌≤◌, List, [], ◌∷◌, ◌++◌, length, replicate, take, drop, reverse, Option, Some, None}
 use Rattle.fm_frames.specs.States.{Frame}
 use Rattle.fm_frames.specs.declared.frames.Cursor.{Cursor}
 use Rattle.fm_frames.specs.declared.values.Value.{Value}
+use Rattle.fm_frames.specs.declared.values.Value.TheVariants as value
 
 -- ---- where frames lie
 
@@ -55,3 +56,15 @@ place_of f = (f.method, f.item)
 
 abbrev pub place : Cursor → ℕ × ℕ
 place c = (c.method.0, c.item)
+
+-- ---- calls
+
+-- the frame of a method on top, whose first locals are words of the stack of the one below; the others have no value
+abbrev pub called : (method max_locals words : ℕ) → Frame → Frame
+called method max_locals words f =
+    let arguments = reverse (take words f.stack) in
+    record { method = method; item = 0; locals = arguments ++ replicate (max_locals - length arguments) value.Top; stack = [] }
+
+abbrev pub with_called : (method max_locals words : ℕ) → List Frame → List Frame
+with_called method max_locals words [] = []
+with_called method max_locals words (f ∷ callers) = called method max_locals words f ∷ record f { stack = drop words f.stack } ∷ callers
