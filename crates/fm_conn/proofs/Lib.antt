@@ -13,3 +13,5 @@ pub mod LinkLemmas
 pub mod MemberLemmas
 pub mod StepLemmas
 pub mod CodedLemmas
+pub mod TypeLemmas
+pub mod AlmostLemmas

@@ -73,7 +73,7 @@ edge_to x reached j i next d tabled is leads there = record {
   leads = IsSomeAnd-from_some (insn_of x.code j) (λ v. LeadsTo v j next) i is leads;
 }
 
-edge_leads : (x : TypedMethod) (j : ℕ) (i : Insn) (next : ℕ) → insn_of x.code j ≡ Some i → IsNormalEdge x.code j next → LeadsTo i j next
+pub edge_leads : (x : TypedMethod) (j : ℕ) (i : Insn) (next : ℕ) → insn_of x.code j ≡ Some i → IsNormalEdge x.code j next → LeadsTo i j next
 edge_leads x j i next is edge = IsSomeAnd-at_some (insn_of x.code j) (λ v. LeadsTo v j next) i is edge.leads
 
 pub below_is : (x : TypedMethod) (j : ℕ) (i : Insn) (s : TypeState) → Located x j i s → depth_below x j i ≡ (place_at x j i s).below
@@ -251,7 +251,7 @@ place_sound x reached j i s AsResult n tabled at fits some =
 place_sound x reached j i s Outside n tabled at fits some =
     record { node = Global; at = refl; number = record { is_node = tt; there = tt; is = cc } }
 
-next_only : (i : Insn) (j next : ℕ) → targets_of i ≡ [] → LeadsTo i j next → next ≡ j + 1
+pub next_only : (i : Insn) (j next : ℕ) → targets_of i ≡ [] → LeadsTo i j next → next ≡ j + 1
 next_only i j next none (inl target) = absurd (Contains-none next (subst (λ list. Contains list next) none target))
 next_only i j next none (inr falls) = falls.1
 

@@ -23,7 +23,7 @@ mod summaries;
 pub use class_numbers::Classes;
 pub use ends::End2;
 pub use joined_nodes::classes;
-pub use laws::{law_facts, law_joined_example};
+pub use laws::{law_facts, law_joined_example, law_types};
 pub use own_classes::shape;
 pub use shapes::{CallShape, Shape};
 pub use summaries::{Ends, Summaries};
