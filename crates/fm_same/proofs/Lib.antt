@@ -22,3 +22,4 @@ pub mod EndRows
 pub mod ArrayRows
 pub mod NativeRows
 pub mod Owing
+pub mod Starting

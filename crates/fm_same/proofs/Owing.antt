@@ -21,7 +21,7 @@ use Rattle.fm_frames.specs.Rows.{effect_of}
 use Rattle.fm_frames.specs.Operands.{thrown, thrown_null}
 use Rattle.fm_frames.specs.Sights.{Looks, Sight}
 use Rattle.fm_frames.specs.States.{Frame}
-use Rattle.fm_same.specs.Covering.{CallsNative, Enters, EntersNamed, EntersSelected, EntersSpecial}
+use Rattle.fm_same.specs.Covering.{CallsNative, CoversAt, CoversNatives, HasKeysFor, MeetsCalls}
 use Rattle.fm_same.specs.Evenness.{Obeys}
 use Rattle.fm_same.proofs.Cases.{by_any, by_if, by_object, by_on_method, by_reference}
 use Rattle.fm_same.proofs.ItemFacts.{AtInsn, point, used}
@@ -31,17 +31,6 @@ use Rattle.fm_same.proofs.EndRows.{cast_obeys, is_a_obeys, lookup_obeys, return_
 use Rattle.fm_same.proofs.MoveRows.{const_obeys, constant_obeys, dup2_obeys, dup2_x1_obeys, dup2_x2_obeys, dup_obeys, dup_x1_obeys, dup_x2_obeys, load_obeys, long_const_obeys, nop_obeys, null_constant_obeys, pop2_obeys, pop_obeys, store_obeys, swap_obeys}
 use Rattle.fm_same.proofs.ObjectRows.{get_field_obeys, get_static_obeys, new_obeys, put_field_obeys, put_static_obeys, started_obeys}
 use Rattle.fm_same.proofs.PlainRows.{compare_obeys, convert_obeys, faulty_obeys, goto_obeys, increment_obeys, int_jump_obeys, int_negate_obeys, int_op_obeys, int_shift_obeys, long_negate_obeys, long_op_obeys, long_shift_obeys, null_jump_obeys, null_obeys, Owes, pair_jump_obeys, same_jump_obeys, stuck_obeys, thrown_obeys}
-
--- a switch by keys has a target for each of its keys
-abbrev pub HasKeysFor : Insn → Type 0
-HasKeysFor (insn.Lookup others keys targets) = length keys ≤ length targets
-HasKeysFor i = Unit {0}
-
--- each built-in method that a call leads to is one as its row wants it
-abbrev pub CoversNatives : Program → Facts → Frame → Code → Insn → List Sight → Type 0
-CoversNatives p facts f code i s =
-    (target : ℕ) (row : Native) → Enters p.outline f.method (use_by p f.method i) s i target → native_of p.outline target ≡ Some row
-    → CallsNative p facts f code i target row
 
 module _ (p : Program) (facts : Facts) (exact : AreFacts p facts) (f : Frame) (i : Insn) (h : AtInsn p facts f i) where
   -- a method with code is entered

@@ -17,6 +17,7 @@ use Rattle.fm_same.specs.Regions.{IsCaptured, Own, Region, Retired}
 use Rattle.fm_same.specs.Standing.{Stand}
 use Rattle.fm_same.proofs.Retiring.{dead_if_retired, held_at_has, led_has, method_there, retire, retired_on}
 use Rattle.fm_same.proofs.ReturnsKeep.{mapped, moved, moved_own}
+use Rattle.fm_same.proofs.Starting.{state_owes}
 use Rattle.fm_same.proofs.StepKeeps.{step_over}
 
 -- the own region of a captured class stays while the activation does
@@ -34,7 +35,7 @@ module _ (p : Program) (facts : Facts) (exact : AreFacts p facts) (numbers : Hol
   over_at : (k : ℕ) (colour : Colour) → Coloured p facts (xs k) colour → GoesOver p facts (xs k) (xs (suc k)) colour
   over_at k colour h =
       subst (λ next. GoesOver p facts (xs k) next colour) (sym (run.next k))
-      (step_over p facts exact choose may numbers (xs k) colour h (run.stand k) (run.owes k)
+      (step_over p facts exact choose may numbers (xs k) colour h (run.stand k) (state_owes p facts exact numbers (xs k) (run.stand k) (run.covers k))
       (subst (λ (next : State). Stand p facts next.frames) (run.next k) (run.stand (suc k))))
 
   -- each state has colours

@@ -1,5 +1,5 @@
 -- What is asked of calls: the method that a call leads to is among its targets, and a built-in method has the words and the ends that its row works on.
-use Rattle.std.specs.Prelude.{◌≡◌, ℕ, ◌+◌, ◌-◌, ◌≤◌, Option, Some, None, List, length, Contains, slice_get}
+use Rattle.std.specs.Prelude.{◌≡◌, ℕ, ◌+◌, ◌-◌, ◌≤◌, Option, Some, None, List, [], ◌∷◌, length, Contains, slice_get}
 use Rattle.fm_base.specs.declared.ids.MethodId.{MethodId}
 use Rattle.fm_base.specs.declared.ids.TypeId.{TypeId}
 use Rattle.fm_base.specs.declared.kinds.TypeRef.{TypeRef}
@@ -22,9 +22,11 @@ use Rattle.fm_world.specs.declared.uses.Use.TheVariants as resolved
 use Rattle.fm_frames.specs.CallRows.{native_of, receiver_class, words_of_arguments}
 use Rattle.fm_frames.specs.NativeRows.{shown_words}
 use Rattle.fm_frames.specs.Natives.{Native, ObjectInit, ObjectHashCode, ObjectEquals, ObjectToString, StringLength, CharAt, StringEquals, StringHashCode, CompareTo, StringToString, Substring, ValueOf, BuilderInit, Append, BuilderLength, BuilderToString, BufferInitOf, Exit, Print, Println, PrintlnNothing, Read, ThrowableInit, ThrowableInitOf, GetMessage, ThrowableToString, FreeMeFree, FreeMeLink, FreeMeFreeChain, native_of_row}
-use Rattle.fm_frames.specs.Sights.{Looks, Sight, Thing}
-use Rattle.fm_frames.specs.States.{Frame}
-use Rattle.fm_same.specs.Standing.{method_of}
+use Rattle.fm_frames.specs.Sights.{Looks, Sight, sights, Thing}
+use Rattle.fm_frames.specs.States.{Frame, State}
+use Rattle.fm_frames.specs.Steps.{effect_at}
+use Rattle.fm_same.specs.Evenness.{PlacesAgree}
+use Rattle.fm_same.specs.Standing.{method_of, StandsAt}
 
 -- ---- the method that a call leads to
 
@@ -117,3 +119,26 @@ pub record CallsNative (p : Program) (facts : Facts) (f : Frame) (code : Code) (
   pub ends : NativeEnds p.outline target row
   pub arguments : (k : ℕ) → IsEnd p.outline target (end.Parameter k)
       → IsNode (method_of p facts f code) (Slot f.item (length f.stack - native_words row + k))
+
+-- ---- what is asked at a state
+
+-- a switch by keys has a target for each of its keys
+abbrev pub HasKeysFor : Insn → Type 0
+HasKeysFor (insn.Lookup others keys targets) = length keys ≤ length targets
+HasKeysFor i = Unit {0}
+
+-- each built-in method that a call leads to is one as its row wants it
+abbrev pub CoversNatives : Program → Facts → Frame → Code → Insn → List Sight → Type 0
+CoversNatives p facts f code i s =
+    (target : ℕ) (row : Native) → Enters p.outline f.method (use_by p f.method i) s i target → native_of p.outline target ≡ Some row
+    → CallsNative p facts f code i target row
+
+-- what is asked of the instruction of the topmost frame: of its calls, of its keys, and of the places that it reads and writes
+pub record MeetsCalls (p : Program) (facts : Facts) (x : State) (f : Frame) (code : Code) (i : Insn) : Type 0 where
+  pub natives : CoversNatives p facts f code i (sights p.outline x.areas.store f.stack)
+  pub keys : HasKeysFor i
+  pub places : PlacesAgree p.outline x.areas.store f.stack (effect_at p x)
+
+abbrev pub CoversAt : Program → Facts → State → List Frame → Type 0
+CoversAt p facts x [] = Unit {0}
+CoversAt p facts x (f ∷ callers) = (at : StandsAt p facts f) → MeetsCalls p facts x f at.code at.insn

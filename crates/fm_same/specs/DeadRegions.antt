@@ -12,9 +12,9 @@ use Rattle.fm_conn.specs.Nodes.{IsNode, Local}
 use Rattle.fm_world.specs.Programs.{code_at, Outline, Program}
 use Rattle.fm_frames.specs.Acts.{cell_of, Choose}
 use Rattle.fm_frames.specs.States.{Frame, State}
-use Rattle.fm_frames.specs.Steps.{next_effect, step}
+use Rattle.fm_frames.specs.Steps.{step}
 use Rattle.fm_frames.specs.declared.values.Value.{Value}
-use Rattle.fm_same.specs.Advances.{OwesAt}
+use Rattle.fm_same.specs.Covering.{CoversAt}
 use Rattle.fm_same.specs.Colours.{kind_in, node_of_word}
 use Rattle.fm_same.specs.Regions.{IsCaptured}
 use Rattle.fm_same.specs.Standing.{method_of, Stand}
@@ -107,8 +107,9 @@ pub record IsRetired (p : Program) (facts : Facts) (xs : ℕ → State) (method 
 
 -- ---- runs
 
--- states of which each is the next one's step, where frames stand as a sound machine has them and effects owe to the classes what they should
+-- states of which each is the next one's step, where frames stand as a sound machine has them, calls lead to targets, and places are read and written by
+-- their kinds
 pub record IsSoundRun (p : Program) (facts : Facts) (choose : Choose) (xs : ℕ → State) : Type 0 where
   pub next : (k : ℕ) → xs (suc k) ≡ (step p choose (xs k)).state
   pub stand : (k : ℕ) → Stand p facts (xs k).frames
-  pub owes : (k : ℕ) → OwesAt p facts (xs k).areas.store (next_effect p (xs k)) (xs k).frames
+  pub covers : (k : ℕ) → CoversAt p facts (xs k) (xs k).frames

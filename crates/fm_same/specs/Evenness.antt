@@ -1,6 +1,6 @@
 -- What an effect owes to the classes of nodes, so that colours are kept: values go from one node to another of the same class, and the objects that a step
 -- makes have one home. It follows from the pairs of the item, row by row.
-use Rattle.std.specs.Prelude.{◌≡◌, ℕ, ◌+◌, ◌-◌, ◌<◌, ◌==◌, ◌⊎◌, Bool, true, false, List, [], length, Some, slice_get}
+use Rattle.std.specs.Prelude.{◌≡◌, ℕ, ◌+◌, ◌-◌, ◌<◌, ◌==◌, ◌⊎◌, Bool, true, false, List, [], length, Option, Some, slice_get}
 use Rattle.std.specs.List.{AllByRecursion, list_any}
 use Rattle.fm_base.specs.declared.kinds.Kind.{Kind}
 use Rattle.fm_base.specs.declared.kinds.Kind.TheVariants as kind
@@ -14,7 +14,11 @@ use Rattle.fm_code.specs.declared.instructions.Insn.{Insn}
 use Rattle.fm_conn.specs.Nodes.{Node, Local, Slot, Return, Global, IsNode, TypedMethod}
 use Rattle.fm_conn.specs.Pairs.{IsEnd}
 use Rattle.fm_conn.specs.declared.ends.End2.TheVariants as end
+use Rattle.fm_world.specs.Members.{field_at}
 use Rattle.fm_world.specs.Programs.{Outline}
+use Rattle.fm_world.specs.declared.declarations.Constant.{Constant}
+use Rattle.fm_world.specs.declared.declarations.Constant.TheVariants as constant
+use Rattle.fm_frames.specs.ObjectRows.{kind_of_field}
 use Rattle.fm_frames.specs.Acts.{cell_of}
 use Rattle.fm_frames.specs.Effects.{Action, Make, MakeFixed, MakeLiteral, Put, SetStatic, Start, Free, SetChain, FreeChain, Effect, Next, Falls, Jumps, JumpsIfSame, Returns, Throws, Source, Plain, OfOperand, OfLocal, LocalPlus, OfPlace, OfStatic, OfMade, OfLiteral, SameOperands}
 use Rattle.fm_frames.specs.Acts.{requested}
@@ -192,7 +196,14 @@ pub record PlacesAgree (o : Outline) (store : Store) (stack : List Value) (e : E
   pub puts : AllByRecursion (PutAgrees o store stack) e.actions
   pub reads : AllByRecursion (ReadAgrees o store stack) e.gives
 
--- texts have no place for references
+-- a constant that is a number
+abbrev pub IsNumber : Option Constant → Type 0
+IsNumber (Some (constant.Int n)) = Unit {0}
+IsNumber (Some (constant.Long n)) = Unit {0}
+IsNumber other = ⊥
+
+-- texts have no place for references, and a number is the constant of a field of numbers
 pub record HoldsNumbers (o : Outline) : Type 0 where
   pub texts : (object : Object) (len : ℕ) (fixed : Bool) → object.class ≡ (requested o (text_type o) len fixed).class
       → (place : ℕ) (t : TypeRef) → kind_in o object place ≡ Some (kind.Ref t) → ⊥
+  pub constants : (field : ℕ) → IsNumber (field_at o.classes field).field.value → IsPlainKind (kind_of_field o field)

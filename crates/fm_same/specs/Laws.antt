@@ -15,6 +15,7 @@ use Rattle.fm_frames.specs.States.{Frame, State}
 use Rattle.fm_frames.specs.Steps.{next_effect, step}
 use Rattle.fm_same.specs.Advances.{GoesOver, OwesAt}
 use Rattle.fm_same.specs.Colours.{Colour, Coloured}
+use Rattle.fm_same.specs.Covering.{CoversAt}
 use Rattle.fm_same.specs.DeadRegions.{IsDead, IsOver, IsRetired, IsSoundRun}
 use Rattle.fm_same.specs.Evenness.{HoldsNumbers}
 use Rattle.fm_same.specs.Regions.{argument, IsCaptured, Own, region, Region, Retired}
@@ -80,6 +81,12 @@ StepsKeepColours =
     → Coloured p facts x colour → Stand p facts x.frames → OwesAt p facts x.areas.store (next_effect p x) x.frames
     → Stand p facts (step p (lawful choose) x).state.frames
     → GoesOver p facts x (step p (lawful choose) x).state colour
+
+-- the next effect of a state whose frames stand as a sound machine has them owes to the classes what it should, by the pairs of its item
+abbrev pub EffectsOwe : Type 0
+EffectsOwe =
+    (p : Program) (facts : Facts) → AreFacts p facts → HoldsNumbers p.outline → (x : State) → Stand p facts x.frames → CoversAt p facts x x.frames
+    → OwesAt p facts x.areas.store (next_effect p x) x.frames
 
 -- a captured class that isn't busy can be retired: colours stay so where what has its region is retired
 abbrev pub QuietClassesRetire : Type 0

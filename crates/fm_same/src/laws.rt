@@ -18,6 +18,12 @@ pub fn law_regions()
     ensures returns { law.RegionsGoAlongReturns }
 {}
 
+/// Every effect of the table owes to the classes of nodes what it should: what goes from one node to
+/// another stays in one class, by the pairs of the item, and all that a step makes has one home.
+pub fn law_effects()
+    ensures { law.EffectsOwe }
+{}
+
 /// Colours of objects by regions go on: a step leads from colours of a state to colours of the next, and
 /// where a captured class isn't busy, or its activation is gone, its region can be retired.
 pub fn law_colours()
@@ -25,9 +31,9 @@ pub fn law_colours()
     ensures retire { law.QuietClassesRetire }
 {}
 
-/// The law of dead regions, for runs whose states are sound and whose effects owe to the classes what
-/// they should: what a captured class of an activation led to is dead from the state on in which the
-/// class isn't busy, or the activation is gone. Nothing leads to it, and no step changes it.
+/// The law of dead regions, for runs whose states are sound: what a captured class of an activation led
+/// to is dead from the state on in which the class isn't busy, or the activation is gone. Nothing leads
+/// to it, and no step changes it.
 pub fn law_dead_regions_of_sound_runs()
     ensures { law.RegionsDie }
 {}

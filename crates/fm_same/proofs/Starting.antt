@@ -1,0 +1,182 @@
+-- What the start of a class makes of an effect owes no more than the effect; so the next effect of a sound state owes what it should.
+use Rattle.std.proofs.Common.{◌≡◌, ℕ, zero, suc, ◌+◌, Bool, true, false, List, [], ◌∷◌, ◌++◌, length, Option, Some, None, option_and_then, refl, sym, ◌∙◌, ap, subst, slice_get, arith}
+use Rattle.std.specs.List.{AllByRecursion, flat_map}
+use Rattle.std.proofs.lemmas.Option.{same_Some}
+use Rattle.fm_base.specs.Texts.{units}
+use Rattle.fm_base.specs.declared.kinds.Kind.{Kind}
+use Rattle.fm_base.specs.declared.kinds.Kind.TheVariants as kind
+use Rattle.fm_cells.specs.Stores.{Store}
+use Rattle.fm_code.specs.Edges.{insn_of}
+use Rattle.fm_code.specs.declared.code_array.Code.{Code}
+use Rattle.fm_code.specs.declared.instructions.Insn.{Insn}
+use Rattle.fm_conn.specs.Facts.{AreFacts, Facts}
+use Rattle.fm_types.specs.Typed.{use_by}
+use Rattle.fm_world.specs.Members.{field_at, slot_of}
+use Rattle.fm_world.specs.Numbers.{text_number}
+use Rattle.fm_world.specs.Programs.{code_at, Outline, Program}
+use Rattle.fm_world.specs.declared.declarations.Constant.{Constant}
+use Rattle.fm_world.specs.declared.declarations.Constant.TheVariants as constant
+use Rattle.fm_frames.specs.Effects.{Action, Effect, Enters, MakeLiteral, nothing, OfLiteral, Plain, SetStatic, Start}
+use Rattle.fm_frames.specs.ObjectRows.{kind_of_field}
+use Rattle.fm_frames.specs.Rows.{effect_of}
+use Rattle.fm_frames.specs.Sights.{sights}
+use Rattle.fm_frames.specs.Starts.{fields_at, set_constant, start_actions, start_methods, start_of_class, started_by, to_start, with_start}
+use Rattle.fm_frames.specs.States.{Frame, State}
+use Rattle.fm_frames.specs.Steps.{effect_at, effect_by, insn_at, next_effect}
+use Rattle.fm_frames.specs.declared.values.Value.{Value}
+use Rattle.fm_frames.specs.declared.values.Value.TheVariants as value
+use Rattle.fm_same.specs.Advances.{OwesAt, point_of}
+use Rattle.fm_same.specs.Covering.{CoversAt, MeetsCalls}
+use Rattle.fm_same.specs.Evenness.{ActsEvenly, HoldsNumbers, IsNumber, IsPlainKind, Obeys, PlacesAgree, Point, PutAgrees, SetsEvenly}
+use Rattle.fm_same.specs.Standing.{Goes, Stand, StandsAt}
+use Rattle.fm_same.proofs.ItemFacts.{AtInsn, depth_is}
+use Rattle.fm_same.proofs.Owing.{effect_obeys}
+
+-- ---- lists
+
+all_joined : (P : Action → Type 0) (xs ys : List Action) → AllByRecursion P xs → AllByRecursion P ys → AllByRecursion P (xs ++ ys)
+all_joined P [] ys h rest = rest
+all_joined P (x ∷ xs) ys h rest = (h.0, all_joined P xs ys h.1 rest)
+
+all_flattened : (P : Action → Type 0) (f : ℕ → List Action) (xs : List ℕ) → ((n : ℕ) → AllByRecursion P (f n)) → AllByRecursion P (flat_map f xs)
+all_flattened P f [] h = tt
+all_flattened P f (x ∷ xs) h = all_joined P (f x) (flat_map f xs) (h x) (all_flattened P f xs h)
+
+-- ---- the actions of starts
+
+number_set : (o : Outline) (x : Point) (home : ℕ) (slot : ℕ) (k : Kind) (v : Value) → IsPlainKind k → SetsEvenly x home (Plain v) k
+number_set o x home slot (kind.Ref t) v h = absurd h
+number_set o x home slot k v h = tt
+
+literal_set : (x : Point) (home text : ℕ) (k : Kind) → SetsEvenly x home (OfLiteral text) k
+literal_set x home text (kind.Ref t) = (tt, tt)
+literal_set x home text k = tt
+
+abbrev with_text : Outline → ℕ → Option ℕ → List Action
+with_text o field None = []
+with_text o field (Some number) = MakeLiteral number ∷ SetStatic (slot_of o.classes field) (kind_of_field o field) (OfLiteral number) ∷ []
+
+text_even : (o : Outline) (x : Point) (home field : ℕ) (number : Option ℕ) → AllByRecursion (ActsEvenly o x home) (with_text o field number)
+text_even o x home field None = tt
+text_even o x home field (Some number) = (tt, (literal_set x home number (kind_of_field o field), tt))
+
+constant_even : (o : Outline) (x : Point) (home field : ℕ) (value : Option Constant) → (IsNumber value → IsPlainKind (kind_of_field o field))
+    → AllByRecursion (ActsEvenly o x home) (set_constant o field value)
+constant_even o x home field None plain = tt
+constant_even o x home field (Some (constant.Int n)) plain =
+    (number_set o x home (slot_of o.classes field) (kind_of_field o field) (value.Int n) (plain tt), tt)
+constant_even o x home field (Some (constant.Long n)) plain =
+    (number_set o x home (slot_of o.classes field) (kind_of_field o field) (value.Long n) (plain tt), tt)
+constant_even o x home field (Some (constant.Text text)) plain = text_even o x home field (text_number o.texts (units text))
+
+starts_even : (o : Outline) (x : Point) (home : ℕ) → HoldsNumbers o → (classes : List ℕ) → AllByRecursion (ActsEvenly o x home) (start_actions o classes)
+starts_even o x home numbers classes =
+    all_flattened (ActsEvenly o x home) (start_of_class o) classes
+    (λ class. (
+      tt,
+      all_flattened (ActsEvenly o x home) (λ field. set_constant o field (field_at o.classes field).field.value) (fields_at o class)
+      (λ field. constant_even o x home field (field_at o.classes field).field.value (numbers.constants field)),
+    ))
+
+-- they put nothing into objects
+text_agrees : (o : Outline) (store : Store) (stack : List Value) (field : ℕ) (number : Option ℕ)
+    → AllByRecursion (PutAgrees o store stack) (with_text o field number)
+text_agrees o store stack field None = tt
+text_agrees o store stack field (Some number) = (tt, (tt, tt))
+
+constant_agrees : (o : Outline) (store : Store) (stack : List Value) (field : ℕ) (value : Option Constant)
+    → AllByRecursion (PutAgrees o store stack) (set_constant o field value)
+constant_agrees o store stack field None = tt
+constant_agrees o store stack field (Some (constant.Int n)) = (tt, tt)
+constant_agrees o store stack field (Some (constant.Long n)) = (tt, tt)
+constant_agrees o store stack field (Some (constant.Text text)) = text_agrees o store stack field (text_number o.texts (units text))
+
+starts_agree : (o : Outline) (store : Store) (stack : List Value) (classes : List ℕ) → AllByRecursion (PutAgrees o store stack) (start_actions o classes)
+starts_agree o store stack classes =
+    all_flattened (PutAgrees o store stack) (start_of_class o) classes
+    (λ class. (
+      tt,
+      all_flattened (PutAgrees o store stack) (λ field. set_constant o field (field_at o.classes field).field.value) (fields_at o class)
+      (λ field. constant_agrees o store stack field (field_at o.classes field).field.value),
+    ))
+
+-- ---- the effect with what starts make of it
+
+abbrev by_methods : Outline → List ℕ → Effect → List ℕ → Effect
+by_methods o classes e [] = record e { starts = None; actions = start_actions o classes ++ e.actions }
+by_methods o classes e (m ∷ methods) = record nothing { actions = start_actions o classes; next = Enters (m ∷ methods) }
+
+abbrev by_class : Outline → List Bool → Effect → Option ℕ → Effect
+by_class o started e None = e
+by_class o started e (Some class) = by_methods o (to_start o started class) e (start_methods o (to_start o started class))
+
+start_is : (o : Outline) (started : List Bool) (e : Effect) → with_start o started e ≡ by_class o started e e.starts
+start_is o started e = refl
+
+abbrev Both : Outline → Point → Insn → Store → List Value → Effect → Type 0
+Both o x i store stack e = Obeys o x i e × PlacesAgree o store stack e
+
+methods_owe : (o : Outline) (x : Point) (i : Insn) (store : Store) (stack : List Value) → HoldsNumbers o → (classes : List ℕ) (e : Effect)
+    → Both o x i store stack e → (methods : List ℕ) → Both o x i store stack (by_methods o classes e methods)
+methods_owe o x i store stack numbers classes e owes [] = (
+  record {
+    home = owes.0.home;
+    acts = all_joined (ActsEvenly o x owes.0.home) (start_actions o classes) e.actions (starts_even o x owes.0.home numbers classes) owes.0.acts;
+    leads = owes.0.leads;
+    goes = λ next going edge.
+        let on = owes.0.goes next going edge in
+        record { stays = on.stays; gives = on.gives; writes = on.writes; lives = on.lives };
+    ends = owes.0.ends;
+  },
+  record {
+    puts = all_joined (PutAgrees o store stack) (start_actions o classes) e.actions (starts_agree o store stack classes) owes.1.puts;
+    reads = owes.1.reads;
+  },
+)
+methods_owe o x i store stack numbers classes e owes (m ∷ methods) = (
+  record { home = 0; acts = starts_even o x 0 numbers classes; leads = tt; goes = λ next going edge. absurd going; ends = tt },
+  record { puts = starts_agree o store stack classes; reads = tt },
+)
+
+class_owes : (o : Outline) (x : Point) (i : Insn) (store : Store) (stack : List Value) → HoldsNumbers o → (started : List Bool) (e : Effect)
+    → Both o x i store stack e → (class : Option ℕ) → Both o x i store stack (by_class o started e class)
+class_owes o x i store stack numbers started e owes None = owes
+class_owes o x i store stack numbers started e owes (Some class) =
+    methods_owe o x i store stack numbers (to_start o started class) e owes (start_methods o (to_start o started class))
+
+-- ---- at a state
+
+insn_is : (p : Program) (f : Frame) (code : Code) (i : Insn) → code_at p f.method ≡ Some code → insn_of code f.item ≡ Some i → insn_at p f ≡ Some i
+insn_is p f code i code_is is = ap (λ o. option_and_then (λ (c : Code). insn_of c f.item) o) code_is ∙ is
+
+module _ (p : Program) (facts : Facts) (exact : AreFacts p facts) (numbers : HoldsNumbers p.outline) where
+  topmost_owes : (y : State) (f : Frame) (callers : List Frame) → Goes p facts f → CoversAt p facts (record y { frames = f ∷ callers }) (f ∷ callers)
+      → OwesAt p facts y.areas.store (next_effect p (record y { frames = f ∷ callers })) (f ∷ callers)
+  unfolding next_effect
+  topmost_owes y f callers goes covers at =
+      let x : State = record y { frames = f ∷ callers } in
+      let h : AtInsn p facts f at.insn = record {
+        code = at.code;
+        code_is = at.code_is;
+        insn_is = at.insn_is;
+        state = at.state;
+        state_is = at.state_is;
+        depth = goes.depth ∙ depth_is p facts f at.code f.item at.state at.state_is;
+      } in
+      let asks : MeetsCalls p facts x f at.code at.insn = covers at in
+      let is : effect_at p x ≡ effect_by p x f (Some at.insn) = ap (effect_by p x f) (insn_is p f at.code at.insn at.code_is at.insn_is) in
+      let owes : Obeys p.outline (point_of p facts f at.code) at.insn (effect_at p x) =
+      subst (λ e. Obeys p.outline (point_of p facts f at.code) at.insn e) (sym is)
+      (effect_obeys p facts exact f at.insn h (slice_get y.input 0) (sights p.outline y.areas.store f.stack) asks.natives asks.keys) in
+      class_owes p.outline (point_of p facts f at.code) at.insn y.areas.store f.stack numbers y.areas.started (effect_at p x) (owes, asks.places)
+      (effect_at p x).starts
+
+  frames_owe : (y : State) (frames : List Frame) → Stand p facts frames → CoversAt p facts (record y { frames = frames }) frames
+      → OwesAt p facts y.areas.store (next_effect p (record y { frames = frames })) frames
+  unfolding next_effect
+  frames_owe y [] stand covers = refl
+  frames_owe y (f ∷ callers) stand covers = topmost_owes y f callers stand.0 covers
+
+  -- the next effect owes to the classes what it should
+  pub state_owes : (x : State) → Stand p facts x.frames → CoversAt p facts x x.frames → OwesAt p facts x.areas.store (next_effect p x) x.frames
+  state_owes x stand covers = frames_owe x x.frames stand covers
