@@ -1,5 +1,5 @@
 -- Frames that lie in one list: what a change of the list, or of the topmost cursor, does to them.
-use Rattle.std.proofs.Common.{◌≡◌, ℕ, ◌+◌, ◌-◌, ◌<◌, ◌≤◌, ◌⊎◌, inl, inr, List, [], ◌∷◌, ◌++◌, length, take, drop, set, reverse, Option, Some, None, get_or, refl, ap, sym, ◌∙◌, subst, slice_get, option_map, map, zero, suc, ◌≢◌, add-one, replicate, max, take_all, true, false, leb, arith}
+use Rattle.std.proofs.Common.{◌≡◌, ℕ, ◌+◌, ◌-◌, ◌<◌, ◌≤◌, ◌⊎◌, inl, inr, List, [], ◌∷◌, ◌++◌, length, take, drop, set, reverse, Option, Some, None, get_or, refl, ap, sym, ◌∙◌, subst, slice_get, option_map, map, zero, suc, ◌≢◌, add-one, replicate, max, take_all, option_to_list, append_assoc, true, false, leb, arith}
 use Rattle.std.proofs.Math.ListN.{drop_of_length-le}
 use Rattle.std.proofs.Math.Seq.{drop-append_seam, take-set-lt}
 use Rattle.std.proofs.lemmas.List.{drop-append-le, take-append-le, take-append-drop, drop-take, reverse-append, length-reverse, length-take, length-drop, get_or-reverse, length-append, take-set-le, drop-set-lt, drop-set-add, length-set, set_past, drop-drop, length-replicate, reverse-reverse}
@@ -9,7 +9,7 @@ use Rattle.fm_frames.specs.States.{Frame}
 use Rattle.fm_frames.specs.declared.frames.Cursor.{Cursor}
 use Rattle.fm_frames.specs.declared.values.Value.{Value}
 use Rattle.fm_frames.specs.declared.values.Value.TheVariants as value
-use Rattle.fm_frames.specs.inner.Frames.{AreTiled, cursors, frames_at, on_top, place, place_of, with_called}
+use Rattle.fm_frames.specs.inner.Frames.{AreTiled, cursors, frames_at, on_top, place, place_of, result_word, stack_in, with_called, with_result, with_words}
 
 -- frames are equal by their parts
 same_frame : (method item : ℕ) {l1 l2 s1 s2 : List Value} → l1 ≡ l2 → s1 ≡ s2
@@ -305,3 +305,36 @@ entered values new t c callers pushed method max_locals words kept stack missing
     ∙ frames-called values c (reverse callers) method max_locals words stack tiled (room ∙ ap (λ n. max (n + max_locals) (length values)) much)
     ∙ ap (with_called method max_locals words) is)
     tiled is
+
+-- ---- returns
+
+-- a result of at most two words, word by word
+result-words : (words : ℕ) (stack : List Value) → words ≤ 2
+    → option_to_list (result_word words 0 stack) ++ option_to_list (result_word words 1 stack) ≡ take words stack
+result-words zero stack few = refl
+result-words (suc zero) [] few = refl
+result-words (suc zero) (a ∷ stack) few = refl
+result-words (suc (suc zero)) [] few = refl
+result-words (suc (suc zero)) (a ∷ []) few = refl
+result-words (suc (suc zero)) (a ∷ b ∷ stack) few = refl
+result-words (suc (suc (suc more))) stack few = absurd (omega arith)
+
+pub gave-back : (words : ℕ) (frames popped moved half new : List Frame) → words ≤ 2 → popped ≡ drop 1 frames
+    → moved ≡ on_top (λ f. record f { item = f.item + 1 }) popped
+    → half ≡ on_top (with_words (option_to_list (result_word words 1 (stack_in frames)))) moved
+    → new ≡ on_top (with_words (option_to_list (result_word words 0 (stack_in frames)))) half
+    → new ≡ with_result words frames
+gave-back words frames popped moved half new few one two three four =
+    four ∙ ap (on_top (with_words (option_to_list (result_word words 0 (stack_in frames))))) (three
+    ∙ ap (on_top (with_words (option_to_list (result_word words 1 (stack_in frames))))) (two ∙ ap (on_top (λ f. record f { item = f.item + 1 })) one))
+    ∙ by_frames frames where
+      by_frames : (frames : List Frame)
+          → on_top (with_words (option_to_list (result_word words 0 (stack_in frames)))) (on_top (with_words (option_to_list (result_word words 1 (stack_in frames))))
+          (on_top (λ f. record f { item = f.item + 1 }) (drop 1 frames)))
+          ≡ with_result words frames
+      by_frames [] = refl
+      by_frames (f ∷ []) = refl
+      by_frames (f ∷ caller ∷ callers) =
+          ap (λ given. record caller { item = caller.item + 1; stack = given } ∷ callers)
+          (sym (append_assoc (option_to_list (result_word words 0 f.stack)) (option_to_list (result_word words 1 f.stack)) caller.stack)
+          ∙ ap (λ given. given ++ caller.stack) (result-words words f.stack few))

@@ -8,8 +8,8 @@ use Rattle.fm_types.specs.Named.{built_in_type, throwable_type}
 use Rattle.fm_world.specs.Members.{size_of}
 use Rattle.fm_world.specs.Numbers.{type_number, type_of_class}
 use Rattle.fm_world.specs.Programs.{Outline, Program}
-use Rattle.fm_frames.specs.Acts.{Choose, Did, requested}
-use Rattle.fm_frames.specs.Effects.{Make}
+use Rattle.fm_frames.specs.Acts.{Choose, Did, performed, requested}
+use Rattle.fm_frames.specs.Effects.{Make, Plain, making, words}
 use Rattle.fm_frames.specs.Elements.{pack_of}
 use Rattle.fm_frames.specs.Operands.{size_of_type, thrown}
 use Rattle.fm_frames.specs.Sights.{type_numbered}
@@ -60,3 +60,25 @@ thrown-request o name class id size pack t is same number packed =
 pub told-ok : {T E : Type 0} (r : Result T E) (P Q : Type 0) → (P → Q) → OnOk r P → OnOk r Q
 told-ok (Ok x) P Q f h = f h
 told-ok (Err e) P Q f h = tt
+
+-- ---- an object that is made and given
+
+given-frames : (p : Program) (choose : Choose) (x : State) (areas : Areas) (takes cell : ℕ) (t : TypeRef) (len : ℕ) (frames : List Frame) → NextFits frames
+    → attempted p choose (record x { frames = frames; areas = areas }) (words takes (Plain (ref cell) ∷ []))
+    ≡ done_by p 1 (making takes (Make t len [])) (record x { frames = frames }) (Did areas (cell ∷ []))
+unfolding performed continued
+given-frames p choose x areas takes cell t len [] fits = absurd fits
+given-frames p choose x areas takes cell t len (f ∷ callers) fits = refl
+
+pub made-given : (p : Program) (choose : Choose) (x y z : State) (takes : ℕ) (t : TypeRef) (len : ℕ) (cell : Cell) → NextFits x.frames
+    → MakesOne p choose x y (making takes (Make t len [])) (Some cell)
+    → silent z ≡ attempted p choose y (words takes (Plain (ref cell.0) ∷ []))
+    → silent z ≡ attempted p choose x (making takes (Make t len []))
+made-given p choose x y z takes t len cell fits makes given =
+    given ∙ ap (λ (y : State). attempted p choose y (words takes (Plain (ref cell.0) ∷ []))) makes.1
+    ∙ given-frames p choose x y.areas takes cell.0 t len x.frames fits ∙ sym makes.0
+
+-- what is asked of the memory for an object of a type
+pub type-request : (o : Outline) (t : TypeRef) (id len pack : ℕ) → id ≡ unwrap_or (type_number o.types t) 0 → pack ≡ pack_of o t
+    → requested o t len false ≡ request_of id len pack false
+type-request o t id len pack number packed = λ i. request_of (sym number i) len (sym packed i) false

@@ -3,12 +3,12 @@
 // The locals of a frame come first, and then its operand stack, whose last value is its top. A call takes
 // the arguments off the stack of its caller by letting the callee's locals begin with them.
 
-ghost use Rattle.std.specs.Prelude.{◌≡◌, ◌<◌, ◌^◌, ◌+◌, ◌++◌, ◌-◌, [], ◌∷◌, length, drop, take, reverse, replicate, slice_get, slice_set, OnOk};
+ghost use Rattle.std.specs.Prelude.{◌≡◌, ◌<◌, ◌^◌, ◌+◌, ◌++◌, ◌-◌, [], ◌∷◌, length, drop, take, reverse, replicate, slice_get, slice_set, option_to_list, ◌≤◌, OnOk};
 ghost use Rattle.std.specs.Option.{option_map};
 ghost use Rattle.fm_frames.specs.States.{word_at};
 ghost use Rattle.fm_frames.specs.inner.Frames as spec;
 ghost use Rattle.fm_frames.specs.inner.Doings.{NextFits};
-ghost use Rattle.fm_frames.specs.inner.Frames.{on_top, place, place_of, stack_in, locals_in, with_called};
+ghost use Rattle.fm_frames.specs.inner.Frames.{on_top, place, place_of, result_word, stack_in, locals_in, with_called, with_result, with_words};
 
 use crate::values::Value;
 use fm_base::{MethodId, NoMemory};
@@ -224,6 +224,42 @@ impl Frames {
             locals,
             stack,
         });
+        Ok(())
+    }
+
+    // The word of a result at this place, where the result has so many words.
+    fn result_word(&self, words: usize, place: usize) -> Option<Value>
+        ensures { result ≡ result_word words place (stack_in self.now) }
+    {
+        if place < words {
+            self.operand(place)
+        } else {
+            None
+        }
+    }
+
+    // Puts a word on top of the stack, if there is one.
+    fn push_if(&mut self, value: Option<Value>) -> Result<(), NoMemory>
+        ensures { OnOk result (self.new ≡ on_top (with_words (option_to_list value)) self.old) }
+    {
+        match value {
+            Some(value) => self.push(value),
+            None => Ok(()),
+        }
+    }
+
+    /// Takes the topmost frame off, and goes on in the one below it with the result of so many words.
+    pub fn give_back(&mut self, words: usize) -> Result<(), NoMemory>
+        requires few { words ≤ 2 }
+        requires next_fits { NextFits (drop 1 self.old) }
+        ensures { OnOk result (self.new ≡ with_result words self.old) }
+    {
+        let top = self.result_word(words, 0);
+        let below = self.result_word(words, 1);
+        self.pop();
+        self.advance();
+        self.push_if(below)?;
+        self.push_if(top)?;
         Ok(())
     }
 }

@@ -1,22 +1,25 @@
 // Objects are made.
 
 ghost use Rattle.std.specs.Prelude.{◌≡◌, ◌-◌, ◌^◌, ◌<◌, ℕ, [], ◌∷◌, IfOk, IfSome, OnOk, Some, false};
-ghost use Rattle.fm_base.specs.declared.kinds.TypeRef.{TypeRef};
+ghost use Rattle.fm_base.specs.declared.kinds.TypeRef as kinds;
 ghost use Rattle.fm_cells.specs.Objects.{new_object, request_of};
 ghost use Rattle.fm_cells.specs.Sizes as spec;
 ghost use Rattle.fm_cells.specs.Sizes.{packed_words, IsPack};
 ghost use Rattle.fm_cells.specs.Stores.{object_at};
 ghost use Rattle.fm_cells.specs.declared.answers.Cell.{Cell};
 ghost use Rattle.fm_frames.specs.Acts.{requested};
-ghost use Rattle.fm_frames.specs.Effects.{Effect, Make};
+ghost use Rattle.fm_frames.specs.Effects.{making, Effect, Make};
 ghost use Rattle.fm_frames.specs.Steps.{is_deep};
-ghost use Rattle.fm_frames.specs.inner.Doings.{MakesOne};
-ghost use Rattle.fm_world.specs.Programs.{Program};
+ghost use Rattle.fm_frames.specs.inner.Doings.{CanStep, DoesIn, MakesOne};
+ghost use Rattle.fm_world.specs.Programs as world;
 
+use crate::coded::{pack_of, type_id};
 use crate::ends::Ended;
 use crate::machine::Machine;
-use fm_base::{NoMemory, TypeId};
+use crate::values::Value;
+use fm_base::{NoMemory, TypeId, TypeRef};
 use fm_cells::{Cell, MakeFail, Memory, cell_words};
+use fm_world::Program;
 
 /// The words of an object of so many elements, where a word holds `pack` of them. Takes no memory.
 fn object_words(len: u32, pack: u8) -> u32
@@ -47,7 +50,7 @@ impl<M: Memory> Machine<M> {
         ensures kept { OnOk result ((self.new.frames ≡ self.old.frames) × (self.new.steps ≡ self.old.steps)) }
         ensures object { IfOk result (λ made. IfSome made (λ (cell : Cell). object_at self.new.areas.store cell.0
             ≡ Some (new_object self.old.areas.store.births (request_of class.0 len pack false)))) }
-        ensures makes { IfOk result (λ made. (p : Program) (t : TypeRef) (e : Effect)
+        ensures makes { IfOk result (λ made. (p : world.Program) (t : kinds.TypeRef) (e : Effect)
             → requested p.outline t len false ≡ request_of class.0 len pack false
             → e.actions ≡ Make t len [] ∷ [] → is_deep self.old e.next ≡ false
             → MakesOne p M.choose self.old self.new e made) }
@@ -66,5 +69,26 @@ impl<M: Memory> Machine<M> {
             }
             Err(MakeFail::NoMemory) => Err(NoMemory),
         }
+    }
+
+    /// Makes an object of a type, whose elements are 0, and puts it in place of so many words; or the run
+    /// ends.
+    pub fn make(
+        &mut self,
+        program: &Program,
+        takes: usize,
+        t: TypeRef,
+        len: u32,
+    ) -> Result<(), NoMemory>
+        requires can { CanStep program.now self.old }
+        requires len_fits { len < 2 ^ 31 }
+        ensures { OnOk result (DoesIn program.now M.choose self.old self.new (making takes (Make t len []))) }
+    {
+        let id = type_id(program, t);
+        let pack = pack_of(program, t);
+        let Some(cell) = self.make_one(id, len, pack)? else {
+            return Ok(());
+        };
+        self.give(takes, Value::Ref(cell))
     }
 }

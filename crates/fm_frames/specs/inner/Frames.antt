@@ -1,6 +1,6 @@
 -- How frames lie among the values of one list: the lowest first, and of each first its locals and then its stack, whose last value is its top. And what
 -- changes the topmost frame.
-use Rattle.std.specs.Prelude.{ℕ, ◌-◌, ◌≤◌, List, [], ◌∷◌, ◌++◌, length, replicate, take, drop, reverse, Option, Some, None}
+use Rattle.std.specs.Prelude.{ℕ, ◌+◌, ◌-◌, ◌≤◌, nat_lt, if◌then◌else◌, slice_get, List, [], ◌∷◌, ◌++◌, length, replicate, take, drop, reverse, Option, Some, None}
 use Rattle.fm_frames.specs.States.{Frame}
 use Rattle.fm_frames.specs.declared.frames.Cursor.{Cursor}
 use Rattle.fm_frames.specs.declared.values.Value.{Value}
@@ -68,3 +68,17 @@ called method max_locals words f =
 abbrev pub with_called : (method max_locals words : ℕ) → List Frame → List Frame
 with_called method max_locals words [] = []
 with_called method max_locals words (f ∷ callers) = called method max_locals words f ∷ record f { stack = drop words f.stack } ∷ callers
+
+-- ---- returns
+
+-- the word of a result at a place, where the result has so many
+abbrev pub result_word : (words place : ℕ) → List Value → Option Value
+result_word words place stack = if nat_lt place words then slice_get stack place else None
+
+abbrev pub with_words : List Value → Frame → Frame
+with_words more f = record f { stack = more ++ f.stack }
+
+-- the frames without the topmost one, whose result goes to the one below it
+abbrev pub with_result : ℕ → List Frame → List Frame
+with_result words [] = []
+with_result words (f ∷ callers) = on_top (λ caller. record caller { item = caller.item + 1; stack = take words f.stack ++ caller.stack }) callers
