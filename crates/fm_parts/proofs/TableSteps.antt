@@ -72,7 +72,7 @@ pub tables-made : (texts : List (List ℕ)) (given : List ClassDef) (main : ℕ 
     → IsTables given main t
 tables-made texts given main h m t sound hierarchy methods counted classes named told answers main_is = record {
   few = record {
-    classes = counted.classes_are;
+    classes = counted.declared;
     methods = counted.methods;
     fields = counted.fields;
     types = counted.types;

@@ -7,6 +7,7 @@ use Rattle.fm_records.specs.inner.Own.{AreOwnTables}
 use Rattle.fm_parts.specs.declared.answers.Answers.{Answers}
 use Rattle.fm_tables.specs.inner.MemberLists.{flags_in}
 
+-- the lists and the tables are those of the linker; a display is a chain from its end on
 pub record AreAnswers (h : Hierarchy) (m : Methods) (a : Answers) : Type 0 where
   pub displays : a.displays.items ≡ map reverse (lists h.chains.items)
   pub interfaces : a.interfaces.items ≡ lists h.interfaces.items

@@ -12,6 +12,7 @@ use Rattle.fm_world.specs.declared.declarations.DeclaredClass.{DeclaredClass}
 use Rattle.fm_world.specs.declared.parts.Parts.{Parts}
 use Rattle.fm_world.specs.inner.Tables.{numbers_below, AnswerForCalls, AnswerForClasses, AreFew}
 
+-- the parts with nothing known yet of which classes are made
 abbrev pub parts_from : List DeclaredClass → Tables → Parts
 parts_from declared t = record {
   declared = declared;
@@ -37,7 +38,7 @@ parts_from declared t = record {
 
 -- numbers of 32 bits tell all classes, types, texts, methods and fields
 pub record AreCounted (classes : List DeclaredClass) (n : Named) (t : Told) : Type 0 where
-  pub classes_are : length classes < 2 ^ 32
+  pub declared : length classes < 2 ^ 32
   pub methods : length t.methods.items < 2 ^ 32
   pub fields : length t.fields.infos.items < 2 ^ 32
   pub types : length n.types.types.items < 2 ^ 32
