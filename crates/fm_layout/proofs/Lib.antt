@@ -16,3 +16,4 @@ pub mod BytesLemmas
 pub mod LawLemmas
 pub mod TablesLemmas
 pub mod MarksLemmas
+pub mod ExampleLemmas

@@ -13,6 +13,8 @@ mod rooms;
 mod rounds;
 mod spelling;
 mod tables;
+#[cfg(test)]
+mod tests;
 
 pub use error::LayFail;
 pub use laws::{law_example, law_marks, law_moved_tables, law_settled, law_spelled};
