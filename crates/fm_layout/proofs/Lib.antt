@@ -17,3 +17,4 @@ pub mod LawLemmas
 pub mod TablesLemmas
 pub mod MarksLemmas
 pub mod ExampleLemmas
+pub mod StandsLemmas
