@@ -1,10 +1,9 @@
 -- The method that frees an array meets what layout and move_tables ask.
-use Rattle.std.proofs.Common.{◌≡◌, ℕ, zero, suc, ◌+◌, ◌<◌, ◌≤◌, List, [], ◌∷◌, length, map, refl, inl, arith}
+use Rattle.std.proofs.Common.{◌≡◌, ℕ, zero, suc, ◌+◌, ◌<◌, [], map, refl, inl, arith}
 use Rattle.std.specs.Prelude.{slice_index}
 use Rattle.std.specs.List.{flat_map}
 use Rattle.fm_code.proofs.Tested.{are_bytes, items_spelled, meant, read}
 use Rattle.fm_code.specs.ClassBytes.{item_bytes}
-use Rattle.fm_code.specs.CodeRules.{CodeIsValid}
 use Rattle.fm_code.specs.Edges.{MeetsCodeRules}
 use Rattle.fm_code.specs.InstructionTable.{insn_at}
 use Rattle.fm_code.specs.SpellsCode.{SpellsCode}

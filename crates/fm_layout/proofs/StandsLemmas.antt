@@ -1,15 +1,15 @@
 -- Each new item stands among the laid ones.
-use Rattle.std.proofs.Common.{◌≡◌, ℕ, zero, suc, ◌+◌, ◌<◌, ◌≤◌, ◌==◌, ◌⊎◌, inl, inr, Bool, true, false, List, [], ◌∷◌, ◌++◌, length, refl, sym, ap, subst, ◌∙◌, arith, if◌then◌else◌, Option, Some, None, append_assoc, length-append}
+use Rattle.std.proofs.Common.{◌≡◌, ℕ, zero, suc, ◌+◌, ◌<◌, ◌≤◌, ◌⊎◌, inl, inr, Bool, true, false, List, [], ◌∷◌, ◌++◌, length, refl, sym, ap, subst, ◌∙◌, arith, if◌then◌else◌, Option, Some, None, append_assoc, length-append}
 use Rattle.std.specs.Prelude.{nat_lt, slice_get, slice_index}
 use Rattle.std.proofs.lemmas.Bool.{cases_lt, lt-ltb, le-ltb}
 use Rattle.fm_code.specs.SpellsCode.{with_targets}
 use Rattle.fm_code.specs.declared.code_array.Item.{Item}
 use Rattle.fm_code.specs.declared.instructions.Insn.{Insn}
 use Rattle.fm_code.specs.declared.instructions.Insn.TheVariants as insn
-use Rattle.fm_layout.specs.Laid.{branch_count, firsts_from, goto_w_item, item_count, laid_from, laid_items, laid_of, moved_item, short_item, wide_items}
+use Rattle.fm_layout.specs.Laid.{firsts_from, goto_w_item, item_count, laid_from, laid_items, laid_of, moved_item, short_item, wide_items}
 use Rattle.fm_layout.specs.Rooms.{narrow, room_of, rooms_of, size_at, starts_from, widened_rooms}
 use Rattle.fm_layout.specs.Spelling.{conditional, is_goto_w, kept_item, opposite}
-use Rattle.fm_layout.specs.Stands.{Stands, StandsSplit, StandsWhole, insn_of}
+use Rattle.fm_layout.specs.Stands.{Stands, insn_of}
 use Rattle.fm_layout.specs.declared.new_items.NewItem.{NewItem}
 use Rattle.fm_layout.specs.declared.rooms.Branch.{Branch}
 use Rattle.fm_layout.specs.declared.rooms.Condition.{Condition}

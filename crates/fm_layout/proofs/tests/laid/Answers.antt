@@ -1,4 +1,4 @@
-use Rattle.std.proofs.Common.{◌≡◌, ◌∙◌, List, subst, sym}
+use Rattle.std.proofs.Common.{◌∙◌, List, subst, sym}
 use Rattle.fm_code.specs.declared.code_array.Item.{Item}
 use Rattle.fm_layout.proofs.ExampleLemmas.{popped_old_ready, popped_new_ready}
 use Rattle.fm_layout.specs.Conditions.{AreNewItems, AreOldItems}

@@ -1,4 +1,4 @@
-use Rattle.std.proofs.Common.{◌≡◌, ◌∙◌, subst, sym}
+use Rattle.std.proofs.Common.{subst, sym}
 use Rattle.fm_code.specs.Edges.{MeetsCodeRules}
 use Rattle.fm_code.specs.declared.code_array.Code.{Code}
 use Rattle.fm_layout.proofs.ExampleLemmas.{popped_meets_rules, popped_anchors_ready}
