@@ -1,5 +1,5 @@
 -- How many bytes the new items can take.
-use Rattle.std.proofs.Common.{◌≡◌, ℕ, zero, suc, ◌+◌, ◌*◌, ◌<◌, ◌≤◌, ◌==◌, Bool, true, false, List, [], ◌∷◌, ◌++◌, length, drop, map, refl, sym, ap, subst, ◌∙◌, arith, if◌then◌else◌, Option, Some, None, option_and_then, length-append}
+use Rattle.std.proofs.Common.{◌≡◌, ℕ, zero, suc, ◌+◌, ◌*◌, ◌≤◌, ◌==◌, Bool, true, false, List, [], ◌∷◌, length, drop, refl, ap, subst, arith, if◌then◌else◌, Option, Some, None, option_and_then, length-append}
 use Rattle.std.specs.Prelude.{slice_get, nat_lt, IsSomeAnd}
 use Rattle.std.specs.List.{AllByRecursion, flat_map, filter_map, cons_option, range_with_len}
 use Rattle.fm_base.proofs.ListFacts.{AllByRecursion-weaker}
@@ -15,13 +15,12 @@ use Rattle.fm_code.specs.declared.operations.Reg.TheVariants as reg
 use Rattle.fm_code.specs.declared.instructions.Insn.{Insn}
 use Rattle.fm_code.specs.declared.instructions.Insn.TheVariants as insn
 use Rattle.fm_layout.specs.Conditions.{AreNewItems, AreOldItems, HasOrigin, IsInserted, IsOrigin, IsSameButTargets}
-use Rattle.fm_layout.specs.Rooms.{room_of, rooms_of, narrow, end_from}
+use Rattle.fm_layout.specs.Rooms.{room_of, rooms_of, narrow}
 use Rattle.fm_layout.specs.Spelling.{kept_item}
 use Rattle.fm_layout.specs.inner.Sizes.{local_size}
-use Rattle.fm_layout.specs.inner.Weights.{weight, weight_of, IsShort, AreShort}
+use Rattle.fm_layout.specs.inner.Weights.{weight, weight_of, AreShort}
 use Rattle.fm_layout.specs.declared.new_items.NewItem.{NewItem}
 use Rattle.fm_layout.specs.declared.rooms.Room.TheVariants as room
-use Rattle.fm_layout.proofs.RoomsLemmas.{end_weight}
 use Rattle.fm_layout.proofs.SizesLemmas.{length-load, length-store, length-static}
 
 -- ---- one item

@@ -1,11 +1,11 @@
 -- The bytes of laid items are bytes.
-use Rattle.std.proofs.Common.{◌≡◌, ℕ, zero, suc, ◌+◌, ◌<◌, ◌≤◌, Bool, true, false, List, [], ◌∷◌, ◌++◌, length, take, drop, refl, sym, ap, subst, ◌∙◌, arith, if◌then◌else◌, Option, Some, None, option_and_then}
+use Rattle.std.proofs.Common.{◌≡◌, ℕ, ◌+◌, ◌<◌, Bool, true, false, List, [], ◌∷◌, ◌++◌, length, drop, refl, arith, if◌then◌else◌, Option, Some, None, option_and_then}
 use Rattle.std.specs.Prelude.{ℤ, nat_lt, slice_get, slice_index, IsSomeAnd}
 use Rattle.std.specs.List.{AllByRecursion, flat_map}
 use Rattle.std.proofs.lemmas.Bool.{ltb-true}
 use Rattle.fm_base.proofs.ListFacts.{AllByRecursion-append}
 use Rattle.fm_code.proofs.Bytes.{AreBytes-two, AreBytes-signed_four, AreBytes-append, AreBytes-take, AreBytes-drop}
-use Rattle.fm_code.specs.Fits.{AreBytes, FitsTwo}
+use Rattle.fm_code.specs.Fits.{AreBytes}
 use Rattle.fm_code.specs.InstructionTable.{padding_at}
 use Rattle.fm_code.specs.Numbers.{two}
 use Rattle.fm_code.specs.declared.code_array.Item.{Item}

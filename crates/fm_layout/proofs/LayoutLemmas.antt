@@ -1,14 +1,13 @@
 -- What layout needs of its old and new items, and what it answers.
-use Rattle.std.proofs.Common.{◌≡◌, ℕ, suc, [], ◌∷◌, ◌+◌, ◌*◌, ◌<◌, ◌≤◌, Bool, true, false, List, length, refl, sym, ap, ◌∙◌, arith, if◌then◌else◌}
+use Rattle.std.proofs.Common.{◌≡◌, ℕ, suc, [], ◌∷◌, ◌<◌, ◌≤◌, List, length, refl, ap, ◌∙◌, arith, if◌then◌else◌}
 use Rattle.std.specs.Prelude.{nat_lt}
 use Rattle.std.proofs.lemmas.Bool.{lt-ltb, le-ltb}
 use Rattle.fm_code.specs.declared.code_array.TheConstants.{MAX_CODE_BYTES}
 use Rattle.fm_code.specs.declared.code_array.Item.{Item}
 use Rattle.fm_layout.specs.Conditions.{AreNewItems, AreOldItems}
-use Rattle.fm_layout.specs.Laid.{IsCause, laid_from, firsts_from, laid_of, laid_in, laid_length, narrow_length, refused_length}
+use Rattle.fm_layout.specs.Laid.{IsCause, laid_from, firsts_from, laid_of, laid_in, laid_length, narrow_length}
 use Rattle.fm_layout.specs.Rooms.{end_from, rooms_of, starts_from, widened_rooms}
 use Rattle.fm_layout.specs.declared.error.LayFail.TheVariants as fail
-use Rattle.fm_layout.specs.declared.laying.Laid.{Laid}
 use Rattle.fm_layout.specs.declared.new_items.NewItem.{NewItem}
 use Rattle.fm_layout.specs.declared.rooms.Room.{Room}
 use Rattle.fm_layout.proofs.BoundsLemmas.{weight_fits}

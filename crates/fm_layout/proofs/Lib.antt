@@ -16,3 +16,5 @@ pub mod BytesLemmas
 pub mod LawLemmas
 pub mod TablesLemmas
 pub mod MarksLemmas
+pub mod ExampleLemmas
+pub mod StandsLemmas

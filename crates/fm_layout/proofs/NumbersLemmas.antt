@@ -1,12 +1,11 @@
 -- The bytes of distances are read as the distances.
-use Rattle.std.proofs.Common.{◌≡◌, ℕ, zero, suc, ◌+◌, ◌-◌, ◌*◌, ◌<◌, ◌≤◌, ◌%◌, ◌/◌, ◌^◌, ◌&&◌, Bool, true, false, List, [], ◌∷◌, ◌++◌, length, refl, sym, ap, subst, ◌∙◌, arith, pos, negsuc, if◌then◌else◌, T}
+use Rattle.std.proofs.Common.{◌≡◌, ℕ, suc, ◌-◌, ◌<◌, ◌≤◌, ◌%◌, ◌/◌, true, List, [], ◌∷◌, refl, ap, ◌∙◌, arith, pos, negsuc, if◌then◌else◌}
 use Rattle.std.specs.Prelude.{ℤ, nat_lt, int_le, ◌+ℤ◌, ◌-ℤ◌, ◌≤ℤ◌, FitsSigned}
-use Rattle.std.specs.Int.{w32, cast_unsigned, cast_signed}
+use Rattle.std.specs.Int.{w32}
 use Rattle.std.specs.Int.Signed.{le_z_yes}
 use Rattle.std.proofs.lemmas.Bool.{lt-ltb, le-ltb}
 use Rattle.std.proofs.lemmas.Float.{T_from_true}
-use Rattle.std.proofs.lemmas.Int.{ints, to_z-of_z}
-use Rattle.fm_code.proofs.Bytes.{signed_four-bytes, four-bytes, two-bytes}
+use Rattle.std.proofs.lemmas.Int.{ints}
 use Rattle.fm_code.specs.Numbers.{two, four, number_of_two, number_of_four, signed_two, signed_four, signed_four_of}
 use Rattle.fm_layout.specs.Rooms.{is_in_reach}
 use Rattle.fm_layout.specs.Spelling.{distance, signed_short}

@@ -1,26 +1,23 @@
 -- The bytes of laid items are read as their instructions, but for switches.
-use Rattle.std.proofs.Common.{◌≡◌, ℕ, zero, suc, ◌+◌, ◌-◌, ◌*◌, ◌<◌, ◌≤◌, Bool, true, false, List, [], ◌∷◌, ◌++◌, length, refl, sym, ap, subst, ◌∙◌, arith, if◌then◌else◌, Option, Some, None, option_and_then, pos}
-use Rattle.std.specs.Prelude.{ℤ, ◌+ℤ◌, nat_lt, slice_get, IsSomeAnd}
+use Rattle.std.proofs.Common.{◌≡◌, ℕ, zero, suc, ◌+◌, ◌<◌, ◌≤◌, Bool, true, false, List, [], ◌∷◌, refl, sym, ap, ◌∙◌, arith, if◌then◌else◌, Option, Some, None, option_and_then, pos}
+use Rattle.std.specs.Prelude.{◌+ℤ◌, nat_lt, slice_get, IsSomeAnd}
 use Rattle.std.specs.List.{AllByRecursion}
 use Rattle.std.proofs.lemmas.Bool.{ltb-true}
 use Rattle.fm_code.specs.ClassBytes.{offset_in}
 use Rattle.fm_code.specs.Fits.{FitsTwo}
 use Rattle.fm_code.specs.InstructionTable.{insn_at, jump, jump_to, long_jump}
-use Rattle.fm_code.specs.Numbers.{two, number_of_two, signed_two, signed_four_of, signed_four}
-use Rattle.fm_code.specs.Operands.{opcode_of}
-use Rattle.fm_code.specs.SpellsCode.{IsSpelled, with_targets, targets_of}
+use Rattle.fm_code.specs.Numbers.{two}
+use Rattle.fm_code.specs.SpellsCode.{IsSpelled, with_targets}
 use Rattle.fm_code.specs.declared.code_array.Item.{Item}
-use Rattle.fm_code.specs.declared.opcodes.TheConstants.{GOTO_W, WIDE}
-use Rattle.fm_code.specs.declared.operations.Reg.{Reg}
+use Rattle.fm_code.specs.declared.opcodes.TheConstants.{WIDE}
 use Rattle.fm_code.specs.declared.operations.Reg.TheVariants as reg
-use Rattle.fm_code.specs.declared.operations.Test.{Test}
 use Rattle.fm_code.specs.declared.operations.Test.TheVariants as test
 use Rattle.fm_code.specs.declared.instructions.Insn.{Insn}
 use Rattle.fm_code.specs.declared.instructions.Insn.TheVariants as insn
 use Rattle.fm_layout.specs.Conditions.{IsInserted, IsOrigin, IsSameButTargets}
 use Rattle.fm_layout.specs.Laid.{short_item, goto_w_item}
 use Rattle.fm_layout.specs.Rooms.{is_in_reach}
-use Rattle.fm_layout.specs.Spelling.{conditional, distance, inserted_bytes, local_bytes, plain_bytes, signed_short}
+use Rattle.fm_layout.specs.Spelling.{distance, inserted_bytes, local_bytes, plain_bytes, signed_short}
 use Rattle.fm_layout.specs.declared.rooms.Condition.{Condition}
 use Rattle.fm_layout.specs.declared.rooms.Condition.TheVariants as condition
 use Rattle.fm_layout.proofs.BoundsLemmas.{at_index}

@@ -1,13 +1,12 @@
 -- Where rooms begin and end, and what a round does to them.
-use Rattle.std.proofs.Common.{◌≡◌, ℕ, zero, suc, ◌+◌, ◌-◌, ◌<◌, ◌≤◌, ◌%◌, ◌/◌, ◌⊎◌, inl, inr, Bool, true, false, ◌&&◌, List, [], ◌∷◌, ◌++◌, length, get_or, drop, refl, sym, ap, subst, ◌∙◌, arith, if◌then◌else◌, Option, Some, None, map}
+use Rattle.std.proofs.Common.{◌≡◌, ℕ, zero, suc, ◌+◌, ◌-◌, ◌<◌, ◌≤◌, Bool, true, false, ◌&&◌, List, [], ◌∷◌, length, get_or, drop, refl, sym, ap, ◌∙◌, arith, if◌then◌else◌, Option, Some, None}
 use Rattle.std.proofs.lemmas.List.{get_or_default}
 use Rattle.std.proofs.Math.ListN.{drop_of_length-le}
 use Rattle.fm_code.specs.declared.code_array.TheConstants.{MAX_CODE_BYTES}
-use Rattle.fm_layout.specs.Laid.{item_count, branch_count, firsts_from}
-use Rattle.fm_layout.specs.Rooms.{is_in_reach, size_at, wide_size, end_from, starts_from, widened_at, widened_from, round_after, rounds_after, widened_rooms}
+use Rattle.fm_layout.specs.Laid.{item_count, branch_count}
+use Rattle.fm_layout.specs.Rooms.{is_in_reach, size_at, wide_size, end_from, starts_from, widened_at, widened_from, round_after, rounds_after}
 use Rattle.fm_layout.specs.inner.Settled.{is_settled_at, is_settled}
 use Rattle.fm_layout.specs.inner.Weights.{weight, weight_of, AreOffsetsWithin}
-use Rattle.fm_layout.specs.declared.rooms.Branch.{Branch}
 use Rattle.fm_layout.specs.declared.rooms.Condition.{Condition}
 use Rattle.fm_layout.specs.declared.rooms.Room.{Room}
 use Rattle.fm_layout.specs.declared.rooms.Room.TheVariants as room

@@ -1,23 +1,21 @@
 -- The laid-out bytes spell the laid items.
-use Rattle.std.proofs.Common.{◌≡◌, ℕ, zero, suc, ◌+◌, ◌-◌, ◌<◌, ◌≤◌, ◌⊎◌, inl, inr, ◌&&◌, Bool, true, false, List, [], ◌∷◌, ◌++◌, length, refl, sym, ap, subst, ◌∙◌, arith, if◌then◌else◌, Option, Some, None, pos, negsuc, append_assoc, length-append, map}
-use Rattle.std.specs.Prelude.{ℤ, ◌-ℤ◌, int_le, nat_lt, slice_index}
+use Rattle.std.proofs.Common.{◌≡◌, ℕ, zero, suc, ◌+◌, ◌<◌, ◌≤◌, inl, inr, ◌&&◌, Bool, true, false, List, [], ◌∷◌, ◌++◌, length, refl, sym, ap, subst, ◌∙◌, arith, if◌then◌else◌, Option, Some, None, pos, negsuc, append_assoc, length-append, map}
+use Rattle.std.specs.Prelude.{int_le, nat_lt, slice_index}
 use Rattle.std.specs.List.{AllByRecursion, flat_map}
 use Rattle.std.proofs.lemmas.Bool.{ltb-true}
 use Rattle.std.proofs.lemmas.Int.{ints}
-use Rattle.std.proofs.lemmas.List.{append-nil}
 use Rattle.fm_base.proofs.ListFacts.{AllByRecursion-append, AllByRecursion-weaker, same_head, same_tail}
 use Rattle.fm_code.proofs.Bytes.{length-signed_four, length-two}
 use Rattle.fm_code.specs.ClassBytes.{item_bytes, offset_in}
 use Rattle.fm_code.specs.Fits.{AreBytes}
-use Rattle.fm_code.specs.InstructionTable.{insn_at}
 use Rattle.fm_code.specs.SpellsCode.{AreOffsets, IsSpelled, SpellsCode, targets_of, with_targets}
 use Rattle.fm_code.specs.declared.code_array.Item.{Item}
 use Rattle.fm_code.specs.declared.instructions.Insn.{Insn}
 use Rattle.fm_code.specs.declared.instructions.Insn.TheVariants as insn
-use Rattle.fm_layout.specs.Conditions.{HasOrigin, IsOrigin}
+use Rattle.fm_layout.specs.Conditions.{HasOrigin}
 use Rattle.fm_layout.specs.Laid.{branch_count, item_count, firsts_from, short_item, goto_w_item, moved_item, wide_items, laid_items, laid_from}
 use Rattle.fm_layout.specs.Rooms.{is_in_reach, room_of, rooms_of, size_at, wide_size, end_from, starts_from, widened_at, widened_from, round_after}
-use Rattle.fm_layout.specs.Spelling.{conditional, distance, kept_item, moved_bytes, opposite, short_jump}
+use Rattle.fm_layout.specs.Spelling.{conditional, distance, kept_item, opposite}
 use Rattle.fm_layout.specs.inner.Weights.{AreOffsetsWithin}
 use Rattle.fm_layout.specs.declared.new_items.NewItem.{NewItem}
 use Rattle.fm_layout.specs.declared.rooms.Branch.{Branch}
@@ -25,7 +23,7 @@ use Rattle.fm_layout.specs.declared.rooms.Condition.{Condition}
 use Rattle.fm_layout.specs.declared.rooms.Condition.TheVariants as condition
 use Rattle.fm_layout.specs.declared.rooms.Room.{Room}
 use Rattle.fm_layout.specs.declared.rooms.Room.TheVariants as room
-use Rattle.fm_layout.proofs.MovedLemmas.{IsMoved, MovedFacts, moved_facts, kept_of, branch_target, never_wide}
+use Rattle.fm_layout.proofs.MovedLemmas.{IsMoved, MovedFacts, moved_facts, branch_target, never_wide}
 use Rattle.fm_layout.proofs.ReadsLemmas.{IsRead, short_read, goto_w_read}
 use Rattle.fm_layout.proofs.RoomsLemmas.{end_grows}
 use Rattle.fm_layout.proofs.WideningLemmas.{IsWider, AreWider}

@@ -1,16 +1,14 @@
 -- Instructions that aren't branches are read alike at each offset.
-use Rattle.std.proofs.Common.{◌≡◌, ℕ, zero, suc, ◌+◌, Bool, true, false, List, [], ◌∷◌, ◌++◌, map, length, Option, Some, None, option_and_then, refl, sym, ap, subst, ◌∙◌, negsuc, pos}
+use Rattle.std.proofs.Common.{◌≡◌, ℕ, Bool, true, false, List, [], ◌∷◌, ◌++◌, map, length, Some, refl, sym, ap, subst, ◌∙◌, negsuc, pos}
 use Rattle.std.specs.Prelude.{ℤ, ◌+ℤ◌, ◌-ℤ◌, ◌&&◌, int_le}
 use Rattle.std.specs.List.{AllByRecursion}
-use Rattle.std.specs.Option.{option_map}
 use Rattle.fm_base.proofs.ListFacts.{AllByRecursion-append, AllByRecursion-get_or, same_head, same_tail}
 use Rattle.fm_code.proofs.InsnPrefixes.{and_then_some, map_some, cond_some, switch_is}
-use Rattle.fm_code.specs.InstructionTable.{Reading, Row, constants_and_loads, stores_and_stack, arithmetic, control_and_objects, rows, reading_of, insn_at, malformed, jump, jump_to, long_jump, two_bytes, switch, table_switch, lookup_switch, is_number, are_rising, pairs_of, offset_from, offsets_from}
+use Rattle.fm_code.specs.InstructionTable.{Reading, Row, constants_and_loads, stores_and_stack, arithmetic, control_and_objects, rows, reading_of, insn_at, malformed, jump, jump_to, long_jump, switch, table_switch, lookup_switch, is_number, are_rising, pairs_of, offset_from, offsets_from}
 use Rattle.fm_code.specs.Numbers.{signed_two, signed_four_of}
 use Rattle.fm_code.specs.declared.instructions.Insn.{Insn}
 use Rattle.fm_code.specs.declared.instructions.Insn.TheVariants as insn
 use Rattle.fm_code.specs.declared.operations.Test.TheVariants as test
-use Rattle.fm_code.specs.declared.operations.Reg.TheVariants as reg
 
 -- the instruction names no target
 abbrev pub names_target : Insn → Bool

@@ -1,6 +1,6 @@
 -- The bytes of laid switches are read as the switches.
-use Rattle.std.proofs.Common.{◌≡◌, ℕ, zero, suc, ◌+◌, ◌-◌, ◌*◌, ◌<◌, ◌≤◌, ◌&&◌, ◌⊎◌, inl, inr, Bool, true, false, List, [], ◌∷◌, ◌++◌, map, length, take, drop, refl, sym, ap, subst, ◌∙◌, arith, if◌then◌else◌, Option, Some, None, option_and_then, pos, negsuc, append_assoc, length-append}
-use Rattle.std.specs.Prelude.{ℤ, ◌+ℤ◌, ◌-ℤ◌, ◌≤ℤ◌, int_le, nat_lt, slice_index, FitsSigned}
+use Rattle.std.proofs.Common.{◌≡◌, ℕ, zero, suc, ◌+◌, ◌-◌, ◌*◌, ◌<◌, ◌≤◌, ◌&&◌, ◌⊎◌, inl, inr, Bool, true, false, List, [], ◌∷◌, ◌++◌, map, length, take, drop, refl, sym, ap, subst, ◌∙◌, arith, if◌then◌else◌, Option, Some, None, option_and_then, pos, length-append}
+use Rattle.std.specs.Prelude.{ℤ, ◌+ℤ◌, ◌-ℤ◌, int_le, nat_lt, slice_index, FitsSigned}
 use Rattle.std.specs.Int.{w32}
 use Rattle.std.specs.List.{AllByRecursion, flat_map}
 use Rattle.std.specs.Option.{option_map}
@@ -8,7 +8,7 @@ use Rattle.std.proofs.lemmas.Bool.{le-ltb, ltb-true, ltb-false}
 use Rattle.std.proofs.lemmas.Int.{ints}
 use Rattle.std.proofs.lemmas.List.{drop-drop, drop-append-le, length-take, length-take-le, length-drop, drop_all}
 use Rattle.fm_code.proofs.Bytes.{length-signed_four, AreBytes-drop}
-use Rattle.fm_code.proofs.InsnPrefixes.{and_then_some, map_some, cond_some, switch_is, is_number_pos, length-signed_fours, length-pairs_of}
+use Rattle.fm_code.proofs.InsnPrefixes.{and_then_some, map_some, switch_is, length-signed_fours, length-pairs_of}
 use Rattle.fm_code.specs.Fits.{AreBytes}
 use Rattle.fm_code.specs.InstructionTable.{insn_at, padding_at, reading_of, switch, table_switch, lookup_switch, signed_fours, offset_from, offsets_from, is_number, are_rising, pairs_of}
 use Rattle.fm_code.specs.Numbers.{signed_four, signed_four_of, number_of_four}
@@ -18,10 +18,10 @@ use Rattle.fm_code.specs.declared.code_array.Item.{Item}
 use Rattle.fm_code.specs.declared.instructions.Insn.{Insn}
 use Rattle.fm_code.specs.declared.instructions.Insn.TheVariants as insn
 use Rattle.fm_layout.specs.Conditions.{IsSameButTargets}
-use Rattle.fm_layout.specs.Spelling.{distance, jump_bytes, pair_bytes, part_of, old_padding, new_padding, switch_head, table_bytes, lookup_bytes}
+use Rattle.fm_layout.specs.Spelling.{distance, jump_bytes, pair_bytes, old_padding, new_padding, switch_head, table_bytes, lookup_bytes}
 use Rattle.fm_layout.specs.inner.Weights.{AreOffsetsWithin}
 use Rattle.fm_layout.proofs.NumbersLemmas.{four_reads, distance_fits, distance_back}
-use Rattle.fm_layout.proofs.StillLemmas.{TableParts, table_parts, LookupParts, lookup_parts}
+use Rattle.fm_layout.proofs.StillLemmas.{table_parts, lookup_parts}
 use Rattle.fm_layout.proofs.SwitchRows.{switch_known}
 
 -- ---- numbers of four bytes

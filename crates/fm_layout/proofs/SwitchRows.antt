@@ -1,14 +1,13 @@
 -- Only the rows of switches in the instruction table read a switch.
-use Rattle.std.proofs.Common.{◌≡◌, ℕ, zero, suc, ◌+◌, ◌==◌, ◌||◌, ◌⊎◌, inl, inr, Bool, true, false, List, [], ◌∷◌, ◌++◌, map, length, Option, Some, None, refl, sym, ap, subst, ◌∙◌, pos, negsuc, if◌then◌else◌}
+use Rattle.std.proofs.Common.{◌≡◌, ℕ, zero, suc, ◌==◌, ◌||◌, ◌⊎◌, inl, inr, Bool, true, false, List, [], ◌∷◌, ◌++◌, map, length, Option, Some, None, refl, ap, pos, negsuc, if◌then◌else◌}
 use Rattle.std.specs.Prelude.{ℤ, ◌+ℤ◌}
-use Rattle.std.specs.List.{AllByRecursion, slice_index_or}
+use Rattle.std.specs.List.{AllByRecursion}
 use Rattle.fm_base.proofs.ListFacts.{AllByRecursion-append, AllByRecursion-get_or}
-use Rattle.fm_code.specs.InstructionTable.{Reading, Row, constants_and_loads, stores_and_stack, arithmetic, control_and_objects, rows, reading_of, insn_at, malformed, jump, jump_to, long_jump, left_out, switch, table_switch, lookup_switch, interface_call, array_of_arrays, new_array, new_array_of, wide, wide_local}
+use Rattle.fm_code.specs.InstructionTable.{Reading, Row, constants_and_loads, stores_and_stack, arithmetic, control_and_objects, rows, reading_of, malformed, jump, jump_to, long_jump, left_out, switch, table_switch, lookup_switch, interface_call, array_of_arrays, new_array, new_array_of, wide}
 use Rattle.fm_code.specs.Numbers.{number_of_two, signed_two, signed_four_of}
 use Rattle.fm_code.specs.declared.opcodes.TheConstants as opcodes
 use Rattle.fm_code.specs.declared.instructions.Insn.{Insn}
 use Rattle.fm_code.specs.declared.instructions.Insn.TheVariants as insn
-use Rattle.fm_code.specs.declared.operations.Reg.TheVariants as reg
 use Rattle.fm_code.specs.declared.operations.Test.TheVariants as test
 
 abbrev pub is_switch : Insn → Bool

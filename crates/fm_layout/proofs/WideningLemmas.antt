@@ -1,7 +1,6 @@
 -- Rooms in which some branches are widened: they take no less, and after enough rounds a further one widens none.
-use Rattle.std.proofs.Common.{◌≡◌, ℕ, zero, suc, ◌+◌, ◌-◌, ◌*◌, ◌<◌, ◌≤◌, ◌%◌, ◌/◌, ◌⊎◌, inl, inr, Bool, true, false, List, [], ◌∷◌, length, refl, sym, ap, subst, ◌∙◌, arith, if◌then◌else◌, Option, Some, None}
+use Rattle.std.proofs.Common.{◌≡◌, ℕ, zero, suc, ◌+◌, ◌<◌, ◌≤◌, ◌⊎◌, inl, inr, Bool, true, false, List, [], ◌∷◌, length, refl, sym, ap, subst, ◌∙◌, arith, if◌then◌else◌, Option, Some, None}
 use Rattle.std.specs.Prelude.{slice_index}
-use Rattle.fm_code.specs.InstructionTable.{padding_at}
 use Rattle.fm_layout.specs.Rooms.{is_in_reach, size_at, wide_size, end_from, starts_from, widened_at, widened_from, round_after, rounds_after, widened_rooms}
 use Rattle.fm_layout.specs.declared.rooms.Branch.{Branch}
 use Rattle.fm_layout.specs.declared.rooms.Condition.{Condition}

@@ -1,6 +1,7 @@
 -- Codes that are laid out, written out by hand: a loop, a switch whose padding changes, and branches at the ends of their reach.
 use Rattle.std.specs.Prelude.{ℕ, List, [], ◌∷◌, Some, None, pos, negsuc}
 use Rattle.fm_code.specs.EdgesExample.{item_of}
+use Rattle.fm_code.specs.declared.code_array.Code.{Code}
 use Rattle.fm_code.specs.declared.code_array.Item.{Item}
 use Rattle.fm_code.specs.declared.operations.Elem.TheVariants as elem
 use Rattle.fm_code.specs.declared.operations.Reg.TheVariants as reg
@@ -108,3 +109,44 @@ wide_goto target = room.Wide (record { condition = None; target = target })
 -- a goto whose target is far, and one back over it that no longer reaches once the first one is widened
 abbrev pub two_gotos : List Room
 two_gotos = room.Plain 32764 ∷ narrow None 4 ∷ narrow None 0 ∷ room.Plain 32768 ∷ room.Plain 1 ∷ []
+
+-- ---- a method that frees an array
+
+abbrev pub popped_old : List Item
+popped_old =
+    item_of 0 (4 ∷ []) (insn.Const (pos 1))
+    ∷ item_of 1 (188 ∷ 10 ∷ []) (insn.NewArray elem.Int)
+    ∷ item_of 3 (87 ∷ []) insn.Pop
+    ∷ item_of 4 (177 ∷ []) (insn.Return None)
+    ∷ []
+
+abbrev pub popped_new : List NewItem
+popped_new =
+    inserted insn.Null
+    ∷ inserted (insn.Store reg.Ref 1)
+    ∷ kept 0 (insn.Const (pos 1))
+    ∷ kept 1 (insn.NewArray elem.Int)
+    ∷ inserted insn.Dup
+    ∷ inserted (insn.Store reg.Ref 1)
+    ∷ kept 2 insn.Pop
+    ∷ inserted (insn.Load reg.Ref 1)
+    ∷ inserted (insn.Static 13)
+    ∷ inserted insn.Null
+    ∷ inserted (insn.Store reg.Ref 1)
+    ∷ kept 3 (insn.Return None)
+    ∷ []
+
+-- all but the return has it as its handler
+abbrev pub popped_code : Code
+popped_code = record {
+  max_stack = 1;
+  max_locals = 1;
+  items = popped_old;
+  length = 5;
+  handlers = record { start = 0; end = 3; handler = 3; catch_class = 0 } ∷ [];
+  attributes = [];
+}
+
+-- the new items to which jumps go
+abbrev pub popped_anchors : List ℕ
+popped_anchors = 2 ∷ 3 ∷ 6 ∷ 7 ∷ 12 ∷ []

@@ -1,5 +1,5 @@
 -- The laid-out code.
-use Rattle.std.specs.Prelude.{ℕ, zero, suc, ◌+◌, ◌<◌, ◌≤◌, ◌≡◌, Bool, true, false, List, [], ◌∷◌, ◌++◌, length, Option, Some, None, pos, nat_lt, slice_index, if◌then◌else◌}
+use Rattle.std.specs.Prelude.{ℕ, ◌+◌, ◌<◌, ◌≡◌, Bool, true, false, List, [], ◌∷◌, ◌++◌, length, Option, Some, None, nat_lt, slice_index, if◌then◌else◌}
 use Rattle.std.specs.List.{flat_map, AllByRecursion}
 use Rattle.fm_code.specs.ClassBytes.{item_bytes}
 use Rattle.fm_code.specs.Fits.{AreBytes}
@@ -17,7 +17,6 @@ use Rattle.fm_layout.specs.declared.laying.Laid.{Laid}
 use Rattle.fm_layout.specs.declared.new_items.NewItem.{NewItem}
 use Rattle.fm_layout.specs.declared.rooms.TheConstants.{SHORT_JUMP_BYTES, GOTO_W_BYTES}
 use Rattle.fm_layout.specs.declared.rooms.Condition.{Condition}
-use Rattle.fm_layout.specs.declared.rooms.Branch.{Branch}
 use Rattle.fm_layout.specs.declared.rooms.Room.{Room}
 use Rattle.fm_layout.specs.declared.rooms.Room.TheVariants as room
 

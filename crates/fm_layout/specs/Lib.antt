@@ -1,6 +1,7 @@
 pub mod Spelling
 pub mod Rooms
 pub mod Laid
+pub mod Stands
 pub mod Tables
 pub mod Conditions
 pub mod inner

@@ -9,7 +9,6 @@ use Rattle.fm_layout.specs.declared.new_items.NewItem.{NewItem}
 use Rattle.fm_layout.specs.declared.rooms.TheConstants.{SHORT_JUMP_BYTES, GOTO_W_BYTES}
 use Rattle.fm_layout.specs.declared.rooms.Condition.{Condition}
 use Rattle.fm_layout.specs.declared.rooms.Condition.TheVariants as condition
-use Rattle.fm_layout.specs.declared.rooms.Branch.{Branch}
 use Rattle.fm_layout.specs.declared.rooms.Room.{Room}
 use Rattle.fm_layout.specs.declared.rooms.Room.TheVariants as room
 

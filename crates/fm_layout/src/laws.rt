@@ -1,6 +1,6 @@
 // Laws of the definitions, each as the contract of a function that does nothing.
 
-ghost use Rattle.std.specs.Prelude.{◌≡◌, ◌≤◌, ℕ, length, ◌∷◌, [], List, Some, None, true, false};
+ghost use Rattle.std.specs.Prelude.{◌≡◌, ◌≤◌, ◌+◌, ℕ, length, nat_lt, slice_get, slice_index, ◌∷◌, [], List, Some, None, true, false};
 ghost use Rattle.std.specs.List.{filter_map, flat_map};
 ghost use Rattle.fm_code.specs.ClassBytes.{item_bytes};
 ghost use Rattle.fm_code.specs.declared.code_array.Item.{Item};
@@ -9,6 +9,7 @@ ghost use Rattle.fm_code.specs.declared.operations.Test.TheVariants as test;
 ghost use Rattle.fm_layout.specs.Example.{goto_back, goto_over, loop_bytes, loop_new, loop_old, switch_bytes, switch_new, switch_old, two_gotos, wide_goto};
 ghost use Rattle.fm_layout.specs.Conditions.{AreNewItems, AreOldItems};
 ghost use Rattle.fm_layout.specs.Laid.{IsCode, laid_length, laid_of, marks_of, wide_items};
+ghost use Rattle.fm_layout.specs.Stands.{Stands};
 ghost use Rattle.fm_layout.specs.Tables.{AreAnchors, AreValid, moved_tables};
 ghost use Rattle.fm_code.specs.declared.code_array.Code.{Code};
 ghost use Rattle.fm_code.specs.declared.constant_pool.Entry.{Entry};
@@ -29,8 +30,15 @@ pub fn law_spelled()
         → laid_length old items ≤ MAX_CODE_BYTES → IsCode (laid_of old items) }
 {}
 
-/// Each laid item has a mark, and those that aren't inserted are the kept items in their order.
-pub fn law_marks()
+/// Each new item stands among the laid ones: as it is, with laid items for targets, or split into the
+/// opposite test and a goto_w. Each laid item has a mark, and those that aren't inserted are the kept
+/// items in their order.
+pub fn law_laid_items()
+    ensures stands { (old : List Item) (items : List NewItem) (k : ℕ) (new : NewItem)
+        → slice_get items k ≡ Some new
+        → let laid = laid_of old items in
+        Stands laid.items laid.firsts (slice_index laid.firsts k) (nat_lt (k + 1) (length items))
+        new.insn }
     ensures one_each { (old : List Item) (items : List NewItem)
         → length (marks_of old items) ≡ length (laid_of old items).items }
     ensures in_order { (old : List Item) (items : List NewItem)

@@ -93,6 +93,7 @@ fn laid_in_rooms(
             start,
             first,
             follows: index + 1 < items.len(),
+            room: rooms[index],
         };
         let kept = kept_item(old, &items[index]);
         put_laid(
@@ -102,21 +103,22 @@ fn laid_in_rooms(
             place,
             kept,
             &items[index].insn,
-            rooms[index],
             &mut laid,
         )?;
-        start += rooms[index].size_at(start);
-        first += rooms[index].item_count();
+        start += place.room.size_at(start);
+        first += place.room.item_count();
     }
     Ok(laid)
 }
 
-/// Where a laid item stands: its offset, its number, and whether a new item follows.
+/// Where the laid items of a new one stand: their offset, the number of the first, whether a new item
+/// follows, and their room.
 #[derive(Clone, Copy, Debug)]
 struct Place {
     start: u32,
     first: u32,
     follows: bool,
+    room: Room,
 }
 
 /// Appends the laid items of one new item.
@@ -127,16 +129,15 @@ fn put_laid(
     place: Place,
     kept: Option<&Item>,
     insn: &Insn,
-    room: Room,
     out: &mut Vec<Item>,
 ) -> Result<(), NoMemory>
-    requires fits { place.start + size_at place.start room ≤ MAX_CODE_BYTES }
+    requires fits { place.start + size_at place.start place.room ≤ MAX_CODE_BYTES }
     requires few { place.first + 2 < 2 ^ 32 }
     requires starts_within { AreOffsetsWithin starts.now }
     ensures { OnOk result (out.new.items ≡ out.old.items ++ laid_items starts.now firsts.now
-        place.start place.first place.follows (option_copied kept.entry) insn.now room) }
+        place.start place.first place.follows (option_copied kept.entry) insn.now place.room) }
 {
-    match room {
+    match place.room {
         Room::Plain(_) | Room::Switch(_) => {
             out.push(moved_item(alloc, starts, firsts, place.start, kept, insn)?)?;
         }

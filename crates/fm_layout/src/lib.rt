@@ -13,9 +13,11 @@ mod rooms;
 mod rounds;
 mod spelling;
 mod tables;
+#[cfg(test)]
+mod tests;
 
 pub use error::LayFail;
-pub use laws::{law_example, law_marks, law_moved_tables, law_settled, law_spelled};
+pub use laws::{law_example, law_laid_items, law_moved_tables, law_settled, law_spelled};
 pub use laying::{Laid, layout};
 pub use new_items::NewItem;
 pub use rooms::{Branch, Condition, Room};

@@ -5,7 +5,7 @@ use Rattle.fm_layout.proofs.RoomsLemmas.{starts_within}
 use Rattle.fm_layout.proofs.LawLemmas.{laid_is_code}
 use Rattle.fm_layout.specs.Laid.{IsCode, firsts_from, laid_from}
 use Rattle.fm_layout.specs.declared.laying.Laid.{Laid}
-use Rattle.fm_layout.specs.Rooms.{end_from, rooms_of, starts_from, widened_rooms}
+use Rattle.fm_layout.specs.Rooms.{end_from, starts_from, widened_rooms}
 use Rattle.fm_layout.specs.inner.Weights.{AreOffsetsWithin, weight_of}
 use Rattle.fm_layout.specs.declared.rooms.Room.{Room}
 use Rattle.fm_layout.proofs.laying.layout.Goals as goal

@@ -1,5 +1,5 @@
-use Rattle.std.proofs.Common.{◌≡◌, ◌-◌, ◌+◌, List, length, ap, sym, ◌∙◌, arith}
-use Rattle.fm_layout.proofs.RoomsLemmas.{end_weight, settled_rooms, rounds_settled, round_next, no_rounds, weight-widened_from}
+use Rattle.std.proofs.Common.{◌-◌, ◌+◌, List, length, ap, sym, ◌∙◌, arith}
+use Rattle.fm_layout.proofs.RoomsLemmas.{end_weight, settled_rooms, rounds_settled, round_next, weight-widened_from}
 use Rattle.fm_layout.specs.Rooms.{end_from, rounds_after, starts_from, widened_from}
 use Rattle.fm_layout.specs.inner.Settled.{is_settled}
 use Rattle.fm_layout.specs.inner.Weights.{weight_of}

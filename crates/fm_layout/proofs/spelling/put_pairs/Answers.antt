@@ -1,4 +1,4 @@
-use Rattle.std.proofs.Common.{◌≡◌, ◌++◌, ◌<◌, get_or, pos, length, rules, arith}
+use Rattle.std.proofs.Common.{◌≡◌, ◌++◌, get_or, pos, length, rules, arith}
 use Rattle.fm_code.specs.Numbers.{signed_four}
 use Rattle.fm_layout.specs.Spelling.{jump_bytes}
 use Rattle.fm_layout.proofs.PairsLemmas.{pairs_more, pairs_end, past_one}
