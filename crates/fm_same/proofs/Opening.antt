@@ -354,10 +354,10 @@ either_state p facts colour false one other first second = second
 -- ---- the opening
 
 module _ (p : Program) (facts : Facts) (choose : Choose) (may : (s : Store) (request : Request) → MayReuse s request (choose s request)) (numbers : HoldsNumbers p.outline) where
-  abbrev given_region : Region
+  abbrev pub given_region : Region
   given_region = region p.outline facts p.outline.main [] (facts.class p.outline.main (Local 0))
 
-  abbrev opened_colour : Colour
+  abbrev pub opened_colour : Colour
   opened_colour birth = given_region
 
   live : given_region ≢ Retired
