@@ -1,3 +1,4 @@
-pub mod WordLemmas
-pub mod PieceLemmas
-pub mod MarkLemmas
+pub mod MergingLemmas
+pub mod WalkLemmas
+pub mod ItemLemmas
+pub mod CheckLemmas

@@ -1,3 +1,2 @@
-pub mod Members
-pub mod Outcomes
+pub mod Checking
 pub mod inner

@@ -1,13 +1,13 @@
-// The rows of the stack checker in code: what each instruction asks of the state before it, and the
-// state that it leaves (JVMS 4.10.1.9).
+// The stack checker: a method is accepted exactly where it is typed, and gets its least typing
+// (JVMS 4.10).
 #![tactic(auto)]
 
-mod array_rows;
-mod call_rows;
-mod field_rows;
+mod checking;
+mod error;
 mod merging;
-mod moves;
-mod named;
-mod number_rows;
-mod object_rows;
-mod words;
+mod method;
+mod steps;
+mod walk;
+
+pub use checking::check;
+pub use error::CheckFail;

@@ -1,1 +1,17 @@
 pub mod Example
+pub mod NumberLemmas
+pub mod ListLemmas
+pub mod WordLemmas
+pub mod PairLemmas
+pub mod ChainLemmas
+pub mod CallLemmas
+pub mod MethodLemmas
+pub mod ShapeLemmas
+pub mod TableLemmas
+pub mod ClassLemmas
+pub mod LinkLemmas
+pub mod MemberLemmas
+pub mod StepLemmas
+pub mod CodedLemmas
+pub mod TypeLemmas
+pub mod AlmostLemmas

@@ -3,4 +3,9 @@ pub mod Rows
 pub mod Pairs
 pub mod Links
 pub mod Facts
+pub mod Laws
+pub mod Summaries
+pub mod Shapes
+pub mod Classes
 pub mod Example
+pub mod inner

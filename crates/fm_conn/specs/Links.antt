@@ -33,7 +33,7 @@ native_links =
     ++ of_row (codes "FreeMe") (codes "link") (codes "(Ljava/lang/Object;Ljava/lang/Object;)Ljava/lang/Object;")
     ((end.Return, end.Parameter 0) ∷ (end.Return, end.Parameter 1) ∷ (end.Parameter 0, end.Parameter 1) ∷ [])
 
--- in one order or the other, or an end with itself
+-- in one order or the other
 pub record IsNativeLink (row : ℕ) (a b : End2) : Type 0 where
   pub links : List (End2 × End2)
   pub row_has : Contains native_links (row, links)

@@ -5,10 +5,24 @@
 // whose operands look alike do the same.
 #![tactic(auto)]
 
+mod built_ins;
+mod calls;
+mod coded;
 mod ends;
+mod faults;
+mod frames;
 mod laws;
+mod machine;
+mod makes;
+mod moves;
+mod throws;
 mod values;
 
+pub use built_ins::{ARITHMETIC_EXCEPTION, NULL_POINTER_EXCEPTION, STRING};
+pub use coded::{code_of, offset_of, pack_of, type_id, type_numbered, type_of_class};
 pub use ends::Ended;
+pub use frames::{Cursor, Frames};
 pub use laws::{law_object_example, law_sum_example};
+pub use machine::Machine;
+pub use throws::{Catch, is_start};
 pub use values::Value;

@@ -1,1 +1,3 @@
+pub mod ClassSteps
 pub mod Phases
+pub mod ProgramMade

@@ -1,5 +1,5 @@
 -- The refusals one kind after the other, and what is known of files once their texts are numbered.
-use Rattle.std.proofs.Common.{◌≡◌, refl, sym, ◌∙◌, ap, subst, ℕ, zero, suc, ◌+◌, ◌<◌, List, [], ◌∷◌, ◌++◌, length, map, get_or, Option, Some, None, Result, slice_get, arith, append_assoc}
+use Rattle.std.proofs.Common.{◌≡◌, refl, sym, ◌∙◌, ap, subst, ℕ, suc, ◌+◌, ◌<◌, List, [], ◌∷◌, ◌++◌, length, map, Option, Some, Result, slice_get, arith, append_assoc}
 use Rattle.std.proofs.lemmas.List.{get_or-map, length-map}
 use Rattle.std.proofs.lemmas.Option.{get_or_from_slice_get, slice_get-get_or, slice_get_within}
 use Rattle.std.specs.List.{AllByRecursion}
@@ -10,7 +10,7 @@ use Rattle.fm_declare.specs.declared.given.GivenFile.{GivenFile}
 use Rattle.fm_declare.specs.inner.Files.{AreFiles, IsFile}
 use Rattle.fm_declare.specs.declared.texts.Texts.{Texts}
 use Rattle.fm_declare.specs.inner.Numbering.{texts_in, AreTexts, Extends}
-use Rattle.fm_link.specs.inner.Judged.{later_refusals, member_refusals, IsReady}
+use Rattle.fm_link.specs.inner.Judged.{later_refusals, member_refusals, name_refusals, IsReady}
 use Rattle.fm_lookup.proofs.RowSteps.{rows_extend}
 use Rattle.fm_lookup.specs.declared.members.Members.{Members}
 use Rattle.fm_lookup.specs.inner.MemberRows.{field_alike, method_alike, AreFieldRows, AreMethodRows}
@@ -27,70 +27,34 @@ use Rattle.fm_world.specs.Linking.{refusals, refused_built_ins, refused_duplicat
 
 -- ---- all refusals
 
-refusals-joined : (given : List ClassDef) (main : List ℕ)
-    → refusals given main ≡ refused_duplicates given ++ (refused_built_ins given ++ later_refusals given main)
+refusals-joined : (given : List ClassDef) (main : List ℕ) → refusals given main ≡ name_refusals given ++ later_refusals given main
 unfolding refusals
 refusals-joined given main =
-    let a = refused_duplicates given in
-    let b = refused_built_ins given in
+    let ab = refused_duplicates given ++ refused_built_ins given in
     let c = refused_missing_classes given in
     let d = refused_parents given in
     let e = refused_fields given in
     let f = refused_methods given in
     let g = refused_not_implemented given in
     let h = refused_main given main in
-    append_assoc (a ++ b ++ c ++ d ++ e ++ f) g h ∙ append_assoc (a ++ b ++ c ++ d ++ e) f (g ++ h)
-    ∙ append_assoc (a ++ b ++ c ++ d) e (f ++ (g ++ h))
-    ∙ append_assoc (a ++ b ++ c) d (e ++ (f ++ (g ++ h))) ∙ append_assoc (a ++ b) c (d ++ (e ++ (f ++ (g ++ h))))
-    ∙ append_assoc a b (c ++ (d ++ (e ++ (f ++ (g ++ h)))))
+    append_assoc (ab ++ c ++ d ++ e ++ f) g h ∙ append_assoc (ab ++ c ++ d ++ e) f (g ++ h)
+    ∙ append_assoc (ab ++ c ++ d) e (f ++ (g ++ h)) ∙ append_assoc (ab ++ c) d (e ++ (f ++ (g ++ h)))
+    ∙ append_assoc ab c (d ++ (e ++ (f ++ (g ++ h)))) ∙ ap (λ rs. ab ++ rs) (sym (append_assoc c d (e ++ (f ++ (g ++ h)))))
 
-joined : (given : List ClassDef) (main : List ℕ) (o : Option Refusal)
-    → IsFirst (refused_duplicates given ++ (refused_built_ins given ++ later_refusals given main)) o → IsFirst (refusals given main) o
-joined given main o is = subst (λ rs. IsFirst rs o) (sym (refusals-joined given main)) is
+pub at_names : (given : List ClassDef) (main : List ℕ) (o : Option Refusal) → IsFirst (name_refusals given) o → IsFirst (refusals given main) o
+at_names given main o is =
+    subst (λ rs. IsFirst rs o) (sym (refusals-joined given main)) (first-append (name_refusals given) (later_refusals given main) o is)
 
-pub at_duplicates : (given : List ClassDef) (main : List ℕ) (o : Option Refusal) → IsFirst (refused_duplicates given) o
-    → IsFirst (refusals given main) o
-at_duplicates given main o is =
-    joined given main o (first-append (refused_duplicates given) (refused_built_ins given ++ later_refusals given main) o is)
-
-pub at_built_ins : (given : List ClassDef) (main : List ℕ) (o : Option Refusal) → refused_duplicates given ≡ [] → IsFirst (refused_built_ins given) o
-    → IsFirst (refusals given main) o
-at_built_ins given main o none is =
-    joined given main o (first_after (refused_duplicates given) (refused_built_ins given ++ later_refusals given main) o none
-    (first-append (refused_built_ins given) (later_refusals given main) o is))
-
-pub at_later : {X : Type 0} (given : List ClassDef) (main : List ℕ) (r : Result X LinkFail) → refused_duplicates given ≡ []
-    → refused_built_ins given ≡ []
+pub at_later : {X : Type 0} (given : List ClassDef) (main : List ℕ) (r : Result X LinkFail) → name_refusals given ≡ []
     → Refuses (later_refusals given main) r → Refuses (refusals given main) r
-at_later given main r none empty is =
-    subst (λ rs. Refuses rs r) (sym (refusals-joined given main))
-    (refuses_after (refused_duplicates given) (refused_built_ins given ++ later_refusals given main) r none
-    (refuses_after (refused_built_ins given) (later_refusals given main) r empty is))
+at_later given main r none is =
+    subst (λ rs. Refuses rs r) (sym (refusals-joined given main)) (refuses_after (name_refusals given) (later_refusals given main) r none is)
 
--- ---- those of classes
-
-pub at_missing : (given : List ClassDef) (main : List ℕ) (o : Option Refusal) → IsFirst (refused_missing_classes given) o
-    → IsFirst (later_refusals given main) o
-at_missing given main o is = first-append (refused_missing_classes given) (refused_parents given ++ member_refusals given main) o is
-
-pub at_parents : (given : List ClassDef) (main : List ℕ) (o : Option Refusal) → refused_missing_classes given ≡ [] → IsFirst (refused_parents given) o
-    → IsFirst (later_refusals given main) o
-at_parents given main o none is =
-    first_after (refused_missing_classes given) (refused_parents given ++ member_refusals given main) o none
-    (first-append (refused_parents given) (member_refusals given main) o is)
-
-pub at_members : {X : Type 0} (given : List ClassDef) (main : List ℕ) (r : Result X LinkFail) → refused_missing_classes given ≡ []
-    → refused_parents given ≡ [] → Refuses (member_refusals given main) r → Refuses (later_refusals given main) r
-at_members given main r none empty is =
-    refuses_after (refused_missing_classes given) (refused_parents given ++ member_refusals given main) r none
-    (refuses_after (refused_parents given) (member_refusals given main) r empty is)
+-- nothing is refused of two kinds
+pub none_of_both : (mine others : List Refusal) → mine ≡ [] → others ≡ [] → mine ++ others ≡ []
+none_of_both mine others none empty = ap (λ rs. rs ++ others) none ∙ empty
 
 -- ---- those of members
-
-pub at_fields : (given : List ClassDef) (main : List ℕ) (o : Option Refusal) → IsFirst (refused_fields given) o
-    → IsFirst (member_refusals given main) o
-at_fields given main o is =
-    first-append (refused_fields given) (refused_methods given ++ (refused_not_implemented given ++ refused_main given main)) o is
 
 pub at_methods : (given : List ClassDef) (main : List ℕ) (o : Option Refusal) → refused_fields given ≡ [] → IsFirst (refused_methods given) o
     → IsFirst (member_refusals given main) o
@@ -186,6 +150,6 @@ ready_of given first second third texts files classes constructor fields methods
     }
 
 -- the refusals that are left are those of the given classes
-pub of_given : {X : Type 0} (texts : List (List ℕ)) (given : List ClassDef) (files : List GivenFile) (main : List ℕ) (r : Result X LinkFail)
-    → AreFiles texts given files → Refuses (later_refusals (given_in files) main) r → Refuses (later_refusals given main) r
-of_given texts given files main r are is = subst (λ cs. Refuses (later_refusals cs main) r) (given_is texts given files are) is
+pub of_given : {X : Type 0} (given : List ClassDef) (files : List GivenFile) (main : List ℕ) (r : Result X LinkFail) → given_in files ≡ given
+    → Refuses (later_refusals (given_in files) main) r → Refuses (later_refusals given main) r
+of_given given files main r are is = subst (λ cs. Refuses (later_refusals cs main) r) are is

@@ -1,2 +1,3 @@
 -- What serves the proofs alone.
 pub mod Judged
+pub mod Made

@@ -5,6 +5,10 @@
 #![tactic(auto)]
 
 mod judging;
+mod linked;
+mod linking;
+mod ready;
 
 pub use fm_refuse::{LinkBad, LinkFail};
 pub use judging::judge;
+pub use linking::link;

@@ -1,12 +1,11 @@
 -- What is found in tables of members is what the definitions look up.
-use Rattle.std.proofs.Common.{◌≡◌, refl, sym, ◌∙◌, ap, subst, ℕ, zero, suc, ◌+◌, ◌<◌, ◌≤◌, ◌&&◌, ◌||◌, Bool, true, false, cond, List, [], ◌∷◌, ◌++◌, length, map, drop, get_or, set, nat_eq, Option, Some, None, option_and_then, slice_get, arith, ◌⊎◌, inl, inr, zero-add, length-set}
+use Rattle.std.proofs.Common.{◌≡◌, refl, sym, ◌∙◌, ap, subst, ℕ, zero, suc, ◌+◌, ◌<◌, ◌≤◌, ◌&&◌, ◌||◌, not, Bool, true, false, cond, List, [], ◌∷◌, ◌++◌, length, map, filter, get_or, set, nat_eq, Option, Some, None, option_and_then, slice_get, arith, ◌⊎◌, inl, inr, zero-add, length-set}
 use Rattle.std.specs.Global.{Vec}
 use Rattle.std.specs.List.{flat_map, filter_map}
 use Rattle.std.proofs.lemmas.Bool.{eq-eqb, eqb-true, cases_lt, false≢true}
-use Rattle.std.proofs.lemmas.List.{get_or_default, get_or_past, length-append}
+use Rattle.std.proofs.lemmas.List.{get_or_past, length-append}
 use Rattle.std.proofs.lemmas.List.FromFn.{get_or-map-range_with_len, length-map-range_with_len}
 use Rattle.std.proofs.lemmas.Option.{slice_get-get_or, slice_get_past}
-use Rattle.fm_declare.proofs.Drops.{drop_here}
 use Rattle.fm_world.proofs.Displays.{chain_ends, parent_of-within}
 use Rattle.fm_world.specs.Chains.{chain_of, distinct, first_found, interfaces_within, is_among, parent_of, superinterfaces_of}
 use Rattle.fm_world.specs.Declarations.{no_class}
@@ -191,10 +190,6 @@ pub list_in-row : (f : ℕ → List ℕ) (count class : ℕ) (table : List (Vec 
 list_in-row f count class table e within =
     ap (λ xs. get_or xs class []) e ∙ get_or-map-range_with_len f 0 count class class [] within (zero-add class)
 
-pub flat_map-each : (f g : ℕ → List ℕ) (xs : List ℕ) → ((x : ℕ) → f x ≡ g x) → flat_map f xs ≡ flat_map g xs
-flat_map-each f g [] same = refl
-flat_map-each f g (x ∷ xs) same = ap (λ ys. ys ++ flat_map f xs) (same x) ∙ ap (λ ys. g x ++ ys) (flat_map-each f g xs same)
-
 -- a number past all classes has no superinterfaces
 superinterfaces-past : (classes : List DeclaredClass) (class : ℕ) → length classes ≤ class → superinterfaces_of classes class ≡ []
 unfolding superinterfaces_of
@@ -226,24 +221,30 @@ first_found-without f interfaces (x ∷ xs) none =
     ∙ ap (or_else (f x)) (first_found-without f interfaces xs none)
     ∙ sym (first_found-cons f x xs)
 
--- ---- a loop over classes
+-- ---- each number once
 
-found_from : (f : ℕ → Option ℕ) (g : ℕ → List ℕ) (xs : List ℕ) (i : ℕ) → i < length xs
-    → first_found f (flat_map g (drop i xs)) ≡ or_else (first_found f (g (get_or xs i 0))) (first_found f (flat_map g (drop (i + 1) xs)))
-found_from f g xs i within =
-    ap (λ ys. first_found f (flat_map g ys)) (drop_here xs i (get_or xs i 0) within (get_or_default xs i 0 (get_or xs i 0) within))
-    ∙ first_found-append f (g (get_or xs i 0)) (flat_map g (drop (i + 1) xs))
+-- a number of which nothing is found may be left out
+left_out : (f : ℕ → Option ℕ) (y z : ℕ) (rest zs : List ℕ) → f y ≡ None → first_found f rest ≡ first_found f zs → (b : Bool) → nat_eq y z ≡ b
+    → first_found f (cond (not b) (z ∷ rest) rest) ≡ first_found f (z ∷ zs)
+left_out f y z rest zs none same true e =
+    same ∙ sym (first_found-cons f z zs ∙ ap (λ o. or_else o (first_found f zs)) (ap f (sym (eqb-true y z e)) ∙ none))
+left_out f y z rest zs none same false e = first_found-cons f z rest ∙ ap (or_else (f z)) same ∙ sym (first_found-cons f z zs)
 
-pub found_now : (f : ℕ → Option ℕ) (g : ℕ → List ℕ) (xs : List ℕ) (i k : ℕ) (whole : Option ℕ) → i < length xs
-    → first_found f (g (get_or xs i 0)) ≡ Some k → first_found f (flat_map g (drop i xs)) ≡ whole → Some k ≡ whole
-found_now f g xs i k whole within e so_far =
-    sym (found_from f g xs i within ∙ ap (λ o. or_else o (first_found f (flat_map g (drop (i + 1) xs)))) e) ∙ so_far
+without : (f : ℕ → Option ℕ) (y : ℕ) → f y ≡ None → (zs : List ℕ) → first_found f (filter (λ z. not (nat_eq y z)) zs) ≡ first_found f zs
+without f y none [] = refl
+without f y none (z ∷ zs) = left_out f y z (filter (λ w. not (nat_eq y w)) zs) zs none (without f y none zs) (nat_eq y z) refl
 
-pub found_later : (f : ℕ → Option ℕ) (g : ℕ → List ℕ) (xs : List ℕ) (i : ℕ) (whole : Option ℕ) → i < length xs
-    → first_found f (g (get_or xs i 0)) ≡ None → first_found f (flat_map g (drop i xs)) ≡ whole
-    → first_found f (flat_map g (drop (i + 1) xs)) ≡ whole
-found_later f g xs i whole within e so_far =
-    sym (found_from f g xs i within ∙ ap (λ o. or_else o (first_found f (flat_map g (drop (i + 1) xs)))) e) ∙ so_far
+found_head : (f : ℕ → Option ℕ) (y : ℕ) (ds ys : List ℕ) → first_found f ds ≡ first_found f ys → (o : Option ℕ) → f y ≡ o
+    → or_else (f y) (first_found f (filter (λ z. not (nat_eq y z)) ds)) ≡ or_else (f y) (first_found f ys)
+found_head f y ds ys same None e = ap (or_else (f y)) (without f y e ds ∙ same)
+found_head f y ds ys same (Some k) e =
+    ap (λ o. or_else o (first_found f (filter (λ z. not (nat_eq y z)) ds))) e ∙ sym (ap (λ o. or_else o (first_found f ys)) e)
+
+pub first_found-distinct : (f : ℕ → Option ℕ) (xs : List ℕ) → first_found f (distinct nat_eq xs) ≡ first_found f xs
+first_found-distinct f [] = refl
+first_found-distinct f (y ∷ ys) =
+    first_found-cons f y (filter (λ z. not (nat_eq y z)) (distinct nat_eq ys))
+    ∙ found_head f y (distinct nat_eq ys) ys (first_found-distinct f ys) (f y) refl ∙ sym (first_found-cons f y ys)
 
 -- ---- marks
 

@@ -1,7 +1,6 @@
 -- What the tables of members answer is what names are resolved to, and which method is called.
 use Rattle.std.proofs.Common.{◌≡◌, refl, sym, ◌∙◌, ap, ℕ, ◌<◌, ◌==◌, ◌&&◌, not, Bool, true, false, cond, List, [], ◌∷◌, ◌++◌, length, map, drop, get_or, nat_eq, Option, Some, None, option_and_then, option_to_list, unwrap_or, slice_get, arith, zero-add}
 use Rattle.std.proofs.Math.ListN.{get_or-map}
-use Rattle.std.specs.List.{flat_map}
 use Rattle.std.specs.Str.{bytes_eq}
 use Rattle.std.proofs.lemmas.Bool.{false≢true}
 use Rattle.std.proofs.lemmas.List.{get_or-map as get_or-map_within, length-map}
@@ -21,7 +20,7 @@ use Rattle.fm_world.specs.declared.TheConstants.{ACC_SUPER}
 use Rattle.fm_world.specs.declared.declarations.DeclaredClass.{DeclaredClass}
 use Rattle.fm_world.specs.inner.Layers.{HasRoom}
 use Rattle.fm_world.specs.inner.Tables.{chain_from}
-use Rattle.fm_lookup.proofs.FoundLemmas.{first_found-append, first_found-none, first_found-same, first_found-without, flat_map-each, interfaces_listed, list_in-row, or_else-None, own_in-is, row_of_own}
+use Rattle.fm_lookup.proofs.FoundLemmas.{first_found-append, first_found-distinct, first_found-none, first_found-same, first_found-without, interfaces_listed, list_in-row, or_else-None, own_in-is, row_of_own}
 use Rattle.fm_lookup.proofs.NearestLemmas.{first_found-cons}
 use Rattle.fm_lookup.proofs.SectionLemmas.{own_field-position, own_method-position}
 use Rattle.fm_lookup.proofs.SectionRows.{AreSections-fields, AreSections-methods}
@@ -31,8 +30,8 @@ use Rattle.fm_lookup.specs.declared.lookups.Fields.{Fields}
 use Rattle.fm_lookup.specs.declared.lookups.Methods.{Methods}
 use Rattle.fm_lookup.specs.declared.members.MemberRow.{MemberRow}
 use Rattle.fm_lookup.specs.declared.members.Nearest.{Nearest}
-use Rattle.fm_lookup.specs.inner.FoundMembers.{above_in, field_found_in, field_in, is_constructor_in, is_marked, method_found_in, method_in, own_method_in, searches_in, selected_in, special_in, with_interfaces}
-use Rattle.fm_lookup.specs.inner.Hierarchy.{IsHierarchy}
+use Rattle.fm_lookup.specs.inner.FoundMembers.{above_in, field_found_in, field_in, is_constructor_in, is_marked, method_found_in, method_in, own_method_in, searches_in, selected_in, special_in}
+use Rattle.fm_lookup.specs.inner.Hierarchy.{distinct_path, IsHierarchy}
 use Rattle.fm_lookup.specs.inner.ListTables.{list_in}
 use Rattle.fm_lookup.specs.inner.MemberRows.{field_alike, method_alike, no_row, row_alike, Owned}
 use Rattle.fm_lookup.specs.inner.MemberTables.{has_key, nearest_in, number_of_key, own_by, own_in, signature_of, AreFields, AreMethods, AreNearest}
@@ -68,10 +67,9 @@ field_in-is texts classes f h are is name descriptor signature n d there_n there
       room : HasRoom f.nearest.layers signature
       room = are.nearest.room signature (position-Some (has_key name descriptor) rows signature no_row found).0
 
-      path : flat_map (with_interfaces h.above.items) (list_in h.chains.items class) ≡ field_path classes class
-      path = ap (flat_map (with_interfaces h.above.items)) (list_in-row (chain_of classes) (length classes) class h.chains.items is.chains within)
-          ∙ flat_map-each (with_interfaces h.above.items) (λ x. x ∷ superinterfaces_of classes x) (chain_of classes class)
-          (λ x. ap (λ xs. x ∷ xs) (interfaces_listed classes h.above.items is.above x))
+      path : first_found find (list_in h.paths.items class) ≡ first_found find (field_path classes class)
+      path = ap (first_found find) (list_in-row (distinct_path classes) (length classes) class h.paths.items is.paths within)
+          ∙ first_found-distinct find (field_path classes class)
 
       unmarked : is_marked f.in_interfaces.items signature ≡ false → (x i : ℕ) → is_among i (superinterfaces_of classes x) ≡ true → (o : Option ℕ)
           → find i ≡ o → o ≡ None
@@ -85,14 +83,14 @@ field_in-is texts classes f h are is name descriptor signature n d there_n there
 
       by_mark : (b : Bool) → is_marked f.in_interfaces.items signature ≡ b
           → cond b
-          (first_found (own_in f.nearest rows signature) (flat_map (with_interfaces h.above.items) (list_in h.chains.items class)))
+          (first_found (own_in f.nearest rows signature) (list_in h.paths.items class))
           (nearest_in f.nearest class signature)
           ≡ field_among classes n d (field_path classes class)
       by_mark true e =
-          first_found-same (own_in f.nearest rows signature) find (flat_map (with_interfaces h.above.items) (list_in h.chains.items class))
+          first_found-same (own_in f.nearest rows signature) find (list_in h.paths.items class)
           (λ x. own_in-is classes f.members f.signatures.of_members.items f.nearest is.linear (AreSections-fields texts classes f.members are.rows)
           are.nearest signature x room)
-          ∙ ap (first_found find) path
+          ∙ path
           ∙ first_found-same find (own_field classes n d) (field_path classes class) by_name
       by_mark false e =
           are.nearest.nearest class signature within room

@@ -9,7 +9,7 @@ ghost use Rattle.fm_world.specs.Lookups.{is_interface_at};
 ghost use Rattle.fm_world.specs.declared.declarations.DeclaredClass.{DeclaredClass};
 
 use crate::chain_tables::{chains_of, parents_first};
-use crate::interfaces::{Superinterfaces, interfaces_of};
+use crate::interfaces::{Superinterfaces, joined_along, with_classes};
 use crate::lists::list_at;
 use crate::parent_tables::{listed_interfaces, parents_of};
 use fm_base::NoMemory;
@@ -68,6 +68,9 @@ pub struct Hierarchy<'a> {
     // the superinterfaces of each class by its own list, and those of its superclasses after them
     pub above: Vec<Vec<u32>>,
     pub interfaces: Vec<Vec<u32>>,
+    // where a field of each class is looked for: in it, in its superinterfaces, and in its superclasses in
+    // the same way
+    pub paths: Vec<Vec<u32>>,
     pub object: Option<u32>,
 }
 
@@ -80,12 +83,11 @@ impl<'a> Hierarchy<'a> {
     {
         let chains = chains_of(alloc, ancestors.parents.as_slice())?;
         let order = parents_first(alloc, chains.as_slice())?;
-        let interfaces = interfaces_of(
-            alloc,
-            ancestors.parents.as_slice(),
-            order.as_slice(),
-            ancestors.above.as_slice(),
-        )?;
+        let parents = ancestors.parents.as_slice();
+        let above = ancestors.above.as_slice();
+        let interfaces = joined_along(alloc, parents, order.as_slice(), above)?;
+        let fronted = with_classes(alloc, above)?;
+        let paths = joined_along(alloc, parents, order.as_slice(), fronted.as_slice())?;
         Ok(Hierarchy {
             classes: ancestors.classes,
             parents: ancestors.parents,
@@ -94,6 +96,7 @@ impl<'a> Hierarchy<'a> {
             order,
             above: ancestors.above,
             interfaces,
+            paths,
             object: ancestors.object,
         })
     }

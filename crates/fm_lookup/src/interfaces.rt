@@ -4,16 +4,16 @@
 // superinterfaces found in that round, since those of the interfaces that it lists were found before. A
 // class whose chains never end leads into a cycle.
 
-ghost use Rattle.std.specs.Prelude.{◌≡◌, ◌≤◌, ℕ, suc, List, [], false, IfOk, OnOk, length, map, replicate};
+ghost use Rattle.std.specs.Prelude.{◌≡◌, ◌≤◌, ℕ, suc, List, [], ◌∷◌, false, IfOk, OnOk, length, map, replicate};
 ghost use Rattle.std.specs.List.{list_any};
-ghost use Rattle.fm_lookup.specs.inner.InterfaceRounds.{above_by, inherited_along, is_set, of_parent, settled_one, settled_to, with_inherited, AreFoundTo, Lists};
+ghost use Rattle.fm_lookup.specs.inner.InterfaceRounds.{above_by, inherited_along, is_set, of_parent, settled_one, settled_to, with_classes, with_inherited, AreFoundTo, Lists};
 ghost use Rattle.fm_lookup.specs.inner.ListTables.{lists};
 ghost use Rattle.fm_world.specs.declared.declarations.DeclaredClass.{DeclaredClass};
 
 use crate::lists::{empty_lists, list_at, put_list};
 use crate::once::distinct;
 use fm_base::NoMemory;
-use fm_declare::at;
+use fm_declare::{at, number_of};
 use std::alloc::Global;
 
 /// The superinterfaces of each class by its own list, depth first, each once; and whether its chains of
@@ -150,36 +150,36 @@ fn above_of(alloc: Global, interfaces: &[u32], above: &[Vec<u32>]) -> Result<Vec
     distinct(alloc, met.as_slice())
 }
 
-/// The superinterfaces of each class and then those of its superclasses, each once. The order has each
+/// For each class what the lists have at it and then at its superclasses, each once. The order has each
 /// class after its superclass.
-pub fn interfaces_of(
+pub fn joined_along(
     alloc: Global,
     parents: &[Option<u32>],
     order: &[u32],
-    above: &[Vec<u32>],
+    own: &[Vec<u32>],
 ) -> Result<Vec<Vec<u32>>, NoMemory>
-    ensures { IfOk result (λ all. lists all.items ≡ inherited_along parents.now (lists above.now)
-        order.now (replicate (length above.now) [])) }
+    ensures { IfOk result (λ all. lists all.items ≡ inherited_along parents.now (lists own.now)
+        order.now (replicate (length own.now) [])) }
 {
-    let mut all = empty_lists(alloc, above.len())?;
+    let mut all = empty_lists(alloc, own.len())?;
     for class in order {
-        inherit(alloc, parents, above, &mut all, *class)?;
+        inherit(alloc, parents, own, &mut all, *class)?;
     }
     Ok(all)
 }
 
-// Puts the superinterfaces of a class into the table, which has those of its superclass.
+// Puts what a class has in front of what the table has at its superclass.
 fn inherit(
     alloc: Global,
     parents: &[Option<u32>],
-    above: &[Vec<u32>],
+    own: &[Vec<u32>],
     all: &mut Vec<Vec<u32>>,
     class: u32,
 ) -> Result<(), NoMemory>
     ensures { OnOk result (lists all.new.items
-        ≡ with_inherited parents.now (lists above.now) (lists all.old.items) class) }
+        ≡ with_inherited parents.now (lists own.now) (lists all.old.items) class) }
 {
-    let mut met = Vec::from_slice(alloc, list_at(above, class))?;
+    let mut met = Vec::from_slice(alloc, list_at(own, class))?;
     met.extend_from_slice(inherited(all.as_slice(), at(parents, class)))?;
     let found = distinct(alloc, met.as_slice())?;
     put_list(all, class as usize, found);
@@ -194,4 +194,25 @@ fn inherited(all: &[Vec<u32>], parent: Option<u32>) -> &[u32]
         Some(parent) => list_at(all, parent),
         None => &[],
     }
+}
+
+/// Each list with the number of its class in front.
+pub fn with_classes(alloc: Global, own: &[Vec<u32>]) -> Result<Vec<Vec<u32>>, NoMemory>
+    ensures { IfOk result (λ made. lists made.items ≡ with_classes (lists own.now)) }
+{
+    let mut made = Vec::with_capacity(alloc, own.len())?;
+    for class in 0..number_of(own.len())? {
+        made.push(with_class(alloc, class, list_at(own, class))?)?;
+    }
+    Ok(made)
+}
+
+// A list with the number of a class in front.
+fn with_class(alloc: Global, class: u32, list: &[u32]) -> Result<Vec<u32>, NoMemory>
+    ensures { IfOk result (λ made. made.items ≡ class ∷ list.now) }
+{
+    let mut made = Vec::new(alloc);
+    made.push(class)?;
+    made.extend_from_slice(list)?;
+    Ok(made)
 }

@@ -16,7 +16,7 @@ mod parent_tables;
 pub use chain_tables::{chains_of, parents_first};
 pub use chains::goes_up;
 pub use hierarchy::{Ancestors, Hierarchy, is_interface_at};
-pub use interfaces::{Superinterfaces, interfaces_of};
+pub use interfaces::{Superinterfaces, joined_along, with_classes};
 pub use lookups::{Fields, Methods};
 pub use member_rows::{fields_of, methods_of};
 pub use members::{MemberRow, Members};

@@ -1,13 +1,12 @@
 // What names are resolved to, and which method is called (JVMS 5.4.3, 5.4.5, 6.5).
 
 ghost use Rattle.std.specs.Prelude.{◌≡◌, ◌<◌, ℕ, IfOk, IfSome, List, Some, length, slice_get, slice_set, true, if◌then◌else◌};
-ghost use Rattle.std.specs.List.{flat_map};
 ghost use Rattle.fm_code.specs.AccessFlags.{is_static};
 ghost use Rattle.fm_code.specs.ConstantPool.{MemberName};
 ghost use Rattle.fm_lookup.specs.inner.Hierarchy.{IsHierarchy};
 ghost use Rattle.fm_lookup.specs.inner.MemberRows.{AreFieldRows, AreMethodRows};
 ghost use Rattle.fm_lookup.specs.inner.MemberTables.{flags_of, own_in, AreDistinct, AreFields, AreMethods, AreSignatures, MarksInterfaces};
-ghost use Rattle.fm_lookup.specs.inner.FoundMembers.{above_in, field_found_in, field_in, is_constructor_in, is_marked, method_above_in, method_found_in, method_in, own_static_in, searches_in, selected_in, special_in, static_among_in, with_interfaces};
+ghost use Rattle.fm_lookup.specs.inner.FoundMembers.{above_in, field_found_in, field_in, is_constructor_in, is_marked, method_above_in, method_found_in, method_in, own_static_in, searches_in, selected_in, special_in, static_among_in};
 ghost use Rattle.fm_lookup.specs.inner.NearestSteps.{is_signed};
 ghost use Rattle.fm_world.specs.Chains.{chain_of, class_at, first_found};
 ghost use Rattle.fm_world.specs.Descriptors.{class_number};
@@ -89,9 +88,8 @@ impl Fields {
         ensures { result ≡ field_in self.now hierarchy.now class signature }
     {
         if self.is_in_interfaces(signature) {
-            let chain = hierarchy.chain(class);
-            let above = hierarchy.above.as_slice();
-            first_with_interfaces(&self.nearest, &self.members, chain, above, signature)
+            let path = list_at(hierarchy.paths.as_slice(), class);
+            first_own(&self.nearest, &self.members, path, signature)
         } else {
             self.nearest.get(class, signature)
         }
@@ -105,44 +103,6 @@ impl Fields {
             Some(is_marked) => *is_marked,
             None => false,
         }
-    }
-}
-
-// The first member of the signature that one of these classes declares, or one of a class's interfaces
-// right after it.
-fn first_with_interfaces(
-    nearest: &Nearest,
-    members: &Members,
-    classes: &[u32],
-    interfaces: &[Vec<u32>],
-    signature: u32,
-) -> Option<u32>
-    ensures { result ≡ first_found (own_in nearest.now members.now.rows.items signature)
-        (flat_map (with_interfaces interfaces.now) classes.now) }
-{
-    for class in classes {
-        match own_or_of_interfaces(nearest, members, *class, interfaces, signature) {
-            Some(member) => return Some(member),
-            None => {}
-        }
-    }
-    None
-}
-
-// The member of the signature that the class declares, or the first one of its interfaces.
-fn own_or_of_interfaces(
-    nearest: &Nearest,
-    members: &Members,
-    class: u32,
-    interfaces: &[Vec<u32>],
-    signature: u32,
-) -> Option<u32>
-    ensures { result ≡ first_found (own_in nearest.now members.now.rows.items signature)
-        (with_interfaces interfaces.now class) }
-{
-    match nearest.own(members, class, signature) {
-        Some(member) => Some(member),
-        None => first_own(nearest, members, list_at(interfaces, class), signature),
     }
 }
 

@@ -203,7 +203,7 @@ module _ (p : Program) (facts : Facts) (exact : AreFacts p facts) (f : Frame) (i
       goes_obey p facts exact f i h e (home_of p facts exact f i h e) (inr refl, tt) falls tt
       (gives_one p facts exact f i h e (home_of p facts exact f i h e) (OfMade 0) refl
       (λ next edge there. ap (λ n. facts.class f.method (given (point p facts exact f i h) e n 0))
-          (sym (only_next h.code f.item next i h.insn_is (call_no_targets (x p facts exact f i h) i c.call c.call_is) edge))))
+      (sym (only_next h.code f.item next i h.insn_is (call_no_targets (x p facts exact f i h) i c.call c.call_is) edge))))
       tt (λ k unwritten. keeps k) (omega (arith, taken))
 
   null_put : (takes : ℕ) → native_words row ≤ takes → Row (acting takes (Put (OfOperand 0) 0 (table.text_kind p.outline) (Plain null) ∷ []))
@@ -395,16 +395,18 @@ module _ (p : Program) (facts : Facts) (exact : AreFacts p facts) (f : Frame) (i
       let node : IsNode (x p facts exact f i h) (word (point p facts exact f i h) 0) =
       subst (λ d. IsNode (x p facts exact f i h) (Slot f.item d)) level (c.arguments 1 message) in
       by_object Row p.outline (throwable_type p.outline) s 1 _ nulls stucks (gone 1)
-      (λ it seen passes. goes_obey p facts exact f i h (acting 2 (Put (OfOperand 1) 0 (table.text_kind p.outline) (OfOperand 0) ∷ [])) 0
-          ((
-            facts.class f.method (word (point p facts exact f i h) 0),
-            tt,
-            (λ there. native_class (end.Parameter 0) (end.Parameter 1) (word (point p facts exact f i h) 1) (word (point p facts exact f i h) 0) receiver message link
-                (parameter_word 1 0 (omega (arith, two))) (parameter_word 0 1 (omega (arith, two))) there node),
-            (λ there. refl),
-            (node, omega (arith, two)),
-          ), tt)
-          falls tt (λ next edge q s at there. absurd (cc)) tt (λ k unwritten. keeps k) (omega (arith, taken, two)))
+      (λ it seen passes. goes_obey p facts exact f i h (acting 2 (Put (OfOperand 1) 0 (table.text_kind p.outline) (OfOperand 0) ∷ [])) 0 (
+        (
+          facts.class f.method (word (point p facts exact f i h) 0),
+          tt,
+          (λ there. native_class (end.Parameter 0) (end.Parameter 1) (word (point p facts exact f i h) 1) (word (point p facts exact f i h) 0) receiver message link
+              (parameter_word 1 0 (omega (arith, two))) (parameter_word 0 1 (omega (arith, two))) there node),
+          (λ there. refl),
+          (node, omega (arith, two)),
+        ),
+        tt,
+      )
+      falls tt (λ next edge q s at there. absurd (cc)) tt (λ k unwritten. keeps k) (omega (arith, taken, two)))
 
   get_message_rows : (s : List Sight) → 1 ≡ native_words row → IsEnd p.outline target end.Return → IsEnd p.outline target (end.Parameter 0)
       → IsNativeLink c.number end.Return (end.Parameter 0) → Row (table.throwable_native p.outline GetMessage s)
@@ -413,11 +415,11 @@ module _ (p : Program) (facts : Facts) (exact : AreFacts p facts) (f : Frame) (i
       let taken = c.words in
       by_object Row p.outline (throwable_type p.outline) s 0 _ nulls stucks (gone 0)
       (λ it seen passes.
-          let e : Effect = words 1 (OfPlace 0 0 (table.text_kind p.outline) ∷ []) in
-          goes_obey p facts exact f i h e 0 tt falls tt
-          (gives_one p facts exact f i h e 0 (OfPlace 0 0 (table.text_kind p.outline)) refl
-          (λ next edge there node. receiver_given e 0 next 0 edge refl one (omega (arith, one)) result receiver link there node))
-          tt (λ k unwritten. keeps k) (omega (arith, taken, one)))
+      let e : Effect = words 1 (OfPlace 0 0 (table.text_kind p.outline) ∷ []) in
+      goes_obey p facts exact f i h e 0 tt falls tt
+      (gives_one p facts exact f i h e 0 (OfPlace 0 0 (table.text_kind p.outline)) refl
+      (λ next edge there node. receiver_given e 0 next 0 edge refl one (omega (arith, one)) result receiver link there node))
+      tt (λ k unwritten. keeps k) (omega (arith, taken, one)))
 
   throwable_string_rows : (s : List Sight) → native_words row ≤ 1 → Row (table.throwable_native p.outline ThrowableToString s)
   unfolding table.throwable_native

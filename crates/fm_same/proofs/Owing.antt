@@ -59,11 +59,11 @@ module _ (p : Program) (facts : Facts) (exact : AreFacts p facts) (f : Frame) wh
       let i : Insn = insn.Virtual index in
       by_on_method (Owes p facts exact f i h) p.outline (used p facts exact f i h) _ (stuck_obeys p facts exact f i h)
       (λ m n t is there. by_object (Owes p facts exact f i h) p.outline t s (words_of_arguments p.outline m.0) _
-          (null_obeys p facts exact f i h (λ k. refl)) (stuck_obeys p facts exact f i h) (faulty_obeys p facts exact f i h (words_of_arguments p.outline m.0))
-          (λ it seen fits_it. selected_obeys p facts exact f i h (words_of_arguments p.outline m.0 + 1) byte s
-              (select p.outline.classes (receiver_class p.outline it) m.0)
-              (λ target row selected native. covers target row
-                  (record { method = m; type = n; named = is; receiver = it; seen = seen; selected = selected }) native)))
+      (null_obeys p facts exact f i h (λ k. refl)) (stuck_obeys p facts exact f i h) (faulty_obeys p facts exact f i h (words_of_arguments p.outline m.0))
+      (λ it seen fits_it. selected_obeys p facts exact f i h (words_of_arguments p.outline m.0 + 1) byte s
+      (select p.outline.classes (receiver_class p.outline it) m.0)
+      (λ target row selected native. covers target row
+      (record { method = m; type = n; named = is; receiver = it; seen = seen; selected = selected }) native)))
 
   interface_obeys : (index : ℕ) (h : AtInsn p facts f (insn.Interface index)) (byte : Option ℕ) (s : List Sight)
       → CoversNatives p facts f h.code (insn.Interface index) s
@@ -73,13 +73,13 @@ module _ (p : Program) (facts : Facts) (exact : AreFacts p facts) (f : Frame) wh
       let i : Insn = insn.Interface index in
       by_on_method (Owes p facts exact f i h) p.outline (used p facts exact f i h) _ (stuck_obeys p facts exact f i h)
       (λ m n t is there. by_any (Owes p facts exact f i h) p.outline s (words_of_arguments p.outline m.0) _
-          (null_obeys p facts exact f i h (λ k. refl)) (stuck_obeys p facts exact f i h) (faulty_obeys p facts exact f i h (words_of_arguments p.outline m.0))
-          (λ it seen. by_if (Owes p facts exact f i h) (is_sub p.outline.classes it.type t) _ (thrown p.outline (codes "java/lang/IncompatibleClassChangeError"))
-              (λ implements. selected_obeys p facts exact f i h (words_of_arguments p.outline m.0 + 1) byte s
-                  (select p.outline.classes (receiver_class p.outline it) m.0)
-                  (λ target row selected native. covers target row
-                      (record { method = m; type = n; named = is; receiver = it; seen = seen; selected = selected }) native))
-              (λ lacks. thrown_obeys p facts exact f i h (λ k. refl) (codes "java/lang/IncompatibleClassChangeError"))))
+      (null_obeys p facts exact f i h (λ k. refl)) (stuck_obeys p facts exact f i h) (faulty_obeys p facts exact f i h (words_of_arguments p.outline m.0))
+      (λ it seen. by_if (Owes p facts exact f i h) (is_sub p.outline.classes it.type t) _ (thrown p.outline (codes "java/lang/IncompatibleClassChangeError"))
+      (λ implements. selected_obeys p facts exact f i h (words_of_arguments p.outline m.0 + 1) byte s
+      (select p.outline.classes (receiver_class p.outline it) m.0)
+      (λ target row selected native. covers target row
+      (record { method = m; type = n; named = is; receiver = it; seen = seen; selected = selected }) native))
+      (λ lacks. thrown_obeys p facts exact f i h (λ k. refl) (codes "java/lang/IncompatibleClassChangeError"))))
 
   special_obeys : (index : ℕ) (h : AtInsn p facts f (insn.Special index)) (byte : Option ℕ) (s : List Sight)
       → CoversNatives p facts f h.code (insn.Special index) s
@@ -89,11 +89,11 @@ module _ (p : Program) (facts : Facts) (exact : AreFacts p facts) (f : Frame) wh
       let i : Insn = insn.Special index in
       by_on_method (Owes p facts exact f i h) p.outline (used p facts exact f i h) _ (stuck_obeys p facts exact f i h)
       (λ m n t is there. by_reference (Owes p facts exact f i h) s (words_of_arguments p.outline m.0) _ (stuck_obeys p facts exact f i h)
-          (λ is_null. by_if (Owes p facts exact f i h) is_null (thrown_null p.outline) _ (λ null. null_obeys p facts exact f i h (λ k. refl))
-              (λ some. entered_obeys p facts exact f i h (words_of_arguments p.outline m.0 + 1)
-                  (special_target p.outline.classes (class_of_method p.outline f.method) (class_of_type t) m.0) byte s _ refl
-                  (λ row native. covers (special_target p.outline.classes (class_of_method p.outline f.method) (class_of_type t) m.0) row
-                      (record { method = m; type = n; named = is; of = t; of_is = there; is = refl }) native))))
+      (λ is_null. by_if (Owes p facts exact f i h) is_null (thrown_null p.outline) _ (λ null. null_obeys p facts exact f i h (λ k. refl))
+      (λ some. entered_obeys p facts exact f i h (words_of_arguments p.outline m.0 + 1)
+      (special_target p.outline.classes (class_of_method p.outline f.method) (class_of_type t) m.0) byte s _ refl
+      (λ row native. covers (special_target p.outline.classes (class_of_method p.outline f.method) (class_of_type t) m.0) row
+      (record { method = m; type = n; named = is; of = t; of_is = there; is = refl }) native))))
 
   static_obeys : (index : ℕ) (h : AtInsn p facts f (insn.Static index)) (byte : Option ℕ) (s : List Sight)
       → CoversNatives p facts f h.code (insn.Static index) s
@@ -103,8 +103,8 @@ module _ (p : Program) (facts : Facts) (exact : AreFacts p facts) (f : Frame) wh
       let i : Insn = insn.Static index in
       by_on_method (Owes p facts exact f i h) p.outline (used p facts exact f i h) _ (stuck_obeys p facts exact f i h)
       (λ m n t is there. started_obeys p facts exact f i h (class_of_method p.outline m.0) _
-          (entered_obeys p facts exact f i h (words_of_arguments p.outline m.0) m.0 byte s _ refl
-          (λ row native. covers m.0 row (record { method = m; type = n; named = is; is = refl }) native)))
+      (entered_obeys p facts exact f i h (words_of_arguments p.outline m.0) m.0 byte s _ refl
+      (λ row native. covers m.0 row (record { method = m; type = n; named = is; is = refl }) native)))
 
   -- ---- the whole table
 

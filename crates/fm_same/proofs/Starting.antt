@@ -75,7 +75,7 @@ starts_even o x home numbers classes =
     (λ class. (
       tt,
       all_flattened (ActsEvenly o x home) (λ field. set_constant o field (field_at o.classes field).field.value) (fields_at o class)
-      (λ field. constant_even o x home field (field_at o.classes field).field.value (numbers.constants field)),
+          (λ field. constant_even o x home field (field_at o.classes field).field.value (numbers.constants field)),
     ))
 
 -- they put nothing into objects
@@ -97,7 +97,7 @@ starts_agree o store stack classes =
     (λ class. (
       tt,
       all_flattened (PutAgrees o store stack) (λ field. set_constant o field (field_at o.classes field).field.value) (fields_at o class)
-      (λ field. constant_agrees o store stack field (field_at o.classes field).field.value),
+          (λ field. constant_agrees o store stack field (field_at o.classes field).field.value),
     ))
 
 -- ---- the effect with what starts make of it

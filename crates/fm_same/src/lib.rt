@@ -3,4 +3,6 @@
 
 mod laws;
 
-pub use laws::{law_classes, law_colours, law_dead_regions_of_sound_runs, law_effects, law_regions};
+pub use laws::{
+    law_classes, law_colours, law_dead_regions_of_sound_runs, law_effects, law_regions,
+};

@@ -1,8 +1,7 @@
 -- What is found in the tables of members, by numbers alone.
-use Rattle.std.specs.Prelude.{ℕ, ◌-◌, ◌==◌, ◌&&◌, not, Bool, false, List, ◌∷◌, drop, Option, Some, None, slice_get, if◌then◌else◌}
-use Rattle.std.specs.List.{flat_map, slice_index_or}
+use Rattle.std.specs.Prelude.{ℕ, ◌-◌, ◌==◌, ◌&&◌, not, Bool, false, List, drop, Option, Some, None, slice_get, if◌then◌else◌}
+use Rattle.std.specs.List.{slice_index_or}
 use Rattle.std.specs.Option.{option_and_then, unwrap_or}
-use Rattle.std.specs.Global.{Vec}
 use Rattle.fm_code.specs.AccessFlags.{has_flag, is_private, is_static}
 use Rattle.fm_world.specs.Chains.{class_at, first_found, is_among}
 use Rattle.fm_world.specs.Lookups.{is_interface_at}
@@ -16,10 +15,6 @@ use Rattle.fm_lookup.specs.inner.MemberRows.{section_of}
 use Rattle.fm_lookup.specs.inner.MemberTables.{first_from, flags_of, nearest_in, number_of_key, own_in}
 use Rattle.fm_lookup.specs.inner.NearestSteps.{is_signed, or_else}
 
--- a class and then its interfaces
-abbrev pub with_interfaces : List (Vec ℕ) → ℕ → List ℕ
-with_interfaces interfaces class = class ∷ list_in interfaces class
-
 -- the mark at a place; past the end none is set
 abbrev pub is_marked : List Bool → ℕ → Bool
 is_marked marks place = slice_index_or marks place false
@@ -28,7 +23,7 @@ is_marked marks place = slice_index_or marks place false
 abbrev pub field_in : Fields → Hierarchy → ℕ → ℕ → Option ℕ
 field_in f h class signature =
     if is_marked f.in_interfaces.items signature
-    then first_found (own_in f.nearest f.members.rows.items signature) (flat_map (with_interfaces h.above.items) (list_in h.chains.items class))
+    then first_found (own_in f.nearest f.members.rows.items signature) (list_in h.paths.items class)
     else nearest_in f.nearest class signature
 
 -- the class's own method of a signature

@@ -1,9 +1,9 @@
 -- What the tables of superclasses and superinterfaces say of the classes.
-use Rattle.std.specs.Prelude.{◌≡◌, ℕ, ◌<◌, true, false, List, length, map, Some, slice_get, take}
+use Rattle.std.specs.Prelude.{◌≡◌, ℕ, ◌<◌, true, false, List, length, map, nat_eq, Some, slice_get, take}
 use Rattle.fm_world.specs.Acyclic.{IsAcyclic}
 use Rattle.fm_world.specs.Causes.{goes_deep}
-use Rattle.fm_world.specs.Chains.{chain_of, interfaces_of, is_among, listed_interfaces, parent_of, superinterfaces_of}
-use Rattle.fm_world.specs.Lookups.{object_number}
+use Rattle.fm_world.specs.Chains.{chain_of, distinct, interfaces_of, is_among, listed_interfaces, parent_of, superinterfaces_of}
+use Rattle.fm_world.specs.Lookups.{field_path, object_number}
 use Rattle.fm_world.specs.declared.declarations.DeclaredClass.{DeclaredClass}
 use Rattle.fm_world.specs.inner.Tables.{AreInterfaces, IsLinear, numbers_below}
 use Rattle.fm_lookup.specs.declared.hierarchy.Ancestors.{Ancestors}
@@ -33,6 +33,10 @@ pub record AreAncestors (classes : List DeclaredClass) (a : Ancestors) : Type 0 
       → list_in a.above.items class ≡ superinterfaces_of classes class
   pub object : a.object ≡ object_number classes
 
+-- where a field of a class is looked for, each class and each interface once
+abbrev pub distinct_path : List DeclaredClass → ℕ → List ℕ
+distinct_path classes class = distinct nat_eq (field_path classes class)
+
 -- the tables of classes of which none is refused
 pub record IsHierarchy (classes : List DeclaredClass) (h : Hierarchy) : Type 0 where
   pub classes_are : h.classes.now ≡ classes
@@ -44,4 +48,5 @@ pub record IsHierarchy (classes : List DeclaredClass) (h : Hierarchy) : Type 0 w
   pub order : IsDownwards classes h.order.items
   pub above : lists h.above.items ≡ map (superinterfaces_of classes) (numbers_below (length classes))
   pub interfaces : lists h.interfaces.items ≡ map (interfaces_of classes) (numbers_below (length classes))
+  pub paths : lists h.paths.items ≡ map (distinct_path classes) (numbers_below (length classes))
   pub object : h.object ≡ object_number classes

@@ -35,15 +35,19 @@ abbrev pub of_parent : List (List ℕ) → Option ℕ → List ℕ
 of_parent all None = []
 of_parent all (Some parent) = slice_index_or all parent []
 
--- the table with what a class lists and what its superclass has there, each once
+-- the table with what a class has of its own and what its superclass has there, each once
 abbrev pub with_inherited : List (Option ℕ) → List (List ℕ) → List (List ℕ) → ℕ → List (List ℕ)
-with_inherited parents above all class =
-    slice_set all class (distinct nat_eq (slice_index_or above class [] ++ of_parent all (parent_at parents class)))
+with_inherited parents own all class =
+    slice_set all class (distinct nat_eq (slice_index_or own class [] ++ of_parent all (parent_at parents class)))
 
 -- the same for one class after the other
 abbrev pub inherited_along : List (Option ℕ) → List (List ℕ) → List ℕ → List (List ℕ) → List (List ℕ)
-inherited_along parents above [] all = all
-inherited_along parents above (class ∷ order) all = inherited_along parents above order (with_inherited parents above all class)
+inherited_along parents own [] all = all
+inherited_along parents own (class ∷ order) all = inherited_along parents own order (with_inherited parents own all class)
+
+-- each list with the number of its class in front
+abbrev pub with_classes : List (List ℕ) → List (List ℕ)
+with_classes own = map (λ class. class ∷ slice_index_or own class []) (numbers_below (length own))
 
 -- ---- tables of classes
 

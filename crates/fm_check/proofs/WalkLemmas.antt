@@ -1,0 +1,289 @@
+-- Steps of the walk: what a state that is brought to an item shows, and what it leaves.
+use Rattle.std.proofs.Common.{◌≡◌, ◌≢◌, refl, sym, ◌∙◌, ap, inl, inr, ◌⊎◌, ⊎_elim, ℕ, ◌<◌, ◌≤◌, ◌==◌, ◌&&◌, nat_le, Bool, true, false, List, [], ◌∷◌, ◌++◌, length, get_or, set, Option, Some, None, cond, Contains, subst, arith, length-set}
+use Rattle.std.proofs.lemmas.Bool.{and_from, cases_eq, eq-eqb, false≢true, le-leb}
+use Rattle.std.proofs.lemmas.List.{get_or-set_same, get_or-set_other}
+use Rattle.std.proofs.lemmas.List.Elements.{Contains-append_left, Contains-push, Contains-push_cases}
+use Rattle.fm_base.proofs.OptionFacts.{IsSomeAnd-from_some, same_value, Some-from_some_and}
+use Rattle.fm_check.proofs.MergingLemmas.{fits-parts, IsStateJoin, join_state-least, join_state-some, state-refl, state-trans}
+use Rattle.fm_check.specs.inner.Merging.{join_state}
+use Rattle.fm_check.specs.inner.Walks.{Brings, is_marked, is_within, IsForced, IsKept, IsSound, Rises, Stands, states_seen, Task, Untypable, Walked, Went, with_state, with_waiting}
+use Rattle.fm_code.specs.declared.code_array.Code.{Code}
+use Rattle.fm_flow.proofs.RowFacts.{has-set_only}
+use Rattle.fm_types.proofs.StateOrder.{Fitting}
+use Rattle.fm_types.proofs.Zips.{zip-length}
+use Rattle.fm_types.specs.States.{state_fits, TypeState}
+use Rattle.fm_types.specs.Typed.{FitsAt, state_at}
+use Rattle.fm_types.specs.declared.states.State.{State}
+use Rattle.fm_world.specs.Programs.{Outline}
+
+-- ---- states as they are seen
+
+pub state_seen : (states slice : List (Option State)) (j : ℕ) (o : Option TypeState) → slice ≡ states → o ≡ state_at (states_seen slice) j
+    → state_at (states_seen states) j ≡ o
+state_seen states slice j o same is = ap (λ (xs : List (Option State)). state_at (states_seen xs) j) (sym same) ∙ sym is
+
+-- the same of a copy
+pub state_copied : (states slice : List (Option State)) (j : ℕ) (own copy : TypeState) → slice ≡ states → Some own ≡ state_at (states_seen slice) j → copy ≡ own
+    → state_at (states_seen states) j ≡ Some copy
+state_copied states slice j own copy same is copied = state_seen states slice j (Some own) same is ∙ ap Some (sym copied)
+
+-- ---- what no typing has
+
+-- the state of a typing that this one fits
+pub record FitsOne (t : Task) (states : List (Option TypeState)) (j : ℕ) (s : TypeState) : Type 0 where
+  pub state : TypeState
+  pub is : state_at states j ≡ Some state
+  pub fits : state_fits t.program.outline s state ≡ true
+
+pub fits_one : (t : Task) (states : List (Option TypeState)) (j : ℕ) (s : TypeState) → FitsAt t.program states j s → FitsOne t states j s
+fits_one t states j s h =
+    let found = Some-from_some_and (state_at states j) (λ u. state_fits t.program.outline s u ≡ true) h in
+    record { state = found.0; is = found.1; fits = found.2 }
+
+pub fits_at : (t : Task) (states : List (Option TypeState)) (j : ℕ) (s u : TypeState) → state_at states j ≡ Some u
+    → state_fits t.program.outline s u ≡ true → FitsAt t.program states j s
+fits_at t states j s u is fits = IsSomeAnd-from_some (state_at states j) (λ u. state_fits t.program.outline s u ≡ true) u is fits
+
+within-from : (code : Code) (s : TypeState) → length s.locals ≡ code.max_locals → length s.stack ≤ code.max_stack → is_within code s ≡ true
+within-from code s locals stack =
+    and_from (length s.locals == code.max_locals) (nat_le (length s.stack) code.max_stack) (eq-eqb (length s.locals) code.max_locals locals)
+    (le-leb (length s.stack) code.max_stack stack)
+
+-- a state that is too large
+pub too_large : (t : Task) (j : ℕ) (s : TypeState) → IsForced t j s → is_within t.code s ≡ false → Untypable t
+too_large t j s forced large states typing =
+    let found = fits_one t states j s (forced.below states typing) in
+    let meets = typing.items j found.state found.is in
+    let parts = fits-parts t.program.outline s found.state found.fits in
+    let locals = zip-length (Fitting t.program.outline) s.locals found.state.locals parts.locals in
+    let stack = zip-length (Fitting t.program.outline) s.stack found.state.stack parts.stack in
+    false≢true (sym large ∙ within-from t.code s (locals ∙ meets.locals) (omega (arith, stack, meets.stack)))
+
+-- one that doesn't fit that of the first item
+pub first_unfit : (t : Task) (w : Walked) (s old : TypeState) → Stands t w → IsForced t 0 s → state_at w.states 0 ≡ Some old
+    → state_fits t.program.outline s old ≡ false → Untypable t
+first_unfit t w s old stands forced is unfit states typing =
+    let found = fits_one t states 0 s (forced.below states typing) in
+    let same : found.state ≡ old = cc (typing.first, stands.first, found.is, is) in
+    false≢true (sym unfit ∙ ap (state_fits t.program.outline s) (sym same) ∙ found.fits)
+
+-- states without a join
+pub no_join : (t : Task) (w : Walked) (j : ℕ) (s old : TypeState) → IsSound t → Stands t w → IsForced t j s → state_at w.states j ≡ Some old
+    → join_state t.program.outline old s ≡ None → Untypable t
+no_join t w j s old sound stands forced is none states typing =
+    let kept = stands.each j old is in
+    let first = fits_one t states j old (kept.forced.below states typing) in
+    let second = fits_one t states j s (forced.below states typing) in
+    let same : first.state ≡ second.state = same_value (state_at states j) first.state second.state first.is second.is in
+    let whole = (typing.items j first.state first.is).whole in
+    join_state-some t.program.outline sound.tree old s first.state kept.forced.whole forced.whole whole first.fits
+    (ap (state_fits t.program.outline s) same ∙ second.fits) none
+
+-- ---- items that wait
+
+pub record Waits (item : ℕ) (old new : Walked) : Type 0 where
+  pub states : new.states ≡ old.states
+  pub one_mark : length new.marks ≡ length old.marks
+  pub listed : Contains new.waiting item
+  pub marked : (j : ℕ) → is_marked new j ≡ true → Contains new.waiting j
+  pub still : (j : ℕ) → Contains old.waiting j → Contains new.waiting j
+  pub only : (j : ℕ) → Contains new.waiting j → Contains old.waiting j ⊎ (item ≡ j)
+
+waits-marked : (item : ℕ) (w : Walked) → ((j : ℕ) → is_marked w j ≡ true → Contains w.waiting j) → is_marked w item ≡ true → Waits item w w
+waits-marked item w marked is = record {
+  states = refl;
+  one_mark = refl;
+  listed = marked item is;
+  marked = marked;
+  still = λ j h. h;
+  only = λ j h. inl h;
+}
+
+waits-pushed : (item : ℕ) (w : Walked) → ((j : ℕ) → is_marked w j ≡ true → Contains w.waiting j)
+    → Waits item w (record w { waiting = w.waiting ++ item ∷ []; marks = set w.marks item true })
+waits-pushed item w marked = record {
+  states = refl;
+  one_mark = length-set w.marks item true;
+  listed = Contains-push w.waiting item;
+  marked = λ j is.
+      ⊎_elim
+      (λ (same : j ≡ item). subst (λ (n : ℕ). Contains (w.waiting ++ item ∷ []) n) (sym same) (Contains-push w.waiting item))
+      (λ was. Contains-append_left w.waiting (item ∷ []) j (marked j was))
+      (has-set_only w.marks item j is);
+  still = λ j h. Contains-append_left w.waiting (item ∷ []) j h;
+  only = λ j h. Contains-push_cases w.waiting item j h;
+}
+
+pub with_waiting-waits : (item : ℕ) (w : Walked) → ((j : ℕ) → is_marked w j ≡ true → Contains w.waiting j) → Waits item w (with_waiting item w)
+with_waiting-waits item w marked = by_mark (is_marked w item) refl where
+  by_mark : (b : Bool) → is_marked w item ≡ b
+      → Waits item w (cond b w (record w { waiting = w.waiting ++ item ∷ []; marks = set w.marks item true }))
+  by_mark true is = waits-marked item w marked is
+  by_mark false is = waits-pushed item w marked
+
+-- ---- a state is given
+
+-- the item itself, or another one that is as before
+pub given_at : (states : List (Option TypeState)) (item j : ℕ) (s : TypeState) → item < length states
+    → ((j ≡ item) × (state_at (set states item (Some s)) j ≡ Some s)) ⊎ ((j ≢ item) × (state_at (set states item (Some s)) j ≡ state_at states j))
+given_at states item j s inside =
+    ⊎_elim
+    (λ (same : j ≡ item). inl (same, ap (λ n. get_or (set states item (Some s)) n None) same ∙ get_or-set_same states item (Some s) None inside))
+    (λ (apart : j ≢ item). inr (apart, get_or-set_other states item j (Some s) None apart))
+    (cases_eq j item)
+
+-- a state that is new, or above the old one
+pub Went-given : (t : Task) (item : ℕ) (new : TypeState) (w : Walked) → IsSound t → Stands t w → IsKept t item new → (item ≡ 0 → ⊥)
+    → ((s : TypeState) → state_at w.states item ≡ Some s → state_fits t.program.outline s new ≡ true)
+    → Went t w (with_state item new w)
+Went-given t item new w sound stands kept later above =
+    let put : Walked = record w { states = set w.states item (Some new) } in
+    let waits = with_waiting-waits item put stands.marked in
+    let one = stands.one_each in
+    let below = kept.forced.inside in
+    let inside : item < length w.states = omega arith in
+    let at = λ (j : ℕ). given_at w.states item j new inside in
+    let seen : (j : ℕ) → state_at (with_state item new w).states j ≡ state_at (set w.states item (Some new)) j =
+    λ j. ap (λ (states : List (Option TypeState)). state_at states j) waits.states in
+    record {
+      stands = record {
+        one_each = ap length waits.states ∙ length-set w.states item (Some new) ∙ stands.one_each;
+        one_mark = waits.one_mark ∙ stands.one_mark;
+        first = ⊎_elim (λ (this : (0 ≡ item) × (state_at (set w.states item (Some new)) 0 ≡ Some new)). absurd (later (sym this.0)))
+            (λ (other : (0 ≢ item) × (state_at (set w.states item (Some new)) 0 ≡ state_at w.states 0)). seen 0 ∙ other.1 ∙ stands.first)
+            (at 0);
+        each = λ j s is.
+            ⊎_elim
+            (λ (this : (j ≡ item) × (state_at (set w.states item (Some new)) j ≡ Some new)).
+            let same : new ≡ s = same_value (state_at (set w.states item (Some new)) j) new s this.1 (sym (seen j) ∙ is) in
+            subst (λ (n : ℕ). IsKept t n s) (sym this.0) (subst (λ (x : TypeState). IsKept t item x) same kept))
+            (λ (other : (j ≢ item) × (state_at (set w.states item (Some new)) j ≡ state_at w.states j)).
+            stands.each j s (sym other.1 ∙ sym (seen j) ∙ is))
+            (at j);
+        marked = waits.marked;
+        waiting = λ j h.
+            ⊎_elim (λ before. stands.waiting j before) (λ (same : item ≡ j). subst (λ (n : ℕ). n < length t.code.items) same below) (waits.only j h);
+      };
+      rises = record {
+        rises = λ j s is.
+            ⊎_elim
+            (λ (this : (j ≡ item) × (state_at (set w.states item (Some new)) j ≡ Some new)).
+            fits_at t (with_state item new w).states j s new (seen j ∙ this.1)
+            (above s (ap (λ (n : ℕ). state_at w.states n) (sym this.0) ∙ is)))
+            (λ (other : (j ≢ item) × (state_at (set w.states item (Some new)) j ≡ state_at w.states j)).
+            fits_at t (with_state item new w).states j s s (seen j ∙ other.1 ∙ is) (state-refl t.program.outline sound.tree s))
+            (at j);
+        changed = λ j.
+            ⊎_elim
+            (λ (this : (j ≡ item) × (state_at (set w.states item (Some new)) j ≡ Some new)).
+            inr (subst (λ (n : ℕ). Contains (with_state item new w).waiting n) (sym this.0) waits.listed))
+            (λ (other : (j ≢ item) × (state_at (set w.states item (Some new)) j ≡ state_at w.states j)). inl (seen j ∙ other.1))
+            (at j);
+        still = waits.still;
+      };
+    }
+
+-- and a state that fits it was brought
+Brings-given : (t : Task) (item : ℕ) (s new : TypeState) (w : Walked) → IsSound t → Stands t w → IsKept t item new → (item ≡ 0 → ⊥)
+    → ((s : TypeState) → state_at w.states item ≡ Some s → state_fits t.program.outline s new ≡ true) → state_fits t.program.outline s new ≡ true
+    → Brings t item s w (with_state item new w)
+Brings-given t item s new w sound stands kept later above fits =
+    let waits = with_waiting-waits item (record w { states = set w.states item (Some new) }) stands.marked in
+    let one = stands.one_each in
+    let below = kept.forced.inside in
+    let inside : item < length w.states = omega arith in
+    record {
+      went = Went-given t item new w sound stands kept later above;
+      fits = fits_at t (with_state item new w).states item s new
+          (ap (λ (states : List (Option TypeState)). state_at states item) waits.states ∙ get_or-set_same w.states item (Some new) None inside)
+          fits;
+    }
+
+-- ---- the cases of a state that is brought
+
+-- an item without a state
+pub Brings-first : (t : Task) (item : ℕ) (s : TypeState) (w : Walked) → IsSound t → Stands t w → IsForced t item s → is_within t.code s ≡ true
+    → state_at w.states item ≡ None → Brings t item s w (with_state item s w)
+Brings-first t item s w sound stands forced within none =
+    Brings-given t item s s w sound stands (record { forced = forced; within = within })
+    (λ same. let first : state_at w.states item ≡ Some _ = ap (λ (n : ℕ). state_at w.states n) same ∙ stands.first in cc)
+    (λ u is. absurd cc)
+    (state-refl t.program.outline sound.tree s)
+
+pub Went-none : (t : Task) (w : Walked) → IsSound t → Stands t w → Went t w w
+Went-none t w sound stands = record {
+  stands = stands;
+  rises = record {
+    rises = λ j s is. fits_at t w.states j s s is (state-refl t.program.outline sound.tree s);
+    changed = λ j. inl refl;
+    still = λ j h. h;
+  };
+}
+
+-- a state that fits
+pub Brings-fit : (t : Task) (item : ℕ) (s old : TypeState) (w : Walked) → IsSound t → Stands t w → state_at w.states item ≡ Some old
+    → state_fits t.program.outline s old ≡ true → Brings t item s w w
+Brings-fit t item s old w sound stands is fits = record { went = Went-none t w sound stands; fits = fits_at t w.states item s old is fits }
+
+-- the join is within the counts where one of the two is
+join-within : (o : Outline) (code : Code) (a b : TypeState) → state_fits o a b ≡ true → is_within code a ≡ is_within code b
+join-within o code a b fits =
+    let parts = fits-parts o a b fits in
+    ap (λ n. (n == code.max_locals) && nat_le (length a.stack) code.max_stack) (zip-length (Fitting o) a.locals b.locals parts.locals)
+    ∙ ap (λ n. (length b.locals == code.max_locals) && nat_le n code.max_stack) (zip-length (Fitting o) a.stack b.stack parts.stack)
+
+-- what all typings have above both they have above the join
+join-forced : (t : Task) (j : ℕ) (a b joined : TypeState) → IsForced t j a → IsForced t j b → IsStateJoin t.program.outline a b joined → IsForced t j joined
+join-forced t j a b joined first second join = record {
+  reachable = first.reachable;
+  inside = first.inside;
+  whole = join.whole;
+  below = λ states typing.
+      let above = fits_one t states j a (first.below states typing) in
+      let other = fits_one t states j b (second.below states typing) in
+      let same : other.state ≡ above.state = same_value (state_at states j) other.state above.state other.is above.is in
+      fits_at t states j joined above.state above.is
+      (join.least above.state above.fits (ap (state_fits t.program.outline b) (sym same) ∙ other.fits));
+}
+
+-- a state that is joined
+pub Brings-joined : (t : Task) (item : ℕ) (s old joined : TypeState) (w : Walked) → IsSound t → Stands t w → IsForced t item s → (item ≡ 0 → ⊥)
+    → state_at w.states item ≡ Some old → join_state t.program.outline old s ≡ Some joined → Brings t item s w (with_state item joined w)
+Brings-joined t item s old joined w sound stands forced later is gives =
+    let join = join_state-least t.program.outline sound.tree old s joined gives in
+    let kept = stands.each item old is in
+    Brings-given t item s joined w sound stands
+    (record {
+      forced = join-forced t item old s joined kept.forced forced join;
+      within = sym (join-within t.program.outline t.code old joined join.first) ∙ kept.within;
+    })
+    later
+    (λ u also. let same : old ≡ u = same_value (state_at w.states item) old u is also in ap (λ (x : TypeState). state_fits t.program.outline x joined) (sym same) ∙ join.first)
+    join.second
+
+-- ---- one step after the other
+
+pub Rises-then : (t : Task) (a b c : Walked) → IsSound t → Rises t.program.outline a b → Rises t.program.outline b c → Rises t.program.outline a c
+Rises-then t a b c sound first second = record {
+  rises = λ j s is.
+      let middle = fits_one t b.states j s (first.rises j s is) in
+      let last = fits_one t c.states j middle.state (second.rises j middle.state middle.is) in
+      fits_at t c.states j s last.state last.is (state-trans t.program.outline sound.tree s middle.state last.state middle.fits last.fits);
+  changed = λ j.
+      ⊎_elim
+      (λ (late : state_at c.states j ≡ state_at b.states j).
+      ⊎_elim (λ (early : state_at b.states j ≡ state_at a.states j). inl (late ∙ early)) (λ waits. inr (second.still j waits)) (first.changed j))
+      (λ waits. inr waits)
+      (second.changed j);
+  still = λ j h. second.still j (first.still j h);
+}
+
+pub Went-then : (t : Task) (a b c : Walked) → IsSound t → Went t a b → Went t b c → Went t a c
+Went-then t a b c sound first second = record { stands = second.stands; rises = Rises-then t a b c sound first.rises second.rises }
+
+-- what fits at an item fits later
+pub fits_later : (t : Task) (a b : Walked) (j : ℕ) (s : TypeState) → IsSound t → Rises t.program.outline a b → FitsAt t.program a.states j s → FitsAt t.program b.states j s
+fits_later t a b j s sound rises h =
+    let before = fits_one t a.states j s h in
+    let after = fits_one t b.states j before.state (rises.rises j before.state before.is) in
+    fits_at t b.states j s after.state after.is (state-trans t.program.outline sound.tree s before.state after.state before.fits after.fits)

@@ -1,0 +1,49 @@
+use Rattle.std.proofs.Common.{◌∙◌, sym, ap, subst, Some, None}
+use Rattle.std.specs.Option.{option_map}
+use Rattle.fm_check.proofs.WalkLemmas.{Brings-first, Brings-fit, Brings-joined, no_join, state_seen, too_large}
+use Rattle.fm_check.specs.inner.Walks.{Brings, task, Walked, walked, with_state}
+use Rattle.fm_types.specs.States.{TypeState}
+use Rattle.fm_types.specs.Typings.{type_state}
+use Rattle.fm_check.proofs.walk.Walk.bring.Goals as goal
+
+pub returns-then-not-is_within : goal.returns-then-not-is_within
+returns-then-not-is_within c =
+    too_large (task c.args.method.now) c.args.item (type_state c.args.brought.now) c.requires.forced (sym c.is_within.ensures ∙ c.if-not-is_within.true)
+
+pub returns-in_default : goal.returns-in_default
+returns-in_default c =
+    let t = task c.args.method.now in
+    let w = walked c.args.self.now in
+    let s = type_state c.args.brought.now in
+    let none = state_seen c.args.self.now.states.items c.as_slice.result.now c.args.item None c.as_slice.ensures.value c.in_default.ensures in
+    let is = c.in_ok-begin.ensures ∙ ap (λ (x : TypeState). with_state c.args.item x w) c.in_ok-first.ensures in
+    let Done : Walked → Type 0 = λ x. Brings t c.args.item s w x in
+    subst Done (sym is)
+    (Brings-first t c.args.item s w c.requires.sound c.requires.stands c.requires.forced (sym c.is_within.ensures ∙ c.if-not-is_within.false) none)
+
+pub returns-then-state_fits : goal.returns-then-state_fits
+returns-then-state_fits c =
+    let old = type_state c.in-Some.state.now in
+    let is = state_seen c.args.self.now.states.items c.as_slice.result.now c.args.item (Some old) c.as_slice.ensures.value c.in-Some.ensures in
+    Brings-fit (task c.args.method.now) c.args.item (type_state c.args.brought.now) old (walked c.args.self.now) c.requires.sound c.requires.stands is
+    (sym c.state_fits.ensures ∙ c.if-state_fits.true)
+
+pub returns-in_default-2 : goal.returns-in_default-2
+returns-in_default-2 c =
+    let old = type_state c.in-Some.state.now in
+    let is = state_seen c.args.self.now.states.items c.as_slice.result.now c.args.item (Some old) c.as_slice.ensures.value c.in-Some.ensures in
+    no_join (task c.args.method.now) (walked c.args.self.now) c.args.item (type_state c.args.brought.now) old c.requires.sound c.requires.stands
+    c.requires.forced is (sym c.in_ok-joined.ensures ∙ ap (option_map type_state) c.in_default-2.is)
+
+pub returns : goal.returns
+returns c =
+    let t = task c.args.method.now in
+    let w = walked c.args.self.now in
+    let s = type_state c.args.brought.now in
+    let old = type_state c.in-Some.state.now in
+    let joined = type_state c.in-Some-2.joined in
+    let is = state_seen c.args.self.now.states.items c.as_slice.result.now c.args.item (Some old) c.as_slice.ensures.value c.in-Some.ensures in
+    let gives = sym c.in_ok-joined.ensures ∙ ap (option_map type_state) c.in-Some-2.is in
+    let Done : Walked → Type 0 = λ x. Brings t c.args.item s w x in
+    subst Done (sym c.in_ok-begin-2.ensures)
+    (Brings-joined t c.args.item s old joined w c.requires.sound c.requires.stands c.requires.forced c.if-item-eq0.false is gives)

@@ -1,0 +1,30 @@
+use Rattle.std.proofs.Common.{subst, List, get_or}
+use Rattle.std.proofs.lemmas.List.{take_all}
+use Rattle.fm_types.specs.Typings.{type_state}
+use Rattle.fm_check.proofs.ItemLemmas.{blank, BringsHandlers-more, BringsHandlers-none, match_true}
+use Rattle.fm_check.specs.inner.Walks.{BringsCaught, BringsHandlers, task, Untypable, walked}
+use Rattle.fm_code.specs.declared.code_array.Handler.{Handler}
+use Rattle.fm_check.proofs.walk.Walk.bring_to_handlers.Goals as goal
+
+pub loop-handler-init : goal.loop-handler-init
+loop-handler-init c =
+    BringsHandlers-none (task c.args.method.now) c.args.item (type_state c.args.state.now) (walked c.args.self.now) c.requires.sound c.requires.stands
+
+pub bring_caught-requires-clause-stands : goal.bring_caught-requires-clause-stands
+bring_caught-requires-clause-stands c = c.loop-handler.invariant.went.stands
+
+pub loop-handler-preserved : goal.loop-handler-preserved
+loop-handler-preserved c =
+    BringsHandlers-more (task c.args.method.now) c.args.item (type_state c.args.state.now) c.args.handlers.now c.loop-handler.handler-index
+    (walked c.args.self.now) (walked c.loop-handler.self) (walked c.bring_caught.new.self) c.requires.sound c.loop-handler-test.true
+    c.loop-handler.invariant
+    (match_true
+    (BringsCaught (task c.args.method.now) c.args.item (type_state c.args.state.now) (get_or c.args.handlers.now c.loop-handler.handler-index blank)
+    (walked c.loop-handler.self) (walked c.bring_caught.new.self))
+    (Untypable (task c.args.method.now)) c.in_ok-bring_caught.field-0 c.if-not-branch.false c.in_ok-bring_caught.ensures)
+
+pub returns : goal.returns
+returns c =
+    let Done : List Handler → Type 0 =
+    λ handlers. BringsHandlers (task c.args.method.now) c.args.item (type_state c.args.state.now) handlers (walked c.args.self.now) (walked c.loop-handler.self) in
+    subst Done (take_all c.loop-handler.handler-index c.args.handlers.now c.loop-handler-test.false) c.loop-handler.invariant

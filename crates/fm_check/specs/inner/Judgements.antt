@@ -1,0 +1,14 @@
+-- What the checker's answer says of the code that was walked over.
+use Rattle.std.specs.Prelude.{Ok, Err, Result}
+use Rattle.fm_check.specs.Checking.{IsNarrow, IsTooWide}
+use Rattle.fm_check.specs.declared.error.CheckFail.{CheckFail}
+use Rattle.fm_check.specs.declared.error.CheckFail.TheVariants as fail
+use Rattle.fm_check.specs.inner.Walks.{IsLeast, Task, Untypable}
+use Rattle.fm_types.specs.Typings.{states_of}
+use Rattle.fm_types.specs.declared.states.Typing.{Typing}
+
+abbrev pub Judged : Task → Result Typing CheckFail → Type 0
+Judged t (Ok typing) = IsNarrow t.code × IsLeast t (states_of typing)
+Judged t (Err (fail.TooWide count)) = IsTooWide t.code count
+Judged t (Err fail.NotTyped) = IsNarrow t.code × Untypable t
+Judged t (Err fail.NoMemory) = Unit {0}

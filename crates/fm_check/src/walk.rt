@@ -1,0 +1,149 @@
+// The walk over the items of a method by a list of work. Each state that is brought to an item is kept,
+// or joined where it doesn't fit the item's own; the item then waits to be gone over. At the end all
+// states fit, and each fits those of every typing.
+
+ghost use Rattle.std.specs.Prelude.{◌≡◌, ℕ, ◌<◌, None, replicate, IfOk, IfSome, IsNone, MatchBool, OnOk, Some, [], Contains, if◌then◌else◌, length, slice_set};
+ghost use Rattle.std.specs.Option.{option_copied, option_map};
+ghost use Rattle.fm_check.specs.inner.Walks.{Brings, IsForced, IsKept, IsSound, Stands, Takes, Untypable, is_within, not_begun, states_seen, task, walked, with_state, with_waiting};
+ghost use Rattle.fm_types.specs.Typed.{state_at};
+ghost use Rattle.fm_types.specs.Typings.{type_state};
+
+use crate::merging::{join_state, state_fits};
+use crate::method::Method;
+use fm_base::NoMemory;
+use fm_code::Code;
+use fm_types::State;
+use std::alloc::Global;
+
+/// The states so far, and the items that are still to be gone over, each once.
+#[derive(Drop)]
+pub struct Walk {
+    pub states: Vec<Option<State>>,
+    waiting: Vec<u32>,
+    is_waiting: Vec<bool>,
+}
+
+// So many items without a state.
+fn no_states(alloc: Global, items: usize) -> Result<Vec<Option<State>>, NoMemory>
+    ensures { IfOk result (λ states. states_seen states.items ≡ replicate items None) }
+{
+    let mut states = Vec::with_capacity(alloc, items)?;
+    for _ in 0..items {
+        states.push(None)?;
+    }
+    Ok(states)
+}
+
+/// The state of an item, if it has one.
+pub fn state_of(states: &[Option<State>], item: u32) -> Option<&State>
+    ensures { option_map type_state (option_copied result)
+        ≡ state_at (states_seen states.now) item }
+{
+    match states.get(item as usize) {
+        Some(Some(state)) => Some(state),
+        _ => None,
+    }
+}
+
+// Gives an item a state.
+fn put(states: &mut Vec<Option<State>>, item: u32, state: State)
+    requires { item < length states.old.items }
+    ensures { states_seen states.new.items
+        ≡ slice_set (states_seen states.old.items) item (Some (type_state state)) }
+{
+    states[item as usize] = Some(state);
+}
+
+/// Whether the state has as many locals as the method, and no more words on the stack than it allows.
+pub fn is_within(code: &Code, state: &State) -> bool
+    ensures { result ≡ is_within code.now (type_state state.now) }
+{
+    state.locals.len() == usize::from(code.max_locals)
+        && state.stack.len() <= usize::from(code.max_stack)
+}
+
+impl Walk {
+    /// No item has a state yet.
+    pub fn new(alloc: Global, items: usize) -> Result<Walk, NoMemory>
+        ensures { IfOk result (λ walk. walked walk ≡ not_begun items) }
+    {
+        Ok(Walk {
+            states: no_states(alloc, items)?,
+            waiting: Vec::new(alloc),
+            is_waiting: vec![in alloc; false; items]?,
+        })
+    }
+
+    // The item is to be gone over.
+    fn wait(&mut self, item: u32) -> Result<(), NoMemory>
+        requires { item < length (walked self.old).marks }
+        ensures { OnOk result (walked self.new ≡ with_waiting item (walked self.old)) }
+    {
+        if !self.is_waiting[item as usize] {
+            self.is_waiting[item as usize] = true;
+            self.waiting.push(item)?;
+        }
+        Ok(())
+    }
+
+    /// Gives an item a state, and lets it wait.
+    pub fn begin(&mut self, item: u32, state: State) -> Result<(), NoMemory>
+        requires states { item < length (walked self.old).states }
+        requires marks { item < length (walked self.old).marks }
+        ensures { OnOk result
+            (walked self.new ≡ with_state item (type_state state) (walked self.old)) }
+    {
+        put(&mut self.states, item, state);
+        self.wait(item)
+    }
+
+    /// Takes an item that waits, if there is one.
+    pub fn next(&mut self) -> Option<u32>
+        requires { (j : ℕ) → Contains (walked self.old).waiting j
+            → j < length (walked self.old).marks }
+        ensures some { IfSome result (λ item. Takes item (walked self.old) (walked self.new)) }
+        ensures none { IsNone result → (walked self.old).waiting ≡ [] }
+        ensures same { IsNone result → walked self.new ≡ walked self.old }
+    {
+        let item = self.waiting.pop()?;
+        self.is_waiting[item as usize] = false;
+        Some(item)
+    }
+
+    /// Brings a state to an item; false where no typing has room for it.
+    pub fn bring(
+        &mut self,
+        alloc: Global,
+        method: &Method<'_>,
+        item: u32,
+        brought: &State,
+    ) -> Result<bool, NoMemory>
+        requires sound { IsSound (task method.now) }
+        requires stands { Stands (task method.now) (walked self.old) }
+        requires forced { IsForced (task method.now) item (type_state brought.now) }
+        ensures { IfOk result (λ fits. MatchBool fits
+            (Brings (task method.now) item (type_state brought.now) (walked self.old)
+            (walked self.new))
+            (Untypable (task method.now))) }
+    {
+        if !is_within(method.code, brought) {
+            return Ok(false);
+        }
+        let Some(state) = state_of(self.states.as_slice(), item) else {
+            let first = brought.copy(alloc)?;
+            self.begin(item, first)?;
+            return Ok(true);
+        };
+        if state_fits(method.program, brought, state) {
+            return Ok(true);
+        }
+        if item == 0 {
+            return Ok(false);
+        }
+        let Some(joined) = join_state(alloc, method.program, state, brought)? else {
+            return Ok(false);
+        };
+        self.begin(item, joined)?;
+        Ok(true)
+    }
+}

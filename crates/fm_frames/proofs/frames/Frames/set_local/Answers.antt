@@ -1,0 +1,8 @@
+use Rattle.std.proofs.Common.{reverse, arith}
+use Rattle.fm_frames.proofs.FrameValues.{set_at}
+use Rattle.fm_frames.proofs.frames.Frames.set_local.Goals as goal
+
+pub returns-then-place-count : goal.returns-then-place-count
+returns-then-place-count c =
+    set_at c.self.inside.values.items c.self.inside.topmost c.in-Some.topmost (reverse c.self.inside.callers.items) c.args.place c.args.value
+    c.args.self.now c.in-Some.is c.self.invariant c.self.view_is (omega arith)

@@ -1,0 +1,7 @@
+use Rattle.fm_frames.proofs.Finishes.{stored_word}
+use Rattle.fm_frames.proofs.machine.Machine.store.Goals as goal
+
+pub returns : goal.returns
+returns g c source told p choose =
+    stored_word p choose _ c.args.self.now c.advance.new.self c.drop_words.new.self c.set_local.new.self c.args.takes c.args.place c.args.value
+    source c.self.view_is c.requires.next_fits c.advance.ensures c.drop_words.ensures c.set_local.ensures told

@@ -1,0 +1,4 @@
+pub mod Codes
+pub mod Frames
+pub mod Doings
+pub mod Catching

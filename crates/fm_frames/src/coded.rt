@@ -1,0 +1,126 @@
+// What the code of a method tells at an item.
+
+ghost use Rattle.std.specs.Prelude.{◌≡◌, ◌==◌, ◌^◌, ◌<◌, if◌then◌else◌, unwrap_or};
+ghost use Rattle.std.specs.Option.{option_copied};
+ghost use Rattle.fm_cells.specs.Sizes.{IsPack};
+ghost use Rattle.fm_frames.specs.Elements.{pack_of, pack_of_base};
+ghost use Rattle.fm_frames.specs.Runnable.{IsRunnable};
+ghost use Rattle.fm_frames.specs.Sights.{type_numbered};
+ghost use Rattle.fm_frames.specs.States.{Frame};
+ghost use Rattle.fm_frames.specs.Steps.{offset_at};
+ghost use Rattle.fm_world.specs.Chains.{same_type};
+ghost use Rattle.fm_world.specs.Numbers.{type_number, type_of_class};
+ghost use Rattle.fm_world.specs.Programs.{code_at, IsTypeIn};
+
+use crate::built_ins::STRING;
+use fm_base::{Base, ClassId, MethodId, TypeId, TypeRef};
+use fm_code::Code;
+use fm_world::{Body, Program};
+
+/// The code of a method, if it has one. Takes no memory.
+pub fn code_of(program: &Program, method: MethodId) -> Option<&Code>
+    ensures { IsRunnable program.now → option_copied result ≡ code_at program.now method.0 }
+{
+    if method.0 >= program.methods() {
+        return None;
+    }
+    match &program.method(method).body {
+        Body::Coded(code) => Some(code),
+        Body::Native(_) => None,
+        Body::Abstract => None,
+    }
+}
+
+/// The offset of an item of a method; 0 where there is no such item. Takes no memory.
+pub fn offset_of(program: &Program, method: MethodId, item: usize) -> u32
+    ensures { IsRunnable program.now → (f : Frame) → f.method ≡ method.0 → f.item ≡ item
+        → result ≡ offset_at program.now f }
+{
+    let Some(code) = code_of(program, method) else {
+        return 0;
+    };
+    match code.items.get(item) {
+        Some(item) => item.offset,
+        None => 0,
+    }
+}
+
+// How many elements of an array of numbers a word holds.
+fn pack_of_base(base: Base) -> u8
+    ensures value { result ≡ pack_of_base base }
+    ensures pack { IsPack result }
+{
+    match base {
+        Base::Boolean | Base::Byte => 8,
+        Base::Char | Base::Short => 4,
+        Base::Int => 2,
+        Base::Long | Base::OfClass(_) => 1,
+    }
+}
+
+// Whether the type is that of texts.
+fn is_text(t: TypeRef) -> bool
+    ensures { result ≡ same_type (type_of_class 1) t }
+{
+    if t.dims != 0 {
+        return false;
+    }
+    match t.base {
+        Base::OfClass(class) => class.0 == STRING.0,
+        _ => false,
+    }
+}
+
+// The same by the number of the class of texts.
+fn pack_by(t: TypeRef) -> u8
+    ensures value { result ≡ (if t.dims == 1 then pack_of_base t.base
+        else (if same_type (type_of_class 1) t then 4 else 1)) }
+    ensures pack { IsPack result }
+{
+    if t.dims == 1 {
+        return pack_of_base(t.base);
+    }
+    if is_text(t) { 4 } else { 1 }
+}
+
+/// How many elements of an object of the type a word holds. Takes no memory.
+pub fn pack_of(program: &Program, t: TypeRef) -> u8
+    ensures value { IsRunnable program.now → result ≡ pack_of program.now.outline t }
+    ensures pack { IsPack result }
+{
+    let _classes = program.classes();
+    pack_by(t)
+}
+
+/// A class as a type. Takes no memory.
+pub fn type_of_class(class: ClassId) -> TypeRef
+    ensures { result ≡ type_of_class class.0 }
+{
+    TypeRef {
+        dims: 0,
+        base: Base::OfClass(class),
+    }
+}
+
+/// The number of a type; 0 where it has none. Takes no memory.
+pub fn type_id(program: &Program, t: TypeRef) -> TypeId
+    ensures number { result.0 ≡ unwrap_or (type_number program.now.outline.types t) 0 }
+    ensures few { IsRunnable program.now → result.0 < 2 ^ 28 }
+{
+    match program.id_of(t) {
+        Some(id) => id,
+        None => TypeId(0),
+    }
+}
+
+/// The type of this number; that of Object where there is none. Takes no memory.
+pub fn type_numbered(program: &Program, id: TypeId) -> TypeRef
+    ensures value { result ≡ type_numbered program.now.outline id.0 }
+    ensures inside { IsRunnable program.now → IsTypeIn program.now.outline.classes result }
+{
+    if id.0 < program.types() {
+        program.type_of(id)
+    } else {
+        type_of_class(ClassId(0))
+    }
+}

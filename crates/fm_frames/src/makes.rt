@@ -1,0 +1,94 @@
+// Objects are made.
+
+ghost use Rattle.std.specs.Prelude.{◌≡◌, ◌-◌, ◌^◌, ◌<◌, ℕ, [], ◌∷◌, IfOk, IfSome, OnOk, Some, false};
+ghost use Rattle.fm_base.specs.declared.kinds.TypeRef as kinds;
+ghost use Rattle.fm_cells.specs.Objects.{new_object, request_of};
+ghost use Rattle.fm_cells.specs.Sizes as spec;
+ghost use Rattle.fm_cells.specs.Sizes.{packed_words, IsPack};
+ghost use Rattle.fm_cells.specs.Stores.{object_at};
+ghost use Rattle.fm_cells.specs.declared.answers.Cell.{Cell};
+ghost use Rattle.fm_frames.specs.Acts.{requested};
+ghost use Rattle.fm_frames.specs.Effects.{making, Effect, Make};
+ghost use Rattle.fm_frames.specs.Steps.{is_deep};
+ghost use Rattle.fm_frames.specs.inner.Doings.{CanStep, DoesIn, MakesOne};
+ghost use Rattle.fm_world.specs.Programs as world;
+
+use crate::coded::{pack_of, type_id};
+use crate::ends::Ended;
+use crate::machine::Machine;
+use crate::values::Value;
+use fm_base::{NoMemory, TypeId, TypeRef};
+use fm_cells::{Cell, MakeFail, Memory, cell_words};
+use fm_world::Program;
+
+/// The words of an object of so many elements, where a word holds `pack` of them. Takes no memory.
+fn object_words(len: u32, pack: u8) -> u32
+    requires len_fits { len < 2 ^ 31 }
+    requires pack_is { IsPack pack }
+    ensures { result ≡ packed_words len pack }
+{
+    2 + (len + (pack as u32 - 1)) / pack as u32
+}
+
+/// The words of the cell of such an object. Takes no memory.
+fn object_cell_words(len: u32, pack: u8) -> u64
+    requires len_fits { len < 2 ^ 31 }
+    requires pack_is { IsPack pack }
+    ensures { result ≡ spec.cell_words (packed_words len pack) }
+{
+    cell_words(object_words(len, pack))
+}
+
+impl<M: Memory> Machine<M> {
+    /// Makes the one object of an effect. None where the run has ended, since too many words would live or
+    /// the store is full; else only the memory has changed, and the effect has to be finished.
+    pub fn make_one(&mut self, class: TypeId, len: u32, pack: u8) -> Result<Option<Cell>, NoMemory>
+        requires class_fits { class.0 < 2 ^ 28 }
+        requires len_fits { len < 2 ^ 31 }
+        requires pack_is { IsPack pack }
+        requires birth_fits { self.old.areas.store.births < 2 ^ 32 - 1 }
+        ensures kept { OnOk result ((self.new.frames ≡ self.old.frames) × (self.new.steps ≡ self.old.steps)) }
+        ensures object { IfOk result (λ made. IfSome made (λ (cell : Cell). object_at self.new.areas.store cell.0
+            ≡ Some (new_object self.old.areas.store.births (request_of class.0 len pack false)))) }
+        ensures makes { IfOk result (λ made. (p : world.Program) (t : kinds.TypeRef) (e : Effect)
+            → requested p.outline t len false ≡ request_of class.0 len pack false
+            → e.actions ≡ Make t len [] ∷ [] → is_deep self.old e.next ≡ false
+            → MakesOne p M.choose self.old self.new e made) }
+    {
+        match self.memory.make(class.0, len, pack, false) {
+            Ok(cell) => Ok(Some(cell)),
+            Err(MakeFail::Budget) => {
+                let words = object_words(len, pack) as u64;
+                self.ended = Some(Ended::Exhausted(self.memory.live_words(), words));
+                Ok(None)
+            }
+            Err(MakeFail::Store) => {
+                let words = object_cell_words(len, pack);
+                self.ended = Some(Ended::StoreFull(self.memory.made_words(), words));
+                Ok(None)
+            }
+            Err(MakeFail::NoMemory) => Err(NoMemory),
+        }
+    }
+
+    /// Makes an object of a type, whose elements are 0, and puts it in place of so many words; or the run
+    /// ends.
+    pub fn make(
+        &mut self,
+        program: &Program,
+        takes: usize,
+        t: TypeRef,
+        len: u32,
+    ) -> Result<(), NoMemory>
+        requires can { CanStep program.now self.old }
+        requires len_fits { len < 2 ^ 31 }
+        ensures { OnOk result (DoesIn program.now M.choose self.old self.new (making takes (Make t len []))) }
+    {
+        let id = type_id(program, t);
+        let pack = pack_of(program, t);
+        let Some(cell) = self.make_one(id, len, pack)? else {
+            return Ok(());
+        };
+        self.give(takes, Value::Ref(cell))
+    }
+}

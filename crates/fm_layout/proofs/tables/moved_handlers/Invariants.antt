@@ -1,0 +1,6 @@
+use Rattle.std.proofs.Common.{◌≡◌, ◌++◌, map, drop}
+use Rattle.fm_layout.specs.Tables.{moved_handler}
+use Rattle.fm_layout.proofs.tables.moved_handlers.Given as goal
+
+abbrev pub invariant-loop-entry : goal.invariant-loop-entry
+invariant-loop-entry l = l.moved.items ++ map (moved_handler l.firsts l.anchors) (drop l.entry-index l.entries) ≡ map (moved_handler l.firsts l.anchors) l.entries

@@ -1,0 +1,44 @@
+// Why code isn't laid out.
+
+ghost use Rattle.std.specs.Prelude.{◌≡◌};
+ghost use Rattle.fm_layout.specs.declared.error.LayFail.TheVariants.{NoMemory as OutOfMemory};
+
+use fm_base::NoMemory;
+use std::alloc::{AllocError, AllocFailed};
+use thiserror::Error;
+
+/// Why `layout` gives no code.
+#[derive(Clone, Copy, Debug, PartialEq, Eq, Error)]
+pub enum LayFail {
+    /// The code has more bytes than a code array may have: so many while no branch is widened where
+    /// these are too many already, else so many after widening.
+    #[error("code of {0} bytes is too long")]
+    TooLong(u32),
+    /// Memory for the code couldn't be had.
+    #[error("out of memory")]
+    NoMemory,
+}
+
+impl From<AllocError> for LayFail {
+    ghost from_gives = { λ _ e. e ≡ OutOfMemory };
+
+    fn from(_error: AllocError) -> LayFail {
+        LayFail::NoMemory
+    }
+}
+
+impl<T: Drop> From<AllocFailed<T>> for LayFail {
+    ghost from_gives = { λ _ e. e ≡ OutOfMemory };
+
+    fn from(_error: AllocFailed<T>) -> LayFail {
+        LayFail::NoMemory
+    }
+}
+
+impl From<NoMemory> for LayFail {
+    ghost from_gives = { λ _ e. e ≡ OutOfMemory };
+
+    fn from(_error: NoMemory) -> LayFail {
+        LayFail::NoMemory
+    }
+}

@@ -1,0 +1,3 @@
+pub mod AnswerSteps
+pub mod ProgramSteps
+pub mod TableSteps

@@ -1,0 +1,4 @@
+pub mod Described
+pub mod NamedSteps
+pub mod ToldSteps
+pub mod UseSteps

@@ -1,0 +1,17 @@
+// The tables of a program once its classes are linked: its types and texts, what indices are resolved
+// to, and what is told of methods and fields.
+//
+// Each part is an equation with the definitions of `fm_world`, over what the linker looks up by.
+#![tactic(auto)]
+
+mod arguments;
+mod member_lists;
+mod named;
+mod told;
+mod uses;
+
+pub use arguments::argument_array;
+pub use member_lists::{descriptor_marks, descriptors_of, flags_of};
+pub use named::{Named, named_of};
+pub use told::{Told, ToldFields, told_members};
+pub use uses::{Resolving, uses_of};
