@@ -167,8 +167,8 @@ module _ (p : Program) (facts : Facts) (choose : Choose) (may : (s : Store) (req
       (after_goes x made (λ y cells. opened_by p choose more y cells follows) result open_
       (acts action x made (λ store. (has store).0) open_) (one_keeps p.outline choose action x.areas made)
       (λ y cells later more_store keeps. opened_goes more y cells follows (λ store. (has store).1) later
-          (λ z last final further kept. then z last final (extends-then x.areas.store y.areas.store z.areas.store more_store further)
-              (keeps-then made cells last keeps kept))))
+      (λ z last final further kept. then z last final (extends-then x.areas.store y.areas.store z.areas.store more_store further)
+      (keeps-then made cells last keeps kept))))
 
   -- ---- streams
 
@@ -189,7 +189,7 @@ module _ (p : Program) (facts : Facts) (choose : Choose) (may : (s : Store) (req
       (inr (λ object class place u is. none object 0 true class place u is)) in (
         last_length made cell,
         subst (λ c. LivesForEver (made_by x.areas.store (requested p.outline t 0 true) (Take cell grows)) c) (sym (last_is made cell))
-        (IsFixed makes.object makes.held makes.fixed),
+            (IsFixed makes.object makes.held makes.fixed),
       )
 
   -- what follows a stream that is made
@@ -296,7 +296,7 @@ starts_have o store colour home numbers classes =
     (λ class. (
       tt,
       all_flattened (ActHas o store colour [] home) (λ field. set_constant o field (field_at o.classes field).field.value) (fields_at o class)
-      (λ field. constant_has o store colour home field (field_at o.classes field).field.value (numbers.constants field)),
+          (λ field. constant_has o store colour home field (field_at o.classes field).field.value (numbers.constants field)),
     ))
 
 -- ---- main's arguments
@@ -316,12 +316,12 @@ streams_coloured o colour x cells h first second = record {
   orderly = h.orderly;
   statics = λ slot v at. ⊎_elim
       (λ input. subst (λ w. HasColour x.store colour Everywhere w) input.1
-          (for_ever-is_of x.store colour Everywhere (slice_index_or cells 1 0) second))
+      (for_ever-is_of x.store colour Everywhere (slice_index_or cells 1 0) second))
       (λ others. ⊎_elim
-          (λ output. subst (λ w. HasColour x.store colour Everywhere w) output.1
-              (for_ever-is_of x.store colour Everywhere (slice_index_or cells 0 0) first))
-          (λ rest. h.statics slot v rest.1)
-          (set_found x.statics 0 (ref (slice_index_or cells 0 0)) slot v others.1))
+      (λ output. subst (λ w. HasColour x.store colour Everywhere w) output.1
+      (for_ever-is_of x.store colour Everywhere (slice_index_or cells 0 0) first))
+      (λ rest. h.statics slot v rest.1)
+      (set_found x.statics 0 (ref (slice_index_or cells 0 0)) slot v others.1))
       (set_found (slice_set x.statics 0 (ref (slice_index_or cells 0 0))) 1 (ref (slice_index_or cells 1 0)) slot v at);
   edges = h.edges;
   literals = h.literals;
@@ -336,7 +336,7 @@ main_coloured p facts store colour cell has = record {
   locals = λ k v found live. ⊎_elim
       (λ front. argument k v front.1)
       (λ back. subst (λ w. HasColour store colour (region p.outline facts p.outline.main [] (facts.class p.outline.main (Local k))) w)
-          (sym (top_found _ back.0 v back.2)) tt)
+      (sym (top_found _ back.0 v back.2)) tt)
       (append_found (ref cell ∷ []) _ k v found);
   words = λ n v found. absurd (cc);
 } where
@@ -393,19 +393,19 @@ module _ (p : Program) (facts : Facts) (choose : Choose) (may : (s : Store) (req
       opened_goes p facts choose may numbers given_region (of_arguments job) x made (main_started classes)
       (λ store. (inl refl, arguments_have p.outline store opened_colour given_region live 0 job.arguments)) open_
       (λ y cells later more keeps.
-          let zero_kept = keeps 0 (omega arith) in
-          let one_kept = keeps 1 two in
-          let output : LivesForEver y.areas.store (slice_index_or cells 0 0) =
-          subst (λ c. LivesForEver y.areas.store c) (sym zero_kept.1) (for_ever-later x.areas.store y.areas.store (slice_index_or made 0 0) more first) in
-          let input : LivesForEver y.areas.store (slice_index_or cells 1 0) =
-          subst (λ c. LivesForEver y.areas.store c) (sym one_kept.1) (for_ever-later x.areas.store y.areas.store (slice_index_or made 1 0) more second) in
-          let areas : AreAreasColoured p.outline opened_colour (with_streams y.areas cells) =
-          streams_coloured p.outline opened_colour y.areas cells later.areas output input in
-          opened_goes p facts choose may numbers given_region (start_actions p.outline classes) (record y { areas = with_streams y.areas cells }) cells (last_frames classes cells)
-          (λ store. starts_have p.outline store opened_colour given_region numbers classes)
-          (record { areas = areas; made = later.made; frames = later.frames })
-          (λ z last final further kept. framed_coloured z (slice_index_or cells 2 0) (start_methods p.outline classes) final.areas
-              (is_of-later y.areas.store z.areas.store opened_colour given_region (slice_index_or cells 2 0) further (later.made 2))))
+      let zero_kept = keeps 0 (omega arith) in
+      let one_kept = keeps 1 two in
+      let output : LivesForEver y.areas.store (slice_index_or cells 0 0) =
+      subst (λ c. LivesForEver y.areas.store c) (sym zero_kept.1) (for_ever-later x.areas.store y.areas.store (slice_index_or made 0 0) more first) in
+      let input : LivesForEver y.areas.store (slice_index_or cells 1 0) =
+      subst (λ c. LivesForEver y.areas.store c) (sym one_kept.1) (for_ever-later x.areas.store y.areas.store (slice_index_or made 1 0) more second) in
+      let areas : AreAreasColoured p.outline opened_colour (with_streams y.areas cells) =
+      streams_coloured p.outline opened_colour y.areas cells later.areas output input in
+      opened_goes p facts choose may numbers given_region (start_actions p.outline classes) (record y { areas = with_streams y.areas cells }) cells (last_frames classes cells)
+      (λ store. starts_have p.outline store opened_colour given_region numbers classes)
+      (record { areas = areas; made = later.made; frames = later.frames })
+      (λ z last final further kept. framed_coloured z (slice_index_or cells 2 0) (start_methods p.outline classes) final.areas
+      (is_of-later y.areas.store z.areas.store opened_colour given_region (slice_index_or cells 2 0) further (later.made 2))))
 
   pub opening_coloured : (job : Job) (budget : ℕ) (limit : Option ℕ) (free : List (List ℕ))
       → Coloured p facts (opening p choose job (opened budget limit free)).state opened_colour
@@ -417,11 +417,11 @@ module _ (p : Program) (facts : Facts) (choose : Choose) (may : (s : Store) (req
       (MakeFixed (built_in_type p.outline (codes "java/io/InputStream")) ∷ of_arguments job) start [] (main_started classes) numbers.output
       (record { areas = first_coloured p.outline opened_colour budget limit free; made = λ n. OfNull refl; frames = refl })
       (λ x made open_ more keeps size fixed.
-          stream_goes p facts choose may numbers given_region (built_in_type p.outline (codes "java/io/InputStream")) (of_arguments job) x made (main_started classes)
-          numbers.input open_
-          (λ y cells later further kept count other.
-              let first = kept 0 (omega (arith, size)) in
-              let one : length made ≡ 1 = size in
-              rest_coloured job classes y cells later (omega (arith, size, count))
-              (subst (λ c. LivesForEver y.areas.store c) (sym first.1) (for_ever-later x.areas.store y.areas.store (slice_index_or made 0 0) further fixed))
-              (subst (λ n. LivesForEver y.areas.store (slice_index_or cells n 0)) one other)))
+      stream_goes p facts choose may numbers given_region (built_in_type p.outline (codes "java/io/InputStream")) (of_arguments job) x made (main_started classes)
+      numbers.input open_
+      (λ y cells later further kept count other.
+      let first = kept 0 (omega (arith, size)) in
+      let one : length made ≡ 1 = size in
+      rest_coloured job classes y cells later (omega (arith, size, count))
+      (subst (λ c. LivesForEver y.areas.store c) (sym first.1) (for_ever-later x.areas.store y.areas.store (slice_index_or made 0 0) further fixed))
+      (subst (λ n. LivesForEver y.areas.store (slice_index_or cells n 0)) one other)))

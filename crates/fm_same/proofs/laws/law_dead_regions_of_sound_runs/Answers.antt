@@ -22,7 +22,7 @@ returns-clause-of_runs c =
     (states_of p choose job (opened budget limit free)) (states_are_steps p choose job (opened budget limit free)) run
     (opened_colour p facts (lawful choose) (λ s request. lawful_choice-may s request (choose s request)) numbers)
     (subst (λ (x : State). Coloured p facts x
-        (opened_colour p facts (lawful choose) (λ s request. lawful_choice-may s request (choose s request)) numbers))
+    (opened_colour p facts (lawful choose) (λ s request. lawful_choice-may s request (choose s request)) numbers))
     (sym (first_is p choose job (opened budget limit free)))
     (opening_coloured p facts (lawful choose) (λ s request. lawful_choice-may s request (choose s request)) numbers job budget limit free))
     method depth class birth first count h later le
