@@ -180,13 +180,13 @@ module _ (p : Program) (facts : Facts) (exact : AreFacts p facts) (f : Frame) (c
       let caller : Frame = record f { stack = drop e.takes f.stack } in
       ⊎_elim
       (λ (is : (is_start p.outline m ≡ false) × Called p facts callee caller).
-          with_frames (callee ∷ caller ∷ callers) (
-            called_coloured p facts exact f callers at x.areas.store colour frames_now.0 m e.takes stands.0.at.code stands.0.at.code_is is.1,
-            (calling_coloured p facts exact f callers at x.areas.store colour frames_now.0 m e.takes, frames_now.1),
-          ))
+      with_frames (callee ∷ caller ∷ callers) (
+        called_coloured p facts exact f callers at x.areas.store colour frames_now.0 m e.takes stands.0.at.code stands.0.at.code_is is.1,
+        (calling_coloured p facts exact f callers at x.areas.store colour frames_now.0 m e.takes, frames_now.1),
+      ))
       (λ (waits : (is_start p.outline m ≡ true) × Waits p facts caller).
-          with_frames (callee ∷ caller ∷ callers) (
-            subst (λ words. IsFrameColoured p.outline facts x.areas.store colour (new_frame p m words) (caller ∷ callers))
+      with_frames (callee ∷ caller ∷ callers) (
+        subst (λ words. IsFrameColoured p.outline facts x.areas.store colour (new_frame p m words) (caller ∷ callers))
             (sym (nothing_taken depth waits.1.goes)) (start_coloured p facts x.areas.store colour m (caller ∷ callers)),
         (calling_coloured p facts exact f callers at x.areas.store colour frames_now.0 m e.takes, frames_now.1),
       ))
