@@ -26,7 +26,7 @@ use Rattle.fm_frames.specs.declared.values.Value.{Value}
 use Rattle.fm_frames.specs.declared.values.Value.TheVariants as value
 use Rattle.fm_same.specs.Advances.{IsStill}
 use Rattle.fm_same.specs.Colours.{AreAreasColoured, Colour, HasColour, IsEdgeEven, IsFixed, IsOf, kind_in, LivesForEver, OfNull, OfObject}
-use Rattle.fm_same.specs.Evenness.{HoldsNumbers, IsPlain, IsPlainKind}
+use Rattle.fm_same.specs.Evenness.{HasNoEdge, HoldsNumbers, IsPlain, IsPlainKind}
 use Rattle.fm_same.specs.Regions.{Everywhere, Region, Retired}
 use Rattle.fm_same.specs.Standing.{IsReference}
 use Rattle.fm_same.proofs.StoreChanges.{Extends, extends-then, for_ever-is_of, for_ever-later, has-later, held_later, is_of-later, IsChanged, changed-extends, IsKept, IsMade, made-extends, Puts, put_elsewhere, put_here, set_cases, set_found, zeros_at}
@@ -76,7 +76,7 @@ StaticHas store colour stack home v other = Unit {0}
 
 abbrev pub ActHas : Outline → Store → Colour → List Value → Region → Action → Type 0
 ActHas o store colour stack home (Make t len content) = (content ≡ []) ⊎ (t ≡ text_type o)
-ActHas o store colour stack home (MakeFixed t) = ⊥
+ActHas o store colour stack home (MakeFixed t) = HasNoEdge o t
 ActHas o store colour stack home (MakeLiteral text) = Unit {0}
 ActHas o store colour stack home (Put object place kind v) = PutHas o store colour stack home object place v kind
 ActHas o store colour stack home (SetStatic slot kind v) = StaticHas store colour stack home v kind
@@ -261,7 +261,7 @@ made_class store request [] = refl
 made_class store request (element ∷ elements) = refl
 
 -- an object without content that doesn't live for ever, or one without places for references
-abbrev IsBlank : Outline → Request → List ℕ → Type 0
+abbrev pub IsBlank : Outline → Request → List ℕ → Type 0
 IsBlank o request content =
     ((content ≡ []) × (request.fixed ≡ false))
     ⊎ ((object : Object) → object.class ≡ request.class → (place : ℕ) (t : TypeRef) → kind_in o object place ≡ Some (kind.Ref t) → ⊥)
@@ -308,15 +308,15 @@ went_stored o store colour home x made later went areas more still = record {
 }
 
 -- what a make leaves
-record Makes (o : Outline) (store : Store) (colour : Colour) (home : Region) (made : List ℕ) (request : Request) (y : Areas) (cell : ℕ) : Type 0 where
-  went : Went o store colour home y made
-  object : Object
-  held : object_at y.store cell ≡ Some object
-  fixed : object.fixed ≡ request.fixed
-  has : colour object.birth ≡ home
+pub record Makes (o : Outline) (store : Store) (colour : Colour) (home : Region) (made : List ℕ) (request : Request) (y : Areas) (cell : ℕ) : Type 0 where
+  pub went : Went o store colour home y made
+  pub object : Object
+  pub held : object_at y.store cell ≡ Some object
+  pub fixed : object.fixed ≡ request.fixed
+  pub has : colour object.birth ≡ home
 
 module _ (o : Outline) (store : Store) (colour : Colour) (home : Region) (new : (birth : ℕ) → store.births ≤ birth → colour birth ≡ home) where
-  make_goes : (x : Areas) (made : List ℕ) (request : Request) (cell : ℕ) (grows : Bool) (content : List ℕ) → Went o store colour home x made
+  pub make_goes : (x : Areas) (made : List ℕ) (request : Request) (cell : ℕ) (grows : Bool) (content : List ℕ) → Went o store colour home x made
       → MayReuse x.store request (Take cell grows) → IsBlank o request content
       → Makes o store colour home made request (record x { store = stored_as x.store request cell grows content }) cell
   make_goes x made request cell grows content went may blank =
@@ -569,7 +569,12 @@ module _ (o : Outline) (choose : Choose) (may : (s : Store) (request : Request) 
       (λ y cell. performed o choose locals stack more y (made ++ cell ∷ [])) went (may x.store (requested o t len false))
       (make_blank o t len content numbers h.0)
       (λ y cell makes. acts_go more y (made ++ cell ∷ []) h.1 (went_made o store colour home new made (requested o t len false) y cell makes))
-  acts_go (MakeFixed t ∷ more) x made h went = absurd h.0
+  acts_go (MakeFixed t ∷ more) x made h went =
+      let request : Request = requested o t 0 true in
+      made_then_goes o store colour home new x made request [] (choose x.store request)
+      (λ y cell. performed o choose locals stack more y (made ++ cell ∷ [])) went (may x.store request)
+      (inr (λ object class place u is. h.0 object 0 true class place u is))
+      (λ y cell makes. acts_go more y (made ++ cell ∷ []) h.1 (went_made o store colour home new made request y cell makes))
   acts_go (MakeLiteral text ∷ more) x made h went =
       let request : Request = requested o (text_type o) (length (literal_text o text)) true in
       either_to o store colour home (is_there x text) (performed o choose locals stack more x made)

@@ -38,7 +38,7 @@ argument_found words takes k v h =
     ∙ get_or_from_slice_get (reverse (take takes words)) k v v h in
     (below, slice_get-get_or words place v in_words ∙ ap Some is)
 
-top_found : (n m : ℕ) (v : Value) → slice_get (replicate n value.Top) m ≡ Some v → v ≡ value.Top
+pub top_found : (n m : ℕ) (v : Value) → slice_get (replicate n value.Top) m ≡ Some v → v ≡ value.Top
 top_found zero m v h = absurd (cc)
 top_found (suc n) zero v h = sym (same_Some value.Top v h)
 top_found (suc n) (suc m) v h = top_found n m v h

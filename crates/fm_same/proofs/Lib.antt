@@ -23,3 +23,4 @@ pub mod ArrayRows
 pub mod NativeRows
 pub mod Owing
 pub mod Starting
+pub mod Opening

@@ -184,7 +184,7 @@ module _ (p : Program) (facts : Facts) (exact : AreFacts p facts) (f : Frame) (c
         called_coloured p facts exact f callers at x.areas.store colour frames_now.0 m e.takes stands.0.at.code stands.0.at.code_is is.1,
         (calling_coloured p facts exact f callers at x.areas.store colour frames_now.0 m e.takes, frames_now.1),
       ))
-      (λ (waits : (is_start p.outline m ≡ true) × Waits p facts callee caller).
+      (λ (waits : (is_start p.outline m ≡ true) × Waits p facts caller).
       with_frames (callee ∷ caller ∷ callers) (
         subst (λ words. IsFrameColoured p.outline facts x.areas.store colour (new_frame p m words) (caller ∷ callers))
             (sym (nothing_taken depth waits.1.goes)) (start_coloured p facts x.areas.store colour m (caller ∷ callers)),
@@ -223,7 +223,7 @@ returns_to p facts exact f g callers at below x colour coloured shared home i n 
 returns_to p facts exact f g callers at below x colour coloured shared home i n evenly false is stands = ⊎_elim
     (λ (call : (is_start p.outline f.method ≡ false) × Called p facts f g).
     return_kept p facts exact f g callers at call.1 x.areas colour coloured.0 coloured.1.0 coloured.1.1 shared n evenly stands.0)
-    (λ (waits : (is_start p.outline f.method ≡ true) × Waits p facts f g). absurd (false≢true (sym is ∙ waits.0)))
+    (λ (waits : (is_start p.outline f.method ≡ true) × Waits p facts g). absurd (false≢true (sym is ∙ waits.0)))
     below.0
 
 returns_kept : (p : Program) (facts : Facts) (exact : AreFacts p facts) (f : Frame) (callers : List Frame) (at : StandsAt p facts f)

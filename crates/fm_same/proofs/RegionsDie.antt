@@ -1,17 +1,18 @@
 -- The law of dead regions, along a run: what a captured class leads to keeps the class's own region while the activation stands, is retired when the class
 -- isn't busy, and is dead from then on.
-use Rattle.std.proofs.Common.{◌≡◌, ℕ, zero, suc, ◌+◌, ◌-◌, ◌<◌, ◌≤◌, ◌⊎◌, List, [], ◌∷◌, length, sym, ◌∙◌, ap, subst, inl, inr, arith}
-use Rattle.fm_cells.specs.Choices.{MayReuse}
+use Rattle.std.proofs.Common.{◌≡◌, refl, ℕ, zero, suc, ◌+◌, ◌-◌, ◌<◌, ◌≤◌, ◌⊎◌, List, [], ◌∷◌, length, sym, ◌∙◌, ap, subst, inl, inr, arith}
+use Rattle.fm_cells.specs.Choices.{lawful, MayReuse}
 use Rattle.fm_cells.specs.Objects.{Request}
 use Rattle.fm_cells.specs.Stores.{Store}
 use Rattle.fm_conn.specs.Facts.{AreFacts, Facts}
 use Rattle.fm_conn.specs.Nodes.{Return}
 use Rattle.fm_world.specs.Programs.{Program}
 use Rattle.fm_frames.specs.Acts.{Choose}
+use Rattle.fm_frames.specs.Runs.{after, Job, opening}
 use Rattle.fm_frames.specs.States.{Frame, State}
 use Rattle.fm_same.specs.Advances.{GoesOver, IsResult}
 use Rattle.fm_same.specs.Colours.{Colour, Coloured}
-use Rattle.fm_same.specs.DeadRegions.{IsDead, IsMethodAt, IsRetired, IsSoundRun}
+use Rattle.fm_same.specs.DeadRegions.{IsDead, IsMethodAt, IsRetired, AreSound, AreSteps, states_of}
 use Rattle.fm_same.specs.Evenness.{HoldsNumbers}
 use Rattle.fm_same.specs.Regions.{IsCaptured, Own, Region, Retired}
 use Rattle.fm_same.specs.Standing.{Stand}
@@ -31,12 +32,12 @@ own_on p facts (f ∷ callers) method depth class before after captured at own (
     let returned : facts.class f.method Return ≡ class = cc in
     absurd (captured.not_result (ap (λ m. facts.class m Return) (sym (method_there method depth f callers at level)) ∙ returned))
 
-module _ (p : Program) (facts : Facts) (exact : AreFacts p facts) (numbers : HoldsNumbers p.outline) (choose : Choose) (may : (s : Store) (request : Request) → MayReuse s request (choose s request)) (xs : ℕ → State) (run : IsSoundRun p facts choose xs) where
+module _ (p : Program) (facts : Facts) (exact : AreFacts p facts) (numbers : HoldsNumbers p.outline) (choose : Choose) (may : (s : Store) (request : Request) → MayReuse s request (choose s request)) (xs : ℕ → State) (steps : AreSteps p choose xs) (run : AreSound p facts xs) where
   over_at : (k : ℕ) (colour : Colour) → Coloured p facts (xs k) colour → GoesOver p facts (xs k) (xs (suc k)) colour
   over_at k colour h =
-      subst (λ next. GoesOver p facts (xs k) next colour) (sym (run.next k))
+      subst (λ next. GoesOver p facts (xs k) next colour) (sym (steps k))
       (step_over p facts exact choose may numbers (xs k) colour h (run.stand k) (state_owes p facts exact numbers (xs k) (run.stand k) (run.covers k))
-      (subst (λ (next : State). Stand p facts next.frames) (run.next k) (run.stand (suc k))))
+      (subst (λ (next : State). Stand p facts next.frames) (steps k) (run.stand (suc k))))
 
   -- each state has colours
   colours_at : (k : ℕ) (colour : Colour) → Coloured p facts (xs 0) colour → (other : Colour) × Coloured p facts (xs k) other
@@ -121,3 +122,12 @@ module _ (p : Program) (facts : Facts) (exact : AreFacts p facts) (numbers : Hol
         let at : HasAt later birth Retired =
         subst (λ k. HasAt k birth Retired) index (retired_later (later - (first + suc count)) (first + suc count) birth retired_first) in
         dead_if_retired p facts (xs later) (xs (suc later)) at.colour birth at.coloured at.has (over_at later at.colour at.coloured)
+
+-- the states of a run are steps
+pub states_are_steps : (p : Program) (choose : Choose) (job : Job) (store : Store) → AreSteps p (lawful choose) (states_of p choose job store)
+unfolding after
+states_are_steps p choose job store k = refl
+
+pub first_is : (p : Program) (choose : Choose) (job : Job) (store : Store) → states_of p choose job store 0 ≡ (opening p (lawful choose) job store).state
+unfolding after
+first_is p choose job store = refl

@@ -154,7 +154,7 @@ module _ (p : Program) (facts : Facts) (f : Frame) (callers : List Frame) (at : 
   act_has : (home : ℕ) (action : Action) → ActsEvenly p.outline point home action → PutAgrees p.outline store f.stack action
       → ActHas p.outline store colour f.stack (region_in home) action
   act_has home (Make t len content) h agrees = h
-  act_has home (MakeFixed t) h agrees = h
+  act_has home (MakeFixed t) h agrees = absurd h
   act_has home (MakeLiteral text) h agrees = h
   act_has home (Put object place k v) h agrees = put_has home object v place k h agrees
   act_has home (SetStatic slot k v) h agrees = static_has home slot v k h

@@ -38,7 +38,7 @@ all_joined : (P : Action → Type 0) (xs ys : List Action) → AllByRecursion P 
 all_joined P [] ys h rest = rest
 all_joined P (x ∷ xs) ys h rest = (h.0, all_joined P xs ys h.1 rest)
 
-all_flattened : (P : Action → Type 0) (f : ℕ → List Action) (xs : List ℕ) → ((n : ℕ) → AllByRecursion P (f n)) → AllByRecursion P (flat_map f xs)
+pub all_flattened : (P : Action → Type 0) (f : ℕ → List Action) (xs : List ℕ) → ((n : ℕ) → AllByRecursion P (f n)) → AllByRecursion P (flat_map f xs)
 all_flattened P f [] h = tt
 all_flattened P f (x ∷ xs) h = all_joined P (f x) (flat_map f xs) (h x) (all_flattened P f xs h)
 
@@ -52,7 +52,7 @@ literal_set : (x : Point) (home text : ℕ) (k : Kind) → SetsEvenly x home (Of
 literal_set x home text (kind.Ref t) = (tt, tt)
 literal_set x home text k = tt
 
-abbrev with_text : Outline → ℕ → Option ℕ → List Action
+abbrev pub with_text : Outline → ℕ → Option ℕ → List Action
 with_text o field None = []
 with_text o field (Some number) = MakeLiteral number ∷ SetStatic (slot_of o.classes field) (kind_of_field o field) (OfLiteral number) ∷ []
 

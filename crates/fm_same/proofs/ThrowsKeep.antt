@@ -111,6 +111,6 @@ module _ (p : Program) (facts : Facts) (exact : AreFacts p facts) (store : Store
       (λ (called : (is_start p.outline f.method ≡ false) × Called p facts f g).
       thrown_coloured g callers called.1.at
       (call_keeps (method_of p facts g called.1.at.code) called.1.at.insn called.1.call called.1.call_is) h.1 below.1 after stand rest)
-      (λ (waits : (is_start p.outline f.method ≡ true) × Waits p facts f g). absurd (false≢true (sym no_start ∙ waits.0)))
+      (λ (waits : (is_start p.outline f.method ≡ true) × Waits p facts g). absurd (false≢true (sym no_start ∙ waits.0)))
       below.0)
       stand is

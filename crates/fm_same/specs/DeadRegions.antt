@@ -11,7 +11,9 @@ use Rattle.fm_conn.specs.Facts.{Facts}
 use Rattle.fm_conn.specs.Nodes.{IsNode, Local}
 use Rattle.fm_world.specs.Programs.{code_at, Outline, Program}
 use Rattle.fm_frames.specs.Acts.{cell_of, Choose}
+use Rattle.fm_frames.specs.Runs.{after, Job, opening}
 use Rattle.fm_frames.specs.States.{Frame, State}
+use Rattle.fm_cells.specs.Choices.{lawful}
 use Rattle.fm_frames.specs.Steps.{step}
 use Rattle.fm_frames.specs.declared.values.Value.{Value}
 use Rattle.fm_same.specs.Covering.{CoversAt}
@@ -107,9 +109,15 @@ pub record IsRetired (p : Program) (facts : Facts) (xs : ℕ → State) (method 
 
 -- ---- runs
 
--- states of which each is the next one's step, where frames stand as a sound machine has them, calls lead to targets, and places are read and written by
--- their kinds
-pub record IsSoundRun (p : Program) (facts : Facts) (choose : Choose) (xs : ℕ → State) : Type 0 where
-  pub next : (k : ℕ) → xs (suc k) ≡ (step p choose (xs k)).state
+-- frames stand as a sound machine has them, calls lead to targets, and places are read and written by their kinds, at each state
+pub record AreSound (p : Program) (facts : Facts) (xs : ℕ → State) : Type 0 where
   pub stand : (k : ℕ) → Stand p facts (xs k).frames
   pub covers : (k : ℕ) → CoversAt p facts (xs k) (xs k).frames
+
+-- each state is the step of the one before
+abbrev pub AreSteps : Program → Choose → (ℕ → State) → Type 0
+AreSteps p choose xs = (k : ℕ) → xs (suc k) ≡ (step p choose (xs k)).state
+
+-- the states of a run from its opening on, over memory that reuses cells in any way
+abbrev pub states_of : Program → Choose → Job → Store → ℕ → State
+states_of p choose job store k = (after p (lawful choose) k (opening p (lawful choose) job store)).state

@@ -1,6 +1,6 @@
 -- What an effect owes to the classes of nodes, so that colours are kept: values go from one node to another of the same class, and the objects that a step
 -- makes have one home. It follows from the pairs of the item, row by row.
-use Rattle.std.specs.Prelude.{◌≡◌, ℕ, ◌+◌, ◌-◌, ◌<◌, ◌==◌, ◌⊎◌, Bool, true, false, List, [], length, Option, Some, slice_get}
+use Rattle.std.specs.Prelude.{◌≡◌, ℕ, ◌+◌, ◌-◌, ◌<◌, ◌==◌, ◌⊎◌, Bool, true, false, List, [], length, codes, Option, Some, slice_get}
 use Rattle.std.specs.List.{AllByRecursion, list_any}
 use Rattle.fm_base.specs.declared.kinds.Kind.{Kind}
 use Rattle.fm_base.specs.declared.kinds.Kind.TheVariants as kind
@@ -14,6 +14,7 @@ use Rattle.fm_code.specs.declared.instructions.Insn.{Insn}
 use Rattle.fm_conn.specs.Nodes.{Node, Local, Slot, Return, Global, IsNode, TypedMethod}
 use Rattle.fm_conn.specs.Pairs.{IsEnd}
 use Rattle.fm_conn.specs.declared.ends.End2.TheVariants as end
+use Rattle.fm_types.specs.Named.{built_in_type}
 use Rattle.fm_world.specs.Members.{field_at}
 use Rattle.fm_world.specs.Programs.{Outline}
 use Rattle.fm_world.specs.declared.declarations.Constant.{Constant}
@@ -202,8 +203,15 @@ IsNumber (Some (constant.Int n)) = Unit {0}
 IsNumber (Some (constant.Long n)) = Unit {0}
 IsNumber other = ⊥
 
--- texts have no place for references, and a number is the constant of a field of numbers
+-- objects of the type have no place for references
+abbrev pub HasNoEdge : Outline → TypeRef → Type 0
+HasNoEdge o t =
+    (object : Object) (len : ℕ) (fixed : Bool) → object.class ≡ (requested o t len fixed).class
+    → (place : ℕ) (u : TypeRef) → kind_in o object place ≡ Some (kind.Ref u) → ⊥
+
+-- texts and streams have no place for references, and a number is the constant of a field of numbers
 pub record HoldsNumbers (o : Outline) : Type 0 where
-  pub texts : (object : Object) (len : ℕ) (fixed : Bool) → object.class ≡ (requested o (text_type o) len fixed).class
-      → (place : ℕ) (t : TypeRef) → kind_in o object place ≡ Some (kind.Ref t) → ⊥
+  pub texts : HasNoEdge o (text_type o)
+  pub output : HasNoEdge o (built_in_type o (codes "java/io/PrintStream"))
+  pub input : HasNoEdge o (built_in_type o (codes "java/io/InputStream"))
   pub constants : (field : ℕ) → IsNumber (field_at o.classes field).field.value → IsPlainKind (kind_of_field o field)

@@ -1,5 +1,5 @@
 -- The laws that the functions of `laws` prove.
-use Rattle.std.specs.Prelude.{◌≡◌, ◌≢◌, ℕ, suc, ◌+◌, ◌≤◌, ◌⊎◌, List, ◌∷◌, length, Some}
+use Rattle.std.specs.Prelude.{◌≡◌, ◌≢◌, ℕ, suc, ◌+◌, ◌≤◌, ◌⊎◌, List, ◌∷◌, length, Option, Some}
 use Rattle.fm_code.specs.Edges.{IsNormalEdge}
 use Rattle.fm_code.specs.declared.code_array.Code.{Code}
 use Rattle.fm_conn.specs.Facts.{AreFacts, Facts}
@@ -11,12 +11,14 @@ use Rattle.fm_conn.specs.declared.ends.End2.TheVariants as end
 use Rattle.fm_world.specs.Programs.{code_at, Outline, Program}
 use Rattle.fm_cells.specs.Choices.{lawful}
 use Rattle.fm_frames.specs.Acts.{Choose}
+use Rattle.fm_cells.specs.Stores.{opened}
+use Rattle.fm_frames.specs.Runs.{Job, opening}
 use Rattle.fm_frames.specs.States.{Frame, State}
 use Rattle.fm_frames.specs.Steps.{next_effect, step}
 use Rattle.fm_same.specs.Advances.{GoesOver, OwesAt}
 use Rattle.fm_same.specs.Colours.{Colour, Coloured}
 use Rattle.fm_same.specs.Covering.{CoversAt}
-use Rattle.fm_same.specs.DeadRegions.{IsDead, IsOver, IsRetired, IsSoundRun}
+use Rattle.fm_same.specs.DeadRegions.{IsDead, IsOver, AreSound, AreSteps, IsRetired, states_of}
 use Rattle.fm_same.specs.Evenness.{HoldsNumbers}
 use Rattle.fm_same.specs.Regions.{argument, IsCaptured, Own, region, Region, Retired}
 use Rattle.fm_same.specs.Standing.{Called, method_of, Stand}
@@ -95,12 +97,30 @@ QuietClassesRetire =
     → IsOver p facts method depth class x.frames
     → (other : Colour) × Coloured p facts x other × ((birth : ℕ) → colour birth ≡ Own depth class → other birth ≡ Retired)
 
+-- the opening has colours
+abbrev pub OpeningHasColours : Type 0
+OpeningHasColours =
+    (p : Program) (facts : Facts) → HoldsNumbers p.outline → (choose : Choose) (job : Job) (budget : ℕ) (limit : Option ℕ) (free : List (List ℕ))
+    → (colour : Colour) × Coloured p facts (opening p (lawful choose) job (opened budget limit free)).state colour
+
 -- ---- the law of dead regions
 
--- in a run whose first state has colours: what a captured class led to is dead from the state on in which the class isn't busy, or the activation is gone
+-- in states that are steps, the first of which has colours: what a captured class led to is dead from the state on in which the class isn't busy, or the
+-- activation is gone
 abbrev pub RegionsDie : Type 0
 RegionsDie =
     (p : Program) (facts : Facts) → AreFacts p facts → HoldsNumbers p.outline → (choose : Choose) (xs : ℕ → State)
-    → IsSoundRun p facts (lawful choose) xs → (colour : Colour) → Coloured p facts (xs 0) colour
+    → AreSteps p (lawful choose) xs → AreSound p facts xs → (colour : Colour) → Coloured p facts (xs 0) colour
     → (method depth class birth first count : ℕ) → IsRetired p facts xs method depth class birth first count
     → (later : ℕ) → first + suc count ≤ later → IsDead p facts birth (xs later) (xs (suc later))
+
+-- so it is in each run from its opening on
+abbrev pub DeadRegions : Type 0
+DeadRegions =
+    (p : Program) (facts : Facts) → AreFacts p facts → HoldsNumbers p.outline
+    → (choose : Choose) (job : Job) (budget : ℕ) (limit : Option ℕ) (free : List (List ℕ))
+    → AreSound p facts (states_of p choose job (opened budget limit free))
+    → (method depth class birth first count : ℕ)
+    → IsRetired p facts (states_of p choose job (opened budget limit free)) method depth class birth first count
+    → (later : ℕ) → first + suc count ≤ later
+    → IsDead p facts birth (states_of p choose job (opened budget limit free) later) (states_of p choose job (opened budget limit free) (suc later))

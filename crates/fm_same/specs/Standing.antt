@@ -56,15 +56,14 @@ pub record Called (p : Program) (facts : Facts) (callee f : Frame) : Type 0 wher
   pub depth : length f.stack ≡ depth_below (method_of p facts f at.code) f.item at.insn
   pub arguments : (k : ℕ) → IsEnd p.outline callee.method (end.Parameter k) ↔ IsNode (method_of p facts f at.code) (argument f k)
 
--- a frame that waits for the start of a class: that has no parameters, and the frame goes on at its item
-pub record Waits (p : Program) (facts : Facts) (start f : Frame) : Type 0 where
+-- a frame that waits for the start of a class goes on at its item
+pub record Waits (p : Program) (facts : Facts) (f : Frame) : Type 0 where
   pub goes : Goes p facts f
-  pub no_parameters : (k : ℕ) → ¬ IsEnd p.outline start.method (end.Parameter k)
 
 abbrev pub StandBelow : Program → Facts → Frame → List Frame → Type 0
 StandBelow p facts above [] = Unit {0}
 StandBelow p facts above (f ∷ callers) =
-    (((is_start p.outline above.method ≡ false) × Called p facts above f) ⊎ ((is_start p.outline above.method ≡ true) × Waits p facts above f))
+    (((is_start p.outline above.method ≡ false) × Called p facts above f) ⊎ ((is_start p.outline above.method ≡ true) × Waits p facts f))
     × StandBelow p facts f callers
 
 abbrev pub Stand : Program → Facts → List Frame → Type 0

@@ -24,9 +24,11 @@ pub fn law_effects()
     ensures { law.EffectsOwe }
 {}
 
-/// Colours of objects by regions go on: a step leads from colours of a state to colours of the next, and
-/// where a captured class isn't busy, or its activation is gone, its region can be retired.
+/// Colours of objects by regions: the opening has them, a step leads from colours of a state to colours
+/// of the next, and where a captured class isn't busy, or its activation is gone, its region can be
+/// retired.
 pub fn law_colours()
+    ensures opening { law.OpeningHasColours }
     ensures steps { law.StepsKeepColours }
     ensures retire { law.QuietClassesRetire }
 {}
@@ -35,5 +37,6 @@ pub fn law_colours()
 /// to is dead from the state on in which the class isn't busy, or the activation is gone. Nothing leads
 /// to it, and no step changes it.
 pub fn law_dead_regions_of_sound_runs()
-    ensures { law.RegionsDie }
+    ensures of_steps { law.RegionsDie }
+    ensures of_runs { law.DeadRegions }
 {}

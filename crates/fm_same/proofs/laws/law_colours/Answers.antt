@@ -1,6 +1,8 @@
 use Rattle.std.proofs.Common.{ap, ◌∙◌}
 use Rattle.fm_cells.proofs.Choices.{lawful_choice-may}
 use Rattle.fm_same.specs.Regions.{Retired}
+use Rattle.fm_cells.specs.Choices.{lawful}
+use Rattle.fm_same.proofs.Opening.{opened_colour, opening_coloured}
 use Rattle.fm_same.proofs.Retiring.{retire}
 use Rattle.fm_same.proofs.ReturnsKeep.{mapped, moved, moved_own}
 use Rattle.fm_same.proofs.StepKeeps.{step_over}
@@ -17,4 +19,11 @@ returns-clause-retire c =
       mapped (moved depth class Retired) colour,
       retire p facts x colour method depth class coloured stand over,
       λ birth own. ap (moved depth class Retired) own ∙ moved_own depth class Retired,
+    )
+
+pub returns-clause-opening : goal.returns-clause-opening
+returns-clause-opening c =
+    λ p facts numbers choose job budget limit free. (
+      opened_colour p facts (lawful choose) (λ s request. lawful_choice-may s request (choose s request)) numbers,
+      opening_coloured p facts (lawful choose) (λ s request. lawful_choice-may s request (choose s request)) numbers job budget limit free,
     )
