@@ -1,3 +1,4 @@
 pub mod Seen
 pub mod Exceptions
 pub mod NumberSteps
+pub mod ObjectSteps

@@ -4,8 +4,12 @@
 // then as the instruction's effect makes it, over every memory, at the choices that the memory makes.
 #![tactic(auto)]
 
+mod calls;
 mod locals;
 mod numbers;
+mod objects;
 
+pub use calls::{leave, static_call};
 pub use locals::{load, store};
 pub use numbers::int_op;
+pub use objects::new_object;

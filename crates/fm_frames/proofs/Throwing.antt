@@ -8,14 +8,15 @@ use Rattle.fm_types.specs.Named.{built_in_type, throwable_type}
 use Rattle.fm_world.specs.Members.{size_of}
 use Rattle.fm_world.specs.Numbers.{type_number, type_of_class}
 use Rattle.fm_world.specs.Programs.{Outline, Program}
-use Rattle.fm_frames.specs.Acts.{Choose, Did, performed, requested}
-use Rattle.fm_frames.specs.Effects.{Make, Plain, making, words}
+use Rattle.fm_frames.specs.Acts.{cell_of, Choose, Did, performed, requested}
+use Rattle.fm_frames.specs.Effects.{Make, OfOperand, Plain, Throws, going, making, words}
 use Rattle.fm_frames.specs.Elements.{pack_of}
 use Rattle.fm_frames.specs.Operands.{size_of_type, thrown}
 use Rattle.fm_frames.specs.Sights.{type_numbered}
-use Rattle.fm_frames.specs.States.{Areas, Frame, ref, State}
+use Rattle.fm_frames.specs.States.{Areas, Frame, ref, State, word_at}
 use Rattle.fm_frames.specs.Steps.{attempted, caught, continued, done_by, thrown_by}
 use Rattle.fm_frames.specs.inner.Doings.{MakesOne, NextFits, silent}
+use Rattle.fm_frames.specs.inner.Frames.{stack_in}
 
 -- the type of an object that is thrown
 abbrev type_of : Outline → Option Object → TypeRef
@@ -82,3 +83,25 @@ made-given p choose x y z takes t len cell fits makes given =
 pub type-request : (o : Outline) (t : TypeRef) (id len pack : ℕ) → id ≡ unwrap_or (type_number o.types t) 0 → pack ≡ pack_of o t
     → requested o t len false ≡ request_of id len pack false
 type-request o t id len pack number packed = λ i. request_of (sym number i) len (sym packed i) false
+
+-- ---- an operand that is thrown
+
+operand-thrown : (p : Program) (choose : Choose) (x : State) (cell : ℕ) (frames : List Frame) → NextFits frames
+    → word_at (stack_in frames) 0 ≡ ref cell
+    → attempted p choose (record x { frames = frames }) (going 0 (Throws (OfOperand 0)))
+    ≡ silent (thrown_by (record x { frames = frames; steps = x.steps + 1 })
+    (caught p (type_of p.outline (object_at x.areas.store cell)) (ref cell) frames))
+unfolding performed continued
+operand-thrown p choose x cell [] fits is = absurd fits
+operand-thrown p choose x cell (f ∷ callers) fits is =
+    ap (λ v. silent (thrown_by (record x { frames = f ∷ callers; steps = x.steps + 1 })
+    (caught p (type_of p.outline (object_at x.areas.store (cell_of v))) v (f ∷ callers)))) is
+
+pub threw-operand : (p : Program) (choose : Choose) (x z : State) (cell : ℕ) (object : Object) (t : TypeRef) → NextFits x.frames
+    → word_at (stack_in x.frames) 0 ≡ ref cell → object_at x.areas.store cell ≡ Some object → t ≡ type_numbered p.outline object.class
+    → z ≡ thrown_by (record x { steps = x.steps + 1 }) (caught p t (ref cell) x.frames)
+    → silent z ≡ attempted p choose x (going 0 (Throws (OfOperand 0)))
+threw-operand p choose x z cell object t fits at held is left =
+    ap silent (left
+    ∙ ap (λ t. thrown_by (record x { steps = x.steps + 1 }) (caught p t (ref cell) x.frames)) (is ∙ sym (ap (type_of p.outline) held)))
+    ∙ sym (operand-thrown p choose x cell x.frames fits at)

@@ -2,3 +2,4 @@ pub mod Codes
 pub mod Frames
 pub mod Doings
 pub mod Catching
+pub mod Looks

@@ -12,6 +12,7 @@ mod ends;
 mod faults;
 mod frames;
 mod laws;
+mod looks;
 mod machine;
 mod makes;
 mod moves;
@@ -23,6 +24,7 @@ pub use coded::{code_of, offset_of, pack_of, type_id, type_numbered, type_of_cla
 pub use ends::Ended;
 pub use frames::{Cursor, Frames};
 pub use laws::{law_object_example, law_sum_example};
+pub use looks::Look;
 pub use machine::Machine;
 pub use throws::{Catch, is_start};
 pub use values::Value;
