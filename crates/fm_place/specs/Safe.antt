@@ -1,0 +1,77 @@
+-- Which insertions keep a program's meaning, and which of these is made.
+use Rattle.std.specs.Prelude.{◌≡◌, ◌+◌, ℕ, ◌<◌, ◌≤◌, true, false, List, length, map, Option, Some, option_and_then, option_map, Contains, nat_eq, slice_get}
+use Rattle.std.specs.List.{AllByRecursion, IsDistinct}
+use Rattle.fm_base.specs.declared.limits.TheConstants.{MAX_LOCAL_WORDS}
+use Rattle.fm_code.specs.declared.class_file.ClassDef.{ClassDef}
+use Rattle.fm_conn.specs.Facts.{AreFacts, Facts}
+use Rattle.fm_conn.specs.Links.{typed_method}
+use Rattle.fm_conn.specs.Nodes.{TypedMethod}
+use Rattle.fm_world.specs.Programs.{code_at, Program, program_of}
+use Rattle.fm_place.specs.Insertions.{before_at, full_insertions, Holder, Insertions}
+use Rattle.fm_place.specs.Places.{ComesFromBusy, is_busy}
+use Rattle.fm_place.specs.Rewriting.{marks_with, Plans, rewritten}
+use Rattle.fm_place.specs.Sites.{is_captured_site, site_class}
+
+-- ---- one method
+
+-- a holder's site is captured, and its class is that of the site's object
+pub record IsSafeHolder (facts : Facts) (x : TypedMethod) (h : Holder) : Type 0 where
+  pub captured : is_captured_site facts x h.site ≡ true
+  pub class : h.class ≡ site_class facts x h.site
+  pub single : h.looped ≡ false
+
+-- a holder that is freed before item j is there, and its class isn't busy at j
+pub record MayFree (facts : Facts) (x : TypedMethod) (plan : Insertions) (j number : ℕ) : Type 0 where
+  pub holder : Holder
+  pub is : slice_get plan.holders number ≡ Some holder
+  pub quiet : is_busy facts x holder.class j ≡ false
+
+-- Before item j each holder is freed at most once, and only where its class isn't busy; and each one is freed to whose class control may come from where
+-- it was busy. The order is left open, and a holder whose class wasn't busy before may be freed too: it is null then.
+pub record IsSafeAt (facts : Facts) (x : TypedMethod) (plan : Insertions) (j : ℕ) : Type 0 where
+  pub once : IsDistinct nat_eq (before_at plan j)
+  pub may : (number : ℕ) → Contains (before_at plan j) number → MayFree facts x plan j number
+  pub must : (number : ℕ) (holder : Holder) → slice_get plan.holders number ≡ Some holder → is_busy facts x holder.class j ≡ false
+      → ComesFromBusy facts x holder.class j → Contains (before_at plan j) number
+
+-- what is inserted into a method keeps its meaning: there are holders, as many as there are locals left for, each one of a site of its own
+pub record AreSafe (facts : Facts) (x : TypedMethod) (plan : Insertions) : Type 0 where
+  pub some : 0 < length plan.holders
+  pub room : x.code.max_locals + length plan.holders ≤ MAX_LOCAL_WORDS
+  pub holders : AllByRecursion (IsSafeHolder facts x) plan.holders
+  pub own_sites : IsDistinct nat_eq (map (λ (h : Holder). h.site) plan.holders)
+  pub one_each : length plan.before ≡ length x.code.items
+  pub items : (j : ℕ) → j < length x.code.items → IsSafeAt facts x plan j
+
+-- ---- a program
+
+-- a method that has code, as the facts tell of it
+abbrev pub method_in_facts : Program → Facts → ℕ → Option TypedMethod
+method_in_facts p facts method = option_map (typed_method p facts.typing method) (code_at p method)
+
+-- a method that is changed has code, and what is inserted is safe
+pub record IsSafeMethod (p : Program) (facts : Facts) (method : ℕ) (plan : Insertions) : Type 0 where
+  pub x : TypedMethod
+  pub is : method_in_facts p facts method ≡ Some x
+  pub safe : AreSafe facts x plan
+
+-- the classes written are those given with safe insertions, and the marks tell which items are inserted
+pub record Safe (given : List ClassDef) (main : List ℕ) (written : List ClassDef) (marks : List (List (Option ℕ))) : Type 0 where
+  pub facts : Facts
+  pub exact : AreFacts (program_of given main) facts
+  pub plans : Plans
+  pub methods : (method : ℕ) (plan : Insertions) → plans method ≡ Some plan → IsSafeMethod (program_of given main) facts method plan
+  pub written_is : written ≡ rewritten plans given
+  pub marks_are : marks ≡ marks_with plans given
+
+-- ---- all held sites and all places
+
+abbrev pub full_plans : Program → Facts → Plans
+full_plans p facts method = option_and_then (full_insertions facts) (method_in_facts p facts method)
+
+-- exactly the held sites have holders, and these are freed exactly at the places of their classes: whatever the numbers of classes, one result
+pub record Full (given : List ClassDef) (main : List ℕ) (written : List ClassDef) (marks : List (List (Option ℕ))) : Type 0 where
+  pub facts : Facts
+  pub exact : AreFacts (program_of given main) facts
+  pub written_is : written ≡ rewritten (full_plans (program_of given main) facts) given
+  pub marks_are : marks ≡ marks_with (full_plans (program_of given main) facts) given

@@ -1,0 +1,9 @@
+// What is inserted into a program: which objects are held, and where they are freed.
+//
+// The definitions are in specs/; the laws say what follows of them.
+#![tactic(auto)]
+
+mod laws;
+pub mod limits;
+
+pub use laws::{law_example, law_full, law_places, law_stack};
