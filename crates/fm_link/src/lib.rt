@@ -8,6 +8,8 @@ mod judging;
 mod linked;
 mod linking;
 mod ready;
+#[cfg(test)]
+mod tests;
 
 pub use fm_refuse::{LinkBad, LinkFail};
 pub use judging::judge;
