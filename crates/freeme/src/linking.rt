@@ -8,7 +8,7 @@ ghost use Rattle.freeme.specs.inner.Writing.{IsSpelled};
 use crate::refusal::JobRefusal;
 use fm_base::NoMemory;
 use fm_code::ClassDef;
-use fm_link::judge;
+use fm_link::link;
 use fm_refuse::LinkFail;
 use fm_tool::modified;
 use std::alloc::Global;
@@ -23,8 +23,8 @@ pub fn judge_links<'a>(
     ensures { ComesOfLinks classes.now (modified main.now) result }
 {
     let name = modified(alloc, main)?;
-    match judge(alloc, classes, name.as_slice()) {
-        Ok(()) => Ok(()),
+    match link(alloc, classes, name.as_slice()) {
+        Ok(_) => Ok(()),
         Err(LinkFail::NoMemory) => Err(JobRefusal::from(NoMemory)),
         Err(fail) => Err(JobRefusal::Link(fail)),
     }
