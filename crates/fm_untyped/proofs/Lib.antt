@@ -1,0 +1,2 @@
+pub mod LinkedPrograms
+pub mod UntypedLemmas
