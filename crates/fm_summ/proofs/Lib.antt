@@ -1,0 +1,14 @@
+pub mod ListLemmas
+pub mod EntryLemmas
+pub mod PassLemmas
+pub mod JoinLemmas
+pub mod KeptLemmas
+pub mod RoundLemmas
+pub mod NumberLemmas
+pub mod BareLemmas
+pub mod CallerLemmas
+pub mod StartLemmas
+pub mod LoopLemmas
+pub mod CodeLemmas
+pub mod EndLemmas
+pub mod WaitLemmas

@@ -1,0 +1,7 @@
+pub mod BuiltIns
+pub mod Callers
+pub mod Numbers
+pub mod Passed
+pub mod Renumberings
+pub mod State
+pub mod Waits

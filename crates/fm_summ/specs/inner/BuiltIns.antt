@@ -1,0 +1,65 @@
+-- The ends of methods that have no code.
+use Rattle.std.specs.Prelude.{ℕ, ◌+◌, ◌==◌, Bool, false, List, [], ◌∷◌, ◌++◌, length, map, Option, Some, None, if◌then◌else◌}
+use Rattle.std.specs.List.{flat_map, list_any, range_with_len, slice_index_or}
+use Rattle.fm_base.specs.declared.kinds.Kind.{Kind}
+use Rattle.fm_code.specs.AccessFlags.{is_static}
+use Rattle.fm_types.specs.States.{is_reference, local_slots}
+use Rattle.fm_types.specs.declared.slots.Slot.{Slot}
+use Rattle.fm_types.specs.declared.slots.Slot.TheVariants as slot
+use Rattle.fm_world.specs.declared.records.Body.{Body}
+use Rattle.fm_world.specs.declared.records.Body.TheVariants as body
+use Rattle.fm_world.specs.declared.records.MethodInfo.{MethodInfo}
+use Rattle.fm_conn.specs.Rows.{is_reference_kind}
+use Rattle.fm_conn.specs.declared.ends.End2.{End2}
+use Rattle.fm_conn.specs.declared.ends.End2.TheVariants as end
+
+-- ---- ends
+
+-- the locals that hold the receiver and the parameters
+abbrev pub entry_words : MethodInfo → List Slot
+entry_words m = (if is_static m.flags then [] else slot.UninitThis ∷ []) ++ flat_map local_slots m.params
+
+abbrev pub parameter_end : List Slot → ℕ → List End2
+parameter_end words k = if is_reference (slice_index_or words k slot.Top) then end.Parameter k ∷ [] else []
+
+abbrev pub parameter_ends : List Slot → List End2
+parameter_ends words = flat_map (parameter_end words) (range_with_len 0 (length words))
+
+abbrev pub result_end : Option Kind → List End2
+result_end None = []
+result_end (Some k) = if is_reference_kind k then end.Return ∷ [] else []
+
+abbrev pub bare_ends : MethodInfo → List End2
+bare_ends m = parameter_ends (entry_words m) ++ result_end m.result ++ end.Global ∷ []
+
+-- ---- numbers
+
+abbrev pub row_in : Body → Option ℕ
+row_in (body.Native row) = Some row
+row_in b = None
+
+abbrev pub is_one_of : List ℕ → ℕ → Bool
+is_one_of rows row = list_any (λ n. n == row) rows
+
+-- the rows that link the end with others
+abbrev pub linking_rows : End2 → List ℕ
+linking_rows end.Return = 9 ∷ 16 ∷ 17 ∷ 18 ∷ 19 ∷ 20 ∷ 39 ∷ 42 ∷ []
+linking_rows (end.Parameter k) =
+    if k == 0 then 9 ∷ 16 ∷ 17 ∷ 18 ∷ 19 ∷ 20 ∷ 38 ∷ 39 ∷ 42 ∷ [] else if k == 1 then 38 ∷ 42 ∷ [] else []
+linking_rows end.Global = []
+
+abbrev pub is_linked_by : Option ℕ → End2 → Bool
+is_linked_by None e = false
+is_linked_by (Some row) e = is_one_of (linking_rows e) row
+
+abbrev pub own_number : End2 → ℕ
+own_number end.Return = 1
+own_number end.Global = 2
+own_number (end.Parameter k) = k + 3
+
+-- those that are linked have one number
+abbrev pub entry_number : Option ℕ → End2 → ℕ
+entry_number row e = if is_linked_by row e then 0 else own_number e
+
+abbrev pub bare_entries : MethodInfo → List (End2 × ℕ)
+bare_entries m = map (λ e. (e, entry_number (row_in m.body) e)) (bare_ends m)

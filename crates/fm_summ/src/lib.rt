@@ -1,0 +1,15 @@
+// Which ends of methods are linked, over the whole program (Free-Me's summaries).
+//
+// The layers above use that two ends of a method are linked exactly where what the method does, and
+// what the methods that it calls do, links them.
+#![tactic(auto)]
+
+mod built_ins;
+mod calls;
+mod linked;
+mod pairs;
+mod renumbering;
+mod shapes;
+mod waiting;
+
+pub use linked::summaries;
