@@ -59,7 +59,7 @@ rises-distinct n (x ∷ xs) (first, rest) = (rises-apart x (x + 1) xs (omega ari
 
 -- ---- elements
 
-some-same : {X : Type 0} {a b : X} → Some a ≡ Some b → a ≡ b
+pub some-same : {X : Type 0} {a b : X} → Some a ≡ Some b → a ≡ b
 some-same {a = a} same = ap (λ o. unwrap_or o a) same
 
 Contains-from_take : {X : Type 0} (k : ℕ) (xs : List X) (x : X) → Contains (take k xs) x → Contains xs x
@@ -69,7 +69,7 @@ Contains-from_take (suc k) (y ∷ xs) x found =
     ⊎_elim (λ (same : x ≡ y). Contains-first y xs x same) (λ later. Contains-later y xs x (Contains-from_take k xs x later))
     (Contains-cons_cases y (take k xs) x found)
 
-all-from : {X : Type 0} (P : X → Type 0) (xs : List X) → ((x : X) → Contains xs x → P x) → AllByRecursion P xs
+pub all-from : {X : Type 0} (P : X → Type 0) (xs : List X) → ((x : X) → Contains xs x → P x) → AllByRecursion P xs
 all-from P [] each = tt
 all-from P (x ∷ xs) each = (each x (Contains-first x xs x refl), all-from P xs (λ y found. each y (Contains-later x xs y found)))
 
@@ -91,7 +91,7 @@ pub record Numbered (test : Holder → Bool) (n : ℕ) (holders : List Holder) (
   pub there : slice_get holders place ≡ Some holder
   pub passes : test holder ≡ true
 
-numbers-found : (test : Holder → Bool) (n : ℕ) (holders : List Holder) (k : ℕ) → Contains (numbers_of test n holders) k → Numbered test n holders k
+pub numbers-found : (test : Holder → Bool) (n : ℕ) (holders : List Holder) (k : ℕ) → Contains (numbers_of test n holders) k → Numbered test n holders k
 numbers-found test n [] k (i, inside, there) = absurd (omega arith)
 numbers-found test n (h ∷ holders) k found =
     (elim (test h) as (λ b. test h ≡ b → Contains (cond b (n ∷ numbers_of test (n + 1) holders) (numbers_of test (n + 1) holders)) k

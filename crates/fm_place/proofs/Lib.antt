@@ -1,3 +1,4 @@
 pub mod PlaceLemmas
 pub mod FullLemmas
+pub mod WovenLemmas
 pub mod Example

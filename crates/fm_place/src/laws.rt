@@ -6,7 +6,7 @@ ghost use Rattle.fm_base.specs.declared.limits.TheConstants.{MAX_STACK_WORDS};
 ghost use Rattle.fm_code.specs.ClassBytes.{class_bytes};
 ghost use Rattle.fm_place.specs.Example.{array_holder, main_number, popping_class, popping_code, popping_facts, popping_main, popping_marks, popping_plan, popping_program, popping_woven, read_bytes, written_bytes};
 ghost use Rattle.fm_place.specs.Insertions.{full_insertions};
-ghost use Rattle.fm_place.specs.Laws.{FullIsSafe, PlacesAreByEdges};
+ghost use Rattle.fm_place.specs.Laws.{AnchorsAreAnchors, FullIsSafe, PlacesAreByEdges, WovenIsLaidOut};
 ghost use Rattle.fm_place.specs.Places.{is_busy, is_place};
 ghost use Rattle.fm_place.specs.Rewriting.{frees_in, marks_with, rewritten, sites_in};
 ghost use Rattle.fm_place.specs.Safe.{full_plans};
@@ -27,6 +27,12 @@ pub fn law_places()
 /// Holders for all held sites, freed at all places of their classes, are safe.
 pub fn law_full()
     ensures { FullIsSafe }
+{}
+
+/// The woven items are what layout asks for, and the tables can be moved by the anchors.
+pub fn law_woven()
+    ensures items { WovenIsLaidOut }
+    ensures anchors { AnchorsAreAnchors }
 {}
 
 /// A main that makes an array and pops it, gone over by hand: which item is a site and what holds its
