@@ -257,10 +257,11 @@ pub tiled-called : (values : List Value) (c : Cursor) (callers : List Cursor) (m
 tiled-called values c callers method words stack tiled room =
     let front : take (kept_by c values words) (with_room values stack) ≡ take (kept_by c values words) values =
     take-append-le (kept_by c values words) values (replicate (stack - length values) value.Top) (omega arith) in
-    let P : List Value → Type 0 = λ front. AreTiled front (c ∷ callers) in
-    (omega arith,
-    omega (arith, length-append values (replicate (stack - length values) value.Top), length-replicate (stack - length values) value.Top),
-    subst P (sym front) (tiled-dropped values c callers words tiled))
+    let P : List Value → Type 0 = λ front. AreTiled front (c ∷ callers) in (
+      omega arith,
+      omega (arith, length-append values (replicate (stack - length values) value.Top), length-replicate (stack - length values) value.Top),
+      subst P (sym front) (tiled-dropped values c callers words tiled),
+    )
 
 pub frames-called : (values : List Value) (c : Cursor) (callers : List Cursor) (method max_locals words stack : ℕ) → AreTiled values (c ∷ callers)
     → stack ≡ max (kept_by c values words + max_locals) (length values)
