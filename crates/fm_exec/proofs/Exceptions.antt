@@ -29,3 +29,10 @@ null-found given = position_from-zero (λ (c : DeclaredClass). bytes_eq c.name (
 
 pub null-is : (p : Program) → IsRunnable p → built_in_type p.outline (codes "java/lang/NullPointerException") ≡ type_of_class 18
 null-is p runnable = numbered p (codes "java/lang/NullPointerException") 18 runnable null-found
+
+throwable-found : (given : List DeclaredClass) → class_number (built_in ++ given) (codes "java/lang/Throwable") ≡ Some 7
+unfolding built_in
+throwable-found given = position_from-zero (λ (c : DeclaredClass). bytes_eq c.name (codes "java/lang/Throwable")) (built_in ++ given)
+
+pub throwable-is : (p : Program) → IsRunnable p → built_in_type p.outline (codes "java/lang/Throwable") ≡ type_of_class 7
+throwable-is p runnable = numbered p (codes "java/lang/Throwable") 7 runnable throwable-found

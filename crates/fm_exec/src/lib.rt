@@ -8,8 +8,10 @@ mod calls;
 mod locals;
 mod numbers;
 mod objects;
+mod throws;
 
 pub use calls::{leave, static_call};
 pub use locals::{load, store};
 pub use numbers::int_op;
 pub use objects::new_object;
+pub use throws::throw;

@@ -10,3 +10,6 @@ pub const ARITHMETIC_EXCEPTION: ClassId = ClassId(13);
 
 /// `java/lang/NullPointerException`.
 pub const NULL_POINTER_EXCEPTION: ClassId = ClassId(18);
+
+/// `java/lang/Throwable`.
+pub const THROWABLE: ClassId = ClassId(7);

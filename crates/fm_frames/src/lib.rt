@@ -19,7 +19,7 @@ mod moves;
 mod throws;
 mod values;
 
-pub use built_ins::{ARITHMETIC_EXCEPTION, NULL_POINTER_EXCEPTION, STRING};
+pub use built_ins::{ARITHMETIC_EXCEPTION, NULL_POINTER_EXCEPTION, STRING, THROWABLE};
 pub use coded::{code_of, offset_of, pack_of, type_id, type_numbered, type_of_class};
 pub use ends::Ended;
 pub use frames::{Cursor, Frames};
