@@ -1,12 +1,11 @@
 -- Busy by computation and by a witness.
-use Rattle.std.proofs.Common.{◌≡◌, ◌↔◌, ◌⊎◌, ℕ, ◌+◌, ◌<◌, ◌&&◌, ◌||◌, Bool, true, false, length, reverse, Option, Some, None, IsSomeAnd, refl, inl, inr, ⊎_elim, eq-eqb, arith, Contains}
+use Rattle.std.proofs.Common.{◌≡◌, ◌⊎◌, ℕ, ◌<◌, ◌||◌, Bool, true, false, length, reverse, Option, Some, None, IsSomeAnd, refl, inl, inr, ⊎_elim, eq-eqb, arith, Contains}
 use Rattle.std.specs.Prelude.{is_some, nat_eq, option_and_then, slice_get}
 use Rattle.std.specs.List.{list_any, range_with_len}
 use Rattle.std.proofs.lemmas.Bool.{eqb-true, false≢true}
 use Rattle.std.proofs.lemmas.List.{length-reverse}
 use Rattle.std.proofs.lemmas.Option.{slice_get_within}
 use Rattle.fm_conn.proofs.ListLemmas.{Contains-range}
-use Rattle.fm_conn.specs.Facts.{Facts}
 use Rattle.fm_conn.specs.Nodes.{depth_at, IsNode, Local, Slot, TypedMethod, word_at}
 use Rattle.fm_types.specs.States.{is_reference, TypeState}
 use Rattle.fm_types.specs.Typed.{state_at}
