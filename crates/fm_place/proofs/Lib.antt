@@ -1,4 +1,5 @@
 pub mod PlaceLemmas
+pub mod BusyLemmas
 pub mod FullLemmas
 pub mod WovenLemmas
 pub mod Example

@@ -11,9 +11,15 @@ use Rattle.fm_layout.specs.Laid.{laid_of}
 use Rattle.fm_layout.specs.Tables.{AreAnchors}
 use Rattle.fm_layout.specs.declared.laying.TheConstants.{MAX_NEW_ITEMS}
 use Rattle.fm_place.specs.Insertions.{before_at, Insertions}
-use Rattle.fm_place.specs.Places.{ComesFromBusy, is_busy, is_place}
+use Rattle.fm_place.specs.Places.{ComesFromBusy, is_busy, is_place, IsBusy}
 use Rattle.fm_place.specs.Safe.{Full, Safe}
 use Rattle.fm_place.specs.Woven.{anchors_of, woven}
+
+-- a class is busy where there is a witness, as long as no local past the method's own is live
+abbrev pub BusyIsByWitness : Type 0
+BusyIsByWitness =
+    (facts : Facts) (x : TypedMethod) (class j : ℕ) → ((k : ℕ) → facts.live x.number k j ≡ true → k < x.code.max_locals)
+    → (is_busy facts x class j ≡ true) ↔ (IsBusy facts x class j)
 
 -- a place is an item at which the class isn't busy, with an edge from one at which it is
 abbrev pub PlacesAreByEdges : Type 0

@@ -12,12 +12,13 @@ use Rattle.fm_world.specs.Chains.{is_among}
 
 -- ---- busy
 
+abbrev pub is_reference_word : Option slots.Slot → Bool
+is_reference_word None = false
+is_reference_word (Some s) = is_reference s
+
 -- whether the word of the stack is a reference, and in the class
 abbrev pub is_word_in : Facts → TypedMethod → ℕ → ℕ → ℕ → Bool
-is_word_in facts x class j depth = of_word (word_at x j depth) && (facts.class x.number (Slot j depth) == class) where
-  of_word : Option slots.Slot → Bool
-  of_word None = false
-  of_word (Some s) = is_reference s
+is_word_in facts x class j depth = is_reference_word (word_at x j depth) && (facts.class x.number (Slot j depth) == class)
 
 -- whether the local is live, and in the class
 abbrev pub is_local_in : Facts → TypedMethod → ℕ → ℕ → ℕ → Bool

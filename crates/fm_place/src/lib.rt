@@ -6,4 +6,4 @@
 mod laws;
 pub mod limits;
 
-pub use laws::{law_example, law_full, law_places, law_stack, law_woven};
+pub use laws::{law_busy, law_example, law_full, law_places, law_stack, law_woven};
