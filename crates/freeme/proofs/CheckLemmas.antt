@@ -1,5 +1,5 @@
 -- What comes of classes by what comes of linking them and of checking their program.
-use Rattle.std.proofs.Common.{◌≡◌, ℕ, List, Result, Ok, Err, sym, subst}
+use Rattle.std.proofs.Common.{ℕ, List, Result, Ok, Err, sym, subst}
 use Rattle.std.specs.List.{AllByRecursion}
 use Rattle.fm_code.specs.Profile.{IsWithinLimits}
 use Rattle.fm_code.specs.declared.class_file.ClassDef.{ClassDef}

@@ -24,7 +24,7 @@ use Rattle.freeme.specs.Checking.{IsFirstUntypedName}
 use Rattle.freeme.specs.Changes.{RisesOnlyAt, ChangesOnlyAt}
 use Rattle.freeme.specs.Request.{Job, job_of, main_name}
 use Rattle.freeme.specs.Taking.{AreTaken}
-use Rattle.freeme.specs.TopCall.{StaysWithin, IsUntouched, AreLinked, IsNotLinked, IsNotTyped, AreChecked, job_program, IsNotYet, ArePassed, IsDone, ComesTo}
+use Rattle.freeme.specs.TopCall.{StaysWithin, IsUntouched, IsNotLinked, IsNotTyped, AreChecked, job_program, IsNotYet, ArePassed, IsDone, ComesTo}
 use Rattle.freeme.specs.Writing.{HasName, class_text, written_name, class_lines, IsClassFileIn, IsFileOf, AreWritten, AllWritten}
 use Rattle.freeme.specs.inner.Checking.{ComesOfProgram}
 use Rattle.freeme.specs.inner.Reading.{ReadsAll, AreRead}
