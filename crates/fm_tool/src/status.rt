@@ -26,6 +26,9 @@ pub const UNSUPPORTED: u8 = 69;
 /// The class files make no program.
 pub const LINK: u8 = 70;
 
+/// A method isn't typed.
+pub const CHECK: u8 = 71;
+
 /// A file or a line couldn't be written.
 pub const WRITE: u8 = 75;
 
@@ -51,6 +54,7 @@ pub fn law_statuses()
     ensures limit { LIMIT ≡ 68 }
     ensures unsupported { UNSUPPORTED ≡ 69 }
     ensures link { LINK ≡ 70 }
+    ensures check { CHECK ≡ 71 }
     ensures write { WRITE ≡ 75 }
     ensures out_of_memory { OUT_OF_MEMORY ≡ 76 }
     ensures not_yet { NOT_YET ≡ 77 }

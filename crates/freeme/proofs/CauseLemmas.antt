@@ -11,18 +11,21 @@ use Rattle.fm_tool.specs.Status.{ComesExactly}
 use Rattle.fm_tool.specs.declared.refusal.Refusal.TheVariants as refusal
 use Rattle.fm_tool.proofs.LineLemmas.{instead_for_file, instead_for_words, told_among, is_put, put_fails, told_of_file, told_of_words, comes_of_file, comes_of_words}
 use Rattle.fm_tool.proofs.OutsideLemmas.{no_fault_where_same, known_such}
-use Rattle.fm_tool.specs.declared.status.TheConstants.{DONE, WORDS, READ, MALFORMED, VERSION, LIMIT, UNSUPPORTED, LINK, WRITE, OUT_OF_MEMORY, NOT_YET}
+use Rattle.fm_tool.specs.declared.status.TheConstants.{DONE, WORDS, READ, MALFORMED, VERSION, LIMIT, UNSUPPORTED, LINK, CHECK, WRITE, OUT_OF_MEMORY, NOT_YET}
 use Rattle.fm_code.specs.declared.class_file.ClassDef.{ClassDef}
+use Rattle.fm_untyped.specs.Untyped.{AreTyped}
 use Rattle.fm_refuse.specs.Refused.{refusal_of}
 use Rattle.fm_world.specs.Causes.{Refusal}
 use Rattle.fm_world.specs.Linking.{refusals}
+use Rattle.fm_world.specs.Programs.{Program}
 use Rattle.freeme.specs.Ahead.{IsBuilt, AreBuilt, IsFirstAhead}
 use Rattle.freeme.specs.ClassRefusal.{class_refusal_status}
-use Rattle.freeme.specs.Causes.{AskFor, FailsARead, FailsAWrite, IsMissing, HasTooMany, IsKnownLong, IsKnownRefused, IsKnownUnlinked, IsKnownAhead, IsKnownPassed, SaysWords, SaysRead, SaysRefused, SaysLimit, SaysLink, SaysNotYet, SaysDone, SaysUnwritten, SaysWrite, SaysMemory, LacksLine, IsForWords, IsForRead, IsForBytes, IsForLimit, IsForLink, IsForNotYet, IsForDone, IsForWrite, IsForMemory, IsFaultless, KeepsContents, ChangesOnly}
+use Rattle.freeme.specs.Checking.{IsFirstUntypedName}
+use Rattle.freeme.specs.Causes.{AskFor, FailsARead, FailsAWrite, IsMissing, HasTooMany, IsKnownLong, IsKnownRefused, IsKnownUnlinked, IsKnownUntyped, IsKnownAhead, IsKnownPassed, SaysWords, SaysRead, SaysRefused, SaysLimit, SaysLink, SaysCheck, SaysNotYet, SaysDone, SaysUnwritten, SaysWrite, SaysMemory, LacksLine, IsForWords, IsForRead, IsForBytes, IsForLimit, IsForLink, IsForCheck, IsForNotYet, IsForDone, IsForWrite, IsForMemory, IsFaultless, KeepsContents, ChangesOnly}
 use Rattle.freeme.specs.LinkRefusal.{cause_line}
 use Rattle.freeme.specs.Request.{Job, Asks, AskNothing, main_name}
 use Rattle.freeme.specs.Taking.{total_bytes, AllTaken, Reaches, IsTooLong, IsRefused}
-use Rattle.freeme.specs.TopCall.{StaysWithin, AreMany, IsUntouched, IsBroken, AreRefused, IsNotLinked, ComesTo, ComesOfJob, ComesOf, Outcome, outcome_line, outcome_status}
+use Rattle.freeme.specs.TopCall.{StaysWithin, AreMany, IsUntouched, IsBroken, AreRefused, IsNotLinked, job_program, ComesTo, ComesOfJob, ComesOf, Outcome, outcome_line, outcome_status}
 use Rattle.freeme.specs.declared.refusal.JobRefusal.TheVariants as job_refusal
 use Rattle.freeme.specs.Refusal.{many_line}
 use Rattle.freeme.specs.declared.class_refusal.ClassRefusal.{ClassRefusal}
@@ -65,6 +68,13 @@ module _ (words : List Bytes) (old new : Disk) (before after : Output) where
   link_said (Err (job_refusal.Class file r)) j is line = absurd (let c = class_status r in let low = c.low in let high = c.high in omega arith)
   link_said (Err (job_refusal.Shared refusal.Words)) j is line = absurd (omega arith)
   link_said o j is line = absurd (omega arith)
+
+  -- 71
+  check_said : (o : Outcome) → ComesOfJob words old new o → outcome_status o ≡ CHECK → after ≡ with_piece (outcome_line o) before → SaysCheck words old new before after
+  check_said (Err (job_refusal.Check name)) j is line = record { job = j.job; asked = j.asked; name = name; untyped = j.comes; line = line }
+  check_said (Err (job_refusal.Class file r)) j is line = absurd (let c = class_status r in let low = c.low in let high = c.high in omega arith)
+  check_said (Err (job_refusal.Shared refusal.Words)) j is line = absurd (omega arith)
+  check_said o j is line = absurd (omega arith)
 
   -- 77
   not_yet_said : (o : Outcome) → ComesOfJob words old new o → outcome_status o ≡ NOT_YET → after ≡ with_piece (outcome_line o) before → SaysNotYet words old new before after
@@ -124,6 +134,7 @@ job_fails job old new (Err (job_refusal.TooManyFiles count)) comes = inl (no_fau
 job_fails job old new (Err (job_refusal.TooLong file)) comes = inl comes.untouched.faultless
 job_fails job old new (Err (job_refusal.Class file r)) comes = inl comes.untouched.faultless
 job_fails job old new (Err (job_refusal.Link fail)) comes = inl comes.untouched.faultless
+job_fails job old new (Err (job_refusal.Check name)) comes = inl comes.untouched.faultless
 job_fails job old new (Err (job_refusal.Write name)) comes = inr (inr (refl, comes.fails.fault.reads))
 
 pub fails_so : (words : List Bytes) (old new : Disk) (o : Outcome) → ComesOf words old new o → FailsSo old new (outcome_status o)
@@ -142,6 +153,7 @@ job_keeps job old new (Err (job_refusal.TooManyFiles count)) comes done write me
 job_keeps job old new (Err (job_refusal.TooLong file)) comes done write memory = comes.untouched.kept
 job_keeps job old new (Err (job_refusal.Class file r)) comes done write memory = comes.untouched.kept
 job_keeps job old new (Err (job_refusal.Link fail)) comes done write memory = comes.untouched.kept
+job_keeps job old new (Err (job_refusal.Check name)) comes done write memory = comes.untouched.kept
 job_keeps job old new (Err (job_refusal.Write name)) comes done write memory = absurd (write refl)
 
 keeps : (words : List Bytes) (old new : Disk) (o : Outcome) → ComesOf words old new o → outcome_status o ≢ DONE → outcome_status o ≢ WRITE → outcome_status o ≢ OUT_OF_MEMORY → new.contents ≡ old.contents
@@ -157,6 +169,10 @@ not_built classes place first built =
     let found = Some-from_some_and (slice_get classes place) _ first.ahead in
     let P : Option ClassDef → Type 0 = λ x. IfSome x (IsBuilt classes place) in
     found.2 (subst P found.1 (built place))
+
+-- not each method is typed where one isn't
+not_typed : (p : Program) (name : Bytes) → IsFirstUntypedName p name → ¬ AreTyped p
+not_typed p name found typed = found.first.untyped.untyped (typed found.method found.first.untyped.coded)
 
 -- a list that has a first refusal isn't empty
 not_empty : (rs : List Refusal) (cause : Refusal) → slice_get rs 0 ≡ Some cause → ¬ (rs ≡ [])
@@ -191,10 +207,10 @@ module _ (job : Job) (old new : Disk) (held : Bytes → Option Bytes) (known : o
   Comes status = Verdict held job.files (main_name job) status ⊎ ((status ≡ READ) ⊎ ((status ≡ WRITE) ⊎ (status ≡ OUT_OF_MEMORY)))
 
   verdict_of : (o : Outcome) → ComesTo job old new o → Comes (outcome_status o)
-  verdict_of (Ok lines) comes = inl (inr (inr (record { classes = comes.classes; taken = all_taken comes.classes comes.passed.linked.taken; last = inr (comes.passed.linked.linked, inl (comes.passed.built, refl)) })))
+  verdict_of (Ok lines) comes = inl (inr (inr (record { classes = comes.classes; taken = all_taken comes.classes comes.passed.checked.linked.taken; last = inr (comes.passed.checked.linked.linked, inr (comes.passed.checked.typed, inl (comes.passed.built, refl))) })))
   verdict_of (Err (job_refusal.Shared refusal.Words)) comes = absurd comes
   verdict_of (Err (job_refusal.Shared (refusal.Read file))) comes = inr (inl refl)
-  verdict_of (Err (job_refusal.Shared (refusal.NotYet file))) comes = inl (inr (inr (record { classes = comes.classes; taken = all_taken comes.classes comes.linked.taken; last = inr (comes.linked.linked, inr (not_built comes.classes comes.place comes.ahead, refl)) })))
+  verdict_of (Err (job_refusal.Shared (refusal.NotYet file))) comes = inl (inr (inr (record { classes = comes.classes; taken = all_taken comes.classes comes.checked.linked.taken; last = inr (comes.checked.linked.linked, inr (comes.checked.typed, inr (not_built comes.classes comes.place comes.ahead, refl))) })))
   verdict_of (Err (job_refusal.Shared refusal.OutOfMemory)) comes = inr (inr (inr refl))
   verdict_of (Err (job_refusal.TooManyFiles count)) comes = let count = comes.count_is in let many = comes.many in inl (inl (omega arith, refl))
   verdict_of (Err (job_refusal.TooLong file)) comes = inl (long_stops file.now comes.before (reached file.now comes.before comes.reaches) (known_such old.contents held file.now (IsTooLong (total_bytes comes.before)) known comes.long))
@@ -203,6 +219,7 @@ module _ (job : Job) (old new : Disk) (held : Bytes → Option Bytes) (known : o
       let found = Some-from_some_and (refusal_of fail) (AreRefused job old.contents) comes.refused in
       let refused = found.2 in
       inl (inr (inr (record { classes = refused.classes; taken = all_taken refused.classes refused.taken; last = inl (not_empty (refusals refused.classes (main_name job)) found.0 refused.first, refl) })))
+  verdict_of (Err (job_refusal.Check name)) comes = inl (inr (inr (record { classes = comes.classes; taken = all_taken comes.classes comes.linked.taken; last = inr (comes.linked.linked, inl (not_typed (job_program job comes.classes) name comes.untyped, refl)) })))
   verdict_of (Err (job_refusal.Write name)) comes = inr (inr (inl refl))
 
   -- files of this verdict have its status, unless there was a fault or memory was lacking
@@ -218,16 +235,17 @@ module _ (job : Job) (old new : Disk) (held : Bytes → Option Bytes) (known : o
 
 -- too many files have one status, and memory may be lacking
 many_status : (job : Job) (old new : Disk) → HasTooMany job → (o : Outcome) → ComesTo job old new o → Contains (LIMIT ∷ instead_for_words) (outcome_status o)
-many_status job old new many (Ok lines) comes = absurd (let few = comes.passed.linked.taken.few in omega arith)
+many_status job old new many (Ok lines) comes = absurd (let few = comes.passed.checked.linked.taken.few in omega arith)
 many_status job old new many (Err (job_refusal.Shared refusal.Words)) comes = absurd comes
 many_status job old new many (Err (job_refusal.Shared (refusal.Read file))) comes = absurd (let few = comes.reaches.few in omega arith)
-many_status job old new many (Err (job_refusal.Shared (refusal.NotYet file))) comes = absurd (let few = comes.linked.taken.few in omega arith)
+many_status job old new many (Err (job_refusal.Shared (refusal.NotYet file))) comes = absurd (let few = comes.checked.linked.taken.few in omega arith)
 many_status job old new many (Err (job_refusal.Shared refusal.OutOfMemory)) comes = (2, omega arith, refl)
 many_status job old new many (Err (job_refusal.TooManyFiles count)) comes = (0, omega arith, refl)
 many_status job old new many (Err (job_refusal.TooLong file)) comes = (0, omega arith, refl)
 many_status job old new many (Err (job_refusal.Class file r)) comes = absurd (let few = comes.reaches.few in omega arith)
 many_status job old new many (Err (job_refusal.Link fail)) comes =
     absurd (let found = Some-from_some_and (refusal_of fail) (AreRefused job old.contents) comes.refused in let few = found.2.taken.few in omega arith)
+many_status job old new many (Err (job_refusal.Check name)) comes = absurd (let few = comes.linked.taken.few in omega arith)
 many_status job old new many (Err (job_refusal.Write name)) comes = (1, omega arith, refl)
 
 -- a job isn't refused for its words
@@ -238,10 +256,10 @@ not_for_words job old new o comes is = omega arith
 
 -- the statuses at which nothing failed, and those at which contents are kept
 abbrev faultless_statuses : List ℕ
-faultless_statuses = DONE ∷ WORDS ∷ MALFORMED ∷ VERSION ∷ LIMIT ∷ UNSUPPORTED ∷ LINK ∷ NOT_YET ∷ []
+faultless_statuses = DONE ∷ WORDS ∷ MALFORMED ∷ VERSION ∷ LIMIT ∷ UNSUPPORTED ∷ LINK ∷ CHECK ∷ NOT_YET ∷ []
 
 abbrev keeping_statuses : List ℕ
-keeping_statuses = WORDS ∷ READ ∷ MALFORMED ∷ VERSION ∷ LIMIT ∷ UNSUPPORTED ∷ LINK ∷ NOT_YET ∷ []
+keeping_statuses = WORDS ∷ READ ∷ MALFORMED ∷ VERSION ∷ LIMIT ∷ UNSUPPORTED ∷ LINK ∷ CHECK ∷ NOT_YET ∷ []
 
 module _ (words : List Bytes) (old new : Disk) (o : Outcome) (comes : ComesOf words old new o) where
   -- the job that was asked for comes out so, or memory was lacking before
@@ -288,8 +306,17 @@ module _ (words : List Bytes) (old new : Disk) (o : Outcome) (comes : ComesOf wo
       let found = Some-from_is_some old.contents cause.known in
       decided NOT_YET job found.0 found.1 asked (inr (inr (record {
         classes = cause.classes;
+        taken = all_taken job old new found.0 found.1 cause.classes cause.checked.linked.taken;
+        last = inr (cause.checked.linked.linked, inr (cause.checked.typed, inr (cause.ahead, refl)));
+      })))
+
+  untyped_decides : AskFor words (IsKnownUntyped old) → Contains (CHECK ∷ instead_for_file) (outcome_status o)
+  untyped_decides (job, (asked, cause)) =
+      let found = Some-from_is_some old.contents cause.known in
+      decided CHECK job found.0 found.1 asked (inr (inr (record {
+        classes = cause.classes;
         taken = all_taken job old new found.0 found.1 cause.classes cause.linked.taken;
-        last = inr (cause.linked.linked, inr (cause.ahead, refl));
+        last = inr (cause.linked.linked, inl (cause.untyped, refl));
       })))
 
   unlinked_decides : AskFor words (IsKnownUnlinked old) → Contains (LINK ∷ instead_for_file) (outcome_status o)
@@ -306,8 +333,8 @@ module _ (words : List Bytes) (old new : Disk) (o : Outcome) (comes : ComesOf wo
       let found = Some-from_is_some old.contents cause.known in
       decided DONE job found.0 found.1 asked (inr (inr (record {
         classes = cause.classes;
-        taken = all_taken job old new found.0 found.1 cause.classes cause.passed.linked.taken;
-        last = inr (cause.passed.linked.linked, inl (cause.passed.built, refl));
+        taken = all_taken job old new found.0 found.1 cause.classes cause.passed.checked.linked.taken;
+        last = inr (cause.passed.checked.linked.linked, inr (cause.passed.checked.typed, inl (cause.passed.built, refl)));
       })))
 
   many_decide : AskFor words HasTooMany → Contains (LIMIT ∷ instead_for_words) (outcome_status o)
@@ -377,6 +404,9 @@ module _ {words : List Bytes} {old new : Disk} {before after : Output} {result :
 
   pub is_for_link : IsForLink words old new before after result
   is_for_link = of_files LINK (λ e. omega arith) (λ e. omega arith) (λ e. omega arith) (link_said words old new before after o) (unlinked_decides words old new o comes)
+
+  pub is_for_check : IsForCheck words old new before after result
+  is_for_check = of_files CHECK (λ e. omega arith) (λ e. omega arith) (λ e. omega arith) (check_said words old new before after o) (untyped_decides words old new o comes)
 
   pub is_for_not_yet : IsForNotYet words old new before after result
   is_for_not_yet = of_files NOT_YET (λ e. omega arith) (λ e. omega arith) (λ e. omega arith) (not_yet_said words old new before after o) (ahead_decides words old new o comes)

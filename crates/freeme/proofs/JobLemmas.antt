@@ -10,20 +10,23 @@ use Rattle.fm_base.proofs.TestFacts.{same_or_other}
 use Rattle.fm_files.specs.Files.{Bytes, Contents, Disk}
 use Rattle.fm_code.specs.ClassBytes.{class_bytes}
 use Rattle.fm_code.specs.ConstantPool.{class_name_at}
+use Rattle.fm_code.specs.Profile.{IsWithinLimits}
 use Rattle.fm_code.specs.Spells.{HasSpelling}
 use Rattle.fm_code.specs.declared.class_file.ClassDef.{ClassDef}
 use Rattle.fm_tool.specs.Outside.{HasWriteFault}
 use Rattle.fm_tool.specs.declared.refusal.Refusal.TheVariants as refusal
+use Rattle.fm_untyped.specs.Untyped.{AreTyped}
 use Rattle.fm_refuse.specs.Refused.{refusal_of}
 use Rattle.fm_world.specs.Causes.{Refusal}
 use Rattle.fm_world.specs.Linking.{refusals}
 use Rattle.freeme.specs.Ahead.{IsBuilt, AreBuilt, IsFirstAhead}
+use Rattle.freeme.specs.Checking.{IsFirstUntypedName}
 use Rattle.freeme.specs.Changes.{RisesOnlyAt, ChangesOnlyAt}
 use Rattle.freeme.specs.Request.{Job, job_of, main_name}
 use Rattle.freeme.specs.Taking.{AreTaken}
-use Rattle.freeme.specs.TopCall.{StaysWithin, IsUntouched, AreLinked, IsNotLinked, IsNotYet, ArePassed, IsDone, ComesTo}
+use Rattle.freeme.specs.TopCall.{StaysWithin, IsUntouched, IsNotLinked, IsNotTyped, AreChecked, job_program, IsNotYet, ArePassed, IsDone, ComesTo}
 use Rattle.freeme.specs.Writing.{HasName, class_text, written_name, class_lines, IsClassFileIn, IsFileOf, AreWritten, AllWritten}
-use Rattle.freeme.specs.inner.Linking.{ComesOfLinks}
+use Rattle.freeme.specs.inner.Checking.{ComesOfProgram}
 use Rattle.freeme.specs.inner.Reading.{ReadsAll, AreRead}
 use Rattle.freeme.specs.inner.Writing.{IsSpelled, AreApart, KeepsReads, ComesOfClasses}
 use Rattle.freeme.specs.declared.refusal.JobRefusal.{JobRefusal}
@@ -51,6 +54,13 @@ have_names classes spelled = AllByRecursion-weaker IsSpelled HasName named class
 -- and so some bytes spell them
 pub have_spellings : (classes : List ClassDef) → AllByRecursion IsSpelled classes → AllByRecursion HasSpelling classes
 have_spellings classes spelled = AllByRecursion-weaker IsSpelled HasSpelling (λ c spells. (class_bytes c, spells)) classes spelled
+
+-- their methods' counts are within the limits
+are_within : (contents : Contents) (files : List Bytes) (classes : List ClassDef) → AreTaken contents files classes → AllByRecursion IsWithinLimits classes
+are_within contents [] [] taken = tt
+are_within contents (f ∷ files) (c ∷ classes) taken = (taken.0.profile.limits, are_within contents files classes taken.1)
+are_within contents [] (c ∷ classes) taken = absurd taken
+are_within contents (f ∷ files) [] taken = absurd taken
 
 -- classes that are built have names of their own
 pub are_apart : (classes : List ClassDef) → AreBuilt classes → AreApart classes
@@ -82,11 +92,20 @@ module _ (job : Job) (old new : Disk) (classes : List ClassDef) (read : AreRead 
   is_not_linked None first = absurd first
   is_not_linked (Some r) first = record { refused = record { classes = classes; taken = read.taken; first = first }; untouched = read_untouched }
 
-  -- a class isn't built
-  pub is_not_yet : (place : ℕ) (file : Bytes) → refusals classes (main_name job) ≡ [] → IsFirstAhead classes place → slice_get job.files place ≡ Some file → IsNotYet job file old new
-  is_not_yet place file linked first there = record {
+  -- they make a program, of which a method isn't typed
+  pub is_not_typed : (name : Bytes) → refusals classes (main_name job) ≡ [] → IsFirstUntypedName (job_program job classes) name → IsNotTyped job name old new
+  is_not_typed name linked untyped = record {
     classes = classes;
     linked = record { taken = read.taken; linked = linked };
+    untyped = untyped;
+    untouched = read_untouched;
+  }
+
+  -- a class isn't built
+  pub is_not_yet : (place : ℕ) (file : Bytes) → AreChecked job old.contents classes → IsFirstAhead classes place → slice_get job.files place ≡ Some file → IsNotYet job file old new
+  is_not_yet place file checked first there = record {
+    classes = classes;
+    checked = checked;
     place = place;
     ahead = first;
     there = there;
@@ -159,9 +178,9 @@ module _ (job : Job) (old between new : Disk) (all : ReadsAll job.files old betw
     contents = let P : Contents → Type 0 = λ c. ChangesOnlyAt (IsClassFileIn job.folder) c new.contents in subst P same_contents writes.contents;
   }
 
-  module _ (classes : List ClassDef) (read : AreRead job.files classes old between) (linked : refusals classes (main_name job) ≡ []) (built : AreBuilt classes) where
+  module _ (classes : List ClassDef) (read : AreRead job.files classes old between) (checked : AreChecked job old.contents classes) (built : AreBuilt classes) where
     passed : ArePassed job old.contents classes
-    passed = record { linked = record { taken = read.taken; linked = linked }; built = built }
+    passed = record { checked = checked; built = built }
 
     written : (begun done : List ClassDef) → AreWritten job.folder done begun between.contents new.contents → AreWritten job.folder done begun old.contents new.contents
     written begun done = let P : Contents → Type 0 = λ c. AreWritten job.folder done begun c new.contents in subst P same_contents
@@ -228,10 +247,19 @@ module _ {request : Request} {names : List (Bor Bytes)} {classes : List ClassDef
   pub ends_read : StaysWithin (job_of request) old between
   ends_read = reads_within (job_of request) old between reads.all
 
-  pub ends_unlinked : (r : JobRefusal) → ComesOfLinks classes (main_name (job_of request)) (Err r) → ComesTo (job_of request) old between (Err r)
-  ends_unlinked (job_refusal.Link fail) now = is_not_linked (job_of request) old between classes reads.read reads.all (refusal_of fail) now
-  ends_unlinked (job_refusal.Shared refusal.OutOfMemory) now = inl (read_untouched (job_of request) old between classes reads.read reads.all)
-  ends_unlinked r now = absurd now
+  pub within : AllByRecursion IsWithinLimits classes
+  within = are_within old.contents (job_of request).files classes reads.read.taken.taken
+
+  -- or a program of which a method isn't typed
+  pub ends_refused : (r : JobRefusal) → ComesOfProgram classes (main_name (job_of request)) (Err r) → ComesTo (job_of request) old between (Err r)
+  ends_refused (job_refusal.Link fail) now = is_not_linked (job_of request) old between classes reads.read reads.all (refusal_of fail) now
+  ends_refused (job_refusal.Check name) now = is_not_typed (job_of request) old between classes reads.read reads.all name now.0 now.1
+  ends_refused (job_refusal.Shared refusal.OutOfMemory) now = inl (read_untouched (job_of request) old between classes reads.read reads.all)
+  ends_refused r now = absurd now
+
+  -- they make a program whose methods are typed
+  pub are_checked : (refusals classes (main_name (job_of request)) ≡ []) × AreTyped (job_program (job_of request) classes) → AreChecked (job_of request) old.contents classes
+  are_checked (linked, typed) = record { linked = record { taken = reads.read.taken; linked = linked }; typed = typed }
 
   -- the name of the first class that isn't built is there
   module _ {ahead : Option ℕ} (place : ℕ) (found : ahead ≡ Some place) (says : MatchOption ahead (AreBuilt classes) (IsFirstAhead classes)) where
@@ -244,9 +272,9 @@ module _ {request : Request} {names : List (Bor Bytes)} {classes : List ClassDef
         let same : length names ≡ length (job_of request).files = sym (length-map names (λ n. n.now)) ∙ ap length reads.files_are in
         omega (arith, within, same)
 
-    pub ends_not_yet : (d : Bor Bytes) → refusals classes (main_name (job_of request)) ≡ [] → IsNotYet (job_of request) (get_or names place d).now old between
-    ends_not_yet d linked =
-        is_not_yet (job_of request) old between classes reads.read reads.all place (get_or names place d).now linked first
+    pub ends_not_yet : (d : Bor Bytes) → AreChecked (job_of request) old.contents classes → IsNotYet (job_of request) (get_or names place d).now old between
+    ends_not_yet d checked =
+        is_not_yet (job_of request) old between classes reads.read reads.all place (get_or names place d).now checked first
         (sym (ap (λ fs. slice_get fs place) reads.files_are) ∙ name_at names place d has_name)
 
   -- the classes are written, or a write didn't come off
@@ -254,12 +282,12 @@ module _ {request : Request} {names : List (Bor Bytes)} {classes : List ClassDef
     pub ends_within : (r : Result Unit JobRefusal) → ComesOfClasses request.folder.now classes between new r → StaysWithin (job_of request) old new
     ends_within r comes = writes_within (job_of request) old between new reads.all keeps (writes_in request.folder.now classes between new r comes)
 
-    module _ {ahead : Option ℕ} (linked : refusals classes (main_name (job_of request)) ≡ []) (none : ahead ≡ None) (says : MatchOption ahead (AreBuilt classes) (IsFirstAhead classes)) where
+    module _ {ahead : Option ℕ} (checked : AreChecked (job_of request) old.contents classes) (none : ahead ≡ None) (says : MatchOption ahead (AreBuilt classes) (IsFirstAhead classes)) where
       built : AreBuilt classes
       built = all_built classes none says
 
       pub ends_done : (lines : List ℕ) → lines ≡ class_lines classes → AllWritten request.folder.now classes between new → IsDone (job_of request) lines old new
-      ends_done lines is now = is_done (job_of request) old between new reads.all keeps classes reads.read linked built lines is now
+      ends_done lines is now = is_done (job_of request) old between new reads.all keeps classes reads.read checked built lines is now
 
       pub ends_unwritten : (r : JobRefusal) → ComesOfClasses request.folder.now classes between new (Err r) → ComesTo (job_of request) old new (Err r)
-      ends_unwritten r now = write_ended (job_of request) old between new reads.all keeps classes reads.read linked built r now
+      ends_unwritten r now = write_ended (job_of request) old between new reads.all keeps classes reads.read checked built r now

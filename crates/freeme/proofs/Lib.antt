@@ -1,5 +1,6 @@
 pub mod AheadLemmas
 pub mod CauseLemmas
+pub mod CheckLemmas
 pub mod ChangesLemmas
 pub mod JobLemmas
 pub mod ListLemmas

@@ -12,8 +12,10 @@ use Rattle.fm_code.specs.ClassBytes.{class_bytes}
 use Rattle.fm_code.specs.Spells.{Spells}
 use Rattle.fm_code.specs.declared.class_file.ClassDef.{ClassDef}
 use Rattle.fm_code.proofs.ClassLaw.{one_record}
-use Rattle.fm_tool.specs.declared.status.TheConstants.{DONE, READ, LIMIT, LINK, NOT_YET}
+use Rattle.fm_untyped.specs.Untyped.{AreTyped}
+use Rattle.fm_tool.specs.declared.status.TheConstants.{DONE, READ, LIMIT, LINK, CHECK, NOT_YET}
 use Rattle.fm_world.specs.Linking.{refusals}
+use Rattle.fm_world.specs.Programs.{program_of}
 use Rattle.freeme.specs.Ahead.{AreBuilt}
 use Rattle.freeme.specs.ClassRefusal.{class_refusal_status}
 use Rattle.freeme.specs.Taking.{IsTaken, AreTaken, total_bytes, AllTaken, Reaches, IsTooLong, IsRefused}
@@ -42,9 +44,14 @@ pub record Stops (held : Bytes → Option Bytes) (files : List Bytes) (status : 
 abbrev pub Builds : List ClassDef → ℕ → Type 0
 Builds classes status = (AreBuilt classes × (status ≡ DONE)) ⊎ ((¬ AreBuilt classes) × (status ≡ NOT_YET))
 
+-- not each method of their program is typed, or each is
+abbrev pub Checks : List ClassDef → List ℕ → ℕ → Type 0
+Checks classes main status =
+    ((¬ AreTyped (program_of classes main)) × (status ≡ CHECK)) ⊎ (AreTyped (program_of classes main) × Builds classes status)
+
 -- classes make no program with that main class, or they do
 abbrev pub Lasts : List ClassDef → List ℕ → ℕ → Type 0
-Lasts classes main status = ((¬ (refusals classes main ≡ [])) × (status ≡ LINK)) ⊎ ((refusals classes main ≡ []) × Builds classes status)
+Lasts classes main status = ((¬ (refusals classes main ≡ [])) × (status ≡ LINK)) ⊎ ((refusals classes main ≡ []) × Checks classes main status)
 
 -- all files are taken
 pub record Passes (held : Bytes → Option Bytes) (files : List Bytes) (main : List ℕ) (status : ℕ) : Type 0 where
@@ -183,11 +190,17 @@ one_pass held files main s t p q = last p.last (subst Last classes q.last) where
   builds (inr a) (inl b) = absurd (a.0 b.0)
   builds (inr a) (inr b) = a.1 ∙ sym b.1
 
+  checks : Checks p.classes main s → Checks p.classes main t → s ≡ t
+  checks (inl a) (inl b) = a.1 ∙ sym b.1
+  checks (inl a) (inr b) = absurd (a.0 b.0)
+  checks (inr a) (inl b) = absurd (b.0 a.0)
+  checks (inr a) (inr b) = builds a.1 b.1
+
   last : Lasts p.classes main s → Lasts p.classes main t → s ≡ t
   last (inl a) (inl b) = a.1 ∙ sym b.1
   last (inl a) (inr b) = absurd (a.0 b.0)
   last (inr a) (inl b) = absurd (b.0 a.0)
-  last (inr a) (inr b) = builds a.1 b.1
+  last (inr a) (inr b) = checks a.1 b.1
 
 -- files come to one verdict
 pub one_verdict : (held : Bytes → Option Bytes) (files : List Bytes) (main : List ℕ) (s t : ℕ) → Verdict held files main s → Verdict held files main t → s ≡ t

@@ -7,22 +7,23 @@ use Rattle.fm_code.specs.declared.class_file.ClassDef.{ClassDef}
 use Rattle.fm_tool.specs.Outside.{HasNoFault, IsKnownSuch, IsKnownMissing}
 use Rattle.fm_tool.specs.Refusal.{words_line, read_line, not_yet_line, memory_line}
 use Rattle.fm_tool.specs.Status.{ComesExactly}
-use Rattle.fm_tool.specs.declared.status.TheConstants.{DONE, WORDS, READ, MALFORMED, VERSION, LIMIT, UNSUPPORTED, LINK, WRITE, OUT_OF_MEMORY, NOT_YET}
+use Rattle.fm_tool.specs.declared.status.TheConstants.{DONE, WORDS, READ, MALFORMED, VERSION, LIMIT, UNSUPPORTED, LINK, CHECK, WRITE, OUT_OF_MEMORY, NOT_YET}
+use Rattle.fm_untyped.specs.Untyped.{AreTyped}
 use Rattle.fm_world.specs.Causes.{Refusal}
 use Rattle.fm_world.specs.Linking.{refusals}
 use Rattle.freeme.specs.Ahead.{AreBuilt}
 use Rattle.freeme.specs.ClassRefusal.{class_refusal_line, class_refusal_status}
 use Rattle.freeme.specs.LinkRefusal.{link_line}
-use Rattle.freeme.specs.Refusal.{many_line, long_line, write_line}
+use Rattle.freeme.specs.Refusal.{check_line, many_line, long_line, write_line}
 use Rattle.freeme.specs.Request.{Job, Asks, AskNothing, main_name}
 use Rattle.freeme.specs.Taking.{total_bytes, AllTaken, Reaches, IsTooLong, IsRefused}
-use Rattle.freeme.specs.TopCall.{StaysWithin, IsUntouched, ArePassed, IsDone, IsUnwritten, IsBroken, AreMany, IsUnread, IsLong, IsRefusedFile, IsNotLinked, AreLinked, IsNotYet, Outcome, ComesOf, outcome_line}
+use Rattle.freeme.specs.TopCall.{StaysWithin, IsUntouched, ArePassed, IsDone, IsUnwritten, IsBroken, AreMany, IsUnread, IsLong, IsRefusedFile, IsNotLinked, AreLinked, IsNotTyped, AreChecked, job_program, IsNotYet, Outcome, ComesOf, outcome_line}
 use Rattle.freeme.specs.declared.class_refusal.ClassRefusal.{ClassRefusal}
 
 -- there is no other status
 abbrev pub IsStatus : ℕ → Type 0
 IsStatus result =
-    Contains (DONE ∷ WORDS ∷ READ ∷ MALFORMED ∷ VERSION ∷ LIMIT ∷ UNSUPPORTED ∷ LINK ∷ WRITE ∷ OUT_OF_MEMORY ∷ NOT_YET ∷ []) result
+    Contains (DONE ∷ WORDS ∷ READ ∷ MALFORMED ∷ VERSION ∷ LIMIT ∷ UNSUPPORTED ∷ LINK ∷ CHECK ∷ WRITE ∷ OUT_OF_MEMORY ∷ NOT_YET ∷ []) result
 
 -- the words ask for a job such as this
 abbrev pub AskFor : List Bytes → (Job → Type 0) → Type 0
@@ -156,10 +157,33 @@ abbrev pub IsForLink : List Bytes → Disk → Disk → Output → Output → �
 IsForLink words old new before after result =
     ComesExactly LINK (READ ∷ WRITE ∷ OUT_OF_MEMORY ∷ []) result (SaysLink words old new before after) (AskFor words (IsKnownUnlinked old))
 
+-- ---- 71
+
+-- all files of the job are taken, their classes make a program, a method of it isn't typed, nothing failed, no contents changed, and the sink got one
+-- line, of the first such method
+pub record SaysCheck (words : List Bytes) (old new : Disk) (before after : Output) : Type 0 where
+  pub job : Job
+  pub asked : Asks words job
+  pub name : Bytes
+  pub untyped : IsNotTyped job name old new
+  pub line : after ≡ with_piece (check_line name) before
+
+-- contents are known, all files of the job are taken, their classes make a program, and not each method of it with code is typed
+pub record IsKnownUntyped (old : Disk) (job : Job) : Type 0 where
+  pub known : IsSome old.contents
+  pub classes : List ClassDef
+  pub linked : AreLinked job old.contents classes
+  pub untyped : ¬ AreTyped (job_program job classes)
+
+-- exactly there, unless a read or the put fails or memory can't be had
+abbrev pub IsForCheck : List Bytes → Disk → Disk → Output → Output → ℕ → Type 0
+IsForCheck words old new before after result =
+    ComesExactly CHECK (READ ∷ WRITE ∷ OUT_OF_MEMORY ∷ []) result (SaysCheck words old new before after) (AskFor words (IsKnownUntyped old))
+
 -- ---- 77
 
--- all files of the job are taken, their classes make a program, the class of one is the first that isn't built so far, nothing failed, no contents
--- changed, and the sink got one line
+-- all files of the job are taken, their classes make a program, its methods are typed, the class of one is the first that isn't built so far,
+-- nothing failed, no contents changed, and the sink got one line
 pub record SaysNotYet (words : List Bytes) (old new : Disk) (before after : Output) : Type 0 where
   pub job : Job
   pub asked : Asks words job
@@ -167,11 +191,11 @@ pub record SaysNotYet (words : List Bytes) (old new : Disk) (before after : Outp
   pub ahead : IsNotYet job file old new
   pub line : after ≡ with_piece (not_yet_line file) before
 
--- contents are known, all files of the job are taken, their classes make a program, and one isn't built so far
+-- contents are known, all files of the job are taken, their classes make a program, its methods are typed, and one class isn't built so far
 pub record IsKnownAhead (old : Disk) (job : Job) : Type 0 where
   pub known : IsSome old.contents
   pub classes : List ClassDef
-  pub linked : AreLinked job old.contents classes
+  pub checked : AreChecked job old.contents classes
   pub ahead : ¬ AreBuilt classes
 
 -- exactly there, unless a read or the put fails or memory can't be had
@@ -181,8 +205,8 @@ IsForNotYet words old new before after result =
 
 -- ---- 0
 
--- all files of the job are taken, their classes make a program, are built and written, nothing failed, every other name is as before, and the sink
--- got their lines as one piece
+-- all files of the job are taken, their classes make a program, its methods are typed, the classes are built and written, nothing failed, every
+-- other name is as before, and the sink got their lines as one piece
 pub record SaysDone (words : List Bytes) (old new : Disk) (before after : Output) : Type 0 where
   pub job : Job
   pub asked : Asks words job
@@ -190,7 +214,7 @@ pub record SaysDone (words : List Bytes) (old new : Disk) (before after : Output
   pub done : IsDone job lines old new
   pub line : after ≡ with_piece lines before
 
--- contents are known, all files of the job are taken, and their classes make a program and are built so far
+-- contents are known, all files of the job are taken, their classes make a program, its methods are typed, and the classes are built so far
 pub record IsKnownPassed (old : Disk) (job : Job) : Type 0 where
   pub known : IsSome old.contents
   pub classes : List ClassDef
@@ -253,12 +277,12 @@ IsForMemory words old new before after result = result ≡ OUT_OF_MEMORY → Say
 -- at a status that isn't for a fault or for memory, no count of faults rose in this call
 abbrev pub IsFaultless : Disk → Disk → Output → Output → ℕ → Type 0
 IsFaultless old new before after result =
-    Contains (DONE ∷ WORDS ∷ MALFORMED ∷ VERSION ∷ LIMIT ∷ UNSUPPORTED ∷ LINK ∷ NOT_YET ∷ []) result → HasNoFault old new × (after.faults ≡ before.faults)
+    Contains (DONE ∷ WORDS ∷ MALFORMED ∷ VERSION ∷ LIMIT ∷ UNSUPPORTED ∷ LINK ∷ CHECK ∷ NOT_YET ∷ []) result → HasNoFault old new × (after.faults ≡ before.faults)
 
 -- a refusal before the first write leaves all contents as they were
 abbrev pub KeepsContents : Disk → Disk → ℕ → Type 0
 KeepsContents old new result =
-    Contains (WORDS ∷ READ ∷ MALFORMED ∷ VERSION ∷ LIMIT ∷ UNSUPPORTED ∷ LINK ∷ NOT_YET ∷ []) result → new.contents ≡ old.contents
+    Contains (WORDS ∷ READ ∷ MALFORMED ∷ VERSION ∷ LIMIT ∷ UNSUPPORTED ∷ LINK ∷ CHECK ∷ NOT_YET ∷ []) result → new.contents ≡ old.contents
 
 -- a job reads its files alone and changes no name but those of class files in its folder, and words that ask for nothing leave the files as they were
 pub record ChangesOnly (words : List Bytes) (old new : Disk) : Type 0 where

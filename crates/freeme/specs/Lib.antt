@@ -3,6 +3,7 @@ pub mod Request
 pub mod Changes
 pub mod ClassRefusal
 pub mod LinkRefusal
+pub mod Checking
 pub mod Refusal
 pub mod Taking
 pub mod Ahead

@@ -1,8 +1,9 @@
 -- How a job that isn't done is told.
 use Rattle.std.specs.Prelude.{ℕ, List, [], ◌∷◌, ◌++◌, codes, string_bytes}
 use Rattle.std.specs.Fmt.{decimal}
+use Rattle.fm_tool.specs.Printed.{printed}
 use Rattle.fm_tool.specs.Refusal.{refusal_line as shared_line, refusal_status as shared_status}
-use Rattle.fm_tool.specs.declared.status.TheConstants.{LIMIT, LINK, WRITE}
+use Rattle.fm_tool.specs.declared.status.TheConstants.{CHECK, LIMIT, LINK, WRITE}
 use Rattle.freeme.specs.ClassRefusal.{class_refusal_line, class_refusal_status}
 use Rattle.freeme.specs.LinkRefusal.{link_fail_line}
 use Rattle.freeme.specs.declared.refusal.JobRefusal.{JobRefusal}
@@ -16,6 +17,10 @@ many_line count = codes "refused: limit files " ++ (decimal count ++ 10 ∷ [])
 abbrev pub long_line : List ℕ → List ℕ
 long_line file = codes "refused: limit length " ++ (file ++ 10 ∷ [])
 
+-- of a method that isn't typed, with its class and its descriptor,
+abbrev pub check_line : List ℕ → List ℕ
+check_line method = codes "refused: check " ++ (printed method ++ 10 ∷ [])
+
 -- and of a file that couldn't be written
 abbrev pub write_line : List ℕ → List ℕ
 write_line name = codes "refused: write " ++ (name ++ 10 ∷ [])
@@ -27,6 +32,7 @@ refusal_line (job_refusal.TooManyFiles count) = many_line count
 refusal_line (job_refusal.TooLong file) = long_line file.now
 refusal_line (job_refusal.Class file refusal) = class_refusal_line file.now refusal
 refusal_line (job_refusal.Link fail) = link_fail_line fail
+refusal_line (job_refusal.Check method) = check_line method
 refusal_line (job_refusal.Write name) = write_line (string_bytes name)
 
 -- the status of a refusal
@@ -36,4 +42,5 @@ refusal_status (job_refusal.TooManyFiles count) = LIMIT
 refusal_status (job_refusal.TooLong file) = LIMIT
 refusal_status (job_refusal.Class file refusal) = class_refusal_status refusal
 refusal_status (job_refusal.Link fail) = LINK
+refusal_status (job_refusal.Check method) = CHECK
 refusal_status (job_refusal.Write name) = WRITE

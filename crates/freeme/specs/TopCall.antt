@@ -5,6 +5,7 @@ use Rattle.fm_base.specs.declared.limits.TheConstants.{MAX_CLASS_FILES}
 use Rattle.fm_files.specs.Files.{Bytes, Contents, Disk}
 use Rattle.fm_files.specs.Sink.{Output}
 use Rattle.fm_code.specs.declared.class_file.ClassDef.{ClassDef}
+use Rattle.fm_untyped.specs.Untyped.{AreTyped}
 use Rattle.fm_refuse.specs.Refused.{refusal_of}
 use Rattle.fm_tool.specs.Line.{Tells}
 use Rattle.fm_tool.specs.Outside.{HasNoFault, HasReadFault, HoldsSuch}
@@ -12,7 +13,9 @@ use Rattle.fm_tool.specs.declared.refusal.Refusal.TheVariants as refusal
 use Rattle.fm_tool.specs.declared.status.TheConstants.{DONE}
 use Rattle.fm_world.specs.Causes.{Refusal}
 use Rattle.fm_world.specs.Linking.{refusals}
+use Rattle.fm_world.specs.Programs.{Program, program_of}
 use Rattle.freeme.specs.Ahead.{AreBuilt, IsFirstAhead}
+use Rattle.freeme.specs.Checking.{IsFirstUntypedName}
 use Rattle.freeme.specs.Changes.{RisesOnlyAt, ChangesOnlyAt, ReadsOnly}
 use Rattle.freeme.specs.Refusal.{refusal_line, refusal_status}
 use Rattle.freeme.specs.Request.{Job, Asks, AskNothing, main_name}
@@ -83,18 +86,34 @@ pub record IsNotLinked (job : Job) (cause : Option Refusal) (old new : Disk) : T
   pub refused : IsSomeAnd cause (AreRefused job old.contents)
   pub untouched : IsUntouched old new
 
--- they make a program, and the class of this file is the first that isn't built so far
-pub record IsNotYet (job : Job) (file : Bytes) (old new : Disk) : Type 0 where
+-- the program that classes of a job make
+abbrev pub job_program : Job → List ClassDef → Program
+job_program job classes = program_of classes (main_name job)
+
+-- they make a program, and this is the name of its first method that isn't typed
+pub record IsNotTyped (job : Job) (name : Bytes) (old new : Disk) : Type 0 where
   pub classes : List ClassDef
   pub linked : AreLinked job old.contents classes
+  pub untyped : IsFirstUntypedName (job_program job classes) name
+  pub untouched : IsUntouched old new
+
+-- they make a program, and each of its methods with code is typed
+pub record AreChecked (job : Job) (contents : Contents) (classes : List ClassDef) : Type 0 where
+  pub linked : AreLinked job contents classes
+  pub typed : AreTyped (job_program job classes)
+
+-- they are so, and the class of this file is the first that isn't built so far
+pub record IsNotYet (job : Job) (file : Bytes) (old new : Disk) : Type 0 where
+  pub classes : List ClassDef
+  pub checked : AreChecked job old.contents classes
   pub place : ℕ
   pub ahead : IsFirstAhead classes place
   pub there : slice_get job.files place ≡ Some file
   pub untouched : IsUntouched old new
 
--- they make a program, and are built so far
+-- they are so, and are built so far
 pub record ArePassed (job : Job) (contents : Contents) (classes : List ClassDef) : Type 0 where
-  pub linked : AreLinked job contents classes
+  pub checked : AreChecked job contents classes
   pub built : AreBuilt classes
 
 -- their classes are written, and these are their lines
@@ -129,6 +148,7 @@ ComesTo job old new (Err (job_refusal.TooLong file)) = IsLong job.files file.now
 ComesTo job old new (Err (job_refusal.Class file refusal)) = IsRefusedFile job.files file.now refusal old new
 ComesTo job old new (Err (job_refusal.Shared (refusal.Read file))) = IsUnread job.files file.now old new
 ComesTo job old new (Err (job_refusal.Link fail)) = IsNotLinked job (refusal_of fail) old new
+ComesTo job old new (Err (job_refusal.Check name)) = IsNotTyped job name old new
 ComesTo job old new (Err (job_refusal.Shared (refusal.NotYet file))) = IsNotYet job file.now old new
 ComesTo job old new (Err (job_refusal.Shared refusal.OutOfMemory)) = IsUntouched old new ⊎ IsBroken job old new
 ComesTo job old new (Err (job_refusal.Shared refusal.Words)) = ⊥

@@ -1,4 +1,4 @@
-// Whether the classes of a job make a program.
+// The program that the classes of a job make.
 
 ghost use Rattle.std.specs.List.{AllByRecursion};
 ghost use Rattle.fm_tool.specs.Encoding.{modified};
@@ -11,20 +11,21 @@ use fm_code::ClassDef;
 use fm_link::link;
 use fm_refuse::LinkFail;
 use fm_tool::modified;
+use fm_world::Program;
 use std::alloc::Global;
 
-/// Refuses classes that make no program with a main class of this name.
-pub fn judge_links<'a>(
+/// The program of classes with a main class of this name; where they make none, they are refused.
+pub fn link_classes<'a>(
     alloc: Global,
     classes: &[ClassDef],
     main: &str,
-) -> Result<(), JobRefusal<'a>>
+) -> Result<Program, JobRefusal<'a>>
     requires { AllByRecursion IsSpelled classes.now }
     ensures { ComesOfLinks classes.now (modified main.now) result }
 {
     let name = modified(alloc, main)?;
     match link(alloc, classes, name.as_slice()) {
-        Ok(_) => Ok(()),
+        Ok(program) => Ok(program),
         Err(LinkFail::NoMemory) => Err(JobRefusal::from(NoMemory)),
         Err(fail) => Err(JobRefusal::Link(fail)),
     }

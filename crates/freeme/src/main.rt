@@ -1,12 +1,13 @@
 // freeme: reads the class files of a program, and writes them again.
 //
-// So far it links them to one program, writes each class as it was read, and refuses those in which an
-// object could be freed.
+// So far it links them to one program, checks its methods, writes each class as it was read, and
+// refuses those in which an object could be freed.
 // `freeme_run` is the program over files and sinks of any kind, and carries its theorem; `main` hands it
 // the words of the command line, the files of the system and standard output.
 #![tactic(auto)]
 
 mod ahead;
+mod checking;
 mod class_refusal;
 mod judging;
 mod link_refusal;

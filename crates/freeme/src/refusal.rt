@@ -2,14 +2,14 @@
 
 ghost use Rattle.std.specs.Prelude.{◌≡◌, IfOk, string_bytes};
 ghost use Rattle.fm_tool.specs.declared.refusal.Refusal.TheVariants as refusal;
-ghost use Rattle.freeme.specs.Refusal.{refusal_line, refusal_status};
+ghost use Rattle.freeme.specs.Refusal.{check_line, refusal_line, refusal_status};
 ghost use Rattle.freeme.specs.declared.refusal.JobRefusal.TheVariants as job_refusal;
 
 use crate::class_refusal::ClassRefusal;
 use crate::link_refusal::link_line;
-use fm_base::NoMemory;
+use fm_base::{Name, NoMemory};
 use fm_refuse::LinkFail;
-use fm_tool::{Refusal, status};
+use fm_tool::{Refusal, printed, status};
 use std::alloc::{AllocError, AllocFailed, Global};
 
 /// Why a job isn't done.
@@ -25,6 +25,8 @@ pub enum JobRefusal<'a> {
     Class(&'a str, ClassRefusal),
     /// The classes make no program; want of memory is never told so.
     Link(LinkFail),
+    /// The method of this name, with its class and its descriptor, isn't typed.
+    Check(Name),
     /// The file of this name couldn't be written.
     Write(String),
 }
@@ -42,6 +44,7 @@ impl JobRefusal<'_> {
             JobRefusal::TooLong(file) => Ok(format!(in alloc; "refused: limit length {file}\n")?),
             JobRefusal::Class(file, refusal) => refusal.line(alloc, file),
             JobRefusal::Link(fail) => link_line(alloc, fail),
+            JobRefusal::Check(method) => check_line(alloc, method),
             JobRefusal::Write(name) => Ok(format!(in alloc; "refused: write {name}\n")?),
         }
     }
@@ -55,9 +58,18 @@ impl JobRefusal<'_> {
             JobRefusal::TooManyFiles(_) | JobRefusal::TooLong(_) => status::LIMIT,
             JobRefusal::Class(_, refusal) => refusal.status(),
             JobRefusal::Link(_) => status::LINK,
+            JobRefusal::Check(_) => status::CHECK,
             JobRefusal::Write(_) => status::WRITE,
         }
     }
+}
+
+// The line of a method that isn't typed.
+fn check_line(alloc: Global, method: &Name) -> Result<String, NoMemory>
+    ensures { IfOk result (λ text. string_bytes text ≡ check_line method.now) }
+{
+    let method = printed(alloc, method)?;
+    Ok(format!(in alloc; "refused: check {method}\n")?)
 }
 
 impl From<NoMemory> for JobRefusal<'_> {

@@ -1,6 +1,7 @@
 // The program over files and sinks in memory.
 
 mod changes;
+mod checking;
 mod lengths;
 mod linking;
 mod malformed;

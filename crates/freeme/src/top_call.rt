@@ -3,12 +3,12 @@
 ghost use Rattle.fm_tool.specs.Line.{Tells};
 ghost use Rattle.fm_tool.specs.Words.{texts};
 ghost use Rattle.fm_tool.specs.declared.status.TheConstants.{MALFORMED, UNSUPPORTED, VERSION};
-ghost use Rattle.freeme.specs.Causes.{ChangesOnly, IsFaultless, IsForBytes, IsForDone, IsForLimit, IsForLink, IsForMemory, IsForNotYet, IsForRead, IsForWords, IsForWrite, IsStatus, KeepsContents};
+ghost use Rattle.freeme.specs.Causes.{ChangesOnly, IsFaultless, IsForBytes, IsForCheck, IsForDone, IsForLimit, IsForLink, IsForMemory, IsForNotYet, IsForRead, IsForWords, IsForWrite, IsStatus, KeepsContents};
 ghost use Rattle.freeme.specs.Request.{job_of};
 ghost use Rattle.freeme.specs.TopCall.{ComesOf, ComesTo, IsTopCall, StaysWithin, outcome_line, outcome_status};
 
 use crate::ahead::first_ahead;
-use crate::linking::judge_links;
+use crate::checking::judge_program;
 use crate::reading::read_classes;
 use crate::refusal::JobRefusal;
 use crate::request::{Request, request_of};
@@ -50,6 +50,8 @@ pub fn freeme_run<F: Files, S: Sink>(
         (F.disk files.old) (F.disk files.new) (S.output out.old) (S.output out.new) result }
     ensures link { IsForLink (texts words.now)
         (F.disk files.old) (F.disk files.new) (S.output out.old) (S.output out.new) result }
+    ensures check { IsForCheck (texts words.now)
+        (F.disk files.old) (F.disk files.new) (S.output out.old) (S.output out.new) result }
     ensures not_yet { IsForNotYet (texts words.now)
         (F.disk files.old) (F.disk files.new) (S.output out.old) (S.output out.new) result }
     ensures write { IsForWrite (texts words.now)
@@ -81,7 +83,7 @@ fn do_words<'a, F: Files>(
     }
 }
 
-// Reads the class files, and writes them where all are taken and make a program.
+// Reads the class files, and writes them where all are taken and make a program of typed methods.
 fn do_job<'a, F: Files>(
     alloc: Global,
     request: Request<'a>,
@@ -96,7 +98,7 @@ fn do_job<'a, F: Files>(
     }
     let read = read_classes(alloc, names, files)?;
     let classes: &[ClassDef] = &read;
-    judge_links(alloc, classes, request.main)?;
+    judge_program(alloc, classes, request.main)?;
     if let Some(place) = first_ahead(alloc, classes)? {
         return Err(JobRefusal::Shared(Refusal::NotYet(names[place])));
     }

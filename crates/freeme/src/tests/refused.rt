@@ -87,9 +87,9 @@ const HANDLERS: LongChange = (
 
 const NOT_YET: [Change; 4] = [
     (b"\x01\xc0\0\x20", b"\xbb\0\x04\0"), // an object is made
-    (b"\x12\x17\x57", b"\xbc\x0a\x57"), // an array of ints
+    (b"\x01\xc0\0\x20\x57", b"\x03\xbc\x0a\x57\0"), // an array of ints
     (b"\x01\xc0\0\x20", b"\x03\xbd\0\x20"), // an array of references
-    (b"\xb9\0\x0d\x01\0", b"\xc5\0\x20\x01\0"), // an array of arrays
+    (b"\x01\xb9\0\x0d\x01\0", b"\x03\xc5\0\x20\x01\0"), // an array of arrays
 ];
 
 // Main calls a method that gives a reference.

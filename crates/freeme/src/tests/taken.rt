@@ -6,7 +6,7 @@ use std::test::Fail;
 const LINES: &str = "M: 0 sites, 0 frees\nR: 0 sites, 0 frees\n";
 
 // The first change is none.
-const TAKEN: [Change; 18] = [
+const TAKEN: [Change; 17] = [
     (b"[LM;", b"[LM;"), // the class file itself
     (b"\xbe\0\0\0\x31", b"\xbe\0\x03\0\x2d"), // version 45.3
     (b"\xbe\0\0\0\x31", b"\xbe\0\0\0\x2e"), // version 46.0
@@ -26,7 +26,6 @@ const TAKEN: [Change; 18] = [
     (b"\x1b\xab\0\0", b"\x1b\xab\xca\xfe"), // a padding of other bytes
     (b"\x14\0\x14\x40", b"\x14\0\x14\x41"), // a long at the last two locals
     (b"\0\x55\0\x5b\0\x5c", b"\0\x55\0\x5f\0\x5c"), // a handler up to the end of the code
-    (b"\0\x5b\0\x5c\0\0", b"\0\x5b\0\x5c\0\x04"), // a caught class
     (b"\0\x02\0\x32\0\x0e", b"\0\x5f\0\0\0\x0e"), // an empty variable at the end of the code
     (b"\xe2\x82\xac", b"\xed\xa0\x80"), // a text of U+0000 and of half a pair
 ];
@@ -38,16 +37,16 @@ const LONGEST: [LongChange; 5] = [
     // code of 65,535 bytes
     (
         b"\0\0\0\x11\0\x01\0\x01\0\0\0\x05\x2a\xb7\0\x1a\xb1",
-        b"\0\x01\0\x0b\0\x01\0\x01\0\0\xff\xff",
+        b"\0\x01\0\x0b\0\x01\0\x01\0\0\xff\xff\x2a\xb7\0\x1a",
         b"\0",
-        65_534,
+        65_530,
         b"\xb1",
     ),
     // 1,024 handlers
     (
         b"\0\0\0\x0d\0\0\0\x01\0\0\0\x01\xb1\0\0",
-        b"\0\0\x20\x0d\0\0\0\x01\0\0\0\x01\xb1\x04\0",
-        b"\0\0\0\x01\0\0\0\0",
+        b"\0\0\x20\x0f\0\x01\0\x01\0\0\0\x03\xb1\x57\xb1\x04\0",
+        b"\0\0\0\x01\0\x01\0\0",
         1_024,
         b"",
     ),

@@ -1,5 +1,5 @@
 use Rattle.std.proofs.Common.{arith}
-use Rattle.freeme.proofs.CauseLemmas.{is_for_words, is_for_read, is_for_bytes, is_for_limit, is_for_link, is_for_not_yet, is_for_done, is_for_write, is_for_memory, is_faultless, keeps_contents, changes_only}
+use Rattle.freeme.proofs.CauseLemmas.{is_for_words, is_for_read, is_for_bytes, is_for_limit, is_for_link, is_for_check, is_for_not_yet, is_for_done, is_for_write, is_for_memory, is_faultless, keeps_contents, changes_only}
 use Rattle.freeme.proofs.StatusLemmas.{is_status}
 use Rattle.freeme.proofs.top_call.freeme_run.Goals as goal
 
@@ -29,6 +29,9 @@ returns-clause-unsupported g c = is_for_bytes c.do_words-outcome.result c.do_wor
 
 pub returns-clause-link : goal.returns-clause-link
 returns-clause-link g c = is_for_link c.do_words-outcome.result c.do_words-outcome.ensures c.tell.ensures
+
+pub returns-clause-check : goal.returns-clause-check
+returns-clause-check g c = is_for_check c.do_words-outcome.result c.do_words-outcome.ensures c.tell.ensures
 
 pub returns-clause-not_yet : goal.returns-clause-not_yet
 returns-clause-not_yet g c = is_for_not_yet c.do_words-outcome.result c.do_words-outcome.ensures c.tell.ensures

@@ -1,0 +1,120 @@
+// Methods that aren't typed, by a change of a class whose methods are.
+
+use crate::tests::M;
+use crate::tests::changes::{Change, is_answered, is_change_answered};
+use fm_base::NoMemory;
+use fm_samples::{ClassSample, EVERY_PART, MAIN, MethodSample, RETURNS};
+use std::alloc::Global;
+use std::test::Fail;
+
+// A change of the class M of the interface R, and the line that then comes.
+type Row = (Change, &'static str);
+
+const UNTYPED: [Row; 3] = [
+    // a caught class that isn't below Throwable
+    (
+        (b"\0\x5b\0\x5c\0\0", b"\0\x5b\0\x5c\0\x04"),
+        "refused: check M.main([Ljava/lang/String;)V\n",
+    ),
+    // the last instruction is a nop
+    (
+        (b"\0\x57\xb1", b"\0\x57\0"),
+        "refused: check M.main([Ljava/lang/String;)V\n",
+    ),
+    // a constructor that calls no other one
+    (
+        (b"\x2a\xb7\0\x1a\xb1", b"\0\0\0\0\xb1"),
+        "refused: check M.<init>()V\n",
+    ),
+];
+
+// Other code of the main of M, from its attribute's length on, and the status and the line that then come.
+type CodeRow = (&'static [u8], u8, &'static str);
+
+const CODES: [CodeRow; 4] = [
+    // iconst_1; astore_0; return
+    (
+        b"\0\0\0\x0f\0\x01\0\x01\0\0\0\x03\x04\x4b\xb1",
+        71,
+        "refused: check M.main([Ljava/lang/String;)V\n",
+    ),
+    // aload_0; ifnull L; iconst_0; L: return, at two depths of the stack
+    (
+        b"\0\0\0\x12\0\x01\0\x01\0\0\0\x06\x2a\xc6\0\x04\x03\xb1",
+        71,
+        "refused: check M.main([Ljava/lang/String;)V\n",
+    ),
+    // new Object; iadd; return: an object is made too, which isn't built yet
+    (
+        b"\0\0\0\x11\0\x01\0\x01\0\0\0\x05\xbb\0\x04\x60\xb1",
+        71,
+        "refused: check M.main([Ljava/lang/String;)V\n",
+    ),
+    // return; iadd, which isn't reached
+    (
+        b"\0\0\0\x0e\0\0\0\x01\0\0\0\x02\xb1\x60",
+        0,
+        "M: 0 sites, 0 frees\nR: 0 sites, 0 frees\n",
+    ),
+];
+
+// iconst_1; astore_0; return
+const STORES_INT: MethodSample<'static> = MethodSample {
+    attribute_length: b"\0\0\0\x0f",
+    max_stack: b"\0\x01",
+    code_length: b"\0\0\0\x03",
+    code: &[b"\x04\x4b\xb1"],
+    ..MAIN
+};
+
+// Of two methods neither is typed; the first has the name Code.
+const TWO_UNTYPED: ClassSample<'static> = ClassSample {
+    methods_count: b"\0\x02",
+    methods: &[
+        MethodSample {
+            name: b"\0\x07",
+            ..STORES_INT
+        },
+        STORES_INT,
+    ],
+    ..RETURNS
+};
+
+// The place of the first change that isn't refused so.
+fn first_other(alloc: Global) -> Result<Option<usize>, NoMemory> {
+    let class = EVERY_PART.bytes(alloc)?;
+    for (place, (change, line)) in UNTYPED.iter().enumerate() {
+        if !is_change_answered(alloc, class.as_slice(), *change, 71, line)? {
+            return Ok(Some(place));
+        }
+    }
+    Ok(None)
+}
+
+// The place of the first code that isn't answered so.
+fn first_other_code(alloc: Global) -> Result<Option<usize>, NoMemory> {
+    let old = b"\0\0\0\x0d\0\0\0\x01\0\0\0\x01\xb1";
+    for (place, (code, status, line)) in CODES.iter().enumerate() {
+        if !is_change_answered(alloc, M, (old, *code), *status, line)? {
+            return Ok(Some(place));
+        }
+    }
+    Ok(None)
+}
+
+#[test]
+fn methods_that_are_not_typed_are_refused(rt: HostRuntime) -> Result<(), Fail> {
+    let alloc = rt.alloc();
+    assert_eq!(rt; first_other(alloc)?, None);
+    assert_eq!(rt; first_other_code(alloc)?, None);
+    Ok(())
+}
+
+#[test]
+fn the_first_method_that_is_not_typed_is_told(rt: HostRuntime) -> Result<(), Fail> {
+    let alloc = rt.alloc();
+    let class = TWO_UNTYPED.bytes(alloc)?;
+    let line = "refused: check M.Code([Ljava/lang/String;)V\n";
+    assert!(rt; is_answered(alloc, class.as_slice(), 71, line)?);
+    Ok(())
+}
