@@ -256,7 +256,7 @@ continued p from e f callers x = by_next e.next where
   by_next (Returns n) = returned p n f callers x
   by_next (Throws source) =
       let v = value_of from source in thrown_by x (caught p (type_at p.outline x.areas.store v) v (f ∷ callers))
-  by_next (Enters methods) = record x { frames = start_frames p (reverse methods) ++ f ∷ callers }
+  by_next (Enters methods) = record x { frames = start_frames p methods ++ f ∷ callers }
   by_next (Exits n) = stopped x (end.Exit n)
   by_next (Faults source) = stopped x (fault_of p x (value_of from source))
 

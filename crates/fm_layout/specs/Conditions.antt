@@ -38,9 +38,11 @@ abbrev pub IsOrigin : List Item → Insn → Option ℕ → Type 0
 IsOrigin old i None = IsInserted i
 IsOrigin old i (Some k) = IsSomeAnd (slice_get old k) (λ item. IsSameButTargets i item.insn)
 
+-- the instruction of a new item is that of the old item that it keeps, or may be inserted
 abbrev pub HasOrigin : List Item → NewItem → Type 0
 HasOrigin old new = IsOrigin old new.insn new.kept
 
+-- new items over old ones: each has its origin, their targets are among them, and there are fewer than may be
 pub record AreNewItems (old : List Item) (items : List NewItem) : Type 0 where
   pub each : AllByRecursion (HasOrigin old) items
   pub targets : AllByRecursion (λ (new : NewItem). AllByRecursion (λ target. target < length items) (targets_of new.insn)) items

@@ -13,14 +13,17 @@ use Rattle.fm_layout.specs.declared.rooms.Room.{Room}
 use Rattle.fm_layout.specs.declared.rooms.Room.TheVariants as room
 use Rattle.fm_layout.specs.Rooms.{narrow}
 
+-- a new item that keeps an old one
 abbrev pub kept : ℕ → Insn → NewItem
 kept k i = record { insn = i; kept = Some k }
 
+-- a new item that is inserted
 abbrev pub inserted : Insn → NewItem
 inserted i = record { insn = i; kept = None }
 
 -- ---- a loop
 
+-- a loop that makes an array in each round and pops it
 abbrev pub loop_old : List Item
 loop_old =
     item_of 0 (26 ∷ []) (insn.Load reg.Int 0)
@@ -54,12 +57,14 @@ loop_new =
     ∷ kept 7 (insn.Return None)
     ∷ []
 
+-- the bytes of the loop, laid out
 abbrev pub loop_bytes : List ℕ
 loop_bytes =
     1 ∷ 76 ∷ 26 ∷ 158 ∷ 0 ∷ 21 ∷ 4 ∷ 188 ∷ 10 ∷ 89 ∷ 76 ∷ 87 ∷ 43 ∷ 184 ∷ 0 ∷ 17 ∷ 1 ∷ 76 ∷ 132 ∷ 0 ∷ 255 ∷ 167 ∷ 255 ∷ 237 ∷ 177 ∷ []
 
 -- ---- a switch
 
+-- an array that is popped, and then a tableswitch with two bytes of padding
 abbrev pub switch_old : List Item
 switch_old =
     item_of 0 (4 ∷ []) (insn.Const (pos 1))
@@ -70,6 +75,7 @@ switch_old =
     ∷ item_of 24 (177 ∷ []) (insn.Return None)
     ∷ []
 
+-- the array is kept in local 1, and freed before the switch
 abbrev pub switch_new : List NewItem
 switch_new =
     inserted insn.Null
@@ -96,13 +102,15 @@ switch_bytes =
 
 -- ---- the reach of branches
 
--- a goto over so many bytes, and one back over so many
+-- a goto over so many bytes
 abbrev pub goto_over : ℕ → List Room
 goto_over bytes = narrow None 2 ∷ room.Plain bytes ∷ room.Plain 1 ∷ []
 
+-- a goto back over so many bytes
 abbrev pub goto_back : ℕ → List Room
 goto_back bytes = room.Plain bytes ∷ narrow None 0 ∷ []
 
+-- a goto that was widened
 abbrev pub wide_goto : ℕ → Room
 wide_goto target = room.Wide (record { condition = None; target = target })
 
@@ -112,6 +120,7 @@ two_gotos = room.Plain 32764 ∷ narrow None 4 ∷ narrow None 0 ∷ room.Plain 
 
 -- ---- a method that frees an array
 
+-- a main that makes an array and pops it
 abbrev pub popped_old : List Item
 popped_old =
     item_of 0 (4 ∷ []) (insn.Const (pos 1))
@@ -120,6 +129,7 @@ popped_old =
     ∷ item_of 4 (177 ∷ []) (insn.Return None)
     ∷ []
 
+-- the array is kept in local 1, and freed before the return
 abbrev pub popped_new : List NewItem
 popped_new =
     inserted insn.Null

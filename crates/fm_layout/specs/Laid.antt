@@ -27,6 +27,7 @@ abbrev pub branch_count : Option Condition → ℕ
 branch_count None = 1
 branch_count (Some taken) = 2
 
+-- how many laid items a new item becomes, by its room
 abbrev pub item_count : Room → ℕ
 item_count (room.Wide branch) = branch_count branch.condition
 item_count r = 1
@@ -97,10 +98,12 @@ abbrev pub branch_marks : Option ℕ → Option Condition → List (Option ℕ)
 branch_marks kept None = kept ∷ []
 branch_marks kept (Some taken) = kept ∷ None ∷ []
 
+-- the marks of one new item, by its room
 abbrev pub marks_in : Option ℕ → Room → List (Option ℕ)
 marks_in kept (room.Wide branch) = branch_marks kept branch.condition
 marks_in kept r = kept ∷ []
 
+-- the marks of these new items, each with its room
 abbrev pub marks_from : List NewItem → List Room → List (Option ℕ)
 marks_from (new ∷ items) (r ∷ rooms) = marks_in new.kept r ++ marks_from items rooms
 marks_from items rooms = []
@@ -119,10 +122,11 @@ pub record IsCode (laid : Laid) : Type 0 where
 
 -- ---- code that is too long
 
--- the number of bytes while no branch is widened, and after widening
+-- the number of bytes while no branch is widened
 unfoldable pub narrow_length : List Item → List NewItem → ℕ
 narrow_length old items = end_from 0 (rooms_of old items)
 
+-- the number of bytes after widening
 unfoldable pub laid_length : List Item → List NewItem → ℕ
 laid_length old items = end_from 0 (widened_rooms (rooms_of old items))
 

@@ -72,6 +72,7 @@ widened_at starts start (room.Narrow branch) =
     if is_in_reach start (slice_index starts branch.target) then room.Narrow branch else room.Wide branch
 widened_at starts start r = r
 
+-- the rooms from an offset on, each widened where its target is out of reach
 abbrev pub widened_from : List ℕ → ℕ → List Room → List Room
 widened_from starts start [] = []
 widened_from starts start (r ∷ rooms) = widened_at starts start r ∷ widened_from starts (start + size_at start r) rooms
@@ -80,6 +81,7 @@ widened_from starts start (r ∷ rooms) = widened_at starts start r ∷ widened_
 abbrev pub round_after : List Room → List Room
 round_after rooms = widened_from (starts_from 0 rooms) 0 rooms
 
+-- the rooms after so many rounds
 abbrev pub rounds_after : ℕ → List Room → List Room
 rounds_after zero rooms = rooms
 rounds_after (suc rounds) rooms = rounds_after rounds (round_after rooms)

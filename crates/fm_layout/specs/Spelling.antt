@@ -59,15 +59,17 @@ distance from to = pos to -ℤ pos from
 abbrev pub signed_short : ℤ → List ℕ
 signed_short z = two (cast_unsigned w32 z % 65536)
 
--- a branch with its distance in two bytes, and goto_w with its distance in four
+-- a branch with its distance in two bytes
 abbrev pub short_jump : ℕ → ℤ → List ℕ
 short_jump opcode z = opcode ∷ signed_short z
 
+-- a goto_w with its distance in four bytes
 abbrev pub long_jump : ℤ → List ℕ
 long_jump z = opcodes.GOTO_W ∷ signed_four z
 
 -- ---- conditional branches
 
+-- the opcodes of branches that compare an int with 0 (JVMS 6.5.if<cond>)
 abbrev pub int_opcode : Test → ℕ
 int_opcode test.Eq = opcodes.IFEQ
 int_opcode test.Ne = opcodes.IFNE
@@ -76,6 +78,7 @@ int_opcode test.Ge = opcodes.IFGE
 int_opcode test.Gt = opcodes.IFGT
 int_opcode test.Le = opcodes.IFLE
 
+-- the opcodes of branches that compare two ints (JVMS 6.5.if_icmp<cond>)
 abbrev pub pair_opcode : Test → ℕ
 pair_opcode test.Eq = opcodes.IF_ICMPEQ
 pair_opcode test.Ne = opcodes.IF_ICMPNE
@@ -84,6 +87,7 @@ pair_opcode test.Ge = opcodes.IF_ICMPGE
 pair_opcode test.Gt = opcodes.IF_ICMPGT
 pair_opcode test.Le = opcodes.IF_ICMPLE
 
+-- the opcode of the branch that is taken on a condition
 abbrev pub opcode_of_condition : Condition → ℕ
 opcode_of_condition (condition.Int t) = int_opcode t
 opcode_of_condition (condition.Pair t) = pair_opcode t
@@ -108,6 +112,7 @@ opposite_test test.Ge = test.Lt
 opposite_test test.Gt = test.Le
 opposite_test test.Le = test.Gt
 
+-- the condition that holds exactly where the other one doesn't
 abbrev pub opposite : Condition → Condition
 opposite (condition.Int t) = condition.Int (opposite_test t)
 opposite (condition.Pair t) = condition.Pair (opposite_test t)

@@ -24,5 +24,6 @@ pub record StandsSplit (laid : List Item) (firsts : List ℕ) (number : ℕ) (fo
   pub test : insn_of laid number ≡ Some (conditional (opposite condition) (if follows then number + 2 else number + 1))
   pub jump : insn_of laid (number + 1) ≡ Some (insn.Goto (slice_index firsts target))
 
+-- an instruction stands at a laid item in one of the two ways
 abbrev pub Stands : List Item → List ℕ → ℕ → Bool → Insn → Type 0
 Stands laid firsts number follows i = StandsWhole laid firsts number i ⊎ StandsSplit laid firsts number follows i

@@ -17,6 +17,7 @@ use Rattle.fm_layout.specs.declared.tables.Tables.{Tables}
 abbrev pub moved_number : List ℕ → List ℕ → ℕ → ℕ
 moved_number firsts anchors number = slice_index firsts (slice_index anchors number)
 
+-- an entry of the exception table, whose range and handler move with their items (JVMS 4.7.3)
 abbrev pub moved_handler : List ℕ → List ℕ → Handler → Handler
 moved_handler firsts anchors h = record {
   start = moved_number firsts anchors h.start;
@@ -25,9 +26,11 @@ moved_handler firsts anchors h = record {
   catch_class = h.catch_class;
 }
 
+-- an entry of a line table (JVMS 4.7.12)
 abbrev pub moved_line : List ℕ → List ℕ → Line → Line
 moved_line firsts anchors l = record l { item = moved_number firsts anchors l.item }
 
+-- an entry of a table of local variables (JVMS 4.7.13, 4.7.14)
 abbrev pub moved_var : List ℕ → List ℕ → Var → Var
 moved_var firsts anchors v = record {
   start = moved_number firsts anchors v.start;

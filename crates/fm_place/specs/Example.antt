@@ -46,6 +46,7 @@ popping_class = record example_record {
   methods = record { flags = 9; name = 5; descriptor = 6; attributes = attribute.Coded 7 popping_code ∷ [] } ∷ [];
 }
 
+-- the program of this one class
 abbrev pub popping_program : Program
 popping_program = program_of (popping_class ∷ []) (codes "M")
 
@@ -59,6 +60,7 @@ main_number = 86
 abbrev pub state : List slots.Slot → Option TypeState
 state stack = Some (record { locals = slot.Ref (record { dims = 1; base = of_class 1 }) ∷ []; stack = stack; built = true })
 
+-- the states of its items: an int, and then the array, on the stack
 abbrev pub popping_states : List (Option TypeState)
 popping_states =
     state []
@@ -83,6 +85,7 @@ popping_facts = record {
   class = λ method. own_number;
 }
 
+-- main with its states
 abbrev pub popping_main : TypedMethod
 popping_main = typed_method popping_program popping_facts.typing main_number popping_code
 
@@ -96,6 +99,7 @@ array_holder = record { site = 1; class = 9; looped = false }
 abbrev pub popping_plan : Insertions
 popping_plan = record { holders = array_holder ∷ []; before = [] ∷ [] ∷ [] ∷ (0 ∷ []) ∷ [] }
 
+-- a new item that keeps an old one
 abbrev pub kept_as : ℕ → Insn → NewItem
 kept_as j i = record { insn = i; kept = Some j }
 

@@ -12,6 +12,7 @@ use Rattle.fm_world.specs.Chains.{is_among}
 
 -- ---- busy
 
+-- whether there is a word, and it is a reference
 abbrev pub is_reference_word : Option slots.Slot → Bool
 is_reference_word None = false
 is_reference_word (Some s) = is_reference s
@@ -46,6 +47,7 @@ pub record ComesFromBusy (facts : Facts) (x : TypedMethod) (class j : ℕ) : Typ
   pub edge : IsEdge x.code before j
   pub busy : is_busy facts x class before ≡ true
 
+-- the same by a list of all items
 abbrev pub comes_from_busy : Facts → TypedMethod → (class j : ℕ) → Bool
 comes_from_busy facts x class j =
     list_any (λ before. is_busy facts x class before && is_among j (edges_listed x.code before)) (range_with_len 0 (length x.code.items))

@@ -19,10 +19,12 @@ Plans = ℕ → Option Insertions
 
 -- ---- methods
 
+-- an attribute of a changed method: its code is the woven one
 abbrev pub rewritten_attribute : (free : ℕ) → Insertions → MemberAttr → MemberAttr
 rewritten_attribute free plan (attribute.Coded name code) = attribute.Coded name (woven_code free code plan)
 rewritten_attribute free plan a = a
 
+-- a method with its plan, if it has one
 abbrev pub rewritten_method : (free : ℕ) → Option Insertions → Member → Member
 rewritten_method free None m = m
 rewritten_method free (Some plan) m = record m { attributes = map (rewritten_attribute free plan) m.attributes }
@@ -42,6 +44,7 @@ rewritten_major = 49
 abbrev pub free_index : ClassDef → ℕ
 free_index c = (sought_free c.pool.entries).index
 
+-- a method of the class has a plan
 abbrev pub changes : Plans → (first : ℕ) → ClassDef → Bool
 changes plans first c = list_any (λ method. is_some (plans method)) (range_with_len first (length c.methods))
 
@@ -62,9 +65,11 @@ abbrev pub rewritten_from : Plans → (first : ℕ) → List ClassDef → List C
 rewritten_from plans first [] = []
 rewritten_from plans first (c ∷ classes) = rewritten_class plans first c ∷ rewritten_from plans (first + length c.methods) classes
 
+-- how many methods the built-in classes have
 abbrev pub first_given : ℕ
 first_given = length (methods_of built_in)
 
+-- the classes with these plans for their methods
 abbrev pub rewritten : Plans → List ClassDef → List ClassDef
 rewritten plans given = rewritten_from plans first_given given
 
@@ -78,10 +83,12 @@ method_marks free plan m = of_code (code_of m) plan where
   of_code (Some code) None = map (λ j. Some j) (range_with_len 0 (length code.items))
   of_code (Some code) (Some plan) = woven_marks free code plan
 
+-- the marks of the methods of a class, whose first one has this number
 abbrev pub marks_of_methods : Plans → (free first : ℕ) → List Member → List (List (Option ℕ))
 marks_of_methods plans free first [] = []
 marks_of_methods plans free first (m ∷ methods) = method_marks free (plans first) m ∷ marks_of_methods plans free (first + 1) methods
 
+-- the marks of the methods of these classes, the first of which has this number
 abbrev pub marks_from : Plans → (first : ℕ) → List ClassDef → List (List (Option ℕ))
 marks_from plans first [] = []
 marks_from plans first (c ∷ classes) = marks_of_methods plans (free_index c) first c.methods ++ marks_from plans (first + length c.methods) classes
@@ -92,18 +99,20 @@ marks_with plans given = replicate first_given [] ++ marks_from plans first_give
 
 -- ---- counts
 
--- the sites that have a holder, and the places at which one is freed
+-- the sites that have a holder
 abbrev pub site_count : Option Insertions → ℕ
 site_count None = 0
 site_count (Some plan) = length plan.holders
 
+-- the places at which a holder is freed: one for each holder and item
 abbrev pub free_count : Option Insertions → ℕ
 free_count None = 0
 free_count (Some plan) = sum (map (λ (holders : List ℕ). length holders) plan.before)
 
--- of a class whose methods have these numbers
+-- the number of sites of a class, whose first method has this number
 abbrev pub sites_in : Plans → (first : ℕ) → ClassDef → ℕ
 sites_in plans first c = sum (map (λ method. site_count (plans method)) (range_with_len first (length c.methods)))
 
+-- the number of frees of a class, whose first method has this number
 abbrev pub frees_in : Plans → (first : ℕ) → ClassDef → ℕ
 frees_in plans first c = sum (map (λ method. free_count (plans method)) (range_with_len first (length c.methods)))

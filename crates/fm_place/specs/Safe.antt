@@ -66,6 +66,7 @@ pub record Safe (given : List ClassDef) (main : List ℕ) (written : List ClassD
 
 -- ---- all held sites and all places
 
+-- of each method that has code, all that can be inserted
 abbrev pub full_plans : Program → Facts → Plans
 full_plans p facts method = option_and_then (full_insertions facts) (method_in_facts p facts method)
 

@@ -31,8 +31,9 @@ reference_parameters o method =
     let given = entry_slots o method in
     filter (λ k. is_reference (slice_index_or given k slot.Top)) (range_with_len 0 (length given))
 
--- ---- three kinds of sites: an array is made; a new object's constructor is called; and a method is called whose answer is new to its caller
+-- ---- three kinds of sites
 
+-- an array is made; a constructor of a new object is called; a method is called whose answer is new to its caller
 pub data SiteKind : Type 0 where
   MakesArray : SiteKind
   Constructs : SiteKind
@@ -57,6 +58,7 @@ abbrev pub is_doubled : TypedMethod → ℕ → ℕ → Bool
 is_doubled x j zero = false
 is_doubled x j (suc below) = same_number (new_item_at x j (suc below)) (new_item_at x j below)
 
+-- what a use names is a constructor
 abbrev pub names_constructor : Outline → Use → Bool
 names_constructor o u = of_method (method_in u) where
   of_method : Option ℕ → Bool
@@ -74,6 +76,7 @@ abbrev pub may_give_old : Outline → Facts → ℕ → Bool
 may_give_old o facts method =
     facts.linked method end.Return end.Global || list_any (λ k. facts.linked method end.Return (end.Parameter k)) (reference_parameters o method)
 
+-- the method gives a reference
 abbrev pub has_reference_result : Outline → ℕ → Bool
 has_reference_result o method = of_kind (result_of o method) where
   of_kind : Option Kind → Bool
@@ -101,6 +104,7 @@ site_kind facts x j = if is_some (state_at x.states j) then option_and_then of_i
 abbrev pub site_node : TypedMethod → ℕ → Node
 site_node x j = Slot (j + 1) (depth_at x (j + 1) - 1)
 
+-- the class of the object of a site
 abbrev pub site_class : Facts → TypedMethod → ℕ → ℕ
 site_class facts x j = facts.class x.number (site_node x j)
 
@@ -118,6 +122,7 @@ is_captured_site facts x j = is_some (site_kind facts x j) && is_captured facts 
 
 -- ---- held
 
+-- the captured sites of a method, in the order of its items
 abbrev pub captured_sites : Facts → TypedMethod → List ℕ
 captured_sites facts x = filter (is_captured_site facts x) (range_with_len 0 (length x.code.items))
 

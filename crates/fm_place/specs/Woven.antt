@@ -14,6 +14,7 @@ use Rattle.fm_place.specs.Insertions.{after_at, before_at, Insertions}
 
 -- ---- what is inserted for a holder, by its local
 
+-- a new item that keeps no old one
 abbrev pub inserted : Insn → NewItem
 inserted i = record { insn = i; kept = None }
 
@@ -29,13 +30,15 @@ top_stored local = inserted insn.Dup ∷ inserted (insn.Store reg.Ref local) ∷
 abbrev pub freed : (free local : ℕ) → List NewItem
 freed free local = inserted (insn.Load reg.Ref local) ∷ inserted (insn.Static free) ∷ null_stored local
 
--- and how many items each of these is
+-- how many items make a holder null
 abbrev pub null_stored_items : ℕ
 null_stored_items = 2
 
+-- how many items keep what stands on top
 abbrev pub top_stored_items : ℕ
 top_stored_items = 2
 
+-- how many items free a holder
 abbrev pub freed_items : ℕ
 freed_items = 4
 
@@ -61,6 +64,7 @@ anchors_of plan items = anchors_from plan (null_stored_items * length plan.holde
 abbrev pub local_of : Code → ℕ → ℕ
 local_of code holder = code.max_locals + holder
 
+-- a new item that keeps an old one, whose targets are anchors
 abbrev pub kept : List ℕ → ℕ → Insn → NewItem
 kept anchors j i = record { insn = with_targets (slice_index anchors) i; kept = Some j }
 
@@ -69,12 +73,13 @@ abbrev pub woven_item : (free : ℕ) → Code → Insertions → List ℕ → �
 woven_item free code plan anchors j i =
     flat_map (λ h. freed free (local_of code h)) (before_at plan j) ++ kept anchors j i ∷ flat_map (λ h. top_stored (local_of code h)) (after_at plan j)
 
+-- these old items, from a number on
 abbrev pub woven_from : (free : ℕ) → Code → Insertions → List ℕ → ℕ → List Item → List NewItem
 woven_from free code plan anchors j [] = []
 woven_from free code plan anchors j (item ∷ items) =
     woven_item free code plan anchors j item.insn ++ woven_from free code plan anchors (j + 1) items
 
--- at the start all holders are null; the old items follow in their order
+-- all new items of a method: at the start all holders are null, and the old items follow in their order
 abbrev pub woven : (free : ℕ) → Code → Insertions → List NewItem
 woven free code plan =
     flat_map (λ h. null_stored (local_of code h)) (range_with_len 0 (length plan.holders))

@@ -47,7 +47,7 @@ followed p from e f callers x (Calls m) =
 followed p from e f callers x (Returns n) = returned p n f callers x
 followed p from e f callers x (Throws source) =
     let v = value_of from source in thrown_by x (caught p (type_at p.outline x.areas.store v) v (f ∷ callers))
-followed p from e f callers x (Enters methods) = record x { frames = start_frames p (reverse methods) ++ f ∷ callers }
+followed p from e f callers x (Enters methods) = record x { frames = start_frames p methods ++ f ∷ callers }
 followed p from e f callers x (Exits n) = stopped x (end.Exit n)
 followed p from e f callers x (Faults source) = stopped x (fault_of p x (value_of from source))
 
@@ -267,8 +267,8 @@ module _ (p : Program) (facts : Facts) (exact : AreFacts p facts) (f : Frame) (c
       (caught p (type_at p.outline x.areas.store (value_of (from p facts exact f callers at below store colour coloured home x frames_are made gone e reads) s))
       (value_of (from p facts exact f callers at below store colour coloured home x frames_are made gone e reads) s) (f ∷ callers)) refl stands
   next_kept depth (Enters methods) leads goes ends stands =
-      with_frames p facts exact f callers at below store colour coloured home x frames_are made gone e reads (start_frames p (reverse methods) ++ f ∷ callers)
-      (starts_coloured p facts x.areas.store colour (reverse methods) (f ∷ callers)
+      with_frames p facts exact f callers at below store colour coloured home x frames_are made gone e reads (start_frames p methods ++ f ∷ callers)
+      (starts_coloured p facts x.areas.store colour methods (f ∷ callers)
       (frames_now p facts exact f callers at below store colour coloured home x frames_are made gone e reads))
   next_kept depth (Exits n) leads goes ends stands = stays p facts exact f callers at below store colour coloured home x frames_are made gone e reads
   next_kept depth (Faults s) leads goes ends stands = stays p facts exact f callers at below store colour coloured home x frames_are made gone e reads

@@ -45,13 +45,16 @@ insn_is_ahead entries i = false
 
 -- ---- classes
 
+-- the same of an item
 abbrev pub item_is_ahead : List Entry → Item → Bool
 item_is_ahead entries item = insn_is_ahead entries item.insn
 
+-- the same of any item of a code, where the attribute is one
 unfoldable pub attribute_is_ahead : List Entry → MemberAttr → Bool
 attribute_is_ahead entries (attribute.Coded name code) = list_any (item_is_ahead entries) code.items
 attribute_is_ahead entries a = false
 
+-- the same of any attribute of a method
 unfoldable pub method_is_ahead : List Entry → Member → Bool
 method_is_ahead entries m = list_any (attribute_is_ahead entries) m.attributes
 
@@ -64,6 +67,7 @@ pub record IsBuilt (classes : List ClassDef) (place : ℕ) (c : ClassDef) : Type
   pub plain : class_is_ahead c ≡ false
   pub new_name : ¬ Contains (map class_text (take place classes)) (class_text c)
 
+-- the class in this place, if there is one, is so
 abbrev pub IsBuiltAt : List ClassDef → ℕ → Type 0
 IsBuiltAt classes place = IfSome (slice_get classes place) (IsBuilt classes place)
 

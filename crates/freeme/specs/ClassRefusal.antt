@@ -34,6 +34,7 @@ IsPlaceName c (place.OfMethod index) name = IsNameAt c.pool.entries c.methods in
 abbrev pub HasNameAt : List Entry → List Member → ℕ → Type 0
 HasNameAt entries members index = IsSomeAnd (slice_get members index) (λ m. IsSome (utf8_at entries m.name))
 
+-- the field or the method in a place has a name
 abbrev pub PlaceHasName : ClassDef → Place → Type 0
 PlaceHasName c place.OfClass = Unit {0}
 PlaceHasName c (place.OfField index) = HasNameAt c.pool.entries c.fields index

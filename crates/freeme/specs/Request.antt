@@ -39,10 +39,11 @@ freeme_command =
     with_rule (with_rule (with_rule (on_top without_help (new_app (codes "freeme")))
     (option_rule (codes "out"))) (option_rule (codes "main"))) files_rule
 
--- the faults that clap finds in the words, and what it matches there
+-- the faults that clap finds in the words
 unfoldable pub faults_in : List (List ℕ) → Kinds
 faults_in words = fault_of freeme_command words
 
+-- what clap matches in the words
 unfoldable pub matched_in : List (List ℕ) → List Row
 matched_in words = matches_of freeme_command words
 

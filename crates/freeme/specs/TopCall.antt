@@ -177,11 +177,12 @@ pub record LacksRequest (old new : Disk) (outcome : Outcome) : Type 0 where
 abbrev pub ComesOf : List Bytes → Disk → Disk → Outcome → Type 0
 ComesOf words old new outcome = ComesOfJob words old new outcome ⊎ (ComesOfNothing words old new outcome ⊎ LacksRequest old new outcome)
 
--- the line of an outcome, or its lines, and its status
+-- the line of an outcome, or its lines
 abbrev pub outcome_line : Outcome → List ℕ
 outcome_line (Ok lines) = string_bytes lines
 outcome_line (Err refusal) = refusal_line refusal
 
+-- the status of an outcome
 abbrev pub outcome_status : Outcome → ℕ
 outcome_status (Ok lines) = DONE
 outcome_status (Err refusal) = refusal_status refusal

@@ -41,6 +41,7 @@ IsFileOf folder classes name = Contains (map (written_name folder) classes) name
 abbrev pub class_line : ClassDef → List ℕ
 class_line c = class_text c ++ (codes ": 0 sites, 0 frees" ++ 10 ∷ [])
 
+-- the lines of the classes, one after the other
 abbrev pub class_lines : List ClassDef → List ℕ
 class_lines classes = flat_map class_line classes
 
