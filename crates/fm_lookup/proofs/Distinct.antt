@@ -1,7 +1,8 @@
 -- Numbers once each, in the order in which they first stand.
-use Rattle.std.proofs.Common.{◌≡◌, refl, sym, ◌∙◌, ap, ℕ, ◌||◌, not, Bool, true, false, cond, List, [], ◌∷◌, ◌++◌, nat_eq, filter}
+use Rattle.std.proofs.Common.{◌≡◌, refl, sym, ◌∙◌, ap, ℕ, ◌||◌, ◌<◌, not, Bool, true, false, cond, List, [], ◌∷◌, ◌++◌, nat_eq, filter, length, get_or, set}
 use Rattle.std.proofs.lemmas.Bool.{eqb-true, eq-eqb, false≢true}
-use Rattle.std.proofs.lemmas.List.{append-nil}
+use Rattle.std.proofs.lemmas.List.{append-nil, get_or-set_other, get_or-set_same}
+use Rattle.std.proofs.lemmas.List.Folds.{list_any-append}
 use Rattle.std.proofs.lemmas.List.Elements.{filter-append}
 use Rattle.fm_world.specs.Chains.{distinct, is_among}
 
@@ -71,3 +72,28 @@ distinct_head x y ys same false e = ap (λ b. nat_eq x y || b) (among_others x y
 pub among_distinct : (x : ℕ) (xs : List ℕ) → is_among x (distinct nat_eq xs) ≡ is_among x xs
 among_distinct x [] = refl
 among_distinct x (y ∷ ys) = distinct_head x y ys (among_distinct x ys) (nat_eq x y) refl
+
+-- ---- marks of the numbers of a list
+
+either : (b : Bool) → (b || (true || false)) ≡ true
+either true = refl
+either false = refl
+
+neither : (b : Bool) → (b || (false || false)) ≡ b
+neither true = refl
+neither false = refl
+
+among_more : (xs : List ℕ) (x q : ℕ) (b : Bool) → nat_eq q x ≡ b → is_among q (xs ++ x ∷ []) ≡ (is_among q xs || (b || false))
+among_more xs x q b e = list_any-append (nat_eq q) xs (x ∷ []) ∙ ap (λ t. is_among q xs || (t || false)) e
+
+-- the mark of one number more is set
+pub marked_more : (marks : List Bool) (xs : List ℕ) (x : ℕ) → ((q : ℕ) → get_or marks q false ≡ is_among q xs) → x < length marks
+    → (q : ℕ) → get_or (set marks x true) q false ≡ is_among q (xs ++ x ∷ [])
+marked_more marks xs x so_far within q = by_value (nat_eq q x) refl where
+  by_value : (b : Bool) → nat_eq q x ≡ b → get_or (set marks x true) q false ≡ is_among q (xs ++ x ∷ [])
+  by_value true e =
+      ap (λ k. get_or (set marks x true) k false) (eqb-true q x e) ∙ get_or-set_same marks x true false within
+      ∙ sym (among_more xs x q true e ∙ either (is_among q xs))
+  by_value false e =
+      get_or-set_other marks x q true false (λ same. false≢true (sym e ∙ eq-eqb q x same)) ∙ so_far q
+      ∙ sym (among_more xs x q false e ∙ neither (is_among q xs))

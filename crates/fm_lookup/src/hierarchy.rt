@@ -24,7 +24,7 @@ pub struct Ancestors<'a> {
     pub classes: &'a [DeclaredClass],
     pub parents: Vec<Option<u32>>,
     pub listed: Vec<Vec<u32>>,
-    // the superinterfaces of each class by its own list, where they don't lead into a cycle
+    /// the superinterfaces of each class by its own list, where they don't lead into a cycle
     pub above: Vec<Vec<u32>>,
     pub leads_into_cycle: Vec<bool>,
     pub object: Option<u32>,
@@ -65,11 +65,11 @@ pub struct Hierarchy<'a> {
     pub listed: Vec<Vec<u32>>,
     pub chains: Vec<Vec<u32>>,
     pub order: Vec<u32>,
-    // the superinterfaces of each class by its own list, and those of its superclasses after them
+    /// the superinterfaces of each class by its own list, and those of its superclasses after them
     pub above: Vec<Vec<u32>>,
     pub interfaces: Vec<Vec<u32>>,
-    // where a field of each class is looked for: in it, in its superinterfaces, and in its superclasses in
-    // the same way
+    /// where a field of each class is looked for: in it, in its superinterfaces, and in its superclasses in
+    /// the same way
     pub paths: Vec<Vec<u32>>,
     pub object: Option<u32>,
 }

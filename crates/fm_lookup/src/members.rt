@@ -72,9 +72,9 @@ pub fn row_at(rows: &[MemberRow], member: u32) -> MemberRow
 #[derive(Drop)]
 pub struct Signatures {
     numbers: BTreeMap<(u32, u32), u32>,
-    // the signature of each member
+    /// the signature of each member
     pub of_members: Vec<u32>,
-    // all signatures are below
+    /// all signatures are below
     pub count: u32,
 }
 

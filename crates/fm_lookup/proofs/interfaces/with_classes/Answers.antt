@@ -9,9 +9,9 @@ use Rattle.fm_lookup.proofs.interfaces.with_classes.Goals as goal
 pub loop-class-preserved : goal.loop-class-preserved
 loop-class-preserved c =
     let class = c.loop-class.class in
-    let row : ℕ → List ℕ = λ k. k ∷ slice_index_or (lists c.args.own.now) k [] in
+    let fronted : ℕ → List ℕ = λ k. k ∷ slice_index_or (lists c.args.own.now) k [] in
     let made = c.in_ok-with_class.field-0 in
     lists_push c.loop-class.made.items c.push.new.self.items made c.in_ok-push.ensures.items
     ∙ ap (λ xs. xs ++ made.items ∷ []) c.loop-class.invariant
-    ∙ ap (λ x. map row (numbers_below class) ++ x ∷ []) (c.in_ok-with_class.ensures ∙ ap (λ xs. class ∷ xs) c.list_at.ensures)
-    ∙ sym (map-range_with_len_more row 0 class class (zero-add class))
+    ∙ ap (λ x. map fronted (numbers_below class) ++ x ∷ []) (c.in_ok-with_class.ensures ∙ ap (λ xs. class ∷ xs) c.list_at.ensures)
+    ∙ sym (map-range_with_len_more fronted 0 class class (zero-add class))
