@@ -14,4 +14,3 @@ pub mod MemberLemmas
 pub mod StepLemmas
 pub mod CodedLemmas
 pub mod TypeLemmas
-pub mod AlmostLemmas

@@ -4,10 +4,11 @@ use Rattle.std.proofs.Math.Nat.{add_comm, suc-add}
 use Rattle.fm_base.proofs.OptionFacts.{IsSomeAnd-from_some, IsSomeAnd-weaker}
 use Rattle.fm_code.specs.declared.code_array.Code.{Code}
 use Rattle.fm_world.specs.Programs.{code_at, Program}
-use Rattle.fm_conn.specs.Laws.{links_of, EndsOfOneClassAreLinked, PairsHaveOneClass}
+use Rattle.fm_conn.specs.Laws.{links_of, ClassesAreByLinks, EndsOfOneClassAreLinked, PairsHaveOneClass}
 use Rattle.fm_conn.specs.Links.{node_of, typed_method, Linked, LinkedIn, Typings}
 use Rattle.fm_conn.specs.Nodes.{Node, TypedMethod}
 use Rattle.fm_conn.specs.Pairs.{ArePaired, CalledAt, CaughtAt, IsEnd, IsPath, Joined, JoinedAt, Linking, PairAt, StaysAt}
+use Rattle.fm_conn.specs.Summaries.{linked_by}
 use Rattle.fm_conn.specs.declared.ends.End2.{End2}
 
 -- ---- more links pair at least as much
@@ -178,3 +179,16 @@ pub ends_of_one_class_are_linked : EndsOfOneClassAreLinked
 ends_of_one_class_are_linked p facts are method code is a b first second same =
     (are.linked method a b first second).1
     (ends_linked p facts.typing method code a b is (((are.methods method code is).class (node_of a) (node_of b)).0 same))
+
+-- ---- classes by summaries
+
+-- two that link the same ends join the same nodes
+pub classes_are_by_links : ClassesAreByLinks
+classes_are_by_links p typings s tell method code c are a b =
+    let x = typed_method p typings method code in
+    let by_links : AtLeast x (Linked p typings) (linked_by s) = record { each = tell.all } in
+    let by_summaries : AtLeast x (linked_by s) (Linked p typings) = record { each = λ m e f first second linked. tell.no_more m e f linked } in
+    let same = are.same a b in (
+      λ one. joined_by_more x (linked_by s) (Linked p typings) by_summaries a b (same.0 one),
+      λ joined. same.1 (joined_by_more x (Linked p typings) (linked_by s) by_links a b joined),
+    )

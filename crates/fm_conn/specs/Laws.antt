@@ -1,6 +1,6 @@
 -- What follows of facts that are exact: pairs have one number, and ends that have one are linked; that classes by exact summaries are those of
 -- facts; and what is known of the types of programs.
-use Rattle.std.specs.Prelude.{◌≡◌, ◌↔◌, ◌⊎◌, ℕ, true, List, Some, slice_get}
+use Rattle.std.specs.Prelude.{◌≡◌, ◌↔◌, ℕ, true, List, Some, slice_get}
 use Rattle.fm_base.specs.declared.kinds.TypeRef.{TypeRef}
 use Rattle.fm_code.specs.declared.class_file.ClassDef.{ClassDef}
 use Rattle.fm_code.specs.declared.code_array.Code.{Code}
@@ -34,10 +34,10 @@ EndsOfOneClassAreLinked =
 
 -- ---- classes by summaries
 
--- what is linked is told, and of two ends no more than that
+-- of two ends what is linked is told, and no more than that
 pub record TellLinks (p : Program) (typings : Typings) (s : Summaries) : Type 0 where
   pub all : (method : ℕ) (a b : End2) → IsEnd p.outline method a → IsEnd p.outline method b → Linked p typings method a b → linked_by s method a b
-  pub no_more : (method : ℕ) (a b : End2) → linked_by s method a b → (a ≡ b) ⊎ Linked p typings method a b
+  pub no_more : (method : ℕ) (a b : End2) → linked_by s method a b → Linked p typings method a b
 
 -- then the classes by the summaries are those by the links, as facts have them
 abbrev pub ClassesAreByLinks : Type 0

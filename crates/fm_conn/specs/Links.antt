@@ -1,8 +1,8 @@
--- Which ends of a method are linked by what it does, and by what the methods that it calls do: in rounds, the first of which links nothing.
-use Rattle.std.specs.Prelude.{ℕ, zero, suc, ◌⊎◌, List, [], ◌∷◌, ◌++◌, map, codes, Option, option_to_list, IsSomeAnd, Contains}
+-- Which ends of a method are linked by what it does, and by what the methods that it calls do: in rounds, the first of which has built-in methods alone.
+use Rattle.std.specs.Prelude.{◌≡◌, ℕ, zero, suc, ◌<◌, ◌⊎◌, List, [], ◌∷◌, ◌++◌, length, map, codes, Option, option_to_list, IsSomeAnd, Contains}
 use Rattle.fm_code.specs.declared.code_array.Code.{Code}
 use Rattle.fm_types.specs.States.{TypeState}
-use Rattle.fm_world.specs.Members.{method_at}
+use Rattle.fm_world.specs.Members.{method_at, methods_of}
 use Rattle.fm_world.specs.Programs.{code_at, Program}
 use Rattle.fm_world.specs.Rows.{row_of}
 use Rattle.fm_conn.specs.Nodes.{Node, Local, Return, Global, TypedMethod}
@@ -12,18 +12,20 @@ use Rattle.fm_conn.specs.declared.ends.End2.TheVariants as end
 
 -- ---- built-in methods
 
+-- the answer is the receiver, or what it kept
 abbrev pub result_and_receiver : List (End2 × End2)
 result_and_receiver = (end.Return, end.Parameter 0) ∷ []
 
--- what a built-in method links, by its class, its name and its descriptor: an answer that is the receiver or that it kept, a message that is kept,
--- and what FreeMe chains
+-- these links for the row of a built-in method, by its class, its name and its descriptor
 abbrev pub of_row : List ℕ → List ℕ → List ℕ → List (End2 × End2) → List (ℕ × List (End2 × End2))
 of_row class name descriptor links = map (λ row. (row, links)) (option_to_list (row_of class name descriptor))
 
+-- `StringBuilder.append` of what this descriptor tells answers its receiver
 abbrev pub appended : List ℕ → List (ℕ × List (End2 × End2))
 appended letter =
     of_row (codes "java/lang/StringBuilder") (codes "append") (codes "(" ++ letter ++ codes ")Ljava/lang/StringBuilder;") result_and_receiver
 
+-- what built-in methods link, by their rows: an answer that is the receiver or that it kept, a message that is kept, and what FreeMe chains
 unfoldable pub native_links : List (ℕ × List (End2 × End2))
 native_links =
     of_row (codes "java/lang/String") (codes "toString") (codes "()Ljava/lang/String;") result_and_receiver
@@ -33,7 +35,7 @@ native_links =
     ++ of_row (codes "FreeMe") (codes "link") (codes "(Ljava/lang/Object;Ljava/lang/Object;)Ljava/lang/Object;")
     ((end.Return, end.Parameter 0) ∷ (end.Return, end.Parameter 1) ∷ (end.Parameter 0, end.Parameter 1) ∷ [])
 
--- in one order or the other
+-- a row links two ends, in one order or the other
 pub record IsNativeLink (row : ℕ) (a b : End2) : Type 0 where
   pub links : List (End2 × End2)
   pub row_has : Contains native_links (row, links)
@@ -51,17 +53,24 @@ node_of end.Global = Global
 abbrev pub Typings : Type 0
 Typings = ℕ → List (Option TypeState)
 
+-- a method by its number and its code, with its states
 abbrev pub typed_method : Program → Typings → ℕ → Code → TypedMethod
 typed_method p typings method code = record { program = p; number = method; code = code; states = typings method }
 
 -- ---- rounds
 
--- what is linked in a round: by a built-in method the same in each, and by a method that has code what its own pairs and those of its calls by the
--- round before join; a method without code is never called
+-- what is linked whatever calls do: an end of a method that is there with itself, and the ends that a row of a built-in method links
+abbrev pub IsLinkedAtOnce : Program → Linking
+IsLinkedAtOnce p method a b =
+    ((method < length (methods_of p.outline.classes)) × (a ≡ b))
+    ⊎ IsSomeAnd (method_at p.outline.classes method).method.row (λ row. IsNativeLink row a b)
+
+-- what is linked in a round: at once in each, and by a method that has code what its own pairs and those of its calls by the round before join;
+-- a method without code is never called
 unfoldable pub LinkedIn : Program → Typings → ℕ → Linking
-LinkedIn p typings zero method a b = IsSomeAnd (method_at p.outline.classes method).method.row (λ row. IsNativeLink row a b)
+LinkedIn p typings zero method a b = IsLinkedAtOnce p method a b
 LinkedIn p typings (suc round) method a b =
-    IsSomeAnd (method_at p.outline.classes method).method.row (λ row. IsNativeLink row a b)
+    IsLinkedAtOnce p method a b
     ⊎ IsSomeAnd (code_at p method) (λ code. Joined (LinkedIn p typings round) (typed_method p typings method code) (node_of a) (node_of b))
 
 -- in some round

@@ -136,12 +136,12 @@ get_message_link : IsNativeLink 39 end.Return (end.Parameter 0)
 unfolding native_links built_in methods_of chain_of
 get_message_link = record { links = result_and_receiver; row_has = (7, omega arith, refl); among = inl (0, omega arith, refl) }
 
--- a built-in method's links are there in round 0
+-- a built-in method's links are there at once
 linked_by_row : (p : Program) (facts : Facts) (target number : ℕ) (a b : End2) → (method_at p.outline.classes target).method.row ≡ Some number
     → IsNativeLink number a b → Linked p facts.typing target a b
 unfolding LinkedIn
 linked_by_row p facts target number a b is link =
-    (0, IsSomeAnd-from_some (method_at p.outline.classes target).method.row (λ row. IsNativeLink row a b) number is link)
+    (0, inr (IsSomeAnd-from_some (method_at p.outline.classes target).method.row (λ row. IsNativeLink row a b) number is link))
 
 -- ---- at a call
 

@@ -1,16 +1,8 @@
 -- Joined nodes: there and back, on and on; and numbers that pairs of joined nodes lead to.
-use Rattle.std.proofs.Common.{◌≡◌, ℕ, ◌+◌, List, [], ◌∷◌, Some, Contains, refl, sym, ◌∙◌, subst, inl, inr, ⊎_elim}
+use Rattle.std.proofs.Common.{◌≡◌, ℕ, List, [], ◌∷◌, Contains, refl, sym, ◌∙◌, subst, inl, inr}
 use Rattle.fm_base.specs.Graph.{IsPath as IsNumberPath, ArePaired as NumbersPaired}
-use Rattle.fm_base.proofs.OptionFacts.{IsSomeAnd-at_some}
-use Rattle.fm_code.specs.Edges.{insn_of, LeadsTo}
-use Rattle.fm_code.specs.declared.instructions.Insn.{Insn}
-use Rattle.fm_code.specs.declared.instructions.Insn.TheVariants as insn
-use Rattle.fm_world.specs.declared.calls.Call.{Call}
-use Rattle.fm_conn.specs.Nodes.{Node, Slot, TypedMethod}
-use Rattle.fm_conn.specs.Pairs.{ArePaired, call_of, depth_below, IsPath, Joined, Linking, StandsFor}
-use Rattle.fm_conn.specs.declared.ends.End2.{End2}
-use Rattle.fm_conn.specs.declared.ends.End2.TheVariants as end
-use Rattle.fm_summ.proofs.ListLemmas.{Contains-none}
+use Rattle.fm_conn.specs.Nodes.{Node, TypedMethod}
+use Rattle.fm_conn.specs.Pairs.{ArePaired, IsPath, Joined, Linking}
 
 -- ---- joined nodes
 
@@ -71,24 +63,3 @@ joined_by_numbers linked x class pairs sound each (next ∷ rest) m n (paired, p
     joined_then linked x a nodes.one b (sound a nodes.one (sym first ∙ nodes.first))
     (joined_then linked x nodes.one nodes.other b nodes.joined
     (joined_by_numbers linked x class pairs sound each rest next n path nodes.other b nodes.second second))
-
--- ---- what stands for an end
-
--- a call goes on to the next item alone
-call_goes_on : (x : TypedMethod) (j next : ℕ) (i : Insn) (called : Call) → call_of x i ≡ Some called → LeadsTo i j next → next ≡ j + 1
-call_goes_on x j next (insn.Virtual index) called some leads = ⊎_elim (λ none. absurd (Contains-none next none)) (λ falls. falls.1) leads
-call_goes_on x j next (insn.Interface index) called some leads = ⊎_elim (λ none. absurd (Contains-none next none)) (λ falls. falls.1) leads
-call_goes_on x j next (insn.Special index) called some leads = ⊎_elim (λ none. absurd (Contains-none next none)) (λ falls. falls.1) leads
-call_goes_on x j next (insn.Static index) called some leads = ⊎_elim (λ none. absurd (Contains-none next none)) (λ falls. falls.1) leads
-call_goes_on x j next i called some leads = absurd cc
-
--- one node stands for an end
-pub one_stands : (x : TypedMethod) (j : ℕ) (i : Insn) (called : Call) → insn_of x.code j ≡ Some i → call_of x i ≡ Some called →
-    (e : End2) (a b : Node) → StandsFor x j i e a → StandsFor x j i e b → a ≡ b
-one_stands x j i called is some (end.Parameter k) a b first second = first ∙ sym second
-one_stands x j i called is some end.Return a b (next, (edge, first)) (other, (edge_too, second)) =
-    let one = call_goes_on x j next i called some (IsSomeAnd-at_some (insn_of x.code j) (λ v. LeadsTo v j next) i is edge.leads) in
-    let two = call_goes_on x j other i called some (IsSomeAnd-at_some (insn_of x.code j) (λ v. LeadsTo v j other) i is edge_too.leads) in
-    let same : next ≡ other = one ∙ sym two in
-    first ∙ (λ k. Slot (same k) (depth_below x j i + 0)) ∙ sym second
-one_stands x j i called is some end.Global a b first second = first ∙ sym second

@@ -4,10 +4,11 @@ use Rattle.std.proofs.lemmas.Bool.{cases_eq, cases_lt}
 use Rattle.std.proofs.lemmas.List.{get_or_past, get_or-set_same, get_or-set_other}
 use Rattle.std.proofs.Math.Seq.{map-set_same}
 use Rattle.fm_code.specs.declared.code_array.Code.{Code}
+use Rattle.fm_world.specs.Members.{methods_of}
 use Rattle.fm_world.specs.Programs.{code_at, targets, Program}
-use Rattle.fm_conn.specs.Links.{node_of, typed_method, Linked, LinkedIn, Typings}
+use Rattle.fm_conn.specs.Links.{node_of, typed_method, IsLinkedAtOnce, Linked, LinkedIn, Typings}
 use Rattle.fm_conn.specs.Nodes.{Node, TypedMethod}
-use Rattle.fm_conn.specs.Pairs.{IsEnd, Joined, PairAt, StandsFor}
+use Rattle.fm_conn.specs.Pairs.{IsEnd, PairAt}
 use Rattle.fm_conn.specs.Shapes.{IsCallShapeAt}
 use Rattle.fm_conn.specs.Summaries.{links}
 use Rattle.fm_conn.specs.declared.ends.End2.{End2}
@@ -16,14 +17,14 @@ use Rattle.fm_conn.specs.declared.shapes.CallShape.{CallShape}
 use Rattle.fm_conn.specs.declared.shapes.Shape.{Shape}
 use Rattle.fm_conn.proofs.LinkLemmas.{ends_linked}
 use Rattle.fm_summ.proofs.EntryLemmas.{end_number-listed, links-is, listed-renumbered, renumbered-listed}
-use Rattle.fm_summ.proofs.JoinLemmas.{joined_by_numbers, joined_one, one_stands, NodesOf}
+use Rattle.fm_summ.proofs.JoinLemmas.{joined_by_numbers, joined_one, NodesOf}
 use Rattle.fm_summ.proofs.ListLemmas.{Contains-from_map, Contains-map, Contains-none}
 use Rattle.fm_summ.proofs.PassLemmas.{become_one, pair_of, PairOf}
 use Rattle.fm_summ.specs.Exact.{no_shape, shape_at}
 use Rattle.fm_summ.specs.inner.Callers.{call_targets}
 use Rattle.fm_summ.specs.inner.Numbers.{Merges}
 use Rattle.fm_summ.specs.inner.Passed.{ends_at, method_pairs, renumbered, renumbered_call, renumbered_ends, Passes}
-use Rattle.fm_summ.specs.inner.State.{linked_so_far, AreSound, IsBare, IsBuiltInLink, IsClosed, IsSound, Tells}
+use Rattle.fm_summ.specs.inner.State.{linked_so_far, AreSound, IsBare, IsClosed, IsSound, Tells}
 
 -- the calls of a renumbered shape have the targets that they had
 pub same_calls : (p : Program) (f : ℕ → ℕ) (calls : List CallShape) → call_targets p (map (renumbered_call f) calls) ≡ call_targets p calls
@@ -71,9 +72,9 @@ tells-renumbered x class f s tells = record {
 
 -- ---- pairs join what is linked
 
--- all that is linked so far, in the one sense, is linked, in the other
+-- all that is linked so far is linked
 pub record IsWithin (p : Program) (typings : Typings) (shapes : List Shape) : Type 0 where
-  pub each : (method : ℕ) (a b : End2) → linked_so_far shapes method a b → (a ≡ b) ⊎ Linked p typings method a b
+  pub each : (method : ℕ) (a b : End2) → linked_so_far shapes method a b → Linked p typings method a b
   pub ends : (method : ℕ) (e : End2) (n : ℕ) → Contains (ends_at shapes method) (e, n) → IsEnd p.outline method e
 
 nodes_of_pair : (typings : Typings) (shapes : List Shape) (x : TypedMethod) (s : Shape) (class : Node → ℕ) → Tells x class s →
@@ -87,14 +88,7 @@ nodes_of_pair typings shapes x s class tells within m n pair =
     let number = links-is (ends_at shapes pair.target) pair.ends.one pair.ends.other pair.ends.linked in
     let first_end = within.ends pair.target pair.ends.one number.0 (end_number-listed (ends_at shapes pair.target) pair.ends.one number.0 number.1) in
     let second_end = within.ends pair.target pair.ends.other number.0 (end_number-listed (ends_at shapes pair.target) pair.ends.other number.0 number.2) in
-    let joined : Joined (Linked x.program typings) x one.node other.node =
-    ⊎_elim
-    (λ (is : pair.ends.one ≡ pair.ends.other). (
-      [],
-      one_stands x j shape.insn pair.call.call shape.makes.is shape.makes.calls pair.ends.other one.node other.node
-          (subst (λ e. StandsFor x j shape.insn e one.node) is one.stands) other.stands,
-    ))
-    (λ linked.
+    let linked = within.each pair.target pair.ends.one pair.ends.other pair.ends.linked in
     let pair_at : PairAt (Linked x.program typings) x j one.node other.node = record {
       insn = shape.insn;
       is = shape.makes.is;
@@ -115,8 +109,7 @@ nodes_of_pair typings shapes x s class tells within m n pair =
         second = other.stands;
       })));
     } in
-    joined_one (Linked x.program typings) x one.node other.node (j, inl pair_at))
-    (within.each pair.target pair.ends.one pair.ends.other pair.ends.linked) in
+    let joined = joined_one (Linked x.program typings) x one.node other.node (j, inl pair_at) in
     record { one = one.node; other = other.node; first = one.is; second = other.is; joined = joined }
 
 -- ---- a method that has code
@@ -148,10 +141,10 @@ sound-ends : (p : Program) (typings : Typings) (method : ℕ) (code : Code) (s :
     IsSound (Linked p typings) (typed_method p typings method code) s → (e : End2) (n : ℕ) → Contains s.ends (e, n) → IsEnd p.outline method e
 sound-ends p typings method code s sound e n found = ((sound.tells.ends e n).0 found).0
 
--- what is linked so far is linked
-pub built_in-linked : (p : Program) (typings : Typings) (method : ℕ) (a b : End2) → IsBuiltInLink p method a b → Linked p typings method a b
+-- what is linked at once is linked
+at_once : (p : Program) (typings : Typings) (method : ℕ) (a b : End2) → IsLinkedAtOnce p method a b → Linked p typings method a b
 unfolding LinkedIn
-built_in-linked p typings method a b native = (0, native)
+at_once p typings method a b linked = (0, linked)
 
 past_none : (shapes : List Shape) (method : ℕ) → length shapes ≤ method → ends_at shapes method ≡ []
 past_none shapes method past = ap (λ (s : Shape). s.ends) (get_or_past shapes method no_shape past)
@@ -163,11 +156,11 @@ within p typings shapes sound = record {
       let listed = end_number-listed (ends_at shapes method) a number.0 number.1 in
       ⊎_elim
       (λ (inside : method < length shapes).
-      (elim (code_at p method) as (λ o. code_at p method ≡ o → (a ≡ b) ⊎ Linked p typings method a b) [
-        | Some code ↦ (λ is. inr (sound-links p typings method code (shape_at shapes method) is (sound.coded method code is) a b linked))
+      (elim (code_at p method) as (λ o. code_at p method ≡ o → Linked p typings method a b) [
+        | Some code ↦ (λ is. sound-links p typings method code (shape_at shapes method) is (sound.coded method code is) a b linked)
         | None ↦ (λ is.
-            ⊎_elim (λ same. inl same) (λ native. inr (built_in-linked p typings method a b native))
-            ((sound.bare method inside is).no_more a b linked))
+            let there : method < length (methods_of p.outline.classes) = omega (arith, sound.one_each, inside) in
+            at_once p typings method a b (⊎_elim (λ same. inl (there, same)) (λ native. inr native) ((sound.bare method inside is).no_more a b linked)))
       ]) refl)
       (λ (past : length shapes ≤ method). absurd (Contains-none (a, number.0) (subst (λ list. Contains list (a, number.0)) (past_none shapes method past) listed)))
       (cases_lt method (length shapes));

@@ -12,3 +12,5 @@ pub mod LoopLemmas
 pub mod CodeLemmas
 pub mod EndLemmas
 pub mod WaitLemmas
+pub mod FactLemmas
+pub mod ProgramLemmas

@@ -7,7 +7,7 @@ use Rattle.fm_code.specs.Edges.{insn_of}
 use Rattle.fm_world.specs.Declarations.{no_method}
 use Rattle.fm_world.specs.Members.{method_at, methods_of}
 use Rattle.fm_world.specs.Programs.{code_at, targets, Program}
-use Rattle.fm_conn.specs.Links.{node_of, typed_method, IsNativeLink, Linked, LinkedIn, Typings}
+use Rattle.fm_conn.specs.Links.{node_of, typed_method, IsLinkedAtOnce, IsNativeLink, Linked, LinkedIn, Typings}
 use Rattle.fm_conn.specs.Nodes.{Node, TypedMethod}
 use Rattle.fm_conn.specs.Pairs.{ArePaired, CalledAt, CaughtAt, IsEnd, IsPath, Joined, JoinedAt, Linking, PairAt, StaysAt}
 use Rattle.fm_conn.specs.Shapes.{nothing_linked, HasStandIn}
@@ -94,14 +94,31 @@ built_in-reached p typings shapes built_ins sound method a b first second native
     let row = Some-from_some_and (method_at p.outline.classes method).method.row (λ row. IsNativeLink row a b) native in
     (sound.bare method (omega (arith, sound.one_each, inside)) (built_ins method row.0 row.1)).linked a b first second (inr native)
 
+-- an end is linked with itself so far
+with_itself : (p : Program) (typings : Typings) (shapes : List Shape) → AreSound p typings shapes → (method : ℕ) (a : End2) →
+    method < length (methods_of p.outline.classes) → IsEnd p.outline method a → linked_so_far shapes method a a
+with_itself p typings shapes sound method a inside is_end =
+    (elim (code_at p method) as (λ o. code_at p method ≡ o → linked_so_far shapes method a a) [
+      | Some code ↦ (λ is.
+          same_class-links (Linked p typings) (typed_method p typings method code) (shape_at shapes method) (sound.coded method code is) a a is_end is_end refl)
+      | None ↦ (λ is. (sound.bare method (omega (arith, sound.one_each, inside)) is).linked a a is_end is_end (inl refl))
+    ]) refl
+
+at_once-reached : (p : Program) (typings : Typings) (shapes : List Shape) → HasBareBuiltIns p → AreSound p typings shapes → (method : ℕ) (a b : End2) →
+    IsEnd p.outline method a → IsEnd p.outline method b → IsLinkedAtOnce p method a b → linked_so_far shapes method a b
+at_once-reached p typings shapes built_ins sound method a b first second (inl (inside, same)) =
+    subst (linked_so_far shapes method a) same (with_itself p typings shapes sound method a inside first)
+at_once-reached p typings shapes built_ins sound method a b first second (inr native) =
+    built_in-reached p typings shapes built_ins sound method a b first second native
+
 -- what is linked in a round is linked so far
 in_round : (p : Program) (typings : Typings) (shapes : List Shape) → HasBareBuiltIns p → AreSound p typings shapes →
     ((method : ℕ) → method < length shapes → IsClosed p shapes method) → (round method : ℕ) (a b : End2) →
     IsEnd p.outline method a → IsEnd p.outline method b → LinkedIn p typings round method a b → linked_so_far shapes method a b
 unfolding LinkedIn
-in_round p typings shapes built_ins sound closed zero method a b first second native = built_in-reached p typings shapes built_ins sound method a b first second native
-in_round p typings shapes built_ins sound closed (suc round) method a b first second (inl native) =
-    built_in-reached p typings shapes built_ins sound method a b first second native
+in_round p typings shapes built_ins sound closed zero method a b first second linked = at_once-reached p typings shapes built_ins sound method a b first second linked
+in_round p typings shapes built_ins sound closed (suc round) method a b first second (inl linked) =
+    at_once-reached p typings shapes built_ins sound method a b first second linked
 in_round p typings shapes built_ins sound closed (suc round) method a b first second (inr some) =
     let found = Some-from_some_and (code_at p method)
     (λ code. Joined (LinkedIn p typings round) (typed_method p typings method code) (node_of a) (node_of b)) some in
@@ -139,11 +156,4 @@ exact p typings shapes built_ins sound closed =
         all = λ method a b first second linked. there method a b (in_round p typings shapes built_ins sound closed linked.0 method a b first second linked.1);
         no_more = λ method a b linked. inner.each method a b (subst (λ list. links list a b ≡ true) (told_at shapes method) linked);
       };
-      itself = λ method a inside is_end.
-          there method a a
-          ((elim (code_at p method) as (λ o. code_at p method ≡ o → linked_so_far shapes method a a) [
-            | Some code ↦ (λ is.
-                same_class-links (Linked p typings) (typed_method p typings method code) (shape_at shapes method) (sound.coded method code is) a a is_end is_end refl)
-            | None ↦ (λ is. (sound.bare method (omega (arith, sound.one_each, inside)) is).linked a a is_end is_end (inl refl))
-          ]) refl);
     }

@@ -1,15 +1,13 @@
 -- What is asked of shapes, and what summaries tell.
-use Rattle.std.specs.Prelude.{◌≡◌, ◌<◌, ℕ, List, [], length, Some, None}
+use Rattle.std.specs.Prelude.{◌≡◌, ℕ, List, [], length, Some, None}
 use Rattle.std.specs.List.{slice_index_or}
 use Rattle.fm_code.specs.declared.code_array.Code.{Code}
 use Rattle.fm_world.specs.Members.{method_at, methods_of}
 use Rattle.fm_world.specs.Programs.{code_at, Program}
 use Rattle.fm_conn.specs.Links.{typed_method, Typings}
 use Rattle.fm_conn.specs.Laws.{TellLinks}
-use Rattle.fm_conn.specs.Pairs.{IsEnd}
 use Rattle.fm_conn.specs.Shapes.{IsShapeOf}
-use Rattle.fm_conn.specs.Summaries.{linked_by, AreSummariesOf}
-use Rattle.fm_conn.specs.declared.ends.End2.{End2}
+use Rattle.fm_conn.specs.Summaries.{AreSummariesOf}
 use Rattle.fm_conn.specs.declared.shapes.Shape.{Shape}
 use Rattle.fm_conn.specs.declared.summaries.Summaries.{Summaries}
 
@@ -38,8 +36,7 @@ HasBareBuiltIns p = (method row : ℕ) → (method_at p.outline.classes method).
 
 -- ---- summaries
 
--- what is linked is told, and of two ends no more than that; an end is linked with itself, and what isn't an end with nothing
+-- of the ends of each method that is there, what is linked is told, an end with itself among it, and no more; what isn't an end is linked with nothing
 pub record AreExact (p : Program) (typings : Typings) (s : Summaries) : Type 0 where
   pub summaries : AreSummariesOf p.outline s
   pub links : TellLinks p typings s
-  pub itself : (method : ℕ) (a : End2) → method < length (methods_of p.outline.classes) → IsEnd p.outline method a → linked_by s method a a

@@ -1,2 +1,4 @@
 pub mod Exact
+pub mod Answers
+pub mod Programs
 pub mod inner

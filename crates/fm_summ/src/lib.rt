@@ -6,10 +6,12 @@
 
 mod built_ins;
 mod calls;
+mod laws;
 mod linked;
 mod pairs;
 mod renumbering;
 mod shapes;
 mod waiting;
 
+pub use laws::{law_answers, law_programs};
 pub use linked::summaries;

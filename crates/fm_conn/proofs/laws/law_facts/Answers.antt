@@ -1,5 +1,4 @@
-use Rattle.fm_conn.proofs.LinkLemmas.{ends_of_one_class_are_linked, pairs_have_one_class}
-use Rattle.fm_conn.proofs.AlmostLemmas.{classes_are_by_links}
+use Rattle.fm_conn.proofs.LinkLemmas.{classes_are_by_links, ends_of_one_class_are_linked, pairs_have_one_class}
 use Rattle.fm_conn.proofs.laws.law_facts.Goals as goal
 
 pub returns : goal.returns
