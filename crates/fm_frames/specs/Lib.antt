@@ -16,7 +16,6 @@ pub mod Starts
 pub mod Acts
 pub mod Steps
 pub mod Runs
-pub mod Sound
 pub mod Runnable
 pub mod inner
 pub mod Example

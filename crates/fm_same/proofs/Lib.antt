@@ -1,5 +1,6 @@
 pub mod LinkedClasses
 pub mod RegionLemmas
+pub mod CapturedClasses
 pub mod CallRegions
 pub mod StoreChanges
 pub mod ActsKeep
@@ -12,7 +13,7 @@ pub mod ReturnsKeep
 pub mod NextKeeps
 pub mod StepKeeps
 pub mod Retiring
-pub mod RegionsDie
+pub mod TargetMethods
 pub mod ItemFacts
 pub mod Cases
 pub mod PlainRows
@@ -24,3 +25,10 @@ pub mod NativeRows
 pub mod Owing
 pub mod Starting
 pub mod Opening
+pub mod NativeMethods
+pub mod CallWords
+pub mod CallFacts
+pub mod CallsCovered
+pub mod ProgramNumbers
+pub mod CoveredFrames
+pub mod RegionsDie

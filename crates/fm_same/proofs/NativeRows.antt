@@ -1,31 +1,27 @@
 -- The rows of built-in methods: what they give or keep is joined through the ends that they link, and a new text's home is the word that it becomes, or the
 -- object that it is put into.
-use Rattle.std.proofs.Common.{◌≡◌, ◌≢◌, ℕ, ℤ, pos, int_lt, not, ◌||◌, zero, suc, ◌+◌, ◌-◌, ◌<◌, ◌≤◌, ◌⊎◌, ◌==◌, ◌&&◌, Bool, true, false, cond, List, [], ◌∷◌, ◌++◌, length, Option, Some, None, codes, IsSomeAnd, Contains, refl, sym, ◌∙◌, ap, subst, inl, inr, slice_get, arith, eqb-true, ⊎_elim}
-use Rattle.std.proofs.lemmas.Bool.{and_parts, false≢true}
-use Rattle.std.proofs.lemmas.Option.{none-some, same_Some}
+use Rattle.std.proofs.Common.{◌≡◌, ℕ, ℤ, pos, int_lt, not, ◌||◌, zero, suc, ◌+◌, ◌-◌, ◌≤◌, ◌==◌, ◌&&◌, Bool, true, false, List, [], ◌∷◌, ◌++◌, length, Option, Some, None, codes, Contains, refl, sym, ◌∙◌, ap, subst, inl, inr, slice_get, arith, eqb-true}
+use Rattle.std.proofs.lemmas.Bool.{and_parts}
+use Rattle.std.proofs.lemmas.Option.{same_Some}
 use Rattle.fm_base.proofs.OptionFacts.{IsSomeAnd-from_some}
-use Rattle.fm_base.specs.declared.kinds.Kind.TheVariants as kind
 use Rattle.fm_code.specs.Edges.{falls_through, IsNormalEdge}
 use Rattle.fm_code.specs.Live.{stores_over}
-use Rattle.fm_code.specs.SpellsCode.{targets_of}
 use Rattle.fm_code.specs.declared.instructions.Insn.{Insn}
 use Rattle.fm_conn.specs.Facts.{AreFacts, Facts}
-use Rattle.fm_conn.specs.Links.{appended, IsNativeLink, Linked, LinkedIn, native_links, result_and_receiver}
-use Rattle.fm_conn.specs.Nodes.{IsNode, Node, Return, Slot}
-use Rattle.fm_conn.specs.Pairs.{CalledAt, IsEnd, StandsFor}
-use Rattle.fm_conn.specs.Rows as pairs
+use Rattle.fm_conn.specs.Links.{IsNativeLink, Linked, LinkedIn, native_links, result_and_receiver}
+use Rattle.fm_conn.specs.Nodes.{IsNode, Node, Slot}
+use Rattle.fm_conn.specs.Pairs.{IsEnd, StandsFor}
 use Rattle.fm_conn.specs.declared.ends.End2.{End2}
 use Rattle.fm_conn.specs.declared.ends.End2.TheVariants as end
 use Rattle.fm_world.specs.BuiltIns.{built_in}
 use Rattle.fm_world.specs.Chains.{chain_of}
 use Rattle.fm_world.specs.Members.{method_at, methods_of}
-use Rattle.fm_world.specs.Programs.{Outline, Program}
-use Rattle.fm_frames.specs.Effects.{Action, Make, Put, Effect, OfMade, OfOperand, OfPlace, Plain, acting, Exits, faulty, Faults, going, int_word, making, printing, stuck, words}
+use Rattle.fm_world.specs.Programs.{Program}
+use Rattle.fm_frames.specs.Effects.{Put, Effect, OfMade, OfOperand, OfPlace, Plain, acting, Exits, faulty, Faults, going, int_word, making, printing, stuck, words}
 use Rattle.fm_frames.specs.NativeRows as table
 use Rattle.fm_frames.specs.Natives.{Shown, ShownInt, ShownLong, ShownChar, ShownBoolean, ShownText, Native, ObjectInit, ObjectHashCode, ObjectEquals, ObjectToString, StringLength, CharAt, StringEquals, StringHashCode, CompareTo, StringToString, Substring, ValueOf, BuilderInit, Append, BuilderLength, BuilderToString, BufferInitOf, Exit, Print, Println, PrintlnNothing, Read, ThrowableInit, ThrowableInitOf, GetMessage, ThrowableToString, FreeMeFree, FreeMeLink, FreeMeFreeChain, natives, native_of_row}
 use Rattle.fm_frames.specs.States.{Frame}
 use Rattle.fm_frames.specs.Effects.{SameOperands, Source}
-use Rattle.fm_conn.specs.Nodes.{depth_at}
 use Rattle.fm_conn.specs.Pairs.{depth_below}
 use Rattle.std.specs.List.{AllByRecursion}
 use Rattle.fm_frames.specs.States.{null}
@@ -34,9 +30,9 @@ use Rattle.fm_frames.specs.Sights.{Sight}
 use Rattle.fm_types.specs.Named.{throwable_type}
 use Rattle.fm_same.proofs.Cases.{by_any, by_builder, by_built, by_held, by_if, by_inner, by_int, by_object, by_shown, by_text}
 use Rattle.fm_same.specs.Covering.{CallsNative, native_words}
-use Rattle.fm_same.specs.Evenness.{ComesFrom, EndsEvenly, given, LeadsRight, Obeys, word}
+use Rattle.fm_same.specs.Evenness.{EndsEvenly, given, LeadsRight, word}
 use Rattle.fm_same.proofs.EdgesKeep.{call_falls, call_keeps, call_no_targets}
-use Rattle.fm_same.proofs.ItemFacts.{AtInsn, depth_level, given_word, goes_obey, pair_at, point, taken_word, used, x}
+use Rattle.fm_same.proofs.ItemFacts.{AtInsn, depth_level, goes_obey, pair_at, point, x}
 use Rattle.fm_same.proofs.MoveRows.{given_stands, gives_one}
 use Rattle.fm_same.proofs.ObjectRows.{home_of, only_next}
 use Rattle.fm_same.proofs.PlainRows.{fault_obeys, faulty_obeys, IsPlainSource, null_obeys, Owes, plain_obeys, stuck_obeys, thrown_obeys, words_obey}

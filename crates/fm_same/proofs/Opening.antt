@@ -1,16 +1,16 @@
 -- The opening has colours: all that it makes has the region of what main is given, and the streams live for ever.
-use Rattle.std.proofs.Common.{◌≡◌, ◌≢◌, ℕ, zero, suc, ◌+◌, ◌<◌, ◌≤◌, ◌⊎◌, Bool, true, false, cond, nat_lt, List, [], ◌∷◌, ◌++◌, length, map, codes, Option, Some, None, refl, sym, ◌∙◌, ap, subst, inl, inr, slice_get, slice_set, slice_index_or, arith, ⊎_elim, length-append}
+use Rattle.std.proofs.Common.{◌≡◌, ◌≢◌, ℕ, zero, suc, ◌+◌, ◌<◌, Bool, true, false, cond, nat_lt, List, [], ◌∷◌, ◌++◌, length, map, codes, Option, Some, None, refl, sym, ◌∙◌, ap, subst, inl, inr, slice_get, slice_set, slice_index_or, arith, ⊎_elim, length-append}
 use Rattle.std.specs.List.{AllByRecursion, flat_map}
 use Rattle.std.proofs.lemmas.Bool.Decides.{nat_tests}
 use Rattle.std.proofs.lemmas.List.{get_or_append_left}
-use Rattle.std.proofs.lemmas.Option.{none-some, same_Some}
+use Rattle.std.proofs.lemmas.Option.{same_Some}
 use Rattle.std.specs.FinMap.{gets}
 use Rattle.fm_base.specs.Texts.{units}
 use Rattle.fm_base.specs.declared.kinds.Kind.{Kind}
 use Rattle.fm_base.specs.declared.kinds.Kind.TheVariants as kind
 use Rattle.fm_base.specs.declared.kinds.TypeRef.{TypeRef}
 use Rattle.fm_cells.specs.Changes.{Choice, made_by, RefuseStore, Take}
-use Rattle.fm_cells.specs.Choices.{lawful, MayReuse}
+use Rattle.fm_cells.specs.Choices.{MayReuse}
 use Rattle.fm_cells.specs.Objects.{Object, Request}
 use Rattle.fm_cells.specs.Sizes.{cell_words}
 use Rattle.fm_cells.specs.Stores.{live_words, object_at, opened, Store}
@@ -19,28 +19,27 @@ use Rattle.fm_conn.specs.Facts.{Facts}
 use Rattle.fm_conn.specs.Nodes.{Local}
 use Rattle.fm_types.specs.Named.{built_in_type}
 use Rattle.fm_code.specs.AccessFlags.{is_static}
-use Rattle.fm_world.specs.Members.{field_at, field_kind, fields_of, OwnedField, slot_of}
+use Rattle.fm_world.specs.Members.{field_at, field_kind, fields_of, OwnedField}
 use Rattle.fm_world.specs.Numbers.{text_number}
 use Rattle.fm_world.specs.Programs.{Outline, Program}
 use Rattle.fm_world.specs.declared.declarations.Constant.{Constant}
 use Rattle.fm_world.specs.declared.declarations.Constant.TheVariants as constant
 use Rattle.fm_frames.specs.Acts.{chain_freed, chain_from, cell_of, Choose, Did, FullAt, is_there, literal_made, literal_text, LostAt, made_then, performed, Performed, requested}
-use Rattle.fm_frames.specs.Effects.{Action, Free, FreeChain, Make, MakeFixed, MakeLiteral, OfLiteral, OfMade, Plain, Put, SetChain, SetStatic, Start}
+use Rattle.fm_frames.specs.Effects.{Action, Free, FreeChain, Make, MakeFixed, MakeLiteral, OfLiteral, Plain, Put, SetChain, SetStatic, Start}
 use Rattle.fm_frames.specs.Elements.{first_of, read}
-use Rattle.fm_frames.specs.NativeRows.{text_kind, text_made, text_type}
+use Rattle.fm_frames.specs.NativeRows.{text_type}
 use Rattle.fm_frames.specs.ObjectRows.{kind_of_field}
-use Rattle.fm_frames.specs.Runs.{after_action, argument_actions, arguments_type, first_areas, first_statics, framed, Job, opened_by, opening, opening_actions, opening_frames, unopened, with_streams}
+use Rattle.fm_frames.specs.Runs.{after_action, argument_actions, arguments_type, first_areas, framed, Job, opened_by, opening, opening_actions, opening_frames, unopened, with_streams}
 use Rattle.fm_frames.specs.Starts.{fields_at, set_constant, start_actions, start_methods, start_of_class, to_start}
-use Rattle.fm_frames.specs.States.{Areas, Frame, ref, State, word_at}
-use Rattle.fm_frames.specs.Steps.{is_over, new_frame, start_frames, stopped, words_made}
-use Rattle.fm_frames.specs.declared.ends.Ended.{Ended}
+use Rattle.fm_frames.specs.States.{Areas, ref, State, word_at}
+use Rattle.fm_frames.specs.Steps.{is_over, new_frame, stopped, words_made}
 use Rattle.fm_frames.specs.declared.ends.Ended.TheVariants as end
 use Rattle.fm_frames.specs.declared.values.Value.{Value}
 use Rattle.fm_frames.specs.declared.values.Value.TheVariants as value
 use Rattle.fm_same.specs.Colours.{AreAreasColoured, AreFramesColoured, Colour, Coloured, HasColour, IsFixed, IsFrameColoured, IsNull, IsOf, LivesForEver, OfNull}
 use Rattle.fm_same.specs.Evenness.{HasNoEdge, HoldsNumbers, IsNumber, IsPlainKind}
 use Rattle.fm_same.specs.Regions.{Everywhere, Region, region, Retired}
-use Rattle.fm_same.proofs.ActsKeep.{ActHas, acts_go, make_goes, Makes, StaticHas, Went, WentTo}
+use Rattle.fm_same.proofs.ActsKeep.{ActHas, acts_go, make_goes, StaticHas, Went, WentTo}
 use Rattle.fm_same.proofs.CallsKeep.{starts_coloured, top_found}
 use Rattle.fm_same.proofs.GoesOnKeep.{append_found}
 use Rattle.fm_same.proofs.StoreChanges.{Extends, extends-refl, extends-then, for_ever-is_of, for_ever-later, is_of-later, set_found}

@@ -1,5 +1,5 @@
 -- Regions of classes: which there are, that they go along calls and returns, and that a frame's own regions are told apart by its classes.
-use Rattle.std.proofs.Common.{◌≡◌, ◌≢◌, ℕ, zero, suc, ◌+◌, ◌≤◌, ◌⊎◌, ◌==◌, ◌&&◌, cond, Bool, true, false, List, [], ◌∷◌, length, Option, Some, None, IsSomeAnd, refl, sym, ◌∙◌, ap, subst, inl, inr, slice_get, arith, eqb-true, eq-eqb, ne_eqb, ⊎_elim}
+use Rattle.std.proofs.Common.{◌≡◌, ◌≢◌, ℕ, zero, suc, ◌+◌, ◌≤◌, ◌⊎◌, ◌==◌, ◌&&◌, cond, Bool, true, false, List, [], ◌∷◌, length, Option, Some, None, IsSomeAnd, refl, sym, ◌∙◌, ap, subst, inl, inr, slice_get, arith, eqb-true, eq-eqb, ⊎_elim}
 use Rattle.std.proofs.lemmas.Bool.{and_from, and_parts, cases_Bool, eqb-false, false≢true}
 use Rattle.fm_types.specs.States.{is_reference}
 use Rattle.fm_types.specs.Typed.{entry_slots}
@@ -11,7 +11,7 @@ use Rattle.fm_conn.specs.Pairs.{IsEnd}
 use Rattle.fm_conn.specs.declared.ends.End2.TheVariants as end
 use Rattle.fm_frames.specs.States.{Frame}
 use Rattle.fm_same.specs.Laws.{IsWithin}
-use Rattle.fm_same.specs.Regions.{IsCaptured, Region, Everywhere, Given, Own, argument, parameter_from, parameter_in, region, region_by}
+use Rattle.fm_same.specs.Regions.{Region, Everywhere, Given, Own, argument, parameter_from, parameter_in, region, region_by}
 
 -- ---- the first parameter of a class
 
@@ -195,11 +195,3 @@ region_within o facts method (f ∷ callers) class =
     (region o facts f.method callers (facts.class f.method (argument f k))) refl
     (region_within o facts f.method callers (facts.class f.method (argument f k))))
     (sort_of o facts method (f ∷ callers) class)
-
--- a captured class has a region of its own
-pub captured_is_own : (o : Outline) (facts : Facts) (method : ℕ) (callers : List Frame) (class : ℕ) → IsCaptured o facts method class
-    → region o facts method callers class ≡ Own (length callers) class
-captured_is_own o facts method callers class h =
-    region_is o facts method callers class
-    ∙ own_by (facts.class method Global == class) (parameter_in o facts method class) (Own (length callers) class) (handed o facts callers)
-    (ne_eqb (facts.class method Global) class h.not_global) h.no_parameter

@@ -1,11 +1,12 @@
 -- The law of dead regions, along a run: what a captured class leads to keeps the class's own region while the activation stands, is retired when the class
 -- isn't busy, and is dead from then on.
-use Rattle.std.proofs.Common.{◌≡◌, refl, ℕ, zero, suc, ◌+◌, ◌-◌, ◌<◌, ◌≤◌, ◌⊎◌, List, [], ◌∷◌, length, sym, ◌∙◌, ap, subst, inl, inr, arith}
+use Rattle.std.proofs.Common.{◌≡◌, refl, ℕ, zero, suc, ◌+◌, ◌-◌, ◌<◌, ◌≤◌, ◌⊎◌, true, List, [], ◌∷◌, length, sym, ◌∙◌, ap, subst, inl, inr, arith}
 use Rattle.fm_cells.specs.Choices.{lawful, MayReuse}
 use Rattle.fm_cells.specs.Objects.{Request}
 use Rattle.fm_cells.specs.Stores.{Store}
 use Rattle.fm_conn.specs.Facts.{AreFacts, Facts}
-use Rattle.fm_conn.specs.Nodes.{Return}
+use Rattle.fm_conn.specs.Links.{typed_method}
+use Rattle.fm_conn.specs.Nodes.{Return, TypedMethod}
 use Rattle.fm_world.specs.Programs.{Program}
 use Rattle.fm_frames.specs.Acts.{Choose}
 use Rattle.fm_frames.specs.Runs.{after, Job, opening}
@@ -13,30 +14,45 @@ use Rattle.fm_frames.specs.States.{Frame, State}
 use Rattle.fm_same.specs.Advances.{GoesOver, IsResult}
 use Rattle.fm_same.specs.Colours.{Colour, Coloured}
 use Rattle.fm_same.specs.DeadRegions.{IsDead, IsMethodAt, IsRetired, AreSound, AreSteps, states_of}
+use Rattle.fm_same.specs.Covering.{CoversAt}
 use Rattle.fm_same.specs.Evenness.{HoldsNumbers}
-use Rattle.fm_same.specs.Regions.{IsCaptured, Own, Region, Retired}
+use Rattle.fm_place.specs.Sites.{is_captured}
+use Rattle.fm_same.specs.Regions.{Own, Region, Retired}
+use Rattle.fm_same.specs.Resolved.{CallsNoFreeMe, IsResolved}
 use Rattle.fm_same.specs.Standing.{Stand}
+use Rattle.fm_same.specs.Targets.{Covers}
+use Rattle.fm_same.proofs.CallsCovered.{state_covers}
+use Rattle.fm_same.proofs.ProgramNumbers.{holds_numbers}
+use Rattle.fm_same.proofs.CapturedClasses.{captured_holds}
 use Rattle.fm_same.proofs.Retiring.{dead_if_retired, held_at_has, led_has, method_there, retire, retired_on}
 use Rattle.fm_same.proofs.ReturnsKeep.{mapped, moved, moved_own}
 use Rattle.fm_same.proofs.Starting.{state_owes}
 use Rattle.fm_same.proofs.StepKeeps.{step_over}
 
 -- the own region of a captured class stays while the activation does
-own_on : (p : Program) (facts : Facts) (frames : List Frame) (method depth class : ℕ) (before after : Region) → IsCaptured p.outline facts method class
-    → IsMethodAt method depth frames → before ≡ Own depth class → (after ≡ before) ⊎ IsResult facts frames before → after ≡ Own depth class
-own_on p facts frames method depth class before after captured at own (inl same) = same ∙ own
-own_on p facts [] method depth class before after captured at own (inr result) = absurd result
-own_on p facts (f ∷ callers) method depth class before after captured at own (inr result) =
+own_on : (facts : Facts) (x : TypedMethod) (frames : List Frame) (depth class : ℕ) (before after : Region) → is_captured facts x class ≡ true
+    → IsMethodAt x.number depth frames → before ≡ Own depth class → (after ≡ before) ⊎ IsResult facts frames before → after ≡ Own depth class
+own_on facts x frames depth class before after captured at own (inl same) = same ∙ own
+own_on facts x [] depth class before after captured at own (inr result) = absurd result
+own_on facts x (f ∷ callers) depth class before after captured at own (inr result) =
     let both : Own (length callers) (facts.class f.method Return) ≡ Own depth class = sym result ∙ own in
     let level : length callers ≡ depth = cc in
     let returned : facts.class f.method Return ≡ class = cc in
-    absurd (captured.not_result (ap (λ m. facts.class m Return) (sym (method_there method depth f callers at level)) ∙ returned))
+    absurd
+    ((captured_holds facts x class captured).not_result
+    (ap (λ m. facts.class m Return) (sym (method_there x.number depth f callers at level)) ∙ returned))
 
-module _ (p : Program) (facts : Facts) (exact : AreFacts p facts) (numbers : HoldsNumbers p.outline) (choose : Choose) (may : (s : Store) (request : Request) → MayReuse s request (choose s request)) (xs : ℕ → State) (steps : AreSteps p choose xs) (run : AreSound p facts xs) where
+module _ (p : Program) (facts : Facts) (exact : AreFacts p facts) (ready : IsResolved p) (no_free : CallsNoFreeMe p) (choose : Choose) (may : (s : Store) (request : Request) → MayReuse s request (choose s request)) (xs : ℕ → State) (steps : AreSteps p choose xs) (run : AreSound p facts xs) (covers : (k : ℕ) → Covers p facts (xs k)) where
+  numbers : HoldsNumbers p.outline
+  numbers = holds_numbers p ready
+
+  covers_at : (k : ℕ) → CoversAt p facts (xs k) (xs k).frames
+  covers_at k = state_covers p facts exact ready no_free (xs k) (run.stand k) (covers k) (run.places k)
+
   over_at : (k : ℕ) (colour : Colour) → Coloured p facts (xs k) colour → GoesOver p facts (xs k) (xs (suc k)) colour
   over_at k colour h =
       subst (λ next. GoesOver p facts (xs k) next colour) (sym (steps k))
-      (step_over p facts exact choose may numbers (xs k) colour h (run.stand k) (state_owes p facts exact numbers (xs k) (run.stand k) (run.covers k))
+      (step_over p facts exact choose may numbers (xs k) colour h (run.stand k) (state_owes p facts exact numbers (xs k) (run.stand k) (covers_at k))
       (subst (λ (next : State). Stand p facts next.frames) (steps k) (run.stand (suc k))))
 
   -- each state has colours
@@ -83,7 +99,8 @@ module _ (p : Program) (facts : Facts) (exact : AreFacts p facts) (numbers : Hol
           coloured = here.1;
           born = subst (λ b. b < (xs first).areas.store.births) h.leads.is (here.1.areas.orderly.born h.leads.last h.leads.object h.leads.held);
           has = led_has p.outline here.0 (xs first).areas (Own depth class) h.from birth here.1.areas
-              (held_at_has p.outline facts (xs first).areas.store here.0 method depth class (xs first).frames h.from here.1.frames h.captured stands h.held)
+              (held_at_has facts (typed_method p facts.typing method h.code) (xs first).areas.store here.0 depth class (xs first).frames h.from here.1.frames
+              h.captured stands h.held)
               h.leads;
         }
 
@@ -96,8 +113,8 @@ module _ (p : Program) (facts : Facts) (exact : AreFacts p facts) (numbers : Hol
           colour = over.other;
           coloured = over.coloured;
           born = omega arith;
-          has = own_on p facts (xs (first + i)).frames method depth class (at.colour birth) (over.other birth) h.captured (h.stands i le) at.has
-              (over.advances birth at.born);
+          has = own_on facts (typed_method p facts.typing method h.code) (xs (first + i)).frames depth class (at.colour birth) (over.other birth) h.captured
+              (h.stands i le) at.has (over.advances birth at.born);
         }
 
     own_at : (i : ℕ) → i ≤ suc count → HasAt (first + i) birth (Own depth class)

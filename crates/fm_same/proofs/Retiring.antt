@@ -1,8 +1,11 @@
 -- A captured class that isn't busy is retired, and what is retired isn't led to any more.
-use Rattle.std.proofs.Common.{◌≡◌, ◌≢◌, ℕ, ◌<◌, ◌≤◌, ◌⊎◌, List, [], ◌∷◌, length, refl, sym, ◌∙◌, ap, subst, inl, inr, slice_index_or, arith, ⊎_elim}
+use Rattle.std.proofs.Common.{◌≡◌, ◌≢◌, ℕ, ◌-◌, ◌<◌, ◌≤◌, ◌⊎◌, true, false, List, [], ◌∷◌, length, Some, slice_get, refl, sym, ◌∙◌, ap, subst, inl, inr, slice_index_or, arith, ⊎_elim}
+use Rattle.std.specs.Prelude.{is_some}
+use Rattle.std.proofs.lemmas.Option.{slice_get_within}
+use Rattle.fm_types.specs.Typed.{state_at}
 use Rattle.fm_cells.specs.Stores.{Store}
 use Rattle.fm_conn.specs.Facts.{Facts}
-use Rattle.fm_conn.specs.Nodes.{Local, Node}
+use Rattle.fm_conn.specs.Nodes.{IsNode, Local, Node, TypedMethod}
 use Rattle.fm_world.specs.Programs.{Outline, Program}
 use Rattle.fm_frames.specs.Acts.{cell_of}
 use Rattle.fm_frames.specs.States.{Areas, Frame, State}
@@ -10,10 +13,13 @@ use Rattle.fm_frames.specs.declared.values.Value.{Value}
 use Rattle.fm_same.specs.Advances.{GoesOver, IsResult}
 use Rattle.fm_same.specs.Colours.{AreAreasColoured, AreFramesColoured, Colour, Coloured, HasColour, IsEdgeEven, IsFrameColoured, IsOf, node_of_word}
 use Rattle.fm_same.specs.DeadRegions.{InLocal, InLocalOf, InWord, InWordOf, IsDead, IsHeldAt, IsHeldBy, IsHeldIn, IsMethodAt, IsOver, IsQuiet, IsRoot, IsStep, IsTrail, LeadsTo}
-use Rattle.fm_same.specs.Regions.{Everywhere, IsCaptured, Own, Region, region, Retired}
-use Rattle.fm_same.specs.Standing.{Stand, StandsAt}
+use Rattle.fm_place.specs.Places.{is_busy}
+use Rattle.fm_place.specs.Sites.{is_captured}
+use Rattle.fm_same.specs.Regions.{Everywhere, Own, Region, region, Retired}
+use Rattle.fm_same.specs.Standing.{method_of, Stand, StandsAt}
 use Rattle.fm_same.proofs.ActsKeep.{cell_has, object_has}
-use Rattle.fm_same.proofs.RegionLemmas.{captured_is_own, region_within}
+use Rattle.fm_same.proofs.CapturedClasses.{captured_is_own, quiet_local, quiet_word}
+use Rattle.fm_same.proofs.RegionLemmas.{region_within}
 use Rattle.fm_same.proofs.ReturnsKeep.{areas-mapped, frames-mapped, mapped, moved, moved_below, moved_cases}
 use Rattle.fm_same.proofs.SourcesKeep.{has_if_reference}
 use Rattle.fm_same.proofs.StoreChanges.{has-mapped}
@@ -90,20 +96,20 @@ held_below facts depth class (f ∷ callers) v (inr below) =
     let lt : depth < length callers = held_below facts depth class callers v below in omega arith
 
 -- what is held in a captured class has its own region
-pub held_at_has : (o : Outline) (facts : Facts) (store : Store) (colour : Colour) (method depth class : ℕ) (frames : List Frame) (v : Value)
-    → AreFramesColoured o facts store colour frames → IsCaptured o facts method class → IsMethodAt method depth frames
+pub held_at_has : (facts : Facts) (x : TypedMethod) (store : Store) (colour : Colour) (depth class : ℕ) (frames : List Frame) (v : Value)
+    → AreFramesColoured x.program.outline facts store colour frames → is_captured facts x class ≡ true → IsMethodAt x.number depth frames
     → IsHeldAt facts depth class frames v → HasColour store colour (Own depth class) v
-held_at_has o facts store colour method depth class [] v h captured at held = absurd held
-held_at_has o facts store colour method depth class (f ∷ callers) v h captured at (inl here) =
-    let same : f.method ≡ method = method_there method depth f callers at here.0 in
+held_at_has facts x store colour depth class [] v h captured at held = absurd held
+held_at_has facts x store colour depth class (f ∷ callers) v h captured at (inl here) =
     subst (λ r. HasColour store colour r v)
-    (captured_is_own o facts f.method callers class (subst (λ m. IsCaptured o facts m class) (sym same) captured) ∙ ap (λ d. Own d class) here.0)
-    (held_in_has o facts store colour class f callers v h.0 here.1)
-held_at_has o facts store colour method depth class (f ∷ callers) v h captured (inl here) (inr below) =
+    (ap (λ m. region x.program.outline facts m callers class) (method_there x.number depth f callers at here.0)
+    ∙ captured_is_own facts x callers class captured ∙ ap (λ d. Own d class) here.0)
+    (held_in_has x.program.outline facts store colour class f callers v h.0 here.1)
+held_at_has facts x store colour depth class (f ∷ callers) v h captured (inl here) (inr below) =
     let lt : depth < length callers = held_below facts depth class callers v below in
     let is : length callers ≡ depth = here.0 in absurd (omega arith)
-held_at_has o facts store colour method depth class (f ∷ callers) v h captured (inr at) (inr below) =
-    held_at_has o facts store colour method depth class callers v h.1 captured at below
+held_at_has facts x store colour depth class (f ∷ callers) v h captured (inr at) (inr below) =
+    held_at_has facts x store colour depth class callers v h.1 captured at below
 
 -- ---- retiring
 
@@ -115,12 +121,26 @@ retired_words : (p : Program) (facts : Facts) (store : Store) (colour : Colour) 
     → IsQuiet p facts class f → IsFrameColoured p.outline facts store colour f callers
     → IsFrameColoured p.outline facts store (mapped (moved (length callers) class Retired) colour) f callers
 retired_words p facts store colour class f callers at quiet h = record {
-  locals = λ k v found live. kept (Local k) v (quiet.locals k live) (h.locals k v found live);
+  locals = λ k v found live. kept (Local k) v (apart_local k v found live) (h.locals k v found live);
   words = λ n v found.
       has_if_reference store (mapped (moved (length callers) class Retired) colour)
       (region p.outline facts f.method callers (facts.class f.method (node_of_word f n))) v
-      (λ leads. kept (node_of_word f n) v (quiet.words at.code at.code_is n (at.is_node n v found leads)) (h.words n v found));
+      (λ leads. kept (node_of_word f n) v (apart_word n (at.is_node n v found leads)) (h.words n v found));
 } where
+  reached : is_some (state_at (facts.typing f.method) f.item) ≡ true
+  reached = ap is_some at.state_is
+
+  not_busy : is_busy facts (method_of p facts f at.code) class f.item ≡ false
+  not_busy = quiet at.code at.code_is
+
+  apart_local : (k : ℕ) (v : Value) → slice_get f.locals k ≡ Some v → facts.live f.method k f.item ≡ true → facts.class f.method (Local k) ≢ class
+  apart_local k v found live =
+      let inside = slice_get_within f.locals k v found in
+      quiet_local facts (method_of p facts f at.code) class f.item reached not_busy k (omega (arith, inside, at.width)) live
+
+  apart_word : (n : ℕ) → IsNode (method_of p facts f at.code) (node_of_word f n) → facts.class f.method (node_of_word f n) ≢ class
+  apart_word n node = quiet_word facts (method_of p facts f at.code) class f.item reached not_busy (length f.stack - 1 - n) node
+
   kept : (node : Node) (v : Value) → facts.class f.method node ≢ class
       → HasColour store colour (region p.outline facts f.method callers (facts.class f.method node)) v
       → HasColour store (mapped (moved (length callers) class Retired) colour) (region p.outline facts f.method callers (facts.class f.method node)) v

@@ -1,7 +1,6 @@
 -- What the start of a class makes of an effect owes no more than the effect; so the next effect of a sound state owes what it should.
-use Rattle.std.proofs.Common.{◌≡◌, ℕ, zero, suc, ◌+◌, Bool, true, false, List, [], ◌∷◌, ◌++◌, length, Option, Some, None, option_and_then, refl, sym, ◌∙◌, ap, subst, slice_get, arith}
-use Rattle.std.specs.List.{AllByRecursion, flat_map}
-use Rattle.std.proofs.lemmas.Option.{same_Some}
+use Rattle.std.proofs.Common.{◌≡◌, ℕ, ◌==◌, Bool, true, false, List, [], ◌∷◌, ◌++◌, Option, Some, None, codes, option_and_then, refl, sym, ◌∙◌, ap, subst, slice_get, eq-eqb}
+use Rattle.std.specs.List.{AllByRecursion, cons_option, flat_map}
 use Rattle.fm_base.specs.Texts.{units}
 use Rattle.fm_base.specs.declared.kinds.Kind.{Kind}
 use Rattle.fm_base.specs.declared.kinds.Kind.TheVariants as kind
@@ -10,27 +9,27 @@ use Rattle.fm_code.specs.Edges.{insn_of}
 use Rattle.fm_code.specs.declared.code_array.Code.{Code}
 use Rattle.fm_code.specs.declared.instructions.Insn.{Insn}
 use Rattle.fm_conn.specs.Facts.{AreFacts, Facts}
-use Rattle.fm_types.specs.Typed.{use_by}
-use Rattle.fm_world.specs.Members.{field_at, slot_of}
+use Rattle.fm_code.specs.AccessFlags.{is_static}
+use Rattle.fm_world.specs.Members.{field_at, slot_of, start_of}
 use Rattle.fm_world.specs.Numbers.{text_number}
 use Rattle.fm_world.specs.Programs.{code_at, Outline, Program}
 use Rattle.fm_world.specs.declared.declarations.Constant.{Constant}
 use Rattle.fm_world.specs.declared.declarations.Constant.TheVariants as constant
-use Rattle.fm_frames.specs.Effects.{Action, Effect, Enters, MakeLiteral, nothing, OfLiteral, Plain, SetStatic, Start}
+use Rattle.fm_frames.specs.Effects.{Action, Effect, Enters, MakeLiteral, nothing, OfLiteral, Plain, SetStatic}
 use Rattle.fm_frames.specs.ObjectRows.{kind_of_field}
-use Rattle.fm_frames.specs.Rows.{effect_of}
 use Rattle.fm_frames.specs.Sights.{sights}
-use Rattle.fm_frames.specs.Starts.{fields_at, set_constant, start_actions, start_methods, start_of_class, started_by, to_start, with_start}
+use Rattle.fm_frames.specs.Starts.{fields_at, set_constant, start_actions, start_methods, start_of_class, to_start, with_start}
 use Rattle.fm_frames.specs.States.{Frame, State}
-use Rattle.fm_frames.specs.Steps.{effect_at, effect_by, insn_at, next_effect}
+use Rattle.fm_frames.specs.Steps.{effect_at, effect_by, insn_at, is_start, next_effect}
 use Rattle.fm_frames.specs.declared.values.Value.{Value}
 use Rattle.fm_frames.specs.declared.values.Value.TheVariants as value
 use Rattle.fm_same.specs.Advances.{OwesAt, point_of}
 use Rattle.fm_same.specs.Covering.{CoversAt, MeetsCalls}
 use Rattle.fm_same.specs.Evenness.{ActsEvenly, HoldsNumbers, IsNumber, IsPlainKind, Obeys, PlacesAgree, Point, PutAgrees, SetsEvenly}
-use Rattle.fm_same.specs.Standing.{Goes, Stand, StandsAt}
+use Rattle.fm_same.specs.Standing.{Goes, Stand}
 use Rattle.fm_same.proofs.ItemFacts.{AtInsn, depth_is}
 use Rattle.fm_same.proofs.Owing.{effect_obeys}
+use Rattle.fm_same.proofs.TargetMethods.{own_method_found}
 
 -- ---- lists
 
@@ -116,9 +115,29 @@ start_is o started e = refl
 abbrev Both : Outline → Point → Insn → Store → List Value → Effect → Type 0
 Both o x i store stack e = Obeys o x i e × PlacesAgree o store stack e
 
+-- whether a method is the one that is found
+abbrev is_start_by : ℕ → Option ℕ → Bool
+is_start_by m None = false
+is_start_by m (Some start) = start == m
+
+-- the methods that start classes are such ones
+start_itself : (o : Outline) (class m : ℕ) → start_of o.classes class ≡ Some m → is_start o m ≡ true
+start_itself o class m is =
+    let found = own_method_found o.classes is_static (codes "<clinit>") (codes "()V") class m is in
+    ap (is_start_by m) (ap (start_of o.classes) found.owner ∙ is) ∙ eq-eqb m m refl
+
+pub starts_are : (o : Outline) (classes : List ℕ) → AllByRecursion (λ m. is_start o m ≡ true) (start_methods o classes)
+starts_are o [] = tt
+starts_are o (class ∷ classes) = by_start (start_of o.classes class) refl (starts_are o classes) where
+  by_start : (found : Option ℕ) → start_of o.classes class ≡ found → AllByRecursion (λ m. is_start o m ≡ true) (start_methods o classes)
+      → AllByRecursion (λ m. is_start o m ≡ true) (cons_option found (start_methods o classes))
+  by_start None is rest = rest
+  by_start (Some m) is rest = (start_itself o class m is, rest)
+
 methods_owe : (o : Outline) (x : Point) (i : Insn) (store : Store) (stack : List Value) → HoldsNumbers o → (classes : List ℕ) (e : Effect)
-    → Both o x i store stack e → (methods : List ℕ) → Both o x i store stack (by_methods o classes e methods)
-methods_owe o x i store stack numbers classes e owes [] = (
+    → Both o x i store stack e → (methods : List ℕ) → AllByRecursion (λ m. is_start o m ≡ true) methods
+    → Both o x i store stack (by_methods o classes e methods)
+methods_owe o x i store stack numbers classes e owes [] starts = (
   record {
     home = owes.0.home;
     acts = all_joined (ActsEvenly o x owes.0.home) (start_actions o classes) e.actions (starts_even o x owes.0.home numbers classes) owes.0.acts;
@@ -133,8 +152,8 @@ methods_owe o x i store stack numbers classes e owes [] = (
     reads = owes.1.reads;
   },
 )
-methods_owe o x i store stack numbers classes e owes (m ∷ methods) = (
-  record { home = 0; acts = starts_even o x 0 numbers classes; leads = tt; goes = λ next going edge. absurd going; ends = tt },
+methods_owe o x i store stack numbers classes e owes (m ∷ methods) starts = (
+  record { home = 0; acts = starts_even o x 0 numbers classes; leads = tt; goes = λ next going edge. absurd going; ends = starts },
   record { puts = starts_agree o store stack classes; reads = tt },
 )
 
@@ -143,6 +162,7 @@ class_owes : (o : Outline) (x : Point) (i : Insn) (store : Store) (stack : List 
 class_owes o x i store stack numbers started e owes None = owes
 class_owes o x i store stack numbers started e owes (Some class) =
     methods_owe o x i store stack numbers (to_start o started class) e owes (start_methods o (to_start o started class))
+    (starts_are o (to_start o started class))
 
 -- ---- at a state
 
@@ -167,7 +187,7 @@ module _ (p : Program) (facts : Facts) (exact : AreFacts p facts) (numbers : Hol
       let is : effect_at p x ≡ effect_by p x f (Some at.insn) = ap (effect_by p x f) (insn_is p f at.code at.insn at.code_is at.insn_is) in
       let owes : Obeys p.outline (point_of p facts f at.code) at.insn (effect_at p x) =
       subst (λ e. Obeys p.outline (point_of p facts f at.code) at.insn e) (sym is)
-      (effect_obeys p facts exact f at.insn h (slice_get y.input 0) (sights p.outline y.areas.store f.stack) asks.natives asks.keys) in
+      (effect_obeys p facts exact f at.insn h (slice_get y.input 0) (sights p.outline y.areas.store f.stack) asks.calls) in
       class_owes p.outline (point_of p facts f at.code) at.insn y.areas.store f.stack numbers y.areas.started (effect_at p x) (owes, asks.places)
       (effect_at p x).starts
 

@@ -162,11 +162,11 @@ frameless_over p facts choose y colour coloured e none =
 
 -- ---- from a state to the next
 
-abbrev stepped : Program → Choose → State → Option Ended → Moved
+abbrev pub stepped : Program → Choose → State → Option Ended → Moved
 stepped p choose x (Some e) = record { state = x; printed = [] }
 stepped p choose x None = attempted p choose x (next_effect p x)
 
-step_is : (p : Program) (choose : Choose) (x : State) → step p choose x ≡ stepped p choose x x.ended
+pub step_is : (p : Program) (choose : Choose) (x : State) → step p choose x ≡ stepped p choose x x.ended
 unfolding step
 step_is p choose x = refl
 

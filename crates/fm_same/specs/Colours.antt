@@ -56,6 +56,7 @@ pub record IsFrameColoured (o : Outline) (facts : Facts) (store : Store) (colour
       → HasColour store colour (region_of o facts f callers (Local k)) v
   pub words : (n : ℕ) (v : Value) → slice_get f.stack n ≡ Some v → HasColour store colour (region_of o facts f callers (node_of_word f n)) v
 
+-- of a frame and of all below it
 abbrev pub AreFramesColoured : Outline → Facts → Store → Colour → List Frame → Type 0
 AreFramesColoured o facts store colour [] = Unit {0}
 AreFramesColoured o facts store colour (f ∷ callers) =
@@ -82,6 +83,7 @@ pub record AreAreasColoured (o : Outline) (colour : Colour) (x : Areas) : Type 0
 
 -- ---- a state
 
+-- its frames and its areas
 pub record Coloured (p : Program) (facts : Facts) (x : State) (colour : Colour) : Type 0 where
   pub frames : AreFramesColoured p.outline facts x.areas.store colour x.frames
   pub areas : AreAreasColoured p.outline colour x.areas

@@ -1,5 +1,5 @@
 -- What is asked of calls: the method that a call leads to is among its targets, and a built-in method has the words and the ends that its row works on.
-use Rattle.std.specs.Prelude.{◌≡◌, ℕ, ◌+◌, ◌-◌, ◌≤◌, Option, Some, None, List, [], ◌∷◌, length, Contains, slice_get}
+use Rattle.std.specs.Prelude.{◌≡◌, ℕ, ◌+◌, ◌-◌, ◌≤◌, Bool, true, false, Some, List, [], ◌∷◌, length, Contains, slice_get}
 use Rattle.fm_base.specs.declared.ids.MethodId.{MethodId}
 use Rattle.fm_base.specs.declared.ids.TypeId.{TypeId}
 use Rattle.fm_base.specs.declared.kinds.TypeRef.{TypeRef}
@@ -13,6 +13,8 @@ use Rattle.fm_conn.specs.Rows as pairs
 use Rattle.fm_conn.specs.declared.ends.End2.TheVariants as end
 use Rattle.fm_types.specs.Named.{class_of_method}
 use Rattle.fm_types.specs.Typed.{use_by}
+use Rattle.fm_types.specs.Fits.{fits_type}
+use Rattle.fm_world.specs.Chains.{is_sub}
 use Rattle.fm_world.specs.Lookups.{select, special_target}
 use Rattle.fm_world.specs.Members.{method_at}
 use Rattle.fm_world.specs.Programs.{class_of_type, Outline, Program, targets}
@@ -30,13 +32,16 @@ use Rattle.fm_same.specs.Standing.{method_of, StandsAt}
 
 -- ---- the method that a call leads to
 
--- by the object that is seen at the receiver's place
-pub record EntersSelected (o : Outline) (u : Use) (s : List Sight) (target : ℕ) : Type 0 where
+-- by the object that is seen at the receiver's place, which passes a test of its type and the named one
+pub record EntersSelected (o : Outline) (takes : TypeRef → TypeRef → Bool) (u : Use) (s : List Sight) (target : ℕ) : Type 0 where
   pub method : MethodId
   pub type : TypeId
   pub named : u ≡ resolved.OfMethod method type
+  pub of : TypeRef
+  pub of_is : slice_get o.types type.0 ≡ Some of
   pub receiver : Looks
   pub seen : slice_get s (words_of_arguments o method.0) ≡ Some (Thing receiver)
+  pub passes : takes receiver.type of ≡ true
   pub selected : select o.classes (receiver_class o receiver) method.0 ≡ Some target
 
 -- by the class of the caller and the named type
@@ -48,15 +53,17 @@ pub record EntersSpecial (o : Outline) (caller : ℕ) (u : Use) (target : ℕ) :
   pub of_is : slice_get o.types type.0 ≡ Some of
   pub is : special_target o.classes (class_of_method o caller) (class_of_type of) method.0 ≡ target
 
+-- the one that is named
 pub record EntersNamed (u : Use) (target : ℕ) : Type 0 where
   pub method : MethodId
   pub type : TypeId
   pub named : u ≡ resolved.OfMethod method type
   pub is : method.0 ≡ target
 
+-- the instruction is a call, and leads to the method
 abbrev pub Enters : Outline → (caller : ℕ) → Use → List Sight → Insn → (target : ℕ) → Type 0
-Enters o caller u s (insn.Virtual index) target = EntersSelected o u s target
-Enters o caller u s (insn.Interface index) target = EntersSelected o u s target
+Enters o caller u s (insn.Virtual index) target = EntersSelected o (fits_type o.classes) u s target
+Enters o caller u s (insn.Interface index) target = EntersSelected o (is_sub o.classes) u s target
 Enters o caller u s (insn.Special index) target = EntersSpecial o caller u target
 Enters o caller u s (insn.Static index) target = EntersNamed u target
 Enters o caller u s other target = ⊥
@@ -106,12 +113,19 @@ NativeEnds o method FreeMeLink = ⊥
 NativeEnds o method FreeMeFreeChain = ⊥
 NativeEnds o method row = Unit {0}
 
+-- the row is one of FreeMe's
+abbrev pub is_free_me : Native → Bool
+is_free_me FreeMeFree = true
+is_free_me FreeMeLink = true
+is_free_me FreeMeFreeChain = true
+is_free_me row = false
+
 -- a call of a built-in method: it is among the targets, the words that are taken are its row's, and its parameters that are references got words that are
 pub record CallsNative (p : Program) (facts : Facts) (f : Frame) (code : Code) (i : Insn) (target : ℕ) (row : Native) : Type 0 where
   pub call : Call
   pub call_is : call_of (method_of p facts f code) i ≡ Some call
   pub among : Contains (targets p call) target
-  pub words : pairs.words_taken p.outline (use_by p f.method i) i ≡ native_words row
+  pub words : pairs.words_taken p.outline (use_at (method_of p facts f code) i) i ≡ native_words row
   pub deep : native_words row ≤ length f.stack
   pub number : ℕ
   pub number_is : (method_at p.outline.classes target).method.row ≡ Some number
@@ -122,23 +136,27 @@ pub record CallsNative (p : Program) (facts : Facts) (f : Frame) (code : Code) (
 
 -- ---- what is asked at a state
 
--- a switch by keys has a target for each of its keys
-abbrev pub HasKeysFor : Insn → Type 0
-HasKeysFor (insn.Lookup others keys targets) = length keys ≤ length targets
-HasKeysFor i = Unit {0}
+-- a method that a call leads to is among the targets, and a built-in one is as its row wants it
+pub record MeetsTarget (p : Program) (facts : Facts) (f : Frame) (code : Code) (i : Insn) (target : ℕ) : Type 0 where
+  pub among : (call : Call) → call_of (method_of p facts f code) i ≡ Some call → Contains (targets p call) target
+  pub natives : (row : Native) → native_of p.outline target ≡ Some row → CallsNative p facts f code i target row
 
--- each built-in method that a call leads to is one as its row wants it
-abbrev pub CoversNatives : Program → Facts → Frame → Code → Insn → List Sight → Type 0
-CoversNatives p facts f code i s =
-    (target : ℕ) (row : Native) → Enters p.outline f.method (use_by p f.method i) s i target → native_of p.outline target ≡ Some row
-    → CallsNative p facts f code i target row
+-- each method that the instruction, a call, leads to
+abbrev pub CoversTargets : Program → Facts → Frame → Code → Insn → List Sight → Type 0
+CoversTargets p facts f code i s =
+    (target : ℕ) → Enters p.outline f.method (use_by p f.method i) s i target → MeetsTarget p facts f code i target
 
--- what is asked of the instruction of the topmost frame: of its calls, of its keys, and of the places that it reads and writes
+-- what is asked of the instruction of the topmost frame: of its calls, and of the places that it reads and writes
 pub record MeetsCalls (p : Program) (facts : Facts) (x : State) (f : Frame) (code : Code) (i : Insn) : Type 0 where
-  pub natives : CoversNatives p facts f code i (sights p.outline x.areas.store f.stack)
-  pub keys : HasKeysFor i
+  pub calls : CoversTargets p facts f code i (sights p.outline x.areas.store f.stack)
   pub places : PlacesAgree p.outline x.areas.store f.stack (effect_at p x)
 
+-- what the topmost frame's instruction reads and puts agrees with the kinds of places
+abbrev pub PlacesAgreeAt : Program → State → List Frame → Type 0
+PlacesAgreeAt p x [] = Unit {0}
+PlacesAgreeAt p x (f ∷ callers) = PlacesAgree p.outline x.areas.store f.stack (effect_at p x)
+
+-- of the topmost frame
 abbrev pub CoversAt : Program → Facts → State → List Frame → Type 0
 CoversAt p facts x [] = Unit {0}
 CoversAt p facts x (f ∷ callers) = (at : StandsAt p facts f) → MeetsCalls p facts x f at.code at.insn

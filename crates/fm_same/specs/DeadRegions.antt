@@ -1,6 +1,6 @@
 -- The law of dead regions: once a captured class of an activation isn't busy, or the activation is gone, nothing leads any longer to what the class led
 -- to, and no step changes it.
-use Rattle.std.specs.Prelude.{◌≡◌, ◌≢◌, ℕ, suc, ◌+◌, ◌<◌, ◌≤◌, ◌⊎◌, false, true, List, [], ◌∷◌, length, Some, slice_get}
+use Rattle.std.specs.Prelude.{◌≡◌, ℕ, suc, ◌+◌, ◌<◌, ◌≤◌, ◌⊎◌, false, true, List, [], ◌∷◌, length, Some, slice_get}
 use Rattle.std.specs.List.{slice_index_or}
 use Rattle.fm_base.specs.declared.kinds.Kind.TheVariants as kind
 use Rattle.fm_base.specs.declared.kinds.TypeRef.{TypeRef}
@@ -8,7 +8,8 @@ use Rattle.fm_cells.specs.Objects.{Object}
 use Rattle.fm_cells.specs.Stores.{object_at, Store}
 use Rattle.fm_code.specs.declared.code_array.Code.{Code}
 use Rattle.fm_conn.specs.Facts.{Facts}
-use Rattle.fm_conn.specs.Nodes.{IsNode, Local}
+use Rattle.fm_conn.specs.Links.{typed_method}
+use Rattle.fm_conn.specs.Nodes.{Local}
 use Rattle.fm_world.specs.Programs.{code_at, Outline, Program}
 use Rattle.fm_frames.specs.Acts.{cell_of, Choose}
 use Rattle.fm_frames.specs.Runs.{after, Job, opening}
@@ -16,9 +17,10 @@ use Rattle.fm_frames.specs.States.{Frame, State}
 use Rattle.fm_cells.specs.Choices.{lawful}
 use Rattle.fm_frames.specs.Steps.{step}
 use Rattle.fm_frames.specs.declared.values.Value.{Value}
-use Rattle.fm_same.specs.Covering.{CoversAt}
+use Rattle.fm_place.specs.Places.{is_busy}
+use Rattle.fm_place.specs.Sites.{is_captured}
+use Rattle.fm_same.specs.Covering.{PlacesAgreeAt}
 use Rattle.fm_same.specs.Colours.{kind_in, node_of_word}
-use Rattle.fm_same.specs.Regions.{IsCaptured}
 use Rattle.fm_same.specs.Standing.{method_of, Stand}
 
 -- ---- what leads where
@@ -54,6 +56,7 @@ pub data IsHeldBy (facts : Facts) (f : Frame) (v : Value) : Type 0 where
   InLocal : (k : ℕ) → slice_get f.locals k ≡ Some v → facts.live f.method k f.item ≡ true → IsHeldBy facts f v
   InWord : (n : ℕ) → slice_get f.stack n ≡ Some v → IsHeldBy facts f v
 
+-- of any of the frames
 abbrev pub IsRoot : Facts → List Frame → Value → Type 0
 IsRoot facts [] v = ⊥
 IsRoot facts (f ∷ callers) v = IsHeldBy facts f v ⊎ IsRoot facts callers v
@@ -76,11 +79,9 @@ abbrev pub IsMethodAt : (method depth : ℕ) → List Frame → Type 0
 IsMethodAt method depth [] = ⊥
 IsMethodAt method depth (f ∷ callers) = ((length callers ≡ depth) × (f.method ≡ method)) ⊎ IsMethodAt method depth callers
 
--- neither a live local nor a word of the stack is in the class
-pub record IsQuiet (p : Program) (facts : Facts) (class : ℕ) (f : Frame) : Type 0 where
-  pub locals : (k : ℕ) → facts.live f.method k f.item ≡ true → facts.class f.method (Local k) ≢ class
-  pub words : (code : Code) → code_at p f.method ≡ Some code → (n : ℕ) → IsNode (method_of p facts f code) (node_of_word f n)
-      → facts.class f.method (node_of_word f n) ≢ class
+-- the class isn't busy at the frame's item: neither a word of the stack nor a live local is in it
+abbrev pub IsQuiet : Program → Facts → (class : ℕ) → Frame → Type 0
+IsQuiet p facts class f = (code : Code) → code_at p f.method ≡ Some code → is_busy facts (method_of p facts f code) class f.item ≡ false
 
 -- the frame is gone, or is the topmost one and the class isn't busy
 abbrev pub IsOver : Program → Facts → (method depth class : ℕ) → List Frame → Type 0
@@ -100,7 +101,9 @@ pub record IsDead (p : Program) (facts : Facts) (birth : ℕ) (x next : State) :
 -- An activation of the method stands from one state to another; meanwhile a holder in a captured class leads to an object; and then the activation is gone,
 -- or the class isn't busy.
 pub record IsRetired (p : Program) (facts : Facts) (xs : ℕ → State) (method depth class birth first count : ℕ) : Type 0 where
-  pub captured : IsCaptured p.outline facts method class
+  pub code : Code
+  pub code_is : code_at p method ≡ Some code
+  pub captured : is_captured facts (typed_method p facts.typing method code) class ≡ true
   pub stands : (k : ℕ) → k ≤ count → IsMethodAt method depth (xs (first + k)).frames
   pub from : Value
   pub held : IsHeldAt facts depth class (xs first).frames from
@@ -109,10 +112,10 @@ pub record IsRetired (p : Program) (facts : Facts) (xs : ℕ → State) (method 
 
 -- ---- runs
 
--- frames stand as a sound machine has them, calls lead to targets, and places are read and written by their kinds, at each state
+-- at each state frames stand as a sound machine has them, and places are read and written by their kinds
 pub record AreSound (p : Program) (facts : Facts) (xs : ℕ → State) : Type 0 where
   pub stand : (k : ℕ) → Stand p facts (xs k).frames
-  pub covers : (k : ℕ) → CoversAt p facts (xs k) (xs k).frames
+  pub places : (k : ℕ) → PlacesAgreeAt p (xs k) (xs k).frames
 
 -- each state is the step of the one before
 abbrev pub AreSteps : Program → Choose → (ℕ → State) → Type 0

@@ -1,6 +1,6 @@
 -- What an effect owes to the classes of nodes, so that colours are kept: values go from one node to another of the same class, and the objects that a step
 -- makes have one home. It follows from the pairs of the item, row by row.
-use Rattle.std.specs.Prelude.{◌≡◌, ℕ, ◌+◌, ◌-◌, ◌<◌, ◌==◌, ◌⊎◌, Bool, true, false, List, [], length, codes, Option, Some, slice_get}
+use Rattle.std.specs.Prelude.{◌≡◌, ℕ, ◌+◌, ◌-◌, ◌<◌, ◌==◌, ◌⊎◌, Bool, true, false, List, [], length, codes, Option, Some, Contains, slice_get}
 use Rattle.std.specs.List.{AllByRecursion, list_any}
 use Rattle.fm_base.specs.declared.kinds.Kind.{Kind}
 use Rattle.fm_base.specs.declared.kinds.Kind.TheVariants as kind
@@ -12,19 +12,21 @@ use Rattle.fm_code.specs.SpellsCode.{targets_of}
 use Rattle.fm_code.specs.Live.{stores_over}
 use Rattle.fm_code.specs.declared.instructions.Insn.{Insn}
 use Rattle.fm_conn.specs.Nodes.{Node, Local, Slot, Return, Global, IsNode, TypedMethod}
-use Rattle.fm_conn.specs.Pairs.{IsEnd}
+use Rattle.fm_conn.specs.Pairs.{call_of, IsEnd}
 use Rattle.fm_conn.specs.declared.ends.End2.TheVariants as end
 use Rattle.fm_types.specs.Named.{built_in_type}
 use Rattle.fm_world.specs.Members.{field_at}
-use Rattle.fm_world.specs.Programs.{Outline}
+use Rattle.fm_world.specs.Programs.{Outline, targets}
+use Rattle.fm_world.specs.declared.calls.Call.{Call}
 use Rattle.fm_world.specs.declared.declarations.Constant.{Constant}
 use Rattle.fm_world.specs.declared.declarations.Constant.TheVariants as constant
 use Rattle.fm_frames.specs.ObjectRows.{kind_of_field}
 use Rattle.fm_frames.specs.Acts.{cell_of}
-use Rattle.fm_frames.specs.Effects.{Action, Make, MakeFixed, MakeLiteral, Put, SetStatic, Start, Free, SetChain, FreeChain, Effect, Next, Falls, Jumps, JumpsIfSame, Returns, Throws, Source, Plain, OfOperand, OfLocal, LocalPlus, OfPlace, OfStatic, OfMade, OfLiteral, SameOperands}
+use Rattle.fm_frames.specs.Effects.{Action, Make, MakeFixed, MakeLiteral, Put, SetStatic, Start, Free, SetChain, FreeChain, Effect, Next, Falls, Jumps, JumpsIfSame, Calls, Returns, Throws, Enters, Source, Plain, OfOperand, OfLocal, LocalPlus, OfPlace, OfStatic, OfMade, OfLiteral, SameOperands}
 use Rattle.fm_frames.specs.Acts.{requested}
 use Rattle.fm_frames.specs.NativeRows.{text_type}
 use Rattle.fm_frames.specs.States.{word_at}
+use Rattle.fm_frames.specs.Steps.{is_start}
 use Rattle.fm_frames.specs.declared.values.Value.{Value}
 use Rattle.fm_frames.specs.declared.values.Value.TheVariants as value
 use Rattle.fm_same.specs.Colours.{kind_in}
@@ -89,11 +91,13 @@ abbrev pub IsPlainKind : Kind → Type 0
 IsPlainKind (kind.Ref t) = ⊥
 IsPlainKind other = Unit {0}
 
+-- an operand, or what the step made
 abbrev pub IsObjectSource : Source → Type 0
 IsObjectSource (OfOperand n) = Unit {0}
 IsObjectSource (OfMade n) = Unit {0}
 IsObjectSource other = ⊥
 
+-- an operand alone
 abbrev pub IsOperand : Source → Type 0
 IsOperand (OfOperand n) = Unit {0}
 IsOperand other = ⊥
@@ -161,16 +165,20 @@ LeadsRight i other = Unit {0}
 
 -- ---- the frame that ends
 
--- a result that is a reference is of the result's class, and what is thrown of Global's; what throws stores over no local
+-- a result that is a reference is of the result's class, and what is thrown of Global's; what throws stores over no local; and a method that is called
+-- is among the targets of the call, and one that is entered starts a class
 abbrev pub EndsEvenly : Outline → Point → ℕ → Insn → Next → Type 0
 EndsEvenly o x home i (Returns words) =
     (q : ℕ) → q < words → IsNode x.method (word x q)
     → (x.class (word x q) ≡ x.class Return) × IsEnd o x.method.number end.Return × (words ≡ 1)
+EndsEvenly o x home i (Calls m) = (call : Call) → call_of x.method i ≡ Some call → Contains (targets x.method.program call) m
+EndsEvenly o x home i (Enters methods) = AllByRecursion (λ m. is_start o m ≡ true) methods
 EndsEvenly o x home i (Throws s) = IsObjectSource s × ComesFrom x home (x.class Global) s × ((k : ℕ) → stores_over k i ≡ false)
 EndsEvenly o x home i other = Unit {0}
 
 -- ---- the whole effect
 
+-- by one home: its actions, where control goes on, and how the frame ends
 pub record Obeys (o : Outline) (x : Point) (i : Insn) (e : Effect) : Type 0 where
   pub home : ℕ
   pub acts : AllByRecursion (ActsEvenly o x home) e.actions
@@ -193,6 +201,7 @@ ReadAgrees o store stack (OfPlace n place (kind.Ref t)) =
     (object : Object) → object_at store (cell_of (word_at stack n)) ≡ Some object → (u : TypeRef) × (kind_in o object place ≡ Some (kind.Ref u))
 ReadAgrees o store stack s = Unit {0}
 
+-- all that an effect puts, and all that it gives
 pub record PlacesAgree (o : Outline) (store : Store) (stack : List Value) (e : Effect) : Type 0 where
   pub puts : AllByRecursion (PutAgrees o store stack) e.actions
   pub reads : AllByRecursion (ReadAgrees o store stack) e.gives

@@ -1,27 +1,30 @@
 -- The laws that the functions of `laws` prove.
-use Rattle.std.specs.Prelude.{◌≡◌, ◌≢◌, ℕ, suc, ◌+◌, ◌≤◌, ◌⊎◌, List, ◌∷◌, length, Option, Some}
+use Rattle.std.specs.Prelude.{◌≡◌, ◌≢◌, ℕ, suc, ◌+◌, ◌≤◌, ◌⊎◌, true, List, ◌∷◌, length, Option, Some}
 use Rattle.fm_code.specs.Edges.{IsNormalEdge}
 use Rattle.fm_code.specs.declared.code_array.Code.{Code}
 use Rattle.fm_conn.specs.Facts.{AreFacts, Facts}
 use Rattle.fm_conn.specs.Links.{Linked, node_of, typed_method}
-use Rattle.fm_conn.specs.Nodes.{IsNode, Local, Node, Return, Slot}
+use Rattle.fm_conn.specs.Nodes.{IsNode, Local, Node, Return, Slot, TypedMethod}
 use Rattle.fm_conn.specs.Pairs.{IsEnd, PairAt}
 use Rattle.fm_conn.specs.declared.ends.End2.{End2}
 use Rattle.fm_conn.specs.declared.ends.End2.TheVariants as end
 use Rattle.fm_world.specs.Programs.{code_at, Outline, Program}
 use Rattle.fm_cells.specs.Choices.{lawful}
 use Rattle.fm_frames.specs.Acts.{Choose}
-use Rattle.fm_cells.specs.Stores.{opened}
+use Rattle.fm_cells.specs.Stores.{opened, Store}
 use Rattle.fm_frames.specs.Runs.{Job, opening}
 use Rattle.fm_frames.specs.States.{Frame, State}
 use Rattle.fm_frames.specs.Steps.{next_effect, step}
+use Rattle.fm_place.specs.Sites.{is_captured}
 use Rattle.fm_same.specs.Advances.{GoesOver, OwesAt}
 use Rattle.fm_same.specs.Colours.{Colour, Coloured}
-use Rattle.fm_same.specs.Covering.{CoversAt}
+use Rattle.fm_same.specs.Covering.{CoversAt, PlacesAgreeAt}
 use Rattle.fm_same.specs.DeadRegions.{IsDead, IsOver, AreSound, AreSteps, IsRetired, states_of}
 use Rattle.fm_same.specs.Evenness.{HoldsNumbers}
-use Rattle.fm_same.specs.Regions.{argument, IsCaptured, Own, region, Region, Retired}
+use Rattle.fm_same.specs.Regions.{argument, Own, region, Region, Retired}
+use Rattle.fm_same.specs.Resolved.{CallsNoFreeMe, IsResolved}
 use Rattle.fm_same.specs.Standing.{Called, method_of, Stand}
+use Rattle.fm_same.specs.Targets.{AreCovered, Covers}
 
 -- ---- classes of nodes
 
@@ -53,8 +56,8 @@ RegionsAreWithin =
 -- a captured class has a region of its own
 abbrev pub CapturedIsOwn : Type 0
 CapturedIsOwn =
-    (o : Outline) (facts : Facts) (method : ℕ) (callers : List Frame) (class : ℕ) → IsCaptured o facts method class
-    → region o facts method callers class ≡ Own (length callers) class
+    (facts : Facts) (x : TypedMethod) (callers : List Frame) (class : ℕ) → is_captured facts x class ≡ true
+    → region x.program.outline facts x.number callers class ≡ Own (length callers) class
 
 -- a parameter that is a reference has the region of the word that the caller handed over
 abbrev pub RegionsGoAlongCalls : Type 0
@@ -97,6 +100,27 @@ QuietClassesRetire =
     → IsOver p facts method depth class x.frames
     → (other : Colour) × Coloured p facts x other × ((birth : ℕ) → colour birth ≡ Own depth class → other birth ≡ Retired)
 
+-- what linking makes sure of: texts and streams have no place for references, and constants fit their fields
+abbrev pub ResolvedHoldsNumbers : Type 0
+ResolvedHoldsNumbers = (p : Program) → IsResolved p → HoldsNumbers p.outline
+
+-- where frames stand and calls lead to targets, each method that a call leads to is as its row wants it; built-in ones by computation over their table
+abbrev pub CallsAreCovered : Type 0
+CallsAreCovered =
+    (p : Program) (facts : Facts) → AreFacts p facts → IsResolved p → CallsNoFreeMe p → (x : State) → Stand p facts x.frames → Covers p facts x
+    → PlacesAgreeAt p x x.frames → CoversAt p facts x x.frames
+
+-- a called method stays among the targets of its call while it runs: at the opening, and from each step to the next
+abbrev pub FramesStayCovered : Type 0
+FramesStayCovered =
+    (p : Program) (facts : Facts) (choose : Choose) (x : State) → Stand p facts x.frames → AreCovered p facts x.frames
+    → OwesAt p facts x.areas.store (next_effect p x) x.frames → AreCovered p facts (step p (lawful choose) x).state.frames
+
+-- the opening's frames are covered
+abbrev pub OpeningIsCovered : Type 0
+OpeningIsCovered =
+    (p : Program) (facts : Facts) (choose : Choose) (job : Job) (store : Store) → AreCovered p facts (opening p (lawful choose) job store).state.frames
+
 -- the opening has colours
 abbrev pub OpeningHasColours : Type 0
 OpeningHasColours =
@@ -109,17 +133,18 @@ OpeningHasColours =
 -- activation is gone
 abbrev pub RegionsDie : Type 0
 RegionsDie =
-    (p : Program) (facts : Facts) → AreFacts p facts → HoldsNumbers p.outline → (choose : Choose) (xs : ℕ → State)
-    → AreSteps p (lawful choose) xs → AreSound p facts xs → (colour : Colour) → Coloured p facts (xs 0) colour
+    (p : Program) (facts : Facts) → AreFacts p facts → IsResolved p → CallsNoFreeMe p → (choose : Choose) (xs : ℕ → State)
+    → AreSteps p (lawful choose) xs → AreSound p facts xs → ((k : ℕ) → Covers p facts (xs k)) → (colour : Colour) → Coloured p facts (xs 0) colour
     → (method depth class birth first count : ℕ) → IsRetired p facts xs method depth class birth first count
     → (later : ℕ) → first + suc count ≤ later → IsDead p facts birth (xs later) (xs (suc later))
 
 -- so it is in each run from its opening on
 abbrev pub DeadRegions : Type 0
 DeadRegions =
-    (p : Program) (facts : Facts) → AreFacts p facts → HoldsNumbers p.outline
+    (p : Program) (facts : Facts) → AreFacts p facts → IsResolved p → CallsNoFreeMe p
     → (choose : Choose) (job : Job) (budget : ℕ) (limit : Option ℕ) (free : List (List ℕ))
     → AreSound p facts (states_of p choose job (opened budget limit free))
+    → ((k : ℕ) → Covers p facts (states_of p choose job (opened budget limit free) k))
     → (method depth class birth first count : ℕ)
     → IsRetired p facts (states_of p choose job (opened budget limit free)) method depth class birth first count
     → (later : ℕ) → first + suc count ≤ later

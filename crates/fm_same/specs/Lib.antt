@@ -3,6 +3,8 @@ pub mod Colours
 pub mod Standing
 pub mod Evenness
 pub mod Covering
+pub mod Resolved
+pub mod Targets
 pub mod Advances
 pub mod DeadRegions
 pub mod Laws

@@ -1,12 +1,12 @@
 -- Regions: where the objects of a class of nodes belong, while methods call one another. A class of nodes that no one outside of a frame can reach has a
 -- region of its own for as long as the frame stands.
-use Rattle.std.specs.Prelude.{◌≡◌, ℕ, suc, ◌+◌, ◌==◌, ◌&&◌, Bool, true, false, List, [], ◌∷◌, length, Option, Some, None, if◌then◌else◌}
+use Rattle.std.specs.Prelude.{ℕ, suc, ◌+◌, ◌==◌, ◌&&◌, Bool, true, false, List, [], ◌∷◌, length, Option, Some, None, if◌then◌else◌}
 use Rattle.fm_types.specs.States.{is_reference}
 use Rattle.fm_types.specs.Typed.{entry_slots}
 use Rattle.fm_types.specs.declared.slots.Slot as slots
 use Rattle.fm_world.specs.Programs.{Outline}
 use Rattle.fm_conn.specs.Facts.{Facts}
-use Rattle.fm_conn.specs.Nodes.{Node, Local, Slot, Return, Global}
+use Rattle.fm_conn.specs.Nodes.{Node, Local, Slot, Global}
 use Rattle.fm_frames.specs.States.{Frame}
 
 -- what static fields and thrown objects lead to; what main was given; a class of nodes, by its number, of the frame that stands on so many others; and
@@ -25,6 +25,7 @@ parameter_from class_of class k [] = None
 parameter_from class_of class k (s ∷ more) =
     if is_reference s && (class_of k == class) then Some k else parameter_from class_of class (suc k) more
 
+-- of a method by its number
 abbrev pub parameter_in : Outline → Facts → ℕ → ℕ → Option ℕ
 parameter_in o facts method class = parameter_from (λ k. facts.class method (Local k)) class 0 (entry_slots o method)
 
@@ -48,11 +49,3 @@ region o facts method [] class =
 region o facts method (f ∷ callers) class =
     region_by (facts.class method Global == class) (parameter_in o facts method class) (Own (length (f ∷ callers)) class)
     (λ k. region o facts f.method callers (facts.class f.method (argument f k)))
-
--- ---- captured classes
-
--- no one outside of the method reaches what the class has: neither Global, nor the result, nor a parameter is in it
-pub record IsCaptured (o : Outline) (facts : Facts) (method class : ℕ) : Type 0 where
-  pub not_global : ¬ (facts.class method Global ≡ class)
-  pub not_result : ¬ (facts.class method Return ≡ class)
-  pub no_parameter : parameter_in o facts method class ≡ None

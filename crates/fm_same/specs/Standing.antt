@@ -1,6 +1,6 @@
 -- What the law of dead regions uses of the soundness of the machine: each frame stands at an item that can be reached, its stack is as deep as the item's
 -- state, words are references where their slots are, and a frame that waits is at the call of the frame above it, or that one starts a class.
-use Rattle.std.specs.Prelude.{◌≡◌, ℕ, ◌⊎◌, ◌↔◌, true, false, List, [], ◌∷◌, length, Some, Contains, slice_get}
+use Rattle.std.specs.Prelude.{◌≡◌, ℕ, ◌≤◌, ◌⊎◌, ◌↔◌, true, false, List, [], ◌∷◌, length, Some, Contains, slice_get}
 use Rattle.fm_code.specs.Edges.{insn_of}
 use Rattle.fm_code.specs.declared.code_array.Code.{Code}
 use Rattle.fm_code.specs.declared.instructions.Insn.{Insn}
@@ -20,6 +20,7 @@ use Rattle.fm_frames.specs.declared.values.Value.TheVariants as value
 use Rattle.fm_same.specs.Colours.{node_of_word}
 use Rattle.fm_same.specs.Regions.{argument}
 
+-- a value that is a reference, null's too
 abbrev pub IsReference : Value → Type 0
 IsReference value.Top = ⊥
 IsReference (value.Int n) = ⊥
@@ -30,7 +31,7 @@ IsReference (value.Ref cell) = Unit {0}
 abbrev pub method_of : Program → Facts → Frame → Code → TypedMethod
 method_of p facts f code = typed_method p facts.typing f.method code
 
--- the frame is at an item that has a state, and its words are references where their slots are
+-- the frame is at an item that has a state, it has no more locals than its method, and its words are references where their slots are
 pub record StandsAt (p : Program) (facts : Facts) (f : Frame) : Type 0 where
   pub code : Code
   pub code_is : code_at p f.method ≡ Some code
@@ -38,6 +39,7 @@ pub record StandsAt (p : Program) (facts : Facts) (f : Frame) : Type 0 where
   pub insn_is : insn_of code f.item ≡ Some insn
   pub state : TypeState
   pub state_is : state_at (facts.typing f.method) f.item ≡ Some state
+  pub width : length f.locals ≤ code.max_locals
   pub is_node : (n : ℕ) (v : Value) → slice_get f.stack n ≡ Some v → IsReference v → IsNode (method_of p facts f code) (node_of_word f n)
   pub is_reference : (n : ℕ) (v : Value) → slice_get f.stack n ≡ Some v → IsNode (method_of p facts f code) (node_of_word f n) → IsReference v
 
@@ -60,12 +62,14 @@ pub record Called (p : Program) (facts : Facts) (callee f : Frame) : Type 0 wher
 pub record Waits (p : Program) (facts : Facts) (f : Frame) : Type 0 where
   pub goes : Goes p facts f
 
+-- the frames below this one: each called the one above it, or waits for it as the start of a class
 abbrev pub StandBelow : Program → Facts → Frame → List Frame → Type 0
 StandBelow p facts above [] = Unit {0}
 StandBelow p facts above (f ∷ callers) =
     (((is_start p.outline above.method ≡ false) × Called p facts above f) ⊎ ((is_start p.outline above.method ≡ true) × Waits p facts f))
     × StandBelow p facts f callers
 
+-- all frames, the topmost first
 abbrev pub Stand : Program → Facts → List Frame → Type 0
 Stand p facts [] = Unit {0}
 Stand p facts (f ∷ callers) = Goes p facts f × StandBelow p facts f callers

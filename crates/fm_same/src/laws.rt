@@ -33,6 +33,16 @@ pub fn law_colours()
     ensures retire { law.QuietClassesRetire }
 {}
 
+/// What linking makes sure of, and that calls lead to targets, is all that is asked of calls: built-in
+/// methods then have the words and the ends of their rows, and a called method stays among the targets
+/// of its call while it runs.
+pub fn law_calls()
+    ensures numbers { law.ResolvedHoldsNumbers }
+    ensures covered { law.CallsAreCovered }
+    ensures stays { law.FramesStayCovered }
+    ensures opening { law.OpeningIsCovered }
+{}
+
 /// The law of dead regions, for runs whose states are sound: what a captured class of an activation led
 /// to is dead from the state on in which the class isn't busy, or the activation is gone. Nothing leads
 /// to it, and no step changes it.

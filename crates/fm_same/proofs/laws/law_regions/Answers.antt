@@ -1,5 +1,6 @@
 use Rattle.fm_same.proofs.CallRegions.{region_call, region_return}
-use Rattle.fm_same.proofs.RegionLemmas.{captured_is_own, region_within}
+use Rattle.fm_same.proofs.CapturedClasses.{captured_is_own}
+use Rattle.fm_same.proofs.RegionLemmas.{region_within}
 use Rattle.fm_same.proofs.laws.law_regions.Goals as goal
 
 pub returns : goal.returns

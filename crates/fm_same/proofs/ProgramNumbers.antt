@@ -1,0 +1,105 @@
+-- Texts and streams have no place for references, in each program: they have no fields.
+use Rattle.std.proofs.Common.{◌≡◌, ℕ, suc, ◌+◌, ◌<◌, List, [], ◌∷◌, ◌++◌, length, reverse, Some, None, codes, refl, sym, ◌∙◌, ap, slice_get, slice_index_or, arith}
+use Rattle.std.specs.Prelude.{unwrap_or}
+use Rattle.std.specs.List.{flat_map}
+use Rattle.std.specs.Str.{bytes_eq}
+use Rattle.std.proofs.lemmas.Iterator.Adapters.{position_from-zero}
+use Rattle.std.proofs.lemmas.List.{length-append}
+use Rattle.std.proofs.lemmas.List.Quantifiers.{position-Some}
+use Rattle.std.proofs.lemmas.Option.{none-some}
+use Rattle.fm_base.specs.declared.kinds.Kind.{Kind}
+use Rattle.fm_base.specs.declared.kinds.Kind.TheVariants as kind
+use Rattle.fm_base.specs.declared.kinds.TypeRef.{TypeRef}
+use Rattle.fm_types.specs.Named.{built_in_type}
+use Rattle.fm_types.proofs.LeastJoins.{same_type-eq}
+use Rattle.fm_world.specs.BuiltIns.{built_in, object_name, string_name}
+use Rattle.fm_world.specs.Chains.{chain_of, class_at, parent_of, same_type, upwards}
+use Rattle.fm_world.specs.Descriptors.{class_number}
+use Rattle.fm_world.specs.Members.{kinds_of, own_kinds}
+use Rattle.fm_world.specs.Numbers.{type_number, type_of_class}
+use Rattle.fm_world.specs.Programs.{kind_at, Program}
+use Rattle.fm_world.specs.declared.declarations.DeclaredClass.{DeclaredClass}
+use Rattle.fm_frames.proofs.Programs.{built_in-inside, string-is}
+use Rattle.fm_same.specs.Evenness.{HasNoEdge, HoldsNumbers}
+use Rattle.fm_same.specs.Resolved.{IsResolved}
+
+-- ---- the chain of a class right below Object
+
+object_there : (given : List DeclaredClass) → class_number (built_in ++ given) object_name ≡ Some 0
+unfolding built_in
+object_there given = position_from-zero (λ (c : DeclaredClass). bytes_eq c.name object_name) (built_in ++ given)
+
+two_up : (n : ℕ) (classes : List DeclaredClass) (class : ℕ) → parent_of classes class ≡ Some 0 → parent_of classes 0 ≡ None
+    → upwards (suc (suc (suc n))) classes (Some class) ≡ class ∷ 0 ∷ []
+two_up n classes class first second =
+    ap (λ o. class ∷ upwards (suc (suc n)) classes o) first ∙ ap (λ o. class ∷ 0 ∷ upwards (suc n) classes o) second
+
+size_is : (given : List DeclaredClass) → length (built_in ++ given) ≡ suc (suc (26 + length given))
+unfolding built_in
+size_is given = let many = length-append built_in given in omega (arith, many)
+
+chain_is : (given : List DeclaredClass) (class : ℕ) → parent_of (built_in ++ given) class ≡ Some 0 → parent_of (built_in ++ given) 0 ≡ None
+    → chain_of (built_in ++ given) class ≡ class ∷ 0 ∷ []
+unfolding chain_of
+chain_is given class first second =
+    ap (λ n. upwards (suc n) (built_in ++ given) (Some class)) (size_is given) ∙ two_up (26 + length given) (built_in ++ given) class first second
+
+object_top : (given : List DeclaredClass) → parent_of (built_in ++ given) 0 ≡ None
+unfolding built_in
+object_top given = refl
+
+abbrev both_kinds : List DeclaredClass → List ℕ → List Kind
+both_kinds classes chain = flat_map (λ above. own_kinds classes (class_at classes above)) (reverse chain)
+
+string_kinds : (given : List DeclaredClass) → kinds_of (built_in ++ given) 1 ≡ []
+unfolding kinds_of built_in
+string_kinds given = ap (both_kinds (built_in ++ given)) (chain_is given 1 (object_there given) (object_top given))
+
+output_kinds : (given : List DeclaredClass) → kinds_of (built_in ++ given) 5 ≡ []
+unfolding kinds_of built_in
+output_kinds given = ap (both_kinds (built_in ++ given)) (chain_is given 5 (object_there given) (object_top given))
+
+input_kinds : (given : List DeclaredClass) → kinds_of (built_in ++ given) 6 ≡ []
+unfolding kinds_of built_in
+input_kinds given = ap (both_kinds (built_in ++ given)) (chain_is given 6 (object_there given) (object_top given))
+
+-- ---- objects of a class without fields
+
+no_edge : (p : Program) → IsResolved p → (t : TypeRef) (class : ℕ) → t ≡ type_of_class class → class < length p.outline.classes
+    → kinds_of p.outline.classes class ≡ [] → HasNoEdge p.outline t
+no_edge p ready t class is inside none object len fixed same place u found =
+    let number : type_number p.outline.types (type_of_class class) ≡ Some class = ready.class_types class inside in
+    let there = position-Some (same_type (type_of_class class)) p.outline.types class (type_of_class 0) number in
+    let typed : type_of_class class ≡ slice_index_or p.outline.types class (type_of_class 0) =
+    same_type-eq (type_of_class class) (slice_index_or p.outline.types class (type_of_class 0)) there.1 in
+    let at : object.class ≡ class = same ∙ ap (λ n. unwrap_or n 0) (ap (type_number p.outline.types) is ∙ number) in
+    none-some (kind.Ref u)
+    (sym (ap (λ n. kind_at p.outline.classes (slice_index_or p.outline.types n (type_of_class 0)) place) at
+    ∙ ap (λ s. kind_at p.outline.classes s place) (sym typed) ∙ ap (λ kinds. slice_get kinds place) none) ∙ found)
+
+named_type : (p : Program) → IsResolved p → (name : List ℕ) (class : ℕ)
+    → ((given : List DeclaredClass) → class_number (built_in ++ given) name ≡ Some class) → built_in_type p.outline name ≡ type_of_class class
+named_type p ready name class found =
+    ap (λ n. type_of_class (unwrap_or n 0)) (ap (λ all. class_number all name) ready.runnable.classes ∙ found ready.runnable.given)
+
+output_there : (given : List DeclaredClass) → class_number (built_in ++ given) (codes "java/io/PrintStream") ≡ Some 5
+unfolding built_in
+output_there given = position_from-zero (λ (c : DeclaredClass). bytes_eq c.name (codes "java/io/PrintStream")) (built_in ++ given)
+
+input_there : (given : List DeclaredClass) → class_number (built_in ++ given) (codes "java/io/InputStream") ≡ Some 6
+unfolding built_in
+input_there given = position_from-zero (λ (c : DeclaredClass). bytes_eq c.name (codes "java/io/InputStream")) (built_in ++ given)
+
+-- what a linked program makes sure of
+pub holds_numbers : (p : Program) → IsResolved p → HoldsNumbers p.outline
+holds_numbers p ready = record {
+  texts = no_edge p ready (built_in_type p.outline string_name) 1 (string-is p.outline ready.runnable.given ready.runnable.classes)
+      (built_in-inside p 1 ready.runnable (omega arith)) (kinds 1 string_kinds);
+  output = no_edge p ready (built_in_type p.outline (codes "java/io/PrintStream")) 5 (named_type p ready (codes "java/io/PrintStream") 5 output_there)
+      (built_in-inside p 5 ready.runnable (omega arith)) (kinds 5 output_kinds);
+  input = no_edge p ready (built_in_type p.outline (codes "java/io/InputStream")) 6 (named_type p ready (codes "java/io/InputStream") 6 input_there)
+      (built_in-inside p 6 ready.runnable (omega arith)) (kinds 6 input_kinds);
+  constants = ready.constants;
+} where
+  kinds : (class : ℕ) → ((given : List DeclaredClass) → kinds_of (built_in ++ given) class ≡ []) → kinds_of p.outline.classes class ≡ []
+  kinds class each = ap (λ cs. kinds_of cs class) ready.runnable.classes ∙ each ready.runnable.given

@@ -1,0 +1,50 @@
+-- What linking makes sure of, as the law of dead regions uses it (JVMS 5.3.5, 5.4.3, 6.5): what numbers stand for, and what instructions name.
+use Rattle.std.specs.Prelude.{◌≡◌, ℕ, ◌<◌, ◌≤◌, Bool, false, length, Some, None}
+use Rattle.fm_base.specs.declared.ids.MethodId.{MethodId}
+use Rattle.fm_base.specs.declared.ids.TypeId.{TypeId}
+use Rattle.fm_code.specs.AccessFlags.{is_static}
+use Rattle.fm_code.specs.Edges.{insn_of}
+use Rattle.fm_code.specs.declared.code_array.Code.{Code}
+use Rattle.fm_code.specs.declared.instructions.Insn.{Insn}
+use Rattle.fm_types.specs.Typed.{use_by}
+use Rattle.fm_world.specs.BuiltIns.{built_in}
+use Rattle.fm_world.specs.Causes.{static_method_wanted}
+use Rattle.fm_world.specs.Members.{field_at, method_at, methods_of}
+use Rattle.fm_world.specs.Numbers.{type_number, type_of_class}
+use Rattle.fm_world.specs.Programs.{code_at, Program}
+use Rattle.fm_world.specs.declared.uses.Use.{Use}
+use Rattle.fm_world.specs.declared.uses.Use.TheVariants as resolved
+use Rattle.fm_frames.specs.CallRows.{native_of}
+use Rattle.fm_frames.specs.Natives.{Native}
+use Rattle.fm_frames.specs.ObjectRows.{kind_of_field}
+use Rattle.fm_frames.specs.Runnable.{IsRunnable}
+use Rattle.fm_same.specs.Covering.{is_free_me}
+use Rattle.fm_same.specs.Evenness.{IsNumber, IsPlainKind}
+
+-- the instruction stands in a method that has code, and what it names is resolved to this
+pub record IsNamed (p : Program) (method : ℕ) (i : Insn) (u : Use) : Type 0 where
+  pub code : Code
+  pub code_is : code_at p method ≡ Some code
+  pub item : ℕ
+  pub insn_is : insn_of code item ≡ Some i
+  pub use_is : use_by p method i ≡ u
+
+-- what linking makes sure of
+pub record IsResolved (p : Program) : Type 0 where
+  -- the built-in classes come first, and what has a number is there
+  pub runnable : IsRunnable p
+  -- the types of the classes are numbered first, in the order of the classes
+  pub class_types : (class : ℕ) → class < length p.outline.classes → type_number p.outline.types (type_of_class class) ≡ Some class
+  -- built-in methods alone have rows
+  pub rows : (method : ℕ) → length (methods_of built_in) ≤ method → (method_at p.outline.classes method).method.row ≡ None
+  -- invokestatic names a static method, and each other call names another one (JVMS 6.5.invokestatic)
+  pub calls : (method : ℕ) (i : Insn) (m : MethodId) (t : TypeId) (wanted : Bool) → IsNamed p method i (resolved.OfMethod m t)
+      → static_method_wanted i ≡ Some wanted → is_static (method_at p.outline.classes m.0).method.flags ≡ wanted
+  -- a number is the constant of a field of numbers (JVMS 4.7.2)
+  pub constants : (field : ℕ) → IsNumber (field_at p.outline.classes field).field.value → IsPlainKind (kind_of_field p.outline field)
+
+-- no instruction names a method of FreeMe
+abbrev pub CallsNoFreeMe : Program → Type 0
+CallsNoFreeMe p =
+    (method : ℕ) (i : Insn) (m : MethodId) (t : TypeId) (row : Native) → IsNamed p method i (resolved.OfMethod m t) → native_of p.outline m.0 ≡ Some row
+    → is_free_me row ≡ false

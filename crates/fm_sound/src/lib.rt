@@ -1,0 +1,6 @@
+// Soundness of the machine: what holds of every state of a typed program's run, and that steps keep it.
+#![tactic(auto)]
+
+mod laws;
+
+pub use laws::law_kinds;
