@@ -16,8 +16,7 @@ use Rattle.fm_world.specs.Programs.{Outline}
 use Rattle.fm_frames.specs.States.{word_at}
 use Rattle.fm_frames.specs.declared.values.Value.{Value}
 use Rattle.fm_frames.specs.declared.values.Value.TheVariants as value
-use Rattle.fm_sound.specs.Laws.{FrameHasKinds}
-use Rattle.fm_sound.specs.Sound.{HasKind, HaveKinds, LocalHasKind, LocalsHaveKinds}
+use Rattle.fm_sound.specs.Sound.{FrameHasKinds, HasKind, HaveKinds, LocalHasKind, LocalsHaveKinds}
 
 -- ---- along the order of slots
 

@@ -62,6 +62,11 @@ HaveKinds slots words = AllZip HasKind slots words
 abbrev pub LocalsHaveKinds : List Slot → List Value → Type 0
 LocalsHaveKinds slots locals = AllZip LocalHasKind slots locals
 
+-- the locals and the stack have the kinds of a state
+pub record FrameHasKinds (s : TypeState) (locals stack : List Value) : Type 0 where
+  pub in_locals : LocalsHaveKinds s.locals locals
+  pub in_stack : HaveKinds s.stack stack
+
 -- ---- static fields
 
 -- the slot of a value of a kind as one field has it, in one place
