@@ -117,7 +117,18 @@ def left_over():
     return [lowest, interface, full] + [File(b"C%d" % place, b"F") for place in range(400)]
 
 
-PROGRAMS = [chain, levels, fields_through_interfaces, methods_through_interfaces, left_over]
+def long_texts():
+    """16 MB: a class and its superclass, each with 65,000 texts that differ in their last characters alone."""
+    upper = File(b"C")
+    lowest = File(b"M", b"C")
+    lowest.main()
+    for file, letter in [(upper, b"c"), (lowest, b"m")]:
+        for place in range(65_000):
+            file.pool.text(letter * 120 + b"%05x" % place)
+    return [lowest, upper]
+
+
+PROGRAMS = [chain, levels, fields_through_interfaces, methods_through_interfaces, left_over, long_texts]
 
 
 def main():

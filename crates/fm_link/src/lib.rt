@@ -4,7 +4,6 @@
 // `fm_world`: these look names up in lists, and the tables here answer the same at once.
 #![tactic(auto)]
 
-mod judging;
 mod linked;
 mod linking;
 mod ready;
@@ -12,5 +11,4 @@ mod ready;
 mod tests;
 
 pub use fm_refuse::{LinkBad, LinkFail};
-pub use judging::judge;
 pub use linking::link;

@@ -18,8 +18,8 @@ use fm_refuse::{
 };
 use std::alloc::Global;
 
-// The classes by name, for each text the class that it names and whether it names an array, and the
-// tables of classes, fields and methods.
+/// The classes by name, for each text the class that it names and whether it names an array, and the
+/// tables of classes, fields and methods.
 #[derive(Drop)]
 pub(crate) struct Linked<'c> {
     pub numbers: ClassNumbers<'c>,
@@ -31,7 +31,7 @@ pub(crate) struct Linked<'c> {
 }
 
 impl<'c> Linked<'c> {
-    // By what members are looked up, with the texts.
+    /// By what members are looked up, with the texts.
     pub fn linking<'w, 't>(&'w self, texts: &'w Texts<'t>) -> Linking<'w, 't, 'c>
         ensures texts { result.texts.now ≡ texts.entry.now }
         ensures linking { (classes : List DeclaredClass) → AreTexts texts.entry.now
@@ -49,8 +49,8 @@ impl<'c> Linked<'c> {
     }
 }
 
-// Makes the tables of classes whose names differ, and refuses classes that aren't there, and those that
-// can't be superclasses or interfaces.
+/// Makes the tables of classes whose names differ, and refuses classes that aren't there, and those that
+/// can't be superclasses or interfaces.
 pub(crate) fn linked_classes<'w>(
     alloc: Global,
     ready: Ready<'w, '_>,
@@ -83,7 +83,7 @@ pub(crate) fn linked_classes<'w>(
     })
 }
 
-// Judges what classes do with fields and methods, and answers the main class and its main method.
+/// Judges what classes do with fields and methods, and answers the main class and its main method.
 pub(crate) fn judged_main(
     alloc: Global,
     linking: Linking,

@@ -13,8 +13,8 @@ use fm_refuse::{LinkFail, refuse_built_ins, refuse_duplicates};
 use fm_world::DeclaredClass;
 use std::alloc::Global;
 
-// The texts by number, the files, their classes, these classes' fields and methods, and the number of
-// the name of constructors.
+/// The texts by number, the files, their classes, these classes' fields and methods, and the number of
+/// the name of constructors.
 #[derive(Drop)]
 pub(crate) struct Numbered<'a> {
     pub texts: Texts<'a>,
@@ -25,7 +25,7 @@ pub(crate) struct Numbered<'a> {
     pub constructor: u32,
 }
 
-// The same without the fields and the methods, lent.
+/// The same without the fields and the methods, lent.
 #[derive(Clone, Copy)]
 pub(crate) struct Ready<'w, 'a> {
     pub texts: &'w Texts<'a>,
@@ -34,7 +34,7 @@ pub(crate) struct Ready<'w, 'a> {
     pub constructor: u32,
 }
 
-// Numbers the texts of class files, and refuses names that two classes have.
+/// Numbers the texts of class files, and refuses names that two classes have.
 pub(crate) fn numbered_files<'a>(
     alloc: Global,
     given: &'a [ClassDef],

@@ -22,7 +22,7 @@ use fm_code::{Insn, Item, Member};
 use fm_declare::{GivenFile, MemberTexts, code_of};
 use std::alloc::Global;
 
-// Refuses the first instruction of a class that calls an abstract method by itself.
+/// Refuses the first instruction of a class that calls an abstract method by itself.
 pub(crate) fn refuse_calls(
     alloc: Global,
     linking: Linking,

@@ -37,7 +37,7 @@ pub fn arrays_by_text(alloc: Global, texts: &[&[u8]]) -> Result<Vec<bool>, NoMem
     Ok(arrays)
 }
 
-// The class that a text names, if one is there.
+/// The class that a text names, if one is there.
 pub(crate) fn class_named(linking: Linking, text: u32) -> Option<u32>
     ensures { (classes : List DeclaredClass) (name : List ℕ) → IsLinking classes linking.entry
         → slice_get (texts_in linking.entry.texts.now) text ≡ Some name

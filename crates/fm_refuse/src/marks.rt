@@ -6,7 +6,7 @@ ghost use Rattle.fm_declare.specs.inner.Marks.{marked};
 
 use fm_base::NoMemory;
 
-// Whether there is a mark at a place; none past the end.
+/// Whether there is a mark at a place; none past the end.
 pub(crate) fn is_marked(marks: &[bool], place: u32) -> bool
     ensures { result ≡ slice_index_or marks.now place false }
 {
@@ -16,7 +16,7 @@ pub(crate) fn is_marked(marks: &[bool], place: u32) -> bool
     }
 }
 
-// Sets the marks at the indices.
+/// Sets the marks at the indices.
 pub(crate) fn set_marks(marks: &mut Vec<bool>, indices: &[u16])
     ensures { marks.new.items ≡ marked marks.old.items indices.now }
 {
@@ -35,7 +35,7 @@ fn set_mark(marks: &mut Vec<bool>, index: u16)
     }
 }
 
-// A place in a pool as an index; no pool has more places than there are indices.
+/// A place in a pool as an index; no pool has more places than there are indices.
 pub(crate) fn index_of(place: usize) -> Result<u16, NoMemory>
     ensures { IfOk result (λ index. index ≡ place) }
 {

@@ -165,7 +165,7 @@ fn refuse_left_over_at(
     Err(LinkFail::NotImplemented(bad_declared(alloc, linking, file, method)?))
 }
 
-// Whether a method is abstract.
+/// Whether a method is abstract.
 pub(crate) fn is_abstract(linking: Linking, method: u32) -> bool
     ensures { (classes : List DeclaredClass) → IsLinking classes linking.entry
         → result ≡ is_abstract_method classes method }

@@ -218,7 +218,7 @@ fn is_array_name(name: &[u8]) -> bool
     }
 }
 
-// Whether an interface is named.
+/// Whether an interface is named.
 pub(crate) fn is_interface_there(classes: &[DeclaredClass], class: Option<u32>) -> bool
     ensures { result ≡ is_there_and (is_interface_at classes.now) class }
 {

@@ -117,7 +117,7 @@ fn method_flags(linking: Linking, member: MemberTexts) -> Option<u16>
     }
 }
 
-// A refusal's name of a method: the class, a dot, the name and the descriptor.
+/// A refusal's name of a method: the class, a dot, the name and the descriptor.
 pub(crate) fn bad_method(
     alloc: Global,
     linking: Linking,

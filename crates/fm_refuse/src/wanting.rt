@@ -9,7 +9,7 @@ use fm_code::{ACC_STATIC, has_flag};
 use fm_declare::Wanted;
 use fm_lookup::Members;
 
-// The flags of a member; none are set past the last one.
+/// The flags of a member; none are set past the last one.
 pub(crate) fn flags_at(members: &Members, member: u32) -> u16
     ensures { result ≡ flags_of members.now.rows.items member }
 {
@@ -19,7 +19,7 @@ pub(crate) fn flags_at(members: &Members, member: u32) -> u16
     }
 }
 
-// Whether no member is found, or one with another flag than instructions want.
+/// Whether no member is found, or one with another flag than instructions want.
 pub(crate) fn is_unlike(found: Option<u16>, wanted: Wanted) -> bool
     ensures { (flags : List Bool) → wanted ≡ wanted_of flags → result ≡ is_unlike found flags }
 {
