@@ -1,4 +1,5 @@
 pub mod MergingLemmas
+pub mod RankLemmas
 pub mod WalkLemmas
 pub mod ItemLemmas
 pub mod CheckLemmas

@@ -1,12 +1,15 @@
 -- Steps of the walk: what a state that is brought to an item shows, and what it leaves.
-use Rattle.std.proofs.Common.{◌≡◌, ◌≢◌, refl, sym, ◌∙◌, ap, inl, inr, ◌⊎◌, ⊎_elim, ℕ, ◌<◌, ◌≤◌, ◌==◌, ◌&&◌, nat_le, Bool, true, false, List, [], ◌∷◌, ◌++◌, length, get_or, set, Option, Some, None, cond, Contains, subst, arith, length-set}
+use Rattle.std.proofs.Common.{◌≡◌, ◌≢◌, refl, sym, ◌∙◌, ap, inl, inr, ◌⊎◌, ⊎_elim, ℕ, ◌+◌, ◌<◌, ◌≤◌, ◌==◌, ◌&&◌, nat_le, Bool, true, false, List, [], ◌∷◌, ◌++◌, length, get_or, set, Option, Some, None, cond, Contains, subst, sum_by, arith, length-append, length-set}
 use Rattle.std.proofs.lemmas.Bool.{and_from, cases_eq, eq-eqb, false≢true, le-leb}
 use Rattle.std.proofs.lemmas.List.{get_or-set_same, get_or-set_other}
+use Rattle.std.proofs.lemmas.List.Sums.{sum_by-set}
 use Rattle.std.proofs.lemmas.List.Elements.{Contains-append_left, Contains-push, Contains-push_cases}
 use Rattle.fm_base.proofs.OptionFacts.{IsSomeAnd-from_some, same_value, Some-from_some_and}
 use Rattle.fm_check.proofs.MergingLemmas.{fits-parts, IsStateJoin, join_state-least, join_state-some, state-refl, state-trans}
+use Rattle.fm_check.proofs.RankLemmas.{state-less, state-within}
 use Rattle.fm_check.specs.inner.Merging.{join_state}
-use Rattle.fm_check.specs.inner.Walks.{Brings, is_marked, is_within, IsForced, IsKept, IsSound, Rises, Stands, states_seen, Task, Untypable, Walked, Went, with_state, with_waiting}
+use Rattle.fm_check.specs.inner.Ranks.{IsBoundedState, rank_at, state_rank}
+use Rattle.fm_check.specs.inner.Walks.{Brings, is_marked, is_within, IsForced, IsKept, IsSound, Rises, Stands, states_seen, Task, Untypable, Walked, Went, with_state, with_waiting, work_left}
 use Rattle.fm_code.specs.declared.code_array.Code.{Code}
 use Rattle.fm_flow.proofs.RowFacts.{has-set_only}
 use Rattle.fm_types.proofs.StateOrder.{Fitting}
@@ -88,6 +91,7 @@ pub record Waits (item : ℕ) (old new : Walked) : Type 0 where
   pub marked : (j : ℕ) → is_marked new j ≡ true → Contains new.waiting j
   pub still : (j : ℕ) → Contains old.waiting j → Contains new.waiting j
   pub only : (j : ℕ) → Contains new.waiting j → Contains old.waiting j ⊎ (item ≡ j)
+  pub longer : length new.waiting ≤ length old.waiting + 1
 
 waits-marked : (item : ℕ) (w : Walked) → ((j : ℕ) → is_marked w j ≡ true → Contains w.waiting j) → is_marked w item ≡ true → Waits item w w
 waits-marked item w marked is = record {
@@ -97,6 +101,7 @@ waits-marked item w marked is = record {
   marked = marked;
   still = λ j h. h;
   only = λ j h. inl h;
+  longer = omega arith;
 }
 
 waits-pushed : (item : ℕ) (w : Walked) → ((j : ℕ) → is_marked w j ≡ true → Contains w.waiting j)
@@ -112,6 +117,7 @@ waits-pushed item w marked = record {
       (has-set_only w.marks item j is);
   still = λ j h. Contains-append_left w.waiting (item ∷ []) j h;
   only = λ j h. Contains-push_cases w.waiting item j h;
+  longer = let long = length-append w.waiting (item ∷ []) in omega arith;
 }
 
 pub with_waiting-waits : (item : ℕ) (w : Walked) → ((j : ℕ) → is_marked w j ≡ true → Contains w.waiting j) → Waits item w (with_waiting item w)
@@ -132,11 +138,26 @@ given_at states item j s inside =
     (λ (apart : j ≢ item). inr (apart, get_or-set_other states item j (Some s) None apart))
     (cases_eq j item)
 
+-- what is given ranks below what was there
+given_less : (t : Task) (item : ℕ) (new : TypeState) (w : Walked) → item < length w.states
+    → ((j : ℕ) → is_marked w j ≡ true → Contains w.waiting j)
+    → state_rank t.program.outline new < rank_at t.program.outline t.code (state_at w.states item)
+    → work_left t (with_state item new w) ≤ work_left t w
+given_less t item new w inside marked less =
+    let waits = with_waiting-waits item (record w { states = set w.states item (Some new) }) marked in
+    let longer = waits.longer in
+    let sums = sum_by-set (rank_at t.program.outline t.code) w.states item (Some new) None inside in
+    let same : sum_by (rank_at t.program.outline t.code) (with_state item new w).states
+    ≡ sum_by (rank_at t.program.outline t.code) (set w.states item (Some new)) =
+    ap (sum_by (rank_at t.program.outline t.code)) waits.states in
+    omega arith
+
 -- a state that is new, or above the old one
 pub Went-given : (t : Task) (item : ℕ) (new : TypeState) (w : Walked) → IsSound t → Stands t w → IsKept t item new → (item ≡ 0 → ⊥)
     → ((s : TypeState) → state_at w.states item ≡ Some s → state_fits t.program.outline s new ≡ true)
+    → state_rank t.program.outline new < rank_at t.program.outline t.code (state_at w.states item)
     → Went t w (with_state item new w)
-Went-given t item new w sound stands kept later above =
+Went-given t item new w sound stands kept later above less =
     let put : Walked = record w { states = set w.states item (Some new) } in
     let waits = with_waiting-waits item put stands.marked in
     let one = stands.one_each in
@@ -181,19 +202,21 @@ Went-given t item new w sound stands kept later above =
             (at j);
         still = waits.still;
       };
+      falls = given_less t item new w inside stands.marked less;
     }
 
 -- and a state that fits it was brought
 Brings-given : (t : Task) (item : ℕ) (s new : TypeState) (w : Walked) → IsSound t → Stands t w → IsKept t item new → (item ≡ 0 → ⊥)
     → ((s : TypeState) → state_at w.states item ≡ Some s → state_fits t.program.outline s new ≡ true) → state_fits t.program.outline s new ≡ true
+    → state_rank t.program.outline new < rank_at t.program.outline t.code (state_at w.states item)
     → Brings t item s w (with_state item new w)
-Brings-given t item s new w sound stands kept later above fits =
+Brings-given t item s new w sound stands kept later above fits less =
     let waits = with_waiting-waits item (record w { states = set w.states item (Some new) }) stands.marked in
     let one = stands.one_each in
     let below = kept.forced.inside in
     let inside : item < length w.states = omega arith in
     record {
-      went = Went-given t item new w sound stands kept later above;
+      went = Went-given t item new w sound stands kept later above less;
       fits = fits_at t (with_state item new w).states item s new
           (ap (λ (states : List (Option TypeState)). state_at states item) waits.states ∙ get_or-set_same w.states item (Some new) None inside)
           fits;
@@ -209,6 +232,8 @@ Brings-first t item s w sound stands forced within none =
     (λ same. let first : state_at w.states item ≡ Some _ = ap (λ (n : ℕ). state_at w.states n) same ∙ stands.first in cc)
     (λ u is. absurd cc)
     (state-refl t.program.outline sound.tree s)
+    (subst (λ (x : Option TypeState). state_rank t.program.outline s < rank_at t.program.outline t.code x) (sym none)
+    (state-within t.program.outline t.code s within))
 
 pub Went-none : (t : Task) (w : Walked) → IsSound t → Stands t w → Went t w w
 Went-none t w sound stands = record {
@@ -218,6 +243,7 @@ Went-none t w sound stands = record {
     changed = λ j. inl refl;
     still = λ j h. h;
   };
+  falls = omega arith;
 }
 
 -- a state that fits
@@ -246,10 +272,20 @@ join-forced t j a b joined first second join = record {
       (join.least above.state above.fits (ap (state_fits t.program.outline b) (sym same) ∙ other.fits));
 }
 
+-- a join that the old state doesn't fit ranks below it
+joined_less : (t : Task) (s old joined : TypeState) → IsSound t → IsBoundedState old → IsStateJoin t.program.outline old s joined
+    → state_fits t.program.outline s old ≡ false → state_rank t.program.outline joined < state_rank t.program.outline old
+joined_less t s old joined sound bounded join unfit =
+    state-less t.program.outline sound.tree old joined bounded join.first (by_fit (state_fits t.program.outline joined old) refl) where
+      by_fit : (b : Bool) → state_fits t.program.outline joined old ≡ b → state_fits t.program.outline joined old ≡ false
+      by_fit false e = e
+      by_fit true e = absurd (false≢true (sym unfit ∙ state-trans t.program.outline sound.tree s joined old join.second e))
+
 -- a state that is joined
 pub Brings-joined : (t : Task) (item : ℕ) (s old joined : TypeState) (w : Walked) → IsSound t → Stands t w → IsForced t item s → (item ≡ 0 → ⊥)
-    → state_at w.states item ≡ Some old → join_state t.program.outline old s ≡ Some joined → Brings t item s w (with_state item joined w)
-Brings-joined t item s old joined w sound stands forced later is gives =
+    → state_at w.states item ≡ Some old → join_state t.program.outline old s ≡ Some joined → IsBoundedState old
+    → state_fits t.program.outline s old ≡ false → Brings t item s w (with_state item joined w)
+Brings-joined t item s old joined w sound stands forced later is gives bounded unfit =
     let join = join_state-least t.program.outline sound.tree old s joined gives in
     let kept = stands.each item old is in
     Brings-given t item s joined w sound stands
@@ -260,6 +296,8 @@ Brings-joined t item s old joined w sound stands forced later is gives =
     later
     (λ u also. let same : old ≡ u = same_value (state_at w.states item) old u is also in ap (λ (x : TypeState). state_fits t.program.outline x joined) (sym same) ∙ join.first)
     join.second
+    (subst (λ (x : Option TypeState). state_rank t.program.outline joined < rank_at t.program.outline t.code x) (sym is)
+    (joined_less t s old joined sound bounded join unfit))
 
 -- ---- one step after the other
 
@@ -279,7 +317,11 @@ Rises-then t a b c sound first second = record {
 }
 
 pub Went-then : (t : Task) (a b c : Walked) → IsSound t → Went t a b → Went t b c → Went t a c
-Went-then t a b c sound first second = record { stands = second.stands; rises = Rises-then t a b c sound first.rises second.rises }
+Went-then t a b c sound first second = record {
+  stands = second.stands;
+  rises = Rises-then t a b c sound first.rises second.rises;
+  falls = let before = first.falls in let after = second.falls in omega arith;
+}
 
 -- what fits at an item fits later
 pub fits_later : (t : Task) (a b : Walked) (j : ℕ) (s : TypeState) → IsSound t → Rises t.program.outline a b → FitsAt t.program a.states j s → FitsAt t.program b.states j s

@@ -1,4 +1,5 @@
--- What serves the proofs alone: the join of states, how the walk over items stands, and what its end says.
+-- What serves the proofs alone: the join of states, their ranks, how the walk over items stands, and what its end says.
 pub mod Merging
+pub mod Ranks
 pub mod Walks
 pub mod Judgements

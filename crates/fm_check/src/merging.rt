@@ -1,8 +1,9 @@
 // States brought to an item: whether one fits the item's own, and the least state that both fit.
 
-ghost use Rattle.std.specs.Prelude.{◌≡◌, IfOk, length};
+ghost use Rattle.std.specs.Prelude.{◌≡◌, All, IfOk, length};
 ghost use Rattle.std.specs.Option.{option_map};
 ghost use Rattle.fm_check.specs.inner.Merging.{have_same_sizes, join_slots, join_state};
+ghost use Rattle.fm_check.specs.inner.Ranks.{IsBounded, IsBoundedState};
 ghost use Rattle.fm_types.specs.States.{all_fit, state_fits};
 ghost use Rattle.fm_types.specs.Typings.{type_state};
 
@@ -91,4 +92,26 @@ pub fn join_state(
         stack,
         built: a.built && b.built,
     }))
+}
+
+// The numbers of a slot are within their bytes. It does nothing.
+fn law_bounded(_slot: Slot)
+    ensures { IsBounded _slot }
+{}
+
+// The same of each slot of a list.
+fn law_all_bounded(slots: &[Slot])
+    ensures { All IsBounded slots.now }
+{
+    for slot in slots {
+        law_bounded(*slot);
+    }
+}
+
+/// The numbers of the slots of a state are within their bytes. It does nothing.
+pub fn law_bounded_state(state: &State)
+    ensures { IsBoundedState (type_state state.now) }
+{
+    law_all_bounded(state.locals.as_slice());
+    law_all_bounded(state.stack.as_slice());
 }

@@ -254,14 +254,11 @@ impl Walk {
             (HasSettled (task method.now) (walked self.new))
             (Untypable (task method.now))) }
     {
-        for _ in 0..u64::MAX {
-            let Some(item) = self.next() else {
-                return Ok(true);
-            };
+        while let Some(item) = self.next() {
             if !self.go_over(alloc, method, item)? {
                 return Ok(false);
             }
         }
-        Err(NoMemory)
+        Ok(true)
     }
 }

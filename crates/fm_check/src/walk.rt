@@ -8,7 +8,7 @@ ghost use Rattle.fm_check.specs.inner.Walks.{Brings, IsForced, IsKept, IsSound, 
 ghost use Rattle.fm_types.specs.Typed.{state_at};
 ghost use Rattle.fm_types.specs.Typings.{type_state};
 
-use crate::merging::{join_state, state_fits};
+use crate::merging::{join_state, law_bounded_state, state_fits};
 use crate::method::Method;
 use fm_base::NoMemory;
 use fm_code::Code;
@@ -18,6 +18,7 @@ use std::alloc::Global;
 /// The states so far, and the items that are still to be gone over, each once.
 #[derive(Drop)]
 pub struct Walk {
+    /// One for each item; none where none was brought yet.
     pub states: Vec<Option<State>>,
     waiting: Vec<u32>,
     is_waiting: Vec<bool>,
@@ -140,6 +141,7 @@ impl Walk {
         if item == 0 {
             return Ok(false);
         }
+        law_bounded_state(state);
         let Some(joined) = join_state(alloc, method.program, state, brought)? else {
             return Ok(false);
         };

@@ -1,5 +1,5 @@
 -- How the walk over the items of a method stands.
-use Rattle.std.specs.Prelude.{◌≡◌, ℕ, ◌+◌, ◌<◌, ◌⊎◌, ◌==◌, ◌&&◌, nat_le, Bool, true, false, List, [], ◌∷◌, ◌++◌, length, map, replicate, Option, Some, None, IsSomeAnd, Contains, slice_set, if◌then◌else◌}
+use Rattle.std.specs.Prelude.{◌≡◌, ℕ, ◌+◌, ◌<◌, ◌≤◌, ◌⊎◌, ◌==◌, ◌&&◌, nat_le, Bool, true, false, List, [], ◌∷◌, ◌++◌, length, map, replicate, Option, Some, None, IsSomeAnd, Contains, slice_set, sum_by, if◌then◌else◌}
 use Rattle.std.specs.List.{AllByRecursion, slice_index_or}
 use Rattle.std.specs.Option.{option_map}
 use Rattle.fm_check.specs.declared.walk.Walk.{Walk}
@@ -9,6 +9,7 @@ use Rattle.fm_code.specs.declared.code_array.Code.{Code}
 use Rattle.fm_code.specs.declared.code_array.Handler.{Handler}
 use Rattle.fm_code.specs.declared.instructions.Insn.{Insn}
 use Rattle.fm_check.specs.declared.method.Method.{Method}
+use Rattle.fm_check.specs.inner.Ranks.{rank_at}
 use Rattle.fm_rows.specs.Members.{UsesNameMembers}
 use Rattle.fm_types.specs.Fits.{AreTree}
 use Rattle.fm_types.specs.States.{is_whole, state_fits, TypeState}
@@ -91,6 +92,10 @@ pub record Takes (item : ℕ) (old new : Walked) : Type 0 where
   pub waiting : old.waiting ≡ new.waiting ++ item ∷ []
   pub marks : new.marks ≡ slice_set old.marks item false
 
+-- what is left to do: as far as the states may still rise, and the items that wait
+abbrev pub work_left : Task → Walked → ℕ
+work_left t w = sum_by (rank_at t.program.outline t.code) w.states + length w.waiting
+
 -- each state is kept by all typings; a marked item waits
 pub record Stands (t : Task) (w : Walked) : Type 0 where
   pub one_each : length w.states ≡ length t.code.items
@@ -109,6 +114,7 @@ pub record Rises (o : Outline) (old new : Walked) : Type 0 where
 pub record Went (t : Task) (old new : Walked) : Type 0 where
   pub stands : Stands t new
   pub rises : Rises t.program.outline old new
+  pub falls : work_left t new ≤ work_left t old
 
 -- ---- steps of the walk
 

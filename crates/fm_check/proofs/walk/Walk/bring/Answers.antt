@@ -46,4 +46,5 @@ returns c =
     let gives = sym c.in_ok-joined.ensures ∙ ap (option_map type_state) c.in-Some-2.is in
     let Done : Walked → Type 0 = λ x. Brings t c.args.item s w x in
     subst Done (sym c.in_ok-begin-2.ensures)
-    (Brings-joined t c.args.item s old joined w c.requires.sound c.requires.stands c.requires.forced c.if-item-eq0.false is gives)
+    (Brings-joined t c.args.item s old joined w c.requires.sound c.requires.stands c.requires.forced c.if-item-eq0.false is gives
+    c.law_bounded_state.ensures (sym c.state_fits.ensures ∙ c.if-state_fits.false))

@@ -1,5 +1,8 @@
-use Rattle.fm_check.specs.inner.Walks.{task, walked, Walking}
+use Rattle.fm_check.specs.inner.Walks.{task, walked, Walking, work_left}
 use Rattle.fm_check.proofs.walk.Walk.run.Given as goal
 
-abbrev pub invariant-loop : goal.invariant-loop
-invariant-loop l = Walking (task l.method) (walked l.self)
+abbrev pub invariant-loop-item : goal.invariant-loop-item
+invariant-loop-item l = Walking (task l.method) (walked l.self)
+
+abbrev pub decreases-loop-item : goal.decreases-loop-item
+decreases-loop-item l = work_left (task l.method) (walked l.self)
