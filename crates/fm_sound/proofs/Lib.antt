@@ -6,3 +6,4 @@ pub mod JumpRows
 pub mod ObjectRows
 pub mod ArrayRows
 pub mod Rows
+pub mod FramesStand

@@ -1,17 +1,21 @@
 -- The laws that the functions of `laws` prove.
-use Rattle.std.specs.Prelude.{◌≡◌, ℕ, false, true, List, Option, Some}
+use Rattle.std.specs.Prelude.{◌≡◌, ℕ, false, true, List, ◌∷◌, Option, Some}
 use Rattle.fm_base.specs.declared.kinds.TypeRef.{TypeRef}
 use Rattle.fm_code.specs.declared.instructions.Insn.{Insn}
+use Rattle.fm_types.specs.Fits.{AreTree}
 use Rattle.fm_types.specs.Rows.{row_after}
 use Rattle.fm_types.specs.States.{is_whole, state_fits, TypeState}
-use Rattle.fm_world.specs.Programs.{Outline}
+use Rattle.fm_world.specs.Programs.{Outline, Program}
 use Rattle.fm_world.specs.declared.uses.Use.{Use}
+use Rattle.fm_frames.specs.Effects.{Effect}
 use Rattle.fm_frames.specs.Rows.{effect_of}
 use Rattle.fm_frames.specs.Sights.{Sight}
-use Rattle.fm_frames.specs.States.{Frame}
+use Rattle.fm_frames.specs.States.{Areas, Frame, State}
+use Rattle.fm_frames.specs.Steps.{caught, continued, InFrames}
 use Rattle.fm_frames.specs.declared.values.Value.{Value}
-use Rattle.fm_sound.specs.Leading.{is_call, is_lookup, LeadsAs, NamesField}
-use Rattle.fm_sound.specs.Sound.{FrameHasKinds}
+use Rattle.fm_sound.specs.Going.{IsGoingOn, StandsAtRow}
+use Rattle.fm_sound.specs.Leading.{is_call, is_lookup, LeadsAs, NamesField, sources_of}
+use Rattle.fm_sound.specs.Sound.{AreTyped, FrameHasKinds, HaveKinds, IsReference, Stand, StandBelow, StandsWithout, static_slots, Typings}
 
 -- ---- kinds
 
@@ -31,3 +35,23 @@ EffectsLead =
     → FrameHasKinds s f.locals f.stack → is_whole s.stack ≡ true → NamesField o u i → is_call i ≡ false → is_lookup i ≡ false
     → row_after o f.method f.item news u i s ≡ Some after
     → LeadsAs o i after f (effect_of o f.method u i byte sights) (effect_of o f.method u i byte sights).next
+
+-- ---- frames
+
+-- A frame that goes on to the next item or to a target, with an effect that leads where the checker's row does, stands there, and the frames below it
+-- stand as they did.
+abbrev pub GoingOnKeepsFrames : Type 0
+GoingOnKeepsFrames =
+    (p : Program) (typings : Typings) → AreTree p.outline.classes → AreTyped p typings
+    → (f : Frame) (callers : List Frame) (i : Insn) (after : TypeState) → StandsAtRow p typings f i after → StandBelow p typings f callers
+    → (e : Effect) → IsGoingOn e.next → LeadsAs p.outline i after f e e.next
+    → (areas : Areas) (made : List ℕ) → HaveKinds (static_slots p.outline) areas.statics
+    → (x : State) → Stand p typings (continued p (sources_of f areas made) e f callers x).frames
+
+-- The frames stand after an exception too, a reference, that one of them catches: whether or not the words of a call are off the stack of the frame
+-- on top.
+abbrev pub CatchingKeepsFrames : Type 0
+CatchingKeepsFrames =
+    (p : Program) (typings : Typings) → AreTyped p typings
+    → (f : Frame) (callers : List Frame) (words : ℕ) → StandsWithout p typings words f → StandBelow p typings f callers
+    → (t : TypeRef) (v : Value) → IsReference v → (frames : List Frame) → caught p t v (f ∷ callers) ≡ InFrames frames → Stand p typings frames

@@ -14,3 +14,10 @@ pub fn law_kinds()
 pub fn law_effects()
     ensures { law.EffectsLead }
 {}
+
+/// Frames stand where the checker knows what they have: where the frame on top goes on to the next item
+/// or to a target, and where an exception is caught in any of them.
+pub fn law_frames()
+    ensures going_on { law.GoingOnKeepsFrames }
+    ensures catching { law.CatchingKeepsFrames }
+{}

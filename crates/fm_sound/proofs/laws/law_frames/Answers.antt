@@ -1,0 +1,5 @@
+use Rattle.fm_sound.proofs.FramesStand.{caught_stand, going_stand}
+use Rattle.fm_sound.proofs.laws.law_frames.Goals as goal
+
+pub returns : goal.returns
+returns c = record { going_on = going_stand; catching = caught_stand }
