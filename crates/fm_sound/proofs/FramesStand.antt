@@ -63,7 +63,7 @@ below_same p typings f other (g ∷ callers) same h = (
 
 -- ---- typings
 
-typing_of : (p : Program) (typings : Typings) → AreTyped p typings → (method : ℕ) (code : Code) → code_at p method ≡ Some code
+pub typing_of : (p : Program) (typings : Typings) → AreTyped p typings → (method : ℕ) (code : Code) → code_at p method ≡ Some code
     → IsTypingOf p method code (typings method)
 typing_of p typings typed method code is =
     IsSomeAnd-at_some (code_at p method) (λ other. IsTypingOf p method other (typings method)) code is (typed method code is)
@@ -73,7 +73,7 @@ item_within code j i is =
     let found = option_map-some (λ (item : Item). item.insn) (slice_get code.items j) i is in slice_get_within code.items j found.0 found.1
 
 -- what is brought to an item with its kinds stands there
-fits_stands : (p : Program) (typings : Typings) → AreTyped p typings → (method : ℕ) (code : Code) → code_at p method ≡ Some code
+pub fits_stands : (p : Program) (typings : Typings) → AreTyped p typings → (method : ℕ) (code : Code) → code_at p method ≡ Some code
     → (item : ℕ) (brought : TypeState) → is_whole brought.stack ≡ true → FitsAt p (typings method) item brought
     → (locals stack : List Value) → FrameHasKinds brought locals stack
     → StandsWithout p typings 0 (record { method = method; item = item; locals = locals; stack = stack })
@@ -105,22 +105,22 @@ same_default [] n d e within = absurd (omega (arith, within))
 same_default (x ∷ xs) zero d e within = refl
 same_default (x ∷ xs) (suc n) d e within = same_default xs n d e (omega (arith, within))
 
-module _ (p : Program) (typings : Typings) (tree : AreTree p.outline.classes) (typed : AreTyped p typings) (f : Frame) (callers : List Frame) (i : Insn) (after : TypeState) (h : StandsAtRow p typings f i after) (below : StandBelow p typings f callers) (e : Effect) (areas : Areas) (made : List ℕ) (statics : HaveKinds (static_slots p.outline) areas.statics) where
-  typing : IsTypingOf p f.method h.code (typings f.method)
+module _ (p : Program) (typings : Typings) (tree : AreTree p.outline.classes) (typed : AreTyped p typings) (f : Frame) (i : Insn) (after : TypeState) (h : StandsAtRow p typings f i after) where
+  pub typing : IsTypingOf p f.method h.code (typings f.method)
   typing = typing_of p typings typed f.method h.code h.code_is
 
-  reached : IsReachable h.code f.item
+  pub reached : IsReachable h.code f.item
   reached = (typing.reachable f.item).0 (ap is_some h.at)
 
-  meets : MeetsItem p f.method h.code (typings f.method) f.item h.known
+  pub meets : MeetsItem p f.method h.code (typings f.method) f.item h.known
   meets = typing.items f.item h.known h.at
 
-  after_whole : is_whole after.stack ≡ true
+  pub after_whole : is_whole after.stack ≡ true
   after_whole =
       rows-keep_whole p.outline tree f.method f.item (made_at p f.method h.code) (use_by p f.method i) i h.known after meets.whole h.row
 
   -- the row's state fits the one at the end of each edge
-  edge_fits : (next : ℕ) → IsNormalEdge h.code f.item next → FitsAt p (typings f.method) next after
+  pub edge_fits : (next : ℕ) → IsNormalEdge h.code f.item next → FitsAt p (typings f.method) next after
   edge_fits next edge =
       let is : after_item p f.method h.code f.item h.known ≡ Some after =
       ap (λ o. option_and_then (λ other. row_after p.outline f.method f.item (made_at p f.method h.code) (use_by p f.method other) other h.known) o) h.insn_is
@@ -128,14 +128,7 @@ module _ (p : Program) (typings : Typings) (tree : AreTree p.outline.classes) (t
       IsSomeAnd-at_some (after_item p f.method h.code f.item h.known)
       (λ given. (to : ℕ) → IsNormalEdge h.code f.item to → FitsAt p (typings f.method) to given) after is meets.row next edge
 
-  goes_stand : (next : ℕ) → IsNormalEdge h.code f.item next → LeavesAs p.outline after f e
-      → Stand p typings (steps.went (sources_of f areas made) e f next ∷ callers)
-  goes_stand next edge leaves = (
-    fits_stands p typings typed f.method h.code h.code_is next after after_whole (edge_fits next edge) _ _ (leaves areas made statics),
-    below_same p typings f (steps.went (sources_of f areas made) e f next) callers refl below,
-  )
-
-  next_edge : falls_through i ≡ true → IsNormalEdge h.code f.item (f.item + 1)
+  pub next_edge : falls_through i ≡ true → IsNormalEdge h.code f.item (f.item + 1)
   next_edge falls = record {
     inside = ⊎_elim
         (λ (last : f.item + 1 ≡ length h.code.items).
@@ -150,7 +143,7 @@ module _ (p : Program) (typings : Typings) (tree : AreTree p.outline.classes) (t
     leads = IsSomeAnd-from_some (insn_of h.code f.item) (λ other. LeadsTo other f.item (f.item + 1)) i h.insn_is (inr (falls, refl));
   }
 
-  target_edge : (n : ℕ) → n < length (targets_of i) → IsNormalEdge h.code f.item (target_at p f n)
+  pub target_edge : (n : ℕ) → n < length (targets_of i) → IsNormalEdge h.code f.item (target_at p f n)
   target_edge n within =
       let is : target_at p f n ≡ slice_index_or (targets_of i) n f.item = target_is p f n h.code i h.code_is h.insn_is in
       record {
@@ -160,12 +153,20 @@ module _ (p : Program) (typings : Typings) (tree : AreTree p.outline.classes) (t
             (inl (n, within, same_default (targets_of i) n _ f.item within ∙ sym is));
       }
 
+module _ (p : Program) (typings : Typings) (tree : AreTree p.outline.classes) (typed : AreTyped p typings) (f : Frame) (callers : List Frame) (i : Insn) (after : TypeState) (h : StandsAtRow p typings f i after) (below : StandBelow p typings f callers) (e : Effect) (areas : Areas) (made : List ℕ) (statics : HaveKinds (static_slots p.outline) areas.statics) where
+  goes_stand : (next : ℕ) → IsNormalEdge h.code f.item next → LeavesAs p.outline after f e
+      → Stand p typings (steps.went (sources_of f areas made) e f next ∷ callers)
+  goes_stand next edge leaves = (
+    fits_stands p typings typed f.method h.code h.code_is next after (after_whole p typings tree typed f i after h) (edge_fits p typings tree typed f i after h next edge) _ _ (leaves areas made statics),
+    below_same p typings f (steps.went (sources_of f areas made) e f next) callers refl below,
+  )
+
   falls_stand : (falls_through i ≡ true) → LeavesAs p.outline after f e → Stand p typings (steps.went (sources_of f areas made) e f (f.item + 1) ∷ callers)
-  falls_stand falls leaves = goes_stand (f.item + 1) (next_edge falls) leaves
+  falls_stand falls leaves = goes_stand (f.item + 1) (next_edge p typings tree typed f i after h falls) leaves
 
   jumps_stand : (n : ℕ) → n < length (targets_of i) → LeavesAs p.outline after f e
       → Stand p typings (steps.went (sources_of f areas made) e f (target_at p f n) ∷ callers)
-  jumps_stand n within leaves = goes_stand (target_at p f n) (target_edge n within) leaves
+  jumps_stand n within leaves = goes_stand (target_at p f n) (target_edge p typings tree typed f i after h n within) leaves
 
   either_stands : (b : Bool) (one other : ℕ) → Stand p typings (steps.went (sources_of f areas made) e f one ∷ callers)
       → Stand p typings (steps.went (sources_of f areas made) e f other ∷ callers)

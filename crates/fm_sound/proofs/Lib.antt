@@ -7,3 +7,4 @@ pub mod ObjectRows
 pub mod ArrayRows
 pub mod Rows
 pub mod FramesStand
+pub mod ReturnsStand

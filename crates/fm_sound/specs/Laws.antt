@@ -1,8 +1,9 @@
 -- The laws that the functions of `laws` prove.
-use Rattle.std.specs.Prelude.{◌≡◌, ℕ, false, true, List, ◌∷◌, Option, Some}
+use Rattle.std.specs.Prelude.{◌≡◌, ℕ, false, true, List, ◌∷◌, take, Option, Some}
 use Rattle.fm_base.specs.declared.kinds.TypeRef.{TypeRef}
 use Rattle.fm_code.specs.declared.instructions.Insn.{Insn}
 use Rattle.fm_types.specs.Fits.{AreTree}
+use Rattle.fm_types.specs.Named.{result_words}
 use Rattle.fm_types.specs.Rows.{row_after}
 use Rattle.fm_types.specs.States.{is_whole, state_fits, TypeState}
 use Rattle.fm_world.specs.Programs.{Outline, Program}
@@ -11,9 +12,9 @@ use Rattle.fm_frames.specs.Effects.{Effect}
 use Rattle.fm_frames.specs.Rows.{effect_of}
 use Rattle.fm_frames.specs.Sights.{Sight}
 use Rattle.fm_frames.specs.States.{Areas, Frame, State}
-use Rattle.fm_frames.specs.Steps.{caught, continued, InFrames}
+use Rattle.fm_frames.specs.Steps.{caught, continued, InFrames, returned}
 use Rattle.fm_frames.specs.declared.values.Value.{Value}
-use Rattle.fm_sound.specs.Going.{IsGoingOn, StandsAtRow}
+use Rattle.fm_sound.specs.Going.{ConstructorsGiveNothing, IsGoingOn, StandsAtRow}
 use Rattle.fm_sound.specs.Leading.{is_call, is_lookup, LeadsAs, NamesField, sources_of}
 use Rattle.fm_sound.specs.Sound.{AreTyped, FrameHasKinds, HaveKinds, IsReference, Stand, StandBelow, StandsWithout, static_slots, Typings}
 
@@ -55,3 +56,11 @@ CatchingKeepsFrames =
     (p : Program) (typings : Typings) → AreTyped p typings
     → (f : Frame) (callers : List Frame) (words : ℕ) → StandsWithout p typings words f → StandBelow p typings f callers
     → (t : TypeRef) (v : Value) → IsReference v → (frames : List Frame) → caught p t v (f ∷ callers) ≡ InFrames frames → Stand p typings frames
+
+-- Of a frame that returns with words of its result's kind, the frame below goes on after its call with them on top; the one for which a class was started
+-- stands as it did.
+abbrev pub ReturningKeepsFrames : Type 0
+ReturningKeepsFrames =
+    (p : Program) (typings : Typings) → AreTree p.outline.classes → AreTyped p typings → ConstructorsGiveNothing p.outline
+    → (f g : Frame) (callers : List Frame) → StandBelow p typings f (g ∷ callers) → (n : ℕ) → HaveKinds (result_words p.outline f.method) (take n f.stack)
+    → (x : State) → Stand p typings (returned p n f (g ∷ callers) x).frames

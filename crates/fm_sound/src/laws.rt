@@ -16,8 +16,10 @@ pub fn law_effects()
 {}
 
 /// Frames stand where the checker knows what they have: where the frame on top goes on to the next item
-/// or to a target, and where an exception is caught in any of them.
+/// or to a target, where an exception is caught in any of them, and where a frame returns to the one
+/// below it.
 pub fn law_frames()
     ensures going_on { law.GoingOnKeepsFrames }
     ensures catching { law.CatchingKeepsFrames }
+    ensures returning { law.ReturningKeepsFrames }
 {}
