@@ -8,3 +8,4 @@ pub mod ArrayRows
 pub mod Rows
 pub mod FramesStand
 pub mod ReturnsStand
+pub mod CallsStand

@@ -63,7 +63,7 @@ arguments_count o method = length-reverse (flat_map local_slots (parameters_of o
 
 -- ---- what is left below the words that are taken
 
-taken_drop : (o : Outline) (wanted stack rest : List Slot) → taken o wanted stack ≡ Some rest → drop (length wanted) stack ≡ rest
+pub taken_drop : (o : Outline) (wanted stack rest : List Slot) → taken o wanted stack ≡ Some rest → drop (length wanted) stack ≡ rest
 taken_drop o [] stack rest is = same_Some stack rest is
 taken_drop o (w ∷ more) [] rest is = absurd (cc)
 taken_drop o (w ∷ more) (s ∷ stack) rest is = taken_drop o more stack rest (cond-some_then (fits o s w) (taken o more stack) rest is).1
@@ -153,7 +153,7 @@ constructed_kinds o method news named slot.UninitThis s after locals words row h
 
 -- ---- the method that a call names
 
-abbrev method_in : Use → Option ℕ
+abbrev pub method_in : Use → Option ℕ
 method_in (resolved.OfMethod m t) = Some m.0
 method_in u = None
 
@@ -161,7 +161,7 @@ named_in : (u : Use) (named : ℕ) → method_in u ≡ Some named → (m : Metho
 named_in (resolved.OfMethod m t) named is = (m, t, refl, same_Some m.0 named is)
 named_in u named is = absurd (cc)
 
-row_of_method : (o : Outline) (u : Use) (follows : ℕ → TypeRef → Option TypeState) (named : ℕ) (after : TypeState) → method_in u ≡ Some named
+pub row_of_method : (o : Outline) (u : Use) (follows : ℕ → TypeRef → Option TypeState) (named : ℕ) (after : TypeState) → method_in u ≡ Some named
     → typed.on_method o u follows ≡ Some after → (t : TypeRef) × (follows named t ≡ Some after)
 row_of_method o u follows named after names row =
     let found = named_in u named names in

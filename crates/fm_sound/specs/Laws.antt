@@ -1,5 +1,6 @@
 -- The laws that the functions of `laws` prove.
-use Rattle.std.specs.Prelude.{◌≡◌, ℕ, false, true, List, ◌∷◌, take, Option, Some}
+use Rattle.std.specs.Prelude.{◌≡◌, ℕ, false, true, List, ◌∷◌, ◌++◌, drop, take, reverse, Option, Some}
+use Rattle.std.specs.List.{AllByRecursion}
 use Rattle.fm_base.specs.declared.kinds.TypeRef.{TypeRef}
 use Rattle.fm_code.specs.declared.instructions.Insn.{Insn}
 use Rattle.fm_types.specs.Fits.{AreTree}
@@ -12,9 +13,9 @@ use Rattle.fm_frames.specs.Effects.{Effect}
 use Rattle.fm_frames.specs.Rows.{effect_of}
 use Rattle.fm_frames.specs.Sights.{Sight}
 use Rattle.fm_frames.specs.States.{Areas, Frame, State}
-use Rattle.fm_frames.specs.Steps.{caught, continued, InFrames, returned}
+use Rattle.fm_frames.specs.Steps.{caught, continued, InFrames, new_frame, returned, start_frames}
 use Rattle.fm_frames.specs.declared.values.Value.{Value}
-use Rattle.fm_sound.specs.Going.{ConstructorsGiveNothing, IsGoingOn, StandsAtRow}
+use Rattle.fm_sound.specs.Going.{ConstructorsGiveNothing, IsCalled, IsGoingOn, StandsAtRow, StartsClass}
 use Rattle.fm_sound.specs.Leading.{is_call, is_lookup, LeadsAs, NamesField, sources_of}
 use Rattle.fm_sound.specs.Sound.{AreTyped, FrameHasKinds, HaveKinds, IsReference, Stand, StandBelow, StandsWithout, static_slots, Typings}
 
@@ -64,3 +65,19 @@ ReturningKeepsFrames =
     (p : Program) (typings : Typings) → AreTree p.outline.classes → AreTyped p typings → ConstructorsGiveNothing p.outline
     → (f g : Frame) (callers : List Frame) → StandBelow p typings f (g ∷ callers) → (n : ℕ) → HaveKinds (result_words p.outline f.method) (take n f.stack)
     → (x : State) → Stand p typings (returned p n f (g ∷ callers) x).frames
+
+-- The frame of a method that a call leads to stands at its first item with the words of the call for arguments, and the frame that calls stands below it,
+-- at the call and without them.
+abbrev pub CallingKeepsFrames : Type 0
+CallingKeepsFrames =
+    (p : Program) (typings : Typings) → AreTyped p typings
+    → (f : Frame) (callers : List Frame) (i : Insn) (after : TypeState) (h : StandsAtRow p typings f i after) → FrameHasKinds h.known f.locals f.stack
+    → StandBelow p typings f callers → (target words : ℕ) → IsCalled p f i target words
+    → Stand p typings (new_frame p target (reverse (take words f.stack)) ∷ record f { stack = drop words f.stack } ∷ callers)
+
+-- Above frames that stand, so do the frames of methods that start classes, the first of them on top.
+abbrev pub StartingKeepsFrames : Type 0
+StartingKeepsFrames =
+    (p : Program) (typings : Typings) → AreTyped p typings
+    → (methods : List ℕ) → AllByRecursion (StartsClass p) methods → (f : Frame) (callers : List Frame) → Stand p typings (f ∷ callers)
+    → Stand p typings (start_frames p methods ++ f ∷ callers)
