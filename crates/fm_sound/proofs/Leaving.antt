@@ -83,7 +83,7 @@ reference_taken o t other (s ∷ stack) rest (v ∷ words) is h =
 -- ---- states that rows give
 
 -- one more word is dropped
-dropped : {X : Type 0} (n : ℕ) (xs : List X) → drop 1 (drop n xs) ≡ drop (n + 1) xs
+pub dropped : {X : Type 0} (n : ℕ) (xs : List X) → drop 1 (drop n xs) ≡ drop (n + 1) xs
 dropped zero xs = refl
 dropped (suc n) [] = let next : suc n + 1 ≡ suc (n + 1) = omega arith in ap (λ k. drop k []) (sym next)
 dropped (suc n) (x ∷ xs) = let next : suc n + 1 ≡ suc (n + 1) = omega arith in dropped n xs ∙ ap (λ k. drop k (x ∷ xs)) (sym next)

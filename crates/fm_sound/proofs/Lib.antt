@@ -6,3 +6,6 @@ pub mod JumpRows
 pub mod ObjectRows
 pub mod ArrayRows
 pub mod Rows
+pub mod FramesStand
+pub mod ReturnsStand
+pub mod CallsStand

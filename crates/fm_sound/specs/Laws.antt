@@ -1,17 +1,23 @@
 -- The laws that the functions of `laws` prove.
-use Rattle.std.specs.Prelude.{◌≡◌, ℕ, false, true, List, Option, Some}
+use Rattle.std.specs.Prelude.{◌≡◌, ℕ, false, true, List, ◌∷◌, ◌++◌, drop, take, reverse, Option, Some}
+use Rattle.std.specs.List.{AllByRecursion}
 use Rattle.fm_base.specs.declared.kinds.TypeRef.{TypeRef}
 use Rattle.fm_code.specs.declared.instructions.Insn.{Insn}
+use Rattle.fm_types.specs.Fits.{AreTree}
+use Rattle.fm_types.specs.Named.{result_words}
 use Rattle.fm_types.specs.Rows.{row_after}
 use Rattle.fm_types.specs.States.{is_whole, state_fits, TypeState}
-use Rattle.fm_world.specs.Programs.{Outline}
+use Rattle.fm_world.specs.Programs.{Outline, Program}
 use Rattle.fm_world.specs.declared.uses.Use.{Use}
+use Rattle.fm_frames.specs.Effects.{Effect}
 use Rattle.fm_frames.specs.Rows.{effect_of}
 use Rattle.fm_frames.specs.Sights.{Sight}
-use Rattle.fm_frames.specs.States.{Frame}
+use Rattle.fm_frames.specs.States.{Areas, Frame, State}
+use Rattle.fm_frames.specs.Steps.{caught, continued, InFrames, new_frame, returned, start_frames}
 use Rattle.fm_frames.specs.declared.values.Value.{Value}
-use Rattle.fm_sound.specs.Leading.{is_call, is_lookup, LeadsAs, NamesField}
-use Rattle.fm_sound.specs.Sound.{FrameHasKinds}
+use Rattle.fm_sound.specs.Going.{ConstructorsGiveNothing, IsCalled, IsGoingOn, StandsAtRow, StartsClass}
+use Rattle.fm_sound.specs.Leading.{is_call, is_lookup, LeadsAs, NamesField, sources_of}
+use Rattle.fm_sound.specs.Sound.{AreTyped, FrameHasKinds, HaveKinds, IsReference, Stand, StandBelow, StandsWithout, static_slots, Typings}
 
 -- ---- kinds
 
@@ -31,3 +37,47 @@ EffectsLead =
     → FrameHasKinds s f.locals f.stack → is_whole s.stack ≡ true → NamesField o u i → is_call i ≡ false → is_lookup i ≡ false
     → row_after o f.method f.item news u i s ≡ Some after
     → LeadsAs o i after f (effect_of o f.method u i byte sights) (effect_of o f.method u i byte sights).next
+
+-- ---- frames
+
+-- A frame that goes on to the next item or to a target, with an effect that leads where the checker's row does, stands there, and the frames below it
+-- stand as they did.
+abbrev pub GoingOnKeepsFrames : Type 0
+GoingOnKeepsFrames =
+    (p : Program) (typings : Typings) → AreTree p.outline.classes → AreTyped p typings
+    → (f : Frame) (callers : List Frame) (i : Insn) (after : TypeState) → StandsAtRow p typings f i after → StandBelow p typings f callers
+    → (e : Effect) → IsGoingOn e.next → LeadsAs p.outline i after f e e.next
+    → (areas : Areas) (made : List ℕ) → HaveKinds (static_slots p.outline) areas.statics
+    → (x : State) → Stand p typings (continued p (sources_of f areas made) e f callers x).frames
+
+-- The frames stand after an exception too, a reference, that one of them catches: whether or not the words of a call are off the stack of the frame
+-- on top.
+abbrev pub CatchingKeepsFrames : Type 0
+CatchingKeepsFrames =
+    (p : Program) (typings : Typings) → AreTyped p typings
+    → (f : Frame) (callers : List Frame) (words : ℕ) → StandsWithout p typings words f → StandBelow p typings f callers
+    → (t : TypeRef) (v : Value) → IsReference v → (frames : List Frame) → caught p t v (f ∷ callers) ≡ InFrames frames → Stand p typings frames
+
+-- Of a frame that returns with words of its result's kind, the frame below goes on after its call with them on top; the one for which a class was started
+-- stands as it did.
+abbrev pub ReturningKeepsFrames : Type 0
+ReturningKeepsFrames =
+    (p : Program) (typings : Typings) → AreTree p.outline.classes → AreTyped p typings → ConstructorsGiveNothing p.outline
+    → (f g : Frame) (callers : List Frame) → StandBelow p typings f (g ∷ callers) → (n : ℕ) → HaveKinds (result_words p.outline f.method) (take n f.stack)
+    → (x : State) → Stand p typings (returned p n f (g ∷ callers) x).frames
+
+-- The frame of a method that a call leads to stands at its first item with the words of the call for arguments, and the frame that calls stands below it,
+-- at the call and without them.
+abbrev pub CallingKeepsFrames : Type 0
+CallingKeepsFrames =
+    (p : Program) (typings : Typings) → AreTyped p typings
+    → (f : Frame) (callers : List Frame) (i : Insn) (after : TypeState) (h : StandsAtRow p typings f i after) → FrameHasKinds h.known f.locals f.stack
+    → StandBelow p typings f callers → (target words : ℕ) → IsCalled p f i target words
+    → Stand p typings (new_frame p target (reverse (take words f.stack)) ∷ record f { stack = drop words f.stack } ∷ callers)
+
+-- Above frames that stand, so do the frames of methods that start classes, the first of them on top.
+abbrev pub StartingKeepsFrames : Type 0
+StartingKeepsFrames =
+    (p : Program) (typings : Typings) → AreTyped p typings
+    → (methods : List ℕ) → AllByRecursion (StartsClass p) methods → (f : Frame) (callers : List Frame) → Stand p typings (f ∷ callers)
+    → Stand p typings (start_frames p methods ++ f ∷ callers)

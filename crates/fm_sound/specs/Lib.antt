@@ -1,3 +1,4 @@
 pub mod Sound
 pub mod Leading
+pub mod Going
 pub mod Laws

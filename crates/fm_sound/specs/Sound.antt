@@ -208,10 +208,14 @@ pub record AreasAreSound (o : Outline) (x : Areas) : Type 0 where
   pub freed : x.frees + length (map.entries x.store.held) ≡ x.store.births
   pub freed_words : x.freed_words ≤ 2 ^ 32 * x.frees
 
+-- the states are a typing of each method that has code
+abbrev pub AreTyped : Program → Typings → Type 0
+AreTyped p typings = (method : ℕ) (code : Code) → code_at p method ≡ Some code → IsTyping p method (typings method)
+
 -- a state is sound by these states of the items of each method
 pub record IsSoundBy (p : Program) (typings : Typings) (x : State) : Type 0 where
   -- each method that has code is typed so
-  pub typed : (method : ℕ) (code : Code) → code_at p method ≡ Some code → IsTyping p method (typings method)
+  pub typed : AreTyped p typings
   pub areas : AreasAreSound p.outline x.areas
   -- what is left of the input is within the limit
   pub input : length x.input ≤ MAX_FILE_BYTES

@@ -14,3 +14,14 @@ pub fn law_kinds()
 pub fn law_effects()
     ensures { law.EffectsLead }
 {}
+
+/// Frames stand where the checker knows what they have: where the frame on top goes on to the next item
+/// or to a target, where an exception is caught in any of them, where a frame returns to the one below
+/// it, where a method is called, and where methods start classes.
+pub fn law_frames()
+    ensures going_on { law.GoingOnKeepsFrames }
+    ensures catching { law.CatchingKeepsFrames }
+    ensures returning { law.ReturningKeepsFrames }
+    ensures calling { law.CallingKeepsFrames }
+    ensures starting { law.StartingKeepsFrames }
+{}
