@@ -19,7 +19,8 @@ use Rattle.fm_same.specs.Advances.{point_of}
 use Rattle.fm_same.specs.Colours.{AreAreasColoured, AreFramesColoured, Colour, HasColour, IsEdgeEven, IsFrameColoured, IsOf, node_of_word, OfNull}
 use Rattle.fm_same.specs.Evenness.{given, GoesOn, is_written, Point, ReadAgrees, WritesFrom}
 use Rattle.fm_same.specs.Regions.{Region, region}
-use Rattle.fm_same.specs.Standing.{Goes, IsReference, method_of, StandsAt}
+use Rattle.fm_sound.specs.Sound.{IsReference}
+use Rattle.fm_same.specs.Standing.{Goes, method_of, StandsAt}
 use Rattle.fm_same.proofs.ActsKeep.{Went}
 use Rattle.fm_same.proofs.SourcesKeep.{has_if_reference, source_gives}
 use Rattle.fm_same.proofs.StoreChanges.{Agree, Extends, extends-refl, has-agree, has-later, is_of-agree, set_found}

@@ -31,4 +31,6 @@ pub mod CallFacts
 pub mod CallsCovered
 pub mod ProgramNumbers
 pub mod CoveredFrames
+pub mod SoundFrames
+pub mod FullTargets
 pub mod RegionsDie

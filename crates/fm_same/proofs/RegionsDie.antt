@@ -11,17 +11,19 @@ use Rattle.fm_world.specs.Programs.{Program}
 use Rattle.fm_frames.specs.Acts.{Choose}
 use Rattle.fm_frames.specs.Runs.{after, Job, opening}
 use Rattle.fm_frames.specs.States.{Frame, State}
-use Rattle.fm_same.specs.Advances.{GoesOver, IsResult}
+use Rattle.fm_frames.specs.Steps.{next_effect}
+use Rattle.fm_same.specs.Advances.{GoesOver, IsResult, OwesAt}
 use Rattle.fm_same.specs.Colours.{Colour, Coloured}
 use Rattle.fm_same.specs.DeadRegions.{IsDead, IsMethodAt, IsRetired, AreSound, AreSteps, states_of}
-use Rattle.fm_same.specs.Covering.{CoversAt}
 use Rattle.fm_same.specs.Evenness.{HoldsNumbers}
 use Rattle.fm_place.specs.Sites.{is_captured}
 use Rattle.fm_same.specs.Regions.{Own, Region, Retired}
 use Rattle.fm_same.specs.Resolved.{CallsNoFreeMe, IsResolved}
 use Rattle.fm_same.specs.Standing.{Stand}
-use Rattle.fm_same.specs.Targets.{Covers}
+use Rattle.fm_same.specs.Targets.{AreCovered, Covers}
 use Rattle.fm_same.proofs.CallsCovered.{state_covers}
+use Rattle.fm_same.proofs.CoveredFrames.{step_covered}
+use Rattle.fm_same.proofs.SoundFrames.{stand_soundly}
 use Rattle.fm_same.proofs.ProgramNumbers.{holds_numbers}
 use Rattle.fm_same.proofs.CapturedClasses.{captured_holds}
 use Rattle.fm_same.proofs.Retiring.{dead_if_retired, held_at_has, led_has, method_there, retire, retired_on}
@@ -42,18 +44,33 @@ own_on facts x (f ∷ callers) depth class before after captured at own (inr res
     ((captured_holds facts x class captured).not_result
     (ap (λ m. facts.class m Return) (sym (method_there x.number depth f callers at level)) ∙ returned))
 
-module _ (p : Program) (facts : Facts) (exact : AreFacts p facts) (ready : IsResolved p) (no_free : CallsNoFreeMe p) (choose : Choose) (may : (s : Store) (request : Request) → MayReuse s request (choose s request)) (xs : ℕ → State) (steps : AreSteps p choose xs) (run : AreSound p facts xs) (covers : (k : ℕ) → Covers p facts (xs k)) where
+module _ (p : Program) (facts : Facts) (exact : AreFacts p facts) (ready : IsResolved p) (no_free : CallsNoFreeMe p) (choose : Choose) (may : (s : Store) (request : Request) → MayReuse s request (choose s request)) (xs : ℕ → State) (steps : AreSteps p choose xs) (run : AreSound p facts xs) (covers : (k : ℕ) → Covers p facts (xs k)) (begins : AreCovered p facts (xs 0).frames) where
   numbers : HoldsNumbers p.outline
   numbers = holds_numbers p ready
 
-  covers_at : (k : ℕ) → CoversAt p facts (xs k) (xs k).frames
-  covers_at k = state_covers p facts exact ready no_free (xs k) (run.stand k) (covers k) (run.places k)
+  stand_by : (k : ℕ) → AreCovered p facts (xs k).frames → Stand p facts (xs k).frames
+  stand_by k covered = stand_soundly p facts exact ready (xs k).frames (run.sound k).frames covered
+
+  owes_by : (k : ℕ) → Stand p facts (xs k).frames → OwesAt p facts (xs k).areas.store (next_effect p (xs k)) (xs k).frames
+  owes_by k stand =
+      state_owes p facts exact numbers (xs k) stand (state_covers p facts exact ready no_free (xs k) stand (covers k) (run.places k))
+
+  -- called methods stay among the targets
+  covered_at : (k : ℕ) → AreCovered p facts (xs k).frames
+  covered_at zero = begins
+  covered_at (suc k) =
+      let before : AreCovered p facts (xs k).frames = covered_at k in
+      let stand : Stand p facts (xs k).frames = stand_by k before in
+      subst (λ (next : State). AreCovered p facts next.frames) (sym (steps k)) (step_covered p facts choose (xs k) stand before (owes_by k stand))
+
+  stand_at : (k : ℕ) → Stand p facts (xs k).frames
+  stand_at k = stand_by k (covered_at k)
 
   over_at : (k : ℕ) (colour : Colour) → Coloured p facts (xs k) colour → GoesOver p facts (xs k) (xs (suc k)) colour
   over_at k colour h =
       subst (λ next. GoesOver p facts (xs k) next colour) (sym (steps k))
-      (step_over p facts exact choose may numbers (xs k) colour h (run.stand k) (state_owes p facts exact numbers (xs k) (run.stand k) (covers_at k))
-      (subst (λ (next : State). Stand p facts next.frames) (steps k) (run.stand (suc k))))
+      (step_over p facts exact choose may numbers (xs k) colour h (stand_at k) (owes_by k (stand_at k))
+      (subst (λ (next : State). Stand p facts next.frames) (steps k) (stand_at (suc k))))
 
   -- each state has colours
   colours_at : (k : ℕ) (colour : Colour) → Coloured p facts (xs 0) colour → (other : Colour) × Coloured p facts (xs k) other
@@ -128,7 +145,7 @@ module _ (p : Program) (facts : Facts) (exact : AreFacts p facts) (ready : IsRes
         let at : HasAt (first + suc count) birth (Own depth class) = own_at (suc count) (omega arith) in
         record {
           colour = mapped (moved depth class Retired) at.colour;
-          coloured = retire p facts (xs (first + suc count)) at.colour method depth class at.coloured (run.stand (first + suc count)) h.over;
+          coloured = retire p facts (xs (first + suc count)) at.colour method depth class at.coloured (stand_at (first + suc count)) h.over;
           born = at.born;
           has = ap (moved depth class Retired) at.has ∙ moved_own depth class Retired;
         }

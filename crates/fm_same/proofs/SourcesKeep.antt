@@ -22,7 +22,8 @@ use Rattle.fm_same.specs.Advances.{point_of}
 use Rattle.fm_same.specs.Colours.{Colour, HasColour, IsEdgeEven, IsFrameColoured, IsOf, kind_in, OfNull, OfObject}
 use Rattle.fm_same.specs.Evenness.{ActsEvenly, ComesFrom, IsObjectSource, IsPlain, IsPlainKind, LeadsOn, Point, PutAgrees, PutsEvenly, ReadAgrees, SetsEvenly, word}
 use Rattle.fm_same.specs.Regions.{Everywhere, Region, region, Retired}
-use Rattle.fm_same.specs.Standing.{IsReference, StandsAt}
+use Rattle.fm_same.specs.Standing.{StandsAt}
+use Rattle.fm_sound.specs.Sound.{IsReference}
 use Rattle.fm_same.proofs.ActsKeep.{ActHas, cell_has, PutHas, SourceHas, SourceLeads, StaticHas, Went}
 use Rattle.fm_same.proofs.RegionLemmas.{region_global, region_within}
 use Rattle.fm_same.proofs.StoreChanges.{for_ever-is_of, has-later, IsKept}

@@ -4,7 +4,7 @@ use Rattle.std.specs.Prelude.{option_map, option_to_list, unwrap_or, nat_eq}
 use Rattle.std.specs.List.{filter_map, cons_option, range_with_len}
 use Rattle.std.specs.Str.{bytes_eq}
 use Rattle.std.proofs.lemmas.Bool.{and_parts, false≢true, eqb-true}
-use Rattle.std.proofs.lemmas.List.{get_or-append_right, get_or-map, get_or_append_left, length-map}
+use Rattle.std.proofs.lemmas.List.{get_or-append_right, get_or-map, get_or_append_left, length-append, length-map}
 use Rattle.std.proofs.lemmas.List.Quantifiers.{position-Some}
 use Rattle.std.proofs.lemmas.List.Sums.{sum_by-cons}
 use Rattle.std.proofs.lemmas.Option.{none-some, same_Some}
@@ -59,11 +59,26 @@ method_of_class first (c ∷ classes) (suc class) k inside =
     ∙ method_of_class (first + 1) classes class k inside
     ∙ ap (λ n. record { class = n; method = slice_index_or (class_at classes class).methods k no_method }) same
 
+within_methods : (first : ℕ) (classes : List DeclaredClass) (class k : ℕ) → k < length (class_at classes class).methods
+    → first_method classes class + k < length (methods_from first classes)
+within_methods first [] class k inside = absurd (omega (arith, inside))
+within_methods first (c ∷ classes) zero k inside =
+    let size = length-map {B = OwnedMethod} c.methods (λ (m : DeclaredMethod). record { class = first; method = m }) in
+    let all = length-append (owned_methods first c) (methods_from (first + 1) classes) in
+    omega (arith, inside, size, all)
+within_methods first (c ∷ classes) (suc class) k inside =
+    let size = length-map {B = OwnedMethod} c.methods (λ (m : DeclaredMethod). record { class = first; method = m }) in
+    let all = length-append (owned_methods first c) (methods_from (first + 1) classes) in
+    let sum = sum_by-cons (λ (d : DeclaredClass). length d.methods) c (take class classes) in
+    let rest = within_methods (first + 1) classes class k inside in
+    omega (arith, size, all, sum, rest)
+
 -- what is found by name
 pub record IsFound (classes : List DeclaredClass) (passes : ℕ → Bool) (descriptor : List ℕ) (class target : ℕ) : Type 0 where
   pub owner : (method_at classes target).class ≡ class
   pub descriptor_is : (method_at classes target).method.descriptor ≡ descriptor
   pub flags : passes (method_at classes target).method.flags ≡ true
+  pub inside : target < length (methods_of classes)
 
 pub own_method_found : (classes : List DeclaredClass) (passes : ℕ → Bool) (name descriptor : List ℕ) (class target : ℕ)
     → own_method classes passes name descriptor class ≡ Some target → IsFound classes passes descriptor class target
@@ -93,6 +108,8 @@ own_method_found classes passes name descriptor class target h = by_place (posit
         descriptor_is = ap (λ (m : OwnedMethod). m.method.descriptor) is
             ∙ (bytes_eq-Decides (slice_index_or methods k no_method).descriptor descriptor).0 inner.1;
         flags = ap (λ (m : OwnedMethod). passes m.method.flags) is ∙ outer.1;
+        inside = subst (λ n. n < length (methods_of classes)) (same_Some (first_method classes class + k) target found)
+            (within_methods 0 classes class k there.0);
       }
 
 pub found_among : (find : ℕ → Option ℕ) (path : List ℕ) (target : ℕ) → first_found find path ≡ Some target → (class : ℕ) × (find class ≡ Some target)
@@ -132,6 +149,21 @@ select_alike classes class method target h = by_private (is_private (method_at c
       among.1 in
       let parts = and_parts (not (is_static (method_at classes target).method.flags)) (not (is_private (method_at classes target).method.flags)) found.flags in
       record { descriptor = found.descriptor_is; flags = inr (instance_of (is_static (method_at classes target).method.flags) parts.0) }
+
+-- it is one of the methods, where the named one is
+pub select_inside : (classes : List DeclaredClass) (class method target : ℕ) → method < length (methods_of classes)
+    → select classes class method ≡ Some target → target < length (methods_of classes)
+unfolding select
+select_inside classes class method target there h = by_private (is_private (method_at classes method).method.flags) h where
+  by_private : (b : Bool)
+      → cond b (Some method) (method_among classes is_selectable (method_at classes method).method.name (method_at classes method).method.descriptor
+      (chain_of classes class)) ≡ Some target
+      → target < length (methods_of classes)
+  by_private true e = subst (λ n. n < length (methods_of classes)) (same_Some method target e) there
+  by_private false e =
+      let among = found_among (own_method classes is_selectable (method_at classes method).method.name (method_at classes method).method.descriptor)
+      (chain_of classes class) target e in
+      (own_method_found classes is_selectable (method_at classes method).method.name (method_at classes method).method.descriptor among.0 target among.1).inside
 
 pub special_alike : (classes : List DeclaredClass) (caller : ℕ) (named : Option ℕ) (method : ℕ)
     → IsAlike classes method (special_target classes caller named method)

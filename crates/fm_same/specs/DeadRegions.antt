@@ -21,7 +21,8 @@ use Rattle.fm_place.specs.Places.{is_busy}
 use Rattle.fm_place.specs.Sites.{is_captured}
 use Rattle.fm_same.specs.Covering.{PlacesAgreeAt}
 use Rattle.fm_same.specs.Colours.{kind_in, node_of_word}
-use Rattle.fm_same.specs.Standing.{method_of, Stand}
+use Rattle.fm_sound.specs.Sound.{IsSoundBy}
+use Rattle.fm_same.specs.Standing.{method_of}
 
 -- ---- what leads where
 
@@ -112,9 +113,9 @@ pub record IsRetired (p : Program) (facts : Facts) (xs : ℕ → State) (method 
 
 -- ---- runs
 
--- at each state frames stand as a sound machine has them, and places are read and written by their kinds
+-- each state is sound by the states of items that the facts have, and reads and puts by the kinds of places
 pub record AreSound (p : Program) (facts : Facts) (xs : ℕ → State) : Type 0 where
-  pub stand : (k : ℕ) → Stand p facts (xs k).frames
+  pub sound : (k : ℕ) → IsSoundBy p facts.typing (xs k)
   pub places : (k : ℕ) → PlacesAgreeAt p (xs k) (xs k).frames
 
 -- each state is the step of the one before

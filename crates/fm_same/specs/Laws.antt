@@ -1,5 +1,5 @@
 -- The laws that the functions of `laws` prove.
-use Rattle.std.specs.Prelude.{◌≡◌, ◌≢◌, ℕ, suc, ◌+◌, ◌≤◌, ◌⊎◌, true, List, ◌∷◌, length, Option, Some}
+use Rattle.std.specs.Prelude.{◌≡◌, ◌≢◌, ℕ, suc, ◌+◌, ◌≤◌, ◌⊎◌, true, List, ◌∷◌, length, Option, Some, None}
 use Rattle.fm_code.specs.Edges.{IsNormalEdge}
 use Rattle.fm_code.specs.declared.code_array.Code.{Code}
 use Rattle.fm_conn.specs.Facts.{AreFacts, Facts}
@@ -22,6 +22,7 @@ use Rattle.fm_same.specs.Covering.{CoversAt, PlacesAgreeAt}
 use Rattle.fm_same.specs.DeadRegions.{IsDead, IsOver, AreSound, AreSteps, IsRetired, states_of}
 use Rattle.fm_same.specs.Evenness.{HoldsNumbers}
 use Rattle.fm_same.specs.Regions.{argument, Own, region, Region, Retired}
+use Rattle.fm_sound.specs.Sound.{IsSoundBy}
 use Rattle.fm_same.specs.Resolved.{CallsNoFreeMe, IsResolved}
 use Rattle.fm_same.specs.Standing.{Called, method_of, Stand}
 use Rattle.fm_same.specs.Targets.{AreCovered, Covers}
@@ -110,6 +111,12 @@ CallsAreCovered =
     (p : Program) (facts : Facts) → AreFacts p facts → IsResolved p → CallsNoFreeMe p → (x : State) → Stand p facts x.frames → Covers p facts x
     → PlacesAgreeAt p x x.frames → CoversAt p facts x x.frames
 
+-- the frames of a sound state stand as the laws have them, where each called method is among the targets
+abbrev pub SoundFramesStand : Type 0
+SoundFramesStand =
+    (p : Program) (facts : Facts) → AreFacts p facts → IsResolved p → (x : State) → IsSoundBy p facts.typing x → AreCovered p facts x.frames
+    → Stand p facts x.frames
+
 -- a called method stays among the targets of its call while it runs: at the opening, and from each step to the next
 abbrev pub FramesStayCovered : Type 0
 FramesStayCovered =
@@ -127,6 +134,11 @@ OpeningHasColours =
     (p : Program) (facts : Facts) → HoldsNumbers p.outline → (choose : Choose) (job : Job) (budget : ℕ) (limit : Option ℕ) (free : List (List ℕ))
     → (colour : Colour) × Coloured p facts (opening p (lawful choose) job (opened budget limit free)).state colour
 
+-- in a program that isn't narrowed, the method that a call of a sound state leads to is among the targets
+abbrev pub FullTargetsCover : Type 0
+FullTargetsCover =
+    (p : Program) → IsResolved p → p.made ≡ None → (facts : Facts) (x : State) → IsSoundBy p facts.typing x → Covers p facts x
+
 -- ---- the law of dead regions
 
 -- in states that are steps, the first of which has colours: what a captured class led to is dead from the state on in which the class isn't busy, or the
@@ -134,7 +146,8 @@ OpeningHasColours =
 abbrev pub RegionsDie : Type 0
 RegionsDie =
     (p : Program) (facts : Facts) → AreFacts p facts → IsResolved p → CallsNoFreeMe p → (choose : Choose) (xs : ℕ → State)
-    → AreSteps p (lawful choose) xs → AreSound p facts xs → ((k : ℕ) → Covers p facts (xs k)) → (colour : Colour) → Coloured p facts (xs 0) colour
+    → AreSteps p (lawful choose) xs → AreSound p facts xs → ((k : ℕ) → Covers p facts (xs k))
+    → AreCovered p facts (xs 0).frames → (colour : Colour) → Coloured p facts (xs 0) colour
     → (method depth class birth first count : ℕ) → IsRetired p facts xs method depth class birth first count
     → (later : ℕ) → first + suc count ≤ later → IsDead p facts birth (xs later) (xs (suc later))
 

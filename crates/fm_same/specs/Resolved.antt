@@ -1,17 +1,22 @@
 -- What linking makes sure of, as the law of dead regions uses it (JVMS 5.3.5, 5.4.3, 6.5): what numbers stand for, and what instructions name.
-use Rattle.std.specs.Prelude.{◌≡◌, ℕ, ◌<◌, ◌≤◌, Bool, false, length, Some, None}
+use Rattle.std.specs.Prelude.{◌≡◌, ℕ, ◌<◌, ◌≤◌, Bool, true, false, length, Some, None, slice_get}
 use Rattle.fm_base.specs.declared.ids.MethodId.{MethodId}
 use Rattle.fm_base.specs.declared.ids.TypeId.{TypeId}
+use Rattle.fm_base.specs.declared.kinds.TypeRef.{TypeRef}
 use Rattle.fm_code.specs.AccessFlags.{is_static}
 use Rattle.fm_code.specs.Edges.{insn_of}
 use Rattle.fm_code.specs.declared.code_array.Code.{Code}
 use Rattle.fm_code.specs.declared.instructions.Insn.{Insn}
+use Rattle.fm_code.specs.declared.instructions.Insn.TheVariants as insn
+use Rattle.fm_types.specs.Fits.{AreTree, object_of}
 use Rattle.fm_types.specs.Typed.{use_by}
 use Rattle.fm_world.specs.BuiltIns.{built_in}
 use Rattle.fm_world.specs.Causes.{static_method_wanted}
+use Rattle.fm_world.specs.Chains.{chain_of, is_among}
+use Rattle.fm_world.specs.Lookups.{is_interface_at}
 use Rattle.fm_world.specs.Members.{field_at, method_at, methods_of}
 use Rattle.fm_world.specs.Numbers.{type_number, type_of_class}
-use Rattle.fm_world.specs.Programs.{code_at, Program}
+use Rattle.fm_world.specs.Programs.{class_of_type, code_at, Program}
 use Rattle.fm_world.specs.declared.uses.Use.{Use}
 use Rattle.fm_world.specs.declared.uses.Use.TheVariants as resolved
 use Rattle.fm_frames.specs.CallRows.{native_of}
@@ -40,6 +45,14 @@ pub record IsResolved (p : Program) : Type 0 where
   -- invokestatic names a static method, and each other call names another one (JVMS 6.5.invokestatic)
   pub calls : (method : ℕ) (i : Insn) (m : MethodId) (t : TypeId) (wanted : Bool) → IsNamed p method i (resolved.OfMethod m t)
       → static_method_wanted i ≡ Some wanted → is_static (method_at p.outline.classes m.0).method.flags ≡ wanted
+  -- the classes are a tree below Object: each class but Object has a superclass (JVMS 5.3.5)
+  pub tree : AreTree p.outline.classes
+  pub below_object : (class : ℕ) → class < length p.outline.classes
+      → is_among (object_of p.outline.classes) (chain_of p.outline.classes class) ≡ true
+  -- invokevirtual names no interface (JVMS 5.4.3.3)
+  pub no_interface : (method index : ℕ) (m : MethodId) (t : TypeId) (named : TypeRef) (class : ℕ)
+      → IsNamed p method (insn.Virtual index) (resolved.OfMethod m t) → slice_get p.outline.types t.0 ≡ Some named
+      → class_of_type named ≡ Some class → is_interface_at p.outline.classes class ≡ false
   -- a number is the constant of a field of numbers (JVMS 4.7.2)
   pub constants : (field : ℕ) → IsNumber (field_at p.outline.classes field).field.value → IsPlainKind (kind_of_field p.outline field)
 

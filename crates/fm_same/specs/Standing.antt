@@ -16,16 +16,9 @@ use Rattle.fm_world.specs.declared.calls.Call.{Call}
 use Rattle.fm_frames.specs.States.{Frame}
 use Rattle.fm_frames.specs.Steps.{is_start}
 use Rattle.fm_frames.specs.declared.values.Value.{Value}
-use Rattle.fm_frames.specs.declared.values.Value.TheVariants as value
+use Rattle.fm_sound.specs.Sound.{IsReference}
 use Rattle.fm_same.specs.Colours.{node_of_word}
 use Rattle.fm_same.specs.Regions.{argument}
-
--- a value that is a reference, null's too
-abbrev pub IsReference : Value → Type 0
-IsReference value.Top = ⊥
-IsReference (value.Int n) = ⊥
-IsReference (value.Long n) = ⊥
-IsReference (value.Ref cell) = Unit {0}
 
 -- a frame's method with its code and the states of its items
 abbrev pub method_of : Program → Facts → Frame → Code → TypedMethod

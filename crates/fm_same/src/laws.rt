@@ -34,13 +34,20 @@ pub fn law_colours()
 {}
 
 /// What linking makes sure of, and that calls lead to targets, is all that is asked of calls: built-in
-/// methods then have the words and the ends of their rows, and a called method stays among the targets
-/// of its call while it runs.
+/// methods then have the words and the ends of their rows, a called method stays among the targets of
+/// its call while it runs, and the frames of a sound state stand as the laws have them.
 pub fn law_calls()
     ensures numbers { law.ResolvedHoldsNumbers }
+    ensures stand { law.SoundFramesStand }
     ensures covered { law.CallsAreCovered }
     ensures stays { law.FramesStayCovered }
     ensures opening { law.OpeningIsCovered }
+{}
+
+/// The targets of a program that isn't narrowed cover it: whatever object a call of a sound state has
+/// for its receiver, the method that is called is among the targets.
+pub fn law_targets()
+    ensures { law.FullTargetsCover }
 {}
 
 /// The law of dead regions, for runs whose states are sound: what a captured class of an activation led
