@@ -6,3 +6,9 @@ pub mod Makings
 pub mod Catches
 pub mod Throwing
 pub mod Calling
+pub mod Acting
+pub mod Underways
+pub mod Contents
+pub mod TextSteps
+pub mod Bits
+pub mod LiteralSteps

@@ -9,7 +9,7 @@ use Rattle.fm_world.specs.declared.declarations.DeclaredClass.{DeclaredClass}
 use Rattle.fm_world.specs.declared.uses.Use.{Use}
 use Rattle.fm_world.specs.declared.uses.Use.TheVariants as resolved
 
--- what an index stands for is there
+-- what an index stands for is there: its type, field, method or text has a number (JVMS 5.4.3)
 abbrev pub IsUseIn : Outline → Use → Type 0
 IsUseIn o (resolved.OfType t) = t.0 < length o.types
 IsUseIn o (resolved.OfField f t) = (f.0 < length (fields_of o.classes)) × (t.0 < length o.types)
@@ -19,17 +19,22 @@ IsUseIn o (resolved.OfLong n) = Unit {0}
 IsUseIn o (resolved.OfText text) = text < length o.texts
 IsUseIn o resolved.Unused = Unit {0}
 
+-- a program whose numbers the machine can use
 pub record IsRunnable (p : Program) : Type 0 where
-  -- the built-in classes come first
+  -- the classes that are given, after the built-in ones, which have the same numbers in each program
   pub given : List DeclaredClass
   pub classes : p.outline.classes ≡ built_in ++ given
-  -- the numbers of types, and the sizes of objects, fit the header of an object
+  -- the number of a type fits the header of an object
   pub few_types : length p.outline.types ≤ 2 ^ 28
+  -- and so does the size of an object (JVMS 4.11)
   pub sizes : (class : ℕ) → size_of p.outline.classes class < 2 ^ 31
-  -- what has a number is there
+  -- a type that has a number is of a class that is there
   pub types : (n : ℕ) (t : TypeRef) → slice_get p.outline.types n ≡ Some t → IsTypeIn p.outline.classes t
+  -- a method is of a class that is there
   pub owners : (method : ℕ) → (method_at p.outline.classes method).class < length p.outline.classes
+  -- what an index of a class's constant pool stands for is there
   pub uses : (class index : ℕ) → IsUseIn p.outline (use_of p class index)
-  -- a code for each method that has one, and none for a built-in method
+  -- each method has a place for its code
   pub codes : length p.codes ≡ length (methods_of p.outline.classes)
+  -- and a built-in method has none
   pub no_row : (method : ℕ) (code : Code) → code_at p method ≡ Some code → (method_at p.outline.classes method).method.row ≡ None

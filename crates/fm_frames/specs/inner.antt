@@ -3,3 +3,4 @@ pub mod Frames
 pub mod Doings
 pub mod Catching
 pub mod Looks
+pub mod Places

@@ -58,8 +58,8 @@ fn pack_of_base(base: Base) -> u8
     }
 }
 
-// Whether the type is that of texts.
-fn is_text(t: TypeRef) -> bool
+/// Whether the type is that of texts. Takes no memory.
+pub fn is_text(t: TypeRef) -> bool
     ensures { result ≡ same_type (type_of_class 1) t }
 {
     if t.dims != 0 {

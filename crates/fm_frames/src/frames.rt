@@ -27,7 +27,7 @@ pub struct Cursor {
 }
 
 /// The frames. Contracts see them with the topmost first.
-#[derive(Debug, Drop)]
+#[derive(Drop)]
 pub struct Frames {
     values: Vec<Value>,
     topmost: Option<Cursor>,

@@ -8,19 +8,29 @@
 mod built_ins;
 mod calls;
 mod coded;
+mod elements;
 mod ends;
 mod faults;
 mod frames;
 mod laws;
+mod literals;
 mod looks;
 mod machine;
 mod makes;
 mod moves;
+mod statics;
+mod streams;
+mod texts;
 mod throws;
 mod values;
 
-pub use built_ins::{ARITHMETIC_EXCEPTION, NULL_POINTER_EXCEPTION, STRING, THROWABLE};
-pub use coded::{code_of, offset_of, pack_of, type_id, type_numbered, type_of_class};
+pub use built_ins::{
+    ARITHMETIC_EXCEPTION, ARRAY_INDEX_EXCEPTION, ARRAY_STORE_EXCEPTION, CLASS_CAST_EXCEPTION,
+    CLASS_CHANGE_ERROR, NEGATIVE_ARRAY_SIZE_EXCEPTION, NULL_POINTER_EXCEPTION, STRING,
+    STRING_BUFFER, STRING_BUILDER, STRING_INDEX_EXCEPTION, THROWABLE,
+};
+pub use coded::{code_of, is_text, offset_of, pack_of, type_id, type_numbered, type_of_class};
+pub use elements::{kept, read};
 pub use ends::Ended;
 pub use frames::{Cursor, Frames};
 pub use laws::{law_object_example, law_sum_example};

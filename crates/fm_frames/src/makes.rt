@@ -1,16 +1,16 @@
 // Objects are made.
 
-ghost use Rattle.std.specs.Prelude.{◌≡◌, ◌-◌, ◌^◌, ◌<◌, ℕ, [], ◌∷◌, IfOk, IfSome, OnOk, Some, false};
+ghost use Rattle.std.specs.Prelude.{◌≡◌, ◌-◌, ◌^◌, ◌<◌, ℕ, [], ◌∷◌, IfOk, IfSome, OnOk, Some, true, false, ◌+◌, ◌≤◌};
 ghost use Rattle.fm_base.specs.declared.kinds.TypeRef as kinds;
 ghost use Rattle.fm_cells.specs.Objects.{new_object, request_of};
 ghost use Rattle.fm_cells.specs.Sizes as spec;
 ghost use Rattle.fm_cells.specs.Sizes.{packed_words, IsPack};
-ghost use Rattle.fm_cells.specs.Stores.{object_at};
+ghost use Rattle.fm_cells.specs.Stores.{live_words, object_at, words_needed};
 ghost use Rattle.fm_cells.specs.declared.answers.Cell.{Cell};
-ghost use Rattle.fm_frames.specs.Acts.{requested};
+ghost use Rattle.fm_frames.specs.Acts.{requested, Choose};
 ghost use Rattle.fm_frames.specs.Effects.{making, Effect, Make};
-ghost use Rattle.fm_frames.specs.Steps.{is_deep};
-ghost use Rattle.fm_frames.specs.inner.Doings.{CanStep, DoesIn, MakesOne};
+ghost use Rattle.fm_frames.specs.Steps.{is_deep, makes, words_made};
+ghost use Rattle.fm_frames.specs.inner.Doings.{CanStep, DoesIn, IsReserved, Makes, MakesOne};
 ghost use Rattle.fm_world.specs.Programs as world;
 
 use crate::coded::{pack_of, type_id};
@@ -68,6 +68,52 @@ impl<M: Memory> Machine<M> {
                 Ok(None)
             }
             Err(MakeFail::NoMemory) => Err(NoMemory),
+        }
+    }
+
+    /// Whether so many words more may live; where they may not, the run ends. Takes no memory.
+    pub fn reserve(&mut self, words: u64) -> bool
+        ensures room { result ≡ true → 0 < words
+            → live_words self.old.areas.store + words ≤ self.old.areas.store.budget }
+        ensures kept { result ≡ true → self.new ≡ self.old }
+        ensures told { (p : world.Program) (choose : Choose) (e : Effect) → is_deep self.old e.next ≡ false
+            → makes e.actions ≡ true → words_made p.outline self.old.areas e.actions ≡ words
+            → IsReserved p choose self.old self.new e result }
+    {
+        let live = self.memory.live_words();
+        if words > self.memory.budget().saturating_sub(live) {
+            self.ended = Some(Ended::Exhausted(live, words));
+            return false;
+        }
+        true
+    }
+
+    /// Makes an object whose elements are 0, where its words may live. None where the store is full: the run
+    /// has ended then.
+    pub fn make_object(
+        &mut self,
+        class: TypeId,
+        len: u32,
+        pack: u8,
+        fixed: bool,
+    ) -> Result<Option<Cell>, NoMemory>
+        requires class_fits { class.0 < 2 ^ 28 }
+        requires len_fits { len < 2 ^ 31 }
+        requires pack_is { IsPack pack }
+        requires birth_fits { self.old.areas.store.births < 2 ^ 32 - 1 }
+        requires room { words_needed self.old.areas.store (request_of class.0 len pack fixed)
+            ≤ self.old.areas.store.budget }
+        ensures { IfOk result (λ made.
+            Makes M.choose self.old self.new (request_of class.0 len pack fixed) [] made) }
+    {
+        match self.memory.make(class.0, len, pack, fixed) {
+            Ok(cell) => Ok(Some(cell)),
+            Err(MakeFail::NoMemory) => Err(NoMemory),
+            Err(_) => {
+                let words = object_cell_words(len, pack);
+                self.ended = Some(Ended::StoreFull(self.memory.made_words(), words));
+                Ok(None)
+            }
         }
     }
 

@@ -27,7 +27,7 @@ use fm_code::Handler;
 use fm_world::{Program, Use};
 
 /// Where an exception goes.
-#[derive(Clone, Copy, Debug)]
+#[derive(Clone, Copy)]
 pub enum Catch {
     /// To a handler, by its item, of the frame above which so many frames lie.
     InFrame(usize, usize),

@@ -1,13 +1,19 @@
 -- What the calls of a machine do, told by effects.
-use Rattle.std.specs.Prelude.{◌≡◌, ℕ, ◌+◌, ◌^◌, ◌-◌, ◌<◌, ◌≤◌, ℤ, List, [], ◌∷◌, length, slice_get, Option, Some, None}
+use Rattle.std.specs.Prelude.{◌≡◌, ℕ, ◌+◌, ◌^◌, ◌-◌, ◌<◌, ◌≤◌, ℤ, Bool, true, false, List, [], ◌∷◌, length, max, slice_get, Option, Some, None}
 use Rattle.fm_world.specs.Members.{methods_of}
 use Rattle.fm_world.specs.Programs.{Program}
+use Rattle.fm_cells.specs.Changes.{Take, RefuseStore, made_by}
+use Rattle.fm_cells.specs.Objects.{Request, request_words}
+use Rattle.fm_cells.specs.Sizes.{cell_words}
+use Rattle.fm_cells.specs.Stores.{object_at}
 use Rattle.fm_cells.specs.declared.answers.Cell.{Cell}
-use Rattle.fm_frames.specs.Acts.{Choose, Did, Sources}
-use Rattle.fm_frames.specs.Effects.{Effect}
+use Rattle.fm_frames.specs.Acts.{Choose, Did, performed, Sources, with_content}
+use Rattle.fm_frames.specs.Effects.{Action, Effect}
 use Rattle.fm_frames.specs.Runnable.{IsRunnable}
+use Rattle.fm_frames.specs.Sights.{Sight, sights}
 use Rattle.fm_frames.specs.States.{Frame, Moved, State}
-use Rattle.fm_frames.specs.Steps.{attempted, done_by, locals_of, stack_of}
+use Rattle.fm_frames.specs.Steps.{attempted, done_by, locals_of, objects_made, stack_of, stopped}
+use Rattle.fm_frames.specs.declared.ends.Ended.TheVariants as end
 use Rattle.fm_frames.specs.declared.values.Value.{Value}
 use Rattle.fm_frames.specs.declared.values.Value.TheVariants as value
 
@@ -34,6 +40,8 @@ pub record CanStep (p : Program) (x : State) : Type 0 where
   pub items_fit : (k : ℕ) (f : Frame) → slice_get x.frames k ≡ Some f → f.item + 1 < 2 ^ 64
   pub within : length x.frames ≤ x.depth
   pub birth_fits : x.areas.store.births < 2 ^ 32 - 1
+  -- the greatest word budget
+  pub budget_fits : x.areas.store.budget ≤ 2 ^ 27
 
 -- where the values of an effect come from that makes nothing
 abbrev pub before : State → Sources
@@ -53,6 +61,10 @@ long_in (Some (value.Int n)) = None
 long_in (Some (value.Long n)) = Some n
 long_in (Some (value.Ref cell)) = None
 
+-- what is seen of the words of the topmost frame's stack
+abbrev pub seen : Program → State → List Sight
+seen p x = sights p.outline x.areas.store (stack_of x)
+
 -- ---- after it
 
 -- a state to which nothing was printed on the way
@@ -67,6 +79,10 @@ Does x y e = (p : Program) (choose : Choose) → silent y ≡ attempted p choose
 abbrev pub DoesIn : Program → Choose → State → State → Effect → Type 0
 DoesIn p choose x y e = silent y ≡ attempted p choose x e
 
+-- the same, where bytes are printed on the way
+abbrev pub DoesPrinting : Program → Choose → State → State → Effect → List ℕ → Type 0
+DoesPrinting p choose x y e bytes = ◌≡◌ {A = Moved} (record { state = y; printed = bytes }) (attempted p choose x e)
+
 -- ---- in the midst of it
 
 -- where an effect makes one object: with the object made only the areas are others, and the effect has still to be finished; or the run has ended
@@ -74,3 +90,30 @@ abbrev pub MakesOne : Program → Choose → State → State → Effect → Opti
 MakesOne p choose x y e None = DoesIn p choose x y e
 MakesOne p choose x y e (Some cell) =
     (attempted p choose x e ≡ done_by p 1 e x (Did y.areas (cell.0 ∷ []))) × (y ≡ record x { areas = y.areas })
+
+-- the actions so far led to these areas and made these cells, and those actions are left
+pub record Underway (p : Program) (choose : Choose) (x y : State) (e : Effect) (made : List ℕ) (left : List Action) : Type 0 where
+  pub so_far : attempted p choose x e
+      ≡ done_by p (max 1 (objects_made e.actions)) e x (performed p.outline choose (locals_of x) (stack_of x) left y.areas made)
+  pub same : y ≡ record x { areas = y.areas }
+
+-- the words that an effect needs are there, and all its actions are left; or the run has ended
+abbrev pub IsReserved : Program → Choose → State → State → Effect → Bool → Type 0
+IsReserved p choose x y e true = Underway p choose x y e [] e.actions
+IsReserved p choose x y e false = DoesIn p choose x y e
+
+-- what the memory's choice makes of a state where an object is asked for that holds this content; with no content its elements are 0
+abbrev pub Makes : Choose → State → State → Request → (content : List ℕ) → Option Cell → Type 0
+Makes choose x y r content None =
+    (choose x.areas.store r ≡ RefuseStore)
+    × (y ≡ stopped x (end.StoreFull x.areas.store.made_words (cell_words (request_words r))))
+Makes choose x y r content (Some cell) =
+    (grows : Bool)
+    × (choose x.areas.store r ≡ Take cell.0 grows)
+    × (object_at x.areas.store cell.0 ≡ None)
+    × (y ≡ record x { areas = record x.areas { store = with_content (made_by x.areas.store r (Take cell.0 grows)) cell.0 content } })
+
+-- all actions are done, and the effect has still to be finished; or the run has ended
+abbrev pub IsKept : Program → Choose → State → State → Effect → Bool → Type 0
+IsKept p choose x y e true = (text : ℕ) × Underway p choose x y e (text ∷ []) []
+IsKept p choose x y e false = DoesIn p choose x y e

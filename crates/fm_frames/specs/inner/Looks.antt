@@ -1,5 +1,5 @@
 -- What the code sees of an operand that is to be a reference.
-use Rattle.std.specs.Prelude.{ℕ, ◌==◌, if◌then◌else◌, Option, Some, None}
+use Rattle.std.specs.Prelude.{◌==◌, if◌then◌else◌, Option, Some, None}
 use Rattle.fm_cells.specs.Answers.{head_at}
 use Rattle.fm_cells.specs.Stores.{Store}
 use Rattle.fm_cells.specs.declared.answers.Cell.{Cell}
@@ -19,3 +19,10 @@ look_at store (Some value.Top) = look.Other
 look_at store (Some (value.Int n)) = look.Other
 look_at store (Some (value.Long n)) = look.Other
 look_at store (Some (value.Ref cell)) = if cell.0 == 0 then look.Null else look_head cell (head_at store cell.0)
+
+-- the cell and the head of an object that is seen
+abbrev pub object_in : Look → Option (Cell × Head)
+object_in look.Other = None
+object_in look.Null = None
+object_in (look.Gone cell) = None
+object_in (look.Object cell head) = Some (cell, head)

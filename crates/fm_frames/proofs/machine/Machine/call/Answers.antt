@@ -1,4 +1,4 @@
-use Rattle.std.proofs.Common.{◌≤◌, ◌<◌, length, subst, arith}
+use Rattle.std.proofs.Common.{arith}
 use Rattle.fm_frames.proofs.Calling.{called-one, too-deep}
 use Rattle.fm_frames.proofs.machine.Machine.call.Goals as goal
 

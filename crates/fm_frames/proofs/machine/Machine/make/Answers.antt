@@ -1,4 +1,4 @@
-use Rattle.std.proofs.Common.{[], refl, sym, subst}
+use Rattle.std.proofs.Common.{[], refl, subst}
 use Rattle.fm_frames.proofs.Throwing.{made-given, told-ok, type-request}
 use Rattle.fm_frames.proofs.machine.Machine.make.Goals as goal
 use Rattle.fm_frames.specs.Effects.{Make, Plain, making}
