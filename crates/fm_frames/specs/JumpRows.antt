@@ -1,5 +1,5 @@
 -- The rows of jumps, switches, returns and athrow (JVMS 6.5).
-use Rattle.std.specs.Prelude.{ℕ, ◌+◌, ℤ, pos, ◌+ℤ◌, ◌-ℤ◌, int_lt, int_le, not, Bool, List, position, Option, Some, None, unsigned_abs, if◌then◌else◌, ◌||◌}
+use Rattle.std.specs.Prelude.{ℕ, ◌+◌, ℤ, pos, ◌+ℤ◌, ◌-ℤ◌, int_lt, int_le, not, Bool, List, take, position, Option, Some, None, unsigned_abs, if◌then◌else◌, ◌||◌}
 use Rattle.std.specs.Ordering.{int_eq}
 use Rattle.fm_code.specs.declared.operations.Reg.{Reg}
 use Rattle.fm_code.specs.declared.operations.Reg.TheVariants as reg
@@ -47,13 +47,14 @@ table_target low count key = if int_lt key low || int_le (low +ℤ pos count) ke
 unfoldable pub table_effect : ℤ → ℕ → List Sight → Effect
 table_effect low count s = on_int s 0 (λ key. going 1 (Jumps (table_target low count key)))
 
--- a lookupswitch has one for each of its keys
+-- a lookupswitch has one for each of its keys: target 1 for the first of them
 abbrev pub key_target : Option ℕ → ℕ
 key_target None = 0
 key_target (Some place) = place + 1
 
-unfoldable pub lookup_effect : List ℤ → List Sight → Effect
-lookup_effect keys s = on_int s 0 (λ key. going 1 (Jumps (key_target (position (int_eq key) keys))))
+-- of so many targets: the key is looked for among as many of the first keys, so that none is taken that has no target
+unfoldable pub lookup_effect : List ℤ → ℕ → List Sight → Effect
+lookup_effect keys count s = on_int s 0 (λ key. going 1 (Jumps (key_target (position (int_eq key) (take count keys)))))
 
 -- ---- returns and athrow
 

@@ -50,7 +50,7 @@ effect_of o method u (insn.IfSame same target) byte s = same_jump_effect same
 effect_of o method u (insn.IfNull null target) byte s = null_jump_effect null s
 effect_of o method u (insn.Goto target) byte s = going 0 (Jumps 0)
 effect_of o method u (insn.Table low others targets) byte s = table_effect low (length targets) s
-effect_of o method u (insn.Lookup others keys targets) byte s = lookup_effect keys s
+effect_of o method u (insn.Lookup others keys targets) byte s = lookup_effect keys (length targets) s
 effect_of o method u (insn.Return value) byte s = return_effect value
 effect_of o method u insn.Throw byte s = throw_effect o s
 -- objects and fields

@@ -1,5 +1,5 @@
 -- The rows of casts, athrow, returns and switches.
-use Rattle.std.proofs.Common.{◌≡◌, ◌≢◌, ℕ, ℤ, pos, suc, ◌+◌, ◌-◌, ◌<◌, ◌≤◌, ◌||◌, ◌+ℤ◌, ◌-ℤ◌, not, int_lt, int_le, unsigned_abs, Bool, true, false, cond, List, [], ◌∷◌, length, position, nat_lt, Option, Some, None, codes, refl, sym, ◌∙◌, ap, subst, inl, slice_get, arith, ltb-true, ⊎_elim}
+use Rattle.std.proofs.Common.{◌≡◌, ◌≢◌, ℕ, ℤ, pos, suc, ◌+◌, ◌-◌, ◌<◌, ◌≤◌, ◌||◌, ◌+ℤ◌, ◌-ℤ◌, not, int_lt, int_le, unsigned_abs, Bool, true, false, cond, List, [], ◌∷◌, length, length-take, take, position, nat_lt, Option, Some, None, codes, refl, sym, ◌∙◌, ap, subst, inl, slice_get, arith, ltb-true, ⊎_elim}
 use Rattle.std.proofs.lemmas.Bool.{cases_eq, false≢true}
 use Rattle.std.specs.Ordering.{int_eq}
 use Rattle.std.specs.List.{prefix_len}
@@ -266,6 +266,9 @@ key_within keys key n le =
     let i : ℕ = prefix_len (λ other. not (int_eq key other)) keys in
     within_if (nat_lt i (length keys)) i n (λ e. let lt : i < length keys = ltb-true i (length keys) e in omega arith)
 
+few_keys : (keys : List ℤ) (n : ℕ) → length (take n keys) ≤ n
+few_keys keys n = omega (arith, length-take n keys)
+
 between : (low : ℤ) (count : ℕ) (key : ℤ) → int_lt key low ≡ false → int_le (low +ℤ pos count) key ≡ false → unsigned_abs (key -ℤ low) < count
 between low count key first second = omega (arith, ints)
 
@@ -293,12 +296,12 @@ module _ (p : Program) (facts : Facts) (exact : AreFacts p facts) (f : Frame) wh
       (λ key. plain_obeys p facts exact f i h (λ k. refl) (going 1 (Jumps (table_target low (length targets) key))) refl refl tt
       (table_within low (length targets) key) tt (omega arith))
 
-  -- a switch by keys has a target for each
+  -- as many keys as there are targets are looked through
   pub lookup_obeys : (others : ℕ) (keys : List ℤ) (targets : List ℕ) (h : AtInsn p facts f (insn.Lookup others keys targets)) (s : List Sight)
-      → length keys ≤ length targets → Owes p facts exact f (insn.Lookup others keys targets) h (lookup_effect keys s)
+      → Owes p facts exact f (insn.Lookup others keys targets) h (lookup_effect keys (length targets) s)
   unfolding lookup_effect pairs.words_taken
-  lookup_obeys others keys targets h s le =
+  lookup_obeys others keys targets h s =
       let i : Insn = insn.Lookup others keys targets in
       by_int (Owes p facts exact f i h) s 0 _ (stuck_obeys p facts exact f i h)
-      (λ key. plain_obeys p facts exact f i h (λ k. refl) (going 1 (Jumps (key_target (position (int_eq key) keys)))) refl refl tt
-      (key_within keys key (length targets) le) tt (omega arith))
+      (λ key. plain_obeys p facts exact f i h (λ k. refl) (going 1 (Jumps (key_target (position (int_eq key) (take (length targets) keys))))) refl refl tt
+      (key_within (take (length targets) keys) key (length targets) (few_keys keys (length targets))) tt (omega arith))

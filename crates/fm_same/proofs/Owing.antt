@@ -142,7 +142,7 @@ module _ (p : Program) (facts : Facts) (exact : AreFacts p facts) (f : Frame) wh
   effect_obeys (insn.IfNull null target) h byte s covers keys = null_jump_obeys p facts exact f null target h s
   effect_obeys (insn.Goto target) h byte s covers keys = goto_obeys p facts exact f target h
   effect_obeys (insn.Table low others targets) h byte s covers keys = table_obeys p facts exact f low others targets h s
-  effect_obeys (insn.Lookup others found targets) h byte s covers keys = lookup_obeys p facts exact f others found targets h s keys
+  effect_obeys (insn.Lookup others found targets) h byte s covers keys = lookup_obeys p facts exact f others found targets h s
   effect_obeys (insn.Return value) h byte s covers keys = return_obeys p facts exact f value h
   effect_obeys insn.Throw h byte s covers keys = throw_obeys p facts exact f h s
   effect_obeys (insn.New index) h byte s covers keys = new_obeys p facts exact f index h (use_by p f.method (insn.New index))
