@@ -15,7 +15,7 @@ use fm_base::{NoMemory, Row};
 use fm_code::{Code, Handler, Insn};
 use std::alloc::Global;
 
-// Whether control can go on to the item after the instruction.
+/// Whether control can go on to the item after the instruction.
 pub fn falls_through(insn: &Insn) -> bool
     ensures { result ≡ falls_through insn.now }
 {
@@ -120,7 +120,7 @@ fn range_ends(alloc: Global, handlers: &[Handler], count: u32) -> Result<Row, No
     Ok(ends)
 }
 
-// The number of items of a code.
+/// The number of items of a code.
 pub fn item_count(code: &Code) -> u32
     requires { MeetsCodeRules code.now }
     ensures count { result ≡ length code.now.items }
@@ -130,7 +130,7 @@ pub fn item_count(code: &Code) -> u32
     code.items.len() as u32
 }
 
-// The edges of each item of a code.
+/// The edges of each item of a code.
 pub fn edges_of(alloc: Global, code: &Code) -> Result<EdgeLists, NoMemory>
     requires { MeetsCodeRules code.now }
     ensures { IfOk result (AreEdgesOf code.now) }

@@ -12,8 +12,8 @@ use fm_base::{NoMemory, Row, Seq};
 use fm_code::{Code, Insn, Reg};
 use std::alloc::Global;
 
-// What is live after each item. An item waits while what is live at it isn't handed back along its
-// edges; the last item comes first, so that straight code is walked over once.
+/// What is live after each item. An item waits while what is live at it isn't handed back along its
+/// edges; the last item comes first, so that straight code is walked over once.
 pub fn settled(alloc: Global, code: &Code, sources: &[Seq<u32>]) -> Result<Vec<Row>, NoMemory>
     requires spelled { MeetsCodeRules code.now }
     requires sources { AreSourcesOf code.now sources.now }
@@ -86,7 +86,7 @@ fn hand_back(
     Ok(())
 }
 
-// What is live at an item with this instruction, from what is live after it.
+/// What is live at an item with this instruction, from what is live after it.
 pub fn row_before(alloc: Global, insn: &Insn, after: &Row) -> Result<Row, NoMemory>
     requires { LocalsFit (length after.now) insn.now }
     ensures { IfOk result (IsRowBefore insn.now after.now) }

@@ -11,7 +11,7 @@ use fm_base::{NoMemory, Row};
 use fm_code::Code;
 use std::alloc::Global;
 
-// Which items are reachable, as bits.
+/// Which items are reachable, as bits.
 pub fn reached_items(alloc: Global, code: &Code, edges: &EdgeLists) -> Result<Row, NoMemory>
     requires spelled { MeetsCodeRules code.now }
     requires edges { AreEdgesOf code.now edges.now }

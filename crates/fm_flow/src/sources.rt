@@ -10,7 +10,7 @@ use fm_base::{NoMemory, Seq};
 use fm_code::Code;
 use std::alloc::Global;
 
-// For each item the items from which an edge leads to it.
+/// For each item the items from which an edge leads to it.
 pub fn sources_of(alloc: Global, code: &Code, flow: &Flow) -> Result<Vec<Seq<u32>>, NoMemory>
     requires { IsFlowOf code.now flow.now }
     ensures { IfOk result (λ sources. AreSourcesOf code.now sources.items) }

@@ -20,6 +20,7 @@ abbrev pub marks : Option ℕ → Slot → Bool
 marks None s = is_uninit_this s
 marks (Some item) s = is_uninit item s
 
+-- a slot that is there passes that test
 abbrev pub is_some_marked : Option ℕ → Option Slot → Bool
 is_some_marked mark None = false
 is_some_marked mark (Some s) = marks mark s

@@ -42,6 +42,7 @@ abbrev pub null_element : Elem → List Slot
 null_element elem.Ref = slot.Null ∷ []
 null_element e = element_words e
 
+-- the words of an element of an array of that type
 abbrev pub element_of : Elem → TypeRef → List Slot
 element_of elem.Ref t = slot.Ref (record { dims = t.dims - 1; base = t.base }) ∷ []
 element_of e t = element_words e
@@ -63,6 +64,7 @@ on_array passes null given slot.UninitThis = None
 
 -- ---- the rows
 
+-- an array of such elements and an index give an element (JVMS 6.5, iaload to saload)
 unfoldable pub array_load_row : Outline → Elem → TypeState → Option TypeState
 array_load_row o e s = worked_below o int_word (on_array (is_array_of e) (null_element e) (element_of e)) s
 
@@ -70,9 +72,11 @@ array_load_row o e s = worked_below o int_word (on_array (is_array_of e) (null_e
 unfoldable pub array_store_row : Outline → Elem → TypeState → Option TypeState
 array_store_row o e s = worked_below o (stored_element o e ++ int_word) (on_array (is_array_of e) [] (λ t. [])) s
 
+-- an array of any type gives an int (JVMS 6.5, arraylength)
 unfoldable pub length_row : Outline → TypeState → Option TypeState
 length_row o s = worked_below o [] (on_array (λ t. nat_lt 0 t.dims) int_word (λ t. int_word)) s
 
+-- a length gives an array of numbers (JVMS 6.5, newarray)
 unfoldable pub new_array_row : Outline → Elem → TypeState → Option TypeState
 new_array_row o e s = option_and_then (λ b. worked o int_word (slot.Ref (record { dims = 1; base = b }) ∷ []) s) (base_of_elem e)
 

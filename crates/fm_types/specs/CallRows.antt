@@ -19,9 +19,11 @@ use Rattle.fm_world.specs.declared.uses.Use.{Use}
 
 -- ---- which methods
 
+-- the method has this name
 abbrev pub has_name : Outline → ℕ → List ℕ → Bool
 has_name o method name = bytes_eq (method_at o.classes method).method.name name
 
+-- the method is a constructor (JVMS 2.9)
 abbrev pub is_constructor : Outline → ℕ → Bool
 is_constructor o method = has_name o method constructor_name
 
@@ -37,6 +39,7 @@ instance_call_row o u s = on_method o u called where
   called : ℕ → TypeRef → Option TypeState
   called m named = if is_initializer o m then None else worked o (argument_words o m ++ slot.Ref named ∷ []) (result_words o m) s
 
+-- the arguments fit the parameters (JVMS 6.5, invokestatic)
 unfoldable pub static_call_row : Outline → Use → TypeState → Option TypeState
 static_call_row o u s = on_method o u called where
   called : ℕ → TypeRef → Option TypeState
@@ -53,6 +56,7 @@ abbrev pub is_type : TypeRef → Option TypeRef → Bool
 is_type t None = false
 is_type t (Some other) = same_type t other
 
+-- whether an option has a class that is this one
 abbrev pub is_class : ℕ → Option ℕ → Bool
 is_class c None = false
 is_class c (Some d) = c == d
@@ -76,6 +80,7 @@ constructed o method news named slot.UninitThis s =
     let own = class_of_method o method in
     if names_own_or_parent o own named then Some (record (initialised is_uninit_this (type_of_class own) s) { built = true }) else None
 
+-- a constructor takes its arguments and the object under them
 abbrev pub constructor_called : Outline → ℕ → (ℕ → Option TypeRef) → ℕ → TypeRef → TypeState → Option TypeState
 constructor_called o method news m named s = option_and_then of_rest (taken o (argument_words o m) s.stack) where
   of_rest : List Slot → Option TypeState
@@ -116,6 +121,7 @@ returned_by kind.Int = reg.Int
 returned_by kind.Long = reg.Long
 returned_by (kind.Ref t) = reg.Ref
 
+-- both are of one kind
 abbrev pub same_reg : Reg → Reg → Bool
 same_reg reg.Int reg.Int = true
 same_reg reg.Long reg.Long = true

@@ -44,9 +44,11 @@ abbrev pub depth_with : ℕ → Base → ℕ
 depth_with dims (base.OfClass class) = dims
 depth_with dims b = dims - 1
 
+-- the same of a type
 abbrev pub depth_of : TypeRef → ℕ
 depth_of t = depth_with t.dims t.base
 
+-- a class that each class fits
 abbrev pub is_object_base : List DeclaredClass → Base → Bool
 is_object_base classes (base.OfClass class) = is_seen_as_object classes class.0
 is_object_base classes b = false

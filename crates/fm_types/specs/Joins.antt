@@ -19,6 +19,7 @@ abbrev pub is_interface_base : List DeclaredClass → Base → Bool
 is_interface_base classes (base.OfClass class) = is_interface_at classes class.0
 is_interface_base classes b = false
 
+-- a reference to an interface, or to an array of one
 abbrev pub names_interface : Outline → Slot → Bool
 names_interface o (slot.Ref t) = is_interface_base o.classes t.base
 names_interface o s = false
@@ -48,6 +49,7 @@ abbrev pub are_classes : Base → Base → Bool
 are_classes (base.OfClass c) (base.OfClass d) = true
 are_classes b c = false
 
+-- the nearest class above two that are classes
 abbrev pub common_base : List DeclaredClass → Base → Base → Base
 common_base classes (base.OfClass c) (base.OfClass d) = of_class (common_class classes c.0 d.0)
 common_base classes b c = b

@@ -9,6 +9,7 @@ pub record Moves : Type 0 where
   pub takes : ℕ
   pub gives : List ℕ
 
+-- a move of so many words, which leaves these
 abbrev pub moving : ℕ → List ℕ → Option Moves
 moving takes gives = Some (record { takes = takes; gives = gives })
 

@@ -19,6 +19,7 @@ use Rattle.fm_world.specs.declared.uses.Use.TheVariants as resolved
 abbrev pub built_in_type : Outline → List ℕ → TypeRef
 built_in_type o name = type_of_class (unwrap_or (class_number o.classes name) 0)
 
+-- the type that all that is thrown fits
 abbrev pub throwable_type : Outline → TypeRef
 throwable_type o = built_in_type o (codes "java/lang/Throwable")
 
@@ -29,6 +30,7 @@ object_slot o = slot.Ref (type_of_class (object_of o.classes))
 -- ---- uses: what follows from the type, the field or the method that is named, the two last with the type that the entry names; nothing where
 -- the index stands for something else
 
+-- what follows from a type
 abbrev pub on_type : Outline → Use → (TypeRef → Option TypeState) → Option TypeState
 on_type o (resolved.OfType t) follows = option_and_then follows (slice_get o.types t.0)
 on_type o (resolved.OfField f t) follows = None
@@ -38,6 +40,7 @@ on_type o (resolved.OfLong value) follows = None
 on_type o (resolved.OfText text) follows = None
 on_type o resolved.Unused follows = None
 
+-- what follows from a field
 abbrev pub on_field : Outline → Use → (ℕ → TypeRef → Option TypeState) → Option TypeState
 on_field o (resolved.OfType t) follows = None
 on_field o (resolved.OfField f t) follows = option_and_then (follows f.0) (slice_get o.types t.0)
@@ -47,6 +50,7 @@ on_field o (resolved.OfLong value) follows = None
 on_field o (resolved.OfText text) follows = None
 on_field o resolved.Unused follows = None
 
+-- what follows from a method
 abbrev pub on_method : Outline → Use → (ℕ → TypeRef → Option TypeState) → Option TypeState
 on_method o (resolved.OfType t) follows = None
 on_method o (resolved.OfField f t) follows = None
@@ -66,14 +70,18 @@ class_of_method o method = (method_at o.classes method).class
 abbrev pub field_words : Outline → ℕ → List Slot
 field_words o field = stack_slots (field_kind o.classes (field_at o.classes field).field ∷ [])
 
+-- the kinds of a method's parameters
 abbrev pub parameters_of : Outline → ℕ → List Kind
 parameters_of o method = parameter_kinds o.classes (method_at o.classes method).method.descriptor
 
+-- the kind of its result, if it has one
 abbrev pub result_of : Outline → ℕ → Option Kind
 result_of o method = result_kind o.classes (method_at o.classes method).method.descriptor
 
+-- the words of its arguments
 abbrev pub argument_words : Outline → ℕ → List Slot
 argument_words o method = stack_slots (parameters_of o method)
 
+-- the words of its result
 abbrev pub result_words : Outline → ℕ → List Slot
 result_words o method = stack_slots (option_to_list (result_of o method))

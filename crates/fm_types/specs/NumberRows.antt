@@ -29,6 +29,7 @@ constant_row o resolved.Unused s = None
 
 -- ---- locals
 
+-- an int
 abbrev pub is_int : Slot → Bool
 is_int slot.Top = false
 is_int slot.Int = true
@@ -50,6 +51,7 @@ loaded reg.Int s = s ∷ []
 loaded reg.Long s = slot.Top ∷ s ∷ []
 loaded reg.Ref s = s ∷ []
 
+-- the value of a local is put on the stack (JVMS 6.5, iload, lload and aload)
 unfoldable pub load_row : Reg → ℕ → TypeState → Option TypeState
 load_row r k s = option_and_then of_local (slice_get s.locals k) where
   of_local : Slot → Option TypeState
@@ -59,6 +61,7 @@ load_row r k s = option_and_then of_local (slice_get s.locals k) where
 abbrev pub stored_from : ℕ → List Slot → List Slot → TypeState → Option TypeState
 stored_from k slots stack s = option_map (λ locals. record s { locals = locals; stack = stack }) (stored k slots s.locals)
 
+-- the topmost value is put into a local (JVMS 6.5, istore, lstore and astore)
 unfoldable pub store_row : Outline → Reg → ℕ → TypeState → Option TypeState
 store_row o r k s = by_kind r s.stack where
   by_kind : Reg → List Slot → Option TypeState
@@ -68,6 +71,7 @@ store_row o r k s = by_kind r s.stack where
   by_kind reg.Long (half ∷ []) = None
   by_kind reg.Long (half ∷ found ∷ stack) = if is_long found then stored_from k (found ∷ slot.Top ∷ []) stack s else None
 
+-- a local is an int and stays one (JVMS 6.5, iinc)
 unfoldable pub increment_row : ℕ → TypeState → Option TypeState
 increment_row k s = if is_int (local_at s.locals k) then Some s else None
 
@@ -81,6 +85,7 @@ move_row i s = option_and_then (λ m. option_and_then of_stack (moved m s.stack)
 
 -- ---- numbers
 
+-- a number becomes one of another kind (JVMS 6.5, i2l to i2s)
 unfoldable pub convert_row : Outline → Conv → TypeState → Option TypeState
 convert_row o conv.IntToLong s = worked o int_word long_words s
 convert_row o conv.LongToInt s = worked o long_words int_word s

@@ -35,12 +35,15 @@ new_row o item u s = on_type o u made where
 
 -- ---- fields
 
+-- the field's value is put on the stack (JVMS 6.5, getstatic)
 unfoldable pub get_static_row : Outline → Use → TypeState → Option TypeState
 get_static_row o u s = on_field o u (λ field named. Some (pushed (field_words o field) s))
 
+-- a value that fits the field is taken (JVMS 6.5, putstatic)
 unfoldable pub put_static_row : Outline → Use → TypeState → Option TypeState
 put_static_row o u s = on_field o u (λ field named. worked o (field_words o field) [] s)
 
+-- an object that fits the named type gives the field's value (JVMS 6.5, getfield)
 unfoldable pub get_field_row : Outline → Use → TypeState → Option TypeState
 get_field_row o u s = on_field o u (λ field named. worked o (slot.Ref named ∷ []) (field_words o field) s)
 
@@ -53,16 +56,20 @@ takes_field o method field named receiver = if passes receiver then Some [] else
       ((field_at o.classes field).class == own) && fits_type o.classes (type_of_class own) named
   passes s = fits o s (slot.Ref named)
 
+-- a value that fits the field is taken, and the receiver under it (JVMS 6.5, putfield)
 unfoldable pub put_field_row : Outline → ℕ → Use → TypeState → Option TypeState
 put_field_row o method u s = on_field o u (λ field named. worked_below o (field_words o field) (takes_field o method field named) s)
 
 -- ---- tests of types, and throwing
 
+-- an object becomes one of the type that is named (JVMS 6.5, checkcast)
 unfoldable pub cast_row : Outline → Use → TypeState → Option TypeState
 cast_row o u s = on_type o u (λ t. worked o (object_slot o ∷ []) (slot.Ref t ∷ []) s)
 
+-- an object gives an int (JVMS 6.5, instanceof)
 unfoldable pub is_a_row : Outline → Use → TypeState → Option TypeState
 is_a_row o u s = on_type o u (λ t. worked o (object_slot o ∷ []) int_word s)
 
+-- what is thrown is taken (JVMS 6.5, athrow)
 unfoldable pub throw_row : Outline → TypeState → Option TypeState
 throw_row o s = worked o (slot.Ref (throwable_type o) ∷ []) [] s

@@ -18,6 +18,7 @@ pub record TypeState : Type 0 where
 
 -- ---- one state fits another one
 
+-- as many slots, each of which fits the one at its place
 abbrev pub all_fit : Outline → List Slot → List Slot → Bool
 all_fit o [] [] = true
 all_fit o (a ∷ slots) (b ∷ others) = fits o a b && all_fit o slots others
@@ -51,9 +52,11 @@ local_slots (kind.Ref t) = slot.Ref t ∷ []
 abbrev pub stack_slots : List Kind → List Slot
 stack_slots kinds = reverse (flat_map local_slots kinds)
 
+-- the word of an int
 abbrev pub int_word : List Slot
 int_word = slot.Int ∷ []
 
+-- the two words of a long, its second half on top
 abbrev pub long_words : List Slot
 long_words = slot.Top ∷ slot.Long ∷ []
 
@@ -92,6 +95,7 @@ worked_below o wanted given s = option_and_then of_rest (taken o wanted s.stack)
 
 -- ---- the locals
 
+-- the first half of a long
 abbrev pub is_long : Slot → Bool
 is_long slot.Top = false
 is_long slot.Int = false
@@ -101,6 +105,7 @@ is_long (slot.Ref t) = false
 is_long (slot.Uninit item) = false
 is_long slot.UninitThis = false
 
+-- the local of this number; Top past the last one
 abbrev pub local_at : List Slot → ℕ → Slot
 local_at locals k = slice_index_or locals k slot.Top
 
@@ -118,6 +123,7 @@ stored k slots locals = if nat_lt (length locals) (k + length slots) then None e
 
 -- ---- objects that aren't initialised
 
+-- the object that the `new` of this item made
 abbrev pub is_uninit : ℕ → Slot → Bool
 is_uninit item slot.Top = false
 is_uninit item slot.Int = false
@@ -127,6 +133,7 @@ is_uninit item (slot.Ref t) = false
 is_uninit item (slot.Uninit other) = item == other
 is_uninit item slot.UninitThis = false
 
+-- a constructor's own object
 abbrev pub is_uninit_this : Slot → Bool
 is_uninit_this slot.Top = false
 is_uninit_this slot.Int = false

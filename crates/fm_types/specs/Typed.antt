@@ -107,6 +107,7 @@ pub record MeetsItem (p : Program) (method : ℕ) (code : Code) (states : List (
   pub row : IsSomeAnd (after_item p method code j s) (λ after. (next : ℕ) → IsNormalEdge code j next → FitsAt p states next after)
   pub handlers : AllByRecursion (FitsHandler p method states j s) code.handlers
 
+-- the states are those of the reachable items; the first is that of the parameters, and each meets what is asked of its item
 pub record IsTypingOf (p : Program) (method : ℕ) (code : Code) (states : List (Option TypeState)) : Type 0 where
   pub one_each : length states ≡ length code.items
   pub reachable : (j : ℕ) → (is_some (state_at states j) ≡ true) ↔ (IsReachable code j)

@@ -13,8 +13,11 @@ use std::alloc::Global;
 /// same object has returned; in other methods it is true.
 #[derive(Debug, Drop)]
 pub struct State {
+    /// As many as the method has; the parameters stand first.
     pub locals: Vec<Slot>,
+    /// The words of the operand stack.
     pub stack: Stack,
+    /// Whether the object of a constructor is built; true in other methods.
     pub built: bool,
 }
 
@@ -34,5 +37,6 @@ impl State {
 /// The state of each item of a method; none where the item can't be reached.
 #[derive(Debug, Drop)]
 pub struct Typing {
+    /// One for each item of the code, in its order.
     pub states: Seq<Option<State>>,
 }
