@@ -1,69 +1,26 @@
 -- The listed pairs of calls are those of the definition, as summaries link ends.
-use Rattle.std.proofs.Common.{◌≡◌, ℕ, ◌+◌, ◌-◌, ◌<◌, Bool, true, false, cond, List, [], ◌∷◌, ◌++◌, length, Option, Some, None, is_some, Contains, refl, ap, sym, ◌∙◌, subst, inl, inr, ⊎_elim, arith}
-use Rattle.std.proofs.lemmas.Bool.{eqb-true, eq-eqb, false≢true}
+use Rattle.std.proofs.Common.{◌≡◌, ℕ, ◌+◌, ◌-◌, ◌<◌, Bool, true, List, [], ◌∷◌, ◌++◌, length, Option, Some, None, is_some, Contains, refl, ap, sym, ◌∙◌, subst, inl, inr, ⊎_elim, arith}
 use Rattle.std.proofs.lemmas.List.Elements.{Contains-append_left, Contains-append_right, Contains-append_cases}
 use Rattle.std.specs.List.{flat_map, range_with_len}
-use Rattle.fm_base.proofs.ContainsFacts.{Contains-cons_cases}
 use Rattle.fm_code.specs.declared.instructions.Insn.{Insn}
 use Rattle.fm_code.specs.declared.instructions.Insn.TheVariants as insn
 use Rattle.fm_types.specs.States.{TypeState}
 use Rattle.fm_world.specs.Programs.{targets}
 use Rattle.fm_world.specs.declared.calls.Call.{Call}
-use Rattle.fm_conn.proofs.ListLemmas.{Contains-flat_map, Contains-from_flat_map, Contains-none, Contains-one, Contains-range}
-use Rattle.fm_conn.proofs.PairLemmas.{below_is, IsTabled, number_pair-has, number_pair-some, PairNumbers, place_complete, place_sound, PlaceFits, slot_is, state_inside}
+use Rattle.fm_conn.proofs.ListLemmas.{Contains-flat_map, Contains-from_flat_map, Contains-from_map, Contains-map, Contains-none, Contains-one, Contains-range}
+use Rattle.fm_conn.proofs.ListedEndLemmas.{first_with-one, first_with-there, links-from, links-is, numbered-from, numbered-of}
+use Rattle.fm_conn.proofs.PairLemmas.{below_is, IsTabled, PairNumbers, place_complete, place_sound, PlaceFits, slot_is, state_inside}
 use Rattle.fm_conn.proofs.WordLemmas.{HasNumber, Located, located-at, located-some, node_below, reached_at, slot_number-some, words_count}
 use Rattle.fm_conn.specs.Nodes.{Global, IsNode, Node, Slot, TypedMethod}
 use Rattle.fm_conn.specs.Pairs.{call_of, CalledAt, IsEnd, StandsFor}
 use Rattle.fm_conn.specs.Rows.{Given}
-use Rattle.fm_conn.specs.Summaries.{end_number, ends_at, linked_by, links, same_number, AreSummariesOf}
+use Rattle.fm_conn.specs.Summaries.{end_number, ends_at, linked_by, links, AreSummariesOf}
 use Rattle.fm_conn.specs.declared.ends.End2.{End2}
 use Rattle.fm_conn.specs.declared.ends.End2.TheVariants as end
 use Rattle.fm_conn.specs.declared.summaries.Summaries.{Summaries}
+use Rattle.fm_conn.specs.inner.ListedEnds.{first_with, numbered}
 use Rattle.fm_conn.specs.inner.NodeTables.{global_number, number_of, slot_number, table_of}
-use Rattle.fm_conn.specs.inner.PairLists.{at_place, call_pairs, call_pairs_at, call_pairs_in, end_entry, first_linked, ItemPlace, link_pairs, located, number_pair, pairs_of_targets, place_at, place_number, stand_ins}
-
--- ---- numbers of ends
-
-same_number-is : (a b : Option ℕ) → same_number a b ≡ true → (n : ℕ) × (a ≡ Some n) × (b ≡ Some n)
-same_number-is (Some m) (Some n) same = (m, refl, ap Some (sym (eqb-true m n same)))
-same_number-is (Some m) None same = absurd (false≢true same)
-same_number-is None b same = absurd (false≢true same)
-
-same_number-some : (a b : Option ℕ) (n : ℕ) → a ≡ Some n → b ≡ Some n → same_number a b ≡ true
-same_number-some a b n first second =
-    (λ k. same_number (first k) (second k)) ∙ eq-eqb n n refl
-
-first_linked-same : (entries ends : List (End2 × ℕ)) (e f : End2) → end_number entries e ≡ end_number entries f → first_linked entries ends e ≡ first_linked entries ends f
-first_linked-same entries [] e f same = refl
-first_linked-same entries (x ∷ ends) e f same =
-    (λ k. cond (same_number (end_number entries x.0) (same k)) (Some x.1) (first_linked-same entries ends e f same k))
-
--- the first one that is linked with an end
-first_linked-there : (entries ends : List (End2 × ℕ)) (e : End2) (x : End2 × ℕ) → Contains ends x → links entries x.0 e ≡ true →
-    (n : ℕ) × (first_linked entries ends e ≡ Some n)
-first_linked-there entries [] e x (k, within, there) linked = absurd (omega arith)
-first_linked-there entries (y ∷ ends) e x among linked =
-    elim (links entries y.0 e) as (λ b. links entries y.0 e ≡ b → (n : ℕ) × (cond b (Some y.1) (first_linked entries ends e) ≡ Some n)) [
-      | true ↦ (λ is. (y.1, refl))
-      | false ↦ (λ is. ⊎_elim (λ (same : x ≡ y). absurd (false≢true (sym is ∙ ap (λ (v : End2 × ℕ). links entries v.0 e) (sym same) ∙ linked)))
-          (λ later. first_linked-there entries ends e x later linked)
-          (Contains-cons_cases y ends x among))
-    ] refl
-
-record Found (entries ends : List (End2 × ℕ)) (e : End2) (n : ℕ) : Type 0 where
-  entry : End2 × ℕ
-  among : Contains ends entry
-  linked : links entries entry.0 e ≡ true
-  is : n ≡ entry.1
-
-first_linked-some : (entries ends : List (End2 × ℕ)) (e : End2) (n : ℕ) → first_linked entries ends e ≡ Some n → Found entries ends e n
-first_linked-some entries [] e n some = absurd cc
-first_linked-some entries (x ∷ ends) e n some =
-    (elim (links entries x.0 e) as (λ b. links entries x.0 e ≡ b → cond b (Some x.1) (first_linked entries ends e) ≡ Some n → Found entries (x ∷ ends) e n) [
-      | true ↦ (λ is here. record { entry = x; among = (0, omega arith, refl); linked = is; is = cc })
-      | false ↦ (λ is later. let found = first_linked-some entries ends e n later in
-          record { entry = found.entry; among = Contains-append_right (x ∷ []) ends found.entry found.among; linked = found.linked; is = found.is })
-    ]) refl some
+use Rattle.fm_conn.specs.inner.PairLists.{at_place, call_pairs, call_pairs_at, call_pairs_in, end_entry, ItemPlace, link_pairs, located, pairs_of_targets, place_at, place_number, stand_ins}
 
 -- ---- pairs of linked ends
 
@@ -80,22 +37,21 @@ record LinkedPair (entries ends : List (End2 × ℕ)) (m n : ℕ) : Type 0 where
 
 link_sound : (ends entries : List (End2 × ℕ)) (m n : ℕ) → Contains (link_pairs ends entries) (m, n) → LinkedPair entries ends m n
 link_sound ends entries m n found =
-    let piece = Contains-from_flat_map (λ (x : End2 × ℕ). number_pair (Some x.1) (first_linked entries ends x.0)) ends (m, n) found in
+    let all = numbered entries ends in
+    let piece = Contains-from_map (λ (x : ℕ × ℕ). (x.1, first_with all x.0 x.1)) all (m, n) found in
     let x = piece.0 in
-    let both = number_pair-some (Some x.1) (first_linked entries ends x.0) m n piece.2 in
-    let first = first_linked-some entries ends x.0 n both.1 in
-    let same = same_number-is (end_number entries first.entry.0) (end_number entries x.0) first.linked in
-    let is : x.1 ≡ m = cc (both.0) in
+    let one = numbered-of entries ends x.0 x.1 piece.1 in
+    let other = numbered-of entries ends x.0 (first_with all x.0 x.1) (first_with-there all x.0 x.1 x.1 piece.1) in
     record {
-      one = x;
-      other = first.entry;
-      first = piece.1;
-      second = first.among;
-      number = same.0;
-      one_is = same.2;
-      other_is = same.1;
-      first_is = sym is;
-      second_is = first.is;
+      one = (one.end, x.1);
+      other = (other.end, first_with all x.0 x.1);
+      first = one.listed;
+      second = other.listed;
+      number = x.0;
+      one_is = one.number;
+      other_is = other.number;
+      first_is = ap (λ (v : ℕ × ℕ). v.0) (sym piece.2);
+      second_is = ap (λ (v : ℕ × ℕ). v.1) (sym piece.2);
     }
 
 record LinkedFirst (entries ends : List (End2 × ℕ)) (m n : ℕ) : Type 0 where
@@ -106,15 +62,16 @@ record LinkedFirst (entries ends : List (End2 × ℕ)) (m n : ℕ) : Type 0 wher
 link_complete : (ends entries : List (End2 × ℕ)) (e f : End2) (m n : ℕ) → Contains ends (e, m) → Contains ends (f, n) → links entries e f ≡ true →
     LinkedFirst entries ends m n
 link_complete ends entries e f m n one other linked =
-    let same = same_number-is (end_number entries e) (end_number entries f) linked in
-    let itself : links entries e e ≡ true = same_number-some (end_number entries e) (end_number entries e) same.0 same.1 same.1 in
-    let first = first_linked-there entries ends e (e, m) one itself in
-    let second : first_linked entries ends f ≡ Some first.0 = sym (first_linked-same entries ends e f (same.1 ∙ sym same.2)) ∙ first.1 in
-    let pairs : (End2 × ℕ) → List (ℕ × ℕ) = λ x. number_pair (Some x.1) (first_linked entries ends x.0) in
+    let all = numbered entries ends in
+    let number = links-is entries e f linked in
+    let k = number.0 in
+    let first = numbered-from entries ends e k m one number.1 in
+    let second = numbered-from entries ends f k n other number.2 in
+    let pair : (ℕ × ℕ) → ℕ × ℕ = λ x. (x.1, first_with all x.0 x.1) in
     record {
-      first = first.0;
-      one = Contains-flat_map pairs ends (e, m) (m, first.0) one (number_pair-has (Some m) (first_linked entries ends e) m first.0 refl first.1);
-      other = Contains-flat_map pairs ends (f, n) (n, first.0) other (number_pair-has (Some n) (first_linked entries ends f) n first.0 refl second);
+      first = first_with all k m;
+      one = Contains-map pair all (k, m) first;
+      other = subst (λ v. Contains (link_pairs ends entries) (n, v)) (first_with-one all k n n m second) (Contains-map pair all (k, n) second);
     }
 
 -- ---- what stands for ends at a call
@@ -246,7 +203,7 @@ called_sound x reached summaries j i s (Some called) m n tabled are at is found 
           other = linked.other.0;
           first_end = end_there x summaries target linked.one.0 linked.number are linked.one_is;
           second_end = end_there x summaries target linked.other.0 linked.number are linked.other_is;
-          links = same_number-some _ _ linked.number linked.one_is linked.other_is;
+          links = links-from (ends_at summaries target) linked.one.0 linked.other.0 linked.number linked.one_is linked.other_is;
           first = first.stands;
           second = second.stands;
         })));

@@ -14,3 +14,4 @@ pub mod MemberLemmas
 pub mod StepLemmas
 pub mod CodedLemmas
 pub mod TypeLemmas
+pub mod ListedEndLemmas

@@ -33,6 +33,7 @@ links entries a b = same_number (end_number entries a) (end_number entries b)
 abbrev pub ends_at : Summaries → ℕ → List (End2 × ℕ)
 ends_at s method = (slice_index_or s.methods method (record { ends = [] })).ends
 
+-- two ends of a method are linked
 abbrev pub is_linked : Summaries → ℕ → End2 → End2 → Bool
 is_linked s method a b = links (ends_at s method) a b
 

@@ -1,3 +1,4 @@
 -- What serves the code and the proofs alone: the numbers of nodes, and the pairs of a method as a list of numbers.
 pub mod NodeTables
+pub mod ListedEnds
 pub mod PairLists

@@ -5,14 +5,15 @@ ghost use Rattle.std.specs.List.{flat_map, range_with_len};
 ghost use Rattle.fm_base.specs.declared.ids.MethodId.{MethodId};
 ghost use Rattle.fm_conn.specs.Summaries.{ends_at};
 ghost use Rattle.fm_conn.specs.inner.NodeTables.{table_of};
-ghost use Rattle.fm_conn.specs.inner.PairLists.{call_pairs, call_pairs_at, end_entry, first_linked, link_pairs, method_in, pairs_of_call, pairs_of_targets, place_of, stand_ins, IsAsked, IsCallIn};
+ghost use Rattle.fm_conn.specs.inner.PairLists.{call_pairs, call_pairs_at, end_entry, link_pairs, method_in, pairs_of_call, pairs_of_targets, place_of, stand_ins, IsAsked, IsCallIn};
 
 use crate::ends::End2;
-use crate::item_nodes::{ItemNodes, push_pair};
+use crate::item_nodes::ItemNodes;
+use crate::listed_ends::{first_with, numbered};
 use crate::method::Method;
 use crate::nodes::Nodes;
 use crate::pairs::item_at;
-use crate::summaries::{Summaries, links};
+use crate::summaries::Summaries;
 use fm_base::{MethodId, NoMemory};
 use fm_world::Call;
 use std::alloc::Global;
@@ -54,20 +55,9 @@ fn push_end(ends: &mut Vec<(End2, u32)>, end: End2, number: Option<u32>) -> Resu
     Ok(())
 }
 
-// The first of those that stand for ends whose end is linked with this one.
-fn first_linked(entries: &[(End2, u32)], ends: &[(End2, u32)], wanted: End2) -> Option<u32>
-    ensures { result ≡ first_linked entries.now ends.now wanted }
-{
-    for end in ends {
-        if links(entries, end.0, wanted) {
-            return Some(end.1);
-        }
-    }
-    None
-}
-
-// Pairs each of them with the first one that the method links with it.
+// Pairs each of them that the method lists with the first one that it links with it.
 fn push_links(
+    alloc: Global,
     pairs: &mut Vec<(u32, u32)>,
     ends: &[(End2, u32)],
     entries: &[(End2, u32)],
@@ -75,14 +65,17 @@ fn push_links(
     ensures { OnOk result
         (pairs.new.items ≡ pairs.old.items ++ link_pairs ends.now entries.now) }
 {
-    for end in ends {
-        push_pair(pairs, Some(end.1), first_linked(entries, ends, end.0))?;
+    let numbers = numbered(alloc, entries, ends)?;
+    let found = numbers.as_slice();
+    for entry in found {
+        pairs.push((entry.1, first_with(found, entry.0, entry.1)))?;
     }
     Ok(())
 }
 
 // The same for one of the methods that are called; of one that isn't there none.
 fn push_target(
+    alloc: Global,
     pairs: &mut Vec<(u32, u32)>,
     summaries: &Summaries,
     ends: &[(End2, u32)],
@@ -92,14 +85,15 @@ fn push_target(
         ≡ pairs.old.items ++ link_pairs ends.now (ends_at summaries.now target.0)) }
 {
     match summaries.methods.get(target.0 as usize) {
-        Some(entries) => push_links(pairs, ends, entries.ends.as_slice()),
-        None => push_links(pairs, ends, &[]),
+        Some(entries) => push_links(alloc, pairs, ends, entries.ends.as_slice()),
+        None => push_links(alloc, pairs, ends, &[]),
     }
 }
 
 // The same for each of the methods that are called.
 #[tactic(auto, unfolding(crate::specs::inner::PairLists::pairs_of_targets))]
 fn push_targets(
+    alloc: Global,
     pairs: &mut Vec<(u32, u32)>,
     summaries: &Summaries,
     ends: &[(End2, u32)],
@@ -109,7 +103,7 @@ fn push_targets(
         ++ pairs_of_targets summaries.now ends.now (map (λ (m : MethodId). m.0) targets.now)) }
 {
     for target in targets {
-        push_target(pairs, summaries, ends, *target)?;
+        push_target(alloc, pairs, summaries, ends, *target)?;
     }
     Ok(())
 }
@@ -128,7 +122,7 @@ fn push_call(
         ++ pairs_of_call (method_in method.now) summaries.now ends.now call) }
 {
     let targets = method.program.targets(alloc, call)?;
-    push_targets(pairs, summaries, ends, targets.as_slice())
+    push_targets(alloc, pairs, summaries, ends, targets.as_slice())
 }
 
 // The pairs of an item that can be reached.

@@ -29,7 +29,7 @@ impl Summaries {
     }
 }
 
-// Whether both are listed with one number.
+/// Whether both ends are listed with one number.
 pub fn links(ends: &[(End2, u32)], a: End2, b: End2) -> bool
     ensures { result ≡ links ends.now a b }
 {
@@ -39,8 +39,8 @@ pub fn links(ends: &[(End2, u32)], a: End2, b: End2) -> bool
     }
 }
 
-// The number of an end.
-fn end_number(ends: &[(End2, u32)], wanted: End2) -> Option<u32>
+/// The number of an end, where it is listed.
+pub fn end_number(ends: &[(End2, u32)], wanted: End2) -> Option<u32>
     ensures { result ≡ end_number ends.now wanted }
 {
     for entry in ends {

@@ -25,8 +25,9 @@ use Rattle.fm_conn.specs.Rows.{is_reference_kind}
 use Rattle.fm_conn.specs.Summaries.{end_number, is_same_end}
 use Rattle.fm_conn.specs.declared.ends.End2.{End2}
 use Rattle.fm_conn.specs.declared.ends.End2.TheVariants as end
-use Rattle.fm_summ.proofs.EntryLemmas.{end_number-listed, links-from, links-is, number_is, same_end-is}
-use Rattle.fm_summ.proofs.ListLemmas.{Contains-first, Contains-flat_map, Contains-from_flat_map, Contains-from_map, Contains-later, Contains-map, Contains-none, Contains-one, Contains-range}
+use Rattle.fm_conn.proofs.ListedEndLemmas.{links-from, links-is}
+use Rattle.fm_summ.proofs.EntryLemmas.{end_number-listed, number_is, same_end-is}
+use Rattle.fm_conn.proofs.ListLemmas.{Contains-first, Contains-flat_map, Contains-from_flat_map, Contains-from_map, Contains-later, Contains-map, Contains-none, Contains-one, Contains-range}
 use Rattle.fm_summ.specs.inner.BuiltIns.{bare_ends, bare_entries, entry_number, entry_words, is_linked_by, is_one_of, linking_rows, own_number, parameter_end, parameter_ends, result_end, row_in}
 use Rattle.fm_summ.specs.inner.State.{IsBare}
 

@@ -24,7 +24,7 @@ use Rattle.fm_summ.specs.inner.State.{first_shape}
 use Rattle.std.specs.List.Retain.{IsFiltered, DiffersFromLast}
 use Rattle.std.specs.List.Sorted.{IsBinarySearchResult, IsPermutation, IsSorted, IsStrictlyIncreasing}
 use Rattle.std.specs.Ordering.{nat_cmp}
-use Rattle.fm_summ.proofs.ListLemmas.{Contains-first, Contains-flat_map, Contains-later}
+use Rattle.fm_conn.proofs.ListLemmas.{Contains-first, Contains-flat_map, Contains-later}
 use Rattle.fm_summ.proofs.NumberLemmas.{lower_place, number_in-none, number_in-place}
 use Rattle.fm_summ.specs.inner.Numbers.{named, number_in}
 

@@ -8,7 +8,7 @@ use Rattle.fm_world.specs.Programs.{Program}
 use Rattle.fm_conn.specs.Links.{Typings}
 use Rattle.fm_conn.specs.declared.shapes.Shape.{Shape}
 use Rattle.fm_conn.specs.declared.summaries.Summaries.{Summaries}
-use Rattle.fm_summ.proofs.ListLemmas.{Contains-none}
+use Rattle.fm_conn.proofs.ListLemmas.{Contains-none}
 use Rattle.fm_summ.proofs.LoopLemmas.{going_on, targets_of_method}
 use Rattle.fm_summ.proofs.RoundLemmas.{exact}
 use Rattle.fm_summ.proofs.StartLemmas.{first_sound, first_targets}

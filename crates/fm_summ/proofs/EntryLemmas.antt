@@ -1,11 +1,11 @@
 -- Ends that are listed with numbers.
-use Rattle.std.proofs.Common.{◌≡◌, ℕ, ◌↔◌, true, false, cond, List, [], ◌∷◌, Option, Some, None, Contains, refl, ap, sym, ◌∙◌, subst, ⊎_elim, arith, eq-eqb, eqb-true}
+use Rattle.std.proofs.Common.{◌≡◌, ℕ, ◌↔◌, true, false, cond, List, [], ◌∷◌, Some, Contains, refl, ap, sym, ◌∙◌, subst, ⊎_elim, arith, eq-eqb, eqb-true}
 use Rattle.std.proofs.lemmas.Bool.{false≢true}
 use Rattle.fm_base.proofs.ContainsFacts.{Contains-cons_cases}
-use Rattle.fm_conn.specs.Summaries.{end_number, is_same_end, links, same_number}
+use Rattle.fm_conn.specs.Summaries.{end_number, is_same_end, same_number}
 use Rattle.fm_conn.specs.declared.ends.End2.{End2}
 use Rattle.fm_conn.specs.declared.ends.End2.TheVariants as end
-use Rattle.fm_summ.proofs.ListLemmas.{Contains-from_map, Contains-later, Contains-map}
+use Rattle.fm_conn.proofs.ListLemmas.{Contains-from_map, Contains-later, Contains-map}
 use Rattle.fm_summ.specs.inner.Passed.{renumbered_ends}
 
 -- ---- ends
@@ -27,19 +27,6 @@ same_end-itself end.Return = refl
 same_end-itself end.Global = refl
 
 -- ---- numbers of ends
-
-same_number-is : (a b : Option ℕ) → same_number a b ≡ true → (n : ℕ) × (a ≡ Some n) × (b ≡ Some n)
-same_number-is (Some m) (Some n) same = (m, refl, ap Some (sym (eqb-true m n same)))
-same_number-is (Some m) None same = absurd (false≢true same)
-same_number-is None b same = absurd (false≢true same)
-
-pub links-is : (entries : List (End2 × ℕ)) (a b : End2) → links entries a b ≡ true →
-    (n : ℕ) × (end_number entries a ≡ Some n) × (end_number entries b ≡ Some n)
-links-is entries a b linked = same_number-is (end_number entries a) (end_number entries b) linked
-
-pub links-from : (entries : List (End2 × ℕ)) (a b : End2) (n : ℕ) → end_number entries a ≡ Some n → end_number entries b ≡ Some n →
-    links entries a b ≡ true
-links-from entries a b n first second = (λ k. same_number (first k) (second k)) ∙ eq-eqb n n refl
 
 -- an end that has a number is listed with it
 pub end_number-listed : (entries : List (End2 × ℕ)) (e : End2) (n : ℕ) → end_number entries e ≡ Some n → Contains entries (e, n)

@@ -16,9 +16,10 @@ use Rattle.fm_conn.specs.declared.ends.End2.TheVariants as end
 use Rattle.fm_conn.specs.declared.shapes.CallShape.{CallShape}
 use Rattle.fm_conn.specs.declared.shapes.Shape.{Shape}
 use Rattle.fm_conn.proofs.LinkLemmas.{ends_linked}
-use Rattle.fm_summ.proofs.EntryLemmas.{end_number-listed, links-is, listed-renumbered, renumbered-listed}
+use Rattle.fm_conn.proofs.ListedEndLemmas.{links-is}
+use Rattle.fm_summ.proofs.EntryLemmas.{end_number-listed, listed-renumbered, renumbered-listed}
 use Rattle.fm_summ.proofs.JoinLemmas.{joined_by_numbers, joined_one, NodesOf}
-use Rattle.fm_summ.proofs.ListLemmas.{Contains-from_map, Contains-map, Contains-none}
+use Rattle.fm_conn.proofs.ListLemmas.{Contains-from_map, Contains-map, Contains-none}
 use Rattle.fm_summ.proofs.PassLemmas.{become_one, pair_of, PairOf}
 use Rattle.fm_summ.specs.Exact.{no_shape, shape_at}
 use Rattle.fm_summ.specs.inner.Callers.{call_targets}

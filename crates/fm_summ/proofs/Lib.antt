@@ -1,4 +1,3 @@
-pub mod ListLemmas
 pub mod EntryLemmas
 pub mod PassLemmas
 pub mod JoinLemmas

@@ -11,7 +11,7 @@ use Rattle.fm_conn.specs.declared.ends.End2.{End2}
 use Rattle.fm_conn.specs.declared.shapes.CallShape.{CallShape}
 use Rattle.fm_conn.specs.declared.shapes.Shape.{Shape}
 use Rattle.fm_summ.proofs.KeptLemmas.{closed_after, ends_elsewhere, sound_after, targets_after}
-use Rattle.fm_summ.proofs.ListLemmas.{Contains-first, Contains-later, Contains-map, Contains-none}
+use Rattle.fm_conn.proofs.ListLemmas.{Contains-first, Contains-later, Contains-map, Contains-none}
 use Rattle.fm_summ.specs.Exact.{no_shape, shape_at}
 use Rattle.fm_summ.specs.inner.Callers.{call_targets, HasCallers}
 use Rattle.fm_summ.specs.inner.Numbers.{Merges}

@@ -6,7 +6,7 @@ use Rattle.std.proofs.lemmas.List.Kept.{AllPairs-from_increasing}
 use Rattle.std.specs.List.Sorted.{IsStrictlyIncreasing}
 use Rattle.fm_base.specs.Graph.{AreJoined, AreLeastJoined, AreNodes, ArePaired, IsPath}
 use Rattle.fm_conn.proofs.ChainLemmas.{numbers_back, numbers_then}
-use Rattle.fm_summ.proofs.ListLemmas.{Contains-from_map, Contains-map}
+use Rattle.fm_conn.proofs.ListLemmas.{Contains-from_map, Contains-map}
 use Rattle.fm_summ.specs.inner.Numbers.{Merges, named, number_in}
 
 -- ---- places

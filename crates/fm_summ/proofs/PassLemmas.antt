@@ -1,75 +1,20 @@
 -- The pairs that calls make: what each stands for, and that all linked ends become one.
-use Rattle.std.proofs.Common.{◌≡◌, ℕ, ◌⊎◌, ◌+◌, ◌<◌, Bool, true, false, cond, eqb, List, [], ◌∷◌, ◌++◌, length, drop, get_or, append_assoc, Option, Some, None, Contains, refl, ap, sym, ◌∙◌, subst, inl, inr, ⊎_elim, arith, eq-eqb, eqb-true}
-use Rattle.std.proofs.lemmas.Bool.{false≢true}
+use Rattle.std.proofs.Common.{◌≡◌, ℕ, ◌⊎◌, ◌+◌, ◌<◌, Bool, true, false, cond, eqb, List, [], ◌∷◌, ◌++◌, length, drop, get_or, append_assoc, Contains, refl, ap, sym, ◌∙◌, subst, inl, inr, ⊎_elim, arith, eqb-true}
 use Rattle.std.proofs.lemmas.List.Elements.{Contains-append_left, Contains-append_right, Contains-append_cases}
 use Rattle.std.proofs.lemmas.List.{drop_more}
 use Rattle.std.specs.Global.{Vec}
 use Rattle.fm_base.proofs.ContainsFacts.{Contains-cons_cases}
 use Rattle.fm_base.specs.declared.ids.MethodId.{MethodId}
 use Rattle.fm_world.specs.Programs.{targets, Program}
-use Rattle.fm_conn.specs.Summaries.{end_number, links}
+use Rattle.fm_conn.specs.Summaries.{links}
 use Rattle.fm_conn.specs.declared.ends.End2.{End2}
 use Rattle.fm_conn.specs.declared.shapes.CallShape.{CallShape}
 use Rattle.fm_conn.specs.declared.shapes.Shape.{Shape}
-use Rattle.fm_summ.proofs.EntryLemmas.{links-from, links-is}
-use Rattle.fm_summ.proofs.ListLemmas.{Contains-first, Contains-flat_map, Contains-from_flat_map, Contains-later, Contains-none, Contains-one}
+use Rattle.fm_conn.proofs.ListedEndLemmas.{first_with-one, first_with-there, links-from, links-is, numbered-from, numbered-of}
+use Rattle.fm_conn.proofs.ListLemmas.{Contains-first, Contains-flat_map, Contains-from_flat_map, Contains-later, Contains-none, Contains-one}
 use Rattle.fm_summ.specs.inner.Callers.{call_targets, numbers_of, targets_at}
-use Rattle.fm_summ.specs.inner.Passed.{call_pairs, ends_at, first_with, method_pairs, pair_unless_same, stand_ins, stand_pairs, target_pairs, with_number}
-
--- ---- what stands for ends
-
-with_number-has : (o : Option ℕ) (x m n : ℕ) → Contains (with_number o x) (m, n) → (o ≡ Some m) × (n ≡ x)
-with_number-has None x m n found = absurd (Contains-none (m, n) found)
-with_number-has (Some k) x m n found =
-    let same : (m, n) ≡ (k, x) = Contains-one (k, x) (m, n) found in
-    (ap (λ (v : ℕ × ℕ). Some v.0) (sym same), ap (λ (v : ℕ × ℕ). v.1) same)
-
-with_number-from : (o : Option ℕ) (x m : ℕ) → o ≡ Some m → Contains (with_number o x) (m, x)
-with_number-from o x m some = subst (λ v. Contains (with_number v x) (m, x)) (sym some) (Contains-first (m, x) [])
-
-pub record StandsIn (entries ends : List (End2 × ℕ)) (m n : ℕ) : Type 0 where
-  pub end : End2
-  pub listed : Contains ends (end, n)
-  pub number : end_number entries end ≡ Some m
-
-stand_in-of : (entries ends : List (End2 × ℕ)) (m n : ℕ) → Contains (stand_ins entries ends) (m, n) → StandsIn entries ends m n
-stand_in-of entries ends m n found =
-    let piece = Contains-from_flat_map (λ (e : End2 × ℕ). with_number (end_number entries e.0) e.1) ends (m, n) found in
-    let entry = piece.0 in
-    let is = with_number-has (end_number entries entry.0) entry.1 m n piece.2 in
-    record { end = entry.0; listed = subst (λ k. Contains ends (entry.0, k)) (sym is.1) piece.1; number = is.0 }
-
-stand_in-from : (entries ends : List (End2 × ℕ)) (e : End2) (m n : ℕ) → Contains ends (e, n) → end_number entries e ≡ Some m →
-    Contains (stand_ins entries ends) (m, n)
-stand_in-from entries ends e m n listed number =
-    Contains-flat_map (λ (x : End2 × ℕ). with_number (end_number entries x.0) x.1) ends (e, n) (m, n) listed
-    (with_number-from (end_number entries e) n m number)
-
--- ---- the first of a number
-
-first_with-there : (all : List (ℕ × ℕ)) (m n otherwise : ℕ) → Contains all (m, n) → Contains all (m, first_with all m otherwise)
-first_with-there [] m n otherwise found = absurd (Contains-none (m, n) found)
-first_with-there (x ∷ xs) m n otherwise found =
-    (elim (eqb x.0 m) as (λ b. eqb x.0 m ≡ b → Contains (x ∷ xs) (m, cond b x.1 (first_with xs m otherwise))) [
-      | true ↦ (λ is. let same : x.0 ≡ m = eqb-true x.0 m is in subst (λ k. Contains (x ∷ xs) (k, x.1)) same (Contains-first x xs))
-      | false ↦ (λ is.
-          ⊎_elim
-          (λ (same : (m, n) ≡ x). absurd (false≢true (sym is ∙ eq-eqb x.0 m (ap (λ (v : ℕ × ℕ). v.0) (sym same)))))
-          (λ later. Contains-later x xs (m, first_with xs m otherwise) (first_with-there xs m n otherwise later))
-          (Contains-cons_cases x xs (m, n) found))
-    ]) refl
-
-first_with-one : (all : List (ℕ × ℕ)) (m n one other : ℕ) → Contains all (m, n) → first_with all m one ≡ first_with all m other
-first_with-one [] m n one other found = absurd (Contains-none (m, n) found)
-first_with-one (x ∷ xs) m n one other found =
-    (elim (eqb x.0 m) as (λ b. eqb x.0 m ≡ b → cond b x.1 (first_with xs m one) ≡ cond b x.1 (first_with xs m other)) [
-      | true ↦ (λ is. refl)
-      | false ↦ (λ is.
-          ⊎_elim
-          (λ (same : (m, n) ≡ x). absurd (false≢true (sym is ∙ eq-eqb x.0 m (ap (λ (v : ℕ × ℕ). v.0) (sym same)))))
-          (λ later. first_with-one xs m n one other later)
-          (Contains-cons_cases x xs (m, n) found))
-    ]) refl
+use Rattle.fm_conn.specs.inner.ListedEnds.{first_with, numbered}
+use Rattle.fm_summ.specs.inner.Passed.{call_pairs, ends_at, method_pairs, pair_unless_same, stand_pairs, target_pairs}
 
 -- ---- pairs
 
@@ -100,15 +45,15 @@ pub record LinkedEnds (entries ends : List (End2 × ℕ)) (m n : ℕ) : Type 0 w
   pub second : Contains ends (other, n)
   pub linked : links entries one other ≡ true
 
-linked_ends : (entries ends : List (End2 × ℕ)) (m n : ℕ) → Contains (stand_pairs (stand_ins entries ends) (stand_ins entries ends)) (m, n) →
+linked_ends : (entries ends : List (End2 × ℕ)) (m n : ℕ) → Contains (stand_pairs (numbered entries ends) (numbered entries ends)) (m, n) →
     LinkedEnds entries ends m n
 linked_ends entries ends m n found =
-    let all = stand_ins entries ends in
+    let all = numbered entries ends in
     let piece = Contains-from_flat_map (λ (x : ℕ × ℕ). pair_unless_same x.1 (first_with all x.0 x.1)) all (m, n) found in
     let x = piece.0 in
     let is = pair_has x.1 (first_with all x.0 x.1) m n piece.2 in
-    let one = stand_in-of entries ends x.0 x.1 piece.1 in
-    let other = stand_in-of entries ends x.0 (first_with all x.0 x.1) (first_with-there all x.0 x.1 x.1 piece.1) in
+    let one = numbered-of entries ends x.0 x.1 piece.1 in
+    let other = numbered-of entries ends x.0 (first_with all x.0 x.1) (first_with-there all x.0 x.1 x.1 piece.1) in
     record {
       one = one.end;
       other = other.end;
@@ -119,13 +64,13 @@ linked_ends entries ends m n found =
 
 -- numbers that stand for linked ends become one
 ends_become_one : (f : ℕ → ℕ) (entries ends : List (End2 × ℕ)) →
-    ((m n : ℕ) → Contains (stand_pairs (stand_ins entries ends) (stand_ins entries ends)) (m, n) → f m ≡ f n) →
+    ((m n : ℕ) → Contains (stand_pairs (numbered entries ends) (numbered entries ends)) (m, n) → f m ≡ f n) →
     (e g : End2) (m n : ℕ) → Contains ends (e, m) → Contains ends (g, n) → links entries e g ≡ true → f m ≡ f n
 ends_become_one f entries ends same e g m n first second linked =
-    let all = stand_ins entries ends in
+    let all = numbered entries ends in
     let number = links-is entries e g linked in
-    let one : Contains all (number.0, m) = stand_in-from entries ends e number.0 m first number.1 in
-    let other : Contains all (number.0, n) = stand_in-from entries ends g number.0 n second number.2 in
+    let one : Contains all (number.0, m) = numbered-from entries ends e number.0 m first number.1 in
+    let other : Contains all (number.0, n) = numbered-from entries ends g number.0 n second number.2 in
     let to_first : (x : ℕ) → Contains all (number.0, x) → f x ≡ f (first_with all number.0 x) = λ x there.
     ⊎_elim (λ (is : x ≡ first_with all number.0 x). ap f is)
     (λ pair. same x (first_with all number.0 x)

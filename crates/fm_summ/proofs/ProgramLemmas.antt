@@ -1,5 +1,5 @@
 -- Programs of class files have what is asked of a program: what uses name is there, and built-in methods have no code.
-use Rattle.std.proofs.Common.{◌≡◌, refl, sym, ◌∙◌, ap, subst, ℕ, ◌+◌, ◌-◌, ◌<◌, ◌≤◌, List, [], ◌∷◌, ◌++◌, length, map, get_or, replicate, Option, Some, None, ⊎_elim, append_assoc, arith}
+use Rattle.std.proofs.Common.{◌≡◌, refl, sym, ◌∙◌, ap, subst, ℕ, ◌+◌, ◌-◌, ◌<◌, ◌≤◌, List, [], ◌∷◌, ◌++◌, length, map, get_or, replicate, Option, None, ⊎_elim, append_assoc, arith}
 use Rattle.std.specs.List.{flat_map, AllByRecursion}
 use Rattle.std.proofs.lemmas.Bool.{cases_lt}
 use Rattle.std.proofs.lemmas.List.{get_or_append_left, get_or-append_right, get_or-replicate, length-replicate}
@@ -15,7 +15,7 @@ use Rattle.fm_rows.specs.Members.{NamesMember}
 use Rattle.fm_world.specs.BuiltIns.{built_in}
 use Rattle.fm_world.specs.Declarations.{declared_from, declared_method, no_method}
 use Rattle.fm_world.specs.Members.{method_at, methods_from, methods_of, OwnedMethod}
-use Rattle.fm_world.specs.Programs.{classes_of, code_at, codes_of, outline_of, program_of, use_of, Outline}
+use Rattle.fm_world.specs.Programs.{classes_of, codes_of, outline_of, program_of, use_of, Outline}
 use Rattle.fm_world.specs.declared.declarations.DeclaredClass.{DeclaredClass}
 use Rattle.fm_world.specs.declared.uses.Use.{Use}
 use Rattle.fm_world.specs.declared.uses.Use.TheVariants as resolved

@@ -15,7 +15,8 @@ use Rattle.fm_conn.specs.Summaries.{end_number, links, linked_by}
 use Rattle.fm_conn.specs.Summaries as told
 use Rattle.fm_conn.specs.declared.ends.End2.{End2}
 use Rattle.fm_conn.specs.declared.shapes.Shape.{Shape}
-use Rattle.fm_summ.proofs.EntryLemmas.{end_number-listed, links-from, number_is}
+use Rattle.fm_conn.proofs.ListedEndLemmas.{links-from}
+use Rattle.fm_summ.proofs.EntryLemmas.{end_number-listed, number_is}
 use Rattle.fm_summ.proofs.JoinLemmas.{joined_one}
 use Rattle.fm_summ.proofs.KeptLemmas.{coded_inside, within}
 use Rattle.fm_summ.specs.Exact.{shape_at, AreExact, HasBareBuiltIns}

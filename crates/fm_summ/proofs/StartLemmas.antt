@@ -19,7 +19,7 @@ use Rattle.fm_conn.specs.declared.shapes.CallShape.{CallShape}
 use Rattle.fm_conn.specs.declared.shapes.Shape.{Shape}
 use Rattle.fm_summ.proofs.BareLemmas.{bare_is}
 use Rattle.fm_summ.proofs.KeptLemmas.{same_calls, tells-renumbered}
-use Rattle.fm_summ.proofs.ListLemmas.{Contains-none}
+use Rattle.fm_conn.proofs.ListLemmas.{Contains-none}
 use Rattle.fm_summ.specs.Exact.{no_shape, shape_at, AreShapesOf, HasBareBuiltIns}
 use Rattle.fm_summ.specs.inner.BuiltIns.{bare_entries}
 use Rattle.fm_summ.specs.inner.Callers.{call_targets, AreCallsIn}

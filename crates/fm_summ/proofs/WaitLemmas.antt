@@ -5,7 +5,7 @@ use Rattle.std.proofs.lemmas.List.{get_or_past, get_or-set_other, get_or-set_sam
 use Rattle.std.proofs.lemmas.List.Elements.{Contains-append_left, Contains-push, Contains-push_cases}
 use Rattle.std.specs.List.{range_with_len}
 use Rattle.fm_base.proofs.ContainsFacts.{Contains-cons_cases}
-use Rattle.fm_summ.proofs.ListLemmas.{Contains-from_range, Contains-range}
+use Rattle.fm_conn.proofs.ListLemmas.{Contains-from_range, Contains-range}
 
 range_next : (a n : ℕ) → range_with_len a (suc n) ≡ range_with_len a n ++ (a + n) ∷ []
 range_next a zero = let e : a ≡ a + 0 = omega arith in ap (λ k. k ∷ []) e

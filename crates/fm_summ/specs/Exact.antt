@@ -13,6 +13,7 @@ use Rattle.fm_conn.specs.declared.summaries.Summaries.{Summaries}
 
 -- ---- shapes
 
+-- that of a method without code
 abbrev pub no_shape : Shape
 no_shape = record { ends = []; calls = [] }
 

@@ -3,76 +3,21 @@
 ghost use Rattle.std.specs.Prelude.{◌≡◌, ◌++◌, ◌<◌, IfOk, OnOk, length, map};
 ghost use Rattle.std.specs.List.{flat_map, slice_index_or};
 ghost use Rattle.fm_base.specs.declared.ids.MethodId.{MethodId};
-ghost use Rattle.fm_conn.specs.Summaries.{end_number, is_same_end};
 ghost use Rattle.fm_summ.specs.Exact.{shape_at};
 ghost use Rattle.fm_summ.specs.inner.Callers.{numbers_of, targets_at};
-ghost use Rattle.fm_summ.specs.inner.Passed.{call_pairs, ends_at, first_with, method_pairs, stand_ins, stand_pairs, target_pairs};
+ghost use Rattle.fm_summ.specs.inner.Passed.{call_pairs, ends_at, method_pairs, stand_pairs, target_pairs};
 
 use fm_base::{MethodId, NoMemory};
-use fm_conn::{CallShape, End2, Shape};
+use fm_conn::{CallShape, End2, Shape, first_with, numbered};
 use std::alloc::Global;
 
-// Whether both are one end.
-fn is_same_end(a: End2, b: End2) -> bool
-    ensures { result ≡ is_same_end a b }
-{
-    match (a, b) {
-        (End2::Parameter(k), End2::Parameter(l)) => k == l,
-        (End2::Return, End2::Return) => true,
-        (End2::Global, End2::Global) => true,
-        _ => false,
-    }
-}
-
-// The number of an end.
-fn end_number(ends: &[(End2, u32)], wanted: End2) -> Option<u32>
-    ensures { result ≡ end_number ends.now wanted }
-{
-    for entry in ends {
-        if is_same_end(entry.0, wanted) {
-            return Some(entry.1);
-        }
-    }
-    None
-}
-
-// For each end of a call that the method which is called lists, its number there, and the number of
-// what stands for it.
-fn stand_ins(
-    alloc: Global,
-    entries: &[(End2, u32)],
-    ends: &[(End2, u32)],
-) -> Result<Vec<(u32, u32)>, NoMemory>
-    ensures { IfOk result (λ found. found.items ≡ stand_ins entries.now ends.now) }
-{
-    let mut found = Vec::new(alloc);
-    for end in ends {
-        if let Some(number) = end_number(entries, end.0) {
-            found.push((number, end.1))?;
-        }
-    }
-    Ok(found)
-}
-
-// What stands for the first end of this number.
-fn first_with(stand_ins: &[(u32, u32)], number: u32, otherwise: u32) -> u32
-    ensures { result ≡ first_with stand_ins.now number otherwise }
-{
-    for entry in stand_ins {
-        if entry.0 == number {
-            return entry.1;
-        }
-    }
-    otherwise
-}
-
 // Pairs what stands for each end with what stands for the first one of its number, where they differ.
-fn push_stand_ins(pairs: &mut Vec<(u32, u32)>, stand_ins: &[(u32, u32)]) -> Result<(), NoMemory>
+fn push_first_pairs(pairs: &mut Vec<(u32, u32)>, found: &[(u32, u32)]) -> Result<(), NoMemory>
     ensures { OnOk result
-        (pairs.new.items ≡ pairs.old.items ++ stand_pairs stand_ins.now stand_ins.now) }
+        (pairs.new.items ≡ pairs.old.items ++ stand_pairs found.now found.now) }
 {
-    for entry in stand_ins {
-        let first = first_with(stand_ins, entry.0, entry.1);
+    for entry in found {
+        let first = first_with(found, entry.0, entry.1);
         if entry.1 != first {
             pairs.push((entry.1, first))?;
         }
@@ -101,8 +46,8 @@ fn push_target(
     ensures { OnOk result (pairs.new.items
         ≡ pairs.old.items ++ target_pairs shapes.now ends.now target.0) }
 {
-    let found = stand_ins(alloc, ends_of(shapes, target), ends)?;
-    push_stand_ins(pairs, found.as_slice())
+    let found = numbered(alloc, ends_of(shapes, target), ends)?;
+    push_first_pairs(pairs, found.as_slice())
 }
 
 // The pairs of a call by each of them.

@@ -21,13 +21,14 @@ use Rattle.fm_conn.specs.Nodes.{TypedMethod}
 use Rattle.fm_conn.specs.Pairs.{call_of, use_at}
 use Rattle.fm_conn.specs.Rows.{is_reference_kind, joined_by, Place, Taken, Given, InLocal, AsResult, Outside, words_taken}
 use Rattle.fm_conn.specs.Shapes.{HasUsesIn}
-use Rattle.fm_conn.specs.Summaries.{ends_at, links}
+use Rattle.fm_conn.specs.Summaries.{ends_at}
 use Rattle.fm_conn.specs.declared.ends.End2.{End2}
 use Rattle.fm_conn.specs.declared.ends.End2.TheVariants as end
 use Rattle.fm_conn.specs.declared.item_nodes.ItemNodes.{ItemNodes}
 use Rattle.fm_conn.specs.declared.method.Method.{Method}
 use Rattle.fm_conn.specs.declared.shapes.CallShape.{CallShape}
 use Rattle.fm_conn.specs.declared.summaries.Summaries.{Summaries}
+use Rattle.fm_conn.specs.inner.ListedEnds.{first_with, numbered}
 use Rattle.fm_conn.specs.inner.NodeTables.{class_at, global_number, local_number, NodeTable, return_number, slot_number, table_of}
 
 -- the method that is asked, as definitions see it
@@ -136,14 +137,12 @@ stand_ins t x =
     ++ end_entry end.Return (place_number t x (Given 0))
     ++ (end.Global, global_number t) ∷ []
 
--- the first of them that is linked with an end
-abbrev pub first_linked : List (End2 × ℕ) → List (End2 × ℕ) → End2 → Option ℕ
-first_linked entries [] e = None
-first_linked entries (x ∷ xs) e = if links entries x.0 e then Some x.1 else first_linked entries xs e
+-- each with the first one that has its number, and so is linked with it
+abbrev pub first_pairs : List (ℕ × ℕ) → List (ℕ × ℕ) → List (ℕ × ℕ)
+first_pairs all found = map (λ x. (x.1, first_with all x.0 x.1)) found
 
--- each with the first one that is linked with it
 abbrev pub link_pairs : List (End2 × ℕ) → List (End2 × ℕ) → List (ℕ × ℕ)
-link_pairs ends entries = flat_map (λ x. number_pair (Some x.1) (first_linked entries ends x.0)) ends
+link_pairs ends entries = let found = numbered entries ends in first_pairs found found
 
 unfoldable pub pairs_of_targets : Summaries → List (End2 × ℕ) → List ℕ → List (ℕ × ℕ)
 pairs_of_targets s ends called = flat_map (λ target. link_pairs ends (ends_at s target)) called

@@ -1,7 +1,7 @@
 -- What is passed on from the methods that are called to those that call them.
-use Rattle.std.specs.Prelude.{◌≡◌, ◌==◌, ◌<◌, not, ℕ, Bool, true, false, List, [], ◌∷◌, ◌++◌, map, sum_by, Option, Some, None, slice_set, if◌then◌else◌}
+use Rattle.std.specs.Prelude.{◌≡◌, ◌==◌, ◌<◌, not, ℕ, Bool, true, false, List, [], ◌∷◌, ◌++◌, map, sum_by, slice_set, if◌then◌else◌}
 use Rattle.std.specs.List.{flat_map, list_any}
-use Rattle.fm_conn.specs.Summaries.{end_number}
+use Rattle.fm_conn.specs.inner.ListedEnds.{first_with, numbered}
 use Rattle.fm_conn.specs.declared.ends.End2.{End2}
 use Rattle.fm_conn.specs.declared.shapes.CallShape.{CallShape}
 use Rattle.fm_conn.specs.declared.shapes.Shape.{Shape}
@@ -13,19 +13,6 @@ use Rattle.fm_summ.specs.inner.Numbers.{Merges}
 abbrev pub ends_at : List Shape → ℕ → List (End2 × ℕ)
 ends_at shapes method = (shape_at shapes method).ends
 
-abbrev pub with_number : Option ℕ → ℕ → List (ℕ × ℕ)
-with_number None x = []
-with_number (Some n) x = (n, x) ∷ []
-
--- for each end that the callee lists, its number there, and the number of what stands for it
-abbrev pub stand_ins : List (End2 × ℕ) → List (End2 × ℕ) → List (ℕ × ℕ)
-stand_ins entries ends = flat_map (λ e. with_number (end_number entries e.0) e.1) ends
-
--- what stands for the first end of this number
-abbrev pub first_with : List (ℕ × ℕ) → ℕ → ℕ → ℕ
-first_with [] n otherwise = otherwise
-first_with (x ∷ xs) n otherwise = if x.0 == n then x.1 else first_with xs n otherwise
-
 abbrev pub pair_unless_same : ℕ → ℕ → List (ℕ × ℕ)
 pair_unless_same x first = if x == first then [] else (x, first) ∷ []
 
@@ -34,7 +21,7 @@ stand_pairs all found = flat_map (λ x. pair_unless_same x.1 (first_with all x.0
 
 abbrev pub target_pairs : List Shape → List (End2 × ℕ) → ℕ → List (ℕ × ℕ)
 target_pairs shapes ends target =
-    let found = stand_ins (ends_at shapes target) ends in stand_pairs found found
+    let found = numbered (ends_at shapes target) ends in stand_pairs found found
 
 abbrev pub call_pairs : List Shape → List ℕ → CallShape → List (ℕ × ℕ)
 call_pairs shapes called c = flat_map (target_pairs shapes c.ends) called
