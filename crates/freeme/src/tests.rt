@@ -2,6 +2,7 @@
 
 mod changes;
 mod checking;
+mod family;
 mod lengths;
 mod linking;
 mod malformed;

@@ -18,8 +18,8 @@ pub type LongChange = (
     &'static [u8],
 );
 
-// The bytes after such a change, or None where the old bytes don't stand there once.
-fn changed(
+/// The bytes after such a change, or None where the old bytes don't stand there once.
+pub fn changed(
     alloc: Global,
     bytes: &[u8],
     old: &[u8],

@@ -28,33 +28,79 @@ const UNTYPED: [Row; 3] = [
     ),
 ];
 
-// Other code of the main of M, from its attribute's length on, and the status and the line that then come.
+// What is told of a main that isn't typed, of typed classes, and of one that makes objects.
+const UNTYPED_MAIN: &str = "refused: check M.main([Ljava/lang/String;)V\n";
+
+const NO_SITES: &str = "M: 0 sites, 0 frees\nR: 0 sites, 0 frees\n";
+
+const NOT_YET: &str = "refused: not-yet M.class\n";
+
+// Other code of the main of M, from its attribute's length to its exception table, and the status and the line that then
+// come.
 type CodeRow = (&'static [u8], u8, &'static str);
 
-const CODES: [CodeRow; 4] = [
+const CODES: [CodeRow; 11] = [
     // iconst_1; astore_0; return
     (
-        b"\0\0\0\x0f\0\x01\0\x01\0\0\0\x03\x04\x4b\xb1",
+        b"\0\0\0\x0f\0\x01\0\x01\0\0\0\x03\x04\x4b\xb1\0\0",
         71,
-        "refused: check M.main([Ljava/lang/String;)V\n",
+        UNTYPED_MAIN,
     ),
     // aload_0; ifnull L; iconst_0; L: return, at two depths of the stack
     (
-        b"\0\0\0\x12\0\x01\0\x01\0\0\0\x06\x2a\xc6\0\x04\x03\xb1",
+        b"\0\0\0\x12\0\x01\0\x01\0\0\0\x06\x2a\xc6\0\x04\x03\xb1\0\0",
         71,
-        "refused: check M.main([Ljava/lang/String;)V\n",
+        UNTYPED_MAIN,
     ),
     // new Object; iadd; return: an object is made too, which isn't built yet
     (
-        b"\0\0\0\x11\0\x01\0\x01\0\0\0\x05\xbb\0\x04\x60\xb1",
+        b"\0\0\0\x11\0\x01\0\x01\0\0\0\x05\xbb\0\x04\x60\xb1\0\0",
         71,
-        "refused: check M.main([Ljava/lang/String;)V\n",
+        UNTYPED_MAIN,
+    ),
+    // aconst_null; L: pop; new Object; goto L: the object stays on the stack at its new
+    (
+        b"\0\0\0\x14\0\x01\0\x01\0\0\0\x08\x01\x57\xbb\0\x04\xa7\xff\xfc\0\0",
+        71,
+        UNTYPED_MAIN,
+    ),
+    // L: iconst_0; istore_0; goto L: an int doesn't fit the parameter at the first instruction
+    (
+        b"\0\0\0\x11\0\x01\0\x01\0\0\0\x05\x03\x3b\xa7\xff\xfe\0\0",
+        71,
+        UNTYPED_MAIN,
+    ),
+    // return; nop; athrow, which catches an Object that the return throws
+    (
+        b"\0\0\0\x17\0\x01\0\x01\0\0\0\x03\xb1\0\xbf\0\x01\0\0\0\x01\0\x02\0\x04",
+        71,
+        UNTYPED_MAIN,
+    ),
+    // the same of the nop, which isn't reached
+    (
+        b"\0\0\0\x17\0\x01\0\x01\0\0\0\x03\xb1\0\xbf\0\x01\0\x01\0\x02\0\x02\0\x04",
+        0,
+        NO_SITES,
+    ),
+    // L: aconst_null; astore_0; goto L: null fits the parameter
+    (
+        b"\0\0\0\x11\0\x01\0\x01\0\0\0\x05\x01\x4b\xa7\xff\xfe\0\0",
+        0,
+        NO_SITES,
     ),
     // return; iadd, which isn't reached
+    (b"\0\0\0\x0e\0\0\0\x01\0\0\0\x02\xb1\x60\0\0", 0, NO_SITES),
+    // L: new Object; astore_1; goto L: the copy in the local is forgotten at the new
     (
-        b"\0\0\0\x0e\0\0\0\x01\0\0\0\x02\xb1\x60",
-        0,
-        "M: 0 sites, 0 frees\nR: 0 sites, 0 frees\n",
+        b"\0\0\0\x13\0\x01\0\x02\0\0\0\x07\xbb\0\x04\x4c\xa7\xff\xfc\0\0",
+        77,
+        NOT_YET,
+    ),
+    // new int[1] is dropped; switch (0), to the return
+    (
+        b"\0\0\0\x25\0\x01\0\x01\0\0\0\x19\x04\xbc\x0a\x57\x03\xaa\0\0\0\0\0\x13\0\0\0\0\0\0\0\0\0\0\0\x13\xb1\0\0",
+        77,
+        NOT_YET,
     ),
 ];
 
@@ -93,7 +139,7 @@ fn first_other(alloc: Global) -> Result<Option<usize>, NoMemory> {
 
 // The place of the first code that isn't answered so.
 fn first_other_code(alloc: Global) -> Result<Option<usize>, NoMemory> {
-    let old = b"\0\0\0\x0d\0\0\0\x01\0\0\0\x01\xb1";
+    let old = b"\0\0\0\x0d\0\0\0\x01\0\0\0\x01\xb1\0\0";
     for (place, (code, status, line)) in CODES.iter().enumerate() {
         if !is_change_answered(alloc, M, (old, *code), *status, line)? {
             return Ok(Some(place));
