@@ -9,3 +9,5 @@ pub mod Rows
 pub mod FramesStand
 pub mod ReturnsStand
 pub mod CallsStand
+pub mod Counts
+pub mod ActsKeep

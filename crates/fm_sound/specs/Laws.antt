@@ -1,23 +1,27 @@
 -- The laws that the functions of `laws` prove.
-use Rattle.std.specs.Prelude.{◌≡◌, ℕ, false, true, List, ◌∷◌, ◌++◌, drop, take, reverse, Option, Some}
+use Rattle.std.specs.Prelude.{◌≡◌, ℕ, ◌^◌, ◌<◌, false, true, List, [], ◌∷◌, ◌++◌, drop, take, reverse, Option, Some}
 use Rattle.std.specs.List.{AllByRecursion}
 use Rattle.fm_base.specs.declared.kinds.TypeRef.{TypeRef}
+use Rattle.fm_cells.specs.Choices.{lawful}
 use Rattle.fm_code.specs.declared.instructions.Insn.{Insn}
 use Rattle.fm_types.specs.Fits.{AreTree}
 use Rattle.fm_types.specs.Named.{result_words}
 use Rattle.fm_types.specs.Rows.{row_after}
 use Rattle.fm_types.specs.States.{is_whole, state_fits, TypeState}
+use Rattle.fm_world.specs.Members.{size_of}
 use Rattle.fm_world.specs.Programs.{Outline, Program}
+use Rattle.fm_frames.specs.Acts.{Choose, Did, FullAt, LostAt, performed, Performed}
 use Rattle.fm_world.specs.declared.uses.Use.{Use}
-use Rattle.fm_frames.specs.Effects.{Effect}
+use Rattle.fm_frames.specs.Effects.{Action, Effect}
 use Rattle.fm_frames.specs.Rows.{effect_of}
 use Rattle.fm_frames.specs.Sights.{Sight}
 use Rattle.fm_frames.specs.States.{Areas, Frame, State}
 use Rattle.fm_frames.specs.Steps.{caught, continued, InFrames, new_frame, returned, start_frames}
 use Rattle.fm_frames.specs.declared.values.Value.{Value}
+use Rattle.fm_sound.specs.Acting.{ActsFit}
 use Rattle.fm_sound.specs.Going.{ConstructorsGiveNothing, IsCalled, IsGoingOn, StandsAtRow, StartsClass}
 use Rattle.fm_sound.specs.Leading.{is_call, is_lookup, LeadsAs, NamesField, sources_of}
-use Rattle.fm_sound.specs.Sound.{AreTyped, FrameHasKinds, HaveKinds, IsReference, Stand, StandBelow, StandsWithout, static_slots, Typings}
+use Rattle.fm_sound.specs.Sound.{AreasAreSound, AreTyped, FrameHasKinds, HaveKinds, IsReference, Stand, StandBelow, StandsWithout, static_slots, Typings}
 
 -- ---- kinds
 
@@ -81,3 +85,17 @@ StartingKeepsFrames =
     (p : Program) (typings : Typings) → AreTyped p typings
     → (methods : List ℕ) → AllByRecursion (StartsClass p) methods → (f : Frame) (callers : List Frame) → Stand p typings (f ∷ callers)
     → Stand p typings (start_frames p methods ++ f ∷ callers)
+
+-- ---- areas
+
+-- what the frames share is sound, where all actions were done and where the store was full
+abbrev pub LeavesSound : Outline → Performed → Type 0
+LeavesSound o (Did x made) = AreasAreSound o x
+LeavesSound o (FullAt x needed) = AreasAreSound o x
+LeavesSound o (LostAt v) = Unit {0}
+
+-- Actions that fit keep what the frames share sound, at each choice of a memory that reuses cells in any way, and whatever is freed.
+abbrev pub ActionsKeepAreas : Type 0
+ActionsKeepAreas =
+    (o : Outline) → ((class : ℕ) → size_of o.classes class < 2 ^ 31) → (choose : Choose) (f : Frame) (x : Areas) (actions : List Action)
+    → AreasAreSound o x → ActsFit o x.store f [] actions → LeavesSound o (performed o (lawful choose) f.locals f.stack actions x [])

@@ -1,4 +1,5 @@
 pub mod Sound
 pub mod Leading
 pub mod Going
+pub mod Acting
 pub mod Laws

@@ -25,3 +25,9 @@ pub fn law_frames()
     ensures calling { law.CallingKeepsFrames }
     ensures starting { law.StartingKeepsFrames }
 {}
+
+/// Actions that put values where their kinds stand, and make objects of types of which objects are made,
+/// keep what the frames share sound, on memory that reuses cells in any way and whatever is freed.
+pub fn law_areas()
+    ensures { law.ActionsKeepAreas }
+{}
