@@ -20,7 +20,7 @@ use Rattle.fm_frames.specs.Steps.{caught, continued, InFrames, new_frame, return
 use Rattle.fm_frames.specs.declared.values.Value.{Value}
 use Rattle.fm_sound.specs.Acting.{ActsFit}
 use Rattle.fm_sound.specs.Going.{ConstructorsGiveNothing, IsCalled, IsGoingOn, StandsAtRow, StartsClass}
-use Rattle.fm_sound.specs.Leading.{is_call, is_lookup, LeadsAs, NamesField, sources_of}
+use Rattle.fm_sound.specs.Leading.{is_call, LeadsAs, NamesField, sources_of}
 use Rattle.fm_sound.specs.Sound.{AreasAreSound, AreTyped, FrameHasKinds, HaveKinds, IsReference, Stand, StandBelow, StandsWithout, static_slots, Typings}
 
 -- ---- kinds
@@ -33,12 +33,12 @@ FitsKeepsKinds =
 
 -- ---- effects
 
--- The effect of an instruction that is neither a call nor a switch by keys leads where the checker's row leads, whatever is seen of the operands: the
--- frame that goes on has the kinds of the state after it, a result has its kind, and what is thrown is a reference.
+-- The effect of an instruction that is no call leads where the checker's row leads, whatever is seen of the operands: the frame that goes on has the
+-- kinds of the state after it, a result has its kind, and what is thrown is a reference.
 abbrev pub EffectsLead : Type 0
 EffectsLead =
     (o : Outline) (s after : TypeState) (f : Frame) (i : Insn) (u : Use) (news : ℕ → Option TypeRef) (byte : Option ℕ) (sights : List Sight)
-    → FrameHasKinds s f.locals f.stack → is_whole s.stack ≡ true → NamesField o u i → is_call i ≡ false → is_lookup i ≡ false
+    → FrameHasKinds s f.locals f.stack → is_whole s.stack ≡ true → NamesField o u i → is_call i ≡ false
     → row_after o f.method f.item news u i s ≡ Some after
     → LeadsAs o i after f (effect_of o f.method u i byte sights) (effect_of o f.method u i byte sights).next
 

@@ -8,7 +8,7 @@ pub fn law_kinds()
     ensures { law.FitsKeepsKinds }
 {}
 
-/// The effect of each instruction but calls and switches by keys leads where the checker's row leads:
+/// The effect of each instruction but calls leads where the checker's row leads:
 /// the frame that goes on has the kinds of the state after it, a result has the kind of the method's
 /// result, and what is thrown is a reference.
 pub fn law_effects()
