@@ -1,5 +1,5 @@
 -- The laws that the functions of `laws` prove.
-use Rattle.std.specs.Prelude.{◌≡◌, ℕ, ◌^◌, ◌<◌, false, true, List, [], ◌∷◌, ◌++◌, drop, take, reverse, Option, Some}
+use Rattle.std.specs.Prelude.{◌≡◌, ℕ, ◌^◌, ◌<◌, false, true, List, [], ◌∷◌, ◌++◌, drop, length, take, reverse, Option, Some}
 use Rattle.std.specs.List.{AllByRecursion}
 use Rattle.fm_base.specs.declared.kinds.TypeRef.{TypeRef}
 use Rattle.fm_cells.specs.Choices.{lawful}
@@ -13,12 +13,15 @@ use Rattle.fm_world.specs.Programs.{Outline, Program}
 use Rattle.fm_frames.specs.Acts.{Choose, Did, FullAt, LostAt, performed, Performed}
 use Rattle.fm_world.specs.declared.uses.Use.{Use}
 use Rattle.fm_frames.specs.Effects.{Action, Effect}
+use Rattle.fm_frames.specs.NativeRows.{native_effect}
+use Rattle.fm_frames.specs.Natives.{Native}
 use Rattle.fm_frames.specs.Rows.{effect_of}
 use Rattle.fm_frames.specs.Sights.{Sight}
 use Rattle.fm_frames.specs.States.{Areas, Frame, State}
 use Rattle.fm_frames.specs.Steps.{caught, continued, InFrames, new_frame, returned, start_frames}
 use Rattle.fm_frames.specs.declared.values.Value.{Value}
 use Rattle.fm_sound.specs.Acting.{ActsFit}
+use Rattle.fm_sound.specs.BuiltIns.{native_slots, NativeLeads}
 use Rattle.fm_sound.specs.Going.{ConstructorsGiveNothing, IsCalled, IsGoingOn, StandsAtRow, StartsClass}
 use Rattle.fm_sound.specs.Leading.{is_call, LeadsAs, NamesField, sources_of}
 use Rattle.fm_sound.specs.Sound.{AreasAreSound, AreTyped, FrameHasKinds, HaveKinds, IsReference, Stand, StandBelow, StandsWithout, static_slots, Typings}
@@ -41,6 +44,14 @@ EffectsLead =
     → FrameHasKinds s f.locals f.stack → is_whole s.stack ≡ true → NamesField o u i → is_call i ≡ false
     → row_after o f.method f.item news u i s ≡ Some after
     → LeadsAs o i after f (effect_of o f.method u i byte sights) (effect_of o f.method u i byte sights).next
+
+-- The effect of a built-in method takes the words that its row has, where the stack has them, and gives its result; or it throws a reference, or the run
+-- ends.
+abbrev pub BuiltInsLead : Type 0
+BuiltInsLead =
+    (o : Outline) (f : Frame) (row : Native) (byte : Option ℕ) (sights : List Sight)
+    → HaveKinds (native_slots row) (take (length (native_slots row)) f.stack)
+    → NativeLeads o f row (native_effect o row byte sights) (native_effect o row byte sights).next
 
 -- ---- frames
 

@@ -10,9 +10,11 @@ pub fn law_kinds()
 
 /// The effect of each instruction but calls leads where the checker's row leads:
 /// the frame that goes on has the kinds of the state after it, a result has the kind of the method's
-/// result, and what is thrown is a reference.
+/// result, and what is thrown is a reference. The effects of built-in methods take the words that they
+/// have and give their results.
 pub fn law_effects()
-    ensures { law.EffectsLead }
+    ensures instructions { law.EffectsLead }
+    ensures built_ins { law.BuiltInsLead }
 {}
 
 /// Frames stand where the checker knows what they have: where the frame on top goes on to the next item
