@@ -1,12 +1,10 @@
 -- The frame of a method that is called, or that starts a class, stands at its first item, and the frame below it stands without the words of the call.
-use Rattle.std.proofs.Common.{◌≡◌, ℕ, zero, suc, ◌+◌, ◌-◌, ◌⊎◌, Bool, true, false, cond, List, [], ◌∷◌, ◌++◌, length, drop, take, map, replicate, reverse, Option, Some, None, option_and_then, refl, sym, ◌∙◌, ap, subst, inl, inr, arith}
+use Rattle.std.proofs.Common.{◌≡◌, ℕ, zero, suc, ◌+◌, ◌-◌, Bool, true, false, cond, List, [], ◌∷◌, ◌++◌, length, drop, take, replicate, reverse, Option, Some, None, option_and_then, refl, sym, ◌∙◌, ap, subst, inl, inr, arith}
 use Rattle.std.specs.List.{AllByRecursion, flat_map}
-use Rattle.std.specs.Option.{option_map}
 use Rattle.std.proofs.lemmas.Bool.{false≢true}
 use Rattle.std.proofs.lemmas.List.{append-nil, length-append, reverse-append, reverse-reverse}
 use Rattle.std.proofs.lemmas.Option.{same_Some}
-use Rattle.fm_base.proofs.OptionFacts.{cond-some_else, cond-some_then, IsSomeAnd-at_some, option_and_then-some, option_map-some}
-use Rattle.fm_base.specs.declared.kinds.Kind.{Kind}
+use Rattle.fm_base.proofs.OptionFacts.{cond-some_else, cond-some_then, option_and_then-some, option_map-some}
 use Rattle.fm_base.specs.declared.kinds.TypeRef.{TypeRef}
 use Rattle.fm_code.specs.AccessFlags.{is_static}
 use Rattle.fm_code.specs.Edges.{insn_of}
@@ -19,7 +17,7 @@ use Rattle.fm_types.specs.CallRows.{constructed, constructor_called, instance_ca
 use Rattle.fm_types.specs.Named.{argument_words, class_of_method, parameters_of, result_words}
 use Rattle.fm_types.specs.Rows.{row_after}
 use Rattle.fm_types.specs.States.{is_reference, is_whole, local_slots, taken, TypeState, worked}
-use Rattle.fm_types.specs.Typed.{entry_slots, entry_state, IsTyping, IsTypingOf, receiver_slots, use_by}
+use Rattle.fm_types.specs.Typed.{entry_slots, entry_state, IsTypingOf, use_by}
 use Rattle.fm_types.specs.declared.slots.Slot.{Slot}
 use Rattle.fm_types.specs.declared.slots.Slot.TheVariants as slot
 use Rattle.fm_world.specs.Descriptors.{parameter_kinds}
@@ -33,10 +31,10 @@ use Rattle.fm_frames.specs.Steps.{max_locals_of, new_frame, start_frames}
 use Rattle.fm_frames.specs.declared.values.Value.{Value}
 use Rattle.fm_frames.specs.declared.values.Value.TheVariants as value
 use Rattle.fm_sound.specs.Going.{is_static_call, IsCalled, StandsAtRow, StartsClass}
-use Rattle.fm_sound.specs.Sound.{AreTyped, Calling, FrameHasKinds, HasKind, HaveKinds, IsReference, LocalHasKind, LocalsHaveKinds, Stand, StandBelow, Starting, StandsWithout, Typings, words_of_call}
+use Rattle.fm_sound.specs.Sound.{AreTyped, FrameHasKinds, HasKind, HaveKinds, IsReference, LocalsHaveKinds, Stand, StandBelow, StandsWithout, Typings, words_of_call}
 use Rattle.fm_sound.proofs.FramesStand.{below_same, typing_of}
 use Rattle.fm_sound.proofs.KindLemmas.{as_local, kinds-append, kinds-drop, taken_rest, taken_words}
-use Rattle.fm_sound.proofs.ReturnsStand.{arguments_count, method_in, row_of_method, taken_drop}
+use Rattle.fm_sound.proofs.ReturnsStand.{arguments_count, method_in, row_of_method}
 
 -- ---- lists
 
@@ -305,24 +303,24 @@ called_stand p typings typed f callers i after h kinds below target words call =
           (entry_kinds p.outline call.named target words (is_static_call i) f.stack call.same_descriptor call.no_receiver takes),
       (
         inl (record {
-              called = i;
-              at = insn_is;
-              named = call.named;
-              names = call.names;
-              same_name = call.same_name;
-              same_descriptor = call.same_descriptor;
-              is_no_start = call.is_no_start;
-              words = words;
-              takes = call.takes;
-              stands = record {
-                code = h.code;
-                code_is = h.code_is;
-                known = h.known;
-                at = h.at;
-                locals = kinds.in_locals;
-                stack = kinds-drop words h.known.stack f.stack kinds.in_stack;
-              };
-            }),
+          called = i;
+          at = insn_is;
+          named = call.named;
+          names = call.names;
+          same_name = call.same_name;
+          same_descriptor = call.same_descriptor;
+          is_no_start = call.is_no_start;
+          words = words;
+          takes = call.takes;
+          stands = record {
+            code = h.code;
+            code_is = h.code_is;
+            known = h.known;
+            at = h.at;
+            locals = kinds.in_locals;
+            stack = kinds-drop words h.known.stack f.stack kinds.in_stack;
+          };
+        }),
         below_same p typings f (record f { stack = drop words f.stack }) callers refl below,
       ),
     )

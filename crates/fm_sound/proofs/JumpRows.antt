@@ -1,7 +1,10 @@
 -- The rows of moves of the stack, jumps, switches, returns and athrow lead where the checker's rows do.
-use Rattle.std.proofs.Common.{◌≡◌, ℕ, ℤ, suc, ◌+◌, ◌<◌, ◌||◌, pos, ◌+ℤ◌, ◌-ℤ◌, int_lt, int_le, unsigned_abs, Bool, true, false, List, [], ◌∷◌, ◌++◌, length, take, cond, codes, Option, Some, None, option_to_list, refl, sym, ◌∙◌, subst, arith}
+use Rattle.std.proofs.Common.{◌≡◌, ◌≤◌, not, nat_lt, ltb-true, position, ℕ, ℤ, suc, ◌+◌, ◌<◌, ◌||◌, pos, ◌+ℤ◌, ◌-ℤ◌, int_lt, int_le, unsigned_abs, Bool, true, false, List, [], ◌∷◌, ◌++◌, length, take, cond, codes, Option, Some, None, option_to_list, refl, sym, ◌∙◌, subst, arith}
 use Rattle.std.proofs.lemmas.Bool.{false≢true}
+use Rattle.std.specs.List.{prefix_len}
+use Rattle.std.specs.Ordering.{int_eq}
 use Rattle.std.proofs.lemmas.Int.{ints}
+use Rattle.std.proofs.lemmas.List.{length-take}
 use Rattle.std.proofs.lemmas.Option.{same_Some}
 use Rattle.fm_base.proofs.OptionFacts.{cond-some_then, option_map-some}
 use Rattle.fm_base.specs.declared.kinds.Kind.{Kind}
@@ -21,7 +24,7 @@ use Rattle.fm_types.specs.States.{is_whole, stack_slots, taken, TypeState, worke
 use Rattle.fm_types.specs.declared.slots.Slot.TheVariants as slot
 use Rattle.fm_world.specs.Programs.{Outline}
 use Rattle.fm_frames.specs.Effects.{Falls, going, Jumps}
-use Rattle.fm_frames.specs.JumpRows.{int_jump_effect, jumps_if, null_jump_effect, pair_jump_effect, return_effect, same_jump_effect, table_effect, table_target, throw_effect}
+use Rattle.fm_frames.specs.JumpRows.{int_jump_effect, jumps_if, null_jump_effect, pair_jump_effect, key_target, lookup_effect, return_effect, same_jump_effect, table_effect, table_target, throw_effect}
 use Rattle.fm_frames.specs.NumberRows.{move_effect}
 use Rattle.fm_frames.specs.Sights.{Sight}
 use Rattle.fm_frames.specs.States.{Frame}
@@ -50,6 +53,18 @@ table_within : (low : ℤ) (count : ℕ) (key : ℤ) → table_target low count 
 table_within low count key =
     table_if (int_lt key low || int_le (low +ℤ pos count) key) (unsigned_abs (key -ℤ low)) count
     (λ e. let parts = or_parts (int_lt key low) (int_le (low +ℤ pos count) key) e in between low count key parts.0 parts.1)
+
+within_if : (b : Bool) (i n : ℕ) → (b ≡ true → i < n) → key_target (cond b (Some i) None) < suc n
+within_if true i n h = let lt : i < n = h refl in omega arith
+within_if false i n h = omega arith
+
+key_within : (keys : List ℤ) (key : ℤ) (n : ℕ) → length keys ≤ n → key_target (position (int_eq key) keys) < suc n
+key_within keys key n le =
+    let i : ℕ = prefix_len (λ other. not (int_eq key other)) keys in
+    within_if (nat_lt i (length keys)) i n (λ e. let lt : i < length keys = ltb-true i (length keys) e in omega arith)
+
+few_keys : (keys : List ℤ) (n : ℕ) → length (take n keys) ≤ n
+few_keys keys n = omega (arith, length-take n keys)
 
 -- ---- results
 
@@ -182,6 +197,17 @@ module _ (o : Outline) (s : TypeState) (f : Frame) (h : FrameHasKinds s f.locals
       (λ key. (
         table_within low (length targets) key,
         worked_leaves o s f h (slot.Int ∷ []) [] after (going 1 (Jumps (table_target low (length targets) key))) row refl refl (λ areas made statics. tt),
+      ))
+
+  pub lookup_leads : (others : ℕ) (keys : List ℤ) (targets : List ℕ) (sights : List Sight) → worked o (slot.Int ∷ []) [] s ≡ Some after
+      → Leads o s f h after (insn.Lookup others keys targets) (lookup_effect keys (length targets) sights)
+  unfolding lookup_effect
+  lookup_leads others keys targets sights row =
+      by_int (Leads o s f h after (insn.Lookup others keys targets)) sights 0 _ tt
+      (λ key. (
+        key_within (take (length targets) keys) key (length targets) (few_keys keys (length targets)),
+        worked_leaves o s f h (slot.Int ∷ []) [] after (going 1 (Jumps (key_target (position (int_eq key) (take (length targets) keys))))) row refl refl
+            (λ areas made statics. tt),
       ))
 
   -- ---- returns and athrow

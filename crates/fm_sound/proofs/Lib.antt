@@ -6,6 +6,9 @@ pub mod JumpRows
 pub mod ObjectRows
 pub mod ArrayRows
 pub mod Rows
+pub mod BuiltInRows
 pub mod FramesStand
 pub mod ReturnsStand
 pub mod CallsStand
+pub mod Counts
+pub mod ActsKeep

@@ -1,7 +1,6 @@
 -- A frame that called another one goes on after its call with the words of the result.
-use Rattle.std.proofs.Common.{◌≡◌, ℕ, zero, suc, ◌+◌, ◌⊎◌, Bool, true, false, cond, List, [], ◌∷◌, ◌++◌, length, drop, take, map, reverse, Option, Some, None, option_and_then, option_to_list, refl, sym, ◌∙◌, ap, subst, slice_get, arith, ⊎_elim}
+use Rattle.std.proofs.Common.{◌≡◌, ℕ, ◌+◌, Bool, true, false, cond, List, [], ◌∷◌, ◌++◌, length, drop, take, Option, Some, None, option_and_then, option_to_list, refl, sym, ◌∙◌, ap, subst, slice_get, ⊎_elim}
 use Rattle.std.specs.List.{AllByRecursion, flat_map, sum_by}
-use Rattle.std.specs.Option.{option_map}
 use Rattle.std.proofs.lemmas.Bool.{false≢true}
 use Rattle.std.proofs.lemmas.List.{length-append, length-reverse}
 use Rattle.std.proofs.lemmas.List.Sums.{sum_by-cons}
@@ -36,7 +35,7 @@ use Rattle.fm_frames.specs.States.{Frame, State}
 use Rattle.fm_frames.specs.Steps.{is_start, returned}
 use Rattle.fm_frames.specs.declared.values.Value.{Value}
 use Rattle.fm_sound.specs.Going.{ConstructorsGiveNothing, StandsAtRow}
-use Rattle.fm_sound.specs.Sound.{AreTyped, Calling, FrameHasKinds, HasKind, HaveKinds, IsReference, LocalHasKind, LocalsHaveKinds, Stand, StandBelow, Starting, StandsWithout, Typings, words_of_call}
+use Rattle.fm_sound.specs.Sound.{AreTyped, Calling, FrameHasKinds, HasKind, HaveKinds, IsReference, LocalHasKind, LocalsHaveKinds, Stand, StandBelow, Starting, Typings, words_of_call}
 use Rattle.fm_sound.proofs.FramesStand.{after_whole, below_same, edge_fits, fits_stands, next_edge, typing_of}
 use Rattle.fm_sound.proofs.KindLemmas.{kinds-append}
 use Rattle.fm_sound.proofs.Leaving.{dropped}

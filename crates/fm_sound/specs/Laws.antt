@@ -1,23 +1,30 @@
 -- The laws that the functions of `laws` prove.
-use Rattle.std.specs.Prelude.{◌≡◌, ℕ, false, true, List, ◌∷◌, ◌++◌, drop, take, reverse, Option, Some}
+use Rattle.std.specs.Prelude.{◌≡◌, ℕ, ◌^◌, ◌<◌, false, true, List, [], ◌∷◌, ◌++◌, drop, length, take, reverse, Option, Some}
 use Rattle.std.specs.List.{AllByRecursion}
 use Rattle.fm_base.specs.declared.kinds.TypeRef.{TypeRef}
+use Rattle.fm_cells.specs.Choices.{lawful}
 use Rattle.fm_code.specs.declared.instructions.Insn.{Insn}
 use Rattle.fm_types.specs.Fits.{AreTree}
 use Rattle.fm_types.specs.Named.{result_words}
 use Rattle.fm_types.specs.Rows.{row_after}
 use Rattle.fm_types.specs.States.{is_whole, state_fits, TypeState}
+use Rattle.fm_world.specs.Members.{size_of}
 use Rattle.fm_world.specs.Programs.{Outline, Program}
+use Rattle.fm_frames.specs.Acts.{Choose, Did, FullAt, LostAt, performed, Performed}
 use Rattle.fm_world.specs.declared.uses.Use.{Use}
-use Rattle.fm_frames.specs.Effects.{Effect}
+use Rattle.fm_frames.specs.Effects.{Action, Effect}
+use Rattle.fm_frames.specs.NativeRows.{native_effect}
+use Rattle.fm_frames.specs.Natives.{Native}
 use Rattle.fm_frames.specs.Rows.{effect_of}
 use Rattle.fm_frames.specs.Sights.{Sight}
 use Rattle.fm_frames.specs.States.{Areas, Frame, State}
 use Rattle.fm_frames.specs.Steps.{caught, continued, InFrames, new_frame, returned, start_frames}
 use Rattle.fm_frames.specs.declared.values.Value.{Value}
+use Rattle.fm_sound.specs.Acting.{ActsFit}
+use Rattle.fm_sound.specs.BuiltIns.{native_slots, NativeLeads}
 use Rattle.fm_sound.specs.Going.{ConstructorsGiveNothing, IsCalled, IsGoingOn, StandsAtRow, StartsClass}
-use Rattle.fm_sound.specs.Leading.{is_call, is_lookup, LeadsAs, NamesField, sources_of}
-use Rattle.fm_sound.specs.Sound.{AreTyped, FrameHasKinds, HaveKinds, IsReference, Stand, StandBelow, StandsWithout, static_slots, Typings}
+use Rattle.fm_sound.specs.Leading.{is_call, LeadsAs, NamesField, sources_of}
+use Rattle.fm_sound.specs.Sound.{AreasAreSound, AreTyped, FrameHasKinds, HaveKinds, IsReference, Stand, StandBelow, StandsWithout, static_slots, Typings}
 
 -- ---- kinds
 
@@ -29,14 +36,22 @@ FitsKeepsKinds =
 
 -- ---- effects
 
--- The effect of an instruction that is neither a call nor a switch by keys leads where the checker's row leads, whatever is seen of the operands: the
--- frame that goes on has the kinds of the state after it, a result has its kind, and what is thrown is a reference.
+-- The effect of an instruction that is no call leads where the checker's row leads, whatever is seen of the operands: the frame that goes on has the
+-- kinds of the state after it, a result has its kind, and what is thrown is a reference.
 abbrev pub EffectsLead : Type 0
 EffectsLead =
     (o : Outline) (s after : TypeState) (f : Frame) (i : Insn) (u : Use) (news : ℕ → Option TypeRef) (byte : Option ℕ) (sights : List Sight)
-    → FrameHasKinds s f.locals f.stack → is_whole s.stack ≡ true → NamesField o u i → is_call i ≡ false → is_lookup i ≡ false
+    → FrameHasKinds s f.locals f.stack → is_whole s.stack ≡ true → NamesField o u i → is_call i ≡ false
     → row_after o f.method f.item news u i s ≡ Some after
     → LeadsAs o i after f (effect_of o f.method u i byte sights) (effect_of o f.method u i byte sights).next
+
+-- The effect of a built-in method takes the words that its row has, where the stack has them, and gives its result; or it throws a reference, or the run
+-- ends.
+abbrev pub BuiltInsLead : Type 0
+BuiltInsLead =
+    (o : Outline) (f : Frame) (row : Native) (byte : Option ℕ) (sights : List Sight)
+    → HaveKinds (native_slots row) (take (length (native_slots row)) f.stack)
+    → NativeLeads o f row (native_effect o row byte sights) (native_effect o row byte sights).next
 
 -- ---- frames
 
@@ -81,3 +96,17 @@ StartingKeepsFrames =
     (p : Program) (typings : Typings) → AreTyped p typings
     → (methods : List ℕ) → AllByRecursion (StartsClass p) methods → (f : Frame) (callers : List Frame) → Stand p typings (f ∷ callers)
     → Stand p typings (start_frames p methods ++ f ∷ callers)
+
+-- ---- areas
+
+-- what the frames share is sound, where all actions were done and where the store was full
+abbrev pub LeavesSound : Outline → Performed → Type 0
+LeavesSound o (Did x made) = AreasAreSound o x
+LeavesSound o (FullAt x needed) = AreasAreSound o x
+LeavesSound o (LostAt v) = Unit {0}
+
+-- Actions that fit keep what the frames share sound, at each choice of a memory that reuses cells in any way, and whatever is freed.
+abbrev pub ActionsKeepAreas : Type 0
+ActionsKeepAreas =
+    (o : Outline) → ((class : ℕ) → size_of o.classes class < 2 ^ 31) → (choose : Choose) (f : Frame) (x : Areas) (actions : List Action)
+    → AreasAreSound o x → ActsFit o x.store f [] actions → LeavesSound o (performed o (lawful choose) f.locals f.stack actions x [])

@@ -58,8 +58,3 @@ is_call (insn.Interface index) = true
 is_call (insn.Special index) = true
 is_call (insn.Static index) = true
 is_call i = false
-
--- whether it is a switch by keys
-abbrev pub is_lookup : Insn → Bool
-is_lookup (insn.Lookup others keys targets) = true
-is_lookup i = false

@@ -1,4 +1,6 @@
 pub mod Sound
 pub mod Leading
+pub mod BuiltIns
 pub mod Going
+pub mod Acting
 pub mod Laws

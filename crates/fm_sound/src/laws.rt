@@ -8,11 +8,13 @@ pub fn law_kinds()
     ensures { law.FitsKeepsKinds }
 {}
 
-/// The effect of each instruction but calls and switches by keys leads where the checker's row leads:
+/// The effect of each instruction but calls leads where the checker's row leads:
 /// the frame that goes on has the kinds of the state after it, a result has the kind of the method's
-/// result, and what is thrown is a reference.
+/// result, and what is thrown is a reference. The effects of built-in methods take the words that they
+/// have and give their results.
 pub fn law_effects()
-    ensures { law.EffectsLead }
+    ensures instructions { law.EffectsLead }
+    ensures built_ins { law.BuiltInsLead }
 {}
 
 /// Frames stand where the checker knows what they have: where the frame on top goes on to the next item
@@ -24,4 +26,10 @@ pub fn law_frames()
     ensures returning { law.ReturningKeepsFrames }
     ensures calling { law.CallingKeepsFrames }
     ensures starting { law.StartingKeepsFrames }
+{}
+
+/// Actions that put values where their kinds stand, and make objects of types of which objects are made,
+/// keep what the frames share sound, on memory that reuses cells in any way and whatever is freed.
+pub fn law_areas()
+    ensures { law.ActionsKeepAreas }
 {}
