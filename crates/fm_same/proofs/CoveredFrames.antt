@@ -1,10 +1,8 @@
 -- While a called method runs, it stays among the targets of its call: the frames after a step are covered where those before it were.
-use Rattle.std.proofs.Common.{◌≡◌, ℕ, ◌+◌, max, nat_lt, length, slice_index_or, Bool, true, false, cond, List, [], ◌∷◌, ◌++◌, reverse, take, Option, Some, None, refl, sym, ◌∙◌, ap, subst}
+use Rattle.std.proofs.Common.{◌≡◌, ℕ, ◌+◌, max, nat_lt, length, slice_index_or, Bool, true, false, cond, List, [], ◌∷◌, ◌++◌, take, Option, Some, None, refl, sym, ◌∙◌, ap, subst}
 use Rattle.std.specs.List.{AllByRecursion}
 use Rattle.std.proofs.lemmas.Bool.{false≢true}
-use Rattle.std.proofs.lemmas.List.{reverse-append}
 use Rattle.std.proofs.lemmas.Option.{same_Some}
-use Rattle.fm_base.proofs.ListFacts.{AllByRecursion-append}
 use Rattle.fm_base.specs.declared.kinds.TypeRef.{TypeRef}
 use Rattle.fm_cells.specs.Stores.{live_words, Store}
 use Rattle.fm_code.specs.Edges.{insn_of}
@@ -57,12 +55,6 @@ module _ (p : Program) (facts : Facts) where
   pub starts_covered : (methods : List ℕ) (rest : List Frame) → AreStarts methods → AreCovered p facts rest → AreCovered p facts (start_frames p methods ++ rest)
   starts_covered [] rest all h = h
   starts_covered (m ∷ methods) rest all h = starts_below (new_frame p m []) methods rest all.0 all.1 h
-
-  starts_reversed : (methods : List ℕ) → AreStarts methods → AreStarts (reverse methods)
-  starts_reversed [] all = tt
-  starts_reversed (m ∷ methods) all =
-      subst AreStarts (sym (reverse-append (m ∷ []) methods))
-      (AllByRecursion-append (λ n. is_start p.outline n ≡ true) (reverse methods) (m ∷ []) (starts_reversed methods all.1) (all.0, tt))
 
   -- ---- exceptions
 
@@ -119,7 +111,7 @@ module _ (p : Program) (facts : Facts) where
     next_covered (Throws s) ends =
         thrown (caught p (type_at p.outline x.areas.store (value_of from s)) (value_of from s) (f ∷ callers))
         (λ next is. caught_covered (type_at p.outline x.areas.store (value_of from s)) (value_of from s) (f ∷ callers) next covered is)
-    next_covered (Enters methods) ends = starts_covered (reverse methods) (f ∷ callers) (starts_reversed methods ends) covered
+    next_covered (Enters methods) ends = starts_covered methods (f ∷ callers) ends covered
     next_covered (Exits n) ends = stays
     next_covered (Faults s) ends = stays
 

@@ -33,4 +33,7 @@ pub mod ProgramNumbers
 pub mod CoveredFrames
 pub mod SoundFrames
 pub mod FullTargets
+pub mod KindsAgree
+pub mod PlaceRows
+pub mod PlacesSound
 pub mod RegionsDie

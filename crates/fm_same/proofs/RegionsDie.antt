@@ -23,6 +23,7 @@ use Rattle.fm_same.specs.Standing.{Stand}
 use Rattle.fm_same.specs.Targets.{AreCovered, Covers}
 use Rattle.fm_same.proofs.CallsCovered.{state_covers}
 use Rattle.fm_same.proofs.CoveredFrames.{step_covered}
+use Rattle.fm_same.proofs.PlacesSound.{places_agree}
 use Rattle.fm_same.proofs.SoundFrames.{stand_soundly}
 use Rattle.fm_same.proofs.ProgramNumbers.{holds_numbers}
 use Rattle.fm_same.proofs.CapturedClasses.{captured_holds}
@@ -49,11 +50,11 @@ module _ (p : Program) (facts : Facts) (exact : AreFacts p facts) (ready : IsRes
   numbers = holds_numbers p ready
 
   stand_by : (k : ℕ) → AreCovered p facts (xs k).frames → Stand p facts (xs k).frames
-  stand_by k covered = stand_soundly p facts exact ready (xs k).frames (run.sound k).frames covered
+  stand_by k covered = stand_soundly p facts exact ready (xs k).frames (run k).frames covered
 
   owes_by : (k : ℕ) → Stand p facts (xs k).frames → OwesAt p facts (xs k).areas.store (next_effect p (xs k)) (xs k).frames
   owes_by k stand =
-      state_owes p facts exact numbers (xs k) stand (state_covers p facts exact ready no_free (xs k) stand (covers k) (run.places k))
+      state_owes p facts exact numbers (xs k) stand (state_covers p facts exact ready no_free (xs k) stand (covers k) (places_agree p facts ready (xs k) stand))
 
   -- called methods stay among the targets
   covered_at : (k : ℕ) → AreCovered p facts (xs k).frames

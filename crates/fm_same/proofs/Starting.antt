@@ -33,7 +33,7 @@ use Rattle.fm_same.proofs.TargetMethods.{own_method_found}
 
 -- ---- lists
 
-all_joined : (P : Action → Type 0) (xs ys : List Action) → AllByRecursion P xs → AllByRecursion P ys → AllByRecursion P (xs ++ ys)
+pub all_joined : (P : Action → Type 0) (xs ys : List Action) → AllByRecursion P xs → AllByRecursion P ys → AllByRecursion P (xs ++ ys)
 all_joined P [] ys h rest = rest
 all_joined P (x ∷ xs) ys h rest = (h.0, all_joined P xs ys h.1 rest)
 

@@ -19,7 +19,6 @@ use Rattle.fm_frames.specs.Steps.{step}
 use Rattle.fm_frames.specs.declared.values.Value.{Value}
 use Rattle.fm_place.specs.Places.{is_busy}
 use Rattle.fm_place.specs.Sites.{is_captured}
-use Rattle.fm_same.specs.Covering.{PlacesAgreeAt}
 use Rattle.fm_same.specs.Colours.{kind_in, node_of_word}
 use Rattle.fm_sound.specs.Sound.{IsSoundBy}
 use Rattle.fm_same.specs.Standing.{method_of}
@@ -113,10 +112,9 @@ pub record IsRetired (p : Program) (facts : Facts) (xs : ℕ → State) (method 
 
 -- ---- runs
 
--- each state is sound by the states of items that the facts have, and reads and puts by the kinds of places
-pub record AreSound (p : Program) (facts : Facts) (xs : ℕ → State) : Type 0 where
-  pub sound : (k : ℕ) → IsSoundBy p facts.typing (xs k)
-  pub places : (k : ℕ) → PlacesAgreeAt p (xs k) (xs k).frames
+-- each state is sound by the states of items that the facts have
+abbrev pub AreSound : Program → Facts → (ℕ → State) → Type 0
+AreSound p facts xs = (k : ℕ) → IsSoundBy p facts.typing (xs k)
 
 -- each state is the step of the one before
 abbrev pub AreSteps : Program → Choose → (ℕ → State) → Type 0

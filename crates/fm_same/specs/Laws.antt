@@ -117,6 +117,10 @@ SoundFramesStand =
     (p : Program) (facts : Facts) → AreFacts p facts → IsResolved p → (x : State) → IsSoundBy p facts.typing x → AreCovered p facts x.frames
     → Stand p facts x.frames
 
+-- where frames stand, places are read and put by their kinds
+abbrev pub PlacesAreByKinds : Type 0
+PlacesAreByKinds = (p : Program) (facts : Facts) → IsResolved p → (x : State) → Stand p facts x.frames → PlacesAgreeAt p x x.frames
+
 -- a called method stays among the targets of its call while it runs: at the opening, and from each step to the next
 abbrev pub FramesStayCovered : Type 0
 FramesStayCovered =

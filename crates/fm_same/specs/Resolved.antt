@@ -1,5 +1,6 @@
 -- What linking makes sure of, as the law of dead regions uses it (JVMS 5.3.5, 5.4.3, 6.5): what numbers stand for, and what instructions name.
 use Rattle.std.specs.Prelude.{◌≡◌, ℕ, ◌<◌, ◌≤◌, Bool, true, false, length, Some, None, slice_get}
+use Rattle.fm_base.specs.declared.ids.FieldId.{FieldId}
 use Rattle.fm_base.specs.declared.ids.MethodId.{MethodId}
 use Rattle.fm_base.specs.declared.ids.TypeId.{TypeId}
 use Rattle.fm_base.specs.declared.kinds.TypeRef.{TypeRef}
@@ -8,18 +9,20 @@ use Rattle.fm_code.specs.Edges.{insn_of}
 use Rattle.fm_code.specs.declared.code_array.Code.{Code}
 use Rattle.fm_code.specs.declared.instructions.Insn.{Insn}
 use Rattle.fm_code.specs.declared.instructions.Insn.TheVariants as insn
-use Rattle.fm_types.specs.Fits.{AreTree, object_of}
+use Rattle.fm_types.specs.Fits.{AreTree, fits_type, object_of}
+use Rattle.fm_types.specs.Named.{throwable_type}
 use Rattle.fm_types.specs.Typed.{use_by}
 use Rattle.fm_world.specs.BuiltIns.{built_in}
-use Rattle.fm_world.specs.Causes.{static_method_wanted}
+use Rattle.fm_world.specs.Causes.{static_field_wanted, static_method_wanted}
 use Rattle.fm_world.specs.Chains.{chain_of, is_among}
 use Rattle.fm_world.specs.Lookups.{is_interface_at}
-use Rattle.fm_world.specs.Members.{field_at, method_at, methods_of}
+use Rattle.fm_world.specs.Members.{field_at, method_at, methods_of, slot_of}
 use Rattle.fm_world.specs.Numbers.{type_number, type_of_class}
-use Rattle.fm_world.specs.Programs.{class_of_type, code_at, Program}
+use Rattle.fm_world.specs.Programs.{class_of_type, code_at, kind_at, Program}
 use Rattle.fm_world.specs.declared.uses.Use.{Use}
 use Rattle.fm_world.specs.declared.uses.Use.TheVariants as resolved
 use Rattle.fm_frames.specs.CallRows.{native_of}
+use Rattle.fm_frames.specs.NativeRows.{text_kind}
 use Rattle.fm_frames.specs.Natives.{Native}
 use Rattle.fm_frames.specs.ObjectRows.{kind_of_field}
 use Rattle.fm_frames.specs.Runnable.{IsRunnable}
@@ -53,6 +56,13 @@ pub record IsResolved (p : Program) : Type 0 where
   pub no_interface : (method index : ℕ) (m : MethodId) (t : TypeId) (named : TypeRef) (class : ℕ)
       → IsNamed p method (insn.Virtual index) (resolved.OfMethod m t) → slice_get p.outline.types t.0 ≡ Some named
       → class_of_type named ≡ Some class → is_interface_at p.outline.classes class ≡ false
+  -- an object of a type that fits the one that getfield or putfield names has the field at its place (JVMS 5.4.3.2, 6.5.getfield)
+  pub fields : (method : ℕ) (i : Insn) (f : FieldId) (t : TypeId) (named of : TypeRef) → IsNamed p method i (resolved.OfField f t)
+      → static_field_wanted i ≡ Some false → slice_get p.outline.types t.0 ≡ Some named → fits_type p.outline.classes of named ≡ true
+      → kind_at p.outline.classes of (slot_of p.outline.classes f.0) ≡ Some (kind_of_field p.outline f.0)
+  -- and a throwable has its message at the first one
+  pub message : (of : TypeRef) → fits_type p.outline.classes of (throwable_type p.outline) ≡ true
+      → kind_at p.outline.classes of 0 ≡ Some (text_kind p.outline)
   -- a number is the constant of a field of numbers (JVMS 4.7.2)
   pub constants : (field : ℕ) → IsNumber (field_at p.outline.classes field).field.value → IsPlainKind (kind_of_field p.outline field)
 

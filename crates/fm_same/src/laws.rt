@@ -44,6 +44,11 @@ pub fn law_calls()
     ensures opening { law.OpeningIsCovered }
 {}
 
+/// Every effect of the table reads and puts places by their kinds, at each state whose frames stand.
+pub fn law_place_kinds()
+    ensures { law.PlacesAreByKinds }
+{}
+
 /// The targets of a program that isn't narrowed cover it: whatever object a call of a sound state has
 /// for its receiver, the method that is called is among the targets.
 pub fn law_targets()

@@ -1,0 +1,188 @@
+-- Places are read and put by their kinds: what an instruction sees of an object passes its test, so the object's place has the kind that the row goes by.
+use Rattle.std.proofs.Common.{◌≡◌, ℕ, ℤ, pos, zero, suc, ◌+◌, ◌-◌, ◌*◌, ◌<◌, ◌==◌, ◌&&◌, ◌||◌, not, int_lt, cond, Bool, true, false, List, [], ◌∷◌, ◌++◌, length, Option, Some, None, codes, unsigned_abs, nat_lt, option_and_then, refl, sym, ◌∙◌, ap, subst, slice_get, arith, eqb-true, ltb-true, ne_eqb}
+use Rattle.std.specs.List.{AllByRecursion, flat_map, list_any, range_with_len}
+use Rattle.std.proofs.lemmas.Bool.{and_parts, false≢true}
+use Rattle.std.proofs.lemmas.Option.{none-some, same_Some}
+use Rattle.fm_base.specs.declared.ids.FieldId.{FieldId}
+use Rattle.fm_base.specs.declared.ids.TypeId.{TypeId}
+use Rattle.fm_base.specs.declared.kinds.Base.{Base}
+use Rattle.fm_base.specs.declared.kinds.Base.TheVariants as base
+use Rattle.fm_base.specs.declared.kinds.Kind.{Kind}
+use Rattle.fm_base.specs.declared.kinds.Kind.TheVariants as kind
+use Rattle.fm_base.specs.declared.kinds.TypeRef.{TypeRef}
+use Rattle.fm_cells.specs.Objects.{Object}
+use Rattle.fm_cells.specs.Stores.{object_at, Store}
+use Rattle.fm_code.specs.declared.operations.Elem.{Elem}
+use Rattle.fm_code.specs.declared.operations.Elem.TheVariants as elem
+use Rattle.fm_types.specs.ArrayRows.{has_letter, is_array_of}
+use Rattle.fm_types.specs.Fits.{depth_of, depth_with, fits_type}
+use Rattle.fm_world.specs.Members.{kinds_of}
+use Rattle.fm_world.specs.Programs.{class_of_type, kind_at, Outline}
+use Rattle.fm_world.specs.declared.declarations.DeclaredClass.{DeclaredClass}
+use Rattle.fm_frames.specs.Acts.{cell_of}
+use Rattle.fm_frames.specs.ArrayRows.{array_actions, array_load_effect, array_store_effect, arrays_made, element_kind, element_type, element_words, on_element, put_element, put_reference}
+use Rattle.fm_frames.specs.Effects.{Action, Effect, faulty, loaded, Make, OfMade, OfOperand, OfPlace, Plain, Put, Source, stuck, words}
+use Rattle.fm_frames.specs.Operands.{thrown, thrown_null}
+use Rattle.fm_frames.specs.Sights.{Looks, looks, Sight, sight, sight_of_cell, sight_of_object, sights, Thing, type_numbered}
+use Rattle.fm_frames.specs.States.{word_at}
+use Rattle.fm_frames.specs.declared.values.Value.{Value}
+use Rattle.fm_frames.specs.declared.values.Value.TheVariants as value
+use Rattle.fm_same.specs.Colours.{kind_in}
+use Rattle.fm_same.specs.Evenness.{PlacesAgree, PutAgrees, ReadAgrees}
+use Rattle.fm_same.proofs.Cases.{by_held, by_if, by_int, by_passing}
+use Rattle.fm_same.proofs.Starting.{all_flattened, all_joined}
+
+-- ---- the object that is seen
+
+looked_at : (o : Outline) (store : Store) (object : Object) → (looks o store object).type ≡ type_numbered o object.class
+unfolding looks
+looked_at o store object = refl
+
+cell_type : (o : Outline) (store : Store) (cell : ℕ) (it : Looks) (object : Object) → sight_of_cell o store cell ≡ Thing it → object_at store cell ≡ Some object
+    → it.type ≡ type_numbered o object.class
+cell_type o store zero it object seen held = absurd (cc)
+cell_type o store (suc cell) it object seen held =
+    let told : Thing (looks o store object) ≡ Thing it = sym (ap (sight_of_object o store) held) ∙ seen in
+    let same : looks o store object ≡ it = cc in
+    ap (λ (l : Looks). l.type) (sym same) ∙ looked_at o store object
+
+value_type : (o : Outline) (store : Store) (v : Value) (it : Looks) (object : Object) → sight o store v ≡ Thing it → object_at store (cell_of v) ≡ Some object
+    → it.type ≡ type_numbered o object.class
+value_type o store (value.Ref cell) it object seen held = cell_type o store cell.0 it object seen held
+value_type o store value.Top it object seen held = absurd (cc)
+value_type o store (value.Int n) it object seen held = absurd (cc)
+value_type o store (value.Long n) it object seen held = absurd (cc)
+
+-- the object at an operand has the type that is seen
+pub word_type : (o : Outline) (store : Store) (stack : List Value) (n : ℕ) (it : Looks) (object : Object)
+    → slice_get (sights o store stack) n ≡ Some (Thing it) → object_at store (cell_of (word_at stack n)) ≡ Some object
+    → it.type ≡ type_numbered o object.class
+word_type o store [] n it object seen held = absurd (none-some (Thing it) seen)
+word_type o store (v ∷ stack) zero it object seen held = value_type o store v it object (same_Some (sight o store v) (Thing it) seen) held
+word_type o store (v ∷ stack) (suc n) it object seen held = word_type o store stack n it object seen held
+
+module _ (o : Outline) (store : Store) (stack : List Value) where
+  -- each object at the operand has a place of the kind
+  abbrev pub HasPlace : (operand place : ℕ) → Kind → Type 0
+  HasPlace n place k = (object : Object) → object_at store (cell_of (word_at stack n)) ≡ Some object → kind_in o object place ≡ Some k
+
+  pub seen_place : (n place : ℕ) (k : Kind) (it : Looks) → slice_get (sights o store stack) n ≡ Some (Thing it) → kind_at o.classes it.type place ≡ Some k
+      → HasPlace n place k
+  seen_place n place k it seen is object held =
+      ap (λ t. kind_at o.classes t place) (sym (word_type o store stack n it object seen held)) ∙ is
+
+  -- what is loaded of it is read by that kind
+  pub loaded_agrees : (n place : ℕ) (k : Kind) → HasPlace n place k → AllByRecursion (ReadAgrees o store stack) (loaded k (OfPlace n place k))
+  loaded_agrees n place (kind.Ref t) h = ((λ object held. (t, h object held)), tt)
+  loaded_agrees n place kind.Long h = (tt, (tt, tt))
+  loaded_agrees n place kind.Boolean h = (tt, tt)
+  loaded_agrees n place kind.Byte h = (tt, tt)
+  loaded_agrees n place kind.Char h = (tt, tt)
+  loaded_agrees n place kind.Short h = (tt, tt)
+  loaded_agrees n place kind.Int h = (tt, tt)
+
+  -- and what is put into it is put by that kind
+  pub put_agrees : (n place : ℕ) (k : Kind) (v : Source) → HasPlace n place k → PutAgrees o store stack (Put (OfOperand n) place k v)
+  put_agrees n place (kind.Ref t) v h = tt
+  put_agrees n place kind.Long v h = λ object held t is. let both : Some kind.Long ≡ Some (kind.Ref t) = sym (h object held) ∙ is in absurd (cc)
+  put_agrees n place kind.Boolean v h = λ object held t is. let both : Some kind.Boolean ≡ Some (kind.Ref t) = sym (h object held) ∙ is in absurd (cc)
+  put_agrees n place kind.Byte v h = λ object held t is. let both : Some kind.Byte ≡ Some (kind.Ref t) = sym (h object held) ∙ is in absurd (cc)
+  put_agrees n place kind.Char v h = λ object held t is. let both : Some kind.Char ≡ Some (kind.Ref t) = sym (h object held) ∙ is in absurd (cc)
+  put_agrees n place kind.Short v h = λ object held t is. let both : Some kind.Short ≡ Some (kind.Ref t) = sym (h object held) ∙ is in absurd (cc)
+  put_agrees n place kind.Int v h = λ object held t is. let both : Some kind.Int ≡ Some (kind.Ref t) = sym (h object held) ∙ is in absurd (cc)
+
+-- ---- arrays
+
+array_kind : (classes : List DeclaredClass) (t : TypeRef) (place : ℕ) → 0 < t.dims → kind_at classes t place ≡ Some (element_kind t)
+array_kind classes t place deep =
+    ap (λ b. cond b (option_and_then (λ class. slice_get (kinds_of classes class) place) (class_of_type t)) (Some (element_kind t)))
+    (ne_eqb t.dims 0 (λ same. omega (arith, deep, same)))
+
+letter_deep : (t : TypeRef) (rest : Bool) → ((t.dims == 1) && rest) ≡ true → 0 < t.dims
+letter_deep t rest h = let one : t.dims ≡ 1 = eqb-true t.dims 1 (and_parts (t.dims == 1) rest h).0 in omega (arith, one)
+
+depth_deep : (dims : ℕ) (b : Base) → 0 < depth_with dims b → 0 < dims
+depth_deep dims (base.OfClass class) h = h
+depth_deep dims b h = omega (arith, h)
+
+array_deep : (e : Elem) (t : TypeRef) → is_array_of e t ≡ true → 0 < t.dims
+array_deep elem.Ref t h = depth_deep t.dims t.base (ltb-true 0 (depth_of t) h)
+array_deep e t h = letter_deep t (has_letter e t.base) h
+
+module _ (o : Outline) (store : Store) (stack : List Value) where
+  abbrev pub Agrees : Effect → Type 0
+  Agrees e = PlacesAgree o store stack e
+
+  -- effects that read no place and put no number
+  pub bare : (e : Effect) → AllByRecursion (PutAgrees o store stack) e.actions → AllByRecursion (ReadAgrees o store stack) e.gives → Agrees e
+  bare e puts reads = record { puts = puts; reads = reads }
+
+  pub nulls : Agrees (thrown_null o)
+  nulls = record { puts = (tt, tt); reads = tt }
+
+  pub throws : (name : List ℕ) → Agrees (thrown o name)
+  throws name = record { puts = (tt, tt); reads = tt }
+
+  pub stucks : Agrees stuck
+  stucks = record { puts = tt; reads = tt }
+
+  pub gone : (n : ℕ) → Agrees (faulty n)
+  gone n = record { puts = tt; reads = tt }
+
+  abbrev s : List Sight
+  s = sights o store stack
+
+  by_element : (e : Elem) (index : ℕ) (follows : Looks → ℕ → Effect)
+      → ((it : Looks) (place : ℕ) → HasPlace o store stack (index + 1) place (element_kind it.type) → Agrees (follows it place))
+      → Agrees (on_element o e s index follows)
+  by_element e index follows some =
+      by_passing Agrees o (λ it. is_array_of e it.type) s (index + 1) _ nulls stucks (gone (index + 1))
+      (λ it seen passes. by_int Agrees s index _ stucks
+      (λ i. by_if Agrees (int_lt i (pos 0) || not (int_lt i (pos it.len))) (thrown o (codes "java/lang/ArrayIndexOutOfBoundsException"))
+      (follows it (unsigned_abs i)) (λ out. throws (codes "java/lang/ArrayIndexOutOfBoundsException"))
+      (λ inside. some it (unsigned_abs i)
+      (seen_place o store stack (index + 1) (unsigned_abs i) (element_kind it.type) it seen
+      (array_kind o.classes it.type (unsigned_abs i) (array_deep e it.type passes))))))
+
+  pub array_load_agrees : (e : Elem) → Agrees (array_load_effect o e s)
+  unfolding array_load_effect
+  array_load_agrees e =
+      by_element e 0 (λ it place. words 2 (loaded (element_kind it.type) (OfPlace 1 place (element_kind it.type))))
+      (λ it place h. bare (words 2 (loaded (element_kind it.type) (OfPlace 1 place (element_kind it.type)))) tt
+      (loaded_agrees o store stack 1 place (element_kind it.type) h))
+
+  element_agrees : (n : ℕ) (it : Looks) (place : ℕ) → HasPlace o store stack (n + 1) place (element_kind it.type) → Agrees (put_element n it place)
+  element_agrees n it place h = bare (put_element n it place) (put_agrees o store stack (n + 1) place (element_kind it.type) (OfOperand (n - 1)) h, tt) tt
+
+  reference_agrees : (it : Looks) (place : ℕ) → HasPlace o store stack 2 place (element_kind it.type) → Agrees (put_reference o s it place)
+  reference_agrees it place h =
+      by_held Agrees (put_element 1 it place) s 0 _ (element_agrees 1 it place h) stucks (gone 0)
+      (λ v seen. by_if Agrees _ (put_element 1 it place) (thrown o (codes "java/lang/ArrayStoreException")) (λ fits. element_agrees 1 it place h)
+      (λ fails. throws (codes "java/lang/ArrayStoreException")))
+
+  pub array_store_agrees : (e : Elem) → Agrees (array_store_effect o e s)
+  unfolding array_store_effect
+  array_store_agrees elem.Ref = by_element elem.Ref 1 (λ it place. put_reference o s it place) reference_agrees
+  array_store_agrees elem.Boolean = by_element elem.Boolean 1 (put_element 1) (element_agrees 1)
+  array_store_agrees elem.Byte = by_element elem.Byte 1 (put_element 1) (element_agrees 1)
+  array_store_agrees elem.Char = by_element elem.Char 1 (put_element 1) (element_agrees 1)
+  array_store_agrees elem.Short = by_element elem.Short 1 (put_element 1) (element_agrees 1)
+  array_store_agrees elem.Int = by_element elem.Int 1 (put_element 1) (element_agrees 1)
+  array_store_agrees elem.Long = by_element elem.Long 2 (put_element 2) (element_agrees 2)
+
+  -- arrays of arrays are put into what the step made
+  pub arrays_agree : (t : TypeRef) (counts : List ℕ) (first : ℕ) → AllByRecursion (PutAgrees o store stack) (array_actions t counts first)
+  unfolding array_actions
+  arrays_agree t [] first = tt
+  arrays_agree t (count ∷ []) first = (tt, tt)
+  arrays_agree t (count ∷ next ∷ counts) first = (
+    tt,
+    all_flattened (PutAgrees o store stack)
+        (λ place. array_actions (element_type t) (next ∷ counts) (first + 1 + place * arrays_made (next ∷ counts))
+        ++ Put (OfMade first) place (element_kind t) (OfMade (first + 1 + place * arrays_made (next ∷ counts))) ∷ [])
+        (range_with_len 0 count)
+        (λ place. all_joined (PutAgrees o store stack)
+        (array_actions (element_type t) (next ∷ counts) (first + 1 + place * arrays_made (next ∷ counts)))
+        (Put (OfMade first) place (element_kind t) (OfMade (first + 1 + place * arrays_made (next ∷ counts))) ∷ [])
+        (arrays_agree (element_type t) (next ∷ counts) (first + 1 + place * arrays_made (next ∷ counts))) (tt, tt)),
+  )
