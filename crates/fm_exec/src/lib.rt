@@ -5,13 +5,19 @@
 #![tactic(auto)]
 
 mod calls;
+mod constants;
+mod jumps;
 mod locals;
 mod numbers;
 mod objects;
 mod throws;
 
 pub use calls::{leave, static_call};
-pub use locals::{load, store};
-pub use numbers::int_op;
+pub use constants::{int_constant, long_constant, nop, null};
+pub use jumps::{go_to, if_int, if_null, if_pair, if_same, lookup_switch, table_switch};
+pub use locals::{increment, load, store};
+pub use numbers::{
+    convert, int_negate, int_op, int_shift, long_compare, long_negate, long_op, long_shift,
+};
 pub use objects::new_object;
 pub use throws::throw;
