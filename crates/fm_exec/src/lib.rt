@@ -10,6 +10,7 @@ mod jumps;
 mod locals;
 mod numbers;
 mod objects;
+mod shuffles;
 mod throws;
 
 pub use calls::{leave, static_call};
@@ -20,4 +21,5 @@ pub use numbers::{
     convert, int_negate, int_op, int_shift, long_compare, long_negate, long_op, long_shift,
 };
 pub use objects::new_object;
+pub use shuffles::{dup, dup_x1, dup_x2, dup2, dup2_x1, dup2_x2, pop, pop2, swap};
 pub use throws::throw;
