@@ -3,3 +3,6 @@ pub mod Exceptions
 pub mod NumberSteps
 pub mod ObjectSteps
 pub mod LookSteps
+pub mod NullSteps
+pub mod PlainSteps
+pub mod KeySteps

@@ -5,13 +5,21 @@
 #![tactic(auto)]
 
 mod calls;
+mod constants;
+mod jumps;
 mod locals;
 mod numbers;
 mod objects;
+mod shuffles;
 mod throws;
 
 pub use calls::{leave, static_call};
-pub use locals::{load, store};
-pub use numbers::int_op;
+pub use constants::{int_constant, long_constant, nop, null};
+pub use jumps::{go_to, if_int, if_null, if_pair, if_same, lookup_switch, table_switch};
+pub use locals::{increment, load, store};
+pub use numbers::{
+    convert, int_negate, int_op, int_shift, long_compare, long_negate, long_op, long_shift,
+};
 pub use objects::new_object;
+pub use shuffles::{dup, dup_x1, dup_x2, dup2, dup2_x1, dup2_x2, pop, pop2, swap};
 pub use throws::throw;

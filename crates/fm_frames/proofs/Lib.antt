@@ -12,3 +12,5 @@ pub mod Contents
 pub mod TextSteps
 pub mod Bits
 pub mod LiteralSteps
+pub mod Jumping
+pub mod Shuffling

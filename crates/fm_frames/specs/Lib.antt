@@ -16,6 +16,7 @@ pub mod Starts
 pub mod Acts
 pub mod Steps
 pub mod Runs
+pub mod Reports
 pub mod Runnable
 pub mod inner
 pub mod Example

@@ -4,3 +4,4 @@ pub mod Doings
 pub mod Catching
 pub mod Looks
 pub mod Places
+pub mod Targets

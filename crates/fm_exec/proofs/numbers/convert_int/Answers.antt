@@ -1,0 +1,21 @@
+use Rattle.std.proofs.Common.{◌≡◌, ap, rules}
+use Rattle.fm_exec.proofs.PlainSteps.{gave, stuck-int, with-int}
+use Rattle.fm_exec.proofs.numbers.convert_int.Goals as goal
+use Rattle.fm_alu.specs.Conversions.{result_of_conversion}
+use Rattle.fm_exec.proofs.Seen.{told-ok}
+use Rattle.fm_frames.specs.Effects.{int_word, words}
+use Rattle.fm_frames.specs.declared.values.Value.TheVariants as value
+
+pub returns-in_default : goal.returns-in_default
+returns-in_default g c =
+    stuck-int c.args.program.now g.M.Memory.choose c.args.machine.now c.stuck.new.self 0 _ c.in_default.ensures
+    (c.stuck.ensures c.requires.can.runnable g.M.Memory.choose)
+
+pub returns : goal.returns
+returns g c =
+    let told : result_of_conversion c.args.to c.in-Some.a ≡ c.convert-n.result = search rules in
+    told-ok c.give.result _ _
+    (with-int c.args.program.now g.M.Memory.choose c.args.machine.now c.give.new.self 0 c.in-Some.a _ _ c.in-Some.ensures
+    (ap (λ n. words 1 (int_word n)) told))
+    (gave c.give.result c.args.program.now g.M.Memory.choose c.args.machine.now c.give.new.self 1 (value.Int c.convert-n.result) _ (search rules)
+    c.give.ensures)

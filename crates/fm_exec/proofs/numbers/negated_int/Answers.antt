@@ -1,0 +1,9 @@
+use Rattle.std.proofs.Common.{pos, rules}
+use Rattle.std.proofs.lemmas.Int.{fits_signed_from_abs}
+use Rattle.std.specs.Int.{w32}
+use Rattle.fm_alu.proofs.OperationsLemmas.{difference-is}
+use Rattle.fm_exec.proofs.numbers.negated_int.Goals as goal
+
+pub returns : goal.returns
+returns c =
+    difference-is w32 (pos 0) c.args.a (fits_signed_from_abs w32 (pos 0) (search rules)) c.ranges.a

@@ -1,0 +1,6 @@
+use Rattle.fm_exec.proofs.shuffles.pop2.Goals as goal
+use Rattle.fm_frames.specs.NumberRows.{move_effect}
+
+pub returns : goal.returns
+unfolding move_effect
+returns g c = c.take.ensures c.args.program.now g.M.Memory.choose

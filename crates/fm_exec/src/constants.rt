@@ -1,0 +1,55 @@
+// The rows of constants (JVMS 6.5.aconst_null, 6.5.bipush and its like, 6.5.ldc).
+
+ghost use Rattle.std.specs.Prelude.{OnOk, []};
+ghost use Rattle.fm_exec.specs.Steps.{Steps};
+ghost use Rattle.fm_frames.specs.Effects.{int_word, long_words, null_word, words};
+ghost use Rattle.fm_frames.specs.inner.Doings.{CanStep};
+
+use fm_base::NoMemory;
+use fm_cells::{Cell, Memory};
+use fm_frames::{Machine, Value};
+use fm_world::Program;
+
+/// nop. Takes no memory.
+pub fn nop<M: Memory>(machine: &mut Machine<M>, program: &Program)
+    requires { CanStep program.now machine.old }
+    ensures { Steps program.now M.choose machine.old machine.new (words 0 []) }
+{
+    let _classes = program.classes();
+    machine.take(0);
+}
+
+/// aconst_null.
+pub fn null<M: Memory>(machine: &mut Machine<M>, program: &Program) -> Result<(), NoMemory>
+    requires { CanStep program.now machine.old }
+    ensures { OnOk result (Steps program.now M.choose machine.old machine.new (words 0 null_word)) }
+{
+    let _classes = program.classes();
+    machine.give(0, Value::Ref(Cell(0)))
+}
+
+/// iconst, bipush and sipush, and ldc of an int.
+pub fn int_constant<M: Memory>(
+    machine: &mut Machine<M>,
+    program: &Program,
+    n: i32,
+) -> Result<(), NoMemory>
+    requires { CanStep program.now machine.old }
+    ensures { OnOk result (Steps program.now M.choose machine.old machine.new (words 0 (int_word n))) }
+{
+    let _classes = program.classes();
+    machine.give(0, Value::Int(n))
+}
+
+/// lconst, and ldc2_w of a long.
+pub fn long_constant<M: Memory>(
+    machine: &mut Machine<M>,
+    program: &Program,
+    n: i64,
+) -> Result<(), NoMemory>
+    requires { CanStep program.now machine.old }
+    ensures { OnOk result (Steps program.now M.choose machine.old machine.new (words 0 (long_words n))) }
+{
+    let _classes = program.classes();
+    machine.give_wide(0, Value::Long(n))
+}
