@@ -4,6 +4,7 @@ use Rattle.std.specs.Fmt.{digits, signed_decimal}
 use Rattle.std.specs.List.{slice_index_or}
 use Rattle.std.specs.Str.{bytes_eq}
 use Rattle.fm_alu.specs.TwosComplement.{low_bits, signed}
+use Rattle.fm_base.specs.Texts.{units}
 use Rattle.fm_base.specs.declared.characters.TheConstants.{CLASS_LETTER, DOT, LEFT_BRACKET, LINE_FEED, SEMICOLON, SLASH}
 use Rattle.fm_base.specs.declared.kinds.Base.{Base}
 use Rattle.fm_base.specs.declared.kinds.Base.TheVariants as base
@@ -38,7 +39,7 @@ text_kind o = kind.Ref (text_type o)
 abbrev pub dotted : List ℕ → List ℕ
 dotted name = map (λ c. if c == SLASH then DOT else c) name
 
--- the name of a type: of an array its descriptor
+-- the letter of a type, or the name of a class between an L and a semicolon, as in a descriptor (JVMS 4.3.2)
 abbrev pub base_text : Outline → Base → List ℕ
 base_text o base.Boolean = codes "Z"
 base_text o base.Byte = codes "B"
@@ -48,12 +49,18 @@ base_text o base.Int = codes "I"
 base_text o base.Long = codes "J"
 base_text o (base.OfClass class) = CLASS_LETTER ∷ ((class_at o.classes class.0).name ++ SEMICOLON ∷ [])
 
+-- the name of a class alone
 abbrev pub plain_name : Outline → Base → List ℕ
 plain_name o (base.OfClass class) = (class_at o.classes class.0).name
 plain_name o b = base_text o b
 
+-- the name of a type, of an array its descriptor, in the bytes of class files (JVMS 4.4.7)
+abbrev pub spelled_type : Outline → TypeRef → List ℕ
+spelled_type o t = dotted (if t.dims == 0 then plain_name o t.base else (replicate t.dims LEFT_BRACKET ++ base_text o t.base))
+
+-- the same as the units of a text
 abbrev pub type_name : Outline → TypeRef → List ℕ
-type_name o t = dotted (if t.dims == 0 then plain_name o t.base else (replicate t.dims LEFT_BRACKET ++ base_text o t.base))
+type_name o t = units (spelled_type o t)
 
 -- the words of what is appended, printed or told
 abbrev pub shown_words : Shown → ℕ

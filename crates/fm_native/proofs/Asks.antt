@@ -1,0 +1,256 @@
+-- What is seen of an operand that is to be an object, a text or a number, by what the machine holds.
+use Rattle.std.proofs.Common.{◌≡◌, ℕ, zero, suc, ◌^◌, ◌<◌, ℤ, Bool, true, false, ◌==◌, if◌then◌else◌, List, [], ◌∷◌, length, take, Option, Some, None, Result, Ok, Err, slice_get, option_map, unwrap_or, refl, ap, sym, ◌∙◌, subst, lit<, arith}
+use Rattle.std.specs.List.{All}
+use Rattle.std.proofs.lemmas.Bool.{ne_eqb}
+use Rattle.std.proofs.lemmas.List.{take_all, length-take-le}
+use Rattle.std.proofs.lemmas.List.Elements.{All-nil, All-take}
+use Rattle.std.proofs.lemmas.Option.{get_or_from_slice_get, none-some, same_Some, slice_get-map}
+use Rattle.fm_base.specs.declared.kinds.TypeRef.{TypeRef}
+use Rattle.fm_cells.specs.Answers.{head_at, head_of}
+use Rattle.fm_cells.specs.Objects.{Object}
+use Rattle.fm_cells.specs.Stores.{elements_at, object_at, Store}
+use Rattle.fm_cells.specs.declared.answers.Cell.{Cell}
+use Rattle.fm_cells.specs.declared.answers.Head.{Head}
+use Rattle.fm_frames.specs.Effects.{Effect, faulty, stuck}
+use Rattle.fm_frames.specs.Elements.{is_text_type}
+use Rattle.fm_frames.specs.NativeRows.{text_type}
+use Rattle.fm_frames.specs.Operands.{on_held_of, on_int_of, on_long_of, thrown_null}
+use Rattle.fm_frames.specs.Sights.{looks, Looks, sight, sight_of_cell, sight_of_object, sights, Sight, type_numbered, units_of}
+use Rattle.fm_frames.specs.States.{State, word_at}
+use Rattle.fm_frames.specs.Steps.{stack_of}
+use Rattle.fm_frames.specs.declared.looks.Look.{Look}
+use Rattle.fm_frames.specs.declared.looks.Look.TheVariants as look
+use Rattle.fm_frames.specs.declared.values.Value.{Value}
+use Rattle.fm_frames.specs.declared.values.Value.TheVariants as value
+use Rattle.fm_frames.specs.inner.Doings.{int_in, long_in}
+use Rattle.fm_frames.specs.inner.Looks.{look_at, look_head}
+use Rattle.fm_native.specs.Texts.{HoldsTexts}
+use Rattle.fm_native.specs.declared.asked.Held.{Held}
+use Rattle.fm_native.specs.declared.asked.Refusal.{Refusal}
+use Rattle.fm_native.specs.declared.asked.Refusal.TheVariants as refusal
+use Rattle.fm_native.specs.inner.Asked.{asked, asked_by, AsksHeld, AsksInt, AsksLong, AsksText, IsHeldAt, IsTextAt, on_cell, on_found, text_of, units_in}
+use Rattle.fm_types.specs.Fits.{fits_type}
+use Rattle.fm_world.specs.Chains.{same_type}
+use Rattle.fm_world.specs.Programs.{Outline}
+
+-- ---- objects
+
+-- what is found of an operand that was looked at
+abbrev pub found_by : Look → Result Held Refusal
+found_by look.Other = Err refusal.Other
+found_by look.Null = Err refusal.Null
+found_by (look.Gone cell) = Err (refusal.Unfit cell)
+found_by (look.Object cell head) = Ok (record { cell = cell; head = head })
+
+abbrev held_follows : Effect → Outline → Store → ℕ → (Looks → Effect) → Look → Effect
+held_follows of_null o store operand follows seen = asked_by of_null o operand (found_by seen) (on_cell o store follows)
+
+cell-held : (of_null : Effect) (o : Outline) (store : Store) (operand : ℕ) (follows : Looks → Effect) (cell : ℕ)
+    → on_held_of of_null operand (Some (sight_of_cell o store cell)) follows
+    ≡ held_follows of_null o store operand follows (if cell == 0 then look.Null else look_head (record { 0 = cell }) (head_at store cell))
+cell-held of_null o store operand follows zero = refl
+cell-held of_null o store operand follows (suc cell) =
+    by_object (object_at store (suc cell)) refl
+    ∙ ap (λ null. held_follows of_null o store operand follows (if null then look.Null else look_head (record { 0 = suc cell }) (head_at store (suc cell))))
+    (sym (ne_eqb (suc cell) 0 (λ e. absurd (omega (arith, e))))) where
+      by_object : (object : Option Object) → object_at store (suc cell) ≡ object
+          → on_held_of of_null operand (Some (sight_of_object o store object)) follows
+          ≡ held_follows of_null o store operand follows (look_head (record { 0 = suc cell }) (option_map head_of object))
+      by_object None e = refl
+      by_object (Some object) e = ap (on_found o store follows) (sym e)
+
+value-held : (of_null : Effect) (o : Outline) (store : Store) (operand : ℕ) (follows : Looks → Effect) (v : Option Value)
+    → on_held_of of_null operand (option_map (sight o store) v) follows ≡ held_follows of_null o store operand follows (look_at store v)
+value-held of_null o store operand follows None = refl
+value-held of_null o store operand follows (Some value.Top) = refl
+value-held of_null o store operand follows (Some (value.Int n)) = refl
+value-held of_null o store operand follows (Some (value.Long n)) = refl
+value-held of_null o store operand follows (Some (value.Ref cell)) = cell-held of_null o store operand follows cell.0
+
+pub held-asked : (o : Outline) (store : Store) (stack : List Value) (operand : ℕ) (seen : Look) → seen ≡ look_at store (slice_get stack operand)
+    → AsksHeld o store (sights o store stack) operand (found_by seen)
+held-asked o store stack operand seen is of_null follows =
+    ap (λ s. on_held_of of_null operand s follows) (slice_get-map (sight o store) stack operand)
+    ∙ value-held of_null o store operand follows (slice_get stack operand) ∙ ap (held_follows of_null o store operand follows) (sym is)
+
+-- ---- which cell was looked at
+
+gone-in : (store : Store) (cell : Cell) (v : Option Value) → look.Gone cell ≡ look_at store v → v ≡ Some (value.Ref cell)
+gone-in store cell None e = cc
+gone-in store cell (Some value.Top) e = cc
+gone-in store cell (Some (value.Int n)) e = cc
+gone-in store cell (Some (value.Long n)) e = cc
+gone-in store cell (Some (value.Ref d)) e = by_test (d.0 == 0) (head_at store d.0) e where
+  by_test : (null : Bool) (head : Option Head) → look.Gone cell ≡ (if null then look.Null else look_head d head) → Some (value.Ref d) ≡ Some (value.Ref cell)
+  by_test true head e = cc
+  by_test false None e = let same : cell ≡ d = cc in ap (λ c. Some (value.Ref c)) (sym same)
+  by_test false (Some head) e = cc
+
+pub gone-at : (store : Store) (stack : List Value) (operand : ℕ) (cell : Cell) → look.Gone cell ≡ look_at store (slice_get stack operand)
+    → word_at stack operand ≡ value.Ref cell
+gone-at store stack operand cell e =
+    get_or_from_slice_get stack operand (value.Ref cell) value.Top (gone-in store cell (slice_get stack operand) e)
+
+object-in : (store : Store) (cell : Cell) (head : Head) (v : Option Value) → look.Object cell head ≡ look_at store v
+    → (v ≡ Some (value.Ref cell)) × (head_at store cell.0 ≡ Some head)
+object-in store cell head None e = absurd (cc)
+object-in store cell head (Some value.Top) e = absurd (cc)
+object-in store cell head (Some (value.Int n)) e = absurd (cc)
+object-in store cell head (Some (value.Long n)) e = absurd (cc)
+object-in store cell head (Some (value.Ref d)) e = by_test (d.0 == 0) (head_at store d.0) refl e where
+  by_test : (null : Bool) (there : Option Head) → there ≡ head_at store d.0 → look.Object cell head ≡ (if null then look.Null else look_head d there)
+      → (Some (value.Ref d) ≡ Some (value.Ref cell)) × (head_at store cell.0 ≡ Some head)
+  by_test true there is e = absurd (cc)
+  by_test false None is e = absurd (cc)
+  by_test false (Some h) is e =
+      let same : cell ≡ d = cc in
+      let told : head ≡ h = cc in
+      (ap (λ c. Some (value.Ref c)) (sym same), ap (λ (c : Cell). head_at store c.0) same ∙ sym is ∙ ap Some (sym told))
+
+pub held-at : (x : State) (operand : ℕ) (cell : Cell) (head : Head) → look.Object cell head ≡ look_at x.areas.store (slice_get (stack_of x) operand)
+    → IsHeldAt x.areas.store x operand (record { cell = cell; head = head })
+held-at x operand cell head e =
+    let it = object-in x.areas.store cell head (slice_get (stack_of x) operand) e in
+    by_object (object_at x.areas.store cell.0) refl it.1 where
+      by_object : (object : Option Object) → object_at x.areas.store cell.0 ≡ object → option_map head_of object ≡ Some head
+          → IsHeldAt x.areas.store x operand (record { cell = cell; head = head })
+      by_object None held is = absurd (none-some _ is)
+      by_object (Some object) held is = record {
+        object = object;
+        at = held;
+        head_is = same_Some _ _ is;
+        word =
+            get_or_from_slice_get (stack_of x) operand (value.Ref cell) value.Top
+            (object-in x.areas.store cell head (slice_get (stack_of x) operand) e).0;
+      }
+
+-- ---- texts
+
+-- what follows of an object that is to be a text
+abbrev text_follows : Outline → ℕ → (List ℕ → Effect) → Looks → Effect
+text_follows o operand follows it = if fits_type o.classes it.type (text_type o) then follows it.units else faulty operand
+
+pub text-refused : (o : Outline) (store : Store) (s : List Sight) (operand : ℕ) (r : Refusal) → AsksHeld o store s operand (Err r) → AsksText o store s operand (Err r)
+text-refused o store s operand r asks follows = asks (thrown_null o) (text_follows o operand follows)
+
+-- an object that was found is what follows
+object-follows : (o : Outline) (store : Store) (s : List Sight) (operand : ℕ) (held : Held) (object : Object) → AsksHeld o store s operand (Ok held)
+    → object_at store held.cell.0 ≡ Some object → (follows : List ℕ → Effect)
+    → on_held_of (thrown_null o) operand (slice_get s operand) (text_follows o operand follows)
+    ≡ (if fits_type o.classes (type_numbered o object.class) (text_type o) then follows (units_of o object) else faulty operand)
+unfolding looks
+object-follows o store s operand held object asks at follows =
+    asks (thrown_null o) (text_follows o operand follows) ∙ ap (on_found o store (text_follows o operand follows)) at
+
+pub text-unfit : (o : Outline) (store : Store) (s : List Sight) (operand : ℕ) (held : Held) (object : Object) → AsksHeld o store s operand (Ok held)
+    → object_at store held.cell.0 ≡ Some object → fits_type o.classes (type_numbered o object.class) (text_type o) ≡ false
+    → AsksText o store s operand (Err (refusal.Unfit held.cell))
+text-unfit o store s operand held object asks at unfit follows =
+    object-follows o store s operand held object asks at follows ∙ ap (λ b. if b then follows (units_of o object) else faulty operand) unfit
+
+-- the units of an object, by whether it is a text
+units-are : (o : Outline) (store : Store) (held : Held) (object : Object) (is_text : Bool) → object_at store held.cell.0 ≡ Some object
+    → head_of object ≡ held.head → is_text_type o (type_numbered o object.class) ≡ is_text → units_of o object ≡ units_in store (text_of is_text held)
+units-are o store held object is_text at head_is told =
+    ap (λ b. if b then object.elements else []) told ∙ by_test is_text where
+      elements : object.elements ≡ elements_at store held.cell.0
+      elements = sym (ap (λ found. unwrap_or (option_map (λ (object : Object). object.elements) found) []) at)
+
+      all : length object.elements ≡ held.head.len
+      all = ap (λ (h : Head). h.len) head_is
+
+      by_test : (b : Bool) → (if b then object.elements else []) ≡ units_in store (text_of b held)
+      by_test true = sym (take_all held.head.len object.elements (omega (arith, all))) ∙ ap (take held.head.len) elements
+      by_test false = refl
+
+pub text-found : (o : Outline) (store : Store) (s : List Sight) (operand : ℕ) (held : Held) (object : Object) (is_text : Bool) → AsksHeld o store s operand (Ok held)
+    → object_at store held.cell.0 ≡ Some object → head_of object ≡ held.head → fits_type o.classes (type_numbered o object.class) (text_type o) ≡ true
+    → is_text_type o (type_numbered o object.class) ≡ is_text → AsksText o store s operand (Ok (text_of is_text held))
+text-found o store s operand held object is_text asks at head_is fits told follows =
+    object-follows o store s operand held object asks at follows ∙ ap (λ b. if b then follows (units_of o object) else faulty operand) fits
+    ∙ ap follows (units-are o store held object is_text at head_is told)
+
+pub text-known : (o : Outline) (store : Store) (held : Held) (object : Object) (is_text : Bool) → HoldsTexts o store → object_at store held.cell.0 ≡ Some object
+    → head_of object ≡ held.head → is_text_type o (type_numbered o object.class) ≡ is_text → IsTextAt store (text_of is_text held)
+text-known o store held object is_text texts at head_is told =
+    by_test is_text told where
+      all : length object.elements ≡ held.head.len
+      all = ap (λ (h : Head). h.len) head_is
+
+      elements : elements_at store held.cell.0 ≡ object.elements
+      elements = ap (λ found. unwrap_or (option_map (λ (object : Object). object.elements) found) []) at
+
+      by_test : (b : Bool) → is_text_type o (type_numbered o object.class) ≡ b → IsTextAt store (text_of b held)
+      by_test true is =
+          let known = texts.texts held.cell.0 object at is in
+          record {
+            len = length-take-le held.head.len (elements_at store held.cell.0) (omega (arith, ap length elements, all));
+            within = subst (λ n. n < 2 ^ 31) all known.short;
+            units = All-take (λ unit. unit < 2 ^ 16) held.head.len (elements_at store held.cell.0) (subst (All (λ unit. unit < 2 ^ 16)) (sym elements) known.units);
+          }
+      by_test false is = record { len = refl; within = lit< tt; units = All-nil (λ unit. unit < 2 ^ 16) }
+
+-- whether the object is below the class of texts, as the code found it out
+pub fits-told : (o : Outline) (t text : TypeRef) (held : Held) (object : Object) (told : Bool) → head_of object ≡ held.head
+    → t ≡ type_numbered o held.head.class → text ≡ text_type o → told ≡ fits_type o.classes t text
+    → fits_type o.classes (type_numbered o object.class) (text_type o) ≡ told
+fits-told o t text held object told head_is t_is text_is is =
+    let class : object.class ≡ held.head.class = ap (λ (h : Head). h.class) head_is in
+    ap (λ n. fits_type o.classes (type_numbered o n) (text_type o)) class
+    ∙ (λ i. fits_type o.classes (sym t_is i) (sym text_is i)) ∙ sym is
+
+-- whether it is a text
+pub is_text-told : (o : Outline) (t text : TypeRef) (held : Held) (object : Object) (told : Bool) → head_of object ≡ held.head
+    → t ≡ type_numbered o held.head.class → text ≡ text_type o → told ≡ same_type text t
+    → is_text_type o (type_numbered o object.class) ≡ told
+is_text-told o t text held object told head_is t_is text_is is =
+    let class : object.class ≡ held.head.class = ap (λ (h : Head). h.class) head_is in
+    ap (λ n. is_text_type o (type_numbered o n)) class ∙ (λ i. same_type (sym text_is i) (sym t_is i)) ∙ sym is
+
+-- ---- numbers
+
+abbrev pub found_number : Option ℤ → Result ℤ Refusal
+found_number None = Err refusal.Other
+found_number (Some n) = Ok n
+
+cell-no-int : (o : Outline) (store : Store) (cell : ℕ) (follows : ℤ → Effect) → on_int_of (Some (sight_of_cell o store cell)) follows ≡ stuck
+cell-no-int o store zero follows = refl
+cell-no-int o store (suc cell) follows = by_object (object_at store (suc cell)) where
+  by_object : (object : Option Object) → on_int_of (Some (sight_of_object o store object)) follows ≡ stuck
+  by_object None = refl
+  by_object (Some object) = refl
+
+int-of : (o : Outline) (store : Store) (operand : ℕ) (v : Option Value) (follows : ℤ → Effect)
+    → on_int_of (option_map (sight o store) v) follows ≡ asked o operand (found_number (int_in v)) follows
+int-of o store operand None follows = refl
+int-of o store operand (Some value.Top) follows = refl
+int-of o store operand (Some (value.Int n)) follows = refl
+int-of o store operand (Some (value.Long n)) follows = refl
+int-of o store operand (Some (value.Ref cell)) follows = cell-no-int o store cell.0 follows
+
+pub int-asked : (o : Outline) (store : Store) (stack : List Value) (operand : ℕ) (found : Option ℤ) → found ≡ int_in (slice_get stack operand)
+    → AsksInt o (sights o store stack) operand (found_number found)
+int-asked o store stack operand found is follows =
+    ap (λ s. on_int_of s follows) (slice_get-map (sight o store) stack operand)
+    ∙ int-of o store operand (slice_get stack operand) follows ∙ ap (λ n. asked o operand (found_number n) follows) (sym is)
+
+cell-no-long : (o : Outline) (store : Store) (cell : ℕ) (follows : ℤ → Effect) → on_long_of (Some (sight_of_cell o store cell)) follows ≡ stuck
+cell-no-long o store zero follows = refl
+cell-no-long o store (suc cell) follows = by_object (object_at store (suc cell)) where
+  by_object : (object : Option Object) → on_long_of (Some (sight_of_object o store object)) follows ≡ stuck
+  by_object None = refl
+  by_object (Some object) = refl
+
+long-of : (o : Outline) (store : Store) (operand : ℕ) (v : Option Value) (follows : ℤ → Effect)
+    → on_long_of (option_map (sight o store) v) follows ≡ asked o operand (found_number (long_in v)) follows
+long-of o store operand None follows = refl
+long-of o store operand (Some value.Top) follows = refl
+long-of o store operand (Some (value.Int n)) follows = refl
+long-of o store operand (Some (value.Long n)) follows = refl
+long-of o store operand (Some (value.Ref cell)) follows = cell-no-long o store cell.0 follows
+
+pub long-asked : (o : Outline) (store : Store) (stack : List Value) (operand : ℕ) (found : Option ℤ) → found ≡ long_in (slice_get stack operand)
+    → AsksLong o (sights o store stack) operand (found_number found)
+long-asked o store stack operand found is follows =
+    ap (λ s. on_long_of s follows) (slice_get-map (sight o store) stack operand)
+    ∙ long-of o store operand (slice_get stack operand) follows ∙ ap (λ n. asked o operand (found_number n) follows) (sym is)

@@ -1,0 +1,4 @@
+pub mod Asks
+pub mod BuiltIns
+pub mod Lists
+pub mod Rows

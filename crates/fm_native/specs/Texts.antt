@@ -1,0 +1,17 @@
+-- What built-in methods ask of the texts that are held, so that their elements are units; in the run of a typed program each text is so.
+use Rattle.std.specs.Prelude.{◌≡◌, ℕ, ◌^◌, ◌<◌, true, Some, length}
+use Rattle.std.specs.List.{All}
+use Rattle.fm_cells.specs.Objects.{Object}
+use Rattle.fm_cells.specs.Stores.{object_at, Store}
+use Rattle.fm_frames.specs.Elements.{is_text_type}
+use Rattle.fm_frames.specs.Sights.{type_numbered}
+use Rattle.fm_world.specs.Programs.{Outline}
+
+-- the elements of a text are 16-bit units, and an int counts them
+pub record IsText (object : Object) : Type 0 where
+  pub units : All (λ unit. unit < 2 ^ 16) object.elements
+  pub short : length object.elements < 2 ^ 31
+
+-- all texts that are held are so
+pub record HoldsTexts (o : Outline) (store : Store) : Type 0 where
+  pub texts : (cell : ℕ) (object : Object) → object_at store cell ≡ Some object → is_text_type o (type_numbered o object.class) ≡ true → IsText object

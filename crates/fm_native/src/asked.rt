@@ -1,0 +1,158 @@
+// What rows ask of their operands: an object, a text, a number.
+//
+// Operands are counted from the top of the stack. Each call answers what is there, or the refusal by
+// which the step then ends, and changes nothing.
+
+ghost use Rattle.std.specs.Prelude.{◌≡◌, ◌<◌, ◌^◌, ℕ, IfErr, IfOk, OnOk};
+ghost use Rattle.fm_native.specs.Doing.{seen};
+ghost use Rattle.fm_native.specs.Texts.{HoldsTexts};
+ghost use Rattle.fm_native.specs.inner.Asked.{refused, text_of, units_in, AsksHeld, AsksInt, AsksLong, AsksText, IsAt, IsHeldAt, IsTextAt};
+ghost use Rattle.fm_frames.specs.Runnable.{IsRunnable};
+ghost use Rattle.fm_frames.specs.inner.Doings.{CanStep, DoesIn};
+
+use fm_base::{NoMemory, TypeId};
+use fm_cells::{Cell, Head, Memory};
+use fm_frames::{
+    Look, Machine, NULL_POINTER_EXCEPTION, STRING, is_text, type_numbered, type_of_class,
+};
+use fm_types::fits_type;
+use fm_world::Program;
+
+/// An object that an operand leads to: its cell and its head.
+#[derive(Clone, Copy, Debug)]
+pub struct Held {
+    pub cell: Cell,
+    pub head: Head,
+}
+
+/// A text that an operand leads to: its cell, and how many units it has.
+#[derive(Clone, Copy, Debug)]
+pub struct Text {
+    pub cell: Cell,
+    pub len: u32,
+}
+
+/// Why an operand isn't what a row asks for.
+#[derive(Clone, Copy, Debug)]
+pub enum Refusal {
+    /// It is of another sort than each typed program has there.
+    Other,
+    Null,
+    /// Its cell isn't held, or holds an object of another type.
+    Unfit(Cell),
+    /// Its object's hidden field leads to a cell that isn't held, or holds no text.
+    Lost(Cell),
+}
+
+/// Ends the step at an operand that isn't what was asked for.
+pub fn refuse<M: Memory>(
+    machine: &mut Machine<M>,
+    program: &Program,
+    refusal: Refusal,
+) -> Result<(), NoMemory>
+    requires { CanStep program.now machine.old }
+    ensures { OnOk result ((operand : ℕ) → IsAt program.now.outline machine.old operand refusal
+        → DoesIn program.now M.choose machine.old machine.new
+        (refused program.now.outline operand refusal)) }
+{
+    match refusal {
+        Refusal::Other => {
+            machine.stuck(program);
+            Ok(())
+        }
+        Refusal::Null => machine.throw_new(program, NULL_POINTER_EXCEPTION),
+        Refusal::Unfit(cell) => {
+            machine.fault(program, cell);
+            Ok(())
+        }
+        Refusal::Lost(cell) => {
+            machine.fault(program, cell);
+            Ok(())
+        }
+    }
+}
+
+/// The object that an operand leads to. Takes no memory.
+pub fn held_at<M: Memory>(
+    machine: &Machine<M>,
+    program: &Program,
+    place: usize,
+) -> Result<Held, Refusal>
+    ensures value { AsksHeld program.now.outline machine.now.areas.store
+        (seen program.now machine.now) place result }
+    ensures held { IfOk result (IsHeldAt machine.now.areas.store machine.now place) }
+    ensures at { IfErr result (IsAt program.now.outline machine.now place) }
+{
+    let _classes = program.classes();
+    match machine.look(place) {
+        Look::Other => Err(Refusal::Other),
+        Look::Null => Err(Refusal::Null),
+        Look::Gone(cell) => Err(Refusal::Unfit(cell)),
+        Look::Object(cell, head) => Ok(Held { cell, head }),
+    }
+}
+
+// The text of a held cell; none of the elements of an object that isn't one are its units.
+fn text_of(held: Held, is_text: bool) -> Text
+    ensures { result ≡ text_of is_text held }
+{
+    let len = if is_text { held.head.len } else { 0 };
+    Text {
+        cell: held.cell,
+        len,
+    }
+}
+
+/// The text that an operand leads to. Takes no memory.
+pub fn text_at<M: Memory>(
+    machine: &Machine<M>,
+    program: &Program,
+    place: usize,
+) -> Result<Text, Refusal>
+    requires runnable { IsRunnable program.now }
+    requires texts { HoldsTexts program.now.outline machine.now.areas.store }
+    ensures value { AsksText program.now.outline machine.now.areas.store
+        (seen program.now machine.now) place result }
+    ensures text { IfOk result (IsTextAt machine.now.areas.store) }
+    ensures at { IfErr result (IsAt program.now.outline machine.now place) }
+{
+    let held = held_at(machine, program, place)?;
+    let t = type_numbered(program, TypeId(held.head.class));
+    let fits = fits_type(program, t, type_of_class(STRING));
+    if fits {
+        return Ok(text_of(held, is_text(t)));
+    }
+    Err(Refusal::Unfit(held.cell))
+}
+
+/// The int that an operand is. Takes no memory.
+pub fn int_at<M: Memory>(
+    machine: &Machine<M>,
+    program: &Program,
+    place: usize,
+) -> Result<i32, Refusal>
+    ensures value { AsksInt program.now.outline (seen program.now machine.now) place result }
+    ensures at { IfErr result (IsAt program.now.outline machine.now place) }
+{
+    let _classes = program.classes();
+    match machine.int_operand(place) {
+        Some(n) => Ok(n),
+        None => Err(Refusal::Other),
+    }
+}
+
+/// The long that an operand is. Takes no memory.
+pub fn long_at<M: Memory>(
+    machine: &Machine<M>,
+    program: &Program,
+    place: usize,
+) -> Result<i64, Refusal>
+    ensures value { AsksLong program.now.outline (seen program.now machine.now) place result }
+    ensures at { IfErr result (IsAt program.now.outline machine.now place) }
+{
+    let _classes = program.classes();
+    match machine.long_operand(place) {
+        Some(n) => Ok(n),
+        None => Err(Refusal::Other),
+    }
+}

@@ -1,0 +1,76 @@
+// The methods of Object.
+
+ghost use Rattle.std.specs.Prelude.{◌≡◌, OnOk};
+ghost use Rattle.fm_native.specs.Doing.{DoesRow};
+ghost use Rattle.fm_frames.specs.Acts.{cell_of, told_same};
+ghost use Rattle.fm_frames.specs.NativeRows.{hash_of};
+ghost use Rattle.fm_frames.specs.Natives.{ObjectEquals, ObjectHashCode, ObjectInit};
+ghost use Rattle.fm_frames.specs.inner.Doings.{CanStep};
+
+use crate::asked::{held_at, refuse};
+use fm_base::NoMemory;
+use fm_cells::{Cell, Memory};
+use fm_frames::{Machine, Value};
+use fm_world::Program;
+
+/// The constructor of Object, which does nothing. Takes no memory.
+pub fn init<M: Memory>(machine: &mut Machine<M>, program: &Program)
+    requires { CanStep program.now machine.old }
+    ensures { DoesRow program.now M.choose machine.old machine.new ObjectInit }
+{
+    let _classes = program.classes();
+    machine.take(1);
+}
+
+// The number of an object as an int: from 2^31 on less 2^32.
+fn hash_of(birth: u32) -> i32
+    ensures { result ≡ hash_of birth }
+{
+    birth.cast_signed()
+}
+
+/// hashCode of an object: its number.
+pub fn hash_code<M: Memory>(machine: &mut Machine<M>, program: &Program) -> Result<(), NoMemory>
+    requires { CanStep program.now machine.old }
+    ensures { OnOk result (DoesRow program.now M.choose machine.old machine.new ObjectHashCode) }
+{
+    match held_at(machine, program, 0) {
+        Ok(held) => {
+            let hash = hash_of(held.head.birth);
+            machine.give(1, Value::Int(hash))
+        }
+        Err(refusal) => refuse(machine, program, refusal),
+    }
+}
+
+// The cell of a reference; null of another value.
+fn cell_of(value: Value) -> Cell
+    ensures { result.0 ≡ cell_of value }
+{
+    match value {
+        Value::Ref(cell) => cell,
+        Value::Top | Value::Int(_) | Value::Long(_) => Cell(0),
+    }
+}
+
+// Whether two references are the same.
+fn told_same(first: Value, second: Value) -> Value
+    ensures { result ≡ told_same first second }
+{
+    if cell_of(first).0 == cell_of(second).0 {
+        Value::Int(1)
+    } else {
+        Value::Int(0)
+    }
+}
+
+/// equals of an object: whether the two references are the same, at which nothing is looked.
+pub fn equals<M: Memory>(machine: &mut Machine<M>, program: &Program) -> Result<(), NoMemory>
+    requires { CanStep program.now machine.old }
+    ensures { OnOk result (DoesRow program.now M.choose machine.old machine.new ObjectEquals) }
+{
+    let _classes = program.classes();
+    let first = machine.word(0);
+    let second = machine.word(1);
+    machine.give(2, told_same(first, second))
+}
