@@ -12,8 +12,10 @@ example = record { program = program_with typed_code; number = 86; code = typed_
 abbrev pub made_word : Node
 made_word = Slot 1 0
 
+-- the local in which the object is kept
 abbrev pub kept_in : Node
 kept_in = Local 1
 
+-- what the methods of the program link
 abbrev pub linked_in_example : Linking
 linked_in_example = Linked example.program (λ method. typed_states)

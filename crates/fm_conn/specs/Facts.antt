@@ -24,6 +24,7 @@ pub record AreFactsOf (p : Program) (facts : Facts) (method : ℕ) (code : Code)
   pub class : (a b : Node) →
       (facts.class method a ≡ facts.class method b) ↔ Joined (Linked p facts.typing) (typed_method p facts.typing method code) a b
 
+-- of all methods: which ends are linked, and of those that have code what their items, locals and nodes are
 pub record AreFacts (p : Program) (facts : Facts) : Type 0 where
   pub linked : (method : ℕ) (a b : End2) → IsEnd p.outline method a → IsEnd p.outline method b →
       (facts.linked method a b ≡ true) ↔ Linked p facts.typing method a b

@@ -19,6 +19,7 @@ use Rattle.fm_conn.specs.declared.ends.End2.TheVariants as end
 
 -- ---- the item
 
+-- what the index of an instruction stands for in the method's class
 abbrev pub use_at : TypedMethod → Insn → Use
 use_at x i = use_by x.program x.number i
 
@@ -36,6 +37,7 @@ StandsAt x j i Outside node = node ≡ Global
 
 -- ---- calls
 
+-- the call of a kind that a use makes, where it names a method and a type that is there
 abbrev pub call_with : TypedMethod → CallKind → Use → Option Call
 call_with x k (resolved.OfMethod m t) =
     option_map
@@ -129,5 +131,6 @@ abbrev pub IsPath : Linking → TypedMethod → Node → List Node → Node → 
 IsPath linked x a [] b = a ≡ b
 IsPath linked x a (next ∷ rest) b = ArePaired linked x a next × IsPath linked x next rest b
 
+-- some path leads from one to the other
 abbrev pub Joined : Linking → TypedMethod → Node → Node → Type 0
 Joined linked x a b = (path : List Node) × IsPath linked x a path b

@@ -20,9 +20,11 @@ use Rattle.fm_world.specs.declared.uses.Use.TheVariants as resolved
 
 -- ---- fields and methods that an instruction names
 
+-- the kind of a field by its number
 abbrev pub kind_of_field : Outline → ℕ → Kind
 kind_of_field o field = field_kind o.classes (field_at o.classes field).field
 
+-- values of the kind are references
 abbrev pub is_reference_kind : Kind → Bool
 is_reference_kind (kind.Ref t) = true
 is_reference_kind kind.Boolean = false
@@ -32,11 +34,12 @@ is_reference_kind kind.Short = false
 is_reference_kind kind.Int = false
 is_reference_kind kind.Long = false
 
--- the field, or the method, that a use is
+-- the field that a use is
 abbrev pub field_in : Use → Option ℕ
 field_in (resolved.OfField f t) = Some f.0
 field_in u = None
 
+-- the method that a use is
 abbrev pub method_in : Use → Option ℕ
 method_in (resolved.OfMethod m t) = Some m.0
 method_in u = None
@@ -61,6 +64,7 @@ words_of_call o method =
     let m = (method_at o.classes method).method in
     (if is_static m.flags then 0 else 1) + argument_words o.classes m.descriptor
 
+-- the words that a call of what is named takes
 abbrev pub call_words : Outline → Use → ℕ
 call_words o u = of_method (method_in u) where
   of_method : Option ℕ → ℕ
@@ -69,11 +73,13 @@ call_words o u = of_method (method_in u) where
 
 -- ---- the words that are taken: those below them stay
 
+-- the words that a store takes (JVMS 6.5.istore and its like)
 abbrev pub taken_to_store : Reg → ℕ
 taken_to_store reg.Int = 1
 taken_to_store reg.Long = 2
 taken_to_store reg.Ref = 1
 
+-- the words that a conversion takes (JVMS 6.5.i2l and its like)
 abbrev pub taken_to_convert : Conv → ℕ
 taken_to_convert conv.IntToLong = 1
 taken_to_convert conv.LongToInt = 2
@@ -81,6 +87,7 @@ taken_to_convert conv.IntToByte = 1
 taken_to_convert conv.IntToChar = 1
 taken_to_convert conv.IntToShort = 1
 
+-- the words that a store into an array takes: the array, the index and the value (JVMS 6.5.iastore and its like)
 abbrev pub taken_to_put : Elem → ℕ
 taken_to_put elem.Long = 4
 taken_to_put elem.Boolean = 3
@@ -90,14 +97,17 @@ taken_to_put elem.Short = 3
 taken_to_put elem.Int = 3
 taken_to_put elem.Ref = 3
 
+-- the words that a return takes (JVMS 6.5.ireturn and its like)
 abbrev pub taken_to_return : Option Reg → ℕ
 taken_to_return None = 0
 taken_to_return (Some r) = taken_to_store r
 
+-- the words that a stack move takes
 abbrev pub taken_to_move : Option Moves → ℕ
 taken_to_move None = 0
 taken_to_move (Some m) = m.takes
 
+-- the words that an instruction takes, by what its index names
 unfoldable pub words_taken : Outline → Use → Insn → ℕ
 words_taken o u insn.Nop = 0
 words_taken o u insn.Null = 0
@@ -168,20 +178,24 @@ abbrev pub moved_words : List ℕ → List (Place × Place)
 moved_words [] = []
 moved_words (place ∷ places) = (Taken place, Given (length places)) ∷ moved_words places
 
+-- the places that a stack move joins
 abbrev pub joined_by_move : Option Moves → List (Place × Place)
 joined_by_move None = []
 joined_by_move (Some m) = moved_words m.gives
 
+-- the places that a load joins
 abbrev pub joined_to_load : Reg → ℕ → List (Place × Place)
 joined_to_load reg.Int k = []
 joined_to_load reg.Long k = []
 joined_to_load reg.Ref k = (InLocal k, Given 0) ∷ []
 
+-- the places that a store joins
 abbrev pub joined_to_store : Reg → ℕ → List (Place × Place)
 joined_to_store reg.Int k = []
 joined_to_store reg.Long k = []
 joined_to_store reg.Ref k = (Taken 0, InLocal k) ∷ []
 
+-- the places that a return joins
 abbrev pub joined_to_return : Option Reg → List (Place × Place)
 joined_to_return (Some reg.Ref) = (Taken 0, AsResult) ∷ []
 joined_to_return (Some reg.Int) = []
@@ -198,6 +212,7 @@ of_references elem.Short places = []
 of_references elem.Int places = []
 of_references elem.Long places = []
 
+-- where the field that is named holds references
 abbrev pub of_reference_field : Outline → Use → List (Place × Place) → List (Place × Place)
 of_reference_field o u places = if is_reference_field o u then places else []
 

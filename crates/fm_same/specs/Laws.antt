@@ -50,6 +50,7 @@ pub record IsWithin (depth class : ℕ) (r : Region) : Type 0 where
   pub below : (d c : ℕ) → r ≡ Own d c → d ≤ depth
   pub own : (c : ℕ) → r ≡ Own depth c → c ≡ class
 
+-- so are the regions of all classes
 abbrev pub RegionsAreWithin : Type 0
 RegionsAreWithin =
     (o : Outline) (facts : Facts) (method : ℕ) (callers : List Frame) (class : ℕ) → IsWithin (length callers) class (region o facts method callers class)
