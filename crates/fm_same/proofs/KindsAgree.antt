@@ -1,10 +1,8 @@
 -- Places are read and put by their kinds: what an instruction sees of an object passes its test, so the object's place has the kind that the row goes by.
-use Rattle.std.proofs.Common.{◌≡◌, ℕ, ℤ, pos, zero, suc, ◌+◌, ◌-◌, ◌*◌, ◌<◌, ◌==◌, ◌&&◌, ◌||◌, not, int_lt, cond, Bool, true, false, List, [], ◌∷◌, ◌++◌, length, Option, Some, None, codes, unsigned_abs, nat_lt, option_and_then, refl, sym, ◌∙◌, ap, subst, slice_get, arith, eqb-true, ltb-true, ne_eqb}
-use Rattle.std.specs.List.{AllByRecursion, flat_map, list_any, range_with_len}
-use Rattle.std.proofs.lemmas.Bool.{and_parts, false≢true}
+use Rattle.std.proofs.Common.{◌≡◌, ℕ, pos, zero, suc, ◌+◌, ◌-◌, ◌*◌, ◌<◌, ◌==◌, ◌&&◌, ◌||◌, not, int_lt, cond, Bool, true, List, [], ◌∷◌, ◌++◌, Some, codes, unsigned_abs, option_and_then, refl, sym, ◌∙◌, ap, slice_get, arith, eqb-true, ltb-true, ne_eqb}
+use Rattle.std.specs.List.{AllByRecursion, range_with_len}
+use Rattle.std.proofs.lemmas.Bool.{and_parts}
 use Rattle.std.proofs.lemmas.Option.{none-some, same_Some}
-use Rattle.fm_base.specs.declared.ids.FieldId.{FieldId}
-use Rattle.fm_base.specs.declared.ids.TypeId.{TypeId}
 use Rattle.fm_base.specs.declared.kinds.Base.{Base}
 use Rattle.fm_base.specs.declared.kinds.Base.TheVariants as base
 use Rattle.fm_base.specs.declared.kinds.Kind.{Kind}
@@ -15,13 +13,13 @@ use Rattle.fm_cells.specs.Stores.{object_at, Store}
 use Rattle.fm_code.specs.declared.operations.Elem.{Elem}
 use Rattle.fm_code.specs.declared.operations.Elem.TheVariants as elem
 use Rattle.fm_types.specs.ArrayRows.{has_letter, is_array_of}
-use Rattle.fm_types.specs.Fits.{depth_of, depth_with, fits_type}
+use Rattle.fm_types.specs.Fits.{depth_of, depth_with}
 use Rattle.fm_world.specs.Members.{kinds_of}
 use Rattle.fm_world.specs.Programs.{class_of_type, kind_at, Outline}
 use Rattle.fm_world.specs.declared.declarations.DeclaredClass.{DeclaredClass}
 use Rattle.fm_frames.specs.Acts.{cell_of}
-use Rattle.fm_frames.specs.ArrayRows.{array_actions, array_load_effect, array_store_effect, arrays_made, element_kind, element_type, element_words, on_element, put_element, put_reference}
-use Rattle.fm_frames.specs.Effects.{Action, Effect, faulty, loaded, Make, OfMade, OfOperand, OfPlace, Plain, Put, Source, stuck, words}
+use Rattle.fm_frames.specs.ArrayRows.{array_actions, array_load_effect, array_store_effect, arrays_made, element_kind, element_type, on_element, put_element, put_reference}
+use Rattle.fm_frames.specs.Effects.{Effect, faulty, loaded, OfMade, OfOperand, OfPlace, Put, Source, stuck, words}
 use Rattle.fm_frames.specs.Operands.{thrown, thrown_null}
 use Rattle.fm_frames.specs.Sights.{Looks, looks, Sight, sight, sight_of_cell, sight_of_object, sights, Thing, type_numbered}
 use Rattle.fm_frames.specs.States.{word_at}

@@ -1,6 +1,6 @@
 -- All rows read and put by the kinds of places: those of fields by what linking makes sure of, those of arrays by the array that is seen, and the others
 -- read no place and put no number.
-use Rattle.std.proofs.Common.{◌≡◌, ℕ, ℤ, pos, suc, ◌+◌, ◌-◌, ◌||◌, not, int_lt, int_le, cond, Bool, true, false, List, [], ◌∷◌, ◌++◌, length, reverse, nat_lt, Option, Some, None, codes, option_and_then, refl, sym, ◌∙◌, ap, subst, slice_get}
+use Rattle.std.proofs.Common.{◌≡◌, ℕ, ℤ, pos, ◌+◌, ◌-◌, ◌||◌, not, int_lt, true, false, List, [], ◌∷◌, ◌++◌, length, reverse, nat_lt, Option, Some, None, codes, refl, slice_get}
 use Rattle.std.specs.List.{AllByRecursion, list_any, range_with_len}
 use Rattle.fm_alu.specs.Operations.{result_of_op}
 use Rattle.fm_base.specs.declared.ids.FieldId.{FieldId}
@@ -18,29 +18,28 @@ use Rattle.fm_code.specs.declared.operations.Op.{Op}
 use Rattle.fm_code.specs.declared.operations.Reg.{Reg}
 use Rattle.fm_code.specs.declared.operations.Reg.TheVariants as reg
 use Rattle.fm_types.specs.Fits.{fits_type}
-use Rattle.fm_types.specs.Moves.{moves_of}
 use Rattle.fm_types.specs.Named.{throwable_type}
 use Rattle.fm_world.specs.Causes.{static_field_wanted}
 use Rattle.fm_world.specs.Chains.{is_sub}
 use Rattle.fm_world.specs.Descriptors.{kind_words}
-use Rattle.fm_world.specs.Lookups.{select, special_target}
+use Rattle.fm_world.specs.Lookups.{select}
 use Rattle.fm_world.specs.Members.{slot_of}
 use Rattle.fm_world.specs.Programs.{class_of_type, kind_at, Outline}
 use Rattle.fm_world.specs.declared.uses.Use.{Use}
 use Rattle.fm_world.specs.declared.uses.Use.TheVariants as resolved
 use Rattle.fm_frames.specs.ArrayRows as arrays
 use Rattle.fm_frames.specs.CallRows as calls
-use Rattle.fm_frames.specs.Effects.{acting, Calls, Effect, Make, OfStatic, SetStatic, Exits, faulty, Faults, going, int_word, Jumps, JumpsIfSame, loaded, long_words, making, null_word, OfOperand, OfPlace, Plain, printing, Put, Returns, SameOperands, Source, stuck, Throws, words}
+use Rattle.fm_frames.specs.Effects.{acting, Calls, Effect, Make, OfStatic, SetStatic, faulty, Faults, going, int_word, loaded, long_words, making, OfOperand, OfPlace, Source, stuck, words}
 use Rattle.fm_frames.specs.JumpRows as jumps
 use Rattle.fm_frames.specs.NativeRows as table
-use Rattle.fm_frames.specs.Natives.{Shown, Native, ObjectInit, ObjectHashCode, ObjectEquals, ObjectToString, StringLength, CharAt, StringEquals, StringHashCode, CompareTo, StringToString, Substring, ValueOf, BuilderInit, Append, BuilderLength, BuilderToString, BufferInitOf, Exit, Print, Println, PrintlnNothing, Read, ThrowableInit, ThrowableInitOf, GetMessage, ThrowableToString, FreeMeFree, FreeMeLink, FreeMeFreeChain}
+use Rattle.fm_frames.specs.Natives.{Native, ObjectInit, ObjectHashCode, ObjectEquals, ObjectToString, StringLength, CharAt, StringEquals, StringHashCode, CompareTo, StringToString, Substring, ValueOf, BuilderInit, Append, BuilderLength, BuilderToString, BufferInitOf, Exit, Print, Println, PrintlnNothing, Read, ThrowableInit, ThrowableInitOf, GetMessage, ThrowableToString, FreeMeFree, FreeMeLink, FreeMeFreeChain}
 use Rattle.fm_frames.specs.NumberRows as numbers
 use Rattle.fm_frames.specs.ObjectRows as objects
 use Rattle.fm_frames.specs.Operands.{size_of_type, thrown, thrown_null}
 use Rattle.fm_frames.specs.Rows.{effect_of}
-use Rattle.fm_frames.specs.Sights.{Looks, Sight, sights}
+use Rattle.fm_frames.specs.Sights.{Sight, sights}
 use Rattle.fm_frames.specs.declared.values.Value.{Value}
-use Rattle.fm_same.specs.Evenness.{PlacesAgree, PutAgrees, ReadAgrees}
+use Rattle.fm_same.specs.Evenness.{PutAgrees, ReadAgrees}
 use Rattle.fm_same.proofs.Cases.{by_any, by_builder, by_built, by_held, by_if, by_inner, by_int, by_long, by_object, by_on_field, by_on_method, by_on_type, by_passing, by_reference, by_shown, by_text, by_thrown}
 use Rattle.fm_same.proofs.KindsAgree.{Agrees, array_load_agrees, array_store_agrees, arrays_agree, bare, gone, loaded_agrees, nulls, put_agrees, seen_place, stucks, throws}
 
