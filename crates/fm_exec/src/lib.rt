@@ -6,6 +6,8 @@
 
 mod calls;
 mod constants;
+mod fields;
+mod held;
 mod jumps;
 mod locals;
 mod numbers;
@@ -15,6 +17,7 @@ mod throws;
 
 pub use calls::{leave, static_call};
 pub use constants::{int_constant, long_constant, nop, null};
+pub use fields::{get_field, get_static, put_field, put_static};
 pub use jumps::{go_to, if_int, if_null, if_pair, if_same, lookup_switch, table_switch};
 pub use locals::{increment, load, store};
 pub use numbers::{
