@@ -133,12 +133,3 @@ object-found o store stack operand cell head e =
       any = λ of_null follows.
           ap (λ s. on_held_of of_null operand s follows) (slice_get-map (sight o store) stack operand) ∙ it.any of_null follows;
     }
-
--- an object that is looked at by the code is the object that is seen
-pub object-looked : (store : Store) (v : Option Value) (cell : Cell) (head : Head) → look.Object cell head ≡ look_at store v
-    → Some (cell, head) ≡ object_in (look_at store v)
-object-looked store v cell head e = ap object_in e
-
--- anything else is none
-pub none-looked : (store : Store) (v : Option Value) (seen : Look) → seen ≡ look_at store v → object_in seen ≡ None → object_in (look_at store v) ≡ None
-none-looked store v seen e none = ap object_in (sym e) ∙ none

@@ -8,3 +8,4 @@ pub mod PlainSteps
 pub mod KeySteps
 pub mod HeldSteps
 pub mod FieldSteps
+pub mod ArraySteps

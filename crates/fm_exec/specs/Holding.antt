@@ -1,6 +1,6 @@
--- What rows ask of the numbers in objects and of the values that are put there: that they are of the kinds of their places. Each state of a typed program
--- is so.
-use Rattle.std.specs.Prelude.{◌≡◌, ℕ, ◌-◌, true, Some}
+-- What rows ask of the numbers in objects and of the values that are put there: that they are of the kinds of their places; and of the lengths of arrays.
+-- Each state of a typed program is so.
+use Rattle.std.specs.Prelude.{◌≡◌, ℕ, ◌-◌, ◌<◌, ◌^◌, length, nat_lt, true, Some}
 use Rattle.fm_cells.specs.Objects.{Object}
 use Rattle.fm_cells.specs.Stores.{object_at}
 use Rattle.fm_frames.specs.ObjectRows.{kind_of_field}
@@ -33,3 +33,9 @@ TakesField p x field named =
     (cell : ℕ) (object : Object) → IsObject x n cell object
     → fits_type o.classes (type_numbered o object.class) (type_numbered o named) ≡ true
     → FitsIn x.areas.store cell (kind_of_field o field) (word_at (stack_of x) (n - 1))
+
+-- where the topmost operand is an array, its length is an int (JVMS 6.5.arraylength)
+abbrev pub HoldsLength : Program → State → Type 0
+HoldsLength p x =
+    (cell : ℕ) (object : Object) → IsObject x 0 cell object → nat_lt 0 (type_numbered p.outline object.class).dims ≡ true
+    → length object.elements < 2 ^ 31

@@ -4,6 +4,7 @@
 // then as the instruction's effect makes it, over every memory, at the choices that the memory makes.
 #![tactic(auto)]
 
+mod arrays;
 mod calls;
 mod constants;
 mod fields;
@@ -15,6 +16,7 @@ mod objects;
 mod shuffles;
 mod throws;
 
+pub use arrays::{array_length, new_array, new_references};
 pub use calls::{leave, static_call};
 pub use constants::{int_constant, long_constant, nop, null};
 pub use fields::{get_field, get_static, put_field, put_static};
