@@ -36,3 +36,10 @@ throwable-found given = position_from-zero (λ (c : DeclaredClass). bytes_eq c.n
 
 pub throwable-is : (p : Program) → IsRunnable p → built_in_type p.outline (codes "java/lang/Throwable") ≡ type_of_class 7
 throwable-is p runnable = numbered p (codes "java/lang/Throwable") 7 runnable throwable-found
+
+negative-found : (given : List DeclaredClass) → class_number (built_in ++ given) (codes "java/lang/NegativeArraySizeException") ≡ Some 17
+unfolding built_in
+negative-found given = position_from-zero (λ (c : DeclaredClass). bytes_eq c.name (codes "java/lang/NegativeArraySizeException")) (built_in ++ given)
+
+pub negative-is : (p : Program) → IsRunnable p → built_in_type p.outline (codes "java/lang/NegativeArraySizeException") ≡ type_of_class 17
+negative-is p runnable = numbered p (codes "java/lang/NegativeArraySizeException") 17 runnable negative-found

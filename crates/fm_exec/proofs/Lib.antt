@@ -6,3 +6,6 @@ pub mod LookSteps
 pub mod NullSteps
 pub mod PlainSteps
 pub mod KeySteps
+pub mod HeldSteps
+pub mod FieldSteps
+pub mod ArraySteps

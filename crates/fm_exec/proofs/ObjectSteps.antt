@@ -1,5 +1,5 @@
 -- The effects of rows that start classes, where all of them have started; and of calls and returns.
-use Rattle.std.proofs.Common.{◌≡◌, ℕ, ◌+◌, Bool, List, [], ◌∷◌, Option, Some, None, slice_get, refl, ap, sym, ◌∙◌, subst}
+use Rattle.std.proofs.Common.{◌≡◌, ℕ, List, [], Option, Some, None, slice_get, refl, ap, sym, ◌∙◌, subst}
 use Rattle.fm_base.specs.declared.ids.MethodId.{MethodId}
 use Rattle.fm_base.specs.declared.ids.TypeId.{TypeId}
 use Rattle.fm_base.specs.declared.kinds.TypeRef.{TypeRef}
@@ -11,7 +11,6 @@ use Rattle.fm_frames.specs.CallRows.{entered_as, native_of, static_effect, words
 use Rattle.fm_frames.specs.Effects.{Calls, Effect, Make, Returns, going, making, stuck}
 use Rattle.fm_frames.specs.JumpRows.{return_effect}
 use Rattle.fm_frames.specs.ObjectRows.{made_of, new_effect, starting}
-use Rattle.fm_frames.specs.Operands.{size_of_type}
 use Rattle.fm_frames.specs.Sights.{Sight}
 use Rattle.fm_frames.specs.Starts.{started_by, to_start, with_start}
 use Rattle.fm_frames.specs.States.{State}

@@ -1,5 +1,5 @@
 -- What rows see of operands, by what the machine holds.
-use Rattle.std.proofs.Common.{◌≡◌, ℕ, zero, suc, ℤ, List, [], ◌∷◌, Option, Some, None, Result, Ok, Err, OnOk, slice_get, option_map, refl, ap, sym, ◌∙◌, subst}
+use Rattle.std.proofs.Common.{◌≡◌, ℕ, zero, suc, ℤ, List, Option, Some, None, Result, Ok, Err, OnOk, slice_get, option_map, refl, ap, sym, ◌∙◌, subst}
 use Rattle.std.proofs.lemmas.Option.{slice_get-map}
 use Rattle.fm_cells.specs.Objects.{Object}
 use Rattle.fm_cells.specs.Stores.{object_at, Store}

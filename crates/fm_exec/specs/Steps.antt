@@ -1,19 +1,14 @@
 -- What a row of the code does, told by its effect.
-use Rattle.std.specs.Prelude.{◌≡◌, ℕ, List}
+use Rattle.std.specs.Prelude.{ℕ}
 use Rattle.fm_code.specs.declared.operations.Reg.{Reg}
 use Rattle.fm_code.specs.declared.operations.Reg.TheVariants as reg
 use Rattle.fm_world.specs.Programs.{Program}
 use Rattle.fm_frames.specs.Acts.{Choose}
 use Rattle.fm_frames.specs.Effects.{Effect}
-use Rattle.fm_frames.specs.Sights.{Sight, sights}
 use Rattle.fm_frames.specs.Starts.{with_start}
 use Rattle.fm_frames.specs.States.{State}
-use Rattle.fm_frames.specs.Steps.{stack_of}
 use Rattle.fm_frames.specs.inner.Doings.{DoesIn}
-
--- what is seen of the words of the topmost frame's stack
-abbrev pub seen : Program → State → List Sight
-seen p x = sights p.outline x.areas.store (stack_of x)
+pub use Rattle.fm_frames.specs.inner.Doings.{seen}
 
 -- the effect of an instruction, with the start of its class, leads from one state to the other, and nothing is printed
 abbrev pub Steps : Program → Choose → State → State → Effect → Type 0

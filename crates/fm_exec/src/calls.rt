@@ -17,9 +17,11 @@ use fm_code::Reg;
 use fm_frames::Machine;
 use fm_world::Program;
 
-// The words of a value of the kind on a stack.
-fn kind_words(kind: Kind) -> usize
-    ensures { result ≡ kind_words kind }
+/// The words of a value of the kind on a stack.
+pub(crate) fn kind_words(kind: Kind) -> usize
+    ensures value { result ≡ kind_words kind }
+    ensures some { 0 < result }
+    ensures few { result ≤ 2 }
 {
     match kind {
         Kind::Long => 2,

@@ -4,8 +4,11 @@
 // then as the instruction's effect makes it, over every memory, at the choices that the memory makes.
 #![tactic(auto)]
 
+mod arrays;
 mod calls;
 mod constants;
+mod fields;
+mod held;
 mod jumps;
 mod locals;
 mod numbers;
@@ -13,8 +16,10 @@ mod objects;
 mod shuffles;
 mod throws;
 
+pub use arrays::{array_length, new_array, new_references};
 pub use calls::{leave, static_call};
 pub use constants::{int_constant, long_constant, nop, null};
+pub use fields::{get_field, get_static, put_field, put_static};
 pub use jumps::{go_to, if_int, if_null, if_pair, if_same, lookup_switch, table_switch};
 pub use locals::{increment, load, store};
 pub use numbers::{

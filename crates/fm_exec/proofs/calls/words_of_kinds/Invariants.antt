@@ -1,4 +1,4 @@
-use Rattle.std.proofs.Common.{◌≡◌, ◌+◌, ◌*◌, ◌≤◌, take, drop, sum_by}
+use Rattle.std.proofs.Common.{◌≡◌, ◌+◌, ◌*◌, ◌≤◌, drop, sum_by}
 use Rattle.fm_exec.proofs.calls.words_of_kinds.Given as goal
 use Rattle.fm_world.specs.Descriptors.{kind_words}
 

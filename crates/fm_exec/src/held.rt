@@ -1,0 +1,72 @@
+// Operands that have to be objects: what follows where they aren't.
+
+ghost use Rattle.std.specs.Prelude.{◌≡◌, None, ℕ, OnOk, slice_get};
+ghost use Rattle.fm_exec.specs.Steps.{seen, Steps};
+ghost use Rattle.fm_frames.specs.Acts.{value_of};
+ghost use Rattle.fm_frames.specs.Effects.{loaded, words, Effect, Source};
+ghost use Rattle.fm_frames.specs.Operands.{on_any};
+ghost use Rattle.fm_frames.specs.Runnable.{IsRunnable};
+ghost use Rattle.fm_frames.specs.Sights.{Looks, type_numbered};
+ghost use Rattle.fm_world.specs.Programs.{IsTypeIn};
+ghost use Rattle.fm_frames.specs.Steps.{stack_of};
+ghost use Rattle.fm_frames.specs.inner.Doings.{before, CanStep, Does, IsReady};
+ghost use Rattle.fm_frames.specs.inner.Looks.{look_at, object_in};
+
+use fm_base::{Kind, NoMemory, TypeId, TypeRef};
+use fm_cells::{Head, Memory};
+use fm_frames::{Look, Machine, NULL_POINTER_EXCEPTION, Value, type_numbered};
+use fm_world::Program;
+
+/// The step of an instruction whose operand at this place is no object: null throws, and a cell that isn't
+/// held is a fault.
+pub(crate) fn refuse<M: Memory>(
+    machine: &mut Machine<M>,
+    program: &Program,
+    operand: usize,
+) -> Result<(), NoMemory>
+    requires { CanStep program.now machine.old }
+    ensures { object_in (look_at machine.old.areas.store (slice_get (stack_of machine.old) operand)) ≡ None
+        → (follows : Looks → Effect) → OnOk result (Steps program.now M.choose machine.old machine.new
+        (on_any program.now.outline (seen program.now machine.old) operand follows)) }
+{
+    match machine.look(operand) {
+        Look::Null => machine.throw_new(program, NULL_POINTER_EXCEPTION),
+        Look::Gone(cell) => {
+            machine.fault(program, cell);
+            Ok(())
+        }
+        Look::Other => {
+            machine.stuck(program);
+            Ok(())
+        }
+        Look::Object(cell, _) => {
+            machine.fault(program, cell);
+            Ok(())
+        }
+    }
+}
+
+/// The type of an object by its head.
+pub(crate) fn type_in(program: &Program, head: Head) -> TypeRef
+    ensures value { result ≡ type_numbered program.now.outline head.class }
+    ensures inside { IsRunnable program.now → IsTypeIn program.now.outline.classes result }
+{
+    type_numbered(program, TypeId(head.class))
+}
+
+/// Puts a value of a kind in place of so many words: a long takes two.
+pub(crate) fn give<M: Memory>(
+    machine: &mut Machine<M>,
+    takes: usize,
+    kind: Kind,
+    value: Value,
+) -> Result<(), NoMemory>
+    requires { IsReady machine.old }
+    ensures { OnOk result ((source : Source) → value_of (before machine.old) source ≡ value
+        → Does machine.old machine.new (words takes (loaded kind source))) }
+{
+    match kind {
+        Kind::Long => machine.give_wide(takes, value),
+        _ => machine.give(takes, value),
+    }
+}
