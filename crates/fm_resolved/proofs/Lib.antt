@@ -1,0 +1,4 @@
+pub mod GivenFiles
+pub mod Rows
+pub mod ClassChains
+pub mod Numbers

@@ -1,0 +1,44 @@
+-- What linking makes sure of, of the program of class files against which no cause stands.
+use Rattle.std.specs.Prelude.{◌≡◌, ℕ, ◌<◌, ◌≤◌, true, List, [], ◌++◌, length, None, Some, slice_get}
+use Rattle.std.specs.List.{AllByRecursion}
+use Rattle.fm_base.specs.declared.kinds.TypeRef.{TypeRef}
+use Rattle.fm_code.specs.Spells.{HasSpelling}
+use Rattle.fm_code.specs.declared.class_file.ClassDef.{ClassDef}
+use Rattle.fm_code.specs.declared.code_array.Code.{Code}
+use Rattle.fm_frames.specs.Runnable.{IsUseIn}
+use Rattle.fm_types.specs.Fits.{AreTree, object_of}
+use Rattle.fm_world.specs.BuiltIns.{built_in}
+use Rattle.fm_world.specs.Chains.{chain_of, is_among}
+use Rattle.fm_world.specs.Linking.{refusals}
+use Rattle.fm_world.specs.Members.{method_at, methods_of}
+use Rattle.fm_world.specs.Numbers.{type_number, type_of_class}
+use Rattle.fm_world.specs.Programs.{code_at, IsTypeIn, Program, program_of, use_of}
+use Rattle.fm_world.specs.declared.declarations.DeclaredClass.{DeclaredClass}
+
+-- what linking makes sure of
+pub record IsLinkedWell (p : Program) : Type 0 where
+  -- the classes that are given, after the built-in ones, which have the same numbers in each program
+  pub given : List DeclaredClass
+  pub classes : p.outline.classes ≡ built_in ++ given
+  -- a type that has a number is of a class that is there
+  pub types : (n : ℕ) (t : TypeRef) → slice_get p.outline.types n ≡ Some t → IsTypeIn p.outline.classes t
+  -- a method is of a class that is there
+  pub owners : (method : ℕ) → (method_at p.outline.classes method).class < length p.outline.classes
+  -- what an index of a class's constant pool stands for is there (JVMS 5.4.3)
+  pub uses : (class index : ℕ) → IsUseIn p.outline (use_of p class index)
+  -- each method has a place for its code, and one that has code has no row
+  pub codes : length p.codes ≡ length (methods_of p.outline.classes)
+  pub no_row : (method : ℕ) (code : Code) → code_at p method ≡ Some code → (method_at p.outline.classes method).method.row ≡ None
+  -- the types of the classes are numbered first, in the order of the classes
+  pub class_types : (class : ℕ) → class < length p.outline.classes → type_number p.outline.types (type_of_class class) ≡ Some class
+  -- built-in methods alone have rows
+  pub rows : (method : ℕ) → length (methods_of built_in) ≤ method → (method_at p.outline.classes method).method.row ≡ None
+  -- the classes are a tree below Object: each class but Object has a superclass (JVMS 5.3.5)
+  pub tree : AreTree p.outline.classes
+  pub below_object : (class : ℕ) → class < length p.outline.classes
+      → is_among (object_of p.outline.classes) (chain_of p.outline.classes class) ≡ true
+
+-- the program of spelled class files against which no cause stands
+abbrev pub ProgramsAreLinkedWell : Type 0
+ProgramsAreLinkedWell =
+    (given : List ClassDef) (main : List ℕ) → AllByRecursion HasSpelling given → refusals given main ≡ [] → IsLinkedWell (program_of given main)
