@@ -2,3 +2,9 @@ pub mod GivenFiles
 pub mod Rows
 pub mod ClassChains
 pub mod Numbers
+pub mod CodedMethods
+pub mod Calls
+pub mod InterfaceCalls
+pub mod Constants
+pub mod NamedMethods
+pub mod Messages

@@ -17,6 +17,7 @@ use Rattle.fm_frames.specs.Runnable.{IsUseIn}
 use Rattle.fm_lookup.proofs.BuiltInParents.{count_is}
 use Rattle.fm_records.proofs.CodeLaws.{AreCodes-all}
 use Rattle.fm_records.proofs.UseLaws.{resolved_by}
+use Rattle.fm_rows.proofs.OwnerLemmas.{owner_within}
 use Rattle.fm_rows.proofs.UseLemmas.{uses_name_members}
 use Rattle.fm_rows.specs.Members.{NamesMember}
 use Rattle.fm_world.specs.BuiltIns.{built_in}
@@ -34,27 +35,20 @@ use Rattle.fm_world.specs.declared.uses.Use.TheVariants as resolved
 
 -- ---- the classes of methods
 
-owned_below : (class n : ℕ) (methods : List DeclaredMethod) → class < n
-    → AllByRecursion (λ (m : OwnedMethod). m.class < n) (map (λ m. record { class = class; method = m }) methods)
-owned_below class n [] few = tt
-owned_below class n (m ∷ methods) few = (few, owned_below class n methods few)
-
-owned_from : (class n : ℕ) (classes : List DeclaredClass) → class + length classes ≤ n → AllByRecursion (λ (m : OwnedMethod). m.class < n) (methods_from class classes)
-owned_from class n [] few = tt
-owned_from class n (c ∷ classes) few =
-    AllByRecursion-append (λ (m : OwnedMethod). m.class < n) (map (λ m. record { class = class; method = m }) c.methods) (methods_from (class + 1) classes)
-    (owned_below class n c.methods (omega (arith, few))) (owned_from (class + 1) n classes (omega (arith, few)))
-
 some_classes : (given : List ClassDef) → 0 < length (classes_of given)
 unfolding classes_of
 some_classes given = let l = length-append built_in (declared_from 0 given) in let count = count_is in omega (arith, l, count)
 
 pub owner_there : (given : List ClassDef) (method : ℕ) → (method_at (classes_of given) method).class < length (classes_of given)
-unfolding methods_of
-owner_there given method =
-    let n = length (classes_of given) in
-    AllByRecursion-get_or (λ (m : OwnedMethod). m.class < n) (methods_from 0 (classes_of given)) (record { class = 0; method = no_method })
-    (owned_from 0 n (classes_of given) (omega arith)) (some_classes given) method
+owner_there given method = by_place (cases_lt method (length (methods_of (classes_of given)))) where
+  by_place : (method < length (methods_of (classes_of given))) ⊎ (length (methods_of (classes_of given)) ≤ method)
+      → (method_at (classes_of given) method).class < length (classes_of given)
+  by_place (inl within) = owner_within (classes_of given) method within
+  by_place (inr past) =
+      let none : OwnedMethod = record { class = 0; method = no_method } in
+      let at : (method_at (classes_of given) method).class ≡ 0 = ap (λ (m : OwnedMethod). m.class) (get_or_past (methods_of (classes_of given)) method none past) in
+      let some = some_classes given in
+      omega (arith, at, some)
 
 -- ---- codes
 

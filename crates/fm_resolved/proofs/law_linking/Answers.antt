@@ -4,7 +4,10 @@ use Rattle.fm_code.specs.Spells.{HasSpelling}
 use Rattle.fm_code.specs.declared.class_file.ClassDef.{ClassDef}
 use Rattle.fm_linked.proofs.Trees.{no_parent_refused, tree_of}
 use Rattle.fm_resolved.proofs.ClassChains.{below_object}
-use Rattle.fm_resolved.proofs.GivenFiles.{none_missing}
+use Rattle.fm_resolved.proofs.GivenFiles.{no_method_refused, none_missing}
+use Rattle.fm_resolved.proofs.Constants.{plain_constants}
+use Rattle.fm_resolved.proofs.Messages.{message_there}
+use Rattle.fm_resolved.proofs.NamedMethods.{calls_agree, virtual_of_class}
 use Rattle.fm_conn.proofs.TypeLemmas.{types_in}
 use Rattle.fm_resolved.proofs.Numbers.{coded_without_row, one_code_each, owner_there, use_there}
 use Rattle.fm_world.specs.BuiltIns.{built_in}
@@ -30,6 +33,7 @@ linked_well : ClassTypes → (given : List ClassDef) (main : List ℕ) → AllBy
 unfolding program_of outline_of
 linked_well types given main spelled none =
     let no_bad = no_parent_refused given main none in
+    let no_method = no_method_refused given main none in
     let tree = tree_of given spelled no_bad in
     record {
       given = declared_from 0 given;
@@ -41,8 +45,12 @@ linked_well types given main spelled none =
       no_row = coded_without_row given;
       class_types = types (classes_of given) given;
       rows = row_past given;
+      calls = calls_agree given main no_method;
       tree = tree;
       below_object = below_object given spelled no_bad (none_missing given main none) tree;
+      no_interface = virtual_of_class given main spelled no_method;
+      message = message_there given main tree;
+      constants = plain_constants given spelled;
     }
 
 pub returns : goal.returns
