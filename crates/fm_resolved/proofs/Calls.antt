@@ -1,8 +1,7 @@
 -- What calls name is as they want it: nothing is refused of the methods that instructions name (JVMS 5.4.3.3, 6.5).
-use Rattle.std.proofs.Common.{◌≡◌, refl, sym, ◌∙◌, ap, subst, ℕ, zero, suc, ◌<◌, ◌==◌, ◌||◌, not, Bool, true, false, cond, List, [], ◌∷◌, length, Contains, Option, Some, None, option_and_then, if◌then◌else◌, slice_get, get_or, arith}
-use Rattle.std.specs.List.{AllByRecursion, cons_option, filter_map, list_any, slice_index_or}
+use Rattle.std.proofs.Common.{◌≡◌, refl, sym, ◌∙◌, ap, ℕ, zero, suc, ◌<◌, ◌==◌, Bool, true, false, cond, List, [], ◌∷◌, length, Contains, Option, Some, None, option_and_then, if◌then◌else◌, slice_get, get_or, arith}
+use Rattle.std.specs.List.{cons_option, filter_map, list_any}
 use Rattle.std.proofs.lemmas.Bool.{false≢true}
-use Rattle.std.proofs.lemmas.Option.{none-some}
 use Rattle.fm_base.specs.declared.ids.MethodId.{MethodId}
 use Rattle.fm_base.specs.declared.ids.TypeId.{TypeId}
 use Rattle.fm_code.specs.AccessFlags.{is_static}
@@ -23,13 +22,11 @@ use Rattle.fm_resolved.proofs.ClassChains.{fails, refused_not}
 use Rattle.fm_resolved.proofs.CodedMethods.{code_there, item_there, use_at, uses_of_file}
 use Rattle.fm_resolved.proofs.GivenFiles.{none_of, none_used}
 use Rattle.fm_types.specs.Typed.{use_in}
-use Rattle.fm_world.specs.BuiltIns.{built_in}
-use Rattle.fm_world.specs.Causes.{differs, is_not_as_wanted, method_flags, missing_method_at, missing_methods, method_text, MissingMethod, names_wrong_sort, Refusal, refused, refused_where, static_method_wanted, wanted_at}
+use Rattle.fm_world.specs.Causes.{differs, is_not_as_wanted, method_flags, missing_method_at, missing_methods, method_text, MissingMethod, names_wrong_sort, refused, refused_where, static_method_wanted, wanted_at}
 use Rattle.fm_world.specs.Linking.{refused_methods}
 use Rattle.fm_world.specs.Lookups.{resolved_field, resolved_method}
-use Rattle.fm_world.specs.Members.{method_at}
 use Rattle.fm_world.specs.Numbers.{text_number, text_units}
-use Rattle.fm_world.specs.Programs.{class_uses, classes_of, code_at, field_use, method_use, Outline, outline_of, program_of, resolved_at, type_number_at, uses_of, with_number}
+use Rattle.fm_world.specs.Programs.{classes_of, code_at, field_use, method_use, Outline, outline_of, program_of, type_number_at, uses_of, with_number}
 use Rattle.fm_world.specs.Uses.{class_items, named_member, operand_of}
 use Rattle.fm_world.specs.declared.declarations.DeclaredClass.{DeclaredClass}
 use Rattle.fm_world.specs.declared.uses.Use.{Use}

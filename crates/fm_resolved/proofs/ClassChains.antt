@@ -1,26 +1,23 @@
 -- Each class of accepted files but Object has a superclass: so each is below Object.
 use Rattle.std.proofs.Common.{◌≡◌, refl, sym, ◌∙◌, ap, ℕ, zero, suc, ◌+◌, ◌-◌, ◌<◌, ◌≤◌, ◌⊎◌, inl, inr, ◌==◌, ◌||◌, Bool, true, false, cond, List, [], ◌∷◌, ◌++◌, length, map, nat_eq, replicate, slice_get, Option, Some, None, IsSome, get_or, subst, is_none, is_some, option_and_then, unwrap_or, arith, zero-add, length-append}
 use Rattle.std.specs.List.{AllByRecursion, flat_map}
-use Rattle.std.specs.Str.{bytes_eq}
 use Rattle.std.proofs.lemmas.Bool.{cases_lt, eqb-true, false≢true}
-use Rattle.std.proofs.lemmas.List.{get_or-replicate, get_or_append_left, get_or_past}
+use Rattle.std.proofs.lemmas.List.{get_or-replicate, get_or_append_left}
 use Rattle.std.proofs.lemmas.List.FromFn.{get_or-map-range_with_len}
-use Rattle.std.proofs.lemmas.Option.{none-some}
-use Rattle.fm_base.specs.declared.characters.TheConstants.{LEFT_BRACKET}
 use Rattle.fm_code.specs.ConstantPool.{AreSlots, class_name_at, entry_at}
 use Rattle.fm_code.specs.Spells.{HasSpelling}
 use Rattle.fm_code.specs.declared.class_file.ClassDef.{ClassDef}
 use Rattle.fm_code.specs.declared.constant_pool.Entry.{Entry}
 use Rattle.fm_code.specs.declared.constant_pool.Entry.TheVariants as entry
-use Rattle.fm_lookup.proofs.BuiltInParents.{count_is, number_first, object_number_is}
+use Rattle.fm_lookup.proofs.BuiltInParents.{count_is, number_first}
 use Rattle.fm_lookup.proofs.Downwards.{among_head, or_true, same_number}
 use Rattle.fm_lookup.proofs.ParentRefusals.{tree_object}
 use Rattle.fm_code.specs.Names.{object}
-use Rattle.fm_resolved.proofs.GivenFiles.{class_of_file, first_true, length-declared, past_none, name_within, nil_left, nil_right, none_of, none_used, spelled_at}
+use Rattle.fm_resolved.proofs.GivenFiles.{class_of_file, first_true, length-declared, past_none, name_within, nil_left, none_of, none_used, spelled_at}
 use Rattle.fm_types.specs.Fits.{AreTree, object_of}
 use Rattle.fm_world.proofs.Displays.{parent_of-within}
 use Rattle.fm_world.specs.BuiltIns.{built_in}
-use Rattle.fm_world.specs.Causes.{bad_interface, bad_parent_at, bad_parents, bad_superclass, is_array_name, is_bad_superclass, missing_at, missing_classes, missing_in, MissingClass, Refusal, missing, refused, refused_if, refused_where}
+use Rattle.fm_world.specs.Causes.{bad_parent_at, bad_parents, bad_superclass, is_array_name, is_bad_superclass, missing_at, missing_classes, MissingClass, Refusal, missing, refused, refused_if, refused_where}
 use Rattle.fm_world.specs.Chains.{chain_of, class_at, is_among, parent_of}
 use Rattle.fm_world.specs.Declarations.{declared_from, name_at, no_class}
 use Rattle.fm_world.specs.Descriptors.{class_in, class_number, class_type, field_type, typed}

@@ -1,8 +1,8 @@
 -- A method that has code is one of a class file, and what its instructions name is what the file's pool is resolved to.
 use Rattle.std.proofs.Common.{◌≡◌, refl, sym, ◌∙◌, ap, subst, ℕ, zero, suc, ◌+◌, ◌-◌, ◌<◌, ◌≤◌, ◌⊎◌, inl, inr, Bool, true, false, cond, List, [], ◌∷◌, ◌++◌, length, map, replicate, get_or, slice_get, Contains, Option, Some, None, zero-add, arith}
-use Rattle.std.specs.List.{AllByRecursion, flat_map, slice_index_or}
+use Rattle.std.specs.List.{flat_map, slice_index_or}
 use Rattle.std.specs.Option.{option_map}
-use Rattle.std.proofs.lemmas.Bool.{cases_lt, false≢true}
+use Rattle.std.proofs.lemmas.Bool.{cases_lt}
 use Rattle.std.proofs.lemmas.List.{get_or-append_right, get_or_past, length-replicate}
 use Rattle.std.proofs.lemmas.List.Elements.{Contains-append_left, Contains-append_right}
 use Rattle.std.proofs.lemmas.List.FromFn.{get_or-map-range_with_len, length-map-range_with_len}
@@ -21,7 +21,6 @@ use Rattle.fm_world.specs.Declarations.{declared_from, declared_method, no_metho
 use Rattle.fm_world.specs.Members.{method_at, methods_from, methods_of, OwnedMethod}
 use Rattle.fm_world.specs.Programs.{class_uses, classes_of, codes_of, Outline, resolved_at, uses_of}
 use Rattle.fm_world.specs.Uses.{class_items, is_used, items_of}
-use Rattle.fm_world.specs.declared.declarations.DeclaredMethod.{DeclaredMethod}
 use Rattle.fm_world.specs.declared.uses.Use.{Use}
 use Rattle.fm_world.specs.declared.uses.Use.TheVariants as resolved
 

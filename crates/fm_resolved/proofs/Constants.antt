@@ -1,5 +1,5 @@
 -- A field whose constant is a number is a field of numbers: its descriptor suits the constant (JVMS 4.7.2).
-use Rattle.std.proofs.Common.{◌≡◌, refl, sym, ◌∙◌, ap, subst, ℕ, zero, suc, ◌+◌, ◌<◌, Bool, true, false, cond, List, [], ◌∷◌, ◌++◌, length, map, Contains, Option, Some, None, IsSomeAnd, unwrap_or, append_assoc, arith}
+use Rattle.std.proofs.Common.{◌≡◌, refl, sym, ◌∙◌, ap, subst, ℕ, ◌+◌, Bool, true, false, cond, List, [], ◌∷◌, ◌++◌, length, map, Contains, Option, Some, None, IsSomeAnd, unwrap_or, append_assoc, arith}
 use Rattle.std.specs.List.{AllByRecursion}
 use Rattle.fm_base.proofs.ListFacts.{AllByRecursion-append, AllByRecursion-get_or}
 use Rattle.fm_code.specs.AccessFlags.{is_interface, is_static}

@@ -1,13 +1,11 @@
 -- invokevirtual names no interface: its entry is a Methodref, whose class is none (JVMS 4.9.1, 5.4.3.3).
-use Rattle.std.proofs.Common.{◌≡◌, refl, sym, ◌∙◌, ap, subst, ℕ, zero, suc, ◌+◌, ◌<◌, ◌⊎◌, inl, inr, ◌==◌, Bool, true, false, cond, List, [], ◌∷◌, ◌++◌, length, replicate, get_or, slice_get, Contains, Option, Some, None, IsSome, option_and_then, append-nil, arith}
+use Rattle.std.proofs.Common.{◌≡◌, refl, sym, ◌∙◌, ap, subst, ℕ, zero, suc, ◌<◌, inl, inr, ◌==◌, Bool, true, false, cond, List, [], ◌∷◌, ◌++◌, replicate, get_or, slice_get, Contains, Option, Some, None, IsSome, option_and_then, append-nil, arith}
 use Rattle.std.specs.List.{AllByRecursion}
 use Rattle.std.specs.Option.{option_map}
 use Rattle.std.proofs.lemmas.Bool.{eqb-true, false≢true}
 use Rattle.std.proofs.lemmas.List.Quantifiers.{position-Some}
 use Rattle.std.proofs.lemmas.Option.{none-some, same_Some}
 use Rattle.fm_base.specs.declared.characters.TheConstants.{LEFT_BRACKET}
-use Rattle.fm_base.specs.declared.ids.MethodId.{MethodId}
-use Rattle.fm_base.specs.declared.ids.TypeId.{TypeId}
 use Rattle.fm_base.specs.declared.kinds.Base.{Base}
 use Rattle.fm_base.specs.declared.kinds.Base.TheVariants as base
 use Rattle.fm_base.specs.declared.kinds.TypeRef.{TypeRef}
@@ -16,7 +14,7 @@ use Rattle.fm_code.specs.CodeRules.{CodeIsValid}
 use Rattle.fm_code.specs.ConstantPool.{class_name_at, entry_at, MemberName, method_at}
 use Rattle.fm_code.specs.Edges.{insn_of}
 use Rattle.fm_code.specs.Members.{code_of, MethodAttrIsValid, MethodIsValid}
-use Rattle.fm_code.specs.Names.{base_descriptor, field_descriptor, FieldType, IsArrayName, IsClassName, IsFieldType, is_binary_name, object}
+use Rattle.fm_code.specs.Names.{base_descriptor, field_descriptor, FieldType, IsClassName, IsFieldType, is_binary_name, object}
 use Rattle.fm_code.specs.Operands.{OperandIsValid}
 use Rattle.fm_code.specs.Spells.{HasSpelling}
 use Rattle.fm_code.specs.declared.class_file.ClassDef.{ClassDef}
@@ -41,7 +39,7 @@ use Rattle.fm_world.specs.Descriptors.{base_in, class_number, class_type, first_
 use Rattle.fm_world.specs.Lookups.{is_interface_at}
 use Rattle.fm_world.specs.Numbers.{type_number}
 use Rattle.fm_world.specs.Programs.{class_of_type, Outline, type_number_at}
-use Rattle.fm_world.specs.Uses.{named_class, named_member, named_type}
+use Rattle.fm_world.specs.Uses.{named_class, named_member}
 use Rattle.fm_world.specs.declared.declarations.DeclaredClass.{DeclaredClass}
 
 -- ---- the entry of an instruction

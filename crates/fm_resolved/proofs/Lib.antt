@@ -8,3 +8,6 @@ pub mod InterfaceCalls
 pub mod Constants
 pub mod NamedMethods
 pub mod Messages
+pub mod Fields
+pub mod FieldOwners
+pub mod NamedFields

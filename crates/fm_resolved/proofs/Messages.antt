@@ -1,5 +1,5 @@
 -- Throwables have their message at the first place: Throwable gives it, and each class below keeps it there.
-use Rattle.std.proofs.Common.{◌≡◌, refl, sym, ◌∙◌, ap, subst, ℕ, zero, suc, ◌+◌, ◌<◌, ◌≤◌, ◌⊎◌, inl, inr, ◌==◌, ◌||◌, ◌&&◌, Bool, true, false, List, [], ◌∷◌, ◌++◌, length, reverse, codes, nat_le, Some, None, unwrap_or, option_and_then, slice_get, arith}
+use Rattle.std.proofs.Common.{◌≡◌, refl, sym, ◌∙◌, ap, ℕ, suc, ◌+◌, ◌<◌, ◌≤◌, ◌⊎◌, inl, inr, ◌==◌, ◌||◌, ◌&&◌, Bool, true, false, List, [], ◌∷◌, ◌++◌, length, reverse, codes, nat_le, Some, None, unwrap_or, slice_get, arith}
 use Rattle.std.specs.List.{flat_map}
 use Rattle.std.specs.Option.{option_map}
 use Rattle.std.specs.Str.{bytes_eq}
@@ -97,7 +97,7 @@ kinds_below classes tree class above k within among is =
     ∙ first_kept (kinds_along classes (chain_of classes above)) (flat_map own (reverse ends.front)) k is
 
 -- a class that is below another one is there, where the other one is
-below_inside : (classes : List DeclaredClass) (class above : ℕ) → is_among above (chain_of classes class) ≡ true → above < length classes → class < length classes
+pub below_inside : (classes : List DeclaredClass) (class above : ℕ) → is_among above (chain_of classes class) ≡ true → above < length classes → class < length classes
 below_inside classes class above among within = by_place (cases_lt class (length classes)) where
   by_place : (class < length classes) ⊎ (length classes ≤ class) → class < length classes
   by_place (inl inside) = inside

@@ -1,5 +1,5 @@
 -- What has a number in a program of class files is there: classes of methods, codes, and what uses name.
-use Rattle.std.proofs.Common.{◌≡◌, refl, sym, ◌∙◌, ap, ℕ, zero, suc, ◌+◌, ◌<◌, ◌≤◌, ◌⊎◌, inl, inr, Bool, true, false, List, [], ◌∷◌, ◌++◌, length, map, replicate, Option, Some, None, option_and_then, if◌then◌else◌, length-append, arith}
+use Rattle.std.proofs.Common.{◌≡◌, refl, sym, ◌∙◌, ap, ℕ, zero, suc, ◌<◌, ◌≤◌, ◌⊎◌, inl, inr, Bool, true, false, List, [], ◌∷◌, length, map, replicate, Option, Some, None, option_and_then, if◌then◌else◌, length-append, arith}
 use Rattle.std.specs.List.{AllByRecursion, slice_index_or}
 use Rattle.std.specs.Str.{bytes_eq}
 use Rattle.std.proofs.lemmas.Bool.{cases_lt}
@@ -24,12 +24,10 @@ use Rattle.fm_world.specs.BuiltIns.{built_in}
 use Rattle.fm_world.specs.Chains.{same_type}
 use Rattle.fm_world.specs.Declarations.{declared_from, no_method}
 use Rattle.fm_world.specs.Lookups.{resolved_field, resolved_method}
-use Rattle.fm_world.specs.Members.{method_at, methods_from, methods_of, OwnedMethod}
+use Rattle.fm_world.specs.Members.{method_at, methods_of, OwnedMethod}
 use Rattle.fm_world.specs.Numbers.{text_number, text_units, type_number, type_of_class}
-use Rattle.fm_world.specs.Programs.{class_uses, classes_of, codes_of, field_use, method_use, Outline, outline_of, program_of, resolved_at, type_number_at, use_of, uses_of, with_number}
+use Rattle.fm_world.specs.Programs.{class_uses, classes_of, codes_of, field_use, method_use, Outline, outline_of, program_of, resolved_at, use_of, uses_of, with_number}
 use Rattle.fm_world.specs.Uses.{is_used, named_member, named_type, pool_indices}
-use Rattle.fm_world.specs.declared.declarations.DeclaredClass.{DeclaredClass}
-use Rattle.fm_world.specs.declared.declarations.DeclaredMethod.{DeclaredMethod}
 use Rattle.fm_world.specs.declared.uses.Use.{Use}
 use Rattle.fm_world.specs.declared.uses.Use.TheVariants as resolved
 

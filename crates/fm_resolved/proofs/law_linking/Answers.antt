@@ -1,12 +1,13 @@
-use Rattle.std.proofs.Common.{◌≡◌, refl, sym, ◌∙◌, ap, ℕ, ◌<◌, ◌≤◌, List, [], ◌++◌, true, length, Some, None}
+use Rattle.std.proofs.Common.{◌≡◌, refl, ℕ, ◌<◌, List, [], ◌++◌, length, Some}
 use Rattle.std.specs.List.{AllByRecursion}
 use Rattle.fm_code.specs.Spells.{HasSpelling}
 use Rattle.fm_code.specs.declared.class_file.ClassDef.{ClassDef}
 use Rattle.fm_linked.proofs.Trees.{no_parent_refused, tree_of}
 use Rattle.fm_resolved.proofs.ClassChains.{below_object}
-use Rattle.fm_resolved.proofs.GivenFiles.{no_method_refused, none_missing}
+use Rattle.fm_resolved.proofs.GivenFiles.{no_field_refused, no_method_refused, none_missing}
 use Rattle.fm_resolved.proofs.Constants.{plain_constants}
 use Rattle.fm_resolved.proofs.Messages.{message_there}
+use Rattle.fm_resolved.proofs.NamedFields.{fields_there}
 use Rattle.fm_resolved.proofs.NamedMethods.{calls_agree, virtual_of_class}
 use Rattle.fm_conn.proofs.TypeLemmas.{types_in}
 use Rattle.fm_resolved.proofs.Numbers.{coded_without_row, one_code_each, owner_there, use_there}
@@ -49,6 +50,7 @@ linked_well types given main spelled none =
       tree = tree;
       below_object = below_object given spelled no_bad (none_missing given main none) tree;
       no_interface = virtual_of_class given main spelled no_method;
+      fields_held = fields_there given main spelled no_bad (no_field_refused given main none) tree;
       message = message_there given main tree;
       constants = plain_constants given spelled;
     }
