@@ -1,0 +1,150 @@
+-- Class files by their place: their classes, and what no cause against them says of one of them.
+use Rattle.std.proofs.Common.{◌≡◌, refl, sym, ◌∙◌, ap, subst, ℕ, zero, suc, ◌+◌, ◌<◌, ◌≤◌, ◌⊎◌, inl, inr, ◌||◌, Bool, true, false, cond, List, [], ◌∷◌, ◌++◌, length, filter, nat_eq, slice_get, Contains, Some, None, IsSome, arith, zero-add}
+use Rattle.std.specs.List.{AllByRecursion, flat_map}
+use Rattle.std.proofs.lemmas.Bool.{cases_lt, eqb-true, false≢true}
+use Rattle.std.proofs.lemmas.List.{get_or-append-add, get_or_past}
+use Rattle.std.proofs.lemmas.List.FromFn.{get_or-range_with_len, length-range_with_len}
+use Rattle.std.proofs.lemmas.Option.{none-some, same_Some}
+use Rattle.fm_code.specs.ConstantPool.{class_name_at}
+use Rattle.fm_code.specs.Spells.{HasSpelling}
+use Rattle.fm_code.specs.declared.class_file.ClassDef.{ClassDef}
+use Rattle.fm_code.specs.declared.constant_pool.Entry.{Entry}
+use Rattle.fm_code.specs.declared.constant_pool.Entry.TheVariants as entry
+use Rattle.fm_lookup.proofs.Downwards.{either, or_true}
+use Rattle.fm_world.proofs.Displays.{is_among_at}
+use Rattle.fm_world.specs.BuiltIns.{built_in}
+use Rattle.fm_world.specs.Causes.{Refusal}
+use Rattle.fm_world.specs.Chains.{class_at, is_among}
+use Rattle.fm_world.specs.Declarations.{declared_from, declared_of, no_class}
+use Rattle.fm_world.specs.Linking.{refusals, refused_built_ins, refused_duplicates, refused_fields, refused_main, refused_methods, refused_missing_classes, refused_not_implemented, refused_parents}
+use Rattle.fm_world.specs.Programs.{classes_of}
+use Rattle.fm_world.specs.Uses.{is_used, pool_indices, uses_in_order}
+use Rattle.fm_world.specs.declared.declarations.DeclaredClass.{DeclaredClass}
+
+-- ---- lists without refusals
+
+pub nil_left : {X : Type 0} (xs ys : List X) → xs ++ ys ≡ [] → xs ≡ []
+nil_left [] ys e = refl
+nil_left (x ∷ xs) ys e = absurd (omega (arith, ap length e))
+
+pub nil_right : {X : Type 0} (xs ys : List X) → xs ++ ys ≡ [] → ys ≡ []
+nil_right [] ys e = e
+nil_right (x ∷ xs) ys e = absurd (omega (arith, ap length e))
+
+pub none_of : {X : Type 0} (f : X → List Refusal) (xs : List X) (j : ℕ) (x : X) → flat_map f xs ≡ [] → slice_get xs j ≡ Some x → f x ≡ []
+none_of f [] j x none at = absurd (none-some x at)
+none_of f (y ∷ ys) zero x none at = sym (ap f (same_Some y x at)) ∙ nil_left (f y) (flat_map f ys) none
+none_of f (y ∷ ys) (suc j) x none at = none_of f ys j x (nil_right (f y) (flat_map f ys) none) at
+
+none_at : (f : ℕ → List Refusal) (xs : List ℕ) (i : ℕ) → flat_map f xs ≡ [] → is_among i xs ≡ true → f i ≡ []
+none_at f [] i none among = absurd (false≢true among)
+none_at f (y ∷ ys) i none among =
+    by_case (none_at f ys i (nil_right (f y) (flat_map f ys) none)) (either (nat_eq i y) (is_among i ys) among) where
+      by_case : (is_among i ys ≡ true → f i ≡ []) → (nat_eq i y ≡ true) ⊎ (is_among i ys ≡ true) → f i ≡ []
+      by_case later (inl same) = ap f (eqb-true i y same) ∙ nil_left (f y) (flat_map f ys) none
+      by_case later (inr there) = later there
+
+pub first_true : (a b : Bool) → a ≡ true → (a || b) ≡ true
+first_true true b e = refl
+first_true false b e = absurd (false≢true e)
+
+among_filter : (p : ℕ → Bool) (x : ℕ) (xs : List ℕ) → is_among x xs ≡ true → p x ≡ true → is_among x (filter p xs) ≡ true
+among_filter p x [] among passes = absurd (false≢true among)
+among_filter p x (y ∷ ys) among passes =
+    by_case (λ h. among_filter p x ys h passes) (either (nat_eq x y) (is_among x ys) among) (p y) refl where
+      by_case : (is_among x ys ≡ true → is_among x (filter p ys) ≡ true) → (nat_eq x y ≡ true) ⊎ (is_among x ys ≡ true) → (b : Bool) → p y ≡ b
+          → is_among x (cond b (y ∷ filter p ys) (filter p ys)) ≡ true
+      by_case later (inl same) true e = first_true (nat_eq x y) (is_among x (filter p ys)) same
+      by_case later (inl same) false e = absurd (false≢true (sym e ∙ sym (ap p (eqb-true x y same)) ∙ passes))
+      by_case later (inr there) true e = or_true (nat_eq x y) (is_among x (filter p ys)) (later there)
+      by_case later (inr there) false e = later there
+
+-- a used index of which nothing is refused
+pub none_used : (f : ℕ → List Refusal) (c : ClassDef) (index : ℕ) → flat_map f (uses_in_order c) ≡ [] → index < length c.pool.entries → is_used c index ≡ true
+    → f index ≡ []
+none_used f c index none within used =
+    let n = length c.pool.entries in
+    let inside : index < length (pool_indices c) = let l = length-range_with_len 0 n in omega (arith, within, l) in
+    let there = is_among_at (pool_indices c) index index inside (get_or-range_with_len 0 n index 0 within ∙ zero-add index) in
+    none_at f (uses_in_order c) index none (among_filter (is_used c) index (pool_indices c) there used)
+
+pub each_one : {X : Type 0} (P : X → Type 0) (xs : List X) (x : X) → AllByRecursion P xs → Contains xs x → P x
+each_one P [] x all (k, within, there) = absurd (omega (arith, within))
+each_one P (y ∷ ys) x all (zero, within, there) = subst P there all.0
+each_one P (y ∷ ys) x all (suc k, within, there) = each_one P ys x all.1 (k, omega (arith, within), there)
+
+-- ---- files and their classes
+
+pub name_within : (entries : List Entry) (index : ℕ) → IsSome (class_name_at entries index) → index < length entries
+name_within entries index some = by_place (cases_lt index (length entries)) where
+  by_place : (index < length entries) ⊎ (length entries ≤ index) → index < length entries
+  by_place (inl h) = h
+  by_place (inr h) = absurd (false≢true (rw (get_or_past entries index entry.Second h) at some))
+
+pub spelled_at : (given : List ClassDef) (j : ℕ) (c : ClassDef) → AllByRecursion HasSpelling given → slice_get given j ≡ Some c → HasSpelling c
+spelled_at [] j c all at = absurd (none-some c at)
+spelled_at (d ∷ given) zero c all at = subst HasSpelling (same_Some d c at) all.0
+spelled_at (d ∷ given) (suc j) c all at = spelled_at given j c all.1 at
+
+-- a file's class is declared by it
+pub record IsDeclared (classes : List DeclaredClass) (class : ℕ) (c : ClassDef) : Type 0 where
+  pub number : ℕ
+  pub declared : class_at classes class ≡ declared_of number c
+
+declared_at : (n : ℕ) (given : List ClassDef) (j : ℕ) (c : ClassDef) → slice_get given j ≡ Some c → IsDeclared (declared_from n given) j c
+declared_at n [] j c at = absurd (none-some c at)
+declared_at n (d ∷ given) zero c at = record { number = n; declared = ap (declared_of n) (same_Some d c at) }
+declared_at n (d ∷ given) (suc j) c at = let later = declared_at (n + 1) given j c at in record { number = later.number; declared = later.declared }
+
+pub class_of_file : (given : List ClassDef) (j : ℕ) (c : ClassDef) → slice_get given j ≡ Some c → IsDeclared (classes_of given) (length built_in + j) c
+unfolding classes_of
+class_of_file given j c at =
+    let own = declared_at 0 given j c at in
+    record { number = own.number; declared = get_or-append-add built_in (declared_from 0 given) j no_class ∙ own.declared }
+
+pub length-declared : (n : ℕ) (given : List ClassDef) → length (declared_from n given) ≡ length given
+length-declared n [] = refl
+length-declared n (c ∷ given) = ap suc (length-declared (n + 1) given)
+
+pub past_none : {X : Type 0} (xs : List X) (j : ℕ) → slice_get xs j ≡ None → length xs ≤ j
+past_none [] j e = omega arith
+past_none (x ∷ xs) zero e = absurd (none-some x (sym e))
+past_none (x ∷ xs) (suc j) e = let rest = past_none xs j e in omega (arith, rest)
+
+-- ---- each kind of refusals is empty
+
+pub none_missing : (given : List ClassDef) (main : List ℕ) → refusals given main ≡ [] → refused_missing_classes given ≡ []
+unfolding refusals
+none_missing given main none =
+    let before = refused_duplicates given ++ refused_built_ins given in
+    let to_classes = before ++ refused_missing_classes given in
+    let to_parents = to_classes ++ refused_parents given in
+    let to_fields = to_parents ++ refused_fields given in
+    let to_methods = to_fields ++ refused_methods given in
+    nil_right before (refused_missing_classes given)
+    (nil_left to_classes (refused_parents given)
+    (nil_left to_parents (refused_fields given)
+    (nil_left to_fields (refused_methods given)
+    (nil_left to_methods (refused_not_implemented given)
+    (nil_left (to_methods ++ refused_not_implemented given) (refused_main given main) none)))))
+
+pub no_field_refused : (given : List ClassDef) (main : List ℕ) → refusals given main ≡ [] → refused_fields given ≡ []
+unfolding refusals
+no_field_refused given main none =
+    let before = refused_duplicates given ++ refused_built_ins given ++ refused_missing_classes given ++ refused_parents given in
+    let to_fields = before ++ refused_fields given in
+    let to_methods = to_fields ++ refused_methods given in
+    nil_right before (refused_fields given)
+    (nil_left to_fields (refused_methods given)
+    (nil_left to_methods (refused_not_implemented given)
+    (nil_left (to_methods ++ refused_not_implemented given) (refused_main given main) none)))
+
+pub no_method_refused : (given : List ClassDef) (main : List ℕ) → refusals given main ≡ [] → refused_methods given ≡ []
+unfolding refusals
+no_method_refused given main none =
+    let to_fields =
+    refused_duplicates given ++ refused_built_ins given ++ refused_missing_classes given ++ refused_parents given ++ refused_fields given in
+    let to_methods = to_fields ++ refused_methods given in
+    nil_right to_fields (refused_methods given)
+    (nil_left to_methods (refused_not_implemented given)
+    (nil_left (to_methods ++ refused_not_implemented given) (refused_main given main) none))

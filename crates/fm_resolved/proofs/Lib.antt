@@ -1,0 +1,13 @@
+pub mod GivenFiles
+pub mod Rows
+pub mod ClassChains
+pub mod Numbers
+pub mod CodedMethods
+pub mod Calls
+pub mod InterfaceCalls
+pub mod Constants
+pub mod NamedMethods
+pub mod Messages
+pub mod Fields
+pub mod FieldOwners
+pub mod NamedFields

@@ -1,0 +1,82 @@
+-- What linking makes sure of, of the program of class files against which no cause stands.
+use Rattle.std.specs.Prelude.{◌≡◌, ℕ, ◌<◌, ◌≤◌, Bool, true, false, List, [], ◌++◌, length, None, Some, slice_get}
+use Rattle.std.specs.List.{AllByRecursion}
+use Rattle.fm_base.specs.declared.ids.FieldId.{FieldId}
+use Rattle.fm_base.specs.declared.ids.MethodId.{MethodId}
+use Rattle.fm_base.specs.declared.ids.TypeId.{TypeId}
+use Rattle.fm_base.specs.declared.kinds.TypeRef.{TypeRef}
+use Rattle.fm_code.specs.AccessFlags.{is_static}
+use Rattle.fm_code.specs.Spells.{HasSpelling}
+use Rattle.fm_code.specs.declared.class_file.ClassDef.{ClassDef}
+use Rattle.fm_code.specs.declared.code_array.Code.{Code}
+use Rattle.fm_code.specs.declared.instructions.Insn.{Insn}
+use Rattle.fm_code.specs.declared.instructions.Insn.TheVariants as insn
+use Rattle.fm_frames.specs.NativeRows.{text_kind}
+use Rattle.fm_frames.specs.ObjectRows.{kind_of_field}
+use Rattle.fm_frames.specs.Runnable.{IsUseIn}
+use Rattle.fm_same.specs.Evenness.{IsNumber, IsPlainKind}
+use Rattle.fm_same.specs.Resolved.{IsNamed}
+use Rattle.fm_types.specs.Fits.{AreTree, fits_type, object_of}
+use Rattle.fm_types.specs.Named.{throwable_type}
+use Rattle.fm_world.specs.BuiltIns.{built_in}
+use Rattle.fm_world.specs.Causes.{static_field_wanted, static_method_wanted}
+use Rattle.fm_world.specs.Chains.{chain_of, is_among}
+use Rattle.fm_world.specs.Linking.{refusals}
+use Rattle.fm_world.specs.Lookups.{is_interface_at}
+use Rattle.fm_world.specs.Members.{field_at, fields_of, method_at, methods_of}
+use Rattle.fm_world.specs.Numbers.{type_number, type_of_class}
+use Rattle.fm_world.specs.Programs.{class_of_type, code_at, IsTypeIn, kind_at, Program, program_of, use_of}
+use Rattle.fm_world.specs.declared.declarations.DeclaredClass.{DeclaredClass}
+use Rattle.fm_world.specs.declared.uses.Use.TheVariants as resolved
+
+-- objects of the type have the instance field: their class is the one that declares it, or is below it
+pub record HasField (p : Program) (of : TypeRef) (field : ℕ) : Type 0 where
+  pub class : ℕ
+  pub within : class < length p.outline.classes
+  pub type_is : of ≡ type_of_class class
+  pub inside : field < length (fields_of p.outline.classes)
+  pub instance : is_static (field_at p.outline.classes field).field.flags ≡ false
+  pub below : is_among (field_at p.outline.classes field).class (chain_of p.outline.classes class) ≡ true
+
+-- what linking makes sure of
+pub record IsLinkedWell (p : Program) : Type 0 where
+  -- the classes that are given, after the built-in ones, which have the same numbers in each program
+  pub given : List DeclaredClass
+  pub classes : p.outline.classes ≡ built_in ++ given
+  -- a type that has a number is of a class that is there
+  pub types : (n : ℕ) (t : TypeRef) → slice_get p.outline.types n ≡ Some t → IsTypeIn p.outline.classes t
+  -- a method is of a class that is there
+  pub owners : (method : ℕ) → (method_at p.outline.classes method).class < length p.outline.classes
+  -- what an index of a class's constant pool stands for is there (JVMS 5.4.3)
+  pub uses : (class index : ℕ) → IsUseIn p.outline (use_of p class index)
+  -- each method has a place for its code, and one that has code has no row
+  pub codes : length p.codes ≡ length (methods_of p.outline.classes)
+  pub no_row : (method : ℕ) (code : Code) → code_at p method ≡ Some code → (method_at p.outline.classes method).method.row ≡ None
+  -- the types of the classes are numbered first, in the order of the classes
+  pub class_types : (class : ℕ) → class < length p.outline.classes → type_number p.outline.types (type_of_class class) ≡ Some class
+  -- built-in methods alone have rows
+  pub rows : (method : ℕ) → length (methods_of built_in) ≤ method → (method_at p.outline.classes method).method.row ≡ None
+  -- invokestatic names a static method, and each other call names another one (JVMS 6.5.invokestatic)
+  pub calls : (method : ℕ) (i : Insn) (m : MethodId) (t : TypeId) (wanted : Bool) → IsNamed p method i (resolved.OfMethod m t)
+      → static_method_wanted i ≡ Some wanted → is_static (method_at p.outline.classes m.0).method.flags ≡ wanted
+  -- the classes are a tree below Object: each class but Object has a superclass (JVMS 5.3.5)
+  pub tree : AreTree p.outline.classes
+  pub below_object : (class : ℕ) → class < length p.outline.classes
+      → is_among (object_of p.outline.classes) (chain_of p.outline.classes class) ≡ true
+  -- invokevirtual names no interface (JVMS 5.4.3.3)
+  pub no_interface : (method index : ℕ) (m : MethodId) (t : TypeId) (named : TypeRef) (class : ℕ)
+      → IsNamed p method (insn.Virtual index) (resolved.OfMethod m t) → slice_get p.outline.types t.0 ≡ Some named
+      → class_of_type named ≡ Some class → is_interface_at p.outline.classes class ≡ false
+  -- an object of a type that fits the one that getfield or putfield names has the field (JVMS 5.4.3.2, 6.5.getfield)
+  pub fields_held : (method : ℕ) (i : Insn) (f : FieldId) (t : TypeId) (named of : TypeRef) → IsNamed p method i (resolved.OfField f t)
+      → static_field_wanted i ≡ Some false → slice_get p.outline.types t.0 ≡ Some named → fits_type p.outline.classes of named ≡ true → HasField p of f.0
+  -- a throwable has its message at the first place of its objects
+  pub message : (of : TypeRef) → fits_type p.outline.classes of (throwable_type p.outline) ≡ true
+      → kind_at p.outline.classes of 0 ≡ Some (text_kind p.outline)
+  -- a number is the constant of a field of numbers (JVMS 4.7.2)
+  pub constants : (field : ℕ) → IsNumber (field_at p.outline.classes field).field.value → IsPlainKind (kind_of_field p.outline field)
+
+-- the program of spelled class files against which no cause stands
+abbrev pub ProgramsAreLinkedWell : Type 0
+ProgramsAreLinkedWell =
+    (given : List ClassDef) (main : List ℕ) → AllByRecursion HasSpelling given → refusals given main ≡ [] → IsLinkedWell (program_of given main)
