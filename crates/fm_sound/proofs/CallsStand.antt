@@ -122,7 +122,7 @@ started_stand p typings typed methods each f callers below = all_started p typin
 -- ---- the words that a call takes
 
 -- a receiver is one reference, where there is one
-abbrev IsReceiver : Bool → List Slot → Type 0
+abbrev pub IsReceiver : Bool → List Slot → Type 0
 IsReceiver true slots = slots ≡ []
 IsReceiver false slots = (r : Slot) × (slots ≡ r ∷ []) × (is_reference r ≡ true)
 

@@ -12,3 +12,9 @@ pub mod ReturnsStand
 pub mod CallsStand
 pub mod Counts
 pub mod ActsKeep
+pub mod FoundMethods
+pub mod BuiltInMethods
+pub mod ClassStarts
+pub mod SeenObjects
+pub mod CallCases
+pub mod CallsLead

@@ -8,6 +8,7 @@ use Rattle.fm_types.specs.Fits.{AreTree}
 use Rattle.fm_types.specs.Named.{result_words}
 use Rattle.fm_types.specs.Rows.{row_after}
 use Rattle.fm_types.specs.States.{is_whole, state_fits, TypeState}
+use Rattle.fm_types.specs.Typed.{use_by}
 use Rattle.fm_world.specs.Members.{size_of}
 use Rattle.fm_world.specs.Programs.{Outline, Program}
 use Rattle.fm_frames.specs.Acts.{Choose, Did, FullAt, LostAt, performed, Performed}
@@ -16,14 +17,16 @@ use Rattle.fm_frames.specs.Effects.{Action, Effect}
 use Rattle.fm_frames.specs.NativeRows.{native_effect}
 use Rattle.fm_frames.specs.Natives.{Native}
 use Rattle.fm_frames.specs.Rows.{effect_of}
-use Rattle.fm_frames.specs.Sights.{Sight}
+use Rattle.fm_frames.specs.Sights.{Sight, sights}
+use Rattle.fm_frames.specs.Starts.{start_methods}
 use Rattle.fm_frames.specs.States.{Areas, Frame, State}
 use Rattle.fm_frames.specs.Steps.{caught, continued, InFrames, new_frame, returned, start_frames}
 use Rattle.fm_frames.specs.declared.values.Value.{Value}
 use Rattle.fm_sound.specs.Acting.{ActsFit}
 use Rattle.fm_sound.specs.BuiltIns.{native_slots, NativeLeads}
-use Rattle.fm_sound.specs.Going.{ConstructorsGiveNothing, IsCalled, IsGoingOn, StandsAtRow, StartsClass}
+use Rattle.fm_sound.specs.Going.{CallLeads, ConstructorsGiveNothing, IsCalled, IsGoingOn, StandsAtRow, StartsClass}
 use Rattle.fm_sound.specs.Leading.{is_call, LeadsAs, NamesField, sources_of}
+use Rattle.fm_sound.specs.Resolved.{CallsAreResolved}
 use Rattle.fm_sound.specs.Sound.{AreasAreSound, AreTyped, FrameHasKinds, HaveKinds, IsReference, Stand, StandBelow, StandsWithout, static_slots, Typings}
 
 -- ---- kinds
@@ -52,6 +55,20 @@ BuiltInsLead =
     (o : Outline) (f : Frame) (row : Native) (byte : Option ℕ) (sights : List Sight)
     → HaveKinds (native_slots row) (take (length (native_slots row)) f.stack)
     → NativeLeads o f row (native_effect o row byte sights) (native_effect o row byte sights).next
+
+-- The effect of an instruction that calls leads where the call may lead, whatever object it sees for a receiver, as long as the heap is sound: to a method
+-- that has code, the name and the descriptor that are named, and the receiver that is wanted; or it goes on with the kinds of the state after it.
+abbrev pub CallsLead : Type 0
+CallsLead =
+    (p : Program) (typings : Typings) → AreTyped p typings → CallsAreResolved p
+    → (f : Frame) (i : Insn) (after : TypeState) (h : StandsAtRow p typings f i after) → FrameHasKinds h.known f.locals f.stack → is_call i ≡ true
+    → (x : Areas) → AreasAreSound p.outline x → (byte : Option ℕ)
+    → CallLeads p f i after (effect_of p.outline f.method (use_by p f.method i) i byte (sights p.outline x.store f.stack))
+    (effect_of p.outline f.method (use_by p f.method i) i byte (sights p.outline x.store f.stack)).next
+
+-- The methods that start classes have code and no arguments.
+abbrev pub StartsAreMethods : Type 0
+StartsAreMethods = (p : Program) → CallsAreResolved p → (classes : List ℕ) → AllByRecursion (StartsClass p) (start_methods p.outline classes)
 
 -- ---- frames
 

@@ -17,6 +17,18 @@ pub fn law_effects()
     ensures built_ins { law.BuiltInsLead }
 {}
 
+/// The effect of a call leads to a method that has code, with the name, the descriptor and the receiver
+/// that are named; or goes on after a built-in method with the kinds of the state after the call; or
+/// throws a reference, or is a fault.
+pub fn law_calls()
+    ensures { law.CallsLead }
+{}
+
+/// The methods that start classes have code and no arguments.
+pub fn law_class_starts()
+    ensures { law.StartsAreMethods }
+{}
+
 /// Frames stand where the checker knows what they have: where the frame on top goes on to the next item
 /// or to a target, where an exception is caught in any of them, where a frame returns to the one below
 /// it, where a method is called, and where methods start classes.
