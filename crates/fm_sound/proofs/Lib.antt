@@ -18,3 +18,4 @@ pub mod ClassStarts
 pub mod SeenObjects
 pub mod CallCases
 pub mod CallsLead
+pub mod StepsSound

@@ -1,5 +1,5 @@
 -- The laws that the functions of `laws` prove.
-use Rattle.std.specs.Prelude.{◌≡◌, ℕ, ◌^◌, ◌<◌, false, true, List, [], ◌∷◌, ◌++◌, drop, length, take, reverse, Option, Some}
+use Rattle.std.specs.Prelude.{◌≡◌, ℕ, ◌^◌, ◌<◌, false, true, List, [], ◌∷◌, ◌++◌, drop, length, take, reverse, Option, Some, None}
 use Rattle.std.specs.List.{AllByRecursion}
 use Rattle.fm_base.specs.declared.kinds.TypeRef.{TypeRef}
 use Rattle.fm_cells.specs.Choices.{lawful}
@@ -20,14 +20,14 @@ use Rattle.fm_frames.specs.Rows.{effect_of}
 use Rattle.fm_frames.specs.Sights.{Sight, sights}
 use Rattle.fm_frames.specs.Starts.{start_methods}
 use Rattle.fm_frames.specs.States.{Areas, Frame, State}
-use Rattle.fm_frames.specs.Steps.{caught, continued, InFrames, new_frame, returned, start_frames}
+use Rattle.fm_frames.specs.Steps.{caught, continued, InFrames, is_over, new_frame, next_effect, returned, start_frames, step}
 use Rattle.fm_frames.specs.declared.values.Value.{Value}
 use Rattle.fm_sound.specs.Acting.{ActsFit}
 use Rattle.fm_sound.specs.BuiltIns.{native_slots, NativeLeads}
 use Rattle.fm_sound.specs.Going.{CallLeads, ConstructorsGiveNothing, IsCalled, IsGoingOn, StandsAtRow, StartsClass}
 use Rattle.fm_sound.specs.Leading.{is_call, LeadsAs, NamesField, sources_of}
-use Rattle.fm_sound.specs.Resolved.{CallsAreResolved}
-use Rattle.fm_sound.specs.Sound.{AreasAreSound, AreTyped, FrameHasKinds, HaveKinds, IsReference, Stand, StandBelow, StandsWithout, static_slots, Typings}
+use Rattle.fm_sound.specs.Resolved.{CallsAreResolved, StepsAreResolved}
+use Rattle.fm_sound.specs.Sound.{AreasAreSound, AreTyped, FrameHasKinds, HaveKinds, IsReference, IsSoundBy, Stand, StandBelow, StandsWithout, static_slots, Typings}
 
 -- ---- kinds
 
@@ -127,3 +127,17 @@ abbrev pub ActionsKeepAreas : Type 0
 ActionsKeepAreas =
     (o : Outline) → ((class : ℕ) → size_of o.classes class < 2 ^ 31) → (choose : Choose) (f : Frame) (x : Areas) (actions : List Action)
     → AreasAreSound o x → ActsFit o x.store f [] actions → LeavesSound o (performed o (lawful choose) f.locals f.stack actions x [])
+
+-- ---- a step
+
+-- the actions of the next effect fit, where they are within the budget
+abbrev pub NextActsFit : Program → State → Type 0
+NextActsFit p x =
+    (f : Frame) (callers : List Frame) → x.frames ≡ f ∷ callers → is_over p.outline x.areas (next_effect p x).actions ≡ false
+    → ActsFit p.outline x.areas.store f [] (next_effect p x).actions
+
+-- A step whose actions fit keeps a state sound, at each choice of a memory that reuses cells in any way, and whatever was freed.
+abbrev pub StepsKeepSound : Type 0
+StepsKeepSound =
+    (p : Program) (typings : Typings) → StepsAreResolved p → (choose : Choose) (x : State) → IsSoundBy p typings x → (x.ended ≡ None → NextActsFit p x)
+    → IsSoundBy p typings (step p (lawful choose) x).state

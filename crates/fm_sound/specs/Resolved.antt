@@ -1,14 +1,17 @@
--- What linking makes sure of where methods are called and classes are started (JVMS 4.6, 5.4.3, 5.4.5, 6.5).
+-- What linking makes sure of, so that steps keep a state sound: where methods are called and classes are started, and what instructions name
+-- (JVMS 4.6, 5.4.3, 5.4.5, 6.5).
 use Rattle.std.specs.Prelude.{◌≡◌, ℕ, ◌<◌, ◌≤◌, Bool, true, false, length, None, Some, slice_get, unwrap_or}
+use Rattle.std.specs.List.{AllByRecursion}
 use Rattle.fm_base.specs.declared.ids.MethodId.{MethodId}
 use Rattle.fm_base.specs.declared.ids.TypeId.{TypeId}
 use Rattle.fm_base.specs.declared.kinds.TypeRef.{TypeRef}
 use Rattle.fm_code.specs.AccessFlags.{is_static}
 use Rattle.fm_code.specs.Edges.{insn_of}
+use Rattle.fm_code.specs.SpellsCode.{targets_of}
 use Rattle.fm_code.specs.declared.code_array.Code.{Code}
 use Rattle.fm_code.specs.declared.instructions.Insn.{Insn}
 use Rattle.fm_code.specs.declared.instructions.Insn.TheVariants as insn
-use Rattle.fm_types.specs.Fits.{object_of}
+use Rattle.fm_types.specs.Fits.{AreTree, object_of}
 use Rattle.fm_types.specs.Named.{class_of_method}
 use Rattle.fm_types.specs.Typed.{use_by}
 use Rattle.fm_world.specs.BuiltIns.{built_in}
@@ -21,6 +24,7 @@ use Rattle.fm_world.specs.declared.uses.Use.TheVariants as resolved
 use Rattle.fm_frames.specs.CallRows.{native_of}
 use Rattle.fm_frames.specs.Runnable.{IsRunnable}
 use Rattle.fm_sound.specs.Going.{ConstructorsGiveNothing}
+use Rattle.fm_sound.specs.Leading.{NamesField}
 use Rattle.fm_sound.specs.Sound.{HasObjects}
 
 -- the instruction stands in a method that has code, and what it names is resolved to this
@@ -55,3 +59,14 @@ pub record CallsAreResolved (p : Program) : Type 0 where
   pub special : (method index : ℕ) (m : MethodId) (t : TypeId) (named : TypeRef) → IsNamed p method (insn.Special index) (resolved.OfMethod m t)
       → slice_get p.outline.types t.0 ≡ Some named
       → is_abstract_method p.outline.classes (special_target p.outline.classes (class_of_method p.outline method) (class_of_type named) m.0) ≡ false
+
+-- what linking and the reading of class files make sure of, for each step
+pub record StepsAreResolved (p : Program) : Type 0 where
+  pub calls : CallsAreResolved p
+  -- the classes are a tree below Object (JVMS 5.3.5)
+  pub tree : AreTree p.outline.classes
+  -- getstatic and putstatic name a static field, getfield and putfield another one (JVMS 6.5.getstatic)
+  pub fields : (method : ℕ) (i : Insn) (u : Use) → IsNamed p method i u → NamesField p.outline u i
+  -- the targets of an instruction are items (JVMS 4.9.1)
+  pub targets : (method : ℕ) (code : Code) (item : ℕ) (i : Insn) → code_at p method ≡ Some code → insn_of code item ≡ Some i
+      → AllByRecursion (λ target. target < length code.items) (targets_of i)

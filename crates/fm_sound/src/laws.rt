@@ -45,3 +45,9 @@ pub fn law_frames()
 pub fn law_areas()
     ensures { law.ActionsKeepAreas }
 {}
+
+/// A step keeps a state sound where its actions fit: each frame has what the checker knows of its item,
+/// and what the frames share has the sizes and the kinds of the program, whatever was freed.
+pub fn law_step()
+    ensures { law.StepsKeepSound }
+{}
