@@ -61,7 +61,7 @@ either_pack : (b : Bool) (one other : ℕ) → IsPack one → IsPack other → I
 either_pack true one other first second = first
 either_pack false one other first second = second
 
-type_pack : (o : Outline) (t : TypeRef) → IsPack (pack_of o t)
+pub type_pack : (o : Outline) (t : TypeRef) → IsPack (pack_of o t)
 type_pack o t =
     either_pack (t.dims == 1) (pack_of_base t.base) (cond (is_text_type o t) 4 1) (base_pack t.base) (either_pack (is_text_type o t) 4 1 (inr (inr (inl refl))) (inl refl))
 

@@ -19,3 +19,13 @@ pub mod SeenObjects
 pub mod CallCases
 pub mod CallsLead
 pub mod StepsSound
+pub mod FieldPlaces
+pub mod MadeObjects
+pub mod NestedArrays
+pub mod InsnActs
+pub mod StartActs
+pub mod BuiltInActs
+pub mod TextUnits
+pub mod FewWords
+pub mod HiddenFields
+pub mod OpeningActs

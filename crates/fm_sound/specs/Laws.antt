@@ -1,26 +1,34 @@
 -- The laws that the functions of `laws` prove.
-use Rattle.std.specs.Prelude.{◌≡◌, ℕ, ◌^◌, ◌<◌, false, true, List, [], ◌∷◌, ◌++◌, drop, length, take, reverse, Option, Some, None}
+use Rattle.std.specs.Prelude.{◌≡◌, ℕ, ◌^◌, ◌<◌, false, true, List, [], ◌∷◌, ◌++◌, drop, length, take, reverse, Option, Some, None, ◌≤◌, Bool}
 use Rattle.std.specs.List.{AllByRecursion}
 use Rattle.fm_base.specs.declared.kinds.TypeRef.{TypeRef}
+use Rattle.fm_base.specs.declared.limits.TheConstants.{MAX_LIVE_WORDS}
 use Rattle.fm_cells.specs.Choices.{lawful}
+use Rattle.fm_cells.specs.Stores.{Store}
+use Rattle.fm_code.specs.AccessFlags.{is_static}
 use Rattle.fm_code.specs.declared.instructions.Insn.{Insn}
 use Rattle.fm_types.specs.Fits.{AreTree}
 use Rattle.fm_types.specs.Named.{result_words}
 use Rattle.fm_types.specs.Rows.{row_after}
 use Rattle.fm_types.specs.States.{is_whole, state_fits, TypeState}
 use Rattle.fm_types.specs.Typed.{use_by}
-use Rattle.fm_world.specs.Members.{size_of}
-use Rattle.fm_world.specs.Programs.{Outline, Program}
+use Rattle.fm_world.specs.Members.{size_of, field_at, fields_of, slot_of}
+use Rattle.fm_world.specs.Programs.{Outline, Program, kind_at}
+use Rattle.fm_world.specs.Chains.{chain_of, is_among}
+use Rattle.fm_world.specs.Numbers.{type_of_class}
 use Rattle.fm_frames.specs.Acts.{Choose, Did, FullAt, LostAt, performed, Performed}
 use Rattle.fm_world.specs.declared.uses.Use.{Use}
 use Rattle.fm_frames.specs.Effects.{Action, Effect}
 use Rattle.fm_frames.specs.NativeRows.{native_effect}
 use Rattle.fm_frames.specs.Natives.{Native}
+use Rattle.fm_frames.specs.ObjectRows.{kind_of_field}
 use Rattle.fm_frames.specs.Rows.{effect_of}
 use Rattle.fm_frames.specs.Sights.{Sight, sights}
-use Rattle.fm_frames.specs.Starts.{start_methods}
+use Rattle.fm_frames.specs.Starts.{start_methods, with_start}
 use Rattle.fm_frames.specs.States.{Areas, Frame, State}
 use Rattle.fm_frames.specs.Steps.{caught, continued, InFrames, is_over, new_frame, next_effect, returned, start_frames, step}
+use Rattle.fm_frames.specs.Runnable.{IsRunnable}
+use Rattle.fm_frames.specs.Runs.{Job, opening_actions}
 use Rattle.fm_frames.specs.declared.values.Value.{Value}
 use Rattle.fm_sound.specs.Acting.{ActsFit}
 use Rattle.fm_sound.specs.BuiltIns.{native_slots, NativeLeads}
@@ -28,6 +36,7 @@ use Rattle.fm_sound.specs.Going.{CallLeads, ConstructorsGiveNothing, IsCalled, I
 use Rattle.fm_sound.specs.Leading.{is_call, LeadsAs, NamesField, sources_of}
 use Rattle.fm_sound.specs.Resolved.{CallsAreResolved, StepsAreResolved}
 use Rattle.fm_sound.specs.Sound.{AreasAreSound, AreTyped, FrameHasKinds, HaveKinds, IsReference, IsSoundBy, Stand, StandBelow, StandsWithout, static_slots, Typings}
+use Rattle.fm_sound.specs.Making.{AreFew, ArgumentsFit, ConstantsAreStatic, HaveTextFirst, HoldsObjects, IsMakeable, NamesAreUnits, NamesMade}
 
 -- ---- kinds
 
@@ -113,6 +122,56 @@ StartingKeepsFrames =
     (p : Program) (typings : Typings) → AreTyped p typings
     → (methods : List ℕ) → AllByRecursion (StartsClass p) methods → (f : Frame) (callers : List Frame) → Stand p typings (f ∷ callers)
     → Stand p typings (start_frames p methods ++ f ∷ callers)
+
+-- ---- actions
+
+-- The actions of the effect of an instruction that is no call fit, where the frame has the kinds of a state and what is seen are the words of its stack.
+abbrev pub InstructionsActFit : Type 0
+InstructionsActFit =
+    (p : Program) → IsMakeable p → (s after : TypeState) (f : Frame) (store : Store) (i : Insn) (u : Use) (news : ℕ → Option TypeRef) (byte : Option ℕ)
+    → FrameHasKinds s f.locals f.stack → is_whole s.stack ≡ true → NamesField p.outline u i → NamesMade p.outline u i → is_call i ≡ false
+    → row_after p.outline f.method f.item news u i s ≡ Some after
+    → AreFew p.outline (effect_of p.outline f.method u i byte (sights p.outline store f.stack)).actions
+    → ActsFit p.outline store f [] (effect_of p.outline f.method u i byte (sights p.outline store f.stack)).actions
+
+-- The actions of the effect of a built-in method fit, where the stack has the words of its row and what is seen are objects of the program.
+abbrev pub BuiltInsActFit : Type 0
+BuiltInsActFit =
+    (p : Program) → IsMakeable p → NamesAreUnits p.outline → HaveTextFirst p.outline → (store : Store) → HoldsObjects p.outline store
+    → (f : Frame) (row : Native) (byte : Option ℕ) → HaveKinds (native_slots row) (take (length (native_slots row)) f.stack)
+    → AreFew p.outline (native_effect p.outline row byte (sights p.outline store f.stack)).actions
+    → ActsFit p.outline store f [] (native_effect p.outline row byte (sights p.outline store f.stack)).actions
+
+-- Where the words of all that a step makes are within those that may live, none of its objects has more.
+abbrev pub WithinIsFew : Type 0
+WithinIsFew =
+    (o : Outline) (x : Areas) (actions : List Action) → x.store.budget ≤ MAX_LIVE_WORDS → is_over o x actions ≡ false → AreFew o actions
+
+-- What the start of classes does to their static fields fits; so what is done before an effect, where a class has to be started for it, fits with it.
+abbrev pub StartsFit : Type 0
+StartsFit =
+    (p : Program) → IsMakeable p → ConstantsAreStatic p.outline → (store : Store) (f : Frame) (started : List Bool) (e : Effect)
+    → (AreFew p.outline e.actions → ActsFit p.outline store f [] e.actions) → AreFew p.outline (with_start p.outline started e).actions
+    → ActsFit p.outline store f [] (with_start p.outline started e).actions
+
+-- The actions of the opening fit, where main is given texts.
+abbrev pub OpeningsFit : Type 0
+OpeningsFit =
+    (p : Program) → IsMakeable p → (job : Job) → ArgumentsFit p.outline job.arguments → (store : Store) (f : Frame)
+    → ActsFit p.outline store f [] (opening_actions p.outline job)
+
+-- ---- places of fields
+
+-- Objects of a class have each field of the class and of its superclasses at the field's place, with its kind; so a place is one of all classes below.
+abbrev pub FieldsHavePlaces : Type 0
+FieldsHavePlaces =
+    (o : Outline) → AreTree o.classes → (class field : ℕ) → class < length o.classes → field < length (fields_of o.classes)
+    → is_static (field_at o.classes field).field.flags ≡ false → is_among (field_at o.classes field).class (chain_of o.classes class) ≡ true
+    → kind_at o.classes (type_of_class class) (slot_of o.classes field) ≡ Some (kind_of_field o field)
+
+-- Objects that build texts, and throwables, have the text that they lead to at their first place.
+abbrev pub TextsComeFirst : Type 0
+TextsComeFirst = (p : Program) → IsRunnable p → AreTree p.outline.classes → HaveTextFirst p.outline
 
 -- ---- areas
 

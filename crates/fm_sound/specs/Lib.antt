@@ -4,4 +4,5 @@ pub mod BuiltIns
 pub mod Going
 pub mod Resolved
 pub mod Acting
+pub mod Making
 pub mod Laws

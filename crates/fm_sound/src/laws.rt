@@ -40,6 +40,45 @@ pub fn law_frames()
     ensures starting { law.StartingKeepsFrames }
 {}
 
+/// Objects of a class have each field of the class and of its superclasses at the field's place, with its
+/// kind.
+pub fn law_places()
+    ensures { law.FieldsHavePlaces }
+{}
+
+/// Objects that build texts, and throwables, have the text that they lead to at their first place.
+pub fn law_text_first()
+    ensures { law.TextsComeFirst }
+{}
+
+/// The actions of the effect of each instruction but calls fit: what is made has a number, and what is put
+/// has the kind of its place.
+pub fn law_acts()
+    ensures { law.InstructionsActFit }
+{}
+
+/// The actions of the effects of built-in methods fit: texts are of 16-bit units, and go where texts are
+/// kept.
+pub fn law_built_in_acts()
+    ensures { law.BuiltInsActFit }
+{}
+
+/// Where a step makes no more words than may live, none of its objects has more.
+pub fn law_few_words()
+    ensures { law.WithinIsFew }
+{}
+
+/// What the start of classes does to their static fields fits, and with it the effect for which they are
+/// started.
+pub fn law_starts()
+    ensures { law.StartsFit }
+{}
+
+/// The actions of the opening fit: the streams, and the array of the arguments with their texts.
+pub fn law_opening_acts()
+    ensures { law.OpeningsFit }
+{}
+
 /// Actions that put values where their kinds stand, and make objects of types of which objects are made,
 /// keep what the frames share sound, on memory that reuses cells in any way and whatever is freed.
 pub fn law_areas()
