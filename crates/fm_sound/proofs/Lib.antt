@@ -29,3 +29,4 @@ pub mod TextUnits
 pub mod FewWords
 pub mod HiddenFields
 pub mod OpeningActs
+pub mod NextActs

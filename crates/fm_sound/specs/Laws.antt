@@ -36,7 +36,7 @@ use Rattle.fm_sound.specs.Going.{CallLeads, ConstructorsGiveNothing, IsCalled, I
 use Rattle.fm_sound.specs.Leading.{is_call, LeadsAs, NamesField, sources_of}
 use Rattle.fm_sound.specs.Resolved.{CallsAreResolved, StepsAreResolved}
 use Rattle.fm_sound.specs.Sound.{AreasAreSound, AreTyped, FrameHasKinds, HaveKinds, IsReference, IsSoundBy, Stand, StandBelow, StandsWithout, static_slots, Typings}
-use Rattle.fm_sound.specs.Making.{AreFew, ArgumentsFit, ConstantsAreStatic, HaveTextFirst, HoldsObjects, IsMakeable, NamesAreUnits, NamesMade}
+use Rattle.fm_sound.specs.Making.{AreFew, ArgumentsFit, ConstantsAreStatic, HaveTextFirst, HoldsObjects, IsMakeable, MakesAreResolved, NamesAreUnits, NamesMade}
 
 -- ---- kinds
 
@@ -200,3 +200,10 @@ abbrev pub StepsKeepSound : Type 0
 StepsKeepSound =
     (p : Program) (typings : Typings) → StepsAreResolved p → (choose : Choose) (x : State) → IsSoundBy p typings x → (x.ended ≡ None → NextActsFit p x)
     → IsSoundBy p typings (step p (lawful choose) x).state
+
+-- The actions of each step of a sound state fit; so each step keeps a state sound, at each choice of a memory that reuses cells in any way, and whatever was
+-- freed.
+abbrev pub SoundStatesStep : Type 0
+SoundStatesStep =
+    (p : Program) (typings : Typings) → StepsAreResolved p → MakesAreResolved p → (choose : Choose) (x : State) → IsSoundBy p typings x
+    → NextActsFit p x × IsSoundBy p typings (step p (lawful choose) x).state

@@ -25,6 +25,7 @@ use Rattle.fm_frames.specs.NativeRows.{text_kind, type_name}
 use Rattle.fm_frames.specs.ObjectRows.{kind_of_field}
 use Rattle.fm_frames.specs.Runnable.{IsRunnable}
 use Rattle.fm_frames.specs.Runs.{arguments_type}
+use Rattle.fm_sound.specs.Resolved.{IsNamed}
 use Rattle.fm_sound.specs.Sound.{IsObjectIn}
 
 -- the type has a number
@@ -72,6 +73,14 @@ is_built o t =
 pub record HaveTextFirst (o : Outline) : Type 0 where
   pub builders : (t : TypeRef) → is_built o t ≡ true → kind_at o.classes t 0 ≡ Some (text_kind o)
   pub throwables : (t : TypeRef) → fits_type o.classes t (throwable_type o) ≡ true → kind_at o.classes t 0 ≡ Some (text_kind o)
+
+-- what linking makes sure of where objects are made, for each step
+pub record MakesAreResolved (p : Program) : Type 0 where
+  pub makeable : IsMakeable p
+  pub names : NamesAreUnits p.outline
+  pub constants : ConstantsAreStatic p.outline
+  -- arrays that instructions make have numbers, and the fields that they put are where the objects have them
+  pub made : (method : ℕ) (i : Insn) (u : Use) → IsNamed p method i u → NamesMade p.outline u i
 
 -- The array of main's arguments has a number, and its texts are of 16-bit units; none is too long.
 pub record ArgumentsFit (o : Outline) (arguments : List (List ℕ)) : Type 0 where

@@ -90,3 +90,9 @@ pub fn law_areas()
 pub fn law_step()
     ensures { law.StepsKeepSound }
 {}
+
+/// The actions of each step of a sound state fit, so each step of a typed and linked program keeps a state
+/// sound.
+pub fn law_sound()
+    ensures { law.SoundStatesStep }
+{}
