@@ -1,13 +1,10 @@
 -- The actions of the built-in methods fit: the texts that they make are of 16-bit units, and go where texts are kept.
-use Rattle.std.proofs.Common.{◌≡◌, ℕ, ℤ, pos, zero, suc, ◌+◌, ◌-◌, ◌^◌, ◌<◌, ◌≤◌, ◌==◌, ◌||◌, not, int_lt, cond, Bool, true, false, List, [], ◌∷◌, ◌++◌, length, take, drop, Option, Some, None, codes, refl, sym, ◌∙◌, ap, subst, slice_get, slice_index_or, unsigned_abs, arith}
-use Rattle.std.specs.Fmt.{digits, signed_decimal}
-use Rattle.std.proofs.lemmas.Bool.{or_cases}
+use Rattle.std.proofs.Common.{◌≡◌, ℕ, ℤ, pos, zero, suc, ◌+◌, ◌-◌, ◌^◌, ◌<◌, ◌==◌, ◌||◌, not, int_lt, cond, Bool, true, false, List, [], ◌∷◌, ◌++◌, length, take, drop, Option, Some, None, codes, refl, sym, ◌∙◌, ap, subst, slice_get, slice_index_or, unsigned_abs, arith}
+use Rattle.std.specs.Fmt.{signed_decimal}
 use Rattle.std.proofs.lemmas.Option.{none-some, same_Some, slice_get-get_or}
 use Rattle.fm_alu.proofs.TwosComplementLemmas.{low_bits-lt}
 use Rattle.fm_alu.specs.TwosComplement.{low_bits}
-use Rattle.fm_base.specs.declared.kinds.Kind.{Kind}
 use Rattle.fm_base.specs.declared.kinds.Kind.TheVariants as kind
-use Rattle.fm_base.specs.declared.kinds.TypeRef.{TypeRef}
 use Rattle.fm_cells.specs.Objects.{Object}
 use Rattle.fm_cells.specs.Stores.{object_at, Store}
 use Rattle.fm_types.specs.Fits.{fits_type}
@@ -16,23 +13,23 @@ use Rattle.fm_world.specs.BuiltIns.{string_name}
 use Rattle.fm_world.specs.Numbers.{type_of_class}
 use Rattle.fm_world.specs.Programs.{kind_at, Outline, Program}
 use Rattle.fm_frames.specs.Acts.{cell_of}
-use Rattle.fm_frames.specs.Effects.{acting, Action, Effect, faulty, Faults, Free, FreeChain, going, int_word, Make, making, OfMade, OfOperand, OfPlace, Plain, printing, Put, SetChain, stuck, words}
+use Rattle.fm_frames.specs.Effects.{acting, Effect, faulty, Faults, going, int_word, making, OfOperand, OfPlace, Plain, Put, stuck, words}
 use Rattle.fm_frames.specs.Elements.{is_text_type}
 use Rattle.fm_frames.specs.NativeRows as table
 use Rattle.fm_frames.specs.NativeRows.{char_at, equal_to, has_text, is_builder, linked, object_text, on_builder, on_built, on_shown, part_of, shown_words, text_kind, text_made, throwable_text, thrown_outside, type_name}
 use Rattle.fm_frames.specs.Natives.{Shown, ShownInt, ShownLong, ShownChar, ShownBoolean, ShownText, Native, ObjectInit, ObjectHashCode, ObjectEquals, ObjectToString, StringLength, CharAt, StringEquals, StringHashCode, CompareTo, StringToString, Substring, ValueOf, BuilderInit, Append, BuilderLength, BuilderToString, BufferInitOf, Exit, Print, Println, PrintlnNothing, Read, ThrowableInit, ThrowableInitOf, GetMessage, ThrowableToString, FreeMeFree, FreeMeLink, FreeMeFreeChain}
 use Rattle.fm_frames.specs.Operands.{on_inner, on_inner_of, on_text, on_text_or_null, thrown, thrown_null}
-use Rattle.fm_frames.specs.Sights.{Inner, inner_of, led_to, Looks, looks, Lost, Missing, NoField, Sight, sight, sight_of_cell, sight_of_object, sights, Text, text_in, Thing, type_numbered, units_of}
+use Rattle.fm_frames.specs.Sights.{Inner, led_to, Looks, looks, Lost, Missing, NoField, Sight, sight, sight_of_cell, sight_of_object, sights, Text, text_in, Thing, type_numbered, units_of}
 use Rattle.fm_frames.specs.States.{Frame, null, word_at}
 use Rattle.fm_frames.specs.declared.values.Value.{Value}
 use Rattle.fm_frames.specs.declared.values.Value.TheVariants as value
 use Rattle.fm_sound.specs.Acting.{ActsFit, PlaceFits}
-use Rattle.fm_sound.specs.BuiltIns.{native_slots, reference}
+use Rattle.fm_sound.specs.BuiltIns.{native_slots}
 use Rattle.fm_sound.specs.Making.{AreFew, AreUnits, HaveTextFirst, HoldsObjects, IsMakeable, NamesAreUnits}
-use Rattle.fm_sound.specs.Sound.{field_slot, HasKind, HaveKinds, IsObjectIn, IsReference}
-use Rattle.fm_sound.proofs.BuiltInRows.{one_reference, two_references}
+use Rattle.fm_sound.specs.Sound.{HaveKinds, IsObjectIn, IsReference}
+use Rattle.fm_sound.proofs.BuiltInRows.{two_references}
 use Rattle.fm_sound.proofs.Cases.{by_any, by_held, by_if, by_int, by_long, by_object, by_passing}
-use Rattle.fm_sound.proofs.InsnActs.{Fits, IsHeldAs, word_seen}
+use Rattle.fm_sound.proofs.InsnActs.{Fits, word_seen}
 use Rattle.fm_sound.proofs.MadeObjects.{IsThrown, length_few, no_text, null_thrown, outside_thrown, text_fits}
 use Rattle.fm_sound.proofs.TextUnits.{units-append, units-drop, units-each, units-hex, units-signed, units-take}
 

@@ -1,6 +1,6 @@
 -- Where fields lie in objects: the places of a class are those of its superclass and then its own, so a field keeps its place and its kind in objects of all
 -- classes below.
-use Rattle.std.proofs.Common.{◌≡◌, ℕ, zero, suc, ◌+◌, ◌-◌, ◌<◌, ◌≤◌, ◌⊎◌, inl, inr, not, Bool, true, false, cond, List, [], ◌∷◌, ◌++◌, length, take, map, reverse, get_or, sum_by, Option, Some, None, option_and_then, refl, sym, ◌∙◌, ap, subst, slice_get, slice_index_or, arith, append_assoc}
+use Rattle.std.proofs.Common.{◌≡◌, ℕ, zero, suc, ◌+◌, ◌-◌, ◌<◌, ◌≤◌, ◌⊎◌, inl, inr, not, Bool, true, false, cond, List, [], ◌∷◌, ◌++◌, length, take, reverse, get_or, sum_by, Option, Some, None, refl, sym, ◌∙◌, ap, slice_get, arith}
 use Rattle.std.specs.List.{cons_option, count_by, filter_map, flat_map}
 use Rattle.std.specs.Prelude.{if◌then◌else◌}
 use Rattle.std.proofs.lemmas.Bool.{cases_lt, false≢true}

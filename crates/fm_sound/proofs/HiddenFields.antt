@@ -1,5 +1,5 @@
 -- Objects that build texts, and throwables, have the text that they lead to at their first place: it is the first field of the class that brings it.
-use Rattle.std.proofs.Common.{◌≡◌, ℕ, zero, suc, ◌+◌, ◌<◌, ◌≤◌, ◌==◌, ◌&&◌, ◌||◌, ◌⊎◌, inl, inr, Bool, true, false, cond, List, [], ◌∷◌, ◌++◌, length, codes, unwrap_or, nat_le, Option, Some, None, refl, sym, ◌∙◌, ap, subst, slice_get, arith}
+use Rattle.std.proofs.Common.{◌≡◌, ℕ, ◌<◌, ◌≤◌, ◌==◌, ◌&&◌, ◌||◌, ◌⊎◌, inl, inr, Bool, true, false, List, [], ◌∷◌, ◌++◌, length, codes, unwrap_or, nat_le, Some, refl, sym, ◌∙◌, ap, slice_get, arith}
 use Rattle.std.specs.Option.{option_map}
 use Rattle.std.specs.Str.{bytes_eq}
 use Rattle.std.proofs.lemmas.Bool.{and_parts, cases_lt, eqb-true, false≢true, or_cases}
@@ -10,22 +10,23 @@ use Rattle.fm_base.specs.declared.kinds.Kind.{Kind}
 use Rattle.fm_base.specs.declared.kinds.Kind.TheVariants as kind
 use Rattle.fm_base.specs.declared.kinds.TypeRef.{TypeRef}
 use Rattle.fm_code.specs.Names.{object}
-use Rattle.fm_types.proofs.ClassTree.{among_one, chain_past_end}
+use Rattle.fm_types.proofs.ClassTree.{among-trans, among_one, chain_past_end}
 use Rattle.fm_types.specs.Fits.{AreTree, depth_of, fits_base, fits_type, is_object_base, is_objects_within, object_of}
-use Rattle.fm_types.specs.Named.{built_in_type, throwable_type}
+use Rattle.fm_types.specs.Named.{built_in_type}
 use Rattle.fm_world.specs.BuiltIns.{built_in, object_name, string_name}
 use Rattle.fm_world.specs.Chains.{chain_of, is_among}
 use Rattle.fm_world.specs.Descriptors.{class_number, declared_kind, kind_with, of_class, typed}
 use Rattle.fm_world.specs.Lookups.{is_interface_at}
-use Rattle.fm_world.specs.Members.{kinds_of}
+use Rattle.fm_world.specs.Members.{field_at, kinds_of, slot_of}
 use Rattle.fm_world.specs.Numbers.{type_of_class}
 use Rattle.fm_world.specs.Programs.{kind_at, Outline, Program}
 use Rattle.fm_world.specs.declared.declarations.DeclaredClass.{DeclaredClass}
 use Rattle.fm_frames.proofs.Programs.{built_in-inside, string-is}
 use Rattle.fm_frames.specs.NativeRows.{text_kind}
+use Rattle.fm_frames.specs.ObjectRows.{kind_of_field}
 use Rattle.fm_frames.specs.Runnable.{IsRunnable}
-use Rattle.fm_sound.specs.Making.{HaveTextFirst, is_built}
-use Rattle.fm_sound.proofs.FieldPlaces.{kinds_grow}
+use Rattle.fm_sound.specs.Making.{HaveTextFirst, IsFieldOf}
+use Rattle.fm_sound.proofs.FieldPlaces.{field_place, kinds_grow}
 use Rattle.fm_sound.proofs.MadeObjects.{both_kinds, chain_is, object_there, object_top}
 
 -- ---- what fits a class
@@ -33,8 +34,22 @@ use Rattle.fm_sound.proofs.MadeObjects.{both_kinds, chain_is, object_there, obje
 or_none : (a b : Bool) → a ≡ false → b ≡ false → (a || b) ≡ false
 or_none a b first second = ap (λ x. x || b) first ∙ second
 
+or_neither : (a b : Bool) → (a || b) ≡ false → (a ≡ false) × (b ≡ false)
+or_neither true b h = absurd (false≢true (sym h))
+or_neither false b h = (refl, h)
+
+-- what has a class among its superclasses is a class
+among_inside : (classes : List DeclaredClass) (class above : ℕ) → above < length classes → is_among above (chain_of classes class) ≡ true
+    → class < length classes
+among_inside classes class above there among = by_place (cases_lt class (length classes)) where
+  by_place : (class < length classes) ⊎ (length classes ≤ class) → class < length classes
+  by_place (inl inside) = inside
+  by_place (inr past) =
+      let same : above ≡ class = among_one above class (sym (ap (is_among above) (chain_past_end classes class past)) ∙ among) in
+      absurd (omega (arith, same, there, past))
+
 -- the type is a class that has this one among its superclasses
-abbrev IsBelow : List DeclaredClass → ℕ → TypeRef → Type 0
+abbrev pub IsBelow : List DeclaredClass → ℕ → TypeRef → Type 0
 IsBelow classes above t = (class : ℕ) × (t ≡ type_of_class class) × (is_among above (chain_of classes class) ≡ true)
 
 base_below : (classes : List DeclaredClass) (above : ℕ) (b : Base) → fits_base classes b (of_class above) ≡ true
@@ -42,7 +57,7 @@ base_below : (classes : List DeclaredClass) (above : ℕ) (b : Base) → fits_ba
 base_below classes above (base.OfClass class) fits = (class.0, refl, fits)
 base_below classes above b fits = absurd (false≢true fits)
 
-type_below : (classes : List DeclaredClass) (above : ℕ) (t : TypeRef) → is_interface_at classes above ≡ false → (above == object_of classes) ≡ false
+pub type_below : (classes : List DeclaredClass) (above : ℕ) (t : TypeRef) → is_interface_at classes above ≡ false → (above == object_of classes) ≡ false
     → fits_type classes t (type_of_class above) ≡ true → IsBelow classes above t
 unfolding fits_type
 type_below classes above t no_interface no_object fits =
@@ -62,14 +77,26 @@ type_below classes above t no_interface no_object fits =
 -- the first place of a class is that of all below it
 first_kept : (classes : List DeclaredClass) → AreTree classes → (above class : ℕ) (k : Kind) → above < length classes
     → is_among above (chain_of classes class) ≡ true → kinds_of classes above ≡ k ∷ [] → kind_at classes (type_of_class class) 0 ≡ Some k
-first_kept classes tree above class k there among kinds = by_place (cases_lt class (length classes)) where
-  by_place : (class < length classes) ⊎ (length classes ≤ class) → kind_at classes (type_of_class class) 0 ≡ Some k
-  by_place (inl inside) =
-      let grows = kinds_grow classes tree class above inside among in
-      ap (λ ks. slice_get ks 0) grows.1 ∙ ap (λ ks. slice_get (ks ++ grows.0) 0) kinds
-  by_place (inr past) =
-      let same : above ≡ class = among_one above class (sym (ap (is_among above) (chain_past_end classes class past)) ∙ among) in
-      absurd (omega (arith, same, there, past))
+first_kept classes tree above class k there among kinds =
+    let grows = kinds_grow classes tree class above (among_inside classes class above there among) among in
+    ap (λ ks. slice_get ks 0) grows.1 ∙ ap (λ ks. slice_get (ks ++ grows.0) 0) kinds
+
+-- ---- a field of objects that fit the class that is named
+
+abbrev classes_of_field : Outline → ℕ → ℕ
+classes_of_field o field = (field_at o.classes field).class
+
+-- an object whose type fits the class that is named has the field at its place
+pub field_seen : (o : Outline) → AreTree o.classes → (field : ℕ) (named t : TypeRef) → IsFieldOf o field named → fits_type o.classes t named ≡ true
+    → kind_at o.classes t (slot_of o.classes field) ≡ Some (kind_of_field o field)
+field_seen o tree field named t h fits =
+    let classes : List DeclaredClass = o.classes in
+    let parts = or_neither (is_interface_at classes h.class) (h.class == object_of classes) h.below_object in
+    let below = type_below classes h.class t parts.0 parts.1 (sym (ap (fits_type classes t) h.named_is) ∙ fits) in
+    let above : is_among (classes_of_field o field) (chain_of classes below.0) ≡ true =
+    among-trans classes tree below.0 h.class (classes_of_field o field) below.2 h.above in
+    ap (λ u. kind_at classes u (slot_of classes field)) below.1
+    ∙ field_place classes tree below.0 field (among_inside classes below.0 h.class h.inside below.2) h.there h.instance above
 
 -- ---- the classes that bring the field
 

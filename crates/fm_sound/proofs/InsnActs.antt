@@ -1,15 +1,13 @@
 -- The actions of each instruction but calls fit: what it makes has a number and a length, and what it puts has the kind of its place.
-use Rattle.std.proofs.Common.{◌≡◌, ℕ, ℤ, pos, zero, suc, ◌+◌, ◌-◌, ◌<◌, ◌≤◌, ◌==◌, ◌&&◌, ◌||◌, not, int_lt, cond, Bool, true, false, List, [], ◌∷◌, ◌++◌, length, reverse, take, nat_lt, nat_le, replicate, Option, Some, None, codes, option_and_then, refl, sym, ◌∙◌, ap, subst, slice_get, unsigned_abs, arith}
-use Rattle.std.specs.List.{AllByRecursion, list_any, range_with_len}
+use Rattle.std.proofs.Common.{◌≡◌, ℕ, ℤ, pos, zero, suc, ◌+◌, ◌-◌, ◌<◌, ◌≤◌, ◌==◌, ◌&&◌, ◌||◌, not, int_lt, cond, Bool, true, false, List, [], ◌∷◌, ◌++◌, length, reverse, take, nat_lt, nat_le, replicate, Option, Some, None, codes, refl, sym, ◌∙◌, ap, subst, slice_get, unsigned_abs, arith}
+use Rattle.std.specs.List.{list_any, range_with_len}
 use Rattle.std.specs.Option.{option_map}
 use Rattle.std.proofs.lemmas.Bool.{and_parts, eqb-true, false≢true, leb-true, ltb-true}
 use Rattle.std.proofs.lemmas.List.{length-reverse}
 use Rattle.std.proofs.lemmas.List.FromFn.{length-range_with_len}
 use Rattle.std.proofs.lemmas.Option.{none-some, same_Some}
 use Rattle.fm_alu.specs.Operations.{result_of_op}
-use Rattle.fm_base.proofs.OptionFacts.{cond-some_then, option_and_then-some, option_map-some}
-use Rattle.fm_base.specs.declared.ids.FieldId.{FieldId}
-use Rattle.fm_base.specs.declared.ids.TypeId.{TypeId}
+use Rattle.fm_base.proofs.OptionFacts.{cond-some_then, option_and_then-some}
 use Rattle.fm_base.specs.declared.kinds.Base.{Base}
 use Rattle.fm_base.specs.declared.kinds.Base.TheVariants as base
 use Rattle.fm_base.specs.declared.kinds.Kind.{Kind}
@@ -28,8 +26,8 @@ use Rattle.fm_code.specs.declared.operations.Reg.{Reg}
 use Rattle.fm_code.specs.declared.operations.Reg.TheVariants as reg
 use Rattle.fm_types.specs.ArrayRows as typed
 use Rattle.fm_types.specs.ArrayRows.{array_store_row, has_letter, is_array_of, multi_array_row, new_references_row, on_array, stored_element}
-use Rattle.fm_types.specs.Fits.{depth_of, depth_with, fits_type, object_of}
-use Rattle.fm_types.specs.Named.{field_words, object_slot, throwable_type}
+use Rattle.fm_types.specs.Fits.{depth_of, depth_with, object_of}
+use Rattle.fm_types.specs.Named.{field_words, throwable_type}
 use Rattle.fm_types.specs.ObjectRows.{has_objects, new_row, put_field_row, put_static_row, takes_field}
 use Rattle.fm_types.specs.Rows.{row_after}
 use Rattle.fm_types.specs.States.{is_uninit, is_whole, replaced, stack_slots, taken, TypeState, worked, worked_below}
@@ -40,13 +38,13 @@ use Rattle.fm_world.specs.Descriptors.{kind_words}
 use Rattle.fm_world.specs.Members.{slot_of}
 use Rattle.fm_world.specs.Numbers.{type_of_class}
 use Rattle.fm_world.specs.Programs.{class_of_type, kind_at, Outline, Program}
-use Rattle.fm_world.specs.Uses.{array_of, base_of_elem}
+use Rattle.fm_world.specs.Uses.{array_of}
 use Rattle.fm_world.specs.declared.uses.Use.{Use}
 use Rattle.fm_world.specs.declared.uses.Use.TheVariants as resolved
 use Rattle.fm_frames.specs.Acts.{cell_of, literal_text}
 use Rattle.fm_frames.specs.ArrayRows as arrays
 use Rattle.fm_frames.specs.ArrayRows.{element_kind, element_type, on_element, put_element, put_reference}
-use Rattle.fm_frames.specs.Effects.{acting, Action, Effect, faulty, int_word, loaded, long_words, Make, making, MakeLiteral, OfMade, OfOperand, OfPlace, OfStatic, Put, SetStatic, stuck, words}
+use Rattle.fm_frames.specs.Effects.{acting, Effect, faulty, int_word, loaded, long_words, Make, making, OfMade, OfOperand, OfPlace, OfStatic, Put, SetStatic, stuck, words}
 use Rattle.fm_frames.specs.JumpRows as jumps
 use Rattle.fm_frames.specs.NumberRows as numbers
 use Rattle.fm_frames.specs.ObjectRows as objects
@@ -56,12 +54,13 @@ use Rattle.fm_frames.specs.Sights.{Looks, looks, Sight, sight, sight_of_cell, si
 use Rattle.fm_frames.specs.States.{Frame, word_at}
 use Rattle.fm_frames.specs.declared.values.Value.{Value}
 use Rattle.fm_frames.specs.declared.values.Value.TheVariants as value
-use Rattle.fm_sound.specs.Acting.{ActsFit, ObjectFits, PlaceFits, ValueFits}
+use Rattle.fm_sound.specs.Acting.{ActsFit, PlaceFits}
 use Rattle.fm_sound.specs.Leading.{is_call, NamesField}
 use Rattle.fm_sound.specs.Making.{AreFew, IsMakeable, IsNumbered, NamesMade}
 use Rattle.fm_sound.specs.Sound.{field_slot, FrameHasKinds, HasKind, HaveKinds, IsReference}
 use Rattle.fm_sound.proofs.ArrayRows.{number_slots, reference_kind}
 use Rattle.fm_sound.proofs.Cases.{by_held, by_if, by_int, by_long, by_object, by_on_field, by_on_type, by_passing, by_reference, by_thrown}
+use Rattle.fm_sound.proofs.HiddenFields.{field_seen}
 use Rattle.fm_sound.proofs.KindLemmas.{taken_words}
 use Rattle.fm_sound.proofs.MadeObjects.{arithmetic_thrown, array_fits, cast_thrown, index_thrown, IsThrown, negative_thrown, no_text, null_thrown, numbered, object_fits, store_thrown, text_fits}
 use Rattle.fm_sound.proofs.NestedArrays.{array_kind, arrays_fit}
@@ -278,7 +277,7 @@ module _ (p : Program) (ready : IsMakeable p) (store : Store) (f : Frame) where
         let k : Kind = objects.kind_of_field o g.0 in
         let below = taken_below (field_words o g.0) (takes_field o f.method g.0 t) (row_of_field o u _ g n t after is at row) in
         by_object A o t s (kind_words k) _ null none (lost (kind_words k))
-        (λ it seen passes. put_fits (kind_words k + 1) (kind_words k) (slot_of o.classes g.0) (kind_words k - 1) k it seen (named t it.type at passes)
+        (λ it seen passes. put_fits (kind_words k + 1) (kind_words k) (slot_of o.classes g.0) (kind_words k - 1) k it seen (field_seen o ready.tree g.0 t it.type (named t at) passes)
         (value_has k below.0 below.1)))
 
     -- ---- objects

@@ -1,5 +1,5 @@
 -- Objects that rows make are of types that have a number, and have their length.
-use Rattle.std.proofs.Common.{◌≡◌, ℕ, zero, suc, ◌+◌, ◌-◌, ◌/◌, ◌^◌, ◌<◌, ◌≤◌, ◌==◌, ◌&&◌, not, Bool, true, false, cond, List, [], ◌∷◌, ◌++◌, length, codes, unwrap_or, reverse, Option, Some, None, refl, sym, ◌∙◌, ap, subst, inl, inr, slice_get, slice_index_or, get_or, nat_lt, arith}
+use Rattle.std.proofs.Common.{◌≡◌, ℕ, zero, suc, ◌+◌, ◌^◌, ◌<◌, ◌≤◌, ◌==◌, not, Bool, true, false, cond, List, [], ◌∷◌, ◌++◌, length, codes, unwrap_or, reverse, Option, Some, None, refl, sym, ◌∙◌, ap, subst, inl, inr, slice_get, get_or, arith}
 use Rattle.std.specs.List.{flat_map, position_or_len}
 use Rattle.std.specs.Str.{bytes_eq}
 use Rattle.std.proofs.lemmas.Bool.{and_parts, false≢true, lt-ltb, ne_eqb}
@@ -25,14 +25,13 @@ use Rattle.fm_world.specs.Numbers.{type_number, type_of_class}
 use Rattle.fm_world.specs.Programs.{class_of_type, kind_at, Outline, Program}
 use Rattle.fm_world.specs.declared.declarations.DeclaredClass.{DeclaredClass}
 use Rattle.fm_frames.proofs.Programs.{built_in-inside, string-is}
-use Rattle.fm_frames.specs.Acts.{requested}
 use Rattle.fm_frames.specs.Effects.{Make}
 use Rattle.fm_frames.specs.Elements.{is_text_type, pack_of}
 use Rattle.fm_frames.specs.NativeRows.{text_type}
 use Rattle.fm_frames.specs.Operands.{size_of_type}
 use Rattle.fm_sound.specs.Acting.{ContentFits, MakeFits}
 use Rattle.fm_sound.specs.Making.{AreUnits, IsFew, IsMakeable, IsNumbered}
-use Rattle.fm_sound.specs.Sound.{HasLength, HasLengthBy, HasObjects}
+use Rattle.fm_sound.specs.Sound.{HasLength, HasLengthBy}
 use Rattle.fm_sound.proofs.Counts.{type_pack}
 
 -- ---- texts have no fields

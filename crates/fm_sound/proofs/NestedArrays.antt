@@ -1,13 +1,11 @@
 -- The actions that make arrays of arrays fit: each is made before it is put where it stands in the one that was made before.
-use Rattle.std.proofs.Common.{◌≡◌, ℕ, zero, suc, ◌+◌, ◌-◌, ◌*◌, ◌<◌, ◌≤◌, ◌==◌, ◌&&◌, Bool, true, false, cond, List, [], ◌∷◌, ◌++◌, length, Option, Some, None, option_and_then, refl, sym, ◌∙◌, ap, subst, slice_get, nat_lt, append_assoc, arith}
+use Rattle.std.proofs.Common.{◌≡◌, ℕ, zero, suc, ◌+◌, ◌*◌, ◌<◌, ◌≤◌, ◌&&◌, false, cond, List, [], ◌∷◌, ◌++◌, length, Some, option_and_then, refl, sym, ◌∙◌, ap, subst, slice_get, append_assoc, arith}
 use Rattle.std.specs.List.{AllByRecursion, flat_map, range_with_len}
 use Rattle.std.proofs.Math.Nat.{suc-mul}
 use Rattle.std.proofs.lemmas.Bool.{lt-ltb, ne_eqb}
 use Rattle.std.proofs.lemmas.List.{append-nil, length-append}
 use Rattle.fm_base.specs.declared.kinds.Base.{Base}
 use Rattle.fm_base.specs.declared.kinds.Base.TheVariants as base
-use Rattle.fm_base.specs.declared.kinds.Kind.{Kind}
-use Rattle.fm_base.specs.declared.kinds.Kind.TheVariants as kind
 use Rattle.fm_base.specs.declared.kinds.TypeRef.{TypeRef}
 use Rattle.fm_cells.specs.Stores.{Store}
 use Rattle.fm_types.specs.Fits.{depth_with}
@@ -16,7 +14,7 @@ use Rattle.fm_world.specs.Members.{kinds_of}
 use Rattle.fm_world.specs.Programs.{class_of_type, kind_at, Outline, Program}
 use Rattle.fm_world.specs.declared.declarations.DeclaredClass.{DeclaredClass}
 use Rattle.fm_frames.specs.ArrayRows.{array_actions, arrays_made, element_kind, element_type}
-use Rattle.fm_frames.specs.Effects.{Action, Make, OfMade, Put}
+use Rattle.fm_frames.specs.Effects.{Action, OfMade, Put}
 use Rattle.fm_frames.specs.Elements.{is_text_type}
 use Rattle.fm_frames.specs.NativeRows.{text_type}
 use Rattle.fm_frames.specs.States.{Frame}

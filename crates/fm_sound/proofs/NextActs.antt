@@ -1,5 +1,5 @@
 -- The actions of each step of a sound state fit.
-use Rattle.std.proofs.Common.{◌≡◌, ℕ, Bool, true, false, List, [], ◌∷◌, Option, Some, None, option_and_then, refl, sym, ◌∙◌, ap, subst, slice_get}
+use Rattle.std.proofs.Common.{◌≡◌, ℕ, Bool, true, false, List, [], ◌∷◌, Option, Some, option_and_then, refl, sym, ◌∙◌, ap, subst, slice_get}
 use Rattle.fm_base.proofs.OptionFacts.{option_and_then-some, Some-from_some_and}
 use Rattle.fm_code.specs.Edges.{insn_of, IsNormalEdge}
 use Rattle.fm_code.specs.declared.code_array.Code.{Code}
@@ -9,7 +9,6 @@ use Rattle.fm_types.specs.States.{TypeState}
 use Rattle.fm_types.specs.Typed.{after_item, FitsAt, IsTypingOf, made_at, MeetsItem, use_by}
 use Rattle.fm_world.specs.Programs.{Outline, Program}
 use Rattle.fm_frames.specs.Effects.{Calls, Effect, faulty, going, stuck}
-use Rattle.fm_frames.specs.NativeRows.{native_effect}
 use Rattle.fm_frames.specs.Rows.{effect_of}
 use Rattle.fm_frames.specs.Sights.{Sight, sights}
 use Rattle.fm_frames.specs.Starts.{with_start}
@@ -91,7 +90,7 @@ module _ (p : Program) (typings : Typings) (ready : StepsAreResolved p) (made : 
         first = λ class e h. record { fits = h.fits };
         called = λ target words is. plain (going words (Calls target)) refl;
         of_row = λ row is. record {
-          fits = λ few. built_ins_fit p made.makeable made.names (text_first p made.makeable.runnable ready.tree) z.areas.store sound.areas.heap f row byte is.have few;
+          fits = λ few. built_ins_fit p made.makeable made.names (text_first p made.makeable.runnable made.makeable.tree) z.areas.store sound.areas.heap f row byte is.have few;
         };
       }
 

@@ -11,7 +11,6 @@ use Rattle.fm_world.specs.Descriptors.{class_number}
 use Rattle.fm_world.specs.Members.{size_among, size_of}
 use Rattle.fm_world.specs.Programs.{Outline, Program}
 use Rattle.fm_world.specs.declared.declarations.DeclaredClass.{DeclaredClass}
-use Rattle.fm_frames.specs.Effects.{Action}
 use Rattle.fm_frames.specs.NativeRows.{text_kind, text_type}
 use Rattle.fm_frames.specs.Runs.{argument_actions, arguments_type, Job, opening_actions}
 use Rattle.fm_frames.specs.States.{Frame}

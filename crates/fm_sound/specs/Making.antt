@@ -9,9 +9,10 @@ use Rattle.fm_cells.specs.Stores.{object_at, Store}
 use Rattle.fm_code.specs.AccessFlags.{is_static}
 use Rattle.fm_code.specs.declared.instructions.Insn.{Insn}
 use Rattle.fm_code.specs.declared.instructions.Insn.TheVariants as insn
-use Rattle.fm_types.specs.Fits.{fits_type}
+use Rattle.fm_types.specs.Fits.{AreTree, fits_type, is_seen_as_object}
 use Rattle.fm_types.specs.Named.{built_in_type, throwable_type}
-use Rattle.fm_world.specs.Members.{field_at, slot_of}
+use Rattle.fm_world.specs.Chains.{chain_of, is_among}
+use Rattle.fm_world.specs.Members.{field_at, fields_of}
 use Rattle.fm_world.specs.Numbers.{type_number, type_of_class}
 use Rattle.fm_world.specs.Programs.{kind_at, Outline, Program}
 use Rattle.fm_world.specs.Uses.{array_of, base_of_elem}
@@ -22,7 +23,6 @@ use Rattle.fm_frames.specs.Acts.{literal_text, requested}
 use Rattle.fm_frames.specs.ArrayRows.{element_type}
 use Rattle.fm_frames.specs.Effects.{Action, Make}
 use Rattle.fm_frames.specs.NativeRows.{text_kind, type_name}
-use Rattle.fm_frames.specs.ObjectRows.{kind_of_field}
 use Rattle.fm_frames.specs.Runnable.{IsRunnable}
 use Rattle.fm_frames.specs.Runs.{arguments_type}
 use Rattle.fm_sound.specs.Resolved.{IsNamed}
@@ -39,6 +39,8 @@ AreUnits units = AllByRecursion (λ unit. unit < 2 ^ 16) units
 -- Classes have numbers as types, and so have the element types of arrays that have them, where these are arrays again.
 pub record IsMakeable (p : Program) : Type 0 where
   pub runnable : IsRunnable p
+  -- the classes are a tree below Object (JVMS 5.3.5)
+  pub tree : AreTree p.outline.classes
   -- the types of the classes are numbered first, in the order of the classes
   pub class_types : (class : ℕ) → class < length p.outline.classes → type_number p.outline.types (type_of_class class) ≡ Some class
   -- arrays of arrays are made with all that they hold
@@ -46,14 +48,23 @@ pub record IsMakeable (p : Program) : Type 0 where
   -- the texts that instructions name are those of class files (JVMS 4.4.7)
   pub texts : (text : ℕ) → (length (literal_text p.outline text) < 2 ^ 31) × AreUnits (literal_text p.outline text)
 
--- The array that the instruction makes has a number; and an object of a type that fits the one that putfield names has the field at its place.
+-- A field of objects, of the class that is named or of one above it (JVMS 5.4.3.2): so the class is neither Object nor an interface, which have no such
+-- fields.
+pub record IsFieldOf (o : Outline) (field : ℕ) (named : TypeRef) : Type 0 where
+  pub there : field < length (fields_of o.classes)
+  pub instance : is_static (field_at o.classes field).field.flags ≡ false
+  pub class : ℕ
+  pub inside : class < length o.classes
+  pub named_is : named ≡ type_of_class class
+  pub above : is_among (field_at o.classes field).class (chain_of o.classes class) ≡ true
+  pub below_object : is_seen_as_object o.classes class ≡ false
+
+-- The array that the instruction makes has a number; and the field that putfield names is one of objects of the class that it names.
 abbrev pub NamesMade : Outline → Use → Insn → Type 0
 NamesMade o u (insn.NewArray e) = (b : Base) → base_of_elem e ≡ Some b → IsNumbered o (record { dims = 1; base = b })
 NamesMade o (resolved.OfType t) (insn.NewRefs index) =
     (named array : TypeRef) → slice_get o.types t.0 ≡ Some named → array_of named ≡ Some array → IsNumbered o array
-NamesMade o (resolved.OfField f t) (insn.PutField index) =
-    (named of : TypeRef) → slice_get o.types t.0 ≡ Some named → fits_type o.classes of named ≡ true
-    → kind_at o.classes of (slot_of o.classes f.0) ≡ Some (kind_of_field o f.0)
+NamesMade o (resolved.OfField f t) (insn.PutField index) = (named : TypeRef) → slice_get o.types t.0 ≡ Some named → IsFieldOf o f.0 named
 NamesMade o u i = Unit {0}
 
 -- a field that has a constant is static (JVMS 4.7.2)
