@@ -1,7 +1,7 @@
 -- The actions of the built-in methods fit: the texts that they make are of 16-bit units, and go where texts are kept.
 use Rattle.std.proofs.Common.{◌≡◌, ℕ, ℤ, pos, zero, suc, ◌+◌, ◌-◌, ◌^◌, ◌<◌, ◌==◌, ◌||◌, not, int_lt, cond, Bool, true, false, List, [], ◌∷◌, ◌++◌, length, take, drop, Option, Some, None, codes, refl, sym, ◌∙◌, ap, subst, slice_get, slice_index_or, unsigned_abs, arith}
 use Rattle.std.specs.Fmt.{signed_decimal}
-use Rattle.std.proofs.lemmas.Option.{none-some, same_Some, slice_get-get_or}
+use Rattle.std.proofs.lemmas.Option.{slice_get-get_or}
 use Rattle.fm_alu.proofs.TwosComplementLemmas.{low_bits-lt}
 use Rattle.fm_alu.specs.TwosComplement.{low_bits}
 use Rattle.fm_base.specs.declared.kinds.Kind.TheVariants as kind
@@ -19,18 +19,18 @@ use Rattle.fm_frames.specs.NativeRows as table
 use Rattle.fm_frames.specs.NativeRows.{char_at, equal_to, has_text, is_builder, linked, object_text, on_builder, on_built, on_shown, part_of, shown_words, text_kind, text_made, throwable_text, thrown_outside, type_name}
 use Rattle.fm_frames.specs.Natives.{Shown, ShownInt, ShownLong, ShownChar, ShownBoolean, ShownText, Native, ObjectInit, ObjectHashCode, ObjectEquals, ObjectToString, StringLength, CharAt, StringEquals, StringHashCode, CompareTo, StringToString, Substring, ValueOf, BuilderInit, Append, BuilderLength, BuilderToString, BufferInitOf, Exit, Print, Println, PrintlnNothing, Read, ThrowableInit, ThrowableInitOf, GetMessage, ThrowableToString, FreeMeFree, FreeMeLink, FreeMeFreeChain}
 use Rattle.fm_frames.specs.Operands.{on_inner, on_inner_of, on_text, on_text_or_null, thrown, thrown_null}
-use Rattle.fm_frames.specs.Sights.{Inner, led_to, Looks, looks, Lost, Missing, NoField, Sight, sight, sight_of_cell, sight_of_object, sights, Text, text_in, Thing, type_numbered, units_of}
+use Rattle.fm_frames.specs.Sights.{Inner, led_to, Looks, looks, Lost, Missing, NoField, Sight, sights, Text, text_in, Thing, type_numbered, units_of}
 use Rattle.fm_frames.specs.States.{Frame, null, word_at}
 use Rattle.fm_frames.specs.declared.values.Value.{Value}
-use Rattle.fm_frames.specs.declared.values.Value.TheVariants as value
 use Rattle.fm_sound.specs.Acting.{ActsFit, PlaceFits}
 use Rattle.fm_sound.specs.BuiltIns.{native_slots}
 use Rattle.fm_sound.specs.Making.{AreFew, AreUnits, HaveTextFirst, HoldsObjects, IsMakeable, NamesAreUnits}
 use Rattle.fm_sound.specs.Sound.{HaveKinds, IsObjectIn, IsReference}
 use Rattle.fm_sound.proofs.BuiltInRows.{two_references}
 use Rattle.fm_sound.proofs.Cases.{by_any, by_held, by_if, by_int, by_long, by_object, by_passing}
-use Rattle.fm_sound.proofs.InsnActs.{Fits, word_seen}
+use Rattle.fm_sound.proofs.InsnActs.{Fits}
 use Rattle.fm_sound.proofs.MadeObjects.{IsThrown, length_few, no_text, null_thrown, outside_thrown, text_fits}
+use Rattle.fm_sound.proofs.SeenObjects.{seen_at}
 use Rattle.fm_sound.proofs.TextUnits.{units-append, units-drop, units-each, units-hex, units-signed, units-take}
 
 -- ---- what is seen of an object
@@ -77,28 +77,11 @@ looks_units o store holds names object h = record {
   name = names object.class (type_numbered o object.class) (slice_get-get_or o.types object.class (type_of_class 0) h.numbered);
 }
 
-object_units : (o : Outline) (store : Store) → HoldsObjects o store → NamesAreUnits o → (cell : ℕ) (it : Looks) (found : Option Object)
-    → object_at store cell ≡ found → sight_of_object o store found ≡ Thing it → HasUnits o it
-object_units o store holds names cell it None at seen = absurd (cc)
-object_units o store holds names cell it (Some object) at seen =
-    let same : looks o store object ≡ it = cc in subst (HasUnits o) same (looks_units o store holds names object (holds cell object at))
-
-cell_units : (o : Outline) (store : Store) → HoldsObjects o store → NamesAreUnits o → (cell : ℕ) (it : Looks) → sight_of_cell o store cell ≡ Thing it
-    → HasUnits o it
-cell_units o store holds names zero it seen = absurd (cc)
-cell_units o store holds names (suc cell) it seen = object_units o store holds names (suc cell) it (object_at store (suc cell)) refl seen
-
-value_units : (o : Outline) (store : Store) → HoldsObjects o store → NamesAreUnits o → (v : Value) (it : Looks) → sight o store v ≡ Thing it → HasUnits o it
-value_units o store holds names (value.Ref cell) it seen = cell_units o store holds names cell.0 it seen
-value_units o store holds names value.Top it seen = absurd (cc)
-value_units o store holds names (value.Int n) it seen = absurd (cc)
-value_units o store holds names (value.Long n) it seen = absurd (cc)
-
 seen_units : (o : Outline) (store : Store) → HoldsObjects o store → NamesAreUnits o → (stack : List Value) (n : ℕ) (it : Looks)
     → slice_get (sights o store stack) n ≡ Some (Thing it) → HasUnits o it
-seen_units o store holds names [] n it seen = absurd (none-some (Thing it) seen)
-seen_units o store holds names (v ∷ stack) zero it seen = value_units o store holds names v it (same_Some (sight o store v) (Thing it) seen)
-seen_units o store holds names (v ∷ stack) (suc n) it seen = seen_units o store holds names stack n it seen
+seen_units o store holds names stack n it seen =
+    let found = seen_at o store stack n it seen in
+    subst (HasUnits o) found.looks_so (looks_units o store holds names found.object (holds (cell_of (word_at stack n)) found.object found.held))
 
 -- ---- the rows
 
@@ -178,9 +161,9 @@ module _ (p : Program) (ready : IsMakeable p) (names : NamesAreUnits p.outline) 
   placed : (n : ℕ) (it : Looks) → slice_get s n ≡ Some (Thing it) → kind_at o.classes it.type 0 ≡ Some (text_kind o)
       → (object : Object) × (object_at store (cell_of (word_at f.stack n)) ≡ Some object) × PlaceFits o (type_numbered o object.class) 0 (text_kind o)
   placed n it seen at =
-      let object = word_seen o store f.stack n it seen in
-      let is : kind_at o.classes (type_numbered o object.0.class) 0 ≡ Some (text_kind o) = ap (λ t. kind_at o.classes t 0) (sym object.2) ∙ at in
-      (object.0, object.1, record { kind = is; no_text = no_text p ready (type_numbered o object.0.class) 0 (text_kind o) is })
+      let found = seen_at o store f.stack n it seen in
+      let is : kind_at o.classes (type_numbered o found.object.class) 0 ≡ Some (text_kind o) = ap (λ t. kind_at o.classes t 0) (sym found.type_is) ∙ at in
+      (found.object, found.held, record { kind = is; no_text = no_text p ready (type_numbered o found.object.class) 0 (text_kind o) is })
 
   text_put : (n : ℕ) (it : Looks) (units : List ℕ) (e : Effect) → e.actions ≡ has_text o n units → slice_get s n ≡ Some (Thing it)
       → kind_at o.classes it.type 0 ≡ Some (text_kind o) → AreUnits units → A e

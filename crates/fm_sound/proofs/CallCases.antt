@@ -29,6 +29,7 @@ use Rattle.fm_world.specs.Programs.{class_of_type, Outline, Program}
 use Rattle.fm_world.specs.Uses.{operand_of}
 use Rattle.fm_world.specs.declared.uses.Use.{Use}
 use Rattle.fm_world.specs.declared.uses.Use.TheVariants as resolved
+use Rattle.fm_frames.specs.Acts.{cell_of}
 use Rattle.fm_frames.specs.CallRows.{entered, entered_as, interface_effect, native_of, receiver_class, special_effect, static_effect, virtual_effect, words_of_arguments}
 use Rattle.fm_frames.specs.Effects.{Calls, Effect, faulty, going, stuck}
 use Rattle.fm_frames.specs.NativeRows.{native_effect}
@@ -38,7 +39,7 @@ use Rattle.fm_frames.specs.Operands.{thrown, thrown_null}
 use Rattle.fm_frames.specs.Rows.{effect_of}
 use Rattle.fm_frames.specs.Runnable.{IsUseIn}
 use Rattle.fm_frames.specs.Sights.{Looks, Sight, sights, Thing}
-use Rattle.fm_frames.specs.States.{Areas, Frame}
+use Rattle.fm_frames.specs.States.{Areas, Frame, word_at}
 use Rattle.fm_sound.specs.BuiltIns.{native_result, native_slots, reference}
 use Rattle.fm_sound.specs.Going.{is_static_call, IsCalled, StandsAtRow}
 use Rattle.fm_sound.specs.Leading.{is_call}
@@ -161,8 +162,8 @@ module _ (p : Program) (ready : CallsAreResolved p) (x : Areas) (sound : AreasAr
   -- objects are made of the type of a receiver
   seen_made : (n : ℕ) (it : Looks) → slice_get s n ≡ Some (Thing it) → HasObjects o it.type
   seen_made n it seen =
-      let found : IsSeen o x.store it = seen_at o x.store f.stack n it seen in
-      subst (HasObjects o) (sym found.type_is) (sound.heap found.cell found.object found.held).of_type.made
+      let found : IsSeen o x.store (cell_of (word_at f.stack n)) it = seen_at o x.store f.stack n it seen in
+      subst (HasObjects o) (sym found.type_is) (sound.heap (cell_of (word_at f.stack n)) found.object found.held).of_type.made
 
   module _ (i : Insn) (after : TypeState) (h : StandsAtRow p typings f i after) (kinds : FrameHasKinds h.known f.locals f.stack) (whole : is_whole h.known.stack ≡ true) (call : is_call i ≡ true) (all : HoldsOfCalls p f i byte s P) where
     abbrev u : Use

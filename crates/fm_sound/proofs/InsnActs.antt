@@ -1,11 +1,11 @@
 -- The actions of each instruction but calls fit: what it makes has a number and a length, and what it puts has the kind of its place.
-use Rattle.std.proofs.Common.{◌≡◌, ℕ, ℤ, pos, zero, suc, ◌+◌, ◌-◌, ◌<◌, ◌≤◌, ◌==◌, ◌&&◌, ◌||◌, not, int_lt, cond, Bool, true, false, List, [], ◌∷◌, ◌++◌, length, reverse, take, nat_lt, nat_le, replicate, Option, Some, None, codes, refl, sym, ◌∙◌, ap, subst, slice_get, unsigned_abs, arith}
+use Rattle.std.proofs.Common.{◌≡◌, ℕ, ℤ, pos, suc, ◌+◌, ◌-◌, ◌<◌, ◌≤◌, ◌==◌, ◌&&◌, ◌||◌, not, int_lt, cond, Bool, true, false, List, [], ◌∷◌, ◌++◌, length, reverse, take, nat_lt, nat_le, replicate, Option, Some, None, codes, refl, sym, ◌∙◌, ap, subst, slice_get, unsigned_abs, arith}
 use Rattle.std.specs.List.{list_any, range_with_len}
 use Rattle.std.specs.Option.{option_map}
 use Rattle.std.proofs.lemmas.Bool.{and_parts, eqb-true, false≢true, leb-true, ltb-true}
 use Rattle.std.proofs.lemmas.List.{length-reverse}
 use Rattle.std.proofs.lemmas.List.FromFn.{length-range_with_len}
-use Rattle.std.proofs.lemmas.Option.{none-some, same_Some}
+use Rattle.std.proofs.lemmas.Option.{same_Some}
 use Rattle.fm_alu.specs.Operations.{result_of_op}
 use Rattle.fm_base.proofs.OptionFacts.{cond-some_then, option_and_then-some}
 use Rattle.fm_base.specs.declared.kinds.Base.{Base}
@@ -13,8 +13,7 @@ use Rattle.fm_base.specs.declared.kinds.Base.TheVariants as base
 use Rattle.fm_base.specs.declared.kinds.Kind.{Kind}
 use Rattle.fm_base.specs.declared.kinds.Kind.TheVariants as kind
 use Rattle.fm_base.specs.declared.kinds.TypeRef.{TypeRef}
-use Rattle.fm_cells.specs.Objects.{Object}
-use Rattle.fm_cells.specs.Stores.{object_at, Store}
+use Rattle.fm_cells.specs.Stores.{Store}
 use Rattle.fm_code.specs.declared.instructions.Insn.{Insn}
 use Rattle.fm_code.specs.declared.instructions.Insn.TheVariants as insn
 use Rattle.fm_code.specs.declared.operations.Conv.{Conv}
@@ -41,7 +40,7 @@ use Rattle.fm_world.specs.Programs.{class_of_type, kind_at, Outline, Program}
 use Rattle.fm_world.specs.Uses.{array_of}
 use Rattle.fm_world.specs.declared.uses.Use.{Use}
 use Rattle.fm_world.specs.declared.uses.Use.TheVariants as resolved
-use Rattle.fm_frames.specs.Acts.{cell_of, literal_text}
+use Rattle.fm_frames.specs.Acts.{literal_text}
 use Rattle.fm_frames.specs.ArrayRows as arrays
 use Rattle.fm_frames.specs.ArrayRows.{element_kind, element_type, on_element, put_element, put_reference}
 use Rattle.fm_frames.specs.Effects.{acting, Effect, faulty, int_word, loaded, long_words, Make, making, OfMade, OfOperand, OfPlace, OfStatic, Put, SetStatic, stuck, words}
@@ -50,10 +49,9 @@ use Rattle.fm_frames.specs.NumberRows as numbers
 use Rattle.fm_frames.specs.ObjectRows as objects
 use Rattle.fm_frames.specs.Operands.{size_of_type, thrown, thrown_null}
 use Rattle.fm_frames.specs.Rows.{effect_of}
-use Rattle.fm_frames.specs.Sights.{Looks, looks, Sight, sight, sight_of_cell, sight_of_object, sights, Thing, type_numbered}
+use Rattle.fm_frames.specs.Sights.{Looks, Sight, sights, Thing, type_numbered}
 use Rattle.fm_frames.specs.States.{Frame, word_at}
 use Rattle.fm_frames.specs.declared.values.Value.{Value}
-use Rattle.fm_frames.specs.declared.values.Value.TheVariants as value
 use Rattle.fm_sound.specs.Acting.{ActsFit, PlaceFits}
 use Rattle.fm_sound.specs.Leading.{is_call, NamesField}
 use Rattle.fm_sound.specs.Making.{AreFew, IsMakeable, IsNumbered, NamesMade}
@@ -64,39 +62,8 @@ use Rattle.fm_sound.proofs.HiddenFields.{field_seen}
 use Rattle.fm_sound.proofs.KindLemmas.{taken_words}
 use Rattle.fm_sound.proofs.MadeObjects.{arithmetic_thrown, array_fits, cast_thrown, index_thrown, IsThrown, negative_thrown, no_text, null_thrown, numbered, object_fits, store_thrown, text_fits}
 use Rattle.fm_sound.proofs.NestedArrays.{array_kind, arrays_fit}
+use Rattle.fm_sound.proofs.SeenObjects.{seen_at}
 use Rattle.fm_sound.proofs.ObjectRows.{row_of_field, row_of_type, static_slot_at}
-
--- ---- the object that is seen
-
--- an object with the type that is seen
-abbrev pub IsHeldAs : Outline → Store → ℕ → Looks → Type 0
-IsHeldAs o store cell it = (object : Object) × (object_at store cell ≡ Some object) × (it.type ≡ type_numbered o object.class)
-
-looked_at : (o : Outline) (store : Store) (object : Object) → (looks o store object).type ≡ type_numbered o object.class
-unfolding looks
-looked_at o store object = refl
-
-object_seen : (o : Outline) (store : Store) (cell : ℕ) (it : Looks) (found : Option Object) → object_at store cell ≡ found
-    → sight_of_object o store found ≡ Thing it → IsHeldAs o store cell it
-object_seen o store cell it None at seen = absurd (cc)
-object_seen o store cell it (Some object) at seen =
-    let same : looks o store object ≡ it = cc in (object, at, ap (λ (l : Looks). l.type) (sym same) ∙ looked_at o store object)
-
-cell_seen : (o : Outline) (store : Store) (cell : ℕ) (it : Looks) → sight_of_cell o store cell ≡ Thing it → IsHeldAs o store cell it
-cell_seen o store zero it seen = absurd (cc)
-cell_seen o store (suc cell) it seen = object_seen o store (suc cell) it (object_at store (suc cell)) refl seen
-
-value_seen : (o : Outline) (store : Store) (v : Value) (it : Looks) → sight o store v ≡ Thing it → IsHeldAs o store (cell_of v) it
-value_seen o store (value.Ref cell) it seen = cell_seen o store cell.0 it seen
-value_seen o store value.Top it seen = absurd (cc)
-value_seen o store (value.Int n) it seen = absurd (cc)
-value_seen o store (value.Long n) it seen = absurd (cc)
-
-pub word_seen : (o : Outline) (store : Store) (stack : List Value) (n : ℕ) (it : Looks) → slice_get (sights o store stack) n ≡ Some (Thing it)
-    → IsHeldAs o store (cell_of (word_at stack n)) it
-word_seen o store [] n it seen = absurd (none-some (Thing it) seen)
-word_seen o store (v ∷ stack) zero it seen = value_seen o store v it (same_Some (sight o store v) (Thing it) seen)
-word_seen o store (v ∷ stack) (suc n) it seen = word_seen o store stack n it seen
 
 -- ---- values of a kind on the stack
 
@@ -230,8 +197,12 @@ module _ (p : Program) (ready : IsMakeable p) (store : Store) (f : Frame) where
       → HasKind (field_slot k) (word_at f.stack value) → A (acting taken (Put (OfOperand n) place k (OfOperand value) ∷ []))
   put_fits taken n place value k it seen at has = record {
     fits = λ few.
-        let object = word_seen o store f.stack n it seen in (
-          (object.0, object.1, placed (type_numbered o object.0.class) (ap (λ t. kind_at o.classes t place) (sym object.2) ∙ at)),
+        let seen_here = seen_at o store f.stack n it seen in (
+          (
+            seen_here.object,
+            seen_here.held,
+            placed (type_numbered o seen_here.object.class) (ap (λ t. kind_at o.classes t place) (sym seen_here.type_is) ∙ at),
+          ),
           (λ areas made statics. has),
           tt,
         );
