@@ -91,7 +91,7 @@ result_slots dims (object name) = reference ∷ []
 abbrev number_in : List DeclaredClass → List ℕ → Option ℕ
 number_in classes name = position_from (λ (c : DeclaredClass). bytes_eq c.name name) 0 classes
 
-abbrev is_known : BaseType → Bool
+abbrev pub is_known : BaseType → Bool
 is_known (primitive letter) = true
 is_known (object name) = is_some (number_in built_in name)
 
@@ -112,7 +112,7 @@ found_still test i (x ∷ xs) ys k h = by_test (test x) h (found_still test (i +
   by_test true e later = e
   by_test false e later = later e
 
-class_there : (given : List DeclaredClass) (name : List ℕ) → is_known (object name) ≡ true
+pub class_there : (given : List DeclaredClass) (name : List ℕ) → is_known (object name) ≡ true
     → (class : ℕ) × (class_number (built_in ++ given) name ≡ Some class)
 class_there given name h =
     let found = some_of (number_in built_in name) h in (

@@ -30,3 +30,5 @@ pub mod FewWords
 pub mod HiddenFields
 pub mod OpeningActs
 pub mod NextActs
+pub mod Opening
+pub mod RunsSound

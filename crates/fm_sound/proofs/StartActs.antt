@@ -91,6 +91,13 @@ module _ (p : Program) (ready : IsMakeable p) (statics : ConstantsAreStatic p.ou
       subst Fits (sym (append_assoc (start_of_class o class) (start_actions o classes) rest))
       (constants_set (fields_at o class) (start_actions o classes ++ rest) (starts_fit classes rest follows))
 
+-- alone
+pub start_alone : (p : Program) → IsMakeable p → ConstantsAreStatic p.outline → (store : Store) (f : Frame) (classes : List ℕ)
+    → ActsFit p.outline store f [] (start_actions p.outline classes)
+start_alone p ready statics store f classes =
+    subst (λ actions. ActsFit p.outline store f [] actions) (append-nil (start_actions p.outline classes))
+    (starts_fit p ready statics store f [] classes [] tt)
+
 -- ---- before an effect
 
 all_after : (P : Action → Type 0) (xs ys : List Action) → AllByRecursion P (xs ++ ys) → AllByRecursion P ys
@@ -103,16 +110,11 @@ module _ (p : Program) (ready : IsMakeable p) (statics : ConstantsAreStatic p.ou
   abbrev FitsFew : Effect → Type 0
   FitsFew other = AreFew p.outline other.actions → ActsFit p.outline store f [] other.actions
 
-  alone : (classes : List ℕ) → ActsFit p.outline store f [] (start_actions p.outline classes)
-  alone classes =
-      subst (λ actions. ActsFit p.outline store f [] actions) (append-nil (start_actions p.outline classes))
-      (starts_fit p ready statics store f [] classes [] tt)
-
   by_methods : (classes methods : List ℕ) → start_methods p.outline classes ≡ methods → FitsFew (started_by p.outline classes e)
   by_methods classes [] is =
       subst FitsFew (sym (ap (after_methods p.outline classes e) is))
       (λ few. starts_fit p ready statics store f [] classes e.actions (fits (all_after (IsFew p.outline) (start_actions p.outline classes) e.actions few)))
-  by_methods classes (m ∷ methods) is = subst FitsFew (sym (ap (after_methods p.outline classes e) is)) (λ few. alone classes)
+  by_methods classes (m ∷ methods) is = subst FitsFew (sym (ap (after_methods p.outline classes e) is)) (λ few. start_alone p ready statics store f classes)
 
   pub before_fits : FitsFew (with_start p.outline started e)
   before_fits = by_class e.starts refl where

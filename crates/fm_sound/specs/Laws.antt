@@ -2,9 +2,9 @@
 use Rattle.std.specs.Prelude.{◌≡◌, ℕ, ◌^◌, ◌<◌, false, true, List, [], ◌∷◌, ◌++◌, drop, length, take, reverse, Option, Some, None, ◌≤◌, Bool}
 use Rattle.std.specs.List.{AllByRecursion}
 use Rattle.fm_base.specs.declared.kinds.TypeRef.{TypeRef}
-use Rattle.fm_base.specs.declared.limits.TheConstants.{MAX_LIVE_WORDS}
+use Rattle.fm_base.specs.declared.limits.TheConstants.{MAX_LIVE_WORDS, MAX_FILE_BYTES}
 use Rattle.fm_cells.specs.Choices.{lawful}
-use Rattle.fm_cells.specs.Stores.{Store}
+use Rattle.fm_cells.specs.Stores.{Store, opened}
 use Rattle.fm_code.specs.AccessFlags.{is_static}
 use Rattle.fm_code.specs.declared.instructions.Insn.{Insn}
 use Rattle.fm_types.specs.Fits.{AreTree}
@@ -24,17 +24,17 @@ use Rattle.fm_frames.specs.Natives.{Native}
 use Rattle.fm_frames.specs.ObjectRows.{kind_of_field}
 use Rattle.fm_frames.specs.Rows.{effect_of}
 use Rattle.fm_frames.specs.Sights.{Sight, sights}
-use Rattle.fm_frames.specs.Starts.{start_methods, with_start}
+use Rattle.fm_frames.specs.Starts.{start_methods, with_start, start_actions}
+use Rattle.fm_frames.specs.Runs.{after, Job, opening, opening_actions}
 use Rattle.fm_frames.specs.States.{Areas, Frame, State}
 use Rattle.fm_frames.specs.Steps.{caught, continued, InFrames, is_over, new_frame, next_effect, returned, start_frames, step}
 use Rattle.fm_frames.specs.Runnable.{IsRunnable}
-use Rattle.fm_frames.specs.Runs.{Job, opening_actions}
 use Rattle.fm_frames.specs.declared.values.Value.{Value}
 use Rattle.fm_sound.specs.Acting.{ActsFit}
 use Rattle.fm_sound.specs.BuiltIns.{native_slots, NativeLeads}
 use Rattle.fm_sound.specs.Going.{CallLeads, ConstructorsGiveNothing, IsCalled, IsGoingOn, StandsAtRow, StartsClass}
 use Rattle.fm_sound.specs.Leading.{is_call, LeadsAs, NamesField, sources_of}
-use Rattle.fm_sound.specs.Resolved.{CallsAreResolved, StepsAreResolved}
+use Rattle.fm_sound.specs.Resolved.{CallsAreResolved, MainIsReady, StepsAreResolved}
 use Rattle.fm_sound.specs.Sound.{AreasAreSound, AreTyped, FrameHasKinds, HaveKinds, IsReference, IsSoundBy, Stand, StandBelow, StandsWithout, static_slots, Typings}
 use Rattle.fm_sound.specs.Making.{AreFew, ArgumentsFit, ConstantsAreStatic, HaveTextFirst, HoldsObjects, IsMakeable, MakesAreResolved, NamesAreUnits, NamesMade}
 
@@ -201,9 +201,51 @@ StepsKeepSound =
     (p : Program) (typings : Typings) → StepsAreResolved p → (choose : Choose) (x : State) → IsSoundBy p typings x → (x.ended ≡ None → NextActsFit p x)
     → IsSoundBy p typings (step p (lawful choose) x).state
 
+-- ---- the opening
+
+-- before there is any frame
+abbrev pub no_frame : Frame
+no_frame = record { method = 0; item = 0; locals = []; stack = [] }
+
+-- the actions of the opening fit, and so do those that start classes
+pub record OpeningActsFit (p : Program) (job : Job) (store : Store) : Type 0 where
+  pub opening : ActsFit p.outline store no_frame [] (opening_actions p.outline job)
+  pub start : (classes : List ℕ) → ActsFit p.outline store no_frame [] (start_actions p.outline classes)
+
+-- The opening of a run leaves a sound state, on a store in which nothing was made, where its actions fit.
+abbrev pub OpeningIsSound : Type 0
+OpeningIsSound =
+    (p : Program) (typings : Typings) → AreTyped p typings → StepsAreResolved p → MainIsReady p → (choose : Choose) (job : Job)
+    → length job.input ≤ MAX_FILE_BYTES → (budget : ℕ) (limit : Option ℕ) (free : List (List ℕ)) → budget ≤ MAX_LIVE_WORDS
+    → OpeningActsFit p job (opened budget limit free) → IsSoundBy p typings (opening p (lawful choose) job (opened budget limit free)).state
+
+-- ---- a run
+
+-- in each sound state that hasn't ended the actions of the next effect fit
+abbrev pub ActsAlwaysFit : Program → Typings → Type 0
+ActsAlwaysFit p typings = (x : State) → IsSoundBy p typings x → x.ended ≡ None → NextActsFit p x
+
+-- So each state of a run is sound, from its opening on, by the states of the items of each method.
+abbrev pub RunsAreSound : Type 0
+RunsAreSound =
+    (p : Program) (typings : Typings) → AreTyped p typings → StepsAreResolved p → MainIsReady p → ActsAlwaysFit p typings → (choose : Choose) (job : Job)
+    → length job.input ≤ MAX_FILE_BYTES → (budget : ℕ) (limit : Option ℕ) (free : List (List ℕ)) → budget ≤ MAX_LIVE_WORDS
+    → OpeningActsFit p job (opened budget limit free) → (k : ℕ)
+    → IsSoundBy p typings (after p (lawful choose) k (opening p (lawful choose) job (opened budget limit free))).state
+
+-- ---- typed and linked programs
+
 -- The actions of each step of a sound state fit; so each step keeps a state sound, at each choice of a memory that reuses cells in any way, and whatever was
 -- freed.
 abbrev pub SoundStatesStep : Type 0
 SoundStatesStep =
     (p : Program) (typings : Typings) → StepsAreResolved p → MakesAreResolved p → (choose : Choose) (x : State) → IsSoundBy p typings x
     → NextActsFit p x × IsSoundBy p typings (step p (lawful choose) x).state
+
+-- So each state of a run of a typed and linked program is sound, from its opening on, by the states of the items of each method.
+abbrev pub SoundRuns : Type 0
+SoundRuns =
+    (p : Program) (typings : Typings) → AreTyped p typings → StepsAreResolved p → MakesAreResolved p → MainIsReady p → (choose : Choose) (job : Job)
+    → length job.input ≤ MAX_FILE_BYTES → ArgumentsFit p.outline job.arguments → (budget : ℕ) (limit : Option ℕ) (free : List (List ℕ))
+    → budget ≤ MAX_LIVE_WORDS → (k : ℕ)
+    → IsSoundBy p typings (after p (lawful choose) k (opening p (lawful choose) job (opened budget limit free))).state

@@ -1,6 +1,6 @@
 -- What linking makes sure of, so that steps keep a state sound: where methods are called and classes are started, and what instructions name
 -- (JVMS 4.6, 5.4.3, 5.4.5, 6.5).
-use Rattle.std.specs.Prelude.{◌≡◌, ℕ, ◌<◌, ◌≤◌, Bool, true, false, length, None, Some, slice_get, unwrap_or}
+use Rattle.std.specs.Prelude.{◌≡◌, ℕ, ◌<◌, ◌≤◌, Bool, true, false, [], ◌∷◌, length, None, Some, slice_get, unwrap_or}
 use Rattle.std.specs.List.{AllByRecursion}
 use Rattle.fm_base.specs.declared.ids.MethodId.{MethodId}
 use Rattle.fm_base.specs.declared.ids.TypeId.{TypeId}
@@ -13,7 +13,8 @@ use Rattle.fm_code.specs.declared.instructions.Insn.{Insn}
 use Rattle.fm_code.specs.declared.instructions.Insn.TheVariants as insn
 use Rattle.fm_types.specs.Fits.{AreTree, object_of}
 use Rattle.fm_types.specs.Named.{class_of_method}
-use Rattle.fm_types.specs.Typed.{use_by}
+use Rattle.fm_types.specs.Typed.{entry_slots, use_by}
+use Rattle.fm_types.specs.declared.slots.Slot.TheVariants as slot
 use Rattle.fm_world.specs.BuiltIns.{built_in}
 use Rattle.fm_world.specs.Causes.{static_method_wanted}
 use Rattle.fm_world.specs.Lookups.{is_abstract_method, select, special_target}
@@ -70,3 +71,10 @@ pub record StepsAreResolved (p : Program) : Type 0 where
   -- the targets of an instruction are items (JVMS 4.9.1)
   pub targets : (method : ℕ) (code : Code) (item : ℕ) (i : Insn) → code_at p method ≡ Some code → insn_of code item ≡ Some i
       → AllByRecursion (λ target. target < length code.items) (targets_of i)
+
+-- main has code, and takes the array of the arguments alone (JVMS 5.2)
+pub record MainIsReady (p : Program) : Type 0 where
+  pub code : Code
+  pub code_is : code_at p p.outline.main ≡ Some code
+  pub arguments : TypeRef
+  pub takes : entry_slots p.outline p.outline.main ≡ slot.Ref arguments ∷ []
