@@ -34,7 +34,7 @@ use Rattle.fm_sound.proofs.Leaving.{read_kind}
 
 -- ---- lists
 
-kinds-set : (xs : List Slot) (words : List Value) (n : ℕ) (s : Slot) (v : Value) → HaveKinds xs words → slice_get xs n ≡ Some s → HasKind s v
+pub kinds-set : (xs : List Slot) (words : List Value) (n : ℕ) (s : Slot) (v : Value) → HaveKinds xs words → slice_get xs n ≡ Some s → HasKind s v
     → HaveKinds xs (slice_set words n v)
 kinds-set [] words n s v h at new = absurd (cc)
 kinds-set (x ∷ xs) [] n s v h at new = absurd h
@@ -264,18 +264,18 @@ module _ (o : Outline) where
   -- ---- what holds along the actions
 
   -- an object of the type is in the cell
-  abbrev Holds : Store → ℕ → ℕ → Type 0
+  abbrev pub Holds : Store → ℕ → ℕ → Type 0
   Holds later cell class = (now : Object) × (object_at later cell ≡ Some now) × (now.class ≡ class)
 
-  record Keeps (store : Store) (x : Areas) (types : List TypeRef) (made : List ℕ) : Type 0 where
-    sound : AreasAreSound o x
-    kept : (cell : ℕ) (object : Object) → object_at store cell ≡ Some object → Holds x.store cell object.class
-    made_is : (n : ℕ) (t : TypeRef) → slice_get types n ≡ Some t
+  pub record Keeps (store : Store) (x : Areas) (types : List TypeRef) (made : List ℕ) : Type 0 where
+    pub sound : AreasAreSound o x
+    pub kept : (cell : ℕ) (object : Object) → object_at store cell ≡ Some object → Holds x.store cell object.class
+    pub made_is : (n : ℕ) (t : TypeRef) → slice_get types n ≡ Some t
         → (now : Object) × (object_at x.store (slice_index_or made n 0) ≡ Some now) × (type_numbered o now.class ≡ t)
-    count : length types ≡ length made
+    pub count : length types ≡ length made
 
   -- what is held is held later, of the same type
-  abbrev Follows : Store → Store → Type 0
+  abbrev pub Follows : Store → Store → Type 0
   Follows store later = (cell : ℕ) (object : Object) → object_at store cell ≡ Some object → Holds later cell object.class
 
   changed_follows : (store : Store) (cell : ℕ) (old object : Object) → object_at store cell ≡ Some old → object.class ≡ old.class
@@ -317,7 +317,7 @@ module _ (o : Outline) where
       let was = h n t at in
       let now = follows (slice_index_or made n 0) was.0 was.1 in (now.0, now.1, ap (type_numbered o) now.2 ∙ was.2)
 
-  keeps_later : (store : Store) (x : Areas) (later : Store) (types : List TypeRef) (made : List ℕ) → Keeps store x types made → Follows x.store later
+  pub keeps_later : (store : Store) (x : Areas) (later : Store) (types : List TypeRef) (made : List ℕ) → Keeps store x types made → Follows x.store later
       → AreasAreSound o (record x { store = later }) → Keeps store (record x { store = later }) types made
   keeps_later store x later types made h follows sound = record {
     sound = sound;
@@ -338,14 +338,14 @@ module _ (o : Outline) where
   content_in store cell unit units (Some object) = with_object store cell (record object { elements = unit ∷ units })
 
   -- the areas with the object made, and the object there
-  record Makes (x : Areas) (later : Store) (cell : ℕ) (t : TypeRef) : Type 0 where
-    sound : AreasAreSound o (record x { store = later })
-    follows : Follows x.store later
-    now : Object
-    there : object_at later cell ≡ Some now
-    type : type_numbered o now.class ≡ t
+  pub record Makes (x : Areas) (later : Store) (cell : ℕ) (t : TypeRef) : Type 0 where
+    pub sound : AreasAreSound o (record x { store = later })
+    pub follows : Follows x.store later
+    pub now : Object
+    pub there : object_at later cell ≡ Some now
+    pub type : type_numbered o now.class ≡ t
 
-  makes : (x : Areas) (t : TypeRef) (len : ℕ) (content : List ℕ) (fixed : Bool) (cell : ℕ) (grows : Bool) → AreasAreSound o x → MakeFits o t len content
+  pub makes : (x : Areas) (t : TypeRef) (len : ℕ) (content : List ℕ) (fixed : Bool) (cell : ℕ) (grows : Bool) → AreasAreSound o x → MakeFits o t len content
       → object_at x.store cell ≡ None
       → Makes x (with_content (made_by x.store (requested o t len fixed) (Take cell grows)) cell content) cell t
   makes x t len [] fixed cell grows h fits free = record {
@@ -386,7 +386,7 @@ module _ (o : Outline) where
       rest (with_content (made_by x.store (requested o t len fixed) (Take cell grows)) cell content) cell
       (makes x t len content fixed cell grows h fits may.1)
 
-  one_made : (store : Store) (x : Areas) (later : Store) (types : List TypeRef) (made : List ℕ) (cell : ℕ) (t : TypeRef) → Keeps store x types made
+  pub one_made : (store : Store) (x : Areas) (later : Store) (types : List TypeRef) (made : List ℕ) (cell : ℕ) (t : TypeRef) → Keeps store x types made
       → Makes x later cell t → Keeps store (record x { store = later }) (types ++ t ∷ []) (made ++ cell ∷ [])
   one_made store x later types made cell t h one = record {
     sound = one.sound;
@@ -413,7 +413,7 @@ module _ (o : Outline) where
       (object_put object place k v (h.sound.heap cell object held) fits has)))
 
 module _ (o : Outline) (sizes : (class : ℕ) → size_of o.classes class < 2 ^ 31) (choose : Choose) (may : (s : Store) (request : Request) → MayReuse s request (choose s request)) (store : Store) (f : Frame) where
-  object_keeps : (x : Areas) (types : List TypeRef) (made : List ℕ) (source v : Source) (place : ℕ) (k : Kind) → Keeps o store x types made
+  pub object_keeps : (x : Areas) (types : List TypeRef) (made : List ℕ) (source v : Source) (place : ℕ) (k : Kind) → Keeps o store x types made
       → ObjectFits o store f types source place k → ValueFits o f k v
       → Keeps o store (put_value x (value_of (sources_of f x made) source) place k (value_of (sources_of f x made) v)) types made
   object_keeps x types made (OfOperand n) v place k h fits value =
@@ -426,7 +426,7 @@ module _ (o : Outline) (sizes : (class : ℕ) → size_of o.classes class < 2 ^ 
       (subst (λ t. PlaceFits o t place k) (sym now.2) fits.2) (value x made h.sound.statics)
   object_keeps x types made source v place k h fits value = absurd fits
 
-  with_areas : (x y : Areas) (types : List TypeRef) (made : List ℕ) → Keeps o store x types made → y.store ≡ x.store → AreasAreSound o y
+  pub with_areas : (x y : Areas) (types : List TypeRef) (made : List ℕ) → Keeps o store x types made → y.store ≡ x.store → AreasAreSound o y
       → Keeps o store y types made
   with_areas x y types made h same sound = record {
     sound = sound;
@@ -437,7 +437,7 @@ module _ (o : Outline) (sizes : (class : ℕ) → size_of o.classes class < 2 ^ 
     count = h.count;
   }
 
-  static_set : (x : Areas) (slot : ℕ) (k : Kind) (v : Value) → AreasAreSound o x → slice_get (static_slots o) slot ≡ Some (field_slot k)
+  pub static_set : (x : Areas) (slot : ℕ) (k : Kind) (v : Value) → AreasAreSound o x → slice_get (static_slots o) slot ≡ Some (field_slot k)
       → AreasAreSound o (set_static x slot k v)
   static_set x slot k v h at = record {
     statics = kinds-set (static_slots o) x.statics slot (field_slot k) (cut k v) h.statics at (read_kind k (kept k v));
@@ -449,7 +449,7 @@ module _ (o : Outline) (sizes : (class : ℕ) → size_of o.classes class < 2 ^ 
     freed_words = h.freed_words;
   }
 
-  class_set : (x : Areas) (class : ℕ) → AreasAreSound o x → AreasAreSound o (record x { started = slice_set x.started class true })
+  pub class_set : (x : Areas) (class : ℕ) → AreasAreSound o x → AreasAreSound o (record x { started = slice_set x.started class true })
   class_set x class h = record {
     statics = h.statics;
     started = length-set x.started class true ∙ h.started;
@@ -460,7 +460,7 @@ module _ (o : Outline) (sizes : (class : ℕ) → size_of o.classes class < 2 ^ 
     freed_words = h.freed_words;
   }
 
-  literal_set : (x : Areas) (text cell : ℕ) → AreasAreSound o x → AreasAreSound o (literal_made x text cell)
+  pub literal_set : (x : Areas) (text cell : ℕ) → AreasAreSound o x → AreasAreSound o (literal_made x text cell)
   literal_set x text cell h = record {
     statics = h.statics;
     started = h.started;

@@ -51,7 +51,7 @@ letter_slots elem.Int base.Int is = refl
 letter_slots elem.Long base.Long is = refl
 letter_slots e b is = absurd (false≢true is)
 
-number_slots : (e : Elem) (dims : ℕ) (b : Base) → ((dims == 1) && has_letter e b) ≡ true → stack_slots (kind_with (dims - 1) b ∷ []) ≡ typed.element_words e
+pub number_slots : (e : Elem) (dims : ℕ) (b : Base) → ((dims == 1) && has_letter e b) ≡ true → stack_slots (kind_with (dims - 1) b ∷ []) ≡ typed.element_words e
 number_slots e dims b is =
     let parts = and_parts (dims == 1) (has_letter e b) is in
     let one = parts.0 in
@@ -70,7 +70,7 @@ letter_reference false k t is = (t, refl)
 above_zero : (n : ℕ) → nat_lt 0 n ≡ true → (n == 0) ≡ false
 above_zero n is = grind (arith, nat_tests, is)
 
-reference_kind : (dims : ℕ) (b : Base) → nat_lt 0 (depth_with dims b) ≡ true → (u : TypeRef) × (kind_with (dims - 1) b ≡ kind.Ref u)
+pub reference_kind : (dims : ℕ) (b : Base) → nat_lt 0 (depth_with dims b) ≡ true → (u : TypeRef) × (kind_with (dims - 1) b ≡ kind.Ref u)
 reference_kind dims (base.OfClass class) is = class_reference ((dims - 1) == 0) _ _
 reference_kind dims base.Boolean is = letter_reference ((dims - 1) == 0) _ _ (above_zero (dims - 1) is)
 reference_kind dims base.Byte is = letter_reference ((dims - 1) == 0) _ _ (above_zero (dims - 1) is)

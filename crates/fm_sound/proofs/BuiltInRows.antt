@@ -78,11 +78,11 @@ with_receiver : (shown : Shown) → shown_words shown + 1 ≡ length (shown_slot
 with_receiver shown = ap (λ n. n + 1) (shown_count shown) ∙ sym (length-append (shown_slots shown) (reference ∷ []))
 
 -- words that are taken
-one_reference : (values : List Value) → HaveKinds (reference ∷ []) (take 1 values) → IsReference (word_at values 0)
+pub one_reference : (values : List Value) → HaveKinds (reference ∷ []) (take 1 values) → IsReference (word_at values 0)
 one_reference [] h = absurd h
 one_reference (v ∷ values) h = h.0
 
-two_references : (values : List Value) → HaveKinds (reference ∷ reference ∷ []) (take 2 values)
+pub two_references : (values : List Value) → HaveKinds (reference ∷ reference ∷ []) (take 2 values)
     → IsReference (word_at values 0) × IsReference (word_at values 1)
 two_references [] h = absurd h
 two_references (v ∷ []) h = absurd h.1

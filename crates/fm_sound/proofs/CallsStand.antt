@@ -77,7 +77,7 @@ max_locals_in None = 0
 max_locals_in (Some code) = code.max_locals
 
 module _ (p : Program) (typings : Typings) (typed : AreTyped p typings) where
-  new_stands : (method : ℕ) (code : Code) (arguments : List Value) → code_at p method ≡ Some code → HaveKinds (entry_slots p.outline method) arguments
+  pub new_stands : (method : ℕ) (code : Code) (arguments : List Value) → code_at p method ≡ Some code → HaveKinds (entry_slots p.outline method) arguments
       → StandsWithout p typings 0 (new_frame p method arguments)
   unfolding entry_state
   new_stands method code arguments is h =
@@ -122,7 +122,7 @@ started_stand p typings typed methods each f callers below = all_started p typin
 -- ---- the words that a call takes
 
 -- a receiver is one reference, where there is one
-abbrev IsReceiver : Bool → List Slot → Type 0
+abbrev pub IsReceiver : Bool → List Slot → Type 0
 IsReceiver true slots = slots ≡ []
 IsReceiver false slots = (r : Slot) × (slots ≡ r ∷ []) × (is_reference r ≡ true)
 

@@ -24,7 +24,7 @@ one_each : {X : Type 0} (xs : List X) → sum_by (λ x. 1) xs ≡ length xs
 one_each [] = refl
 one_each (x ∷ xs) = let rest = one_each xs in let first = sum_by-cons (λ y. 1) x xs in omega (arith, rest, first)
 
-held_total : (m : fin.FinMap nat_cmp Object) → length (fin.entries m) ≡ total (λ object. 1) m
+pub held_total : (m : fin.FinMap nat_cmp Object) → length (fin.entries m) ≡ total (λ object. 1) m
 held_total m = sym (length-map (fin.entries m) (λ e. e.1)) ∙ sym (one_each (map (λ e. e.1) (fin.entries m)))
 
 pub held_insert_new : (m : fin.FinMap nat_cmp Object) (cell : ℕ) (object : Object) → fin.get m cell ≡ None
@@ -61,7 +61,7 @@ either_pack : (b : Bool) (one other : ℕ) → IsPack one → IsPack other → I
 either_pack true one other first second = first
 either_pack false one other first second = second
 
-type_pack : (o : Outline) (t : TypeRef) → IsPack (pack_of o t)
+pub type_pack : (o : Outline) (t : TypeRef) → IsPack (pack_of o t)
 type_pack o t =
     either_pack (t.dims == 1) (pack_of_base t.base) (cond (is_text_type o t) 4 1) (base_pack t.base) (either_pack (is_text_type o t) 4 1 (inr (inr (inl refl))) (inl refl))
 

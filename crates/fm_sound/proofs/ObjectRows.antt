@@ -78,7 +78,7 @@ static_found o (x ∷ fields) (suc k) g at is =
     ∙ static_found o fields k g at is
 
 -- the slot of a static field among those of all classes
-static_slot_at : (o : Outline) (g : ℕ) → g < length (fields_of o.classes) → is_static (field_at o.classes g).field.flags ≡ true
+pub static_slot_at : (o : Outline) (g : ℕ) → g < length (fields_of o.classes) → is_static (field_at o.classes g).field.flags ≡ true
     → slice_get (static_slots o) (slot_of o.classes g) ≡ Some (field_slot (kind_of_field o g))
 unfolding slot_of
 static_slot_at o g within is =

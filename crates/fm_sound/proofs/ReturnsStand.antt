@@ -263,7 +263,7 @@ module _ (o : Outline) (nothing_given : ConstructorsGiveNothing o) (s : TypeStat
       static_kinds u after names (subst (λ n. HaveKinds (drop n s.stack) words) (sym (same_Some (words_of_arguments o named) count takes)) in_stack) row
   call_kinds i method item count news u after takes names in_stack row = absurd (cc)
 
-call_falls : (o : Outline) (i : Insn) (named count : ℕ) → words_of_call o i named ≡ Some count → falls_through i ≡ true
+pub call_falls : (o : Outline) (i : Insn) (named count : ℕ) → words_of_call o i named ≡ Some count → falls_through i ≡ true
 call_falls o (insn.Virtual index) named count is = refl
 call_falls o (insn.Interface index) named count is = refl
 call_falls o (insn.Special index) named count is = refl

@@ -14,9 +14,10 @@ use Rattle.fm_types.specs.States.{TypeState}
 use Rattle.fm_types.specs.Typed.{entry_slots, made_at, state_at, use_by}
 use Rattle.fm_world.specs.Members.{method_at}
 use Rattle.fm_world.specs.Programs.{code_at, Outline, Program}
-use Rattle.fm_frames.specs.Effects.{Next, Falls, Jumps, JumpsIfSame}
+use Rattle.fm_frames.specs.Effects.{Effect, Next, Falls, Jumps, JumpsIfSame, Calls}
 use Rattle.fm_frames.specs.States.{Frame}
 use Rattle.fm_frames.specs.Steps.{is_start}
+use Rattle.fm_sound.specs.Leading.{LeadsAs}
 use Rattle.fm_sound.specs.Sound.{method_named, Typings, words_of_call}
 
 -- whether the frame goes on
@@ -65,3 +66,9 @@ pub record StartsClass (p : Program) (method : ℕ) : Type 0 where
   pub code_is : code_at p method ≡ Some code
   pub starts : is_start p.outline method ≡ true
   pub no_arguments : entry_slots p.outline method ≡ []
+
+-- A call leads to a method as linking makes sure of, of which it takes the words; or it goes on after a built-in method, throws, or ends in a fault, as any
+-- other instruction.
+abbrev pub CallLeads : Program → Frame → Insn → TypeState → Effect → Next → Type 0
+CallLeads p f i after e (Calls target) = IsCalled p f i target e.takes
+CallLeads p f i after e next = LeadsAs p.outline i after f e next

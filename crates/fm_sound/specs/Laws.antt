@@ -1,30 +1,42 @@
 -- The laws that the functions of `laws` prove.
-use Rattle.std.specs.Prelude.{◌≡◌, ℕ, ◌^◌, ◌<◌, false, true, List, [], ◌∷◌, ◌++◌, drop, length, take, reverse, Option, Some}
+use Rattle.std.specs.Prelude.{◌≡◌, ℕ, ◌^◌, ◌<◌, false, true, List, [], ◌∷◌, ◌++◌, drop, length, take, reverse, Option, Some, None, ◌≤◌, Bool}
 use Rattle.std.specs.List.{AllByRecursion}
 use Rattle.fm_base.specs.declared.kinds.TypeRef.{TypeRef}
+use Rattle.fm_base.specs.declared.limits.TheConstants.{MAX_LIVE_WORDS, MAX_FILE_BYTES}
 use Rattle.fm_cells.specs.Choices.{lawful}
+use Rattle.fm_cells.specs.Stores.{Store, opened}
+use Rattle.fm_code.specs.AccessFlags.{is_static}
 use Rattle.fm_code.specs.declared.instructions.Insn.{Insn}
 use Rattle.fm_types.specs.Fits.{AreTree}
 use Rattle.fm_types.specs.Named.{result_words}
 use Rattle.fm_types.specs.Rows.{row_after}
 use Rattle.fm_types.specs.States.{is_whole, state_fits, TypeState}
-use Rattle.fm_world.specs.Members.{size_of}
-use Rattle.fm_world.specs.Programs.{Outline, Program}
+use Rattle.fm_types.specs.Typed.{use_by}
+use Rattle.fm_world.specs.Members.{size_of, field_at, fields_of, slot_of}
+use Rattle.fm_world.specs.Programs.{Outline, Program, kind_at}
+use Rattle.fm_world.specs.Chains.{chain_of, is_among}
+use Rattle.fm_world.specs.Numbers.{type_of_class}
 use Rattle.fm_frames.specs.Acts.{Choose, Did, FullAt, LostAt, performed, Performed}
 use Rattle.fm_world.specs.declared.uses.Use.{Use}
 use Rattle.fm_frames.specs.Effects.{Action, Effect}
 use Rattle.fm_frames.specs.NativeRows.{native_effect}
 use Rattle.fm_frames.specs.Natives.{Native}
+use Rattle.fm_frames.specs.ObjectRows.{kind_of_field}
 use Rattle.fm_frames.specs.Rows.{effect_of}
-use Rattle.fm_frames.specs.Sights.{Sight}
+use Rattle.fm_frames.specs.Sights.{Sight, sights}
+use Rattle.fm_frames.specs.Starts.{start_methods, with_start, start_actions}
+use Rattle.fm_frames.specs.Runs.{after, Job, opening, opening_actions}
 use Rattle.fm_frames.specs.States.{Areas, Frame, State}
-use Rattle.fm_frames.specs.Steps.{caught, continued, InFrames, new_frame, returned, start_frames}
+use Rattle.fm_frames.specs.Steps.{caught, continued, InFrames, is_over, new_frame, next_effect, returned, start_frames, step}
+use Rattle.fm_frames.specs.Runnable.{IsRunnable}
 use Rattle.fm_frames.specs.declared.values.Value.{Value}
 use Rattle.fm_sound.specs.Acting.{ActsFit}
 use Rattle.fm_sound.specs.BuiltIns.{native_slots, NativeLeads}
-use Rattle.fm_sound.specs.Going.{ConstructorsGiveNothing, IsCalled, IsGoingOn, StandsAtRow, StartsClass}
+use Rattle.fm_sound.specs.Going.{CallLeads, ConstructorsGiveNothing, IsCalled, IsGoingOn, StandsAtRow, StartsClass}
 use Rattle.fm_sound.specs.Leading.{is_call, LeadsAs, NamesField, sources_of}
-use Rattle.fm_sound.specs.Sound.{AreasAreSound, AreTyped, FrameHasKinds, HaveKinds, IsReference, Stand, StandBelow, StandsWithout, static_slots, Typings}
+use Rattle.fm_sound.specs.Resolved.{CallsAreResolved, MainIsReady, StepsAreResolved}
+use Rattle.fm_sound.specs.Sound.{AreasAreSound, AreTyped, FrameHasKinds, HaveKinds, IsReference, IsSoundBy, Stand, StandBelow, StandsWithout, static_slots, Typings}
+use Rattle.fm_sound.specs.Making.{AreFew, ArgumentsFit, ConstantsAreStatic, HaveTextFirst, HoldsObjects, IsMakeable, MakesAreResolved, NamesAreUnits, NamesMade}
 
 -- ---- kinds
 
@@ -52,6 +64,20 @@ BuiltInsLead =
     (o : Outline) (f : Frame) (row : Native) (byte : Option ℕ) (sights : List Sight)
     → HaveKinds (native_slots row) (take (length (native_slots row)) f.stack)
     → NativeLeads o f row (native_effect o row byte sights) (native_effect o row byte sights).next
+
+-- The effect of an instruction that calls leads where the call may lead, whatever object it sees for a receiver, as long as the heap is sound: to a method
+-- that has code, the name and the descriptor that are named, and the receiver that is wanted; or it goes on with the kinds of the state after it.
+abbrev pub CallsLead : Type 0
+CallsLead =
+    (p : Program) (typings : Typings) → AreTyped p typings → CallsAreResolved p
+    → (f : Frame) (i : Insn) (after : TypeState) (h : StandsAtRow p typings f i after) → FrameHasKinds h.known f.locals f.stack → is_call i ≡ true
+    → (x : Areas) → AreasAreSound p.outline x → (byte : Option ℕ)
+    → CallLeads p f i after (effect_of p.outline f.method (use_by p f.method i) i byte (sights p.outline x.store f.stack))
+    (effect_of p.outline f.method (use_by p f.method i) i byte (sights p.outline x.store f.stack)).next
+
+-- The methods that start classes have code and no arguments.
+abbrev pub StartsAreMethods : Type 0
+StartsAreMethods = (p : Program) → CallsAreResolved p → (classes : List ℕ) → AllByRecursion (StartsClass p) (start_methods p.outline classes)
 
 -- ---- frames
 
@@ -97,6 +123,56 @@ StartingKeepsFrames =
     → (methods : List ℕ) → AllByRecursion (StartsClass p) methods → (f : Frame) (callers : List Frame) → Stand p typings (f ∷ callers)
     → Stand p typings (start_frames p methods ++ f ∷ callers)
 
+-- ---- actions
+
+-- The actions of the effect of an instruction that is no call fit, where the frame has the kinds of a state and what is seen are the words of its stack.
+abbrev pub InstructionsActFit : Type 0
+InstructionsActFit =
+    (p : Program) → IsMakeable p → (s after : TypeState) (f : Frame) (store : Store) (i : Insn) (u : Use) (news : ℕ → Option TypeRef) (byte : Option ℕ)
+    → FrameHasKinds s f.locals f.stack → is_whole s.stack ≡ true → NamesField p.outline u i → NamesMade p.outline u i → is_call i ≡ false
+    → row_after p.outline f.method f.item news u i s ≡ Some after
+    → AreFew p.outline (effect_of p.outline f.method u i byte (sights p.outline store f.stack)).actions
+    → ActsFit p.outline store f [] (effect_of p.outline f.method u i byte (sights p.outline store f.stack)).actions
+
+-- The actions of the effect of a built-in method fit, where the stack has the words of its row and what is seen are objects of the program.
+abbrev pub BuiltInsActFit : Type 0
+BuiltInsActFit =
+    (p : Program) → IsMakeable p → NamesAreUnits p.outline → HaveTextFirst p.outline → (store : Store) → HoldsObjects p.outline store
+    → (f : Frame) (row : Native) (byte : Option ℕ) → HaveKinds (native_slots row) (take (length (native_slots row)) f.stack)
+    → AreFew p.outline (native_effect p.outline row byte (sights p.outline store f.stack)).actions
+    → ActsFit p.outline store f [] (native_effect p.outline row byte (sights p.outline store f.stack)).actions
+
+-- Where the words of all that a step makes are within those that may live, none of its objects has more.
+abbrev pub WithinIsFew : Type 0
+WithinIsFew =
+    (o : Outline) (x : Areas) (actions : List Action) → x.store.budget ≤ MAX_LIVE_WORDS → is_over o x actions ≡ false → AreFew o actions
+
+-- What the start of classes does to their static fields fits; so what is done before an effect, where a class has to be started for it, fits with it.
+abbrev pub StartsFit : Type 0
+StartsFit =
+    (p : Program) → IsMakeable p → ConstantsAreStatic p.outline → (store : Store) (f : Frame) (started : List Bool) (e : Effect)
+    → (AreFew p.outline e.actions → ActsFit p.outline store f [] e.actions) → AreFew p.outline (with_start p.outline started e).actions
+    → ActsFit p.outline store f [] (with_start p.outline started e).actions
+
+-- The actions of the opening fit, where main is given texts.
+abbrev pub OpeningsFit : Type 0
+OpeningsFit =
+    (p : Program) → IsMakeable p → (job : Job) → ArgumentsFit p.outline job.arguments → (store : Store) (f : Frame)
+    → ActsFit p.outline store f [] (opening_actions p.outline job)
+
+-- ---- places of fields
+
+-- Objects of a class have each field of the class and of its superclasses at the field's place, with its kind; so a place is one of all classes below.
+abbrev pub FieldsHavePlaces : Type 0
+FieldsHavePlaces =
+    (o : Outline) → AreTree o.classes → (class field : ℕ) → class < length o.classes → field < length (fields_of o.classes)
+    → is_static (field_at o.classes field).field.flags ≡ false → is_among (field_at o.classes field).class (chain_of o.classes class) ≡ true
+    → kind_at o.classes (type_of_class class) (slot_of o.classes field) ≡ Some (kind_of_field o field)
+
+-- Objects that build texts, and throwables, have the text that they lead to at their first place.
+abbrev pub TextsComeFirst : Type 0
+TextsComeFirst = (p : Program) → IsRunnable p → AreTree p.outline.classes → HaveTextFirst p.outline
+
 -- ---- areas
 
 -- what the frames share is sound, where all actions were done and where the store was full
@@ -110,3 +186,66 @@ abbrev pub ActionsKeepAreas : Type 0
 ActionsKeepAreas =
     (o : Outline) → ((class : ℕ) → size_of o.classes class < 2 ^ 31) → (choose : Choose) (f : Frame) (x : Areas) (actions : List Action)
     → AreasAreSound o x → ActsFit o x.store f [] actions → LeavesSound o (performed o (lawful choose) f.locals f.stack actions x [])
+
+-- ---- a step
+
+-- the actions of the next effect fit, where they are within the budget
+abbrev pub NextActsFit : Program → State → Type 0
+NextActsFit p x =
+    (f : Frame) (callers : List Frame) → x.frames ≡ f ∷ callers → is_over p.outline x.areas (next_effect p x).actions ≡ false
+    → ActsFit p.outline x.areas.store f [] (next_effect p x).actions
+
+-- A step whose actions fit keeps a state sound, at each choice of a memory that reuses cells in any way, and whatever was freed.
+abbrev pub StepsKeepSound : Type 0
+StepsKeepSound =
+    (p : Program) (typings : Typings) → StepsAreResolved p → (choose : Choose) (x : State) → IsSoundBy p typings x → (x.ended ≡ None → NextActsFit p x)
+    → IsSoundBy p typings (step p (lawful choose) x).state
+
+-- ---- the opening
+
+-- before there is any frame
+abbrev pub no_frame : Frame
+no_frame = record { method = 0; item = 0; locals = []; stack = [] }
+
+-- the actions of the opening fit, and so do those that start classes
+pub record OpeningActsFit (p : Program) (job : Job) (store : Store) : Type 0 where
+  pub opening : ActsFit p.outline store no_frame [] (opening_actions p.outline job)
+  pub start : (classes : List ℕ) → ActsFit p.outline store no_frame [] (start_actions p.outline classes)
+
+-- The opening of a run leaves a sound state, on a store in which nothing was made, where its actions fit.
+abbrev pub OpeningIsSound : Type 0
+OpeningIsSound =
+    (p : Program) (typings : Typings) → AreTyped p typings → StepsAreResolved p → MainIsReady p → (choose : Choose) (job : Job)
+    → length job.input ≤ MAX_FILE_BYTES → (budget : ℕ) (limit : Option ℕ) (free : List (List ℕ)) → budget ≤ MAX_LIVE_WORDS
+    → OpeningActsFit p job (opened budget limit free) → IsSoundBy p typings (opening p (lawful choose) job (opened budget limit free)).state
+
+-- ---- a run
+
+-- in each sound state that hasn't ended the actions of the next effect fit
+abbrev pub ActsAlwaysFit : Program → Typings → Type 0
+ActsAlwaysFit p typings = (x : State) → IsSoundBy p typings x → x.ended ≡ None → NextActsFit p x
+
+-- So each state of a run is sound, from its opening on, by the states of the items of each method.
+abbrev pub RunsAreSound : Type 0
+RunsAreSound =
+    (p : Program) (typings : Typings) → AreTyped p typings → StepsAreResolved p → MainIsReady p → ActsAlwaysFit p typings → (choose : Choose) (job : Job)
+    → length job.input ≤ MAX_FILE_BYTES → (budget : ℕ) (limit : Option ℕ) (free : List (List ℕ)) → budget ≤ MAX_LIVE_WORDS
+    → OpeningActsFit p job (opened budget limit free) → (k : ℕ)
+    → IsSoundBy p typings (after p (lawful choose) k (opening p (lawful choose) job (opened budget limit free))).state
+
+-- ---- typed and linked programs
+
+-- The actions of each step of a sound state fit; so each step keeps a state sound, at each choice of a memory that reuses cells in any way, and whatever was
+-- freed.
+abbrev pub SoundStatesStep : Type 0
+SoundStatesStep =
+    (p : Program) (typings : Typings) → StepsAreResolved p → MakesAreResolved p → (choose : Choose) (x : State) → IsSoundBy p typings x
+    → NextActsFit p x × IsSoundBy p typings (step p (lawful choose) x).state
+
+-- So each state of a run of a typed and linked program is sound, from its opening on, by the states of the items of each method.
+abbrev pub SoundRuns : Type 0
+SoundRuns =
+    (p : Program) (typings : Typings) → AreTyped p typings → StepsAreResolved p → MakesAreResolved p → MainIsReady p → (choose : Choose) (job : Job)
+    → length job.input ≤ MAX_FILE_BYTES → ArgumentsFit p.outline job.arguments → (budget : ℕ) (limit : Option ℕ) (free : List (List ℕ))
+    → budget ≤ MAX_LIVE_WORDS → (k : ℕ)
+    → IsSoundBy p typings (after p (lawful choose) k (opening p (lawful choose) job (opened budget limit free))).state
