@@ -37,3 +37,4 @@ pub mod KindsAgree
 pub mod PlaceRows
 pub mod PlacesSound
 pub mod RegionsDie
+pub mod DeadRuns

@@ -22,6 +22,9 @@ use Rattle.fm_same.specs.Covering.{CoversAt, PlacesAgreeAt}
 use Rattle.fm_same.specs.DeadRegions.{IsDead, IsOver, AreSound, AreSteps, IsRetired, states_of}
 use Rattle.fm_same.specs.Evenness.{HoldsNumbers}
 use Rattle.fm_same.specs.Regions.{argument, Own, region, Region, Retired}
+use Rattle.fm_base.specs.declared.limits.TheConstants.{MAX_FILE_BYTES, MAX_LIVE_WORDS}
+use Rattle.fm_sound.specs.Making.{ArgumentsFit, MakesAreResolved}
+use Rattle.fm_sound.specs.Resolved.{MainIsReady, StepsAreResolved}
 use Rattle.fm_sound.specs.Sound.{IsSoundBy}
 use Rattle.fm_same.specs.Resolved.{CallsNoFreeMe, IsResolved}
 use Rattle.fm_same.specs.Standing.{Called, method_of, Stand}
@@ -156,12 +159,24 @@ RegionsDie =
     → (method depth class birth first count : ℕ) → IsRetired p facts xs method depth class birth first count
     → (later : ℕ) → first + suc count ≤ later → IsDead p facts birth (xs later) (xs (suc later))
 
--- so it is in each run from its opening on
-abbrev pub DeadRegions : Type 0
-DeadRegions =
+-- so it is in each run of sound states, from its opening on
+abbrev pub DeadRegionsOfSoundRuns : Type 0
+DeadRegionsOfSoundRuns =
     (p : Program) (facts : Facts) → AreFacts p facts → IsResolved p → CallsNoFreeMe p
     → (choose : Choose) (job : Job) (budget : ℕ) (limit : Option ℕ) (free : List (List ℕ))
     → AreSound p facts (states_of p choose job (opened budget limit free))
+    → ((k : ℕ) → Covers p facts (states_of p choose job (opened budget limit free) k))
+    → (method depth class birth first count : ℕ)
+    → IsRetired p facts (states_of p choose job (opened budget limit free)) method depth class birth first count
+    → (later : ℕ) → first + suc count ≤ later
+    → IsDead p facts birth (states_of p choose job (opened budget limit free) later) (states_of p choose job (opened budget limit free) (suc later))
+
+-- and in each run, within the limits of a run, of a typed and linked program that calls no FreeMe and whose calls lead to targets
+abbrev pub DeadRegions : Type 0
+DeadRegions =
+    (p : Program) (facts : Facts) → AreFacts p facts → IsResolved p → StepsAreResolved p → MakesAreResolved p → MainIsReady p → CallsNoFreeMe p
+    → (choose : Choose) (job : Job) → length job.input ≤ MAX_FILE_BYTES → ArgumentsFit p.outline job.arguments
+    → (budget : ℕ) (limit : Option ℕ) (free : List (List ℕ)) → budget ≤ MAX_LIVE_WORDS
     → ((k : ℕ) → Covers p facts (states_of p choose job (opened budget limit free) k))
     → (method depth class birth first count : ℕ)
     → IsRetired p facts (states_of p choose job (opened budget limit free)) method depth class birth first count

@@ -55,10 +55,16 @@ pub fn law_targets()
     ensures { law.FullTargetsCover }
 {}
 
-/// The law of dead regions, for runs whose states are sound: what a captured class of an activation led
-/// to is dead from the state on in which the class isn't busy, or the activation is gone. Nothing leads
-/// to it, and no step changes it.
+/// The law of dead regions, for states that are steps, and for runs, where each state is sound: what a
+/// captured class of an activation led to is dead from the state on in which the class isn't busy, or the
+/// activation is gone. Nothing leads to it, and no step changes it.
 pub fn law_dead_regions_of_sound_runs()
     ensures of_steps { law.RegionsDie }
-    ensures of_runs { law.DeadRegions }
+    ensures of_runs { law.DeadRegionsOfSoundRuns }
+{}
+
+/// The law of dead regions, for each run of a typed and linked program that calls no FreeMe and whose
+/// calls lead to targets: its states are sound.
+pub fn law_dead_regions()
+    ensures { law.DeadRegions }
 {}

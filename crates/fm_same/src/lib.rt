@@ -4,6 +4,6 @@
 mod laws;
 
 pub use laws::{
-    law_calls, law_classes, law_colours, law_dead_regions_of_sound_runs, law_effects,
-    law_place_kinds, law_regions, law_targets,
+    law_calls, law_classes, law_colours, law_dead_regions, law_dead_regions_of_sound_runs,
+    law_effects, law_place_kinds, law_regions, law_targets,
 };
