@@ -1,7 +1,7 @@
 // What linking makes sure of, of the program of class files against which no cause stands (JVMS 5.3.5, 5.4.3).
 #![tactic(auto)]
 
-ghost use Rattle.fm_resolved.specs.Laws.{ProgramsAreLinkedWell};
+ghost use Rattle.fm_resolved.specs.Laws.{ProgramsAreLinkedWell, ProgramsAreResolved};
 
 use fm_world::law_class_types;
 
@@ -10,4 +10,12 @@ pub fn law_linking()
     ensures { ProgramsAreLinkedWell }
 {
     law_class_types();
+}
+
+/// Where nothing is refused, and the numbers of types and the sizes of objects fit the header of an
+/// object, the program of spelled class files is all that the laws of runs ask of a linked program.
+pub fn law_resolved()
+    ensures { ProgramsAreResolved }
+{
+    law_linking();
 }
