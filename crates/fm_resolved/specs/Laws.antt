@@ -6,7 +6,9 @@ use Rattle.fm_base.specs.declared.ids.MethodId.{MethodId}
 use Rattle.fm_base.specs.declared.ids.TypeId.{TypeId}
 use Rattle.fm_base.specs.declared.kinds.TypeRef.{TypeRef}
 use Rattle.fm_code.specs.AccessFlags.{is_static}
+use Rattle.fm_code.specs.Edges.{insn_of}
 use Rattle.fm_code.specs.Spells.{HasSpelling}
+use Rattle.fm_code.specs.SpellsCode.{targets_of}
 use Rattle.fm_code.specs.declared.class_file.ClassDef.{ClassDef}
 use Rattle.fm_code.specs.declared.code_array.Code.{Code}
 use Rattle.fm_code.specs.declared.instructions.Insn.{Insn}
@@ -16,17 +18,21 @@ use Rattle.fm_frames.specs.ObjectRows.{kind_of_field}
 use Rattle.fm_frames.specs.Runnable.{IsUseIn}
 use Rattle.fm_same.specs.Evenness.{IsNumber, IsPlainKind}
 use Rattle.fm_same.specs.Resolved.{IsNamed, IsResolved}
+use Rattle.fm_sound.specs.Leading.{NamesField}
+use Rattle.fm_sound.specs.Making.{ConstantsAreStatic}
+use Rattle.fm_sound.specs.Resolved as steps
 use Rattle.fm_types.specs.Fits.{AreTree, fits_type, object_of}
 use Rattle.fm_types.specs.Named.{throwable_type}
 use Rattle.fm_world.specs.BuiltIns.{built_in}
 use Rattle.fm_world.specs.Causes.{static_field_wanted, static_method_wanted}
 use Rattle.fm_world.specs.Chains.{chain_of, is_among}
 use Rattle.fm_world.specs.Linking.{refusals}
-use Rattle.fm_world.specs.Lookups.{is_interface_at}
+use Rattle.fm_world.specs.Lookups.{is_abstract_method, is_interface_at}
 use Rattle.fm_world.specs.Members.{field_at, method_at, methods_of, size_of, slot_of}
 use Rattle.fm_world.specs.Numbers.{type_number, type_of_class}
 use Rattle.fm_world.specs.Programs.{class_of_type, code_at, IsTypeIn, kind_at, outline_of, Program, program_of, use_of}
 use Rattle.fm_world.specs.declared.declarations.DeclaredClass.{DeclaredClass}
+use Rattle.fm_world.specs.declared.uses.Use.{Use}
 use Rattle.fm_world.specs.declared.uses.Use.TheVariants as resolved
 
 -- what linking makes sure of
@@ -80,3 +86,20 @@ ProgramsAreResolved =
     (given : List ClassDef) (main : List ℕ) → AllByRecursion HasSpelling given → refusals given main ≡ []
     → length (outline_of given main).types ≤ 2 ^ 28 → ((class : ℕ) → size_of (outline_of given main).classes class < 2 ^ 31)
     → IsResolved (program_of given main)
+
+-- what linking and the rules of class files make sure of for each step of a program
+pub record StepsAreLinked (p : Program) : Type 0 where
+  -- a static method isn't abstract (JVMS 4.6)
+  pub concrete : (method : ℕ) → is_static (method_at p.outline.classes method).method.flags ≡ true → is_abstract_method p.outline.classes method ≡ false
+  -- getstatic and putstatic name a static field, getfield and putfield another one (JVMS 6.5.getstatic)
+  pub fields : (method : ℕ) (i : Insn) (u : Use) → steps.IsNamed p method i u → NamesField p.outline u i
+  -- the targets of an instruction are items (JVMS 4.9.1)
+  pub targets : (method : ℕ) (code : Code) (item : ℕ) (i : Insn) → code_at p method ≡ Some code → insn_of code item ≡ Some i
+      → AllByRecursion (λ target. target < length code.items) (targets_of i)
+  -- a field with a constant is static (JVMS 4.7.2)
+  pub constants : ConstantsAreStatic p.outline
+
+-- of spelled class files against which no cause stands
+abbrev pub StepsOfProgramsAreLinked : Type 0
+StepsOfProgramsAreLinked =
+    (given : List ClassDef) (main : List ℕ) → AllByRecursion HasSpelling given → refusals given main ≡ [] → StepsAreLinked (program_of given main)

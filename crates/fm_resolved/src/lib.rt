@@ -1,7 +1,11 @@
 // What linking makes sure of, of the program of class files against which no cause stands (JVMS 5.3.5, 5.4.3).
 #![tactic(auto)]
 
-ghost use Rattle.fm_resolved.specs.Laws.{ProgramsAreLinkedWell, ProgramsAreResolved};
+ghost use Rattle.fm_resolved.specs.Laws.{
+  ProgramsAreLinkedWell,
+  ProgramsAreResolved,
+  StepsOfProgramsAreLinked,
+};
 
 use fm_world::law_class_types;
 
@@ -19,3 +23,9 @@ pub fn law_resolved()
 {
     law_linking();
 }
+
+/// Where nothing is refused, the program of spelled class files has what each step asks of fields,
+/// targets, static methods and constants.
+pub fn law_steps()
+    ensures { StepsOfProgramsAreLinked }
+{}
