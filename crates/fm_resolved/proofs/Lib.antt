@@ -12,3 +12,4 @@ pub mod Fields
 pub mod FieldOwners
 pub mod NamedFields
 pub mod Steps
+pub mod Constructors

@@ -18,6 +18,7 @@ use Rattle.fm_frames.specs.ObjectRows.{kind_of_field}
 use Rattle.fm_frames.specs.Runnable.{IsUseIn}
 use Rattle.fm_same.specs.Evenness.{IsNumber, IsPlainKind}
 use Rattle.fm_same.specs.Resolved.{IsNamed, IsResolved}
+use Rattle.fm_sound.specs.Going.{ConstructorsGiveNothing}
 use Rattle.fm_sound.specs.Leading.{NamesField}
 use Rattle.fm_sound.specs.Making.{ConstantsAreStatic}
 use Rattle.fm_sound.specs.Resolved as steps
@@ -91,6 +92,8 @@ ProgramsAreResolved =
 pub record StepsAreLinked (p : Program) : Type 0 where
   -- a static method isn't abstract (JVMS 4.6)
   pub concrete : (method : ℕ) → is_static (method_at p.outline.classes method).method.flags ≡ true → is_abstract_method p.outline.classes method ≡ false
+  -- a constructor has no result (JVMS 2.9)
+  pub constructors : ConstructorsGiveNothing p.outline
   -- getstatic and putstatic name a static field, getfield and putfield another one (JVMS 6.5.getstatic)
   pub fields : (method : ℕ) (i : Insn) (u : Use) → steps.IsNamed p method i u → NamesField p.outline u i
   -- the targets of an instruction are items (JVMS 4.9.1)

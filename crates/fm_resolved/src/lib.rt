@@ -24,8 +24,8 @@ pub fn law_resolved()
     law_linking();
 }
 
-/// Where nothing is refused, the program of spelled class files has what each step asks of fields,
-/// targets, static methods and constants.
+/// Where nothing is refused, the program of spelled class files has what each step asks of static
+/// methods, constructors, fields, targets and constants.
 pub fn law_steps()
     ensures { StepsOfProgramsAreLinked }
 {}
