@@ -98,7 +98,7 @@ fields_from-append class (c ∷ classes) more =
     ap (λ fs. own ++ fs) (fields_from-append (class + 1) classes more ∙ ap (λ k. fields_from (class + 1) classes ++ fields_from k more) same)
     ∙ sym (append_assoc own (fields_from (class + 1) classes) (fields_from (class + length (c ∷ classes)) more))
 
-all_fields : (given : List ClassDef) → fields_of (classes_of given) ≡ fields_of built_in ++ fields_from (0 + length built_in) (declared_from 0 given)
+pub all_fields : (given : List ClassDef) → fields_of (classes_of given) ≡ fields_of built_in ++ fields_from (0 + length built_in) (declared_from 0 given)
 unfolding fields_of classes_of
 all_fields given = fields_from-append 0 built_in (declared_from 0 given)
 

@@ -58,7 +58,7 @@ valid_among entries (attribute.Constant name value ∷ attributes) code valid is
 valid_among entries (attribute.Other raw ∷ attributes) code valid is = valid_among entries attributes code valid.1 is
 
 -- the code of a method of a spelled file meets the rules over the file's pool
-valid_code : (c : ClassDef) → HasSpelling c → (m : Member) (code : Code) → Contains c.methods m → code_of m ≡ Some code → CodeIsValid c.pool.entries code
+pub valid_code : (c : ClassDef) → HasSpelling c → (m : Member) (code : Code) → Contains c.methods m → code_of m ≡ Some code → CodeIsValid c.pool.entries code
 valid_code c spelled m code among is =
     valid_among c.pool.entries m.attributes code
     (each_one (MethodIsValid (is_interface c.flags) c.pool.entries) c.methods m spelled.1.methods among).attributes is

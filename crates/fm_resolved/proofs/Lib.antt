@@ -11,3 +11,5 @@ pub mod Messages
 pub mod Fields
 pub mod FieldOwners
 pub mod NamedFields
+pub mod Steps
+pub mod Constructors

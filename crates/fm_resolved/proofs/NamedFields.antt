@@ -17,10 +17,11 @@ use Rattle.fm_resolved.proofs.FieldOwners.{binary_found, instance_above}
 use Rattle.fm_resolved.proofs.Fields.{access_there, IsAccess}
 use Rattle.fm_resolved.proofs.InterfaceCalls.{binary_type, named_by, type_named}
 use Rattle.fm_resolved.proofs.Messages.{below_inside, below_of}
-use Rattle.fm_resolved.specs.Laws.{HasField}
 use Rattle.fm_rows.proofs.UseLemmas.{uses_name_members}
 use Rattle.fm_rows.specs.Members.{NamesMember}
+use Rattle.fm_frames.specs.ObjectRows.{kind_of_field}
 use Rattle.fm_same.specs.Resolved.{IsNamed}
+use Rattle.fm_sound.proofs.FieldPlaces.{field_place}
 use Rattle.fm_types.proofs.ClassTree.{among-trans, seen_above}
 use Rattle.fm_types.specs.Fits.{AreTree, fits_type, is_seen_as_object}
 use Rattle.fm_types.specs.Named.{class_of_method}
@@ -31,9 +32,9 @@ use Rattle.fm_world.specs.Chains.{chain_of, is_among}
 use Rattle.fm_world.specs.Descriptors.{class_number, class_type, of_class, type_in, type_with}
 use Rattle.fm_world.specs.Linking.{refused_fields, refused_parents}
 use Rattle.fm_world.specs.Lookups.{field_path, resolved_field}
-use Rattle.fm_world.specs.Members.{field_among, field_at}
+use Rattle.fm_world.specs.Members.{field_among, field_at, slot_of}
 use Rattle.fm_world.specs.Numbers.{type_of_class}
-use Rattle.fm_world.specs.Programs.{classes_of, outline_of, program_of}
+use Rattle.fm_world.specs.Programs.{classes_of, kind_at, Outline, outline_of, program_of}
 use Rattle.fm_world.specs.Uses.{operand_of}
 use Rattle.fm_world.specs.declared.declarations.DeclaredClass.{DeclaredClass}
 use Rattle.fm_world.specs.declared.uses.Use.TheVariants as resolved
@@ -99,6 +100,10 @@ holder given main spelled no_bad tree index f t named of access at fits =
                 ∙ among-trans classes tree found.below k its.above found.among its.among;
           }
 
+-- the object has the field at its place
+abbrev HasField : Outline → TypeRef → ℕ → Type 0
+HasField o of field = kind_at o.classes of (slot_of o.classes field) ≡ Some (kind_of_field o field)
+
 -- an access by an instruction of the program
 accessed : (given : List ClassDef) (main : List ℕ) → AllByRecursion HasSpelling given → refused_parents given ≡ [] → refused_fields given ≡ []
     → AreTree (classes_of given)
@@ -109,19 +114,14 @@ accessed : (given : List ClassDef) (main : List ℕ) → AllByRecursion HasSpell
     → static_field_wanted i ≡ Some false
     → slice_get (outline_of given main).types t.0 ≡ Some named
     → fits_type (classes_of given) of named ≡ true
-    → HasField (program_of given main) of f.0
+    → HasField (outline_of given main) of f.0
 unfolding program_of outline_of
 accessed given main spelled no_bad no_field tree method i index f t named of x operand use_is flag at fits =
+    let o = outline_of given main in
     let access = access_there given main no_field method x.item x.code i index f t false x.code_is x.insn_is operand use_is flag in
     let its = holder given main spelled no_bad tree index f t named of access at fits in
-    record {
-      class = its.class;
-      within = its.within;
-      type_is = its.type_is;
-      inside = subst (NamesMember (outline_of given main)) use_is (uses_name_members given main (class_of_method (outline_of given main) method) index);
-      instance = access.static_is;
-      below = its.below;
-    }
+    let inside = subst (NamesMember o) use_is (uses_name_members given main (class_of_method o method) index) in
+    ap (λ u. kind_at o.classes u (slot_of o.classes f.0)) its.type_is ∙ field_place o.classes tree its.class f.0 its.within inside access.static_is its.below
 
 true_wanted : {A : Type 0} → Some true ≡ Some false → A
 true_wanted is = absurd (false≢true (sym (same_Some true false is)))
@@ -134,7 +134,7 @@ pub fields_there : (given : List ClassDef) (main : List ℕ) → AllByRecursion 
     → static_field_wanted i ≡ Some false
     → slice_get (outline_of given main).types t.0 ≡ Some named
     → fits_type (classes_of given) of named ≡ true
-    → HasField (program_of given main) of f.0
+    → HasField (outline_of given main) of f.0
 fields_there given main spelled no_bad no_field tree method (insn.GetField index) f t named of x flag at fits =
     accessed given main spelled no_bad no_field tree method (insn.GetField index) index f t named of x refl x.use_is flag at fits
 fields_there given main spelled no_bad no_field tree method (insn.PutField index) f t named of x flag at fits =

@@ -1,12 +1,14 @@
 -- What linking makes sure of, of the program of class files against which no cause stands.
-use Rattle.std.specs.Prelude.{◌≡◌, ℕ, ◌<◌, ◌≤◌, Bool, true, false, List, [], ◌++◌, length, None, Some, slice_get}
+use Rattle.std.specs.Prelude.{◌≡◌, ℕ, ◌^◌, ◌<◌, ◌≤◌, Bool, true, false, List, [], ◌++◌, length, None, Some, slice_get}
 use Rattle.std.specs.List.{AllByRecursion}
 use Rattle.fm_base.specs.declared.ids.FieldId.{FieldId}
 use Rattle.fm_base.specs.declared.ids.MethodId.{MethodId}
 use Rattle.fm_base.specs.declared.ids.TypeId.{TypeId}
 use Rattle.fm_base.specs.declared.kinds.TypeRef.{TypeRef}
 use Rattle.fm_code.specs.AccessFlags.{is_static}
+use Rattle.fm_code.specs.Edges.{insn_of}
 use Rattle.fm_code.specs.Spells.{HasSpelling}
+use Rattle.fm_code.specs.SpellsCode.{targets_of}
 use Rattle.fm_code.specs.declared.class_file.ClassDef.{ClassDef}
 use Rattle.fm_code.specs.declared.code_array.Code.{Code}
 use Rattle.fm_code.specs.declared.instructions.Insn.{Insn}
@@ -15,28 +17,24 @@ use Rattle.fm_frames.specs.NativeRows.{text_kind}
 use Rattle.fm_frames.specs.ObjectRows.{kind_of_field}
 use Rattle.fm_frames.specs.Runnable.{IsUseIn}
 use Rattle.fm_same.specs.Evenness.{IsNumber, IsPlainKind}
-use Rattle.fm_same.specs.Resolved.{IsNamed}
+use Rattle.fm_same.specs.Resolved.{IsNamed, IsResolved}
+use Rattle.fm_sound.specs.Going.{ConstructorsGiveNothing}
+use Rattle.fm_sound.specs.Leading.{NamesField}
+use Rattle.fm_sound.specs.Making.{ConstantsAreStatic}
+use Rattle.fm_sound.specs.Resolved as steps
 use Rattle.fm_types.specs.Fits.{AreTree, fits_type, object_of}
 use Rattle.fm_types.specs.Named.{throwable_type}
 use Rattle.fm_world.specs.BuiltIns.{built_in}
 use Rattle.fm_world.specs.Causes.{static_field_wanted, static_method_wanted}
 use Rattle.fm_world.specs.Chains.{chain_of, is_among}
 use Rattle.fm_world.specs.Linking.{refusals}
-use Rattle.fm_world.specs.Lookups.{is_interface_at}
-use Rattle.fm_world.specs.Members.{field_at, fields_of, method_at, methods_of}
+use Rattle.fm_world.specs.Lookups.{is_abstract_method, is_interface_at}
+use Rattle.fm_world.specs.Members.{field_at, method_at, methods_of, size_of, slot_of}
 use Rattle.fm_world.specs.Numbers.{type_number, type_of_class}
-use Rattle.fm_world.specs.Programs.{class_of_type, code_at, IsTypeIn, kind_at, Program, program_of, use_of}
+use Rattle.fm_world.specs.Programs.{class_of_type, code_at, IsTypeIn, kind_at, outline_of, Program, program_of, use_of}
 use Rattle.fm_world.specs.declared.declarations.DeclaredClass.{DeclaredClass}
+use Rattle.fm_world.specs.declared.uses.Use.{Use}
 use Rattle.fm_world.specs.declared.uses.Use.TheVariants as resolved
-
--- objects of the type have the instance field: their class is the one that declares it, or is below it
-pub record HasField (p : Program) (of : TypeRef) (field : ℕ) : Type 0 where
-  pub class : ℕ
-  pub within : class < length p.outline.classes
-  pub type_is : of ≡ type_of_class class
-  pub inside : field < length (fields_of p.outline.classes)
-  pub instance : is_static (field_at p.outline.classes field).field.flags ≡ false
-  pub below : is_among (field_at p.outline.classes field).class (chain_of p.outline.classes class) ≡ true
 
 -- what linking makes sure of
 pub record IsLinkedWell (p : Program) : Type 0 where
@@ -67,9 +65,10 @@ pub record IsLinkedWell (p : Program) : Type 0 where
   pub no_interface : (method index : ℕ) (m : MethodId) (t : TypeId) (named : TypeRef) (class : ℕ)
       → IsNamed p method (insn.Virtual index) (resolved.OfMethod m t) → slice_get p.outline.types t.0 ≡ Some named
       → class_of_type named ≡ Some class → is_interface_at p.outline.classes class ≡ false
-  -- an object of a type that fits the one that getfield or putfield names has the field (JVMS 5.4.3.2, 6.5.getfield)
-  pub fields_held : (method : ℕ) (i : Insn) (f : FieldId) (t : TypeId) (named of : TypeRef) → IsNamed p method i (resolved.OfField f t)
-      → static_field_wanted i ≡ Some false → slice_get p.outline.types t.0 ≡ Some named → fits_type p.outline.classes of named ≡ true → HasField p of f.0
+  -- an object of a type that fits the one that getfield or putfield names has the field at its place (JVMS 5.4.3.2, 6.5.getfield)
+  pub fields : (method : ℕ) (i : Insn) (f : FieldId) (t : TypeId) (named of : TypeRef) → IsNamed p method i (resolved.OfField f t)
+      → static_field_wanted i ≡ Some false → slice_get p.outline.types t.0 ≡ Some named → fits_type p.outline.classes of named ≡ true
+      → kind_at p.outline.classes of (slot_of p.outline.classes f.0) ≡ Some (kind_of_field p.outline f.0)
   -- a throwable has its message at the first place of its objects
   pub message : (of : TypeRef) → fits_type p.outline.classes of (throwable_type p.outline) ≡ true
       → kind_at p.outline.classes of 0 ≡ Some (text_kind p.outline)
@@ -80,3 +79,30 @@ pub record IsLinkedWell (p : Program) : Type 0 where
 abbrev pub ProgramsAreLinkedWell : Type 0
 ProgramsAreLinkedWell =
     (given : List ClassDef) (main : List ℕ) → AllByRecursion HasSpelling given → refusals given main ≡ [] → IsLinkedWell (program_of given main)
+
+-- No cause bounds how many files there are: that the numbers of types fit the header of an object, and the sizes of objects too, is asked of the program.
+-- Then it is all that the laws of runs ask of a linked program.
+abbrev pub ProgramsAreResolved : Type 0
+ProgramsAreResolved =
+    (given : List ClassDef) (main : List ℕ) → AllByRecursion HasSpelling given → refusals given main ≡ []
+    → length (outline_of given main).types ≤ 2 ^ 28 → ((class : ℕ) → size_of (outline_of given main).classes class < 2 ^ 31)
+    → IsResolved (program_of given main)
+
+-- what linking and the rules of class files make sure of for each step of a program
+pub record StepsAreLinked (p : Program) : Type 0 where
+  -- a static method isn't abstract (JVMS 4.6)
+  pub concrete : (method : ℕ) → is_static (method_at p.outline.classes method).method.flags ≡ true → is_abstract_method p.outline.classes method ≡ false
+  -- a constructor has no result (JVMS 2.9)
+  pub constructors : ConstructorsGiveNothing p.outline
+  -- getstatic and putstatic name a static field, getfield and putfield another one (JVMS 6.5.getstatic)
+  pub fields : (method : ℕ) (i : Insn) (u : Use) → steps.IsNamed p method i u → NamesField p.outline u i
+  -- the targets of an instruction are items (JVMS 4.9.1)
+  pub targets : (method : ℕ) (code : Code) (item : ℕ) (i : Insn) → code_at p method ≡ Some code → insn_of code item ≡ Some i
+      → AllByRecursion (λ target. target < length code.items) (targets_of i)
+  -- a field with a constant is static (JVMS 4.7.2)
+  pub constants : ConstantsAreStatic p.outline
+
+-- of spelled class files against which no cause stands
+abbrev pub StepsOfProgramsAreLinked : Type 0
+StepsOfProgramsAreLinked =
+    (given : List ClassDef) (main : List ℕ) → AllByRecursion HasSpelling given → refusals given main ≡ [] → StepsAreLinked (program_of given main)

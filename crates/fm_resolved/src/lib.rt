@@ -1,7 +1,11 @@
 // What linking makes sure of, of the program of class files against which no cause stands (JVMS 5.3.5, 5.4.3).
 #![tactic(auto)]
 
-ghost use Rattle.fm_resolved.specs.Laws.{ProgramsAreLinkedWell};
+ghost use Rattle.fm_resolved.specs.Laws.{
+  ProgramsAreLinkedWell,
+  ProgramsAreResolved,
+  StepsOfProgramsAreLinked,
+};
 
 use fm_world::law_class_types;
 
@@ -11,3 +15,17 @@ pub fn law_linking()
 {
     law_class_types();
 }
+
+/// Where nothing is refused, and the numbers of types and the sizes of objects fit the header of an
+/// object, the program of spelled class files is all that the laws of runs ask of a linked program.
+pub fn law_resolved()
+    ensures { ProgramsAreResolved }
+{
+    law_linking();
+}
+
+/// Where nothing is refused, the program of spelled class files has what each step asks of static
+/// methods, constructors, fields, targets and constants.
+pub fn law_steps()
+    ensures { StepsOfProgramsAreLinked }
+{}

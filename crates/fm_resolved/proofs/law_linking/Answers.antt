@@ -50,7 +50,7 @@ linked_well types given main spelled none =
       tree = tree;
       below_object = below_object given spelled no_bad (none_missing given main none) tree;
       no_interface = virtual_of_class given main spelled no_method;
-      fields_held = fields_there given main spelled no_bad (no_field_refused given main none) tree;
+      fields = fields_there given main spelled no_bad (no_field_refused given main none) tree;
       message = message_there given main tree;
       constants = plain_constants given spelled;
     }

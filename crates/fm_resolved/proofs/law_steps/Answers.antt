@@ -1,0 +1,24 @@
+use Rattle.std.proofs.Common.{◌≡◌, ℕ, List, []}
+use Rattle.std.specs.List.{AllByRecursion}
+use Rattle.fm_code.specs.Spells.{HasSpelling}
+use Rattle.fm_code.specs.declared.class_file.ClassDef.{ClassDef}
+use Rattle.fm_resolved.proofs.Constructors.{constructor_gives}
+use Rattle.fm_resolved.proofs.GivenFiles.{no_field_refused}
+use Rattle.fm_resolved.proofs.Steps.{concrete_there, fields_named, static_constants, targets_there}
+use Rattle.fm_resolved.proofs.law_steps.Goals as goal
+use Rattle.fm_resolved.specs.Laws.{StepsAreLinked}
+use Rattle.fm_world.specs.Linking.{refusals}
+use Rattle.fm_world.specs.Programs.{outline_of, program_of}
+
+steps_linked : (given : List ClassDef) (main : List ℕ) → AllByRecursion HasSpelling given → refusals given main ≡ [] → StepsAreLinked (program_of given main)
+unfolding program_of outline_of
+steps_linked given main spelled none = record {
+  concrete = concrete_there given spelled;
+  constructors = constructor_gives given spelled;
+  fields = fields_named given main (no_field_refused given main none);
+  targets = targets_there given spelled;
+  constants = static_constants given;
+}
+
+pub returns : goal.returns
+returns c = steps_linked
