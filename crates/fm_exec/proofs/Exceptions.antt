@@ -43,3 +43,10 @@ negative-found given = position_from-zero (λ (c : DeclaredClass). bytes_eq c.na
 
 pub negative-is : (p : Program) → IsRunnable p → built_in_type p.outline (codes "java/lang/NegativeArraySizeException") ≡ type_of_class 17
 negative-is p runnable = numbered p (codes "java/lang/NegativeArraySizeException") 17 runnable negative-found
+
+index-found : (given : List DeclaredClass) → class_number (built_in ++ given) (codes "java/lang/ArrayIndexOutOfBoundsException") ≡ Some 22
+unfolding built_in
+index-found given = position_from-zero (λ (c : DeclaredClass). bytes_eq c.name (codes "java/lang/ArrayIndexOutOfBoundsException")) (built_in ++ given)
+
+pub index-is : (p : Program) → IsRunnable p → built_in_type p.outline (codes "java/lang/ArrayIndexOutOfBoundsException") ≡ type_of_class 22
+index-is p runnable = numbered p (codes "java/lang/ArrayIndexOutOfBoundsException") 22 runnable index-found

@@ -9,3 +9,4 @@ pub mod KeySteps
 pub mod HeldSteps
 pub mod FieldSteps
 pub mod ArraySteps
+pub mod ElementSteps

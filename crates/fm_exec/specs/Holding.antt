@@ -3,11 +3,14 @@
 use Rattle.std.specs.Prelude.{◌≡◌, ℕ, ◌-◌, ◌<◌, ◌^◌, length, nat_lt, true, Some}
 use Rattle.fm_cells.specs.Objects.{Object}
 use Rattle.fm_cells.specs.Stores.{object_at}
+use Rattle.fm_code.specs.declared.operations.Elem.{Elem}
+use Rattle.fm_frames.specs.ArrayRows.{element_kind}
 use Rattle.fm_frames.specs.ObjectRows.{kind_of_field}
 use Rattle.fm_frames.specs.Sights.{type_numbered}
 use Rattle.fm_frames.specs.States.{ref, State, word_at}
 use Rattle.fm_frames.specs.Steps.{stack_of}
 use Rattle.fm_frames.specs.inner.Places.{element_at, FitsIn, IsOfKind}
+use Rattle.fm_types.specs.ArrayRows.{is_array_of}
 use Rattle.fm_types.specs.Fits.{fits_type}
 use Rattle.fm_world.specs.Descriptors.{kind_words}
 use Rattle.fm_world.specs.Members.{slot_of}
@@ -39,3 +42,10 @@ abbrev pub HoldsLength : Program → State → Type 0
 HoldsLength p x =
     (cell : ℕ) (object : Object) → IsObject x 0 cell object → nat_lt 0 (type_numbered p.outline object.class).dims ≡ true
     → length object.elements < 2 ^ 31
+
+-- where the operand below the index is an array of such elements, each of them is a number of the array's kind (JVMS 6.5.aaload and its like)
+abbrev pub HoldsElements : Program → State → Elem → Type 0
+HoldsElements p x e =
+    (cell place : ℕ) (object : Object) → IsObject x 1 cell object
+    → is_array_of e (type_numbered p.outline object.class) ≡ true
+    → IsOfKind (element_kind (type_numbered p.outline object.class)) (element_at x.areas.store cell place)

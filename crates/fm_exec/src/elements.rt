@@ -1,0 +1,115 @@
+// The rows of elements (JVMS 6.5.aaload and its like, 6.5.aastore and its like).
+
+ghost use Rattle.std.specs.Prelude.{◌≡◌, ◌||◌, pos, int_lt, not, unsigned_abs, if◌then◌else◌, None, Some, OnOk};
+ghost use Rattle.fm_exec.specs.Holding.{HoldsElements};
+ghost use Rattle.fm_exec.specs.Steps.{seen, Steps};
+ghost use Rattle.fm_frames.specs.ArrayRows.{array_load_effect, element_kind};
+ghost use Rattle.fm_frames.specs.inner.Doings.{CanStep};
+ghost use Rattle.fm_types.specs.ArrayRows.{has_letter, is_array_of};
+ghost use Rattle.fm_world.specs.Descriptors.{kind_with};
+
+use crate::held::{give, refuse, type_in};
+use fm_base::{Base, Kind, NoMemory, TypeRef};
+use fm_cells::Memory;
+use fm_code::Elem;
+use fm_frames::{ARRAY_INDEX_EXCEPTION, Machine};
+use fm_types::depth_of;
+use fm_world::Program;
+
+// Whether an array of the letter is loaded and stored so: arrays of booleans are loaded and stored as those
+// of bytes.
+fn has_letter(e: Elem, base: Base) -> bool
+    ensures { result ≡ has_letter e base }
+{
+    match (e, base) {
+        (Elem::Boolean, Base::Boolean) => true,
+        (Elem::Byte, Base::Byte) => true,
+        (Elem::Byte, Base::Boolean) => true,
+        (Elem::Char, Base::Char) => true,
+        (Elem::Short, Base::Short) => true,
+        (Elem::Int, Base::Int) => true,
+        (Elem::Long, Base::Long) => true,
+        _ => false,
+    }
+}
+
+// Whether the type is that of an array with such elements.
+fn is_array_of(e: Elem, t: TypeRef) -> bool
+    ensures { result ≡ is_array_of e t }
+{
+    match e {
+        Elem::Ref => depth_of(t) > 0,
+        _ => t.dims == 1 && has_letter(e, t.base),
+    }
+}
+
+// What values of the base are.
+fn kind_of_base(base: Base) -> Kind
+    ensures { result ≡ kind_with 0 base }
+{
+    match base {
+        Base::Boolean => Kind::Boolean,
+        Base::Byte => Kind::Byte,
+        Base::Char => Kind::Char,
+        Base::Short => Kind::Short,
+        Base::Int => Kind::Int,
+        Base::Long => Kind::Long,
+        Base::OfClass(_) => Kind::Ref(TypeRef { dims: 0, base }),
+    }
+}
+
+// The kind of an array's elements.
+fn element_kind(t: TypeRef) -> Kind
+    ensures { result ≡ element_kind t }
+{
+    let dims = t.dims.saturating_sub(1);
+    if dims == 0 {
+        kind_of_base(t.base)
+    } else {
+        Kind::Ref(TypeRef { dims, base: t.base })
+    }
+}
+
+// The place that an index means, where the array has it.
+fn place_in(len: u32, index: i32) -> Option<u32>
+    ensures { result ≡ (if int_lt index (pos 0) || not (int_lt index (pos len)) then None
+        else Some (unsigned_abs index)) }
+{
+    if index < 0 {
+        return None;
+    }
+    let place = index.unsigned_abs();
+    if place < len { Some(place) } else { None }
+}
+
+/// baload, caload, saload, iaload, laload and aaload. Takes no memory where it throws nothing.
+pub fn array_load<M: Memory>(
+    machine: &mut Machine<M>,
+    program: &Program,
+    e: Elem,
+) -> Result<(), NoMemory>
+    requires can { CanStep program.now machine.old }
+    requires holds { HoldsElements program.now machine.old e }
+    ensures { OnOk result (Steps program.now M.choose machine.old machine.new
+        (array_load_effect program.now.outline e (seen program.now machine.old))) }
+{
+    let Some((cell, head)) = machine.object(1) else {
+        return refuse(machine, program, 1);
+    };
+    let t = type_in(program, head);
+    let array = is_array_of(e, t);
+    if !array {
+        machine.fault(program, cell);
+        return Ok(());
+    }
+    let Some(index) = machine.int_operand(0) else {
+        machine.stuck(program);
+        return Ok(());
+    };
+    let Some(place) = place_in(head.len, index) else {
+        return machine.throw_new(program, ARRAY_INDEX_EXCEPTION);
+    };
+    let kind = element_kind(t);
+    let value = machine.place(cell, place, kind);
+    give(machine, 2, kind, value)
+}
