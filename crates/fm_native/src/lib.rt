@@ -5,6 +5,7 @@
 #![tactic(auto)]
 
 pub mod asked;
+pub mod contents;
 pub mod objects;
 pub mod spelling;
 pub mod strings;
