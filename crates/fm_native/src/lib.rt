@@ -8,5 +8,6 @@ pub mod asked;
 pub mod contents;
 pub mod objects;
 pub mod spelling;
+pub mod streams;
 pub mod strings;
 pub mod units;
