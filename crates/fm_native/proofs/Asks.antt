@@ -1,5 +1,5 @@
 -- What is seen of an operand that is to be an object, a text or a number, by what the machine holds.
-use Rattle.std.proofs.Common.{◌≡◌, ℕ, zero, suc, ◌^◌, ◌<◌, ℤ, Bool, true, false, ◌==◌, if◌then◌else◌, List, [], ◌∷◌, length, take, Option, Some, None, Result, Ok, Err, slice_get, option_map, unwrap_or, refl, ap, sym, ◌∙◌, subst, lit<, arith}
+use Rattle.std.proofs.Common.{◌≡◌, ℕ, zero, suc, ◌^◌, ◌<◌, ℤ, Bool, true, false, ◌==◌, if◌then◌else◌, List, [], length, take, Option, Some, None, Result, Ok, Err, slice_get, option_map, unwrap_or, refl, ap, sym, ◌∙◌, subst, lit<, arith}
 use Rattle.std.specs.List.{All}
 use Rattle.std.proofs.lemmas.Bool.{ne_eqb}
 use Rattle.std.proofs.lemmas.List.{take_all, length-take-le}

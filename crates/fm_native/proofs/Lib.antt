@@ -2,3 +2,4 @@ pub mod Asks
 pub mod BuiltIns
 pub mod Lists
 pub mod Rows
+pub mod UnitReads

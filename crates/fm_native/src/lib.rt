@@ -5,7 +5,9 @@
 #![tactic(auto)]
 
 pub mod asked;
+pub mod contents;
 pub mod objects;
 pub mod spelling;
+pub mod streams;
 pub mod strings;
 pub mod units;
