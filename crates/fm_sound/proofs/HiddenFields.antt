@@ -10,14 +10,14 @@ use Rattle.fm_base.specs.declared.kinds.Kind.{Kind}
 use Rattle.fm_base.specs.declared.kinds.Kind.TheVariants as kind
 use Rattle.fm_base.specs.declared.kinds.TypeRef.{TypeRef}
 use Rattle.fm_code.specs.Names.{object}
-use Rattle.fm_types.proofs.ClassTree.{among-trans, among_one, chain_past_end}
+use Rattle.fm_types.proofs.ClassTree.{among_one, chain_past_end}
 use Rattle.fm_types.specs.Fits.{AreTree, depth_of, fits_base, fits_type, is_object_base, is_objects_within, object_of}
 use Rattle.fm_types.specs.Named.{built_in_type}
 use Rattle.fm_world.specs.BuiltIns.{built_in, object_name, string_name}
 use Rattle.fm_world.specs.Chains.{chain_of, is_among}
 use Rattle.fm_world.specs.Descriptors.{class_number, declared_kind, kind_with, of_class, typed}
 use Rattle.fm_world.specs.Lookups.{is_interface_at}
-use Rattle.fm_world.specs.Members.{field_at, kinds_of, slot_of}
+use Rattle.fm_world.specs.Members.{kinds_of, slot_of}
 use Rattle.fm_world.specs.Numbers.{type_of_class}
 use Rattle.fm_world.specs.Programs.{kind_at, Outline, Program}
 use Rattle.fm_world.specs.declared.declarations.DeclaredClass.{DeclaredClass}
@@ -33,10 +33,6 @@ use Rattle.fm_sound.proofs.MadeObjects.{both_kinds, chain_is, object_there, obje
 
 or_none : (a b : Bool) → a ≡ false → b ≡ false → (a || b) ≡ false
 or_none a b first second = ap (λ x. x || b) first ∙ second
-
-or_neither : (a b : Bool) → (a || b) ≡ false → (a ≡ false) × (b ≡ false)
-or_neither true b h = absurd (false≢true (sym h))
-or_neither false b h = (refl, h)
 
 -- what has a class among its superclasses is a class
 among_inside : (classes : List DeclaredClass) (class above : ℕ) → above < length classes → is_among above (chain_of classes class) ≡ true
@@ -81,22 +77,14 @@ first_kept classes tree above class k there among kinds =
     let grows = kinds_grow classes tree class above (among_inside classes class above there among) among in
     ap (λ ks. slice_get ks 0) grows.1 ∙ ap (λ ks. slice_get (ks ++ grows.0) 0) kinds
 
--- ---- a field of objects that fit the class that is named
+-- ---- the place of a field
 
-abbrev classes_of_field : Outline → ℕ → ℕ
-classes_of_field o field = (field_at o.classes field).class
-
--- an object whose type fits the class that is named has the field at its place
-pub field_seen : (o : Outline) → AreTree o.classes → (field : ℕ) (named t : TypeRef) → IsFieldOf o field named → fits_type o.classes t named ≡ true
-    → kind_at o.classes t (slot_of o.classes field) ≡ Some (kind_of_field o field)
-field_seen o tree field named t h fits =
-    let classes : List DeclaredClass = o.classes in
-    let parts = or_neither (is_interface_at classes h.class) (h.class == object_of classes) h.below_object in
-    let below = type_below classes h.class t parts.0 parts.1 (sym (ap (fits_type classes t) h.named_is) ∙ fits) in
-    let above : is_among (classes_of_field o field) (chain_of classes below.0) ≡ true =
-    among-trans classes tree below.0 h.class (classes_of_field o field) below.2 h.above in
-    ap (λ u. kind_at classes u (slot_of classes field)) below.1
-    ∙ field_place classes tree below.0 field (among_inside classes below.0 h.class h.inside below.2) h.there h.instance above
+-- an object of a type that has the field has it at its place
+pub field_seen : (o : Outline) → AreTree o.classes → (field : ℕ) (of : TypeRef) → IsFieldOf o field of
+    → kind_at o.classes of (slot_of o.classes field) ≡ Some (kind_of_field o field)
+field_seen o tree field of h =
+    ap (λ t. kind_at o.classes t (slot_of o.classes field)) h.type_is
+    ∙ field_place o.classes tree h.class field h.inside h.there h.instance h.above
 
 -- ---- the classes that bring the field
 

@@ -248,7 +248,7 @@ module _ (p : Program) (ready : IsMakeable p) (store : Store) (f : Frame) where
         let k : Kind = objects.kind_of_field o g.0 in
         let below = taken_below (field_words o g.0) (takes_field o f.method g.0 t) (row_of_field o u _ g n t after is at row) in
         by_object A o t s (kind_words k) _ null none (lost (kind_words k))
-        (λ it seen passes. put_fits (kind_words k + 1) (kind_words k) (slot_of o.classes g.0) (kind_words k - 1) k it seen (field_seen o ready.tree g.0 t it.type (named t at) passes)
+        (λ it seen passes. put_fits (kind_words k + 1) (kind_words k) (slot_of o.classes g.0) (kind_words k - 1) k it seen (field_seen o ready.tree g.0 it.type (named t it.type at passes))
         (value_has k below.0 below.1)))
 
     -- ---- objects

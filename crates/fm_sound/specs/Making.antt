@@ -9,7 +9,7 @@ use Rattle.fm_cells.specs.Stores.{object_at, Store}
 use Rattle.fm_code.specs.AccessFlags.{is_static}
 use Rattle.fm_code.specs.declared.instructions.Insn.{Insn}
 use Rattle.fm_code.specs.declared.instructions.Insn.TheVariants as insn
-use Rattle.fm_types.specs.Fits.{AreTree, fits_type, is_seen_as_object}
+use Rattle.fm_types.specs.Fits.{AreTree, fits_type}
 use Rattle.fm_types.specs.Named.{built_in_type, throwable_type}
 use Rattle.fm_world.specs.Chains.{chain_of, is_among}
 use Rattle.fm_world.specs.Members.{field_at, fields_of}
@@ -48,23 +48,22 @@ pub record IsMakeable (p : Program) : Type 0 where
   -- the texts that instructions name are those of class files (JVMS 4.4.7)
   pub texts : (text : ℕ) → (length (literal_text p.outline text) < 2 ^ 31) × AreUnits (literal_text p.outline text)
 
--- A field of objects, of the class that is named or of one above it (JVMS 5.4.3.2): so the class is neither Object nor an interface, which have no such
--- fields.
-pub record IsFieldOf (o : Outline) (field : ℕ) (named : TypeRef) : Type 0 where
+-- objects of the type have the field: their class is the one that declares it, or is below it (JVMS 5.4.3.2)
+pub record IsFieldOf (o : Outline) (field : ℕ) (of : TypeRef) : Type 0 where
   pub there : field < length (fields_of o.classes)
   pub instance : is_static (field_at o.classes field).field.flags ≡ false
   pub class : ℕ
   pub inside : class < length o.classes
-  pub named_is : named ≡ type_of_class class
+  pub type_is : of ≡ type_of_class class
   pub above : is_among (field_at o.classes field).class (chain_of o.classes class) ≡ true
-  pub below_object : is_seen_as_object o.classes class ≡ false
 
--- The array that the instruction makes has a number; and the field that putfield names is one of objects of the class that it names.
+-- The array that the instruction makes has a number; and objects of a type that fits the one that putfield names have the field.
 abbrev pub NamesMade : Outline → Use → Insn → Type 0
 NamesMade o u (insn.NewArray e) = (b : Base) → base_of_elem e ≡ Some b → IsNumbered o (record { dims = 1; base = b })
 NamesMade o (resolved.OfType t) (insn.NewRefs index) =
     (named array : TypeRef) → slice_get o.types t.0 ≡ Some named → array_of named ≡ Some array → IsNumbered o array
-NamesMade o (resolved.OfField f t) (insn.PutField index) = (named : TypeRef) → slice_get o.types t.0 ≡ Some named → IsFieldOf o f.0 named
+NamesMade o (resolved.OfField f t) (insn.PutField index) =
+    (named of : TypeRef) → slice_get o.types t.0 ≡ Some named → fits_type o.classes of named ≡ true → IsFieldOf o f.0 of
 NamesMade o u i = Unit {0}
 
 -- a field that has a constant is static (JVMS 4.7.2)
