@@ -1,5 +1,5 @@
 -- The effects of rows of elements, by what the operands are.
-use Rattle.std.proofs.Common.{◌≡◌, ℕ, ◌+◌, ℤ, pos, Bool, true, false, not, ◌||◌, if◌then◌else◌, List, Option, Some, None, slice_get, refl, ap, sym, ◌∙◌, codes}
+use Rattle.std.proofs.Common.{◌≡◌, ◌≢◌, ℕ, ◌+◌, ◌-◌, ℤ, pos, Bool, true, false, not, ◌||◌, if◌then◌else◌, List, [], ◌∷◌, Option, Some, None, slice_get, refl, ap, sym, ◌∙◌, codes}
 use Rattle.std.specs.Prelude.{int_lt, unsigned_abs}
 use Rattle.std.proofs.lemmas.Option.{none-some, same_Some}
 use Rattle.fm_base.specs.declared.kinds.TypeRef.{TypeRef}
@@ -7,10 +7,11 @@ use Rattle.fm_cells.specs.Stores.{Store}
 use Rattle.fm_cells.specs.declared.answers.Cell.{Cell}
 use Rattle.fm_cells.specs.declared.answers.Head.{Head}
 use Rattle.fm_code.specs.declared.operations.Elem.{Elem}
+use Rattle.fm_code.specs.declared.operations.Elem.TheVariants as elem
 use Rattle.fm_exec.proofs.HeldSteps.{looks-len, looks-type, Seen}
 use Rattle.fm_exec.proofs.Seen.{int-seen}
-use Rattle.fm_frames.specs.ArrayRows.{array_load_effect, element_kind, on_element}
-use Rattle.fm_frames.specs.Effects.{Effect, OfPlace, faulty, loaded, stuck, words}
+use Rattle.fm_frames.specs.ArrayRows.{array_load_effect, array_store_effect, element_kind, element_words, on_element, put_element}
+use Rattle.fm_frames.specs.Effects.{Effect, OfOperand, OfPlace, Put, acting, faulty, loaded, stuck, words}
 use Rattle.fm_frames.specs.Operands.{on_int, thrown, thrown_null}
 use Rattle.fm_frames.specs.Sights.{looks, Looks, Sight, sights, type_numbered}
 use Rattle.fm_frames.specs.declared.values.Value.{Value}
@@ -114,4 +115,30 @@ pub load-kind : (o : Outline) (store : Store) (stack : List Value) (operand : �
     ≡ words 2 (loaded (element_kind (type_numbered o head.class)) (OfPlace 1 place (element_kind (type_numbered o head.class))))
 load-kind o store stack operand cell head place it =
     ap (λ (t : TypeRef). words 2 (loaded (element_kind t) (OfPlace 1 place (element_kind t))))
+    (looks-type o store it.object ∙ ap (λ (h : Head). type_numbered o h.class) it.head_is)
+
+-- ---- stores of numbers
+
+pub store-is : (o : Outline) (e : Elem) (s : List Sight) (n : ℕ) → n ≡ element_words e → e ≢ elem.Ref
+    → array_store_effect o e s ≡ on_element o e s n (put_element n)
+unfolding array_store_effect
+store-is o e s n many number = by_elem e number ∙ ap (λ n. on_element o e s n (put_element n)) (sym many) where
+  by_elem : (e : Elem) → e ≢ elem.Ref → array_store_effect o e s ≡ on_element o e s (element_words e) (put_element (element_words e))
+  by_elem elem.Boolean number = refl
+  by_elem elem.Byte number = refl
+  by_elem elem.Char number = refl
+  by_elem elem.Short number = refl
+  by_elem elem.Int number = refl
+  by_elem elem.Long number = refl
+  by_elem elem.Ref number = absurd (number refl)
+
+-- what follows of the object that was looked at, where it is refused
+abbrev pub store_held : Outline → Elem → List Sight → ℕ → Looks → Effect
+store_held o e s n it = if is_array_of e it.type then on_int s n (λ i. by_place o it.len i (put_element n it)) else faulty (n + 1)
+
+pub put-kind : (o : Outline) (store : Store) (stack : List Value) (operand : ℕ) (cell : Cell) (head : Head) (n place : ℕ) (it : Seen o store stack operand cell head)
+    → put_element n (looks o store it.object) place
+    ≡ acting (n + 2) (Put (OfOperand (n + 1)) place (element_kind (type_numbered o head.class)) (OfOperand (n - 1)) ∷ [])
+put-kind o store stack operand cell head n place it =
+    ap (λ (t : TypeRef). acting (n + 2) (Put (OfOperand (n + 1)) place (element_kind t) (OfOperand (n - 1)) ∷ []))
     (looks-type o store it.object ∙ ap (λ (h : Head). type_numbered o h.class) it.head_is)

@@ -1,10 +1,10 @@
 -- What rows ask of the numbers in objects and of the values that are put there: that they are of the kinds of their places; and of the lengths of arrays.
 -- Each state of a typed program is so.
-use Rattle.std.specs.Prelude.{◌≡◌, ℕ, ◌-◌, ◌<◌, ◌^◌, length, nat_lt, true, Some}
+use Rattle.std.specs.Prelude.{◌≡◌, ℕ, ◌+◌, ◌-◌, ◌<◌, ◌^◌, length, nat_lt, true, Some}
 use Rattle.fm_cells.specs.Objects.{Object}
 use Rattle.fm_cells.specs.Stores.{object_at}
 use Rattle.fm_code.specs.declared.operations.Elem.{Elem}
-use Rattle.fm_frames.specs.ArrayRows.{element_kind}
+use Rattle.fm_frames.specs.ArrayRows.{element_kind, element_words}
 use Rattle.fm_frames.specs.ObjectRows.{kind_of_field}
 use Rattle.fm_frames.specs.Sights.{type_numbered}
 use Rattle.fm_frames.specs.States.{ref, State, word_at}
@@ -49,3 +49,11 @@ HoldsElements p x e =
     (cell place : ℕ) (object : Object) → IsObject x 1 cell object
     → is_array_of e (type_numbered p.outline object.class) ≡ true
     → IsOfKind (element_kind (type_numbered p.outline object.class)) (element_at x.areas.store cell place)
+
+-- where the operand below value and index is an array of such elements, the value can be put there (JVMS 6.5.aastore and its like)
+abbrev pub TakesElement : Program → State → Elem → Type 0
+TakesElement p x e =
+    let n = element_words e in
+    (cell : ℕ) (object : Object) → IsObject x (n + 1) cell object
+    → is_array_of e (type_numbered p.outline object.class) ≡ true
+    → FitsIn x.areas.store cell (element_kind (type_numbered p.outline object.class)) (word_at (stack_of x) (n - 1))

@@ -1,9 +1,10 @@
 // The rows of elements (JVMS 6.5.aaload and its like, 6.5.aastore and its like).
 
-ghost use Rattle.std.specs.Prelude.{◌≡◌, ◌||◌, pos, int_lt, not, unsigned_abs, if◌then◌else◌, None, Some, OnOk};
-ghost use Rattle.fm_exec.specs.Holding.{HoldsElements};
+ghost use Rattle.std.specs.Prelude.{◌≡◌, ◌≢◌, ◌<◌, ◌≤◌, ◌||◌, pos, int_lt, not, unsigned_abs, if◌then◌else◌, None, Some, OnOk};
+ghost use Rattle.fm_code.specs.declared.operations.Elem.TheVariants as elem;
+ghost use Rattle.fm_exec.specs.Holding.{HoldsElements, TakesElement};
 ghost use Rattle.fm_exec.specs.Steps.{seen, Steps};
-ghost use Rattle.fm_frames.specs.ArrayRows.{array_load_effect, element_kind};
+ghost use Rattle.fm_frames.specs.ArrayRows.{array_load_effect, array_store_effect, element_kind, element_words};
 ghost use Rattle.fm_frames.specs.inner.Doings.{CanStep};
 ghost use Rattle.fm_types.specs.ArrayRows.{has_letter, is_array_of};
 ghost use Rattle.fm_world.specs.Descriptors.{kind_with};
@@ -112,4 +113,50 @@ pub fn array_load<M: Memory>(
     let kind = element_kind(t);
     let value = machine.place(cell, place, kind);
     give(machine, 2, kind, value)
+}
+
+// The words of an element on a stack.
+fn element_words(e: Elem) -> usize
+    ensures value { result ≡ element_words e }
+    ensures some { 0 < result }
+    ensures few { result ≤ 2 }
+{
+    match e {
+        Elem::Long => 2,
+        _ => 1,
+    }
+}
+
+/// bastore, castore, sastore, iastore and lastore. Takes no memory where it throws nothing.
+pub fn array_store<M: Memory>(
+    machine: &mut Machine<M>,
+    program: &Program,
+    e: Elem,
+) -> Result<(), NoMemory>
+    requires can { CanStep program.now machine.old }
+    requires number { e ≢ elem.Ref }
+    requires takes { TakesElement program.now machine.old e }
+    ensures { OnOk result (Steps program.now M.choose machine.old machine.new
+        (array_store_effect program.now.outline e (seen program.now machine.old))) }
+{
+    let words = element_words(e);
+    let Some((cell, head)) = machine.object(words + 1) else {
+        return refuse(machine, program, words + 1);
+    };
+    let t = type_in(program, head);
+    let array = is_array_of(e, t);
+    if !array {
+        machine.fault(program, cell);
+        return Ok(());
+    }
+    let Some(index) = machine.int_operand(words) else {
+        machine.stuck(program);
+        return Ok(());
+    };
+    let Some(place) = place_in(head.len, index) else {
+        return machine.throw_new(program, ARRAY_INDEX_EXCEPTION);
+    };
+    let value = machine.word(words - 1);
+    machine.put(words + 2, cell, place, element_kind(t), value);
+    Ok(())
 }
