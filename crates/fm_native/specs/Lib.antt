@@ -1,3 +1,4 @@
 pub mod Doing
+pub mod Showing
 pub mod Texts
 pub mod inner

@@ -7,6 +7,7 @@
 pub mod asked;
 pub mod contents;
 pub mod objects;
+pub mod shown;
 pub mod spelling;
 pub mod streams;
 pub mod strings;

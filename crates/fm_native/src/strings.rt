@@ -2,14 +2,16 @@
 
 ghost use Rattle.std.specs.Prelude.{◌≡◌, ◌<◌, ◌^◌, ◌||◌, int_lt, not, pos, OnOk};
 ghost use Rattle.fm_native.specs.Doing.{DoesRow};
+ghost use Rattle.fm_native.specs.Showing.{shown_of};
 ghost use Rattle.fm_native.specs.Texts.{HoldsTexts};
 ghost use Rattle.fm_native.specs.inner.Asked.{units_in, IsTextAt};
 ghost use Rattle.fm_frames.specs.NativeRows.{char_at};
-ghost use Rattle.fm_frames.specs.Natives.{CharAt, CompareTo, StringHashCode, StringLength, StringToString};
+ghost use Rattle.fm_frames.specs.Natives.{CharAt, CompareTo, StringHashCode, StringLength, StringToString, ValueOf};
 ghost use Rattle.fm_frames.specs.inner.Doings.{CanStep, DoesIn};
 
 use crate::asked::{Text, int_at, refuse, text_at};
 use crate::contents::{unit_at, units_of};
+use crate::shown::{Primitive, shown_at, units_shown};
 use crate::units::{compare_units, hash_units};
 use fm_base::NoMemory;
 use fm_cells::Memory;
@@ -126,6 +128,26 @@ pub fn char_at<M: Memory>(machine: &mut Machine<M>, program: &Program) -> Result
             Ok(place) => char_in(machine, program, text, place),
             Err(refusal) => refuse(machine, program, refusal),
         },
+        Err(refusal) => refuse(machine, program, refusal),
+    }
+}
+
+/// valueOf of a value of a primitive type: a new text of its units.
+pub fn value_of<M: Memory>(
+    alloc: Global,
+    machine: &mut Machine<M>,
+    program: &Program,
+    primitive: Primitive,
+) -> Result<(), NoMemory>
+    requires { CanStep program.now machine.old }
+    ensures { OnOk result (DoesRow program.now M.choose machine.old machine.new
+        (ValueOf (shown_of primitive))) }
+{
+    match shown_at(machine, program, primitive) {
+        Ok(showing) => {
+            let units = units_shown(alloc, showing)?;
+            machine.give_text(program, primitive.words(), &units)
+        }
         Err(refusal) => refuse(machine, program, refusal),
     }
 }
