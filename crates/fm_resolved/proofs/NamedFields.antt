@@ -20,8 +20,8 @@ use Rattle.fm_resolved.proofs.Messages.{below_inside, below_of}
 use Rattle.fm_rows.proofs.UseLemmas.{uses_name_members}
 use Rattle.fm_rows.specs.Members.{NamesMember}
 use Rattle.fm_frames.specs.ObjectRows.{kind_of_field}
-use Rattle.fm_same.specs.Resolved.{IsNamed}
 use Rattle.fm_sound.proofs.FieldPlaces.{field_place}
+use Rattle.fm_sound.specs.Resolved.{IsNamed}
 use Rattle.fm_types.proofs.ClassTree.{among-trans, seen_above}
 use Rattle.fm_types.specs.Fits.{AreTree, fits_type, is_seen_as_object}
 use Rattle.fm_types.specs.Named.{class_of_method}

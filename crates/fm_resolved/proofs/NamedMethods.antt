@@ -12,7 +12,7 @@ use Rattle.fm_code.specs.declared.instructions.Insn.{Insn}
 use Rattle.fm_code.specs.declared.instructions.Insn.TheVariants as insn
 use Rattle.fm_resolved.proofs.Calls.{call_there}
 use Rattle.fm_resolved.proofs.InterfaceCalls.{no_interface_named}
-use Rattle.fm_same.specs.Resolved.{IsNamed}
+use Rattle.fm_sound.specs.Resolved.{IsNamed}
 use Rattle.fm_world.specs.Causes.{static_method_wanted}
 use Rattle.fm_world.specs.Linking.{refused_methods}
 use Rattle.fm_world.specs.Lookups.{is_interface_at}

@@ -17,11 +17,12 @@ use Rattle.fm_frames.specs.NativeRows.{text_kind}
 use Rattle.fm_frames.specs.ObjectRows.{kind_of_field}
 use Rattle.fm_frames.specs.Runnable.{IsUseIn}
 use Rattle.fm_same.specs.Evenness.{IsNumber, IsPlainKind}
-use Rattle.fm_same.specs.Resolved.{IsNamed, IsResolved}
+use Rattle.fm_same.specs.Resolved.{IsResolved}
 use Rattle.fm_sound.specs.Going.{ConstructorsGiveNothing}
 use Rattle.fm_sound.specs.Leading.{NamesField}
 use Rattle.fm_sound.specs.Making.{ConstantsAreStatic}
 use Rattle.fm_sound.specs.Resolved as steps
+use Rattle.fm_sound.specs.Resolved.{IsNamed}
 use Rattle.fm_types.specs.Fits.{AreTree, fits_type, object_of}
 use Rattle.fm_types.specs.Named.{throwable_type}
 use Rattle.fm_world.specs.BuiltIns.{built_in}

@@ -38,7 +38,8 @@ use Rattle.fm_frames.specs.Runnable.{IsUseIn}
 use Rattle.fm_frames.specs.States.{Frame}
 use Rattle.fm_same.specs.Resolved.{IsResolved}
 use Rattle.fm_same.proofs.CallWords.{call_takes, receiver_count, TakesCall}
-use Rattle.fm_same.proofs.TargetMethods.{IsAlike, target_alike}
+use Rattle.fm_sound.proofs.FoundMethods.{IsAlike}
+use Rattle.fm_same.proofs.TargetMethods.{target_alike}
 
 -- the word of a state by how many lie below it
 abbrev pub word_in_state : ℕ → Option TypeState → Option slots.Slot

@@ -15,8 +15,6 @@ use Rattle.fm_base.specs.declared.ids.TypeId.{TypeId}
 use Rattle.fm_base.specs.declared.kinds.Base.{Base}
 use Rattle.fm_base.specs.declared.kinds.Base.TheVariants as base
 use Rattle.fm_base.specs.declared.kinds.TypeRef.{TypeRef}
-use Rattle.fm_cells.specs.Objects.{Object}
-use Rattle.fm_cells.specs.Stores.{object_at, Store}
 use Rattle.fm_code.proofs.EdgesLemmas.{Contains-filter, Contains-first, Contains-later}
 use Rattle.fm_code.specs.AccessFlags.{is_abstract, is_interface}
 use Rattle.fm_code.specs.Edges.{insn_of}
@@ -48,53 +46,16 @@ use Rattle.fm_world.specs.declared.declarations.DeclaredClass.{DeclaredClass}
 use Rattle.fm_frames.specs.CallRows.{words_of_arguments}
 use Rattle.fm_frames.specs.Runnable.{IsUseIn}
 use Rattle.fm_frames.specs.States.{Frame, State}
-use Rattle.fm_frames.specs.Sights.{Looks, looks, Sight, sight, sight_of_cell, sight_of_object, sights, Thing, type_numbered}
-use Rattle.fm_frames.specs.declared.values.Value.{Value}
-use Rattle.fm_frames.specs.declared.values.Value.TheVariants as value
+use Rattle.fm_frames.specs.Sights.{Looks, Sight, sights, type_numbered}
 use Rattle.fm_sound.specs.Sound.{AreasAreSound, HasObjects}
+use Rattle.fm_sound.proofs.SeenObjects.{IsSeen, seen_at}
 use Rattle.fm_same.specs.Covering.{Enters, EntersSelected}
 use Rattle.fm_same.specs.Laws.{FullTargetsCover}
 use Rattle.fm_same.specs.Resolved.{IsResolved}
 use Rattle.fm_same.specs.Standing.{method_of}
 use Rattle.fm_same.specs.Targets.{CoversIn}
 use Rattle.fm_same.proofs.CallFacts.{type_there, use_there}
-use Rattle.fm_same.proofs.TargetMethods.{select_inside}
-
--- ---- what is seen at a receiver
-
--- an object that is held, of the type that is seen
-pub record IsSeen (o : Outline) (store : Store) (it : Looks) : Type 0 where
-  pub cell : ℕ
-  pub object : Object
-  pub held : object_at store cell ≡ Some object
-  pub type_is : it.type ≡ type_numbered o object.class
-
-looks_type : (o : Outline) (store : Store) (object : Object) → (looks o store object).type ≡ type_numbered o object.class
-unfolding looks
-looks_type o store object = refl
-
-seen_object : (o : Outline) (store : Store) (cell : ℕ) (it : Looks) (found : Option Object) → object_at store cell ≡ found
-    → sight_of_object o store found ≡ Thing it → IsSeen o store it
-seen_object o store cell it None is e = absurd (cc)
-seen_object o store cell it (Some object) is e =
-    let same : looks o store object ≡ it = cc in
-    record { cell = cell; object = object; held = is; type_is = ap (λ (l : Looks). l.type) (sym same) ∙ looks_type o store object }
-
-seen_cell : (o : Outline) (store : Store) (cell : ℕ) (it : Looks) → sight_of_cell o store cell ≡ Thing it → IsSeen o store it
-seen_cell o store zero it e = absurd (cc)
-seen_cell o store (suc cell) it e = seen_object o store (suc cell) it (object_at store (suc cell)) refl e
-
-seen_value : (o : Outline) (store : Store) (v : Value) (it : Looks) → sight o store v ≡ Thing it → IsSeen o store it
-seen_value o store (value.Ref cell) it e = seen_cell o store cell.0 it e
-seen_value o store value.Top it e = absurd (cc)
-seen_value o store (value.Int n) it e = absurd (cc)
-seen_value o store (value.Long n) it e = absurd (cc)
-
-pub seen_at : (o : Outline) (store : Store) (stack : List Value) (n : ℕ) (it : Looks) → slice_get (sights o store stack) n ≡ Some (Thing it)
-    → IsSeen o store it
-seen_at o store [] n it e = absurd (none-some (Thing it) e)
-seen_at o store (v ∷ stack) zero it e = seen_value o store v it (same_Some (sight o store v) (Thing it) e)
-seen_at o store (v ∷ stack) (suc n) it e = seen_at o store stack n it e
+use Rattle.fm_sound.proofs.FoundMethods.{select_inside}
 
 -- ---- where a receiver that passes is counted
 
@@ -323,9 +284,9 @@ module _ (p : Program) (ready : IsResolved p) (whole : p.made ≡ None) (facts :
   method_there i m t is = subst (IsUseIn p.outline) is (use_there p ready f.method i)
 
   -- a receiver's type is one of which objects are made
-  type_is_there : (it : Looks) (s : IsSeen p.outline y.areas.store it) → HasObjects p.outline it.type × IsTypeIn p.outline.classes it.type
-  type_is_there it s =
-      let held = sound.heap s.cell s.object s.held in (
+  type_is_there : (cell : ℕ) (it : Looks) (s : IsSeen p.outline y.areas.store cell it) → HasObjects p.outline it.type × IsTypeIn p.outline.classes it.type
+  type_is_there cell it s =
+      let held = sound.heap cell s.object s.held in (
         subst (HasObjects p.outline) (sym s.type_is) held.of_type.made,
         subst (IsTypeIn p.outline.classes) (sym s.type_is)
             (ready.runnable.types s.object.class (type_numbered p.outline s.object.class)
@@ -338,7 +299,7 @@ module _ (p : Program) (ready : IsResolved p) (whole : p.made ≡ None) (facts :
       → Contains (filter (λ m. is_among m (selected p e.of e.method.0)) (range_with_len 0 (length (methods_of p.outline.classes)))) target
   selected_target i takes target e each =
       let s = seen_at p.outline y.areas.store f.stack (words_of_arguments p.outline e.method.0) e.receiver e.seen in
-      let there = type_is_there e.receiver s in
+      let there = type_is_there _ e.receiver s in
       selected_counts p ready whole e.receiver.type e.of e.method.0 target there.0 there.1 (each e.receiver there.1 e.passes)
       (method_there i e.method e.type e.named).0 e.selected
 

@@ -29,7 +29,7 @@ use Rattle.fm_same.specs.Evenness.{ActsEvenly, HoldsNumbers, IsNumber, IsPlainKi
 use Rattle.fm_same.specs.Standing.{Goes, Stand}
 use Rattle.fm_same.proofs.ItemFacts.{AtInsn, depth_is}
 use Rattle.fm_same.proofs.Owing.{effect_obeys}
-use Rattle.fm_same.proofs.TargetMethods.{own_method_found}
+use Rattle.fm_sound.proofs.FoundMethods.{own_method_found}
 
 -- ---- lists
 

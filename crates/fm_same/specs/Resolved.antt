@@ -5,37 +5,26 @@ use Rattle.fm_base.specs.declared.ids.MethodId.{MethodId}
 use Rattle.fm_base.specs.declared.ids.TypeId.{TypeId}
 use Rattle.fm_base.specs.declared.kinds.TypeRef.{TypeRef}
 use Rattle.fm_code.specs.AccessFlags.{is_static}
-use Rattle.fm_code.specs.Edges.{insn_of}
-use Rattle.fm_code.specs.declared.code_array.Code.{Code}
 use Rattle.fm_code.specs.declared.instructions.Insn.{Insn}
 use Rattle.fm_code.specs.declared.instructions.Insn.TheVariants as insn
 use Rattle.fm_types.specs.Fits.{AreTree, fits_type, object_of}
 use Rattle.fm_types.specs.Named.{throwable_type}
-use Rattle.fm_types.specs.Typed.{use_by}
 use Rattle.fm_world.specs.BuiltIns.{built_in}
 use Rattle.fm_world.specs.Causes.{static_field_wanted, static_method_wanted}
 use Rattle.fm_world.specs.Chains.{chain_of, is_among}
 use Rattle.fm_world.specs.Lookups.{is_interface_at}
 use Rattle.fm_world.specs.Members.{field_at, method_at, methods_of, slot_of}
 use Rattle.fm_world.specs.Numbers.{type_number, type_of_class}
-use Rattle.fm_world.specs.Programs.{class_of_type, code_at, kind_at, Program}
-use Rattle.fm_world.specs.declared.uses.Use.{Use}
+use Rattle.fm_world.specs.Programs.{class_of_type, kind_at, Program}
 use Rattle.fm_world.specs.declared.uses.Use.TheVariants as resolved
 use Rattle.fm_frames.specs.CallRows.{native_of}
 use Rattle.fm_frames.specs.NativeRows.{text_kind}
 use Rattle.fm_frames.specs.Natives.{Native}
 use Rattle.fm_frames.specs.ObjectRows.{kind_of_field}
 use Rattle.fm_frames.specs.Runnable.{IsRunnable}
+use Rattle.fm_sound.specs.Resolved.{IsNamed}
 use Rattle.fm_same.specs.Covering.{is_free_me}
 use Rattle.fm_same.specs.Evenness.{IsNumber, IsPlainKind}
-
--- the instruction stands in a method that has code, and what it names is resolved to this
-pub record IsNamed (p : Program) (method : ℕ) (i : Insn) (u : Use) : Type 0 where
-  pub code : Code
-  pub code_is : code_at p method ≡ Some code
-  pub item : ℕ
-  pub insn_is : insn_of code item ≡ Some i
-  pub use_is : use_by p method i ≡ u
 
 -- what linking makes sure of
 pub record IsResolved (p : Program) : Type 0 where
