@@ -8,15 +8,18 @@ use Rattle.fm_cells.specs.declared.answers.Cell.{Cell}
 use Rattle.fm_cells.specs.declared.answers.Head.{Head}
 use Rattle.fm_code.specs.declared.operations.Elem.{Elem}
 use Rattle.fm_code.specs.declared.operations.Elem.TheVariants as elem
-use Rattle.fm_exec.proofs.HeldSteps.{looks-len, looks-type, Seen}
+use Rattle.fm_exec.proofs.HeldSteps.{held-refused, looks-len, looks-type, refused_as, Seen}
 use Rattle.fm_exec.proofs.Seen.{int-seen}
-use Rattle.fm_frames.specs.ArrayRows.{array_load_effect, array_store_effect, element_kind, element_words, on_element, put_element}
+use Rattle.fm_frames.specs.ArrayRows.{array_load_effect, array_store_effect, element_kind, element_type, element_words, on_element, put_element, put_reference}
 use Rattle.fm_frames.specs.Effects.{Effect, OfOperand, OfPlace, Put, acting, faulty, loaded, stuck, words}
-use Rattle.fm_frames.specs.Operands.{on_int, thrown, thrown_null}
+use Rattle.fm_frames.specs.Operands.{on_held, on_int, thrown, thrown_null}
 use Rattle.fm_frames.specs.Sights.{looks, Looks, Sight, sights, type_numbered}
 use Rattle.fm_frames.specs.declared.values.Value.{Value}
+use Rattle.fm_frames.specs.declared.looks.Look.{Look}
 use Rattle.fm_frames.specs.inner.Doings.{int_in}
+use Rattle.fm_frames.specs.inner.Looks.{look_at, object_in}
 use Rattle.fm_types.specs.ArrayRows.{is_array_of}
+use Rattle.fm_world.specs.Chains.{is_sub}
 use Rattle.fm_world.specs.Programs.{Outline}
 
 -- ---- elements
@@ -142,3 +145,45 @@ pub put-kind : (o : Outline) (store : Store) (stack : List Value) (operand : ℕ
 put-kind o store stack operand cell head n place it =
     ap (λ (t : TypeRef). acting (n + 2) (Put (OfOperand (n + 1)) place (element_kind t) (OfOperand (n - 1)) ∷ []))
     (looks-type o store it.object ∙ ap (λ (h : Head). type_numbered o h.class) it.head_is)
+
+-- ---- stores of references
+
+pub reference-is : (o : Outline) (s : List Sight) → array_store_effect o elem.Ref s ≡ on_element o elem.Ref s 1 (put_reference o s)
+unfolding array_store_effect
+reference-is o s = refl
+
+-- what follows of the object that was looked at, where it is refused
+abbrev pub reference_held : Outline → List Sight → Looks → Effect
+reference_held o s it = if is_array_of elem.Ref it.type then on_int s 1 (λ i. by_place o it.len i (put_reference o s it)) else faulty 2
+
+-- the value is put there
+abbrev pub put_of : TypeRef → ℕ → Effect
+put_of t place = acting 3 (Put (OfOperand 2) place (element_kind t) (OfOperand 0) ∷ [])
+
+-- by whether its type fits
+abbrev pub put_fitting : Outline → TypeRef → ℕ → Bool → Effect
+put_fitting o t place fits = if fits then put_of t place else thrown o (codes "java/lang/ArrayStoreException")
+
+pub value-asked : (o : Outline) (s : List Sight) (it : Looks) (t : TypeRef) (place : ℕ) → it.type ≡ t
+    → put_reference o s it place ≡ on_held (put_of t place) s 0 (λ v. put_fitting o t place (is_sub o.classes v.type (element_type t)))
+value-asked o s it t place same = ap (λ t. on_held (put_of t place) s 0 (λ v. put_fitting o t place (is_sub o.classes v.type (element_type t)))) same
+
+-- a value that is no object
+pub value-refused : (o : Outline) (store : Store) (stack : List Value) (it : Looks) (t : TypeRef) (place : ℕ) (seen : Look) → it.type ≡ t
+    → seen ≡ look_at store (slice_get stack 0) → object_in seen ≡ None
+    → put_reference o (sights o store stack) it place ≡ refused_as (put_of t place) 0 seen
+value-refused o store stack it t place seen same is none =
+    value-asked o (sights o store stack) it t place same
+    ∙ held-refused o store stack (put_of t place) 0 (λ v. put_fitting o t place (is_sub o.classes v.type (element_type t))) seen is
+    (ap object_in (sym is) ∙ none)
+
+-- a value that is an object, whose type fits or doesn't
+pub value-told : (o : Outline) (store : Store) (stack : List Value) (it : Looks) (t : TypeRef) (place : ℕ) (cell : Cell) (head : Head) (fits : Bool) → it.type ≡ t
+    → Seen o store stack 0 cell head → fits ≡ is_sub o.classes (type_numbered o head.class) (element_type t)
+    → put_reference o (sights o store stack) it place ≡ put_fitting o t place fits
+value-told o store stack it t place cell head fits same v is =
+    value-asked o (sights o store stack) it t place same
+    ∙ v.any (put_of t place) (λ v. put_fitting o t place (is_sub o.classes v.type (element_type t)))
+    ∙ ap (λ type. put_fitting o t place (is_sub o.classes type (element_type t)))
+    (looks-type o store v.object ∙ ap (λ (h : Head). type_numbered o h.class) v.head_is)
+    ∙ ap (put_fitting o t place) (sym is)

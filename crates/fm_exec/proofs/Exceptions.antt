@@ -50,3 +50,10 @@ index-found given = position_from-zero (λ (c : DeclaredClass). bytes_eq c.name 
 
 pub index-is : (p : Program) → IsRunnable p → built_in_type p.outline (codes "java/lang/ArrayIndexOutOfBoundsException") ≡ type_of_class 22
 index-is p runnable = numbered p (codes "java/lang/ArrayIndexOutOfBoundsException") 22 runnable index-found
+
+store-found : (given : List DeclaredClass) → class_number (built_in ++ given) (codes "java/lang/ArrayStoreException") ≡ Some 14
+unfolding built_in
+store-found given = position_from-zero (λ (c : DeclaredClass). bytes_eq c.name (codes "java/lang/ArrayStoreException")) (built_in ++ given)
+
+pub store-is : (p : Program) → IsRunnable p → built_in_type p.outline (codes "java/lang/ArrayStoreException") ≡ type_of_class 14
+store-is p runnable = numbered p (codes "java/lang/ArrayStoreException") 14 runnable store-found
