@@ -15,6 +15,7 @@ use Rattle.fm_code.specs.declared.code_array.Code.{Code}
 use Rattle.fm_code.specs.declared.constant_pool.Entry.{Entry}
 use Rattle.fm_frames.specs.CallRows.{native_of}
 use Rattle.fm_frames.specs.Natives.{native_of_row}
+use Rattle.fm_resolved.proofs.InterfaceCalls.{first_coded}
 use Rattle.fm_resolved.proofs.Rows.{all_methods}
 use Rattle.fm_world.specs.BuiltIns.{built_in}
 use Rattle.fm_world.specs.Declarations.{declared_from, declared_method, no_method}
@@ -68,11 +69,6 @@ AreCoded-native (m ∷ methods) all =
     (λ concrete none. absurd (false≢true (sym (ap is_some none) ∙ parts.0)), AreCoded-native methods parts.1)
 
 -- ---- methods of files
-
-abbrev first_coded : List MemberAttr → Option Code
-first_coded [] = None
-first_coded (attribute.Coded name code ∷ attributes) = Some code
-first_coded (a ∷ attributes) = first_coded attributes
 
 some_code : (attributes : List MemberAttr) → 0 < count_by is_coded attributes → (code : Code) × (first_coded attributes ≡ Some code)
 some_code [] some = absurd (omega (arith, some))

@@ -44,7 +44,8 @@ use Rattle.fm_world.specs.declared.declarations.DeclaredClass.{DeclaredClass}
 
 -- ---- the entry of an instruction
 
-abbrev first_coded : List MemberAttr → Option Code
+-- the first code of attributes
+abbrev pub first_coded : List MemberAttr → Option Code
 first_coded [] = None
 first_coded (attribute.Coded name code ∷ attributes) = Some code
 first_coded (a ∷ attributes) = first_coded attributes

@@ -17,7 +17,7 @@ use Rattle.fm_code.specs.declared.constant_pool.Entry.{Entry}
 use Rattle.fm_lookup.proofs.BuiltInParents.{count_is, IsBelow}
 use Rattle.fm_lookup.proofs.Downwards.{among_head, among_right, either}
 use Rattle.fm_lookup.proofs.ParentRefusals.{tree_object}
-use Rattle.fm_refuse.proofs.LeftOver.{left_over_parts}
+use Rattle.fm_refuse.proofs.LeftOver.{abstract_or_none, left_over_parts}
 use Rattle.fm_refuse.specs.inner.Abstracts.{left_over_by, left_over_of}
 use Rattle.fm_resolved.proofs.ClassChains.{built_in_above, refused_not}
 use Rattle.fm_resolved.proofs.FieldOwners.{found_among}
@@ -185,10 +185,6 @@ left_none classes c class above target concrete plain left among own =
     let here = none_at (left_over_of classes c class) (chain_of classes class) above all among in
     refused_not (is_left_over classes class target) (refused NotImplemented c (method_text (declared_name classes target)))
     (none_at (left_over_by classes c class) (abstract_methods classes above) target here own)
-
-abbrev abstract_or_none : List DeclaredClass → Option ℕ → Bool
-abstract_or_none classes None = true
-abstract_or_none classes (Some found) = is_abstract_method classes found
 
 -- a method that is found for objects of a class is selected for itself
 found_itself : (classes : List DeclaredClass) (name descriptor : List ℕ) (class above target : ℕ)
