@@ -1,5 +1,5 @@
 -- What calls name is as they want it: nothing is refused of the methods that instructions name (JVMS 5.4.3.3, 6.5).
-use Rattle.std.proofs.Common.{◌≡◌, refl, sym, ◌∙◌, ap, ℕ, zero, suc, ◌<◌, ◌==◌, Bool, true, false, cond, List, [], ◌∷◌, length, Contains, Option, Some, None, option_and_then, if◌then◌else◌, slice_get, get_or, arith}
+use Rattle.std.proofs.Common.{◌≡◌, refl, sym, ◌∙◌, ap, ℕ, zero, suc, ◌+◌, ◌<◌, ◌==◌, Bool, true, false, cond, List, [], ◌∷◌, length, Contains, Option, Some, None, option_and_then, if◌then◌else◌, slice_get, get_or, arith}
 use Rattle.std.specs.List.{cons_option, filter_map, list_any}
 use Rattle.std.proofs.lemmas.Bool.{false≢true}
 use Rattle.fm_base.specs.declared.ids.MethodId.{MethodId}
@@ -21,7 +21,9 @@ use Rattle.fm_refuse.proofs.WantedMembers.{is_wrong_method, method_refusals}
 use Rattle.fm_resolved.proofs.ClassChains.{fails, refused_not}
 use Rattle.fm_resolved.proofs.CodedMethods.{code_there, item_there, use_at, uses_of_file}
 use Rattle.fm_resolved.proofs.GivenFiles.{none_of, none_used}
+use Rattle.fm_types.specs.Named.{class_of_method}
 use Rattle.fm_types.specs.Typed.{use_in}
+use Rattle.fm_world.specs.BuiltIns.{built_in}
 use Rattle.fm_world.specs.Causes.{differs, is_not_as_wanted, method_flags, missing_method_at, missing_methods, method_text, MissingMethod, names_wrong_sort, refused, refused_where, static_method_wanted, wanted_at}
 use Rattle.fm_world.specs.Linking.{refused_methods}
 use Rattle.fm_world.specs.Lookups.{resolved_field, resolved_method}
@@ -146,11 +148,12 @@ method_by o entries index m t e is = no_method_used m t resolved.Unused refl is
 
 -- ---- what a call names
 
--- the file of a call, the index that it names, and what stands there
-pub record IsCall (given : List ClassDef) (o : Outline) (code : Code) (index method type : ℕ) (wanted : Bool) : Type 0 where
+-- the file of a call, in a method of the class that calls, the index that it names, and what stands there
+pub record IsCall (given : List ClassDef) (o : Outline) (code : Code) (caller index method type : ℕ) (wanted : Bool) : Type 0 where
   pub place : ℕ
   pub file : ClassDef
   pub file_is : slice_get given place ≡ Some file
+  pub class_is : caller ≡ length built_in + place
   pub member : Member
   pub among : Contains file.methods member
   pub code_is : code_of member ≡ Some code
@@ -176,7 +179,7 @@ pub call_there : (given : List ClassDef) (main : List ℕ) → refused_methods g
     → operand_of i ≡ Some index
     → use_in (program_of given main) method index ≡ resolved.OfMethod m t
     → static_method_wanted i ≡ Some wanted
-    → IsCall given (outline_of given main) code index m.0 t.0 wanted
+    → IsCall given (outline_of given main) code (class_of_method (outline_of given main) method) index m.0 t.0 wanted
 unfolding program_of outline_of refused_methods
 call_there given main none method place code i index m t wanted code_is insn_is operand use_is flag =
     let o = outline_of given main in
@@ -199,6 +202,7 @@ call_there given main none method place code i index m t wanted code_is insn_is 
       place = there.place;
       file = c;
       file_is = there.file_is;
+      class_is = there.class_is;
       member = there.member;
       among = there.among;
       code_is = there.code_is;

@@ -4,18 +4,19 @@ use Rattle.std.specs.List.{AllByRecursion, flat_map}
 use Rattle.std.proofs.lemmas.Bool.{cases_lt, eqb-true, false≢true}
 use Rattle.std.proofs.lemmas.List.{get_or-replicate, get_or_append_left}
 use Rattle.std.proofs.lemmas.List.FromFn.{get_or-map-range_with_len}
+use Rattle.std.proofs.lemmas.Option.{none-some, same_Some}
 use Rattle.fm_code.specs.ConstantPool.{AreSlots, class_name_at, entry_at}
 use Rattle.fm_code.specs.Spells.{HasSpelling}
 use Rattle.fm_code.specs.declared.class_file.ClassDef.{ClassDef}
 use Rattle.fm_code.specs.declared.constant_pool.Entry.{Entry}
 use Rattle.fm_code.specs.declared.constant_pool.Entry.TheVariants as entry
-use Rattle.fm_lookup.proofs.BuiltInParents.{count_is, number_first}
+use Rattle.fm_lookup.proofs.BuiltInParents.{count_is, number_first, object_parent_is}
 use Rattle.fm_lookup.proofs.Downwards.{among_head, or_true, same_number}
 use Rattle.fm_lookup.proofs.ParentRefusals.{tree_object}
 use Rattle.fm_code.specs.Names.{object}
 use Rattle.fm_resolved.proofs.GivenFiles.{class_of_file, first_true, length-declared, past_none, name_within, nil_left, none_of, none_used, spelled_at}
 use Rattle.fm_types.specs.Fits.{AreTree, object_of}
-use Rattle.fm_world.proofs.Displays.{parent_of-within}
+use Rattle.fm_world.proofs.Displays.{class_number-within, parent_of-within}
 use Rattle.fm_world.specs.BuiltIns.{built_in}
 use Rattle.fm_world.specs.Causes.{bad_parent_at, bad_parents, bad_superclass, is_array_name, is_bad_superclass, missing_at, missing_classes, MissingClass, Refusal, missing, refused, refused_if, refused_where}
 use Rattle.fm_world.specs.Chains.{chain_of, class_at, is_among, parent_of}
@@ -45,7 +46,8 @@ second_true : (a b : Bool) → a ≡ false → (a || b) ≡ true → b ≡ true
 second_true false b e h = h
 second_true true b e h = absurd (false≢true (sym e))
 
-built_in_parent : (more : List DeclaredClass) (k : ℕ) → k < length built_in → nat_eq k 0 ≡ false → HasParent (built_in ++ more) k
+built_in_parent : (more : List DeclaredClass) (k : ℕ) → k < length built_in → nat_eq k 0 ≡ false
+    → (p : HasParent (built_in ++ more) k) × (p.parent < length built_in)
 built_in_parent more k within other = by_superclass (class_at built_in k).superclass refl where
   inside : k < 28
   inside = let count = count_is in omega (arith, within, count)
@@ -55,19 +57,35 @@ built_in_parent more k within other = by_superclass (class_at built_in k).superc
       second_true (nat_eq k 0) (is_some (parent_of built_in k)) other
       (sym (get_or-map-range_with_len some_parent 0 28 k k true inside (zero-add k)) ∙ ap (λ row. get_or row k true) parents_table ∙ get_or-replicate 28 k true true inside)
 
-  by_number : (name : List ℕ) → (class_at built_in k).superclass ≡ Some name → (p : Option ℕ) → class_number built_in name ≡ p → HasParent (built_in ++ more) k
+  by_number : (name : List ℕ) → (class_at built_in k).superclass ≡ Some name → (p : Option ℕ) → class_number built_in name ≡ p
+      → (q : HasParent (built_in ++ more) k) × (q.parent < length built_in)
   by_number name e None n =
       absurd (false≢true (sym (ap is_some (ap (option_and_then (class_number built_in)) e ∙ n)) ∙ found))
-  by_number name e (Some p) n = record {
-    parent = p;
-    parent_is =
-        ap (λ (c : DeclaredClass). option_and_then (class_number (built_in ++ more)) c.superclass) (get_or_append_left built_in more no_class k within)
-        ∙ ap (option_and_then (class_number (built_in ++ more))) e ∙ number_first built_in more name p n;
-  }
+  by_number name e (Some p) n = (
+    record {
+      parent = p;
+      parent_is =
+          ap (λ (c : DeclaredClass). option_and_then (class_number (built_in ++ more)) c.superclass) (get_or_append_left built_in more no_class k within)
+          ∙ ap (option_and_then (class_number (built_in ++ more))) e ∙ number_first built_in more name p n;
+    },
+    class_number-within built_in name p n,
+  )
 
-  by_superclass : (o : Option (List ℕ)) → (class_at built_in k).superclass ≡ o → HasParent (built_in ++ more) k
+  by_superclass : (o : Option (List ℕ)) → (class_at built_in k).superclass ≡ o
+      → (q : HasParent (built_in ++ more) k) × (q.parent < length built_in)
   by_superclass None e = absurd (false≢true (sym (ap (λ o. is_some (option_and_then (class_number built_in) o)) e) ∙ found))
   by_superclass (Some name) e = by_number name e (class_number built_in name) refl
+
+-- the superclass of a built-in class is built in
+pub built_in_above : (more : List DeclaredClass) (class parent : ℕ) → class < length built_in → parent_of (built_in ++ more) class ≡ Some parent
+    → parent < length built_in
+built_in_above more class parent within is = by_first (nat_eq class 0) refl where
+  by_first : (b : Bool) → nat_eq class 0 ≡ b → parent < length built_in
+  by_first true same =
+      absurd (none-some parent (sym (object_parent_is more) ∙ ap (parent_of (built_in ++ more)) (sym (eqb-true class 0 same)) ∙ is))
+  by_first false other =
+      let above = built_in_parent more class within other in
+      subst (λ p. p < length built_in) (same_Some above.0.parent parent (sym above.0.parent_is ∙ is)) above.1
 
 -- ---- classes of files
 
@@ -177,7 +195,7 @@ each_parent given spelled no_bad no_missing class within other = by_place (cases
       let P : ℕ → Type 0 = HasParent (built_in ++ declared_from 0 given) in subst P (sym is) (file_parent given j c e spelled no_bad no_missing)
 
   by_place : (class < length built_in) ⊎ (length built_in ≤ class) → HasParent (built_in ++ declared_from 0 given) class
-  by_place (inl own) = built_in_parent (declared_from 0 given) class own other
+  by_place (inl own) = (built_in_parent (declared_from 0 given) class own other).0
   by_place (inr later) = file (class - length built_in) (omega (arith, later)) (slice_get given (class - length built_in)) refl
 
 -- along a chain of at most so many classes

@@ -41,7 +41,7 @@ use Rattle.fm_world.specs.inner.Tables.{numbers_below}
 
 -- ---- lists
 
-found_among : (find : ℕ → Option ℕ) (path : List ℕ) (n : ℕ) → first_found find path ≡ Some n
+pub found_among : (find : ℕ → Option ℕ) (path : List ℕ) (n : ℕ) → first_found find path ≡ Some n
     → (above : ℕ) × ((is_among above path ≡ true) × (find above ≡ Some n))
 found_among find [] n is = absurd (none-some n is)
 found_among find (x ∷ path) n is = by_first (find x) refl is (found_among find path n) where

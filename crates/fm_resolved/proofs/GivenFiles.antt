@@ -36,7 +36,7 @@ none_of f [] j x none at = absurd (none-some x at)
 none_of f (y ∷ ys) zero x none at = sym (ap f (same_Some y x at)) ∙ nil_left (f y) (flat_map f ys) none
 none_of f (y ∷ ys) (suc j) x none at = none_of f ys j x (nil_right (f y) (flat_map f ys) none) at
 
-none_at : (f : ℕ → List Refusal) (xs : List ℕ) (i : ℕ) → flat_map f xs ≡ [] → is_among i xs ≡ true → f i ≡ []
+pub none_at : (f : ℕ → List Refusal) (xs : List ℕ) (i : ℕ) → flat_map f xs ≡ [] → is_among i xs ≡ true → f i ≡ []
 none_at f [] i none among = absurd (false≢true among)
 none_at f (y ∷ ys) i none among =
     by_case (none_at f ys i (nil_right (f y) (flat_map f ys) none)) (either (nat_eq i y) (is_among i ys) among) where
@@ -148,3 +148,12 @@ no_method_refused given main none =
     nil_right to_fields (refused_methods given)
     (nil_left to_methods (refused_not_implemented given)
     (nil_left (to_methods ++ refused_not_implemented given) (refused_main given main) none))
+
+pub none_implemented : (given : List ClassDef) (main : List ℕ) → refusals given main ≡ [] → refused_not_implemented given ≡ []
+unfolding refusals
+none_implemented given main none =
+    let to_fields =
+    refused_duplicates given ++ refused_built_ins given ++ refused_missing_classes given ++ refused_parents given ++ refused_fields given in
+    let to_methods = to_fields ++ refused_methods given in
+    nil_right to_methods (refused_not_implemented given)
+    (nil_left (to_methods ++ refused_not_implemented given) (refused_main given main) none)

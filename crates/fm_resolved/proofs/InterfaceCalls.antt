@@ -44,7 +44,8 @@ use Rattle.fm_world.specs.declared.declarations.DeclaredClass.{DeclaredClass}
 
 -- ---- the entry of an instruction
 
-abbrev first_coded : List MemberAttr → Option Code
+-- the first code of attributes
+abbrev pub first_coded : List MemberAttr → Option Code
 first_coded [] = None
 first_coded (attribute.Coded name code ∷ attributes) = Some code
 first_coded (a ∷ attributes) = first_coded attributes
@@ -130,7 +131,7 @@ by_dims dims dimensions None named many is = absurd (none-some named is)
 by_dims dims dimensions (Some b) named many is = dims_kept dimensions b named is ∙ many
 
 -- the class of a type that a name names is that of the name
-class_of_name : (classes : List DeclaredClass) (name : List ℕ) (named : TypeRef) (class : ℕ) → IsClassName name → type_in classes (class_type name) ≡ Some named
+pub class_of_name : (classes : List DeclaredClass) (name : List ℕ) (named : TypeRef) (class : ℕ) → IsClassName name → type_in classes (class_type name) ≡ Some named
     → class_of_type named ≡ Some class
     → class_number classes name ≡ Some class
 class_of_name classes name named class (inl binary) typed_is is =
@@ -177,11 +178,11 @@ type_named o entries index type t number at = by_name (named_class entries index
   by_name (Some name) e is = by_type name e (type_in o.classes (class_type name)) refl is
 
 -- what invokevirtual names is no interface
-pub no_interface_named : (given : List ClassDef) → AllByRecursion HasSpelling given → (o : Outline) (code : Code) (index method type place : ℕ) (wanted : Bool)
-    → IsCall given o code index method type wanted
+pub no_interface_named : (given : List ClassDef) → AllByRecursion HasSpelling given → (o : Outline) (code : Code) (caller index method type place : ℕ) (wanted : Bool)
+    → IsCall given o code caller index method type wanted
     → insn_of code place ≡ Some (insn.Virtual index)
     → (t : TypeRef) (class : ℕ) → slice_get o.types type ≡ Some t → class_of_type t ≡ Some class → is_interface_at o.classes class ≡ false
-no_interface_named given spelled o code index method type place wanted call insn_is t class at class_is =
+no_interface_named given spelled o code caller index method type place wanted call insn_is t class at class_is =
     let c = call.file in
     let entries = c.pool.entries in
     let own = spelled_at given call.place c spelled call.file_is in

@@ -13,3 +13,6 @@ pub mod FieldOwners
 pub mod NamedFields
 pub mod Steps
 pub mod Constructors
+pub mod SpecialCalls
+pub mod SelectedMethods
+pub mod ConcreteCodes

@@ -13,6 +13,7 @@ use Rattle.fm_code.specs.declared.instructions.Insn.TheVariants as insn
 use Rattle.fm_resolved.proofs.Calls.{call_there}
 use Rattle.fm_resolved.proofs.InterfaceCalls.{no_interface_named}
 use Rattle.fm_sound.specs.Resolved.{IsNamed}
+use Rattle.fm_types.specs.Named.{class_of_method}
 use Rattle.fm_world.specs.Causes.{static_method_wanted}
 use Rattle.fm_world.specs.Linking.{refused_methods}
 use Rattle.fm_world.specs.Lookups.{is_interface_at}
@@ -44,4 +45,4 @@ pub virtual_of_class : (given : List ClassDef) (main : List ℕ) → AllByRecurs
     → is_interface_at (outline_of given main).classes class ≡ false
 virtual_of_class given main spelled none method index m t named class x at is =
     let call = call_there given main none method x.item x.code (insn.Virtual index) index m t false x.code_is x.insn_is refl x.use_is refl in
-    no_interface_named given spelled (outline_of given main) x.code index m.0 t.0 x.item false call x.insn_is named class at is
+    no_interface_named given spelled (outline_of given main) x.code (class_of_method (outline_of given main) method) index m.0 t.0 x.item false call x.insn_is named class at is

@@ -1,4 +1,4 @@
--- What linking and the rules of class files make sure of for each step: static methods have code, fields are static as instructions want, targets are items,
+-- What linking and the rules of class files make sure of for each step: static and private methods aren't abstract, fields are static as instructions want, targets are items,
 -- and constants are those of static fields.
 use Rattle.std.proofs.Common.{◌≡◌, refl, sym, ◌∙◌, subst, ℕ, ◌+◌, ◌<◌, ◌||◌, ◌&&◌, not, Bool, true, false, cond, List, [], ◌∷◌, length, map, Option, Some, None, slice_get}
 use Rattle.std.specs.List.{AllByRecursion, slice_index_or}
@@ -20,6 +20,7 @@ use Rattle.fm_code.specs.declared.code_array.Item.{Item}
 use Rattle.fm_code.specs.declared.constant_pool.Entry.{Entry}
 use Rattle.fm_code.specs.declared.instructions.Insn.{Insn}
 use Rattle.fm_code.specs.declared.instructions.Insn.TheVariants as insn
+use Rattle.fm_resolved.proofs.ClassChains.{fails}
 use Rattle.fm_resolved.proofs.CodedMethods.{code_there, contains_at}
 use Rattle.fm_resolved.proofs.Constants.{all_fields}
 use Rattle.fm_resolved.proofs.Fields.{access_there}
@@ -86,62 +87,86 @@ pub fields_named : (given : List ClassDef) (main : List ℕ) → refused_fields 
 fields_named given main none method i (resolved.OfField f t) x = by_insn given main none method i f t x
 fields_named given main none method i u x = tt
 
--- ---- static methods
+-- ---- static and private methods
 
-abbrev IsConcrete : OwnedMethod → Type 0
-IsConcrete m = is_static m.method.flags ≡ true → is_abstract m.method.flags ≡ false
+-- a method that passes the test isn't abstract
+abbrev IsConcrete : (ℕ → Bool) → OwnedMethod → Type 0
+IsConcrete test m = test m.method.flags ≡ true → is_abstract m.method.flags ≡ false
 
-concrete_member : (in_interface : Bool) (entries : List Entry) (m : Member) → MethodIsValid in_interface entries m → is_static m.flags ≡ true
+-- the flags that no abstract method has
+abbrev IsAlone : (ℕ → Bool) → Type 0
+IsAlone test = (flags : ℕ) → (is_static flags || is_private flags || is_native flags) ≡ false → test flags ≡ false
+
+concrete_member : (test : ℕ → Bool) → IsAlone test → (in_interface : Bool) (entries : List Entry) (m : Member) → MethodIsValid in_interface entries m
+    → test m.flags ≡ true
     → is_abstract m.flags ≡ false
-concrete_member in_interface entries m valid static = by_flag (is_abstract m.flags) refl where
-  first_fails : (a b c : Bool) → (a || b || c) ≡ false → a ≡ false
-  first_fails false b c e = refl
-  first_fails true b c e = e
-
+concrete_member test alone in_interface entries m valid passes = by_flag (is_abstract m.flags) refl where
   by_flag : (b : Bool) → is_abstract m.flags ≡ b → b ≡ false
   by_flag false e = refl
-  by_flag true e =
-      absurd (false≢true (sym (first_fails (is_static m.flags) (is_private m.flags) (is_native m.flags) (valid.abstract_alone e)) ∙ static))
+  by_flag true e = absurd (false≢true (sym (alone m.flags (valid.abstract_alone e)) ∙ passes))
 
-concrete_members : (class : ℕ) (in_interface : Bool) (entries : List Entry) (members : List Member) → AllByRecursion (MethodIsValid in_interface entries) members
-    → AllByRecursion IsConcrete (map (λ m. record { class = class; method = m }) (map (declared_method entries) members))
-concrete_members class in_interface entries [] valid = tt
-concrete_members class in_interface entries (m ∷ members) valid =
-    (concrete_member in_interface entries m valid.0, concrete_members class in_interface entries members valid.1)
+concrete_members : (test : ℕ → Bool) → IsAlone test → (class : ℕ) (in_interface : Bool) (entries : List Entry) (members : List Member)
+    → AllByRecursion (MethodIsValid in_interface entries) members
+    → AllByRecursion (IsConcrete test) (map (λ m. record { class = class; method = m }) (map (declared_method entries) members))
+concrete_members test alone class in_interface entries [] valid = tt
+concrete_members test alone class in_interface entries (m ∷ members) valid =
+    (concrete_member test alone in_interface entries m valid.0, concrete_members test alone class in_interface entries members valid.1)
 
-concrete_from : (class file : ℕ) (given : List ClassDef) → AllByRecursion HasSpelling given → AllByRecursion IsConcrete (methods_from class (declared_from file given))
-concrete_from class file [] spelled = tt
-concrete_from class file (c ∷ given) spelled =
-    AllByRecursion-append IsConcrete (map (λ m. record { class = class; method = m }) (map (declared_method c.pool.entries) c.methods))
+concrete_from : (test : ℕ → Bool) → IsAlone test → (class file : ℕ) (given : List ClassDef) → AllByRecursion HasSpelling given
+    → AllByRecursion (IsConcrete test) (methods_from class (declared_from file given))
+concrete_from test alone class file [] spelled = tt
+concrete_from test alone class file (c ∷ given) spelled =
+    AllByRecursion-append (IsConcrete test) (map (λ m. record { class = class; method = m }) (map (declared_method c.pool.entries) c.methods))
     (methods_from (class + 1) (declared_from (file + 1) given))
-    (concrete_members class (is_interface c.flags) c.pool.entries c.methods spelled.0.1.methods) (concrete_from (class + 1) (file + 1) given spelled.1)
+    (concrete_members test alone class (is_interface c.flags) c.pool.entries c.methods spelled.0.1.methods)
+    (concrete_from test alone (class + 1) (file + 1) given spelled.1)
 
-abbrev none_abstract : List OwnedMethod → Bool
+abbrev pub none_abstract : List OwnedMethod → Bool
 none_abstract [] = true
 none_abstract (m ∷ methods) = not (is_abstract m.method.flags) && none_abstract methods
 
-table_concrete : none_abstract (methods_of built_in) ≡ true
+-- no built-in method is abstract
+pub table_concrete : none_abstract (methods_of built_in) ≡ true
 unfolding built_in methods_of
 table_concrete = refl
 
-not_true : (b : Bool) → not b ≡ true → b ≡ false
+pub not_true : (b : Bool) → not b ≡ true → b ≡ false
 not_true false e = refl
 not_true true e = absurd (false≢true e)
 
-each_concrete : (methods : List OwnedMethod) → none_abstract methods ≡ true → AllByRecursion IsConcrete methods
-each_concrete [] all = tt
-each_concrete (m ∷ methods) all =
+each_concrete : (test : ℕ → Bool) (methods : List OwnedMethod) → none_abstract methods ≡ true → AllByRecursion (IsConcrete test) methods
+each_concrete test [] all = tt
+each_concrete test (m ∷ methods) all =
     let parts = and_parts (not (is_abstract m.method.flags)) (none_abstract methods) all in
-    (λ static. not_true (is_abstract m.method.flags) parts.0, each_concrete methods parts.1)
+    (λ passes. not_true (is_abstract m.method.flags) parts.0, each_concrete test methods parts.1)
 
+tested_there : (test : ℕ → Bool) → IsAlone test → (given : List ClassDef) → AllByRecursion HasSpelling given → (method : ℕ)
+    → test (method_at (classes_of given) method).method.flags ≡ true
+    → is_abstract_method (classes_of given) method ≡ false
+tested_there test alone given spelled method =
+    AllByRecursion-get_or (IsConcrete test) (methods_of (classes_of given)) (record { class = 0; method = no_method })
+    (subst (AllByRecursion (IsConcrete test)) (sym (all_methods given))
+    (AllByRecursion-append (IsConcrete test) (methods_of built_in) (methods_from (length built_in) (declared_from 0 given))
+    (each_concrete test (methods_of built_in) table_concrete) (concrete_from test alone (length built_in) 0 given spelled)))
+    (λ passes. refl) method
+
+static_alone : IsAlone is_static
+static_alone flags none =
+    (fails (is_static flags) (is_private flags) (fails (is_static flags || is_private flags) (is_native flags) none).0).0
+
+private_alone : IsAlone is_private
+private_alone flags none =
+    (fails (is_static flags) (is_private flags) (fails (is_static flags || is_private flags) (is_native flags) none).0).1
+
+-- a static method isn't abstract
 pub concrete_there : (given : List ClassDef) → AllByRecursion HasSpelling given → (method : ℕ) → is_static (method_at (classes_of given) method).method.flags ≡ true
     → is_abstract_method (classes_of given) method ≡ false
-concrete_there given spelled method =
-    AllByRecursion-get_or IsConcrete (methods_of (classes_of given)) (record { class = 0; method = no_method })
-    (subst (AllByRecursion IsConcrete) (sym (all_methods given))
-    (AllByRecursion-append IsConcrete (methods_of built_in) (methods_from (length built_in) (declared_from 0 given))
-    (each_concrete (methods_of built_in) table_concrete) (concrete_from (length built_in) 0 given spelled)))
-    (λ static. refl) method
+concrete_there = tested_there is_static static_alone
+
+-- and neither is a private one
+pub private_there : (given : List ClassDef) → AllByRecursion HasSpelling given → (method : ℕ) → is_private (method_at (classes_of given) method).method.flags ≡ true
+    → is_abstract_method (classes_of given) method ≡ false
+private_there = tested_there is_private private_alone
 
 -- ---- constants
 

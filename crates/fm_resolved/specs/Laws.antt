@@ -1,5 +1,5 @@
 -- What linking makes sure of, of the program of class files against which no cause stands.
-use Rattle.std.specs.Prelude.{◌≡◌, ℕ, ◌^◌, ◌<◌, ◌≤◌, Bool, true, false, List, [], ◌++◌, length, None, Some, slice_get}
+use Rattle.std.specs.Prelude.{◌≡◌, ℕ, ◌^◌, ◌<◌, ◌≤◌, Bool, true, false, List, [], ◌++◌, length, None, Some, slice_get, unwrap_or}
 use Rattle.std.specs.List.{AllByRecursion}
 use Rattle.fm_base.specs.declared.ids.FieldId.{FieldId}
 use Rattle.fm_base.specs.declared.ids.MethodId.{MethodId}
@@ -7,6 +7,7 @@ use Rattle.fm_base.specs.declared.ids.TypeId.{TypeId}
 use Rattle.fm_base.specs.declared.kinds.TypeRef.{TypeRef}
 use Rattle.fm_code.specs.AccessFlags.{is_static}
 use Rattle.fm_code.specs.Edges.{insn_of}
+use Rattle.fm_code.specs.Profile.{IsSupported}
 use Rattle.fm_code.specs.Spells.{HasSpelling}
 use Rattle.fm_code.specs.SpellsCode.{targets_of}
 use Rattle.fm_code.specs.declared.class_file.ClassDef.{ClassDef}
@@ -21,15 +22,15 @@ use Rattle.fm_same.specs.Resolved.{IsResolved}
 use Rattle.fm_sound.specs.Going.{ConstructorsGiveNothing}
 use Rattle.fm_sound.specs.Leading.{NamesField}
 use Rattle.fm_sound.specs.Making.{ConstantsAreStatic}
-use Rattle.fm_sound.specs.Resolved as steps
-use Rattle.fm_sound.specs.Resolved.{IsNamed}
+use Rattle.fm_sound.specs.Resolved.{IsNamed, StepsAreResolved}
+use Rattle.fm_sound.specs.Sound.{HasObjects}
 use Rattle.fm_types.specs.Fits.{AreTree, fits_type, object_of}
-use Rattle.fm_types.specs.Named.{throwable_type}
+use Rattle.fm_types.specs.Named.{class_of_method, throwable_type}
 use Rattle.fm_world.specs.BuiltIns.{built_in}
 use Rattle.fm_world.specs.Causes.{static_field_wanted, static_method_wanted}
 use Rattle.fm_world.specs.Chains.{chain_of, is_among}
 use Rattle.fm_world.specs.Linking.{refusals}
-use Rattle.fm_world.specs.Lookups.{is_abstract_method, is_interface_at}
+use Rattle.fm_world.specs.Lookups.{is_abstract_method, is_interface_at, select, special_target}
 use Rattle.fm_world.specs.Members.{field_at, method_at, methods_of, size_of, slot_of}
 use Rattle.fm_world.specs.Numbers.{type_number, type_of_class}
 use Rattle.fm_world.specs.Programs.{class_of_type, code_at, IsTypeIn, kind_at, outline_of, Program, program_of, use_of}
@@ -95,8 +96,16 @@ pub record StepsAreLinked (p : Program) : Type 0 where
   pub concrete : (method : ℕ) → is_static (method_at p.outline.classes method).method.flags ≡ true → is_abstract_method p.outline.classes method ≡ false
   -- a constructor has no result (JVMS 2.9)
   pub constructors : ConstructorsGiveNothing p.outline
+  -- no abstract method is selected for an object, be it an array (JVMS 5.4.5)
+  pub selected : (t : TypeRef) (method target : ℕ) → HasObjects p.outline t
+      → select p.outline.classes (unwrap_or (class_of_type t) (object_of p.outline.classes)) method ≡ Some target
+      → is_abstract_method p.outline.classes target ≡ false
+  -- and none is called by invokespecial (JVMS 6.5.invokespecial)
+  pub special : (method index : ℕ) (m : MethodId) (t : TypeId) (named : TypeRef) → IsNamed p method (insn.Special index) (resolved.OfMethod m t)
+      → slice_get p.outline.types t.0 ≡ Some named
+      → is_abstract_method p.outline.classes (special_target p.outline.classes (class_of_method p.outline method) (class_of_type named) m.0) ≡ false
   -- getstatic and putstatic name a static field, getfield and putfield another one (JVMS 6.5.getstatic)
-  pub fields : (method : ℕ) (i : Insn) (u : Use) → steps.IsNamed p method i u → NamesField p.outline u i
+  pub fields : (method : ℕ) (i : Insn) (u : Use) → IsNamed p method i u → NamesField p.outline u i
   -- the targets of an instruction are items (JVMS 4.9.1)
   pub targets : (method : ℕ) (code : Code) (item : ℕ) (i : Insn) → code_at p method ≡ Some code → insn_of code item ≡ Some i
       → AllByRecursion (λ target. target < length code.items) (targets_of i)
@@ -107,3 +116,11 @@ pub record StepsAreLinked (p : Program) : Type 0 where
 abbrev pub StepsOfProgramsAreLinked : Type 0
 StepsOfProgramsAreLinked =
     (given : List ClassDef) (main : List ℕ) → AllByRecursion HasSpelling given → refusals given main ≡ [] → StepsAreLinked (program_of given main)
+
+-- Where the files are accepted, and the numbers of types and the sizes of objects fit the header of an object, it is all that each step asks of calls,
+-- fields and targets.
+abbrev pub StepsOfProgramsAreResolved : Type 0
+StepsOfProgramsAreResolved =
+    (given : List ClassDef) (main : List ℕ) → AllByRecursion HasSpelling given → AllByRecursion IsSupported given → refusals given main ≡ []
+    → length (outline_of given main).types ≤ 2 ^ 28 → ((class : ℕ) → size_of (outline_of given main).classes class < 2 ^ 31)
+    → StepsAreResolved (program_of given main)

@@ -5,6 +5,7 @@ ghost use Rattle.fm_resolved.specs.Laws.{
   ProgramsAreLinkedWell,
   ProgramsAreResolved,
   StepsOfProgramsAreLinked,
+  StepsOfProgramsAreResolved,
 };
 
 use fm_world::law_class_types;
@@ -29,3 +30,13 @@ pub fn law_resolved()
 pub fn law_steps()
     ensures { StepsOfProgramsAreLinked }
 {}
+
+/// Where nothing is refused of supported files, and the numbers of types and the sizes of objects fit
+/// the header of an object, the program of spelled class files is all that each step of the machine
+/// asks of calls, fields and targets.
+pub fn law_sound_steps()
+    ensures { StepsOfProgramsAreResolved }
+{
+    law_resolved();
+    law_steps();
+}

@@ -3,7 +3,9 @@ use Rattle.std.specs.List.{AllByRecursion}
 use Rattle.fm_code.specs.Spells.{HasSpelling}
 use Rattle.fm_code.specs.declared.class_file.ClassDef.{ClassDef}
 use Rattle.fm_resolved.proofs.Constructors.{constructor_gives}
-use Rattle.fm_resolved.proofs.GivenFiles.{no_field_refused}
+use Rattle.fm_resolved.proofs.GivenFiles.{no_field_refused, no_method_refused, none_implemented}
+use Rattle.fm_resolved.proofs.SelectedMethods.{selected_there}
+use Rattle.fm_resolved.proofs.SpecialCalls.{special_there}
 use Rattle.fm_resolved.proofs.Steps.{concrete_there, fields_named, static_constants, targets_there}
 use Rattle.fm_resolved.proofs.law_steps.Goals as goal
 use Rattle.fm_resolved.specs.Laws.{StepsAreLinked}
@@ -15,6 +17,8 @@ unfolding program_of outline_of
 steps_linked given main spelled none = record {
   concrete = concrete_there given spelled;
   constructors = constructor_gives given spelled;
+  selected = selected_there given main spelled (none_implemented given main none);
+  special = special_there given main spelled (no_method_refused given main none) (none_implemented given main none);
   fields = fields_named given main (no_field_refused given main none);
   targets = targets_there given spelled;
   constants = static_constants given;
