@@ -13,3 +13,5 @@ pub mod FieldOwners
 pub mod NamedFields
 pub mod Steps
 pub mod Constructors
+pub mod MadeTypes
+pub mod Making

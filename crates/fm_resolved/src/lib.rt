@@ -6,6 +6,7 @@ ghost use Rattle.fm_resolved.specs.Laws.{
   ProgramsAreResolved,
   StepsOfProgramsAreLinked,
 };
+ghost use Rattle.fm_resolved.specs.Makes.{MakesOfProgramsAreLinked};
 
 use fm_world::law_class_types;
 
@@ -28,4 +29,11 @@ pub fn law_resolved()
 /// methods, constructors, fields, targets and constants.
 pub fn law_steps()
     ensures { StepsOfProgramsAreLinked }
+{}
+
+/// Where nothing is refused, the arrays that instructions of the program of spelled class files make
+/// have numbers, the fields that they put are those of the objects, and element types that are arrays
+/// again have numbers.
+pub fn law_makes()
+    ensures { MakesOfProgramsAreLinked }
 {}
