@@ -15,3 +15,4 @@ pub mod Steps
 pub mod Constructors
 pub mod MadeTypes
 pub mod Making
+pub mod TextUnits
