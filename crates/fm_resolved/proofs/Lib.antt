@@ -16,3 +16,4 @@ pub mod Constructors
 pub mod MadeTypes
 pub mod Making
 pub mod TextUnits
+pub mod TypeNames

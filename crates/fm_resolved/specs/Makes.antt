@@ -7,7 +7,7 @@ use Rattle.fm_code.specs.declared.class_file.ClassDef.{ClassDef}
 use Rattle.fm_code.specs.declared.instructions.Insn.{Insn}
 use Rattle.fm_frames.specs.Acts.{literal_text}
 use Rattle.fm_frames.specs.ArrayRows.{element_type}
-use Rattle.fm_sound.specs.Making.{AreUnits, IsNumbered, NamesMade}
+use Rattle.fm_sound.specs.Making.{AreUnits, IsNumbered, NamesAreUnits, NamesMade}
 use Rattle.fm_sound.specs.Resolved.{IsNamed}
 use Rattle.fm_world.specs.Linking.{refusals}
 use Rattle.fm_world.specs.Programs.{Program, program_of}
@@ -17,6 +17,8 @@ use Rattle.fm_world.specs.declared.uses.Use.{Use}
 pub record MakesAreLinked (p : Program) : Type 0 where
   -- the element type of a numbered array is numbered, where it is an array again
   pub elements : (n : ℕ) (t : TypeRef) → slice_get p.outline.types n ≡ Some t → 1 < t.dims → IsNumbered p.outline (element_type t)
+  -- the names of types that have a number are of 16-bit units (JVMS 4.4.7)
+  pub names : NamesAreUnits p.outline
   -- the texts that instructions name are those of class files (JVMS 4.4.7)
   pub texts : (text : ℕ) → (length (literal_text p.outline text) < 2 ^ 31) × AreUnits (literal_text p.outline text)
   -- arrays that instructions make have numbers, and the fields that they put are where the objects have them

@@ -33,7 +33,7 @@ pub fn law_steps()
 
 /// Where nothing is refused, the arrays that instructions of the program of spelled class files make
 /// have numbers, the fields that they put are those of the objects, element types that are arrays
-/// again have numbers, and texts are of 16-bit units.
+/// again have numbers, and texts and the names of types are of 16-bit units.
 pub fn law_makes()
     ensures { MakesOfProgramsAreLinked }
 {}

@@ -7,6 +7,7 @@ use Rattle.fm_resolved.proofs.GivenFiles.{no_field_refused}
 use Rattle.fm_resolved.proofs.MadeTypes.{elements_numbered}
 use Rattle.fm_resolved.proofs.Making.{made_there}
 use Rattle.fm_resolved.proofs.TextUnits.{literals_short}
+use Rattle.fm_resolved.proofs.TypeNames.{names_fit}
 use Rattle.fm_resolved.proofs.law_makes.Goals as goal
 use Rattle.fm_resolved.specs.Makes.{MakesAreLinked}
 use Rattle.fm_world.specs.Linking.{refusals}
@@ -18,6 +19,7 @@ makes_linked given main spelled none =
     let no_bad = no_parent_refused given main none in
     record {
       elements = elements_numbered given main;
+      names = names_fit given main spelled;
       texts = literals_short given main spelled;
       made = made_there given main spelled no_bad (no_field_refused given main none) (tree_of given spelled no_bad);
     }
