@@ -1,5 +1,5 @@
 -- What linking makes sure of where objects are made and fields are put (JVMS 6.5.newarray, 6.5.anewarray, 6.5.multianewarray, 6.5.putfield).
-use Rattle.std.specs.Prelude.{◌≡◌, ℕ, ◌^◌, ◌<◌, List, [], length, Some, slice_get}
+use Rattle.std.specs.Prelude.{◌≡◌, ℕ, ◌^◌, ◌<◌, ◌≤◌, List, [], length, Some, slice_get}
 use Rattle.std.specs.List.{AllByRecursion}
 use Rattle.fm_base.specs.declared.kinds.TypeRef.{TypeRef}
 use Rattle.fm_code.specs.Spells.{HasSpelling}
@@ -7,10 +7,11 @@ use Rattle.fm_code.specs.declared.class_file.ClassDef.{ClassDef}
 use Rattle.fm_code.specs.declared.instructions.Insn.{Insn}
 use Rattle.fm_frames.specs.Acts.{literal_text}
 use Rattle.fm_frames.specs.ArrayRows.{element_type}
-use Rattle.fm_sound.specs.Making.{AreUnits, IsNumbered, NamesAreUnits, NamesMade}
+use Rattle.fm_sound.specs.Making.{AreUnits, IsNumbered, MakesAreResolved, NamesAreUnits, NamesMade}
 use Rattle.fm_sound.specs.Resolved.{IsNamed}
 use Rattle.fm_world.specs.Linking.{refusals}
-use Rattle.fm_world.specs.Programs.{Program, program_of}
+use Rattle.fm_world.specs.Members.{size_of}
+use Rattle.fm_world.specs.Programs.{outline_of, Program, program_of}
 use Rattle.fm_world.specs.declared.uses.Use.{Use}
 
 -- what linking makes sure of where objects are made, for each step of a program
@@ -28,3 +29,11 @@ pub record MakesAreLinked (p : Program) : Type 0 where
 abbrev pub MakesOfProgramsAreLinked : Type 0
 MakesOfProgramsAreLinked =
     (given : List ClassDef) (main : List ℕ) → AllByRecursion HasSpelling given → refusals given main ≡ [] → MakesAreLinked (program_of given main)
+
+-- No cause bounds how many files there are: with the two bounds on the numbers of types and on the sizes of objects, it is all that steps ask where
+-- objects are made.
+abbrev pub MakesOfProgramsAreResolved : Type 0
+MakesOfProgramsAreResolved =
+    (given : List ClassDef) (main : List ℕ) → AllByRecursion HasSpelling given → refusals given main ≡ []
+    → length (outline_of given main).types ≤ 2 ^ 28 → ((class : ℕ) → size_of (outline_of given main).classes class < 2 ^ 31)
+    → MakesAreResolved (program_of given main)

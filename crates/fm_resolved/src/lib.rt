@@ -6,7 +6,10 @@ ghost use Rattle.fm_resolved.specs.Laws.{
   ProgramsAreResolved,
   StepsOfProgramsAreLinked,
 };
-ghost use Rattle.fm_resolved.specs.Makes.{MakesOfProgramsAreLinked};
+ghost use Rattle.fm_resolved.specs.Makes.{
+  MakesOfProgramsAreLinked,
+  MakesOfProgramsAreResolved,
+};
 
 use fm_world::law_class_types;
 
@@ -37,3 +40,13 @@ pub fn law_steps()
 pub fn law_makes()
     ensures { MakesOfProgramsAreLinked }
 {}
+
+/// Where nothing is refused, and the numbers of types and the sizes of objects fit the header of an
+/// object, the program of spelled class files is all that steps ask where objects are made.
+pub fn law_makeable()
+    ensures { MakesOfProgramsAreResolved }
+{
+    law_resolved();
+    law_steps();
+    law_makes();
+}
