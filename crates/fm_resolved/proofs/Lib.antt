@@ -16,3 +16,7 @@ pub mod Constructors
 pub mod SpecialCalls
 pub mod SelectedMethods
 pub mod ConcreteCodes
+pub mod MadeTypes
+pub mod Making
+pub mod TextUnits
+pub mod TypeNames

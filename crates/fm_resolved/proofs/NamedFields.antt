@@ -40,13 +40,13 @@ use Rattle.fm_world.specs.declared.declarations.DeclaredClass.{DeclaredClass}
 use Rattle.fm_world.specs.declared.uses.Use.TheVariants as resolved
 
 -- the class of the objects that fit what an access names
-record IsHolder (given : List ClassDef) (of : TypeRef) (field : ℕ) : Type 0 where
-  class : ℕ
-  within : class < length (classes_of given)
-  type_is : of ≡ type_of_class class
-  below : is_among (field_at (classes_of given) field).class (chain_of (classes_of given) class) ≡ true
+pub record IsHolder (given : List ClassDef) (of : TypeRef) (field : ℕ) : Type 0 where
+  pub class : ℕ
+  pub within : class < length (classes_of given)
+  pub type_is : of ≡ type_of_class class
+  pub below : is_among (field_at (classes_of given) field).class (chain_of (classes_of given) class) ≡ true
 
-holder : (given : List ClassDef) (main : List ℕ) → AllByRecursion HasSpelling given → refused_parents given ≡ [] → AreTree (classes_of given) → (index : ℕ)
+pub holder : (given : List ClassDef) (main : List ℕ) → AllByRecursion HasSpelling given → refused_parents given ≡ [] → AreTree (classes_of given) → (index : ℕ)
     (f : FieldId) (t : TypeId) (named of : TypeRef)
     → IsAccess given (outline_of given main) index f.0 t.0 false
     → slice_get (outline_of given main).types t.0 ≡ Some named

@@ -1,13 +1,19 @@
 // What linking makes sure of, of the program of class files against which no cause stands (JVMS 5.3.5, 5.4.3).
 #![tactic(auto)]
 
+ghost use Rattle.fm_resolved.specs.DeadRegions.{LinkedRegionsDie};
 ghost use Rattle.fm_resolved.specs.Laws.{
   ProgramsAreLinkedWell,
   ProgramsAreResolved,
   StepsOfProgramsAreLinked,
   StepsOfProgramsAreResolved,
 };
+ghost use Rattle.fm_resolved.specs.Makes.{
+  MakesOfProgramsAreLinked,
+  MakesOfProgramsAreResolved,
+};
 
+use fm_same::law_dead_regions;
 use fm_world::law_class_types;
 
 /// Where nothing is refused, the program of spelled class files has what linking makes sure of.
@@ -39,4 +45,33 @@ pub fn law_sound_steps()
 {
     law_resolved();
     law_steps();
+}
+
+/// Where nothing is refused, the arrays that instructions of the program of spelled class files make
+/// have numbers, the fields that they put are those of the objects, element types that are arrays
+/// again have numbers, and texts and the names of types are of 16-bit units.
+pub fn law_makes()
+    ensures { MakesOfProgramsAreLinked }
+{}
+
+/// Where nothing is refused, and the numbers of types and the sizes of objects fit the header of an
+/// object, the program of spelled class files is all that steps ask where objects are made.
+pub fn law_makeable()
+    ensures { MakesOfProgramsAreResolved }
+{
+    law_resolved();
+    law_steps();
+    law_makes();
+}
+
+/// The law of dead regions of linked programs: in each run of the program of accepted class files
+/// against which no cause stands, which is typed and calls no FreeMe, what a captured class led to is dead
+/// once the class isn't busy or its activation is gone.
+pub fn law_linked_regions()
+    ensures { LinkedRegionsDie }
+{
+    law_resolved();
+    law_sound_steps();
+    law_makeable();
+    law_dead_regions();
 }
