@@ -52,6 +52,7 @@ pub record Sources : Type 0 where
   pub areas : Areas
   pub made : List ℕ
 
+-- the value that a source stands for
 abbrev pub value_of : Sources → Source → Value
 value_of x (Plain v) = v
 value_of x (OfOperand operand) = word_at x.stack operand
@@ -112,9 +113,11 @@ freed_object x cell (Some object) =
     if object.fixed then x
     else record x { store = freed_by x.store cell; frees = x.frees + 1; freed_words = x.freed_words + object_words object }
 
+-- the object in a cell is freed; an empty cell stays as it is
 abbrev pub freed : Areas → ℕ → Areas
 freed x cell = freed_object x cell (object_at x.store cell)
 
+-- the objects in several cells are freed, one after another
 abbrev pub all_freed : Areas → List ℕ → Areas
 all_freed x [] = x
 all_freed x (cell ∷ cells) = all_freed (freed x cell) cells
@@ -133,6 +136,7 @@ made_then x request content RefuseStore follows = FullAt x (request_words reques
 made_then x request content (Take cell grows) follows =
     follows (record x { store = with_content (made_by x.store request (Take cell grows)) cell content }) cell
 
+-- an object is made in the cell that the memory chooses for its request
 abbrev pub made_object : Outline → Choose → TypeRef → ℕ → Bool → List ℕ → Areas → (Areas → ℕ → Performed) → Performed
 made_object o choose t len fixed content x follows =
     let request = requested o t len fixed in made_then x request content (choose x.store request) follows
@@ -141,15 +145,19 @@ made_object o choose t len fixed content x follows =
 abbrev pub put_value : Areas → Value → ℕ → Kind → Value → Areas
 put_value x object place kind v = record x { store = put_by x.store (cell_of object) place (kept kind v) }
 
+-- a number or a reference is put into a static field's place, cut to the width of its kind
 abbrev pub set_static : Areas → ℕ → Kind → Value → Areas
 set_static x slot kind v = record x { statics = slice_set x.statics slot (cut kind v) }
 
+-- the object in a cell leads to another cell from now on, for chains that are freed at once
 abbrev pub chained : Areas → ℕ → ℕ → Areas
 chained x cell to = record x { store = chained_by x.store cell to }
 
+-- a class counts as started (JVMS 5.5)
 abbrev pub class_started : Areas → ℕ → Areas
 class_started x class = record x { started = slice_set x.started class true }
 
+-- the object of a text's literal stands in this cell from now on (JVMS 5.1)
 abbrev pub literal_made : Areas → ℕ → ℕ → Areas
 literal_made x text cell = record x { literals = slice_set x.literals text cell }
 

@@ -24,6 +24,7 @@ use Rattle.fm_frames.specs.declared.values.Value.TheVariants as value
 abbrev pub element_type : TypeRef → TypeRef
 element_type t = record { dims = t.dims - 1; base = t.base }
 
+-- the kind of an array's elements: an array of arrays has references
 abbrev pub element_kind : TypeRef → Kind
 element_kind t = kind_with (t.dims - 1) t.base
 
@@ -71,6 +72,7 @@ length_effect o s = on_passing o (λ it. nat_lt 0 it.type.dims) s 0 (λ it. word
 
 -- ---- new arrays
 
+-- an array can't have a negative length (JVMS 6.5.newarray)
 abbrev pub thrown_negative : Outline → Effect
 thrown_negative o = thrown o (codes "java/lang/NegativeArraySizeException")
 
@@ -112,6 +114,7 @@ int_at s operand = of_sight (slice_get s operand) where
   of_sight (Some (Word (value.Int n))) = Some n
   of_sight other = None
 
+-- the ints at several operands, none where one of them isn't an int
 abbrev pub ints_at : List Sight → List ℕ → Option (List ℤ)
 ints_at s [] = Some []
 ints_at s (operand ∷ operands) = joined (int_at s operand) (ints_at s operands) where

@@ -30,6 +30,7 @@ abbrev pub entered_as : Outline → ℕ → ℕ → Option ℕ → List Sight �
 entered_as o words method byte s (Some row) = native_effect o row byte s
 entered_as o words method byte s None = going words (Calls method)
 
+-- the effect of entering a method, once it is known; none is known only of states that no typed program reaches
 abbrev pub entered : Outline → ℕ → Option ℕ → Option ℕ → List Sight → Effect
 entered o words None byte s = stuck
 entered o words (Some method) byte s = entered_as o words method byte s (native_of o method)

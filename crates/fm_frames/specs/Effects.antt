@@ -80,6 +80,7 @@ abbrev pub words : ℕ → List Source → Effect
 words takes gives =
     record { starts = None; takes = takes; actions = []; gives = gives; writes = []; prints = []; reads = false; next = Falls }
 
+-- the effect that takes and gives nothing and goes on to the next item
 abbrev pub nothing : Effect
 nothing = words 0 []
 
@@ -109,6 +110,7 @@ stuck = going 0 (Faults (Plain null))
 
 -- ---- the words of values
 
+-- an int is one word
 abbrev pub int_word : ℤ → List Source
 int_word n = Plain (value.Int n) ∷ []
 
@@ -116,6 +118,7 @@ int_word n = Plain (value.Int n) ∷ []
 abbrev pub long_words : ℤ → List Source
 long_words n = Plain value.Top ∷ Plain (value.Long n) ∷ []
 
+-- null is one word
 abbrev pub null_word : List Source
 null_word = Plain null ∷ []
 

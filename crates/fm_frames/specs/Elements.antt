@@ -16,6 +16,7 @@ use Rattle.fm_frames.specs.declared.values.Value.TheVariants as value
 
 -- ---- numbers as they are kept: booleans by one bit, bytes by 8, chars and shorts by 16, ints by 32 and longs by 64 (JVMS 2.3, 6.5.bastore)
 
+-- the number of bits that are kept of a number of this kind
 abbrev pub int_bits : Kind → ℕ
 int_bits kind.Boolean = 1
 int_bits kind.Byte = 8
@@ -62,6 +63,7 @@ pack_of_base base.Int = 2
 pack_of_base base.Long = 1
 pack_of_base (base.OfClass class) = 1
 
+-- whether a type is String, whose objects keep their units as chars
 abbrev pub is_text_type : Outline → TypeRef → Bool
 is_text_type o t = same_type (built_in_type o string_name) t
 

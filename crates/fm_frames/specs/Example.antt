@@ -38,6 +38,7 @@ entries =
     ∷ entry.Utf8 (codes "()I") ∷ entry.NameAndType 24 25 ∷ entry.Method 4 26 ∷ entry.Utf8 (codes "java/lang/ArithmeticException") ∷ entry.Class 28
     ∷ []
 
+-- class M whose main has this code
 abbrev pub main_with : List Item → List Handler → ClassDef
 main_with items handlers =
     class_with entries []
@@ -49,6 +50,7 @@ main_with items handlers =
           attribute.Coded 19 (record { max_stack = 2; max_locals = 3; items = items; length = 1; handlers = handlers; attributes = [] }) ∷ [];
     } ∷ [])
 
+-- the program of class M alone
 abbrev pub program_with : List Item → List Handler → Program
 program_with items handlers = program_of (main_with items handlers ∷ []) (codes "M")
 
@@ -62,6 +64,7 @@ main_number = 86
 
 -- ---- what is seen
 
+-- an int that is seen on the stack
 abbrev pub an_int : ℤ → Sight
 an_int n = Word (value.Int n)
 
@@ -72,11 +75,13 @@ an_object class birth =
 
 -- ---- the sum of 2 and 3 is printed: PrintStream is class 5
 
+-- its code: System.out, 2, 3, their sum, and the call of println
 abbrev pub sum_items : List Item
 sum_items =
     item (insn.GetStatic 10) ∷ item (insn.Const (pos 2)) ∷ item (insn.Const (pos 3)) ∷ item (insn.IntOp op.Add) ∷ item (insn.Virtual 16)
     ∷ item (insn.Return None) ∷ []
 
+-- each instruction with what it sees on the stack
 abbrev pub sum_seen : List (Insn × List Sight)
 sum_seen =
     (insn.GetStatic 10, [])
@@ -100,6 +105,7 @@ sum_effects =
 
 -- ---- 1 is divided by 0 while an object stands in local 1; its hash is printed by the handler, which begins at item 9
 
+-- its code: the object is made, 1 is divided by 0, and the handler prints the object's hash
 abbrev pub object_items : List Item
 object_items =
     item (insn.New 4) ∷ item insn.Dup ∷ item (insn.Special 23) ∷ item (insn.Store reg.Ref 1)
@@ -107,9 +113,11 @@ object_items =
     ∷ item (insn.Store reg.Ref 2) ∷ item (insn.GetStatic 10) ∷ item (insn.Load reg.Ref 1) ∷ item (insn.Virtual 27) ∷ item (insn.Virtual 16)
     ∷ item (insn.Return None) ∷ []
 
+-- an ArithmeticException of the items from 4 on and before 8 goes to item 9
 abbrev pub object_handler : Handler
 object_handler = record { start = 4; end = 8; handler = 9; catch_class = 29 }
 
+-- each instruction with what it sees on the stack
 abbrev pub object_seen : List (Insn × List Sight)
 object_seen =
     (insn.New 4, [])
@@ -127,6 +135,7 @@ object_seen =
 abbrev pub exception_thrown : ℕ → Effect
 exception_thrown class = record (going 0 (Throws (OfMade 0))) { actions = Make (type_of_class class) 1 [] ∷ [] }
 
+-- the effect of each of them
 abbrev pub object_effects : List Effect
 object_effects =
     starting 0 (making 0 (Make (type_of_class 0) 0 []))
@@ -148,5 +157,6 @@ dividing = record {
   stack = value.Int (pos 0) ∷ value.Int (pos 1) ∷ [];
 }
 
+-- main's frame once the exception in cell 9 is caught
 abbrev pub catching : Frame
 catching = record dividing { item = 9; stack = ref 9 ∷ [] }

@@ -13,6 +13,7 @@ use Rattle.fm_frames.specs.Sights.{Sight}
 
 -- ---- tests
 
+-- whether two numbers pass a test (JVMS 6.5.if_icmp)
 abbrev pub holds : Test → ℤ → ℤ → Bool
 holds Eq a b = int_eq a b
 holds Ne a b = not (int_eq a b)

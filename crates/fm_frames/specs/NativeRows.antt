@@ -24,6 +24,7 @@ use Rattle.fm_frames.specs.States.{null}
 
 -- ---- texts
 
+-- the type of texts, String
 abbrev pub text_type : Outline → TypeRef
 text_type o = built_in_type o string_name
 
@@ -90,9 +91,11 @@ printed_units units = map (λ unit. if nat_lt unit 128 then unit else question_m
 abbrev pub hash_of : ℕ → ℤ
 hash_of birth = signed 32 (pos birth)
 
+-- the character between the name and the hash of an object's text
 abbrev pub at_sign : ℕ
 at_sign = 64
 
+-- an object as a text: the name of its class, the sign, and its number in hexadecimal digits
 abbrev pub object_text : Outline → Looks → List ℕ
 object_text o it = type_name o it.type ++ at_sign ∷ digits 16 false it.birth
 
@@ -105,6 +108,7 @@ object_native o row s = stuck
 
 -- ---- texts that don't change
 
+-- an index that lies outside a text
 abbrev pub thrown_outside : Outline → Effect
 thrown_outside o = thrown o (codes "java/lang/StringIndexOutOfBoundsException")
 
@@ -119,6 +123,7 @@ compared [] others = pos 0 -ℤ pos (length others)
 compared (unit ∷ units) [] = pos (length (unit ∷ units))
 compared (unit ∷ units) (other ∷ others) = if unit == other then compared units others else (pos unit -ℤ pos other)
 
+-- the unit at an index
 abbrev pub char_at : Outline → List ℕ → ℤ → Effect
 char_at o units i =
     if int_lt i (pos 0) || not (int_lt i (pos (length units))) then thrown_outside o
@@ -133,6 +138,7 @@ equal_to o units s = on_held (answered false) s 0 (λ it. answered (is_text it &
   is_text : Looks → Bool
   is_text it = fits_type o.classes it.type (text_type o)
 
+-- a new text of the units from one index on and before another one
 abbrev pub part_of : Outline → List ℕ → ℤ → ℤ → Effect
 part_of o units begin end =
     if int_lt begin (pos 0) || int_lt end begin || int_lt (pos (length units)) end then thrown_outside o
@@ -157,6 +163,7 @@ is_builder o it =
     fits_type o.classes it.type (built_in_type o (codes "java/lang/StringBuilder"))
     || fits_type o.classes it.type (built_in_type o (codes "java/lang/StringBuffer"))
 
+-- what follows of an operand that has to be an object with a text that it builds
 abbrev pub on_builder : Outline → List Sight → ℕ → (Looks → Effect) → Effect
 on_builder o s operand follows = on_passing o (is_builder o) s operand follows
 

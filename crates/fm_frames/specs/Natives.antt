@@ -9,6 +9,7 @@ pub data Shown : Type 0 where
   ShownBoolean : Shown
   ShownText : Shown
 
+-- the built-in methods; those that differ only in what is shown are one with a parameter
 pub data Native : Type 0 where
   ObjectInit : Native
   ObjectHashCode : Native
@@ -42,6 +43,7 @@ pub data Native : Type 0 where
   FreeMeLink : Native
   FreeMeFreeChain : Native
 
+-- the built-in methods in the order of the table of built-in methods
 abbrev pub natives : List Native
 natives =
     ObjectInit ∷ ObjectHashCode ∷ ObjectEquals ∷ ObjectToString
@@ -58,5 +60,6 @@ natives =
     ∷ FreeMeFree ∷ FreeMeLink ∷ FreeMeFreeChain
     ∷ []
 
+-- the built-in method of a row of that table
 abbrev pub native_of_row : ℕ → Option Native
 native_of_row row = slice_get natives row

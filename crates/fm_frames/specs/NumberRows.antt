@@ -45,11 +45,13 @@ store_effect reg.Int k = record (words 1 []) { writes = (k, OfOperand 0) ∷ [] 
 store_effect reg.Long k = record (words 2 []) { writes = (k, OfOperand 1) ∷ (k + 1, Plain value.Top) ∷ [] }
 store_effect reg.Ref k = record (words 1 []) { writes = (k, OfOperand 0) ∷ [] }
 
+-- a number is added to an int local (JVMS 6.5.iinc)
 abbrev pub increment_effect : ℕ → ℤ → Effect
 increment_effect k by = record (words 0 []) { writes = (k, LocalPlus k by) ∷ [] }
 
 -- ---- moves
 
+-- the words of a stack move (JVMS 6.5.dup, 6.5.swap)
 abbrev pub moved_words : Option Moves → Effect
 moved_words None = stuck
 moved_words (Some m) = words m.takes (map OfOperand m.gives)
@@ -78,6 +80,7 @@ int_shift_effect shift s = on_int s 0 (λ n. on_int s 1 (λ a. words 2 (int_word
 unfoldable pub long_shift_effect : Shift → List Sight → Effect
 long_shift_effect shift s = on_int s 0 (λ n. on_long s 2 (λ a. words 3 (long_words (result_of_shift shift 64 a (low_bits 6 n)))))
 
+-- an int on top becomes a number of another kind
 abbrev pub int_converted : Conv → List Sight → Effect
 int_converted to s = on_int s 0 (λ a. words 1 (int_word (result_of_conversion to a)))
 

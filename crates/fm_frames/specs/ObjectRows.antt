@@ -18,6 +18,7 @@ starting class effect = record effect { starts = Some class }
 
 -- ---- objects
 
+-- an object of a class is made, which starts the class before (JVMS 6.5.new); only classes have objects of this instruction
 abbrev pub made_of : Outline → TypeRef → Option ℕ → Effect
 made_of o t None = stuck
 made_of o t (Some class) = starting class (making 0 (Make t (size_of_type o t) []))
@@ -27,9 +28,11 @@ new_effect o u = on_type o u (λ t. made_of o t (class_of_type t))
 
 -- ---- fields
 
+-- the kind of a field's values
 abbrev pub kind_of_field : Outline → ℕ → Kind
 kind_of_field o field = field_kind o.classes (field_at o.classes field).field
 
+-- the class that declares a field
 abbrev pub class_of_field : Outline → ℕ → ℕ
 class_of_field o field = (field_at o.classes field).class
 

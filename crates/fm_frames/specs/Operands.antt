@@ -26,6 +26,7 @@ thrown o name =
     let t = built_in_type o name in
     record (going 0 (Throws (OfMade 0))) { actions = Make t (size_of_type o t) [] ∷ [] }
 
+-- null where an object is needed
 abbrev pub thrown_null : Outline → Effect
 thrown_null o = thrown o (codes "java/lang/NullPointerException")
 
@@ -36,10 +37,12 @@ or_thrown o (Some n) follows = follows n
 
 -- ---- numbers
 
+-- what follows of an int
 abbrev pub on_int_of : Option Sight → (ℤ → Effect) → Effect
 on_int_of (Some (Word (value.Int n))) follows = follows n
 on_int_of s follows = stuck
 
+-- what follows of the int that an operand is
 abbrev pub on_int : List Sight → ℕ → (ℤ → Effect) → Effect
 on_int sights operand follows = on_int_of (slice_get sights operand) follows
 
@@ -48,6 +51,7 @@ abbrev pub on_long_of : Option Sight → (ℤ → Effect) → Effect
 on_long_of (Some (Word (value.Long n))) follows = follows n
 on_long_of s follows = stuck
 
+-- what follows of the long that an operand is
 abbrev pub on_long : List Sight → ℕ → (ℤ → Effect) → Effect
 on_long sights operand follows = on_long_of (slice_get sights operand) follows
 
@@ -61,6 +65,7 @@ on_reference_of (Some Null) follows = follows true
 on_reference_of (Some (Thing it)) follows = follows false
 on_reference_of (Some Gone) follows = follows false
 
+-- what follows of the reference that an operand is, told whether it is null
 abbrev pub on_reference : List Sight → ℕ → (Bool → Effect) → Effect
 on_reference sights operand follows = on_reference_of (slice_get sights operand) follows
 
@@ -78,6 +83,7 @@ on_held_of of_null operand (Some Null) follows = of_null
 on_held_of of_null operand (Some (Thing it)) follows = follows it
 on_held_of of_null operand (Some Gone) follows = faulty operand
 
+-- what follows of the object that an operand leads to, or of null
 abbrev pub on_held : Effect → List Sight → ℕ → (Looks → Effect) → Effect
 on_held of_null sights operand follows = on_held_of of_null operand (slice_get sights operand) follows
 
@@ -110,5 +116,6 @@ on_inner_of o operand Missing follows = follows None
 on_inner_of o operand (Text units) follows = follows (Some units)
 on_inner_of o operand Lost follows = going 0 (Faults (OfPlace operand 0 (kind.Ref (built_in_type o string_name))))
 
+-- what follows of what an operand's object has in its hidden field
 abbrev pub on_inner : Outline → ℕ → Looks → (Option (List ℕ) → Effect) → Effect
 on_inner o operand it follows = on_inner_of o operand it.inner follows

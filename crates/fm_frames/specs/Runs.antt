@@ -33,6 +33,7 @@ first_statics o = flat_map of_field (fields_of o.classes) where
   of_field : OwnedField → List Value
   of_field f = if is_static f.field.flags then first_of (field_kind o.classes f.field) ∷ [] else []
 
+-- the areas before anything is made: static fields have their first values, no literal is made, and no class has started
 abbrev pub first_areas : Outline → Store → Areas
 first_areas o store = record {
   store = store;
@@ -47,6 +48,7 @@ first_areas o store = record {
 abbrev pub arguments_type : Outline → TypeRef
 arguments_type o = record { dims = 1; base = (text_type o).base }
 
+-- the texts of the arguments are made and put into their array, from a place on
 abbrev pub argument_actions : Outline → ℕ → List (List ℕ) → List Action
 argument_actions o place [] = []
 argument_actions o place (text ∷ texts) =
@@ -86,6 +88,7 @@ opened_by p choose (action ∷ more) x made follows =
 abbrev pub opening_frames : Program → List ℕ → ℕ → List Frame
 opening_frames p methods arguments = start_frames p methods ++ new_frame p p.outline.main (ref arguments ∷ []) ∷ []
 
+-- the state with these frames, or its end where they are more than may be
 abbrev pub framed : State → List Frame → State
 framed x frames = if nat_lt x.depth (length frames) then stopped (record x { frames = [] }) (end.TooDeep 1) else record x { frames = frames }
 

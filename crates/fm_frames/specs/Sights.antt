@@ -52,14 +52,17 @@ has_hidden_field o t = of_class (class_of_type t) where
   of_class None = false
   of_class (Some class) = list_any (λ above. (class_at o.classes above).hidden) (chain_of o.classes class)
 
+-- the text that an object is
 abbrev pub text_in : Outline → Option Object → Inner
 text_in o None = Lost
 text_in o (Some object) = if is_text_type o (type_numbered o object.class) then Text object.elements else Lost
 
+-- what a hidden field that holds this cell leads to
 abbrev pub led_to : Outline → Store → ℕ → Inner
 led_to o store zero = Missing
 led_to o store cell = text_in o (object_at store cell)
 
+-- what an object's hidden field leads to
 abbrev pub inner_of : Outline → Store → Object → Inner
 inner_of o store object =
     if has_hidden_field o (type_numbered o object.class) then led_to o store (slice_index_or object.elements 0 0) else NoField
@@ -76,14 +79,17 @@ looks o store object = record {
 
 -- ---- values
 
+-- an object as it is seen, or that there is none
 abbrev pub sight_of_object : Outline → Store → Option Object → Sight
 sight_of_object o store None = Gone
 sight_of_object o store (Some object) = Thing (looks o store object)
 
+-- the object in a cell as it is seen; cell 0 is null
 abbrev pub sight_of_cell : Outline → Store → ℕ → Sight
 sight_of_cell o store zero = Null
 sight_of_cell o store cell = sight_of_object o store (object_at store cell)
 
+-- a word as it is seen: numbers as they are, and of a reference its object
 abbrev pub sight : Outline → Store → Value → Sight
 sight o store (value.Ref cell) = sight_of_cell o store cell.0
 sight o store value.Top = Word value.Top

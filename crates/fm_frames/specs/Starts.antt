@@ -38,9 +38,11 @@ set_constant o field (Some (constant.Text text)) = of_number (text_number o.text
 abbrev pub fields_at : Outline → ℕ → List ℕ
 fields_at o class = range_with_len (first_field o.classes class) (length (class_at o.classes class).fields)
 
+-- a class counts as started, and its constants are put into its static fields (JVMS 5.5)
 abbrev pub start_of_class : Outline → ℕ → List Action
 start_of_class o class = Start class ∷ flat_map (λ field. set_constant o field (field_at o.classes field).field.value) (fields_at o class)
 
+-- that of several classes, in their order
 abbrev pub start_actions : Outline → List ℕ → List Action
 start_actions o classes = flat_map (start_of_class o) classes
 

@@ -10,6 +10,7 @@ use Rattle.fm_frames.specs.declared.values.Value.TheVariants as value
 abbrev pub ref : ℕ → Value
 ref cell = value.Ref (record { 0 = cell })
 
+-- the reference that leads to no object
 abbrev pub null : Value
 null = ref 0
 

@@ -30,9 +30,11 @@ use Rattle.fm_frames.specs.declared.values.Value.TheVariants as value
 
 -- ---- the effect of the next instruction
 
+-- the instruction that is next in a frame
 abbrev pub insn_at : Program → Frame → Option Insn
 insn_at p f = option_and_then (λ code. insn_of code f.item) (code_at p f.method)
 
+-- the effect of an instruction in a frame, which sees all words of its stack and the next byte of the input
 abbrev pub effect_by : Program → State → Frame → Option Insn → Effect
 effect_by p x f None = stuck
 effect_by p x f (Some i) =
@@ -69,6 +71,7 @@ abbrev pub words_among : Outline → Areas → List ℕ → List Action → ℕ
 words_among o x literals [] = 0
 words_among o x literals (action ∷ more) = words_of o x literals action + words_among o x (literal_of action ++ literals) more
 
+-- the words of all that the actions make
 abbrev pub words_made : Outline → Areas → List Action → ℕ
 words_made o x actions = words_among o x [] actions
 
@@ -79,6 +82,7 @@ is_making (MakeFixed t) = true
 is_making (MakeLiteral text) = true
 is_making action = false
 
+-- whether one of the actions makes an object
 abbrev pub makes : List Action → Bool
 makes [] = false
 makes (action ∷ more) = is_making action || makes more
@@ -94,6 +98,7 @@ frames_needed (Calls m) = 1
 frames_needed (Enters methods) = length methods
 frames_needed next = 0
 
+-- whether the frames that come on top would be more than may be
 abbrev pub is_deep : State → Next → Bool
 is_deep x (Calls m) = nat_lt x.depth (length x.frames + 1)
 is_deep x (Enters methods) = nat_lt x.depth (length x.frames + length methods)
@@ -111,12 +116,14 @@ cost p x = max 1 (objects_made (next_effect p x).actions)
 
 -- ---- frames
 
+-- the locals of the topmost frame
 abbrev pub locals_of : State → List Value
 locals_of x = of_frames x.frames where
   of_frames : List Frame → List Value
   of_frames [] = []
   of_frames (f ∷ callers) = f.locals
 
+-- the stack of the topmost frame
 abbrev pub stack_of : State → List Value
 stack_of x = of_frames x.frames where
   of_frames : List Frame → List Value
@@ -139,6 +146,7 @@ max_locals_of p method = of_code (code_at p method) where
   of_code None = 0
   of_code (Some code) = code.max_locals
 
+-- a method's frame at its first item: the arguments are the first locals, and the stack is empty
 abbrev pub new_frame : Program → ℕ → List Value → Frame
 new_frame p method arguments = record {
   method = method;
@@ -184,6 +192,7 @@ abbrev pub handler_among : Program → Frame → TypeRef → List Handler → Op
 handler_among p f t [] = None
 handler_among p f t (h ∷ handlers) = if catches p f t h then Some h.handler else handler_among p f t handlers
 
+-- the item at which a frame goes on with a thrown object of this type
 abbrev pub handler_of : Program → Frame → TypeRef → Option ℕ
 handler_of p f t = option_and_then (λ (code : Code). handler_among p f t code.handlers) (code_at p f.method)
 
@@ -194,6 +203,7 @@ type_at o store v = of_object (object_at store (cell_of v)) where
   of_object None = throwable_type o
   of_object (Some object) = type_numbered o object.class
 
+-- the class of a thrown object's type
 abbrev pub class_at_type : TypeRef → ℕ
 class_at_type t = unwrap_or (class_of_type t) 0
 
@@ -215,6 +225,7 @@ caught p t v (f ∷ callers) = caught_in p v f callers (handler_of p f t) (caugh
 
 -- ---- the state after an effect
 
+-- the state once the run has ended so
 abbrev pub stopped : State → Ended → State
 stopped x e = record x { ended = Some e }
 
@@ -232,6 +243,7 @@ returned p n f (caller ∷ callers) x =
     if is_start p.outline f.method then record x { frames = caller ∷ callers }
     else record x { frames = record caller { item = caller.item + 1; stack = take n f.stack ++ caller.stack } ∷ callers }
 
+-- the state once a thrown object is caught, or has left main or the start of a class
 abbrev pub thrown_by : State → Caught → State
 thrown_by x (InFrames frames) = record x { frames = frames }
 thrown_by x (Leaves e) = stopped x e
@@ -295,9 +307,11 @@ printed_by e (Did areas made) = e.prints
 printed_by e (FullAt areas needed) = []
 printed_by e (LostAt v) = []
 
+-- the state and what is printed after an effect that is carried out, at this price
 abbrev pub done_by : Program → ℕ → Effect → State → Performed → Moved
 done_by p price e x result = record { state = finished p price e x result; printed = printed_by e result }
 
+-- the step isn't done: nothing is printed, and the run ends so
 abbrev pub halted : State → Ended → Moved
 halted x e = record { state = stopped x e; printed = [] }
 

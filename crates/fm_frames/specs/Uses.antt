@@ -7,10 +7,12 @@ use Rattle.fm_world.specs.declared.uses.Use.{Use}
 use Rattle.fm_world.specs.declared.uses.Use.TheVariants as resolved
 use Rattle.fm_frames.specs.Effects.{Effect, stuck}
 
+-- what follows of a type that an index names
 abbrev pub by_type : Option TypeRef → (TypeRef → Effect) → Effect
 by_type None follows = stuck
 by_type (Some t) follows = follows t
 
+-- what follows of an index that is resolved to a type
 abbrev pub on_type : Outline → Use → (TypeRef → Effect) → Effect
 on_type o (resolved.OfType t) follows = by_type (slice_get o.types t.0) follows
 on_type o (resolved.OfField f t) follows = stuck
@@ -20,6 +22,7 @@ on_type o (resolved.OfLong n) follows = stuck
 on_type o (resolved.OfText text) follows = stuck
 on_type o resolved.Unused follows = stuck
 
+-- what follows of an index that is resolved to a field, told its number and the type that the index names
 abbrev pub on_field : Outline → Use → (ℕ → TypeRef → Effect) → Effect
 on_field o (resolved.OfType t) follows = stuck
 on_field o (resolved.OfField f t) follows = by_type (slice_get o.types t.0) (follows f.0)
@@ -29,6 +32,7 @@ on_field o (resolved.OfLong n) follows = stuck
 on_field o (resolved.OfText text) follows = stuck
 on_field o resolved.Unused follows = stuck
 
+-- what follows of an index that is resolved to a method, told its number and the type that the index names
 abbrev pub on_method : Outline → Use → (ℕ → TypeRef → Effect) → Effect
 on_method o (resolved.OfType t) follows = stuck
 on_method o (resolved.OfField f t) follows = stuck

@@ -13,6 +13,7 @@ use Rattle.fm_frames.specs.inner.Frames.{on_top}
 abbrev pub placed : ℕ → ℕ → Frame
 placed method item = record { method = method; item = item; locals = []; stack = [] }
 
+-- the frames or the end that a search for a handler came to
 abbrev pub caught_as : Value → List Frame → Catch → Caught
 caught_as v frames (catch.InFrame above handler) = InFrames (on_top (λ f. record f { item = handler; stack = v ∷ [] }) (drop above frames))
 caught_as v frames (catch.Leaves e) = Leaves e

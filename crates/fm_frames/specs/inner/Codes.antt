@@ -12,15 +12,18 @@ use Rattle.fm_frames.specs.declared.values.Value.TheVariants as value
 
 -- ---- values
 
+-- a value by its parts: no value, an int, a long, or a cell
 abbrev pub ValueParts : Type 0
 ValueParts = Unit {0} ⊎ (ℤ ⊎ (ℤ ⊎ ℕ))
 
+-- the parts of a value
 abbrev pub value_parts : Value → ValueParts
 value_parts value.Top = inl tt
 value_parts (value.Int n) = inr (inl n)
 value_parts (value.Long n) = inr (inr (inl n))
 value_parts (value.Ref cell) = inr (inr (inr cell.0))
 
+-- the value of such parts
 abbrev pub value_from : ValueParts → Value
 value_from (inl none) = value.Top
 value_from (inr (inl n)) = value.Int n
@@ -33,17 +36,21 @@ value_from-parts (value.Int n) = refl
 value_from-parts (value.Long n) = refl
 value_from-parts (value.Ref cell) = refl
 
+-- values can be coded by their parts
 abbrev pub value_code : Coded Value
 value_code = code_by ValueParts (coded⊎ coded_unit (coded⊎ coded_ℤ (coded⊎ coded_ℤ coded_ℕ))) value_parts value_from value_from-parts
 
 -- ---- ends
 
+-- the numbers that an end of a run may have
 abbrev pub NumberParts : Type 0
 NumberParts = ℕ ⊎ (ℕ ⊎ (ℕ ⊎ (ℤ ⊎ ((ℕ × ℕ) ⊎ ((ℕ × ℕ) ⊎ (ℕ × (ℕ × ℕ)))))))
 
+-- an end of a run by its parts
 abbrev pub EndParts : Type 0
 EndParts = Unit {0} ⊎ (Unit {0} ⊎ NumberParts)
 
+-- the parts of an end
 abbrev pub end_parts : Ended → EndParts
 end_parts end.Returned = inl tt
 end_parts end.Running = inr (inl tt)
@@ -55,6 +62,7 @@ end_parts (end.Exhausted live needed) = inr (inr (inr (inr (inr (inr (inl (live,
 end_parts (end.StoreFull made needed) = inr (inr (inr (inr (inr (inr (inr (inl (made, needed))))))))
 end_parts (end.Fault method offset cell) = inr (inr (inr (inr (inr (inr (inr (inr (method.0, (offset, cell)))))))))
 
+-- the end of such parts
 abbrev pub end_from : EndParts → Ended
 end_from (inl none) = end.Returned
 end_from (inr (inl none)) = end.Running
@@ -77,6 +85,7 @@ end_from-parts (end.InitFailed class) = refl
 end_from-parts (end.StoreFull made needed) = refl
 end_from-parts (end.Fault method offset cell) = refl
 
+-- ends can be coded by their parts
 abbrev pub end_code : Coded Ended
 end_code =
     code_by EndParts
@@ -85,6 +94,7 @@ end_code =
 
 -- ---- frames, areas and states
 
+-- frames can be coded
 abbrev pub frame_code : Coded Frame
 frame_code =
     code_by (ℕ × (ℕ × (List Value × List Value)))
@@ -93,9 +103,11 @@ frame_code =
     (λ t. record { method = t.0; item = t.1.0; locals = t.1.1.0; stack = t.1.1.1 })
     (λ _. refl)
 
+-- lists of frames can be coded
 abbrev pub frames_code : Coded (List Frame)
 frames_code = coded_list frame_code
 
+-- areas can be coded
 abbrev pub areas_code : Coded Areas
 areas_code =
     code_by (Store × (List Value × (List ℕ × (List Bool × (ℕ × ℕ)))))
@@ -104,6 +116,7 @@ areas_code =
     (λ t. record { store = t.0; statics = t.1.0; literals = t.1.1.0; started = t.1.1.1.0; frees = t.1.1.1.1.0; freed_words = t.1.1.1.1.1 })
     (λ _. refl)
 
+-- states can be coded
 abbrev pub state_code : Coded State
 state_code =
     code_by (List Frame × (Areas × (List ℕ × (ℕ × (ℕ × Option Ended)))))

@@ -24,6 +24,7 @@ abbrev pub NextFits : List Frame → Type 0
 NextFits [] = ⊥
 NextFits (f ∷ callers) = f.item + 1 < 2 ^ 64
 
+-- the state of which one more step can be done in code: its counts fit their words
 pub record IsReady (x : State) : Type 0 where
   pub next_fits : NextFits x.frames
   pub step_fits : x.steps + 1 < 2 ^ 64
@@ -47,6 +48,7 @@ pub record CanStep (p : Program) (x : State) : Type 0 where
 abbrev pub before : State → Sources
 before x = record { locals = locals_of x; stack = stack_of x; areas = x.areas; made = [] }
 
+-- the int that a value is
 abbrev pub int_in : Option Value → Option ℤ
 int_in None = None
 int_in (Some value.Top) = None
@@ -54,6 +56,7 @@ int_in (Some (value.Int n)) = Some n
 int_in (Some (value.Long n)) = None
 int_in (Some (value.Ref cell)) = None
 
+-- the long that a value is
 abbrev pub long_in : Option Value → Option ℤ
 long_in None = None
 long_in (Some value.Top) = None

@@ -34,18 +34,22 @@ cursors (Some c) callers = c ∷ callers
 
 -- ---- the topmost frame
 
+-- the frames with the topmost one changed
 abbrev pub on_top : (Frame → Frame) → List Frame → List Frame
 on_top change [] = []
 on_top change (f ∷ callers) = change f ∷ callers
 
+-- the topmost frame
 abbrev pub topmost : List Frame → Option Frame
 topmost [] = None
 topmost (f ∷ callers) = Some f
 
+-- the stack of the topmost frame
 abbrev pub stack_in : List Frame → List Value
 stack_in [] = []
 stack_in (f ∷ callers) = f.stack
 
+-- the locals of the topmost frame
 abbrev pub locals_in : List Frame → List Value
 locals_in [] = []
 locals_in (f ∷ callers) = f.locals
@@ -54,6 +58,7 @@ locals_in (f ∷ callers) = f.locals
 abbrev pub place_of : Frame → ℕ × ℕ
 place_of f = (f.method, f.item)
 
+-- the method and the item of a cursor
 abbrev pub place : Cursor → ℕ × ℕ
 place c = (c.method.0, c.item)
 
@@ -65,6 +70,7 @@ called method max_locals words f =
     let arguments = reverse (take words f.stack) in
     record { method = method; item = 0; locals = arguments ++ replicate (max_locals - length arguments) value.Top; stack = [] }
 
+-- the frames with one of a method on top, whose arguments are taken off the one below
 abbrev pub with_called : (method max_locals words : ℕ) → List Frame → List Frame
 with_called method max_locals words [] = []
 with_called method max_locals words (f ∷ callers) = called method max_locals words f ∷ record f { stack = drop words f.stack } ∷ callers
@@ -75,6 +81,7 @@ with_called method max_locals words (f ∷ callers) = called method max_locals w
 abbrev pub result_word : (words place : ℕ) → List Value → Option Value
 result_word words place stack = if nat_lt place words then slice_get stack place else None
 
+-- a frame with more words on its stack
 abbrev pub with_words : List Value → Frame → Frame
 with_words more f = record f { stack = more ++ f.stack }
 

@@ -9,10 +9,12 @@ use Rattle.fm_frames.specs.declared.looks.Look.TheVariants as look
 use Rattle.fm_frames.specs.declared.values.Value.{Value}
 use Rattle.fm_frames.specs.declared.values.Value.TheVariants as value
 
+-- a cell that a reference leads to: an object by its head, or gone
 abbrev pub look_head : Cell → Option Head → Look
 look_head cell None = look.Gone cell
 look_head cell (Some head) = look.Object cell head
 
+-- what the code sees of an operand: null, an object, a cell whose object is gone, or no reference
 abbrev pub look_at : Store → Option Value → Look
 look_at store None = look.Other
 look_at store (Some value.Top) = look.Other

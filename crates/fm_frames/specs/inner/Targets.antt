@@ -11,6 +11,7 @@ abbrev pub IsTargetIn : Program → List Frame → ℕ → ℕ → Type 0
 IsTargetIn p [] target item = Unit {0}
 IsTargetIn p (f ∷ callers) target item = item ≡ target_at p f target
 
+-- the item is this target of the state's next instruction
 abbrev pub IsTarget : Program → State → ℕ → ℕ → Type 0
 IsTarget p x target item = IsTargetIn p x.frames target item
 
@@ -19,6 +20,7 @@ abbrev pub IsAtIn : Program → List Frame → Insn → Type 0
 IsAtIn p [] insn = ⊥
 IsAtIn p (f ∷ callers) insn = insn_at p f ≡ Some insn
 
+-- the state's next instruction is this one
 abbrev pub IsAt : Program → State → Insn → Type 0
 IsAt p x insn = IsAtIn p x.frames insn
 
