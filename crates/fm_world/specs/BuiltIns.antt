@@ -11,9 +11,11 @@ use Rattle.fm_world.specs.declared.declarations.DeclaredClass.{DeclaredClass}
 abbrev pub public : ℕ
 public = 0x0001
 
+-- the flags of a static method that everybody may call (JVMS 4.6)
 abbrev pub public_static : ℕ
 public_static = 0x0009
 
+-- the flags of a constant field (JVMS 4.5)
 abbrev pub public_static_final : ℕ
 public_static_final = 0x0019
 
@@ -21,20 +23,25 @@ public_static_final = 0x0019
 abbrev pub class_flags : ℕ
 class_flags = 0x0021
 
+-- the flags of an interface that everybody may use (JVMS 4.1)
 abbrev pub interface_flags : ℕ
 interface_flags = 0x0601
 
 -- ---- names that rules speak of
 
+-- the class above all others
 abbrev pub object_name : List ℕ
 object_name = codes "java/lang/Object"
 
+-- the class of texts
 abbrev pub string_name : List ℕ
 string_name = codes "java/lang/String"
 
+-- an interface of arrays
 abbrev pub cloneable_name : List ℕ
 cloneable_name = codes "java/lang/Cloneable"
 
+-- the other interface of arrays
 abbrev pub serializable_name : List ℕ
 serializable_name = codes "java/io/Serializable"
 
@@ -46,12 +53,15 @@ sealed_names =
 
 -- ---- methods, with the numbers of their rows
 
+-- a method of a name, a descriptor and the number of its row
 abbrev pub method : List ℕ → List ℕ → ℕ → DeclaredMethod
 method name descriptor row = record { name = name; descriptor = descriptor; flags = public; row = Some row }
 
+-- a static method of a name, a descriptor and the number of its row
 abbrev pub static_method : List ℕ → List ℕ → ℕ → DeclaredMethod
 static_method name descriptor row = record { name = name; descriptor = descriptor; flags = public_static; row = Some row }
 
+-- the methods of Object
 abbrev pub object_methods : List DeclaredMethod
 object_methods =
     method (codes "<init>") (codes "()V") 0
@@ -60,6 +70,7 @@ object_methods =
     ∷ method (codes "toString") (codes "()Ljava/lang/String;") 3
     ∷ []
 
+-- the methods of String
 abbrev pub string_methods : List DeclaredMethod
 string_methods =
     method (codes "length") (codes "()I") 4
@@ -93,9 +104,11 @@ builder_methods name =
 abbrev pub buffer_methods : List DeclaredMethod
 buffer_methods = builder_methods (codes "java/lang/StringBuffer") ++ method (codes "<init>") (codes "(Ljava/lang/String;)V") 23 ∷ []
 
+-- the methods of System
 abbrev pub system_methods : List DeclaredMethod
 system_methods = static_method (codes "exit") (codes "(I)V") 24 ∷ []
 
+-- the methods of PrintStream
 abbrev pub print_stream_methods : List DeclaredMethod
 print_stream_methods =
     method (codes "print") (codes "(I)V") 25
@@ -111,6 +124,7 @@ print_stream_methods =
     ∷ method (codes "println") (codes "()V") 35
     ∷ []
 
+-- the methods of InputStream
 abbrev pub input_stream_methods : List DeclaredMethod
 input_stream_methods = method (codes "read") (codes "()I") 36 ∷ []
 
@@ -118,11 +132,13 @@ input_stream_methods = method (codes "read") (codes "()I") 36 ∷ []
 abbrev pub throwable_constructors : List DeclaredMethod
 throwable_constructors = method (codes "<init>") (codes "()V") 37 ∷ method (codes "<init>") (codes "(Ljava/lang/String;)V") 38 ∷ []
 
+-- the methods of Throwable
 abbrev pub throwable_methods : List DeclaredMethod
 throwable_methods =
     throwable_constructors
     ++ method (codes "getMessage") (codes "()Ljava/lang/String;") 39 ∷ method (codes "toString") (codes "()Ljava/lang/String;") 40 ∷ []
 
+-- the methods of FreeMe
 abbrev pub free_me_methods : List DeclaredMethod
 free_me_methods =
     static_method (codes "free") (codes "(Ljava/lang/Object;)V") 41
@@ -132,15 +148,18 @@ free_me_methods =
 
 -- ---- fields
 
+-- a constant field without a value in its file
 abbrev pub static_field : List ℕ → List ℕ → DeclaredField
 static_field name descriptor = record { name = name; descriptor = descriptor; flags = public_static_final; value = None }
 
+-- the fields of System
 abbrev pub system_fields : List DeclaredField
 system_fields =
     static_field (codes "out") (codes "Ljava/io/PrintStream;") ∷ static_field (codes "in") (codes "Ljava/io/InputStream;") ∷ []
 
 -- ---- classes
 
+-- a class under a superclass
 abbrev pub class_under : Option (List ℕ) → List ℕ → List (List ℕ) → Bool → List DeclaredField → List DeclaredMethod → DeclaredClass
 class_under superclass name interfaces hidden fields methods = record {
   name = name;

@@ -27,6 +27,7 @@ use Rattle.fm_world.specs.Uses.{class_items, named_class, named_member, operand_
 
 -- ---- refusals
 
+-- why class files are no program
 pub data Cause : Type 0 where
   Duplicate : Cause
   BuiltIn : Cause
@@ -55,6 +56,7 @@ own_name c = name_at c.pool.entries c.this_class
 abbrev pub field_text : MemberName → List ℕ
 field_text m = m.class ++ DOT ∷ m.name
 
+-- a method as a refusal names it: its class, its name and its descriptor
 abbrev pub method_text : MemberName → List ℕ
 method_text m = m.class ++ DOT ∷ (m.name ++ m.descriptor)
 
@@ -93,12 +95,14 @@ missing_at classes c index = refused_where (λ name. missing classes c (class_ty
 abbrev pub missing_in : List DeclaredClass → ClassDef → Member → List Refusal
 missing_in classes c m = flat_map (missing classes c) (types_in (text_at c.pool.entries m.descriptor))
 
+-- the classes that a file names and that aren't there: those of its pool, then those of its fields and methods
 abbrev pub missing_classes : List DeclaredClass → ClassDef → List Refusal
 missing_classes classes c =
     flat_map (missing_at classes c) (uses_in_order c) ++ (flat_map (missing_in classes c) c.fields ++ flat_map (missing_in classes c) c.methods)
 
 -- ---- superclasses and interfaces (JVMS 5.3.5)
 
+-- whether a name is that of an array's class (JVMS 4.4.1)
 abbrev pub is_array_name : List ℕ → Bool
 is_array_name [] = false
 is_array_name (c ∷ rest) = c == LEFT_BRACKET
@@ -128,6 +132,7 @@ is_bad_superclass classes c name =
     || (is_interface c.flags && not (bytes_eq name object_name))
     || list_any (bytes_eq name) sealed_names
 
+-- whether a class of this name can't be a superinterface: it isn't there, is no interface, or leads back to itself
 abbrev pub is_bad_interface : List DeclaredClass → List ℕ → Bool
 is_bad_interface classes name =
     is_array_name name
@@ -139,13 +144,16 @@ bad_superclass classes c =
     let name = name_at c.pool.entries c.super_class in
     if c.super_class == 0 then refused BadParent c (own_name c) ∷ [] else refused_if (is_bad_superclass classes c name) (refused BadParent c name)
 
+-- the refusal of a superinterface, if it is a bad one
 abbrev pub bad_interface : List DeclaredClass → ClassDef → ℕ → List Refusal
 bad_interface classes c index = let name = name_at c.pool.entries index in refused_if (is_bad_interface classes name) (refused BadParent c name)
 
+-- the refusals of an index that names a superclass, a superinterface, or both
 abbrev pub bad_parent_at : List DeclaredClass → ClassDef → ℕ → List Refusal
 bad_parent_at classes c index =
     (if index == c.super_class then bad_superclass classes c else []) ++ (if is_among index c.interfaces then bad_interface classes c index else [])
 
+-- the refusals of a file's superclass and superinterfaces, in the order of their indices
 abbrev pub bad_parents : List DeclaredClass → ClassDef → List Refusal
 bad_parents classes c = flat_map (bad_parent_at classes c) (uses_in_order c)
 
@@ -177,12 +185,15 @@ is_not_as_wanted flags_of found [] = false
 is_not_as_wanted flags_of None (wanted ∷ others) = true
 is_not_as_wanted flags_of (Some member) wanted = list_any (differs (is_static (flags_of member))) wanted
 
+-- the flags of the field of a number
 abbrev pub field_flags : List DeclaredClass → ℕ → ℕ
 field_flags classes field = (field_at classes field).field.flags
 
+-- the flags of the method of a number
 abbrev pub method_flags : List DeclaredClass → ℕ → ℕ
 method_flags classes method = (method_at classes method).method.flags
 
+-- the refusal of an index that names a field, if that isn't there or isn't static where it has to be
 abbrev pub missing_field_at : List DeclaredClass → ClassDef → ℕ → List Refusal
 missing_field_at classes c index = refused_where of_member (named_member c.pool.entries index) where
   of_member : MemberName → List Refusal
@@ -190,6 +201,7 @@ missing_field_at classes c index = refused_where of_member (named_member c.pool.
       refused_if (is_not_as_wanted (field_flags classes) (resolved_field classes m) (wanted_at static_field_wanted c index))
       (refused MissingField c (field_text m))
 
+-- the fields that a file names and that aren't there as it wants them
 abbrev pub missing_fields : List DeclaredClass → ClassDef → List Refusal
 missing_fields classes c = flat_map (missing_field_at classes c) (uses_in_order c)
 
@@ -209,6 +221,7 @@ names_wrong_sort classes (entry.Method class member) name = is_there_and (is_int
 names_wrong_sort classes (entry.InterfaceMethod class member) name = not (is_there_and (is_interface_at classes) (class_number classes name))
 names_wrong_sort classes e name = false
 
+-- the refusal of an index that names a method, if that isn't there, or its class is of the other sort, or it isn't static where it has to be
 abbrev pub missing_method_at : List DeclaredClass → ClassDef → ℕ → List Refusal
 missing_method_at classes c index = refused_where of_member (named_member c.pool.entries index) where
   is_wrong : MemberName → List Bool → Bool
@@ -220,6 +233,7 @@ missing_method_at classes c index = refused_where of_member (named_member c.pool
   of_member : MemberName → List Refusal
   of_member m = refused_if (is_wrong m (wanted_at static_method_wanted c index)) (refused MissingMethod c (method_text m))
 
+-- the methods that a file names and that aren't there as it wants them
 abbrev pub missing_methods : List DeclaredClass → ClassDef → List Refusal
 missing_methods classes c = flat_map (missing_method_at classes c) (uses_in_order c)
 
@@ -230,6 +244,7 @@ abbrev pub abstract_from : ℕ → List DeclaredMethod → List ℕ
 abstract_from number [] = []
 abstract_from number (m ∷ methods) = (if is_abstract m.flags then number ∷ [] else []) ++ abstract_from (number + 1) methods
 
+-- the numbers of the abstract methods that a class declares
 abbrev pub abstract_methods : List DeclaredClass → ℕ → List ℕ
 abstract_methods classes class = abstract_from (first_method classes class) (class_at classes class).methods
 
@@ -260,6 +275,7 @@ calls_abstract classes caller m = is_there_and is_wrong (resolved_method classes
   is_wrong method =
       is_abstract_method classes method || is_abstract_method classes (special_target classes caller (class_number classes m.class) method)
 
+-- the refusal of an instruction that calls a method that has no code
 abbrev pub abstract_call : List DeclaredClass → ClassDef → ℕ → Item → List Refusal
 abstract_call classes c caller item = of_insn item.insn where
   of_member : MemberName → List Refusal
@@ -269,6 +285,7 @@ abstract_call classes c caller item = of_insn item.insn where
   of_insn (insn.Special index) = refused_where of_member (named_member c.pool.entries index)
   of_insn i = []
 
+-- the refusals of a file for methods without code: those left over in it, and then those that it calls
 abbrev pub not_implemented : List DeclaredClass → ClassDef → ℕ → List Refusal
 not_implemented classes c class = left_over classes c class ++ flat_map (abstract_call classes c class) (class_items c)
 
@@ -279,6 +296,7 @@ each_from class refusals (c ∷ given) = refusals c class ++ each_from (class + 
 
 -- ---- the main class
 
+-- the refusal of a main class that isn't among the files or has no main method
 abbrev pub no_main : List DeclaredClass → List ℕ → List Refusal
 no_main classes main =
     refused_if (not (is_there_and (λ class. is_some (main_of classes class)) (given_number classes main)))

@@ -27,11 +27,13 @@ first_found find (x ∷ xs) = or_among (find x) (first_found find xs) where
   or_among None others = others
   or_among (Some y) others = Some y
 
+-- whether a number is one of these
 abbrev pub is_among : ℕ → List ℕ → Bool
 is_among number numbers = list_any (nat_eq number) numbers
 
 -- ---- superclasses
 
+-- the class of a number
 abbrev pub class_at : List DeclaredClass → ℕ → DeclaredClass
 class_at classes class = slice_index_or classes class no_class
 
@@ -83,6 +85,7 @@ is_subclass classes class other = is_among other (chain_of classes class) || is_
 abbrev pub array_supers : List (List ℕ)
 array_supers = object_name ∷ cloneable_name ∷ serializable_name ∷ []
 
+-- whether arrays fit a class (JVMS 4.10.1.2)
 abbrev pub is_above_arrays : List DeclaredClass → ℕ → Bool
 is_above_arrays classes class = list_any (bytes_eq (class_at classes class).name) array_supers
 
@@ -97,6 +100,7 @@ same_base base.Long base.Long = true
 same_base (base.OfClass c) (base.OfClass d) = c.0 == d.0
 same_base b c = false
 
+-- whether two types are the same
 abbrev pub same_type : TypeRef → TypeRef → Bool
 same_type a b = (a.dims == b.dims) && same_base a.base b.base
 

@@ -21,9 +21,11 @@ use Rattle.fm_code.specs.declared.class_file.MemberAttr.TheVariants as attribute
 abbrev pub no_field : DeclaredField
 no_field = record { name = []; descriptor = []; flags = 0; value = None }
 
+-- the method of a number that no method has
 abbrev pub no_method : DeclaredMethod
 no_method = record { name = []; descriptor = []; flags = 0; row = None }
 
+-- the class of a number that no class has
 abbrev pub no_class : DeclaredClass
 no_class = record { name = []; superclass = None; interfaces = []; flags = 0; hidden = false; fields = []; methods = []; file = None }
 
@@ -33,6 +35,7 @@ no_class = record { name = []; superclass = None; interfaces = []; flags = 0; hi
 abbrev pub text_at : List Entry → ℕ → List ℕ
 text_at entries index = unwrap_or (utf8_at entries index) []
 
+-- the name of the class that an index names
 abbrev pub name_at : List Entry → ℕ → List ℕ
 name_at entries index = unwrap_or (class_name_at entries index) []
 
@@ -60,6 +63,7 @@ declared_field entries m = record {
   value = (if is_static m.flags then first_constant entries m.attributes else None);
 }
 
+-- a method as its file declares it
 abbrev pub declared_method : List Entry → Member → DeclaredMethod
 declared_method entries m = record { name = text_at entries m.name; descriptor = text_at entries m.descriptor; flags = m.flags; row = None }
 

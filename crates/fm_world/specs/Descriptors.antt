@@ -12,6 +12,7 @@ use Rattle.fm_world.specs.declared.declarations.DeclaredClass.{DeclaredClass}
 
 -- ---- types by their names
 
+-- a type of so many dimensions
 abbrev pub typed : ℕ → BaseType → FieldType
 typed dimensions base = record { dimensions = dimensions; base = base }
 
@@ -27,6 +28,7 @@ types_from dimensions None (c ∷ rest) =
 types_from dimensions (Some name) (c ∷ rest) =
     if c == SEMICOLON then typed dimensions (object name) ∷ types_from 0 None rest else types_from dimensions (Some (name ++ c ∷ [])) rest
 
+-- all types of a descriptor, its result last (JVMS 4.3.3)
 abbrev pub types_in : List ℕ → List FieldType
 types_in descriptor = types_from 0 None descriptor
 
@@ -35,6 +37,7 @@ abbrev pub first_type : List FieldType → FieldType
 first_type [] = typed 0 (primitive 0)
 first_type (t ∷ types) = t
 
+-- the type of a field's descriptor (JVMS 4.3.2)
 abbrev pub field_type : List ℕ → FieldType
 field_type descriptor = first_type (types_in descriptor)
 
@@ -42,6 +45,7 @@ field_type descriptor = first_type (types_in descriptor)
 abbrev pub parameter_types : List ℕ → List FieldType
 parameter_types descriptor = let types = types_in descriptor in take (length types - 1) types
 
+-- the type that a method returns
 abbrev pub result_type : List ℕ → FieldType
 result_type descriptor = let types = types_in descriptor in first_type (drop (length types - 1) types)
 
@@ -63,6 +67,7 @@ class_in t = name_of t.base where
 abbrev pub class_number : List DeclaredClass → List ℕ → Option ℕ
 class_number classes name = position (λ c. bytes_eq c.name name) classes
 
+-- the base of a class's number
 abbrev pub of_class : ℕ → Base
 of_class class = base.OfClass (record { 0 = class })
 
@@ -77,6 +82,7 @@ primitive_base letter =
     if letter == LONG_LETTER then Some base.Long else
     None
 
+-- the base that a name stands for, none where there is no such class
 abbrev pub base_in : List DeclaredClass → BaseType → Option Base
 base_in classes (primitive letter) = primitive_base letter
 base_in classes (object name) = option_map of_class (class_number classes name)
@@ -115,9 +121,11 @@ abbrev pub kind_words : Kind → ℕ
 kind_words kind.Long = 2
 kind_words k = 1
 
+-- the kinds of a method's parameters
 abbrev pub parameter_kinds : List DeclaredClass → List ℕ → List Kind
 parameter_kinds classes descriptor = map (declared_kind classes) (parameter_types descriptor)
 
+-- the kind that a method returns, none where it returns nothing
 abbrev pub result_kind : List DeclaredClass → List ℕ → Option Kind
 result_kind classes descriptor = kind_in classes (result_type descriptor)
 

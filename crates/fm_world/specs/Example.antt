@@ -65,11 +65,13 @@ main_entries =
     -- 25
     ∷ entry.Utf8 (codes "Gone") ∷ entry.Class 25 ∷ []
 
+-- the code of its main
 abbrev pub main_items : List Item
 main_items =
     item (insn.New 6) ∷ item (insn.Special 10) ∷ item (insn.Virtual 15) ∷ item (insn.GetField 19) ∷ item (insn.LoadPool 21)
     ∷ item (insn.NewRefs 12) ∷ item (insn.NewArray elem.Int) ∷ item (insn.Return None) ∷ []
 
+-- class M, the main class
 abbrev pub example_main : ClassDef
 example_main = class_with main_entries [] (coded_method 9 22 23 24 main_items ∷ [])
 
@@ -84,9 +86,11 @@ upper_entries =
     -- 15
     ∷ entry.Utf8 (codes "Code") ∷ []
 
+-- code that returns at once
 abbrev pub only_return : List Item
 only_return = item (insn.Return None) ∷ []
 
+-- class U with these flags of its first field
 abbrev pub upper_with : ℕ → ClassDef
 upper_with flags =
     class_with upper_entries
@@ -94,6 +98,7 @@ upper_with flags =
     ∷ record { flags = 8; name = 10; descriptor = 11; attributes = attribute.Constant 14 13 ∷ [] } ∷ [])
     (coded_method 1 7 8 15 only_return ∷ coded_method 1 9 8 15 only_return ∷ [])
 
+-- class U, the superclass of L
 abbrev pub example_upper : ClassDef
 example_upper = upper_with 1
 
@@ -106,11 +111,13 @@ lower_entries =
     -- 10
     ∷ entry.Utf8 (codes "Code") ∷ []
 
+-- class L
 abbrev pub example_lower : ClassDef
 example_lower =
     class_with lower_entries (record { flags = 1; name = 5; descriptor = 6; attributes = [] } ∷ [])
     (coded_method 1 7 8 10 only_return ∷ coded_method 1 9 8 10 only_return ∷ [])
 
+-- the three class files
 abbrev pub example : List ClassDef
 example = example_main ∷ example_upper ∷ example_lower ∷ []
 
@@ -130,6 +137,7 @@ main_uses =
 abbrev pub array_types : List TypeRef
 array_types = record { dims = 1; base = of_class 1 } ∷ record { dims = 1; base = of_class 29 } ∷ record { dims = 1; base = base.Int } ∷ []
 
+-- the method that the main class calls, by the class that it names
 abbrev pub call_of_k : Call
 call_of_k = record { kind = call.Virtual; named = record { dims = 0; base = of_class 29 }; method = method_id 88; caller = class_id 28 }
 
@@ -137,23 +145,28 @@ call_of_k = record { kind = call.Virtual; named = record { dims = 0; base = of_c
 abbrev pub call_of_to_string : Call
 call_of_to_string = record { kind = call.Virtual; named = record { dims = 0; base = of_class 0 }; method = method_id 3; caller = class_id 28 }
 
+-- a call of toString on an array
 abbrev pub call_on_array : Call
 call_on_array = record { kind = call.Virtual; named = record { dims = 1; base = base.Int }; method = method_id 3; caller = class_id 28 }
 
 -- ---- casts: Object is class 0, String 1, Throwable 7, NullPointerException 18, Cloneable 26 and Serializable 27
 
+-- an array type
 abbrev pub array : ℕ → Base → TypeRef
 array dimensions b = record { dims = dimensions; base = b }
 
+-- a class as a type
 abbrev pub class_type : ℕ → TypeRef
 class_type class = array 0 (of_class class)
 
+-- pairs of which the first type fits the second one
 abbrev pub castable : List (TypeRef × TypeRef)
 castable =
     (class_type 18, class_type 7) ∷ (class_type 18, class_type 27) ∷ (class_type 1, class_type 0) ∷ (class_type 26, class_type 0)
     ∷ (array 1 base.Int, class_type 0) ∷ (array 1 base.Int, class_type 26) ∷ (array 1 (of_class 1), array 1 (of_class 0))
     ∷ (array 2 base.Int, array 1 (of_class 0)) ∷ (array 2 base.Int, array 1 (of_class 27)) ∷ (array 1 base.Int, array 1 base.Int) ∷ []
 
+-- pairs of which the first type doesn't fit the second one
 abbrev pub not_castable : List (TypeRef × TypeRef)
 not_castable =
     (class_type 7, class_type 18) ∷ (class_type 0, class_type 1) ∷ (class_type 18, class_type 26) ∷ (class_type 0, array 1 base.Int)
@@ -176,11 +189,13 @@ with_cycle = example_main ∷ class_with (slice_set upper_entries 3 (entry.Utf8 
 abbrev pub interface_with : List Entry → List ℕ → List Member → ClassDef
 interface_with entries interfaces methods = record (class_with entries [] methods) { flags = 0x0601; interfaces = interfaces }
 
+-- a pool that names a class and two more texts or classes
 abbrev pub naming : List ℕ → List ℕ → List ℕ → List Entry
 naming name first second =
     entry.Second ∷ entry.Utf8 name ∷ entry.Class 1 ∷ entry.Utf8 (codes "java/lang/Object") ∷ entry.Class 3
     ∷ entry.Utf8 first ∷ entry.Class 5 ∷ entry.Utf8 second ∷ entry.Class 7 ∷ []
 
+-- a class with two interfaces of which the first lies below the second
 abbrev pub with_interfaces : List ClassDef
 with_interfaces =
     interface_with (naming (codes "J") (codes "m") (codes "()V")) [] (record { flags = 0x0401; name = 5; descriptor = 7; attributes = [] } ∷ [])
@@ -201,10 +216,12 @@ declaring name superclass flags = class_with entries [] (map with_flags flags) w
   with_flags : ℕ → Member
   with_flags f = coded_method f 5 6 7 only_return
 
+-- three classes of which the upper ones declare one method, first a public and then a private one
 abbrev pub with_private : List ClassDef
 with_private =
     declaring (codes "P") (codes "java/lang/Object") (1 ∷ []) ∷ declaring (codes "Q") (codes "P") (2 ∷ [])
     ∷ declaring (codes "R") (codes "Q") [] ∷ []
 
+-- a refusal
 abbrev pub refusal : Cause → List ℕ → List ℕ → Refusal
 refusal cause name user = record { cause = cause; name = name; user = user }

@@ -12,15 +12,19 @@ use Rattle.fm_world.specs.Descriptors.{class_number, class_type}
 use Rattle.fm_world.specs.Members.{field_among, method_among, own_method, method_at, is_instance}
 use Rattle.fm_world.specs.declared.TheConstants.{ACC_SUPER}
 
+-- the number of Object
 abbrev pub object_number : List DeclaredClass → Option ℕ
 object_number classes = class_number classes object_name
 
+-- the name of constructors (JVMS 2.9)
 abbrev pub constructor_name : List ℕ
 constructor_name = codes "<init>"
 
+-- a test that all flags pass
 abbrev pub any_flags : ℕ → Bool
 any_flags flags = true
 
+-- whether the class of a number is an interface
 abbrev pub is_interface_at : List DeclaredClass → ℕ → Bool
 is_interface_at classes class = is_interface (class_at classes class).flags
 

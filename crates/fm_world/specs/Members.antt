@@ -21,13 +21,16 @@ pub record OwnedField : Type 0 where
   pub class : ℕ
   pub field : DeclaredField
 
+-- a method with the number of the class that declares it
 pub record OwnedMethod : Type 0 where
   pub class : ℕ
   pub method : DeclaredMethod
 
+-- the fields that a class declares
 abbrev pub owned_fields : ℕ → DeclaredClass → List OwnedField
 owned_fields class declared = map (λ f. record { class = class; field = f }) declared.fields
 
+-- the methods that a class declares
 abbrev pub owned_methods : ℕ → DeclaredClass → List OwnedMethod
 owned_methods class declared = map (λ m. record { class = class; method = m }) declared.methods
 
@@ -36,6 +39,7 @@ abbrev pub fields_from : ℕ → List DeclaredClass → List OwnedField
 fields_from class [] = []
 fields_from class (c ∷ classes) = owned_fields class c ++ fields_from (class + 1) classes
 
+-- the methods of classes, of which the first has this number
 abbrev pub methods_from : ℕ → List DeclaredClass → List OwnedMethod
 methods_from class [] = []
 methods_from class (c ∷ classes) = owned_methods class c ++ methods_from (class + 1) classes
@@ -46,9 +50,11 @@ fields_of classes = fields_from 0 classes
 unfoldable pub methods_of : List DeclaredClass → List OwnedMethod
 methods_of classes = methods_from 0 classes
 
+-- the field of a number
 abbrev pub field_at : List DeclaredClass → ℕ → OwnedField
 field_at classes field = slice_index_or (fields_of classes) field (record { class = 0; field = no_field })
 
+-- the method of a number
 abbrev pub method_at : List DeclaredClass → ℕ → OwnedMethod
 method_at classes method = slice_index_or (methods_of classes) method (record { class = 0; method = no_method })
 
@@ -56,6 +62,7 @@ method_at classes method = slice_index_or (methods_of classes) method (record { 
 abbrev pub first_field : List DeclaredClass → ℕ → ℕ
 first_field classes class = sum_by (λ c. length c.fields) (take class classes)
 
+-- the number of a class's first method
 abbrev pub first_method : List DeclaredClass → ℕ → ℕ
 first_method classes class = sum_by (λ c. length c.methods) (take class classes)
 
@@ -77,6 +84,7 @@ own_method classes passes name descriptor class =
 abbrev pub field_among : List DeclaredClass → List ℕ → List ℕ → List ℕ → Option ℕ
 field_among classes name descriptor among = first_found (own_field classes name descriptor) among
 
+-- the first method of that name and descriptor that passes, in the classes in this order
 abbrev pub method_among : List DeclaredClass → (ℕ → Bool) → List ℕ → List ℕ → List ℕ → Option ℕ
 method_among classes passes name descriptor among = first_found (own_method classes passes name descriptor) among
 
@@ -86,6 +94,7 @@ start_of classes class = own_method classes is_static (codes "<clinit>") (codes 
 
 -- ---- objects
 
+-- whether each object has a field of these flags (JVMS 4.5)
 abbrev pub is_instance : ℕ → Bool
 is_instance flags = not (is_static flags)
 
@@ -93,12 +102,15 @@ is_instance flags = not (is_static flags)
 abbrev pub hidden_fields : DeclaredClass → ℕ
 hidden_fields c = if c.hidden then 1 else 0
 
+-- how many of the fields each object has
 abbrev pub instance_fields : List DeclaredField → ℕ
 instance_fields fields = count_by (λ f. is_instance f.flags) fields
 
+-- how many fields of an object its own class declares, the hidden one among them
 abbrev pub own_size : DeclaredClass → ℕ
 own_size c = hidden_fields c + instance_fields c.fields
 
+-- how many fields of an object these classes declare
 abbrev pub size_among : List DeclaredClass → List ℕ → ℕ
 size_among classes chain = sum_by (λ class. own_size (class_at classes class)) chain
 
@@ -129,6 +141,7 @@ statics_of classes = count_by (λ f. is_static f.field.flags) (fields_of classes
 abbrev pub field_kind : List DeclaredClass → DeclaredField → Kind
 field_kind classes f = declared_kind classes (field_type f.descriptor)
 
+-- the kinds of the fields that an object has of this class, the hidden one first
 abbrev pub own_kinds : List DeclaredClass → DeclaredClass → List Kind
 own_kinds classes c = hidden_kinds c.hidden ++ filter_map kind_of_instance c.fields where
   hidden_kinds : Bool → List Kind

@@ -17,6 +17,7 @@ use Rattle.fm_world.specs.Uses.{uses_in_order, named_type, class_items, made_arr
 
 -- ---- types
 
+-- the type of a class's objects
 abbrev pub type_of_class : ℕ → TypeRef
 type_of_class class = record { dims = 0; base = of_class class }
 
@@ -32,6 +33,7 @@ used_types classes given = flat_map (λ c. filter_map (named_type classes c.pool
 abbrev pub argument_array : List DeclaredClass → Option TypeRef
 argument_array classes = option_and_then (λ class. array_of (type_of_class class)) (class_number classes string_name)
 
+-- the array types that the arguments and the instructions of the files make
 abbrev pub made_arrays : List DeclaredClass → List ClassDef → List TypeRef
 made_arrays classes given =
     filter_map (λ t. t) (argument_array classes ∷ flat_map (λ c. map (λ item. made_array classes c.pool.entries item.insn) (class_items c)) given)
@@ -64,5 +66,6 @@ text_units entries index = of_entry (entry_at entries index) where
 unfoldable pub texts_of : List ClassDef → List (List ℕ)
 texts_of given = distinct bytes_eq (flat_map (λ c. filter_map (text_units c.pool.entries) (uses_in_order c)) given)
 
+-- the number of a text
 abbrev pub text_number : List (List ℕ) → List ℕ → Option ℕ
 text_number texts text = position (bytes_eq text) texts

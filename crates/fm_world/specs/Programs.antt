@@ -96,6 +96,7 @@ with_number make (Some number) = make number
 abbrev pub field_use : ℕ → ℕ → Use
 field_use type field = resolved.OfField (record { 0 = field }) (record { 0 = type })
 
+-- an index that stands for a method, with the type that it names
 abbrev pub method_use : ℕ → ℕ → Use
 method_use type method = resolved.OfMethod (record { 0 = method }) (record { 0 = type })
 
@@ -145,9 +146,11 @@ program_of given main =
 
 -- ---- what it tells of a class, of a method and of a field
 
+-- a class as the code numbers it
 abbrev pub class_id : ℕ → ClassId
 class_id class = record { 0 = class }
 
+-- a method as the code numbers it
 abbrev pub method_id : ℕ → MethodId
 method_id method = record { 0 = method }
 
@@ -175,6 +178,7 @@ body_of m code = by_row m.row where
   by_row None = by_code code
   by_row (Some row) = body.Native row
 
+-- the code of the method of a number
 abbrev pub code_at : Program → ℕ → Option Code
 code_at p method = slice_index_or p.codes method None
 
@@ -219,11 +223,13 @@ abbrev pub IsBaseIn : List DeclaredClass → Base → Type 0
 IsBaseIn classes (base.OfClass class) = class.0 < length classes
 IsBaseIn classes b = Unit {0}
 
+-- a type that the program has classes for
 abbrev pub IsTypeIn : List DeclaredClass → TypeRef → Type 0
 IsTypeIn classes t = IsBaseIn classes t.base
 
 -- ---- what an index stands for
 
+-- what an index of a class's pool stands for
 abbrev pub use_of : Program → ℕ → ℕ → Use
 use_of p class index = slice_index_or (slice_index_or p.uses class []) index resolved.Unused
 

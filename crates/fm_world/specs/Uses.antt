@@ -75,6 +75,7 @@ used_indices c =
     ∷ c.super_class
     ∷ (c.interfaces ++ flat_map values_of c.fields ++ filter_map (λ item. operand_of item.insn) (class_items c) ++ flat_map caught_by c.methods)
 
+-- whether a class file uses an index of its pool
 abbrev pub is_used : ClassDef → ℕ → Bool
 is_used c index = is_among index (used_indices c)
 
@@ -114,6 +115,7 @@ named_type classes entries index = option_and_then (λ name. type_in classes (cl
 abbrev pub array_of : TypeRef → Option TypeRef
 array_of t = if nat_lt t.dims 255 then Some (record { dims = t.dims + 1; base = t.base }) else None
 
+-- the base of an array of numbers (JVMS 6.5.newarray)
 abbrev pub base_of_elem : Elem → Option Base
 base_of_elem elem.Boolean = Some base.Boolean
 base_of_elem elem.Byte = Some base.Byte

@@ -7,12 +7,15 @@ use Rattle.fm_world.specs.declared.built_ins.BuiltInClass.{BuiltInClass}
 use Rattle.fm_world.specs.declared.built_ins.BuiltInField.{BuiltInField}
 use Rattle.fm_world.specs.declared.built_ins.BuiltInMethod.{BuiltInMethod}
 
+-- the field that a row of the table declares
 abbrev pub field_of_row : BuiltInField → DeclaredField
 field_of_row f = record { name = f.name.now; descriptor = f.descriptor.now; flags = f.flags; value = None }
 
+-- the method that a row of the table declares
 abbrev pub method_of_row : BuiltInMethod → DeclaredMethod
 method_of_row m = record { name = m.name.now; descriptor = m.descriptor.now; flags = m.flags; row = Some m.row }
 
+-- the class that a row of the table declares
 abbrev pub class_of_row : BuiltInClass → DeclaredClass
 class_of_row c = record {
   name = c.name.now;

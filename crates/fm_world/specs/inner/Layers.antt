@@ -3,6 +3,7 @@ use Rattle.std.specs.Prelude.{◌≡◌, ℕ, zero, suc, ◌^◌, ◌<◌, Optio
 use Rattle.fm_world.specs.inner.Nodes.{entry_of, IsNode, Grows}
 use Rattle.fm_world.specs.declared.layers.Layers.{Layers}
 
+-- the value that an entry holds; 0 is none
 abbrev pub value_of_entry : ℕ → Option ℕ
 value_of_entry zero = None
 value_of_entry (suc value) = Some value
@@ -11,6 +12,7 @@ value_of_entry (suc value) = Some value
 abbrev pub value_at : Layers → ℕ → ℕ → Option ℕ
 value_at x table key = value_of_entry (entry_of x.nodes.items x.levels table key)
 
+-- the number is that of a table
 abbrev pub IsTable : Layers → ℕ → Type 0
 IsTable x table = IsNode x.nodes.items x.levels table
 

@@ -18,18 +18,22 @@ use Rattle.fm_world.specs.declared.records.MethodInfo.{MethodInfo}
 
 -- ---- the program
 
+-- the code of a body
 abbrev pub code_in : Body → Option Code
 code_in (body.Coded code) = Some code
 code_in b = None
 
+-- the outline of a program that is made of parts
 abbrev pub outline_in : Parts → Outline
 outline_in x = record { classes = x.declared; types = x.types; texts = x.texts; main_class = x.main_class.0; main = x.main.0 }
 
+-- the program that is made of parts
 abbrev pub program_in : Parts → Program
 program_in x = record { outline = outline_in x; uses = x.uses; codes = map (λ (m : MethodInfo). code_in m.body) x.methods; made = x.made }
 
 -- ---- the tables
 
+-- the numbers below a count, in order
 abbrev pub numbers_below : ℕ → List ℕ
 numbers_below count = range_with_len 0 count
 
@@ -38,6 +42,7 @@ abbrev pub chain_from : List DeclaredClass → Option ℕ → List ℕ
 chain_from classes None = []
 chain_from classes (Some class) = chain_of classes class
 
+-- each class comes right before its superclass's chain
 abbrev pub IsLinear : List DeclaredClass → Type 0
 IsLinear classes = (class : ℕ) → class < length classes → chain_of classes class ≡ class ∷ chain_from classes (parent_of classes class)
 
