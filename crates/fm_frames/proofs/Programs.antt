@@ -37,7 +37,7 @@ code-is p method runnable = code_in-body (method_at p.outline.classes method).me
 -- ---- built-in classes by their names
 
 -- a name that is found among the built-in classes is found there in each program
-string_number : (given : List DeclaredClass) → class_number (built_in ++ given) string_name ≡ Some 1
+pub string_number : (given : List DeclaredClass) → class_number (built_in ++ given) string_name ≡ Some 1
 unfolding built_in
 string_number given = position_from-zero (λ (c : DeclaredClass). bytes_eq c.name string_name) (built_in ++ given)
 

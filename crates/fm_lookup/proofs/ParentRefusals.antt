@@ -33,20 +33,20 @@ use Rattle.fm_world.specs.declared.declarations.DeclaredClass.{DeclaredClass}
 
 -- ---- lists without refusals
 
-nil_left : {X : Type 0} (xs ys : List X) → xs ++ ys ≡ [] → xs ≡ []
+pub nil_left : {X : Type 0} (xs ys : List X) → xs ++ ys ≡ [] → xs ≡ []
 nil_left [] ys e = refl
 nil_left (x ∷ xs) ys e = absurd (omega (arith, ap length e))
 
-nil_right : {X : Type 0} (xs ys : List X) → xs ++ ys ≡ [] → ys ≡ []
+pub nil_right : {X : Type 0} (xs ys : List X) → xs ++ ys ≡ [] → ys ≡ []
 nil_right [] ys e = e
 nil_right (x ∷ xs) ys e = absurd (omega (arith, ap length e))
 
-none_of : {X : Type 0} (f : X → List Refusal) (xs : List X) (j : ℕ) (x : X) → flat_map f xs ≡ [] → slice_get xs j ≡ Some x → f x ≡ []
+pub none_of : {X : Type 0} (f : X → List Refusal) (xs : List X) (j : ℕ) (x : X) → flat_map f xs ≡ [] → slice_get xs j ≡ Some x → f x ≡ []
 none_of f [] j x none at = absurd (none-some x at)
 none_of f (y ∷ ys) zero x none at = sym (ap f (same_Some y x at)) ∙ nil_left (f y) (flat_map f ys) none
 none_of f (y ∷ ys) (suc j) x none at = none_of f ys j x (nil_right (f y) (flat_map f ys) none) at
 
-none_at : (f : ℕ → List Refusal) (xs : List ℕ) (i : ℕ) → flat_map f xs ≡ [] → is_among i xs ≡ true → f i ≡ []
+pub none_at : (f : ℕ → List Refusal) (xs : List ℕ) (i : ℕ) → flat_map f xs ≡ [] → is_among i xs ≡ true → f i ≡ []
 none_at f [] i none among = absurd (false≢true among)
 none_at f (y ∷ ys) i none among =
     by_case (none_at f ys i (nil_right (f y) (flat_map f ys) none)) (either (nat_eq i y) (is_among i ys) among) where
@@ -75,11 +75,11 @@ judged classes c index none within used =
     let there = is_among_at (pool_indices c) index index inside (get_or-range_with_len 0 n index 0 within ∙ zero-add index) in
     none_at (bad_parent_at classes c) (uses_in_order c) index none (among_filter (is_used c) index (pool_indices c) there used)
 
-first_true : (a b : Bool) → a ≡ true → (a || b) ≡ true
+pub first_true : (a b : Bool) → a ≡ true → (a || b) ≡ true
 first_true true b e = refl
 first_true false b e = absurd (false≢true e)
 
-superclass_used : (c : ClassDef) → is_used c c.super_class ≡ true
+pub superclass_used : (c : ClassDef) → is_used c c.super_class ≡ true
 unfolding used_indices
 superclass_used c = or_true (nat_eq c.super_class c.this_class) _ (first_true (nat_eq c.super_class c.super_class) _ (same_number c.super_class))
 
@@ -92,7 +92,7 @@ interface_used c index among = or_true (nat_eq index c.this_class) _ (or_true (n
     (among_left index ((c.interfaces ++ flat_map values_of c.fields) ++ operands_in_class c) (flat_map caught_by c.methods)
     (among_left index (c.interfaces ++ flat_map values_of c.fields) (operands_in_class c) (among_left index c.interfaces (flat_map values_of c.fields) among))))
 
-name_within : (entries : List Entry) (index : ℕ) → IsSome (class_name_at entries index) → index < length entries
+pub name_within : (entries : List Entry) (index : ℕ) → IsSome (class_name_at entries index) → index < length entries
 name_within entries index some = by_place (cases_lt index (length entries)) where
   by_place : (index < length entries) ⊎ (length entries ≤ index) → index < length entries
   by_place (inl h) = h
@@ -100,12 +100,12 @@ name_within entries index some = by_place (cases_lt index (length entries)) wher
 
 -- ---- a superclass that isn't refused
 
-not_refused : (a b : Bool) (r s : Refusal) → cond a (r ∷ []) (cond b (s ∷ []) []) ≡ [] → (a ≡ false) × (b ≡ false)
+pub not_refused : (a b : Bool) (r s : Refusal) → cond a (r ∷ []) (cond b (s ∷ []) []) ≡ [] → (a ≡ false) × (b ≡ false)
 not_refused false false r s e = (refl, refl)
 not_refused false true r s e = absurd (omega (arith, ap length e))
 not_refused true b r s e = absurd (omega (arith, ap length e))
 
-if_true : (b : Bool) (xs : List Refusal) → b ≡ true → cond b xs [] ≡ [] → xs ≡ []
+pub if_true : (b : Bool) (xs : List Refusal) → b ≡ true → cond b xs [] ≡ [] → xs ≡ []
 if_true true xs e h = h
 if_true false xs e h = absurd (false≢true e)
 
@@ -116,7 +116,7 @@ superclass_judged classes c none within =
     not_refused (c.super_class == 0) (is_bad_superclass classes c (name_at c.pool.entries c.super_class)) _ _
     (if_true (c.super_class == c.super_class) (bad_superclass classes c) (same_number c.super_class) (nil_left (cond (c.super_class == c.super_class) (bad_superclass classes c) []) _ all))
 
-refused_not : (b : Bool) (r : Refusal) → refused_if b r ≡ [] → b ≡ false
+pub refused_not : (b : Bool) (r : Refusal) → refused_if b r ≡ [] → b ≡ false
 refused_not false r e = refl
 refused_not true r e = absurd (omega (arith, ap length e))
 
@@ -129,11 +129,11 @@ interface_judged classes c index none within among =
 
 -- ---- a file
 
-fails : (a b : Bool) → (a || b) ≡ false → (a ≡ false) × (b ≡ false)
+pub fails : (a b : Bool) → (a || b) ≡ false → (a ≡ false) × (b ≡ false)
 fails false b e = (refl, e)
 fails true b e = absurd (false≢true (sym e))
 
-some_entries : (entries : List Entry) → AreSlots true entries → 0 < length entries
+pub some_entries : (entries : List Entry) → AreSlots true entries → 0 < length entries
 some_entries [] slots = absurd slots
 some_entries (e ∷ entries) slots = omega arith
 
@@ -246,21 +246,21 @@ pub record IsDeclared (classes : List DeclaredClass) (j : ℕ) (c : ClassDef) : 
   pub number : ℕ
   pub declared : get_or classes j no_class ≡ declared_of number c
 
-declared_at : (n : ℕ) (given : List ClassDef) (j : ℕ) (c : ClassDef) → slice_get given j ≡ Some c → IsDeclared (declared_from n given) j c
+pub declared_at : (n : ℕ) (given : List ClassDef) (j : ℕ) (c : ClassDef) → slice_get given j ≡ Some c → IsDeclared (declared_from n given) j c
 declared_at n [] j c at = absurd (none-some c at)
 declared_at n (d ∷ given) zero c at = record { number = n; declared = ap (declared_of n) (same_Some d c at) }
 declared_at n (d ∷ given) (suc j) c at = let later = declared_at (n + 1) given j c at in record { number = later.number; declared = later.declared }
 
-length-declared : (n : ℕ) (given : List ClassDef) → length (declared_from n given) ≡ length given
+pub length-declared : (n : ℕ) (given : List ClassDef) → length (declared_from n given) ≡ length given
 length-declared n [] = refl
 length-declared n (c ∷ given) = ap suc (length-declared (n + 1) given)
 
-past_none : {X : Type 0} (xs : List X) (j : ℕ) → slice_get xs j ≡ None → length xs ≤ j
+pub past_none : {X : Type 0} (xs : List X) (j : ℕ) → slice_get xs j ≡ None → length xs ≤ j
 past_none [] j e = omega arith
 past_none (x ∷ xs) zero e = absurd (none-some x (sym e))
 past_none (x ∷ xs) (suc j) e = let rest = past_none xs j e in omega (arith, rest)
 
-spelled_at : (given : List ClassDef) (j : ℕ) (c : ClassDef) → AllByRecursion HasSpelling given → slice_get given j ≡ Some c → HasSpelling c
+pub spelled_at : (given : List ClassDef) (j : ℕ) (c : ClassDef) → AllByRecursion HasSpelling given → slice_get given j ≡ Some c → HasSpelling c
 spelled_at [] j c all at = absurd (none-some c at)
 spelled_at (d ∷ given) zero c all at = subst HasSpelling (same_Some d c at) all.0
 spelled_at (d ∷ given) (suc j) c all at = spelled_at given j c all.1 at

@@ -68,7 +68,7 @@ each_used c (m ∷ fields) used = (
 -- ---- one field
 
 -- what an entry gives to a field
-abbrev constant_by : List Entry → Entry → Option Constant
+abbrev pub constant_by : List Entry → Entry → Option Constant
 constant_by entries (entry.Integer value) = Some (constant.Int value)
 constant_by entries (entry.Long value) = Some (constant.Long value)
 constant_by entries (entry.Text units) = Some (constant.Text (text_at entries units))

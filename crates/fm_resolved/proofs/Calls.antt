@@ -18,9 +18,8 @@ use Rattle.fm_code.specs.declared.instructions.Insn.{Insn}
 use Rattle.fm_lookup.proofs.Downwards.{same_number}
 use Rattle.fm_records.proofs.UseLaws.{resolved_by}
 use Rattle.fm_refuse.proofs.WantedMembers.{is_wrong_method, method_refusals}
-use Rattle.fm_resolved.proofs.ClassChains.{fails, refused_not}
 use Rattle.fm_resolved.proofs.CodedMethods.{code_there, item_there, use_at, uses_of_file}
-use Rattle.fm_resolved.proofs.GivenFiles.{none_of, none_used}
+use Rattle.fm_resolved.proofs.GivenFiles.{none_used}
 use Rattle.fm_types.specs.Named.{class_of_method}
 use Rattle.fm_types.specs.Typed.{use_in}
 use Rattle.fm_world.specs.BuiltIns.{built_in}
@@ -33,6 +32,7 @@ use Rattle.fm_world.specs.Uses.{class_items, named_member, operand_of}
 use Rattle.fm_world.specs.declared.declarations.DeclaredClass.{DeclaredClass}
 use Rattle.fm_world.specs.declared.uses.Use.{Use}
 use Rattle.fm_world.specs.declared.uses.Use.TheVariants as resolved
+use Rattle.fm_lookup.proofs.ParentRefusals.{none_of, fails, refused_not}
 
 -- ---- what is wanted
 

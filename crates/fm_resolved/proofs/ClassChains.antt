@@ -12,9 +12,9 @@ use Rattle.fm_code.specs.declared.constant_pool.Entry.{Entry}
 use Rattle.fm_code.specs.declared.constant_pool.Entry.TheVariants as entry
 use Rattle.fm_lookup.proofs.BuiltInParents.{count_is, number_first, object_parent_is}
 use Rattle.fm_lookup.proofs.Downwards.{among_head, or_true, same_number}
-use Rattle.fm_lookup.proofs.ParentRefusals.{tree_object}
+use Rattle.fm_lookup.proofs.ParentRefusals.{tree_object, first_true, length-declared, past_none, name_within, nil_left, none_of, spelled_at, not_refused, fails, if_true, refused_not, superclass_used, some_entries}
 use Rattle.fm_code.specs.Names.{object}
-use Rattle.fm_resolved.proofs.GivenFiles.{class_of_file, first_true, length-declared, past_none, name_within, nil_left, none_of, none_used, spelled_at}
+use Rattle.fm_resolved.proofs.GivenFiles.{class_of_file, none_used}
 use Rattle.fm_types.specs.Fits.{AreTree, object_of}
 use Rattle.fm_world.proofs.Displays.{class_number-within, parent_of-within}
 use Rattle.fm_world.specs.BuiltIns.{built_in}
@@ -88,31 +88,6 @@ built_in_above more class parent within is = by_first (nat_eq class 0) refl wher
       subst (λ p. p < length built_in) (same_Some above.0.parent parent (sym above.0.parent_is ∙ is)) above.1
 
 -- ---- classes of files
-
-pub fails : (a b : Bool) → (a || b) ≡ false → (a ≡ false) × (b ≡ false)
-fails false b e = (refl, e)
-fails true b e = absurd (false≢true (sym e))
-
-if_true : (b : Bool) (xs : List Refusal) → b ≡ true → cond b xs [] ≡ [] → xs ≡ []
-if_true true xs e h = h
-if_true false xs e h = absurd (false≢true e)
-
-pub refused_not : (b : Bool) (r : Refusal) → refused_if b r ≡ [] → b ≡ false
-refused_not false r e = refl
-refused_not true r e = absurd (omega (arith, ap length e))
-
-not_refused : (a b : Bool) (r s : Refusal) → cond a (r ∷ []) (cond b (s ∷ []) []) ≡ [] → (a ≡ false) × (b ≡ false)
-not_refused false false r s e = (refl, refl)
-not_refused false true r s e = absurd (omega (arith, ap length e))
-not_refused true b r s e = absurd (omega (arith, ap length e))
-
-superclass_used : (c : ClassDef) → is_used c c.super_class ≡ true
-unfolding used_indices
-superclass_used c = or_true (nat_eq c.super_class c.this_class) _ (first_true (nat_eq c.super_class c.super_class) _ (same_number c.super_class))
-
-some_entries : (entries : List Entry) → AreSlots true entries → 0 < length entries
-some_entries [] slots = absurd slots
-some_entries (e ∷ entries) slots = omega arith
 
 -- a name that is no array's is its class's
 class_named : (name : List ℕ) → is_array_name name ≡ false → class_in (class_type name) ≡ Some name

@@ -22,6 +22,7 @@ use Rattle.fm_world.specs.Programs.{classes_of}
 use Rattle.fm_world.specs.declared.declarations.Constant.{Constant}
 use Rattle.fm_world.specs.declared.declarations.Constant.TheVariants as constant
 use Rattle.fm_world.specs.declared.declarations.DeclaredClass.{DeclaredClass}
+use Rattle.fm_records.proofs.FirstLaws.{constant_by}
 
 -- a field with a number for its constant declares a kind of numbers
 abbrev IsPlain : List DeclaredClass → OwnedField → Type 0
@@ -31,12 +32,6 @@ IsPlain classes f = IsNumber f.field.value → IsPlainKind (field_kind classes f
 
 abbrev DeclaresNumber : List DeclaredClass → List ℕ → Type 0
 DeclaresNumber classes descriptor = IsPlainKind (declared_kind classes (field_type descriptor))
-
-abbrev constant_by : List Entry → Entry → Option Constant
-constant_by entries (entry.Integer value) = Some (constant.Int value)
-constant_by entries (entry.Long value) = Some (constant.Long value)
-constant_by entries (entry.Text units) = Some (constant.Text (text_at entries units))
-constant_by entries e = None
 
 by_entry : (classes : List DeclaredClass) (entries : List Entry) (descriptor : List ℕ) (e : Entry) → Contains (suited_descriptors e) descriptor
     → IsNumber (constant_by entries e) → DeclaresNumber classes descriptor

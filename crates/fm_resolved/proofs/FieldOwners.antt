@@ -22,9 +22,9 @@ use Rattle.fm_code.specs.declared.constant_pool.Entry.{Entry}
 use Rattle.fm_lookup.proofs.BuiltInParents.{count_is}
 use Rattle.fm_lookup.proofs.Downwards.{among_head, either, or_true}
 use Rattle.fm_lookup.proofs.HierarchyLemmas.{superinterfaces_only}
-use Rattle.fm_lookup.proofs.ParentRefusals.{tree_object}
+use Rattle.fm_lookup.proofs.ParentRefusals.{tree_object, first_true, length-declared, past_none, spelled_at}
 use Rattle.fm_lookup.specs.inner.Hierarchy.{AreSound}
-use Rattle.fm_resolved.proofs.GivenFiles.{class_of_file, first_true, length-declared, past_none, spelled_at}
+use Rattle.fm_resolved.proofs.GivenFiles.{class_of_file}
 use Rattle.fm_types.proofs.ClassTree.{interface-within}
 use Rattle.fm_types.specs.Fits.{is_seen_as_object, object_of}
 use Rattle.fm_world.specs.BuiltIns.{built_in}

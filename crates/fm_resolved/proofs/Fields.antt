@@ -15,9 +15,8 @@ use Rattle.fm_code.specs.declared.instructions.Insn.{Insn}
 use Rattle.fm_records.proofs.UseLaws.{resolved_by}
 use Rattle.fm_refuse.proofs.WantedMembers.{field_refusals}
 use Rattle.fm_resolved.proofs.Calls.{is_wanted, IsWanted, same_flag}
-use Rattle.fm_resolved.proofs.ClassChains.{refused_not}
 use Rattle.fm_resolved.proofs.CodedMethods.{code_there, item_there, use_at, uses_of_file}
-use Rattle.fm_resolved.proofs.GivenFiles.{none_of, none_used}
+use Rattle.fm_resolved.proofs.GivenFiles.{none_used}
 use Rattle.fm_types.specs.Typed.{use_in}
 use Rattle.fm_world.specs.Causes.{differs, field_flags, field_text, is_not_as_wanted, missing_field_at, missing_fields, MissingField, refused, refused_where, static_field_wanted, wanted_at}
 use Rattle.fm_world.specs.Linking.{refused_fields}
@@ -28,6 +27,7 @@ use Rattle.fm_world.specs.Uses.{named_member, operand_of}
 use Rattle.fm_world.specs.declared.declarations.DeclaredClass.{DeclaredClass}
 use Rattle.fm_world.specs.declared.uses.Use.{Use}
 use Rattle.fm_world.specs.declared.uses.Use.TheVariants as resolved
+use Rattle.fm_lookup.proofs.ParentRefusals.{none_of, refused_not}
 
 -- ---- what is named
 

@@ -20,33 +20,9 @@ use Rattle.fm_world.specs.Linking.{refusals, refused_built_ins, refused_duplicat
 use Rattle.fm_world.specs.Programs.{classes_of}
 use Rattle.fm_world.specs.Uses.{is_used, pool_indices, uses_in_order}
 use Rattle.fm_world.specs.declared.declarations.DeclaredClass.{DeclaredClass}
+use Rattle.fm_lookup.proofs.ParentRefusals.{none_at, name_within, none_of, spelled_at, declared_at, past_none, nil_left, nil_right, first_true, length-declared}
 
 -- ---- lists without refusals
-
-pub nil_left : {X : Type 0} (xs ys : List X) → xs ++ ys ≡ [] → xs ≡ []
-nil_left [] ys e = refl
-nil_left (x ∷ xs) ys e = absurd (omega (arith, ap length e))
-
-pub nil_right : {X : Type 0} (xs ys : List X) → xs ++ ys ≡ [] → ys ≡ []
-nil_right [] ys e = e
-nil_right (x ∷ xs) ys e = absurd (omega (arith, ap length e))
-
-pub none_of : {X : Type 0} (f : X → List Refusal) (xs : List X) (j : ℕ) (x : X) → flat_map f xs ≡ [] → slice_get xs j ≡ Some x → f x ≡ []
-none_of f [] j x none at = absurd (none-some x at)
-none_of f (y ∷ ys) zero x none at = sym (ap f (same_Some y x at)) ∙ nil_left (f y) (flat_map f ys) none
-none_of f (y ∷ ys) (suc j) x none at = none_of f ys j x (nil_right (f y) (flat_map f ys) none) at
-
-pub none_at : (f : ℕ → List Refusal) (xs : List ℕ) (i : ℕ) → flat_map f xs ≡ [] → is_among i xs ≡ true → f i ≡ []
-none_at f [] i none among = absurd (false≢true among)
-none_at f (y ∷ ys) i none among =
-    by_case (none_at f ys i (nil_right (f y) (flat_map f ys) none)) (either (nat_eq i y) (is_among i ys) among) where
-      by_case : (is_among i ys ≡ true → f i ≡ []) → (nat_eq i y ≡ true) ⊎ (is_among i ys ≡ true) → f i ≡ []
-      by_case later (inl same) = ap f (eqb-true i y same) ∙ nil_left (f y) (flat_map f ys) none
-      by_case later (inr there) = later there
-
-pub first_true : (a b : Bool) → a ≡ true → (a || b) ≡ true
-first_true true b e = refl
-first_true false b e = absurd (false≢true e)
 
 among_filter : (p : ℕ → Bool) (x : ℕ) (xs : List ℕ) → is_among x xs ≡ true → p x ≡ true → is_among x (filter p xs) ≡ true
 among_filter p x [] among passes = absurd (false≢true among)
@@ -75,41 +51,16 @@ each_one P (y ∷ ys) x all (suc k, within, there) = each_one P ys x all.1 (k, o
 
 -- ---- files and their classes
 
-pub name_within : (entries : List Entry) (index : ℕ) → IsSome (class_name_at entries index) → index < length entries
-name_within entries index some = by_place (cases_lt index (length entries)) where
-  by_place : (index < length entries) ⊎ (length entries ≤ index) → index < length entries
-  by_place (inl h) = h
-  by_place (inr h) = absurd (false≢true (rw (get_or_past entries index entry.Second h) at some))
-
-pub spelled_at : (given : List ClassDef) (j : ℕ) (c : ClassDef) → AllByRecursion HasSpelling given → slice_get given j ≡ Some c → HasSpelling c
-spelled_at [] j c all at = absurd (none-some c at)
-spelled_at (d ∷ given) zero c all at = subst HasSpelling (same_Some d c at) all.0
-spelled_at (d ∷ given) (suc j) c all at = spelled_at given j c all.1 at
-
 -- a file's class is declared by it
 pub record IsDeclared (classes : List DeclaredClass) (class : ℕ) (c : ClassDef) : Type 0 where
   pub number : ℕ
   pub declared : class_at classes class ≡ declared_of number c
-
-declared_at : (n : ℕ) (given : List ClassDef) (j : ℕ) (c : ClassDef) → slice_get given j ≡ Some c → IsDeclared (declared_from n given) j c
-declared_at n [] j c at = absurd (none-some c at)
-declared_at n (d ∷ given) zero c at = record { number = n; declared = ap (declared_of n) (same_Some d c at) }
-declared_at n (d ∷ given) (suc j) c at = let later = declared_at (n + 1) given j c at in record { number = later.number; declared = later.declared }
 
 pub class_of_file : (given : List ClassDef) (j : ℕ) (c : ClassDef) → slice_get given j ≡ Some c → IsDeclared (classes_of given) (length built_in + j) c
 unfolding classes_of
 class_of_file given j c at =
     let own = declared_at 0 given j c at in
     record { number = own.number; declared = get_or-append-add built_in (declared_from 0 given) j no_class ∙ own.declared }
-
-pub length-declared : (n : ℕ) (given : List ClassDef) → length (declared_from n given) ≡ length given
-length-declared n [] = refl
-length-declared n (c ∷ given) = ap suc (length-declared (n + 1) given)
-
-pub past_none : {X : Type 0} (xs : List X) (j : ℕ) → slice_get xs j ≡ None → length xs ≤ j
-past_none [] j e = omega arith
-past_none (x ∷ xs) zero e = absurd (none-some x (sym e))
-past_none (x ∷ xs) (suc j) e = let rest = past_none xs j e in omega (arith, rest)
 
 -- ---- each kind of refusals is empty
 

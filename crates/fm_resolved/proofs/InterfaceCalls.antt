@@ -31,7 +31,7 @@ use Rattle.fm_declare.proofs.SpelledNames.{named_class-is}
 use Rattle.fm_declare.proofs.SpelledTypes.{types_in-field}
 use Rattle.fm_resolved.proofs.Calls.{IsCall}
 use Rattle.fm_resolved.proofs.CodedMethods.{contains_at, read_at}
-use Rattle.fm_resolved.proofs.GivenFiles.{each_one, spelled_at}
+use Rattle.fm_resolved.proofs.GivenFiles.{each_one}
 use Rattle.fm_types.proofs.LeastJoins.{same_type-eq}
 use Rattle.fm_world.specs.Causes.{is_there_and, names_wrong_sort}
 use Rattle.fm_world.specs.Chains.{same_type}
@@ -41,6 +41,7 @@ use Rattle.fm_world.specs.Numbers.{type_number}
 use Rattle.fm_world.specs.Programs.{class_of_type, Outline, type_number_at}
 use Rattle.fm_world.specs.Uses.{named_class, named_member}
 use Rattle.fm_world.specs.declared.declarations.DeclaredClass.{DeclaredClass}
+use Rattle.fm_lookup.proofs.ParentRefusals.{spelled_at}
 
 -- ---- the entry of an instruction
 

@@ -14,7 +14,7 @@ use Rattle.fm_base.specs.declared.kinds.Kind.TheVariants as kind
 use Rattle.fm_base.specs.declared.kinds.TypeRef.{TypeRef}
 use Rattle.fm_code.specs.Names.{object}
 use Rattle.fm_code.specs.declared.class_file.ClassDef.{ClassDef}
-use Rattle.fm_frames.proofs.Programs.{string-is}
+use Rattle.fm_frames.proofs.Programs.{string-is, string_number}
 use Rattle.fm_frames.specs.NativeRows.{text_kind}
 use Rattle.fm_types.proofs.ClassTree.{among_one, chain_past_end}
 use Rattle.fm_types.specs.Fits.{AreTree, depth_of, fits_base, fits_type, is_objects_within, object_of}
@@ -29,29 +29,13 @@ use Rattle.fm_world.specs.Members.{kinds_of, own_kinds}
 use Rattle.fm_world.specs.Numbers.{type_of_class}
 use Rattle.fm_world.specs.Programs.{classes_of, kind_at, outline_of}
 use Rattle.fm_world.specs.declared.declarations.DeclaredClass.{DeclaredClass}
+use Rattle.fm_sound.proofs.MadeObjects.{two_up, object_there, size_is, object_top}
 
 -- ---- the class of what is thrown, which has the number 7 in each program
 
 throwable_number : (given : List DeclaredClass) → class_number (built_in ++ given) (codes "java/lang/Throwable") ≡ Some 7
 unfolding built_in
 throwable_number given = position_from-zero (λ (c : DeclaredClass). bytes_eq c.name (codes "java/lang/Throwable")) (built_in ++ given)
-
-object_there : (given : List DeclaredClass) → class_number (built_in ++ given) object_name ≡ Some 0
-unfolding built_in
-object_there given = position_from-zero (λ (c : DeclaredClass). bytes_eq c.name object_name) (built_in ++ given)
-
-object_top : (given : List DeclaredClass) → parent_of (built_in ++ given) 0 ≡ None
-unfolding built_in
-object_top given = refl
-
-two_up : (n : ℕ) (classes : List DeclaredClass) (class : ℕ) → parent_of classes class ≡ Some 0 → parent_of classes 0 ≡ None
-    → upwards (suc (suc (suc n))) classes (Some class) ≡ class ∷ 0 ∷ []
-two_up n classes class first second =
-    ap (λ o. class ∷ upwards (suc (suc n)) classes o) first ∙ ap (λ o. class ∷ 0 ∷ upwards (suc n) classes o) second
-
-size_is : (given : List DeclaredClass) → length (built_in ++ given) ≡ suc (suc (26 + length given))
-unfolding built_in
-size_is given = let many = length-append built_in given in omega (arith, many)
 
 throwable_chain : (given : List DeclaredClass) → chain_of (built_in ++ given) 7 ≡ 7 ∷ 0 ∷ []
 unfolding chain_of built_in
@@ -69,10 +53,6 @@ throwable_kinds given = ap (kinds_along (built_in ++ given)) (throwable_chain gi
 not_interface : (given : List DeclaredClass) → is_interface_at (built_in ++ given) 7 ≡ false
 unfolding built_in
 not_interface given = refl
-
-string_number : (given : List DeclaredClass) → class_number (built_in ++ given) string_name ≡ Some 1
-unfolding built_in
-string_number given = position_from-zero (λ (c : DeclaredClass). bytes_eq c.name string_name) (built_in ++ given)
 
 -- what is declared of the message is a text
 text_declared : (given : List DeclaredClass) → declared_kind (built_in ++ given) (typed 0 (object string_name)) ≡ kind.Ref (type_of_class 1)

@@ -16,12 +16,12 @@ use Rattle.fm_code.specs.declared.class_file.Member.{Member}
 use Rattle.fm_code.specs.declared.constant_pool.Entry.{Entry}
 use Rattle.fm_lookup.proofs.BuiltInParents.{count_is, IsBelow}
 use Rattle.fm_lookup.proofs.Downwards.{among_head, among_right, either}
-use Rattle.fm_lookup.proofs.ParentRefusals.{tree_object}
+use Rattle.fm_lookup.proofs.ParentRefusals.{tree_object, length-declared, nil_left, none_at, past_none, refused_not}
 use Rattle.fm_refuse.proofs.LeftOver.{abstract_or_none, left_over_parts}
 use Rattle.fm_refuse.specs.inner.Abstracts.{left_over_by, left_over_of}
-use Rattle.fm_resolved.proofs.ClassChains.{built_in_above, refused_not}
+use Rattle.fm_resolved.proofs.ClassChains.{built_in_above}
 use Rattle.fm_resolved.proofs.FieldOwners.{found_among}
-use Rattle.fm_resolved.proofs.GivenFiles.{class_of_file, length-declared, nil_left, none_at, past_none}
+use Rattle.fm_resolved.proofs.GivenFiles.{class_of_file}
 use Rattle.fm_resolved.proofs.Numbers.{owner_there}
 use Rattle.fm_resolved.proofs.Rows.{all_methods}
 use Rattle.fm_resolved.proofs.SpecialCalls.{file_implemented}

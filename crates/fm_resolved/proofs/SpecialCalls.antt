@@ -16,9 +16,7 @@ use Rattle.fm_declare.proofs.SpelledNames.{named_class-is}
 use Rattle.fm_refuse.proofs.CallsOfAbstracts.{calls_some}
 use Rattle.fm_refuse.specs.inner.Abstracts.{call_refusals}
 use Rattle.fm_resolved.proofs.Calls.{call_there, IsCall}
-use Rattle.fm_resolved.proofs.ClassChains.{fails, refused_not}
 use Rattle.fm_resolved.proofs.CodedMethods.{item_there}
-use Rattle.fm_resolved.proofs.GivenFiles.{nil_left, nil_right, spelled_at}
 use Rattle.fm_resolved.proofs.InterfaceCalls.{class_of_name, named_by, type_named}
 use Rattle.fm_sound.specs.Resolved.{IsNamed}
 use Rattle.fm_types.specs.Named.{class_of_method}
@@ -31,6 +29,7 @@ use Rattle.fm_world.specs.Programs.{class_of_type, classes_of, outline_of, progr
 use Rattle.fm_world.specs.Uses.{class_items, named_class, named_member}
 use Rattle.fm_world.specs.declared.declarations.DeclaredClass.{DeclaredClass}
 use Rattle.fm_world.specs.declared.uses.Use.TheVariants as resolved
+use Rattle.fm_lookup.proofs.ParentRefusals.{nil_left, nil_right, spelled_at, fails, refused_not}
 
 -- ---- what isn't refused of one file
 

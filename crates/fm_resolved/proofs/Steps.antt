@@ -20,11 +20,10 @@ use Rattle.fm_code.specs.declared.code_array.Item.{Item}
 use Rattle.fm_code.specs.declared.constant_pool.Entry.{Entry}
 use Rattle.fm_code.specs.declared.instructions.Insn.{Insn}
 use Rattle.fm_code.specs.declared.instructions.Insn.TheVariants as insn
-use Rattle.fm_resolved.proofs.ClassChains.{fails}
 use Rattle.fm_resolved.proofs.CodedMethods.{code_there, contains_at}
 use Rattle.fm_resolved.proofs.Constants.{all_fields}
 use Rattle.fm_resolved.proofs.Fields.{access_there}
-use Rattle.fm_resolved.proofs.GivenFiles.{each_one, spelled_at}
+use Rattle.fm_resolved.proofs.GivenFiles.{each_one}
 use Rattle.fm_resolved.proofs.InterfaceCalls.{valid_code}
 use Rattle.fm_resolved.proofs.Rows.{all_methods}
 use Rattle.fm_rows.proofs.UseLemmas.{uses_name_members}
@@ -41,6 +40,7 @@ use Rattle.fm_world.specs.Programs.{classes_of, codes_of, outline_of, program_of
 use Rattle.fm_world.specs.declared.declarations.Constant.{Constant}
 use Rattle.fm_world.specs.declared.uses.Use.{Use}
 use Rattle.fm_world.specs.declared.uses.Use.TheVariants as resolved
+use Rattle.fm_lookup.proofs.ParentRefusals.{spelled_at, fails}
 
 -- ---- targets
 

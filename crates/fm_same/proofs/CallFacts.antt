@@ -40,6 +40,7 @@ use Rattle.fm_same.specs.Resolved.{IsResolved}
 use Rattle.fm_same.proofs.CallWords.{call_takes, receiver_count, TakesCall}
 use Rattle.fm_sound.proofs.FoundMethods.{IsAlike}
 use Rattle.fm_same.proofs.TargetMethods.{target_alike}
+use Rattle.fm_sound.proofs.CallCases.{used_at}
 
 -- the word of a state by how many lie below it
 abbrev pub word_in_state : ℕ → Option TypeState → Option slots.Slot
@@ -163,10 +164,6 @@ target_fits x i c call target is among =
     }
 
 -- ---- the call that is made
-
-abbrev used_at : Program → ℕ → Option ℕ → Use
-used_at p method None = resolved.Unused
-used_at p method (Some index) = use_in p method index
 
 -- a type that a use of the program numbers is there
 pub type_there : (o : Outline) (m : MethodId) (t : TypeId) → IsUseIn o (resolved.OfMethod m t) → (named : TypeRef) × (slice_get o.types t.0 ≡ Some named)

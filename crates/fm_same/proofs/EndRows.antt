@@ -36,12 +36,13 @@ use Rattle.fm_frames.specs.Operands.{thrown}
 use Rattle.fm_frames.specs.Sights.{Sight}
 use Rattle.fm_frames.specs.States.{Frame}
 use Rattle.fm_same.specs.Evenness.{word}
-use Rattle.fm_same.proofs.Cases.{by_held, by_if, by_int, by_object, by_on_type}
+use Rattle.fm_sound.proofs.Cases.{by_held, by_if, by_int, by_object, by_on_type}
 use Rattle.fm_same.proofs.EdgesKeep.{live_before}
 use Rattle.fm_same.proofs.ItemFacts.{AtInsn, given_word, joined_class, point, row, stays_class, taken_word, x}
 use Rattle.fm_same.proofs.MoveRows.{not_taken}
 use Rattle.fm_same.proofs.ObjectRows.{mapped_some, some_if, taken_top}
 use Rattle.fm_same.proofs.PlainRows.{faulty_obeys, null_obeys, Owes, plain_obeys, stuck_obeys, thrown_obeys, words_obey}
+use Rattle.fm_sound.proofs.JumpRows.{or_parts, table_within, key_within, table_if, within_if, return_by, return_is, between, few_keys}
 
 module _ (p : Program) (facts : Facts) (exact : AreFacts p facts) (f : Frame) where
   -- ---- casts
@@ -130,15 +131,6 @@ module _ (p : Program) (facts : Facts) (exact : AreFacts p facts) (f : Frame) wh
       × IsEnd p.outline f.method end.Return × (n ≡ 1))
       → Owes p facts exact f (insn.Return value) h (going 0 (Returns n))
   returns_with value h n evenly = record { home = 0; acts = tt; leads = tt; goes = λ next going edge. absurd going; ends = evenly }
-
--- the state after a return of a value, by the kind of the result
-abbrev return_by : Outline → TypeState → Reg → Option Kind → Option TypeState
-return_by o s r None = None
-return_by o s r (Some k) = cond (same_reg r (returned_by k)) (worked o (stack_slots (k ∷ [])) [] s) None
-
-return_is : (o : Outline) (method : ℕ) (r : Reg) (s : TypeState) → return_row o method (Some r) s ≡ return_by o s r (result_of o method)
-unfolding return_row
-return_is o method r s = refl
 
 pub record IsReturned (o : Outline) (method : ℕ) (r : Reg) (s : TypeState) : Type 0 where
   pub kind : Kind
@@ -256,35 +248,6 @@ module _ (p : Program) (facts : Facts) (exact : AreFacts p facts) (f : Frame) wh
   return_obeys (Some reg.Ref) h = return_reference h
 
 -- ---- switches
-
-within_if : (b : Bool) (i n : ℕ) → (b ≡ true → i < n) → key_target (cond b (Some i) None) < suc n
-within_if true i n h = let lt : i < n = h refl in omega arith
-within_if false i n h = omega arith
-
-key_within : (keys : List ℤ) (key : ℤ) (n : ℕ) → length keys ≤ n → key_target (position (int_eq key) keys) < suc n
-key_within keys key n le =
-    let i : ℕ = prefix_len (λ other. not (int_eq key other)) keys in
-    within_if (nat_lt i (length keys)) i n (λ e. let lt : i < length keys = ltb-true i (length keys) e in omega arith)
-
-few_keys : (keys : List ℤ) (n : ℕ) → length (take n keys) ≤ n
-few_keys keys n = omega (arith, length-take n keys)
-
-between : (low : ℤ) (count : ℕ) (key : ℤ) → int_lt key low ≡ false → int_le (low +ℤ pos count) key ≡ false → unsigned_abs (key -ℤ low) < count
-between low count key first second = omega (arith, ints)
-
-or_parts : (a b : Bool) → (a || b) ≡ false → (a ≡ false) × (b ≡ false)
-or_parts false false e = (refl, refl)
-or_parts false true e = absurd (false≢true (sym e))
-or_parts true b e = absurd (false≢true (sym e))
-
-table_if : (b : Bool) (i n : ℕ) → (b ≡ false → i < n) → cond b 0 (i + 1) < suc n
-table_if true i n h = omega arith
-table_if false i n h = let lt : i < n = h refl in omega arith
-
-table_within : (low : ℤ) (count : ℕ) (key : ℤ) → table_target low count key < suc count
-table_within low count key =
-    table_if (int_lt key low || int_le (low +ℤ pos count) key) (unsigned_abs (key -ℤ low)) count
-    (λ e. let parts = or_parts (int_lt key low) (int_le (low +ℤ pos count) key) e in between low count key parts.0 parts.1)
 
 module _ (p : Program) (facts : Facts) (exact : AreFacts p facts) (f : Frame) where
   pub table_obeys : (low : ℤ) (others : ℕ) (targets : List ℕ) (h : AtInsn p facts f (insn.Table low others targets)) (s : List Sight)

@@ -56,6 +56,7 @@ use Rattle.fm_same.specs.Standing.{method_of}
 use Rattle.fm_same.specs.Targets.{CoversIn}
 use Rattle.fm_same.proofs.CallFacts.{type_there, use_there}
 use Rattle.fm_sound.proofs.FoundMethods.{select_inside}
+use Rattle.fm_sound.proofs.MadeObjects.{HasObjectsBy}
 
 -- ---- where a receiver that passes is counted
 
@@ -135,10 +136,6 @@ object_named classes class plain h = by_sort (is_interface_at classes class.0) p
   by_sort : (b : Bool) → b ≡ false → (b || (class.0 == object_of classes)) ≡ true → class.0 ≡ object_of classes
   by_sort true e g = absurd (false≢true (sym e))
   by_sort false e g = eqb-true class.0 (object_of classes) g
-
-abbrev HasObjectsBy : Outline → Option ℕ → Type 0
-HasObjectsBy o None = Unit {0}
-HasObjectsBy o (Some class) = (is_abstract (class_at o.classes class).flags ≡ false) × (is_interface (class_at o.classes class).flags ≡ false)
 
 -- a class of which objects are made
 has_flags : (o : Outline) (t : TypeRef) (class : ℕ) → class_of_type t ≡ Some class → HasObjects o t

@@ -27,8 +27,9 @@ use Rattle.fm_frames.specs.declared.values.Value.{Value}
 use Rattle.fm_frames.specs.declared.values.Value.TheVariants as value
 use Rattle.fm_same.specs.Colours.{kind_in}
 use Rattle.fm_same.specs.Evenness.{PlacesAgree, PutAgrees, ReadAgrees}
-use Rattle.fm_same.proofs.Cases.{by_held, by_if, by_int, by_passing}
+use Rattle.fm_sound.proofs.Cases.{by_held, by_if, by_int, by_passing}
 use Rattle.fm_same.proofs.Starting.{all_flattened, all_joined}
+use Rattle.fm_sound.proofs.NestedArrays.{array_kind}
 
 -- ---- the object that is seen
 
@@ -90,11 +91,6 @@ module _ (o : Outline) (store : Store) (stack : List Value) where
   put_agrees n place kind.Int v h = λ object held t is. let both : Some kind.Int ≡ Some (kind.Ref t) = sym (h object held) ∙ is in absurd (cc)
 
 -- ---- arrays
-
-array_kind : (classes : List DeclaredClass) (t : TypeRef) (place : ℕ) → 0 < t.dims → kind_at classes t place ≡ Some (element_kind t)
-array_kind classes t place deep =
-    ap (λ b. cond b (option_and_then (λ class. slice_get (kinds_of classes class) place) (class_of_type t)) (Some (element_kind t)))
-    (ne_eqb t.dims 0 (λ same. omega (arith, deep, same)))
 
 letter_deep : (t : TypeRef) (rest : Bool) → ((t.dims == 1) && rest) ≡ true → 0 < t.dims
 letter_deep t rest h = let one : t.dims ≡ 1 = eqb-true t.dims 1 (and_parts (t.dims == 1) rest h).0 in omega (arith, one)

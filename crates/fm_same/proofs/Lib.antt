@@ -15,7 +15,6 @@ pub mod StepKeeps
 pub mod Retiring
 pub mod TargetMethods
 pub mod ItemFacts
-pub mod Cases
 pub mod PlainRows
 pub mod MoveRows
 pub mod ObjectRows

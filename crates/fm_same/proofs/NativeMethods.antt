@@ -34,6 +34,8 @@ use Rattle.fm_world.specs.declared.declarations.DeclaredMethod.{DeclaredMethod}
 use Rattle.fm_frames.specs.CallRows.{native_of, words_of_arguments}
 use Rattle.fm_frames.specs.Natives.{Append, FreeMeFree, FreeMeFreeChain, FreeMeLink, GetMessage, Native, native_of_row, StringToString, ThrowableInitOf}
 use Rattle.fm_same.specs.Covering.{is_free_me, native_words, NativeEnds}
+use Rattle.fm_sound.proofs.BuiltInMethods.{methods_from-append, method_same, untrue}
+use Rattle.fm_sound.proofs.HiddenFields.{string_there, builder_there, buffer_there}
 
 -- ---- words of descriptors: a class takes one word, whether it is there or not
 
@@ -108,22 +110,6 @@ fits_at (m ∷ methods) (suc n) h = fits_at methods n (and_parts (fits m.method)
 
 -- ---- built-in methods have the numbers that they have in each program
 
-methods_from-append : (class : ℕ) (cs ds : List DeclaredClass)
-    → methods_from class (cs ++ ds) ≡ methods_from class cs ++ methods_from (class + length cs) ds
-methods_from-append class [] ds = let e : class ≡ class + 0 = omega arith in ap (λ k. methods_from k ds) e
-methods_from-append class (c ∷ cs) ds =
-    let e : class + 1 + length cs ≡ class + length (c ∷ cs) = omega arith in
-    let own : List OwnedMethod = map (λ m. record { class = class; method = m }) c.methods in
-    ap (λ ms. own ++ ms) (methods_from-append (class + 1) cs ds ∙ ap (λ k. methods_from (class + 1) cs ++ methods_from k ds) e)
-    ∙ sym (append_assoc own (methods_from (class + 1) cs) (methods_from (class + length (c ∷ cs)) ds))
-
-method_same : (given : List DeclaredClass) (method : ℕ) → method < length (methods_of built_in)
-    → method_at (built_in ++ given) method ≡ method_at built_in method
-unfolding methods_of
-method_same given method inside =
-    ap (λ ms. slice_index_or ms method (record { class = 0; method = no_method })) (methods_from-append 0 built_in given)
-    ∙ get_or_append_left (methods_from 0 built_in) (methods_from (0 + length built_in) given) (record { class = 0; method = no_method }) method inside
-
 -- ---- ends
 
 reference_kind : (dims : ℕ) (o : Option ℕ) (class : ℕ) → o ≡ Some class
@@ -134,18 +120,6 @@ reference_kind dims o class is =
           → pairs.is_reference_kind (cond b (kind.Ref (record { dims = 0; base = of_class class })) (kind.Ref (record { dims = dims; base = of_class class }))) ≡ true
       by_dims true = refl
       by_dims false = refl
-
-string_there : (given : List DeclaredClass) → class_number (built_in ++ given) string_name ≡ Some 1
-unfolding built_in
-string_there given = position_from-zero (λ (c : DeclaredClass). bytes_eq c.name string_name) (built_in ++ given)
-
-builder_there : (given : List DeclaredClass) → class_number (built_in ++ given) (codes "java/lang/StringBuilder") ≡ Some 2
-unfolding built_in
-builder_there given = position_from-zero (λ (c : DeclaredClass). bytes_eq c.name (codes "java/lang/StringBuilder")) (built_in ++ given)
-
-buffer_there : (given : List DeclaredClass) → class_number (built_in ++ given) (codes "java/lang/StringBuffer") ≡ Some 3
-unfolding built_in
-buffer_there given = position_from-zero (λ (c : DeclaredClass). bytes_eq c.name (codes "java/lang/StringBuffer")) (built_in ++ given)
 
 or_cases : (a b : Bool) → (a || b) ≡ true → (a ≡ true) ⊎ (b ≡ true)
 or_cases true b h = inl refl
@@ -165,10 +139,6 @@ text_kind : (given : List DeclaredClass) (dims : ℕ) (b : BaseType) → names_t
 text_kind given dims (primitive letter) h = absurd (false≢true h)
 text_kind given dims (object name) h =
     let there = text_there given name h in reference_kind dims (class_number (built_in ++ given) name) there.0 there.1
-
-untrue : (b : Bool) → not b ≡ true → b ≡ false
-untrue true h = absurd (false≢true h)
-untrue false h = refl
 
 receiver_at : (static constructor : Bool) (t : TypeRef) (rest : List slots.Slot) → static ≡ false
     → IsSomeAnd (slice_get (cond static [] (cond constructor (slot.UninitThis ∷ []) (slot.Ref t ∷ [])) ++ rest) 0) (λ s. is_reference s ≡ true)

@@ -33,6 +33,7 @@ use Rattle.fm_same.proofs.RegionLemmas.{region_global}
 use Rattle.fm_same.proofs.ReturnsKeep.{Kept, return_kept}
 use Rattle.fm_same.proofs.SourcesKeep.{source_gives}
 use Rattle.fm_same.proofs.ThrowsKeep.{thrown_coloured}
+use Rattle.fm_sound.proofs.FramesStand.{target_is, target_in}
 
 -- ---- the table of what comes next, with a name
 
@@ -86,15 +87,6 @@ followed_areas p from e f callers x (Exits n) = refl
 followed_areas p from e f callers x (Faults source) = refl
 
 -- ---- targets
-
-abbrev target_in : ℕ → ℕ → Option Insn → ℕ
-target_in n item None = item
-target_in n item (Some i) = slice_index_or (targets_of i) n item
-
-target_is : (p : Program) (f : Frame) (n : ℕ) (code : Code) (i : Insn) → code_at p f.method ≡ Some code → insn_of code f.item ≡ Some i
-    → target_at p f n ≡ slice_index_or (targets_of i) n f.item
-target_is p f n code i code_is insn_is =
-    ap (target_in n f.item) (ap (λ o. option_and_then (λ (c : Code). insn_of c f.item) o) code_is ∙ insn_is)
 
 same_default : (xs : List ℕ) (n d : ℕ) → n < length xs → slice_index_or xs n (slice_index_or xs n d) ≡ slice_index_or xs n d
 same_default xs n d within = get_or_from_slice_get xs n (slice_index_or xs n d) (slice_index_or xs n d) (slice_get-get_or xs n d within)

@@ -40,7 +40,7 @@ use Rattle.fm_frames.specs.Rows.{effect_of}
 use Rattle.fm_frames.specs.Sights.{Sight, sights}
 use Rattle.fm_frames.specs.declared.values.Value.{Value}
 use Rattle.fm_same.specs.Evenness.{PutAgrees, ReadAgrees}
-use Rattle.fm_same.proofs.Cases.{by_any, by_builder, by_built, by_held, by_if, by_inner, by_int, by_long, by_object, by_on_field, by_on_method, by_on_type, by_passing, by_reference, by_shown, by_text, by_thrown}
+use Rattle.fm_sound.proofs.Cases.{by_any, by_builder, by_built, by_held, by_if, by_inner, by_int, by_long, by_object, by_on_field, by_on_method, by_on_type, by_passing, by_reference, by_shown, by_text, by_thrown}
 use Rattle.fm_same.proofs.KindsAgree.{Agrees, array_load_agrees, array_store_agrees, arrays_agree, bare, gone, loaded_agrees, nulls, put_agrees, seen_place, stucks, throws}
 
 module _ (o : Outline) (store : Store) (stack : List Value) where

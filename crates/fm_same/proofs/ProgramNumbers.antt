@@ -22,38 +22,9 @@ use Rattle.fm_world.specs.declared.declarations.DeclaredClass.{DeclaredClass}
 use Rattle.fm_frames.proofs.Programs.{built_in-inside, string-is}
 use Rattle.fm_same.specs.Evenness.{HasNoEdge, HoldsNumbers}
 use Rattle.fm_same.specs.Resolved.{IsResolved}
+use Rattle.fm_sound.proofs.MadeObjects.{chain_is, two_up, object_there, size_is, object_top, string_kinds, both_kinds}
 
 -- ---- the chain of a class right below Object
-
-object_there : (given : List DeclaredClass) → class_number (built_in ++ given) object_name ≡ Some 0
-unfolding built_in
-object_there given = position_from-zero (λ (c : DeclaredClass). bytes_eq c.name object_name) (built_in ++ given)
-
-two_up : (n : ℕ) (classes : List DeclaredClass) (class : ℕ) → parent_of classes class ≡ Some 0 → parent_of classes 0 ≡ None
-    → upwards (suc (suc (suc n))) classes (Some class) ≡ class ∷ 0 ∷ []
-two_up n classes class first second =
-    ap (λ o. class ∷ upwards (suc (suc n)) classes o) first ∙ ap (λ o. class ∷ 0 ∷ upwards (suc n) classes o) second
-
-size_is : (given : List DeclaredClass) → length (built_in ++ given) ≡ suc (suc (26 + length given))
-unfolding built_in
-size_is given = let many = length-append built_in given in omega (arith, many)
-
-chain_is : (given : List DeclaredClass) (class : ℕ) → parent_of (built_in ++ given) class ≡ Some 0 → parent_of (built_in ++ given) 0 ≡ None
-    → chain_of (built_in ++ given) class ≡ class ∷ 0 ∷ []
-unfolding chain_of
-chain_is given class first second =
-    ap (λ n. upwards (suc n) (built_in ++ given) (Some class)) (size_is given) ∙ two_up (26 + length given) (built_in ++ given) class first second
-
-object_top : (given : List DeclaredClass) → parent_of (built_in ++ given) 0 ≡ None
-unfolding built_in
-object_top given = refl
-
-abbrev both_kinds : List DeclaredClass → List ℕ → List Kind
-both_kinds classes chain = flat_map (λ above. own_kinds classes (class_at classes above)) (reverse chain)
-
-string_kinds : (given : List DeclaredClass) → kinds_of (built_in ++ given) 1 ≡ []
-unfolding kinds_of built_in
-string_kinds given = ap (both_kinds (built_in ++ given)) (chain_is given 1 (object_there given) (object_top given))
 
 output_kinds : (given : List DeclaredClass) → kinds_of (built_in ++ given) 5 ≡ []
 unfolding kinds_of built_in

@@ -30,6 +30,7 @@ use Rattle.fm_same.specs.Standing.{Goes, Stand}
 use Rattle.fm_same.proofs.ItemFacts.{AtInsn, depth_is}
 use Rattle.fm_same.proofs.Owing.{effect_obeys}
 use Rattle.fm_sound.proofs.FoundMethods.{own_method_found}
+use Rattle.fm_sound.proofs.Opening.{with_text}
 
 -- ---- lists
 
@@ -50,10 +51,6 @@ number_set o x home slot k v h = tt
 literal_set : (x : Point) (home text : ℕ) (k : Kind) → SetsEvenly x home (OfLiteral text) k
 literal_set x home text (kind.Ref t) = (tt, tt)
 literal_set x home text k = tt
-
-abbrev pub with_text : Outline → ℕ → Option ℕ → List Action
-with_text o field None = []
-with_text o field (Some number) = MakeLiteral number ∷ SetStatic (slot_of o.classes field) (kind_of_field o field) (OfLiteral number) ∷ []
 
 text_even : (o : Outline) (x : Point) (home field : ℕ) (number : Option ℕ) → AllByRecursion (ActsEvenly o x home) (with_text o field number)
 text_even o x home field None = tt

@@ -10,6 +10,7 @@ use Rattle.fm_frames.specs.declared.values.Value.{Value}
 use Rattle.fm_frames.specs.declared.values.Value.TheVariants as value
 use Rattle.fm_same.specs.Colours.{Colour, HasColour, IsFixed, IsNull, IsOf, LivesForEver, OfNull, OfObject}
 use Rattle.fm_same.specs.Regions.{Region}
+use Rattle.fm_sound.proofs.ActsKeep.{zeros_at}
 
 -- ---- objects stay
 
@@ -192,8 +193,3 @@ set_found (y ∷ xs) (suc i) x zero found h = inr ((λ e. absurd (omega arith)),
 set_found (y ∷ xs) (suc i) x (suc k) found h =
     ⊎_elim (λ here. inl (ap suc here.0, here.1)) (λ there. inr ((λ e. there.0 (let down : i ≡ k = omega arith in down)), there.1))
     (set_found xs i x k found h)
-
-pub zeros_at : (n place : ℕ) → slice_index_or (replicate n zero) place zero ≡ zero
-zeros_at zero place = refl
-zeros_at (suc n) zero = refl
-zeros_at (suc n) (suc place) = zeros_at n place

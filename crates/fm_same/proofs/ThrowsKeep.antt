@@ -27,6 +27,7 @@ use Rattle.fm_same.proofs.GoesOnKeep.{same_node}
 use Rattle.fm_same.proofs.LinkedClasses.{same_class_if_paired}
 use Rattle.fm_same.proofs.RegionLemmas.{region_global}
 use Rattle.fm_same.proofs.SourcesKeep.{has_if_reference}
+use Rattle.fm_sound.proofs.FramesStand.{not_left}
 
 -- ---- the frame that catches
 
@@ -75,11 +76,6 @@ module _ (p : Program) (facts : Facts) (exact : AreFacts p facts) (f : Frame) (c
   }
 
 -- ---- unwinding
-
-not_left : (b : Bool) (e : Ended) (below : Caught) (after : List Frame) {A : Type 0} → (b ≡ false → below ≡ InFrames after → A)
-    → cond b (Leaves e) below ≡ InFrames after → A
-not_left true e below after rest left = absurd (cc)
-not_left false e below after rest left = rest refl left
 
 module _ (p : Program) (facts : Facts) (exact : AreFacts p facts) (store : Store) (colour : Colour) (t : TypeRef) (v : Value) (has : HasColour store colour Everywhere v) where
   -- the frames after a look at one of them, where those below come to this

@@ -49,7 +49,7 @@ set_where (y ∷ xs) zero x (suc k) = inr refl
 set_where (y ∷ xs) (suc i) x zero = inr refl
 set_where (y ∷ xs) (suc i) x (suc k) = ⊎_elim (λ here. inl (ap suc here.0, here.1)) (λ there. inr there) (set_where xs i x k)
 
-zeros_at : (n place : ℕ) → slice_index_or (replicate n zero) place zero ≡ zero
+pub zeros_at : (n place : ℕ) → slice_index_or (replicate n zero) place zero ≡ zero
 zeros_at zero place = refl
 zeros_at (suc n) zero = refl
 zeros_at (suc n) (suc place) = zeros_at n place

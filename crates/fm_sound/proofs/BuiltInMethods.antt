@@ -239,7 +239,7 @@ fits_at (m ∷ methods) (suc n) h = fits_at methods n (and_parts (fits m.method)
 
 -- ---- built-in methods have the numbers that they have in each program
 
-methods_from-append : (class : ℕ) (cs ds : List DeclaredClass)
+pub methods_from-append : (class : ℕ) (cs ds : List DeclaredClass)
     → methods_from class (cs ++ ds) ≡ methods_from class cs ++ methods_from (class + length cs) ds
 methods_from-append class [] ds = let e : class ≡ class + 0 = omega arith in ap (λ k. methods_from k ds) e
 methods_from-append class (c ∷ cs) ds =
@@ -248,7 +248,7 @@ methods_from-append class (c ∷ cs) ds =
     ap (λ ms. own ++ ms) (methods_from-append (class + 1) cs ds ∙ ap (λ k. methods_from (class + 1) cs ++ methods_from k ds) e)
     ∙ sym (append_assoc own (methods_from (class + 1) cs) (methods_from (class + length (c ∷ cs)) ds))
 
-method_same : (given : List DeclaredClass) (method : ℕ) → method < length (methods_of built_in)
+pub method_same : (given : List DeclaredClass) (method : ℕ) → method < length (methods_of built_in)
     → method_at (built_in ++ given) method ≡ method_at built_in method
 unfolding methods_of
 method_same given method inside =
@@ -260,7 +260,7 @@ pub record HasRow (o : Outline) (target : ℕ) (row : Native) : Type 0 where
   pub arguments : map plain (argument_words o target) ++ receiver_slot (is_static (method_at o.classes target).method.flags) ≡ native_slots row
   pub result : map plain (result_words o target) ≡ native_result row
 
-untrue : (b : Bool) → not b ≡ true → b ≡ false
+pub untrue : (b : Bool) → not b ≡ true → b ≡ false
 untrue true h = absurd (false≢true h)
 untrue false h = refl
 

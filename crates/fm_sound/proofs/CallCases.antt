@@ -142,7 +142,7 @@ pub record HoldsOfCalls (p : Program) (f : Frame) (i : Insn) (byte : Option ℕ)
   pub called : (target words : ℕ) → IsCalled p f i target words → P (going words (Calls target))
   pub of_row : (row : Native) → CallsRow p f i row → P (native_effect p.outline row byte s)
 
-abbrev used_at : Program → ℕ → Option ℕ → Use
+abbrev pub used_at : Program → ℕ → Option ℕ → Use
 used_at p method None = resolved.Unused
 used_at p method (Some index) = use_in p method index
 

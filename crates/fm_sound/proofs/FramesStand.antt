@@ -86,11 +86,11 @@ fits_stands p typings typed method code is item brought whole fits_at locals sta
 
 -- ---- in the frame
 
-abbrev target_in : ℕ → ℕ → Option Insn → ℕ
+abbrev pub target_in : ℕ → ℕ → Option Insn → ℕ
 target_in n item None = item
 target_in n item (Some i) = slice_index_or (targets_of i) n item
 
-target_is : (p : Program) (f : Frame) (n : ℕ) (code : Code) (i : Insn) → code_at p f.method ≡ Some code → insn_of code f.item ≡ Some i
+pub target_is : (p : Program) (f : Frame) (n : ℕ) (code : Code) (i : Insn) → code_at p f.method ≡ Some code → insn_of code f.item ≡ Some i
     → target_at p f n ≡ slice_index_or (targets_of i) n f.item
 target_is p f n code i code_is insn_is =
     ap (target_in n f.item) (ap (λ o. option_and_then (λ (c : Code). insn_of c f.item) o) code_is ∙ insn_is)
@@ -233,7 +233,7 @@ takes_caught p typings f s t (entry ∷ handlers) item fits_each is =
           (takes.0, subst (λ j. FitsAt p (typings f.method) j (handler_state takes.0 s)) (same_Some entry.handler item found) takes.2)
       by_test false catching later found = later found
 
-not_left : (b : Bool) (e : Ended) (below : Caught) (after : List Frame) {A : Type 0} → (b ≡ false → below ≡ InFrames after → A)
+pub not_left : (b : Bool) (e : Ended) (below : Caught) (after : List Frame) {A : Type 0} → (b ≡ false → below ≡ InFrames after → A)
     → cond b (Leaves e) below ≡ InFrames after → A
 not_left true e below after rest left = absurd (cc)
 not_left false e below after rest left = rest refl left

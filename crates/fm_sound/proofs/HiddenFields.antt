@@ -88,7 +88,7 @@ field_seen o tree field of h =
 
 -- ---- the classes that bring the field
 
-string_there : (given : List DeclaredClass) → class_number (built_in ++ given) string_name ≡ Some 1
+pub string_there : (given : List DeclaredClass) → class_number (built_in ++ given) string_name ≡ Some 1
 unfolding built_in
 string_there given = position_from-zero (λ (c : DeclaredClass). bytes_eq c.name string_name) (built_in ++ given)
 
@@ -115,11 +115,11 @@ no_interfaces : (given : List DeclaredClass)
 unfolding built_in
 no_interfaces given = (refl, refl, refl)
 
-builder_there : (given : List DeclaredClass) → class_number (built_in ++ given) (codes "java/lang/StringBuilder") ≡ Some 2
+pub builder_there : (given : List DeclaredClass) → class_number (built_in ++ given) (codes "java/lang/StringBuilder") ≡ Some 2
 unfolding built_in
 builder_there given = position_from-zero (λ (c : DeclaredClass). bytes_eq c.name (codes "java/lang/StringBuilder")) (built_in ++ given)
 
-buffer_there : (given : List DeclaredClass) → class_number (built_in ++ given) (codes "java/lang/StringBuffer") ≡ Some 3
+pub buffer_there : (given : List DeclaredClass) → class_number (built_in ++ given) (codes "java/lang/StringBuffer") ≡ Some 3
 unfolding built_in
 buffer_there given = position_from-zero (λ (c : DeclaredClass). bytes_eq c.name (codes "java/lang/StringBuffer")) (built_in ++ given)
 

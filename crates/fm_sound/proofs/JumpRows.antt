@@ -37,33 +37,33 @@ use Rattle.fm_sound.proofs.NumberRows.{Leads, thrown_leads}
 
 -- ---- switches
 
-between : (low : ℤ) (count : ℕ) (key : ℤ) → int_lt key low ≡ false → int_le (low +ℤ pos count) key ≡ false → unsigned_abs (key -ℤ low) < count
+pub between : (low : ℤ) (count : ℕ) (key : ℤ) → int_lt key low ≡ false → int_le (low +ℤ pos count) key ≡ false → unsigned_abs (key -ℤ low) < count
 between low count key first second = omega (arith, ints)
 
-or_parts : (a b : Bool) → (a || b) ≡ false → (a ≡ false) × (b ≡ false)
+pub or_parts : (a b : Bool) → (a || b) ≡ false → (a ≡ false) × (b ≡ false)
 or_parts false false e = (refl, refl)
 or_parts false true e = absurd (false≢true (sym e))
 or_parts true b e = absurd (false≢true (sym e))
 
-table_if : (b : Bool) (i n : ℕ) → (b ≡ false → i < n) → cond b 0 (i + 1) < suc n
+pub table_if : (b : Bool) (i n : ℕ) → (b ≡ false → i < n) → cond b 0 (i + 1) < suc n
 table_if true i n h = omega arith
 table_if false i n h = let lt : i < n = h refl in omega arith
 
-table_within : (low : ℤ) (count : ℕ) (key : ℤ) → table_target low count key < suc count
+pub table_within : (low : ℤ) (count : ℕ) (key : ℤ) → table_target low count key < suc count
 table_within low count key =
     table_if (int_lt key low || int_le (low +ℤ pos count) key) (unsigned_abs (key -ℤ low)) count
     (λ e. let parts = or_parts (int_lt key low) (int_le (low +ℤ pos count) key) e in between low count key parts.0 parts.1)
 
-within_if : (b : Bool) (i n : ℕ) → (b ≡ true → i < n) → key_target (cond b (Some i) None) < suc n
+pub within_if : (b : Bool) (i n : ℕ) → (b ≡ true → i < n) → key_target (cond b (Some i) None) < suc n
 within_if true i n h = let lt : i < n = h refl in omega arith
 within_if false i n h = omega arith
 
-key_within : (keys : List ℤ) (key : ℤ) (n : ℕ) → length keys ≤ n → key_target (position (int_eq key) keys) < suc n
+pub key_within : (keys : List ℤ) (key : ℤ) (n : ℕ) → length keys ≤ n → key_target (position (int_eq key) keys) < suc n
 key_within keys key n le =
     let i : ℕ = prefix_len (λ other. not (int_eq key other)) keys in
     within_if (nat_lt i (length keys)) i n (λ e. let lt : i < length keys = ltb-true i (length keys) e in omega arith)
 
-few_keys : (keys : List ℤ) (n : ℕ) → length (take n keys) ≤ n
+pub few_keys : (keys : List ℤ) (n : ℕ) → length (take n keys) ≤ n
 few_keys keys n = omega (arith, length-take n keys)
 
 -- ---- results
@@ -91,11 +91,11 @@ kind_whole kind.Long = refl
 kind_whole (kind.Ref t) = refl
 
 -- the state after a return, by the kind of the result
-abbrev return_by : Outline → TypeState → Reg → Option Kind → Option TypeState
+abbrev pub return_by : Outline → TypeState → Reg → Option Kind → Option TypeState
 return_by o s r None = None
 return_by o s r (Some k) = cond (same_reg r (returned_by k)) (worked o (stack_slots (k ∷ [])) [] s) None
 
-return_is : (o : Outline) (method : ℕ) (r : Reg) (s : TypeState) → return_row o method (Some r) s ≡ return_by o s r (result_of o method)
+pub return_is : (o : Outline) (method : ℕ) (r : Reg) (s : TypeState) → return_row o method (Some r) s ≡ return_by o s r (result_of o method)
 unfolding return_row
 return_is o method r s = refl
 

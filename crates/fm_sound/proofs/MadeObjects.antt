@@ -40,12 +40,12 @@ pub object_there : (given : List DeclaredClass) → class_number (built_in ++ gi
 unfolding built_in
 object_there given = position_from-zero (λ (c : DeclaredClass). bytes_eq c.name object_name) (built_in ++ given)
 
-two_up : (n : ℕ) (classes : List DeclaredClass) (class : ℕ) → parent_of classes class ≡ Some 0 → parent_of classes 0 ≡ None
+pub two_up : (n : ℕ) (classes : List DeclaredClass) (class : ℕ) → parent_of classes class ≡ Some 0 → parent_of classes 0 ≡ None
     → upwards (suc (suc (suc n))) classes (Some class) ≡ class ∷ 0 ∷ []
 two_up n classes class first second =
     ap (λ o. class ∷ upwards (suc (suc n)) classes o) first ∙ ap (λ o. class ∷ 0 ∷ upwards (suc n) classes o) second
 
-size_is : (given : List DeclaredClass) → length (built_in ++ given) ≡ suc (suc (26 + length given))
+pub size_is : (given : List DeclaredClass) → length (built_in ++ given) ≡ suc (suc (26 + length given))
 unfolding built_in
 size_is given = let many = length-append built_in given in omega (arith, many)
 
@@ -62,7 +62,7 @@ object_top given = refl
 abbrev pub both_kinds : List DeclaredClass → List ℕ → List Kind
 both_kinds classes chain = flat_map (λ above. own_kinds classes (class_at classes above)) (reverse chain)
 
-string_kinds : (given : List DeclaredClass) → kinds_of (built_in ++ given) 1 ≡ []
+pub string_kinds : (given : List DeclaredClass) → kinds_of (built_in ++ given) 1 ≡ []
 unfolding kinds_of built_in
 string_kinds given = ap (both_kinds (built_in ++ given)) (chain_is given 1 (object_there given) (object_top given))
 
@@ -128,7 +128,7 @@ abbrev class_of_base : Base → Option ℕ
 class_of_base (base.OfClass class) = Some class.0
 class_of_base b = None
 
-abbrev HasObjectsBy : Outline → Option ℕ → Type 0
+abbrev pub HasObjectsBy : Outline → Option ℕ → Type 0
 HasObjectsBy o None = Unit {0}
 HasObjectsBy o (Some class) = (is_abstract (class_at o.classes class).flags ≡ false) × (is_interface (class_at o.classes class).flags ≡ false)
 

@@ -40,7 +40,7 @@ use Rattle.fm_frames.specs.declared.ends.Ended.{Ended}
 use Rattle.fm_frames.specs.declared.ends.Ended.TheVariants as end
 use Rattle.fm_frames.specs.declared.values.Value.{Value}
 use Rattle.fm_sound.specs.Acting.{ActsFit, MakeFits}
-use Rattle.fm_sound.specs.Laws.{no_frame, OpeningActsFit}
+use Rattle.fm_sound.specs.Laws.{no_frame}
 use Rattle.fm_sound.specs.Leading.{sources_of}
 use Rattle.fm_sound.specs.Resolved.{MainIsReady, StepsAreResolved}
 use Rattle.fm_sound.specs.Sound.{AreasAreSound, AreTyped, field_slot, HasKind, HaveKinds, IsSoundBy, Stand, static_slots, Typings}
@@ -50,6 +50,11 @@ use Rattle.fm_sound.proofs.CallsStand.{new_stands, started_stand}
 use Rattle.fm_sound.proofs.ClassStarts.{starts_are_methods}
 use Rattle.fm_sound.proofs.Counts.{held_total}
 use Rattle.fm_sound.proofs.Leaving.{read_kind}
+
+-- the actions of the opening fit, and so do those that start classes
+pub record OpeningActsFit (p : Program) (job : Job) (store : Store) : Type 0 where
+  pub opening : ActsFit p.outline store no_frame [] (opening_actions p.outline job)
+  pub start : (classes : List ℕ) → ActsFit p.outline store no_frame [] (start_actions p.outline classes)
 
 -- ---- actions that only make and put
 
@@ -74,7 +79,7 @@ all_flat : {A B : Type 0} (P : B → Type 0) (g : A → List B) (xs : List A) �
 all_flat P g [] h = tt
 all_flat P g (x ∷ xs) h = all_append P (g x) (flat_map g xs) (h x) (all_flat P g xs h)
 
-abbrev with_text : Outline → ℕ → Option ℕ → List Action
+abbrev pub with_text : Outline → ℕ → Option ℕ → List Action
 with_text o field None = []
 with_text o field (Some number) = MakeLiteral number ∷ SetStatic (slot_of o.classes field) (kind_of_field o field) (OfLiteral number) ∷ []
 

@@ -207,32 +207,6 @@ StepsKeepSound =
 abbrev pub no_frame : Frame
 no_frame = record { method = 0; item = 0; locals = []; stack = [] }
 
--- the actions of the opening fit, and so do those that start classes
-pub record OpeningActsFit (p : Program) (job : Job) (store : Store) : Type 0 where
-  pub opening : ActsFit p.outline store no_frame [] (opening_actions p.outline job)
-  pub start : (classes : List ℕ) → ActsFit p.outline store no_frame [] (start_actions p.outline classes)
-
--- The opening of a run leaves a sound state, on a store in which nothing was made, where its actions fit.
-abbrev pub OpeningIsSound : Type 0
-OpeningIsSound =
-    (p : Program) (typings : Typings) → AreTyped p typings → StepsAreResolved p → MainIsReady p → (choose : Choose) (job : Job)
-    → length job.input ≤ MAX_FILE_BYTES → (budget : ℕ) (limit : Option ℕ) (free : List (List ℕ)) → budget ≤ MAX_LIVE_WORDS
-    → OpeningActsFit p job (opened budget limit free) → IsSoundBy p typings (opening p (lawful choose) job (opened budget limit free)).state
-
--- ---- a run
-
--- in each sound state that hasn't ended the actions of the next effect fit
-abbrev pub ActsAlwaysFit : Program → Typings → Type 0
-ActsAlwaysFit p typings = (x : State) → IsSoundBy p typings x → x.ended ≡ None → NextActsFit p x
-
--- So each state of a run is sound, from its opening on, by the states of the items of each method.
-abbrev pub RunsAreSound : Type 0
-RunsAreSound =
-    (p : Program) (typings : Typings) → AreTyped p typings → StepsAreResolved p → MainIsReady p → ActsAlwaysFit p typings → (choose : Choose) (job : Job)
-    → length job.input ≤ MAX_FILE_BYTES → (budget : ℕ) (limit : Option ℕ) (free : List (List ℕ)) → budget ≤ MAX_LIVE_WORDS
-    → OpeningActsFit p job (opened budget limit free) → (k : ℕ)
-    → IsSoundBy p typings (after p (lawful choose) k (opening p (lawful choose) job (opened budget limit free))).state
-
 -- ---- typed and linked programs
 
 -- The actions of each step of a sound state fit; so each step keeps a state sound, at each choice of a memory that reuses cells in any way, and whatever was

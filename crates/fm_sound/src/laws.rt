@@ -91,17 +91,6 @@ pub fn law_step()
     ensures { law.StepsKeepSound }
 {}
 
-/// The opening of a run leaves a sound state, where its actions fit: main's frame, and above it those
-/// that its class's start needs, over memory that reuses cells in any way.
-pub fn law_opening()
-    ensures { law.OpeningIsSound }
-{}
-
-/// Each state of a run is sound, from its opening on, where the actions of sound states fit.
-pub fn law_runs()
-    ensures { law.RunsAreSound }
-{}
-
 /// The actions of each step of a sound state fit, so each step of a typed and linked program keeps a state
 /// sound; and each state of its runs is sound, from the opening on, whatever is freed.
 pub fn law_sound()
