@@ -58,6 +58,7 @@ with_object store cell object = record store { held = map.insert store.held cell
 abbrev pub with_element : Object → ℕ → ℕ → Object
 with_element object place element = record object { elements = slice_set object.elements place element }
 
+-- the object leads to another cell
 abbrev pub with_chain : Object → ℕ → Object
 with_chain object to = record object { chain = to }
 

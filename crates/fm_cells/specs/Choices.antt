@@ -25,6 +25,7 @@ abbrev pub last_choice_among : List ℕ → Store → Request → Choice
 last_choice_among [] store request = new_cell_choice store request (store.made_words + 1)
 last_choice_among (cell ∷ _) store request = Take cell false
 
+-- of a memory that reuses cells: the cell that was freed last of those of the request's size, and else a new one
 abbrev pub last_choice : Store → Request → Choice
 last_choice store request = last_choice_among (free_cells store (request_size_class request)) store request
 

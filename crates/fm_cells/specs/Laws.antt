@@ -42,9 +42,11 @@ KeptByMakeOf P choose = (store : Store) (request : Request) → P store → P (m
 abbrev pub KeptByFree : (Store → Type 0) → Type 0
 KeptByFree P = (store : Store) (cell : ℕ) → P store → P (freed_by store cell)
 
+-- what a put of an element keeps
 abbrev pub KeptByPut : (Store → Type 0) → Type 0
 KeptByPut P = (store : Store) (cell place element : ℕ) → P store → P (put_by store cell place element)
 
+-- what a change of a chain keeps
 abbrev pub KeptByChain : (Store → Type 0) → Type 0
 KeptByChain P = (store : Store) (cell to : ℕ) → P store → P (chained_by store cell to)
 
@@ -55,11 +57,13 @@ AddsLiveWords =
     (store : Store) (request : Request) (cell : ℕ) (grows : Bool) → object_at store cell ≡ None
     → live_words (made_by store request (Take cell grows)) ≡ words_needed store request
 
+-- a free takes the words of the object from those that live
 abbrev pub TakesLiveWords : Type 0
 TakesLiveWords =
     (store : Store) (cell : ℕ) (object : Object) → object_at store cell ≡ Some object → object.fixed ≡ false
     → live_words (freed_by store cell) + object_words object ≡ live_words store
 
+-- the change leaves the number of words that live
 abbrev pub LeavesLiveWords : (Store → Store) → Type 0
 LeavesLiveWords change = (store : Store) → live_words (change store) ≡ live_words store
 
@@ -67,5 +71,6 @@ LeavesLiveWords change = (store : Store) → live_words (change store) ≡ live_
 abbrev pub HasRoom : Type 0
 HasRoom = (words : ℕ) → words ≤ 2 ^ 36 → words ≤ cell_words words
 
+-- a cell has less than twice the words that it is made for
 abbrev pub IsBelowDouble : Type 0
 IsBelowDouble = (words : ℕ) → 0 < words → words ≤ 2 ^ 36 → cell_words words < 2 * words

@@ -48,6 +48,7 @@ pub record Request : Type 0 where
   pub pack : ℕ
   pub fixed : Bool
 
+-- a request by its parts
 abbrev pub request_of : ℕ → ℕ → ℕ → Bool → Request
 request_of class len pack fixed = record { class = class; len = len; pack = pack; fixed = fixed }
 

@@ -44,6 +44,7 @@ opened budget limit free =
 abbrev pub no_lists : List (List ℕ)
 no_lists = []
 
+-- the lists of a store in which nothing was freed
 abbrev pub empty_lists : List (List ℕ)
 empty_lists = replicate 64 []
 
@@ -51,6 +52,7 @@ empty_lists = replicate 64 []
 abbrev pub object_at : Store → ℕ → Option Object
 object_at store cell = map.get store.held cell
 
+-- an object lies in the cell
 abbrev pub IsHeld : Store → ℕ → Type 0
 IsHeld store cell = IsSome (object_at store cell)
 

@@ -27,18 +27,23 @@ elements_in words start pack len = map (element_in words start pack) (range_with
 abbrev pub identity_word : ℕ → ℕ → ℕ → Bool → ℕ
 identity_word class birth exponent fixed = (((if fixed then 1 else 0) * 2 ^ EXPONENT_BITS + exponent) * 2 ^ BIRTH_BITS + birth) * 2 ^ CLASS_BITS + class
 
+-- the class in an identity word
 abbrev pub class_in : ℕ → ℕ
 class_in identity = identity % 2 ^ CLASS_BITS
 
+-- the number of the object in an identity word
 abbrev pub birth_in : ℕ → ℕ
 birth_in identity = identity / 2 ^ CLASS_BITS % 2 ^ BIRTH_BITS
 
+-- the binary logarithm of how many elements share a word, in an identity word
 abbrev pub exponent_in : ℕ → ℕ
 exponent_in identity = identity / 2 ^ (CLASS_BITS + BIRTH_BITS) % 2 ^ EXPONENT_BITS
 
+-- how many elements share a word
 abbrev pub pack_in : ℕ → ℕ
 pack_in identity = 2 ^ exponent_in identity
 
+-- whether the object lives for ever
 abbrev pub is_fixed : ℕ → Bool
 is_fixed identity = nat_eq (identity / 2 ^ (CLASS_BITS + BIRTH_BITS + EXPONENT_BITS)) 1
 
@@ -46,9 +51,11 @@ is_fixed identity = nat_eq (identity / 2 ^ (CLASS_BITS + BIRTH_BITS + EXPONENT_B
 abbrev pub extent_word : ℕ → ℕ → ℕ
 extent_word len chain = chain * 2 ^ LEN_BITS + len
 
+-- the number of elements in an extent word
 abbrev pub len_in : ℕ → ℕ
 len_in extent = extent % 2 ^ LEN_BITS
 
+-- the cell to which the object leads, in an extent word
 abbrev pub chain_in : ℕ → ℕ
 chain_in extent = extent / 2 ^ LEN_BITS % 2 ^ CHAIN_BITS
 

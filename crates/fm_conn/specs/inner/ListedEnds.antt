@@ -4,6 +4,7 @@ use Rattle.std.specs.List.{flat_map}
 use Rattle.fm_conn.specs.Summaries.{end_number}
 use Rattle.fm_conn.specs.declared.ends.End2.{End2}
 
+-- an end's number with its class
 abbrev pub with_number : Option ℕ → ℕ → List (ℕ × ℕ)
 with_number None x = []
 with_number (Some n) x = (n, x) ∷ []

@@ -10,23 +10,28 @@ pub record NodeTable : Type 0 where
   pub locals : ℕ
   pub words : List (List Bool)
 
+-- a table of so many locals and of the words of each item's stack
 abbrev pub table_in : ℕ → List (List Bool) → NodeTable
 table_in locals words = record { locals = locals; words = words }
 
 -- ---- of a method
 
+-- which words of a state's stack are references, the lowest first; of an item that isn't reached there are none
 abbrev pub words_of_state : Option TypeState → List Bool
 words_of_state None = []
 words_of_state (Some s) = map is_reference (reverse s.stack)
 
+-- the table of the states of a method
 abbrev pub table_with : ℕ → List (Option TypeState) → NodeTable
 table_with locals states = table_in locals (map words_of_state states)
 
+-- the table of a typed method
 abbrev pub table_of : TypedMethod → NodeTable
 table_of x = table_with x.code.max_locals x.states
 
 -- ---- numbers
 
+-- which words of an item's stack are references
 abbrev pub words_at : NodeTable → ℕ → List Bool
 words_at t j = slice_index_or t.words j []
 
@@ -40,12 +45,15 @@ words_before (w ∷ words) (suc j) = length w + words_before words j
 abbrev pub first_word : NodeTable → ℕ → ℕ
 first_word t j = t.locals + 2 + words_before t.words j
 
+-- how many numbers the nodes of a method have
 abbrev pub node_count : NodeTable → ℕ
 node_count t = first_word t (length t.words)
 
+-- the number of Global
 abbrev pub global_number : NodeTable → ℕ
 global_number t = t.locals
 
+-- the number of Return
 abbrev pub return_number : NodeTable → ℕ
 return_number t = t.locals + 1
 
@@ -53,6 +61,7 @@ return_number t = t.locals + 1
 abbrev pub local_number : NodeTable → ℕ → Option ℕ
 local_number t k = if nat_lt k t.locals then Some k else None
 
+-- the number of a slot that is a reference
 abbrev pub slot_number : NodeTable → ℕ → ℕ → Option ℕ
 slot_number t j depth = if has (words_at t j) depth then Some (first_word t j + depth) else None
 
@@ -60,9 +69,11 @@ slot_number t j depth = if has (words_at t j) depth then Some (first_word t j + 
 abbrev pub far_local : NodeTable → ℕ → ℕ
 far_local t k = node_count t + 2 * k
 
+-- a number for a slot that no item has, apart from all others
 abbrev pub far_slot : NodeTable → ℕ → ℕ → ℕ
 far_slot t j depth = node_count t + (2 * ((j + depth) * (j + depth) + depth) + 1)
 
+-- the number of a node; different nodes have different numbers
 abbrev pub number_of : NodeTable → Node → ℕ
 number_of t (Local k) = if nat_lt k t.locals then k else far_local t k
 number_of t (Slot j depth) = if nat_lt depth (length (words_at t j)) then first_word t j + depth else far_slot t j depth

@@ -19,25 +19,31 @@ use Rattle.fm_conn.specs.declared.ends.End2.TheVariants as end
 abbrev pub entry_words : MethodInfo → List Slot
 entry_words m = (if is_static m.flags then [] else slot.UninitThis ∷ []) ++ flat_map local_slots m.params
 
+-- the end of a word that is a reference
 abbrev pub parameter_end : List Slot → ℕ → List End2
 parameter_end words k = if is_reference (slice_index_or words k slot.Top) then end.Parameter k ∷ [] else []
 
+-- the ends of all words that are references
 abbrev pub parameter_ends : List Slot → List End2
 parameter_ends words = flat_map (parameter_end words) (range_with_len 0 (length words))
 
+-- the end of a result that is a reference
 abbrev pub result_end : Option Kind → List End2
 result_end None = []
 result_end (Some k) = if is_reference_kind k then end.Return ∷ [] else []
 
+-- the ends of a method that has no code
 abbrev pub bare_ends : MethodInfo → List End2
 bare_ends m = parameter_ends (entry_words m) ++ result_end m.result ++ end.Global ∷ []
 
 -- ---- numbers
 
+-- the row of a built-in method's body
 abbrev pub row_in : Body → Option ℕ
 row_in (body.Native row) = Some row
 row_in b = None
 
+-- whether a row is one of these
 abbrev pub is_one_of : List ℕ → ℕ → Bool
 is_one_of rows row = list_any (λ n. n == row) rows
 
@@ -48,10 +54,12 @@ linking_rows (end.Parameter k) =
     if k == 0 then 9 ∷ 16 ∷ 17 ∷ 18 ∷ 19 ∷ 20 ∷ 38 ∷ 39 ∷ 42 ∷ [] else if k == 1 then 38 ∷ 42 ∷ [] else []
 linking_rows end.Global = []
 
+-- whether a built-in method links an end with others
 abbrev pub is_linked_by : Option ℕ → End2 → Bool
 is_linked_by None e = false
 is_linked_by (Some row) e = is_one_of (linking_rows e) row
 
+-- a number for each end by itself
 abbrev pub own_number : End2 → ℕ
 own_number end.Return = 1
 own_number end.Global = 2
@@ -61,5 +69,6 @@ own_number (end.Parameter k) = k + 3
 abbrev pub entry_number : Option ℕ → End2 → ℕ
 entry_number row e = if is_linked_by row e then 0 else own_number e
 
+-- the ends of a method that has no code, with their classes
 abbrev pub bare_entries : MethodInfo → List (End2 × ℕ)
 bare_entries m = map (λ e. (e, entry_number (row_in m.body) e)) (bare_ends m)

@@ -10,6 +10,7 @@ use Rattle.fm_conn.specs.inner.PairLists.{IsCallIn}
 
 -- ---- calls whose targets may be asked
 
+-- the program may be asked for the targets of all calls
 abbrev pub AreCallsIn : Outline → List Shape → Type 0
 AreCallsIn o shapes = (s : Shape) (c : CallShape) → Contains shapes s → Contains s.calls c → IsCallIn o c.call
 
@@ -19,15 +20,19 @@ call_targets p calls = map (λ (c : CallShape). targets p c.call) calls
 
 -- ---- lists that hold lists
 
+-- vectors of numbers as lists
 abbrev pub lists_of : List (Vec ℕ) → List (List ℕ)
 lists_of xs = map (λ (x : Vec ℕ). x.items) xs
 
+-- methods as numbers
 abbrev pub numbers_of : List MethodId → List ℕ
 numbers_of xs = map (λ (m : MethodId). m.0) xs
 
+-- the targets of each call of a method as numbers
 abbrev pub targets_at : List (Vec MethodId) → List (List ℕ)
 targets_at xs = map (λ (x : Vec MethodId). numbers_of x.items) xs
 
+-- the targets of each call of each method as numbers
 abbrev pub all_targets : List (Vec (Vec MethodId)) → List (List (List ℕ))
 all_targets xs = map (λ (x : Vec (Vec MethodId)). targets_at x.items) xs
 
@@ -37,10 +42,12 @@ all_targets xs = map (λ (x : Vec (Vec MethodId)). targets_at x.items) xs
 abbrev pub with_caller : List (List ℕ) → ℕ → ℕ → List (List ℕ)
 with_caller callers target caller = slice_set callers target (slice_index_or callers target [] ++ caller ∷ [])
 
+-- several targets have one more caller
 abbrev pub with_callers : List (List ℕ) → List ℕ → ℕ → List (List ℕ)
 with_callers callers [] caller = callers
 with_callers callers (target ∷ rest) caller = with_callers (with_caller callers target caller) rest caller
 
+-- the targets of several calls have one more caller
 abbrev pub with_calls : List (List ℕ) → List (List ℕ) → ℕ → List (List ℕ)
 with_calls callers [] caller = callers
 with_calls callers (called ∷ rest) caller = with_calls (with_callers callers called caller) rest caller

@@ -10,19 +10,24 @@ use Rattle.fm_summ.specs.inner.Numbers.{Merges}
 
 -- ---- pairs
 
+-- the ends of the method of a number
 abbrev pub ends_at : List Shape → ℕ → List (End2 × ℕ)
 ends_at shapes method = (shape_at shapes method).ends
 
+-- an entry with the first one of its class, unless it is that one
 abbrev pub pair_unless_same : ℕ → ℕ → List (ℕ × ℕ)
 pair_unless_same x first = if x == first then [] else (x, first) ∷ []
 
+-- each entry with the first one of its class
 abbrev pub stand_pairs : List (ℕ × ℕ) → List (ℕ × ℕ) → List (ℕ × ℕ)
 stand_pairs all found = flat_map (λ x. pair_unless_same x.1 (first_with all x.0 x.1)) found
 
+-- what a target pairs at a call
 abbrev pub target_pairs : List Shape → List (End2 × ℕ) → ℕ → List (ℕ × ℕ)
 target_pairs shapes ends target =
     let found = numbered (ends_at shapes target) ends in stand_pairs found found
 
+-- what all targets of a call pair
 abbrev pub call_pairs : List Shape → List ℕ → CallShape → List (ℕ × ℕ)
 call_pairs shapes called c = flat_map (target_pairs shapes c.ends) called
 
@@ -34,15 +39,19 @@ method_pairs shapes (called ∷ targets) (c ∷ calls) = call_pairs shapes calle
 
 -- ---- numbers
 
+-- ends with other classes
 abbrev pub renumbered_ends : (ℕ → ℕ) → List (End2 × ℕ) → List (End2 × ℕ)
 renumbered_ends f ends = map (λ e. (e.0, f e.1)) ends
 
+-- a call with other classes
 abbrev pub renumbered_call : (ℕ → ℕ) → CallShape → CallShape
 renumbered_call f c = record { call = c.call; ends = renumbered_ends f c.ends }
 
+-- a shape with other classes
 abbrev pub renumbered : (ℕ → ℕ) → Shape → Shape
 renumbered f s = record { ends = renumbered_ends f s.ends; calls = map (renumbered_call f) s.calls }
 
+-- whether an end gets another class
 abbrev pub is_changed : (ℕ → ℕ) → List (End2 × ℕ) → Bool
 is_changed f ends = list_any (λ e. not (f e.1 == e.1)) ends
 

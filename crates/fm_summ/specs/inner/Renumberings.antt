@@ -9,5 +9,6 @@ pub record IsRenumbering (r : Renumbering) : Type 0 where
   pub rising : IsStrictlyIncreasing r.names.items
   pub one_each : length r.least.items ≡ length r.names.items
 
+-- the class that a class has become
 abbrev pub renumber : Renumbering → ℕ → ℕ
 renumber r n = number_in r.names.items r.least.items n

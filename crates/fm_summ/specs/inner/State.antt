@@ -24,18 +24,22 @@ use Rattle.fm_summ.specs.inner.Passed.{ends_at, renumbered}
 
 -- ---- at first
 
+-- the shape with which a method begins: that of its code, or the ends of a method without code
 abbrev pub shape_with : Program → ℕ → Shape → Body → Shape
 shape_with p method shape (body.Coded code) = renumbered (λ n. n) shape
 shape_with p method shape b = record { ends = bare_entries (method_info p method); calls = [] }
 
+-- the shape with which the method of a number begins
 abbrev pub first_shape : Program → ℕ → Shape → Shape
 first_shape p method shape = shape_with p method shape (method_info p method).body
 
+-- the shapes with which all methods begin
 abbrev pub first_shapes : Program → List Shape → List Shape
 first_shapes p shapes = map (λ method. first_shape p method (shape_at shapes method)) (range_with_len 0 (length shapes))
 
 -- ---- what is told
 
+-- the summaries that shapes tell
 abbrev pub summaries_of : List Shape → Summaries
 summaries_of shapes = record { methods = map (λ (s : Shape). record { ends = s.ends }) shapes }
 
@@ -97,5 +101,6 @@ pub record Going (p : Program) (given : List Shape) (targets : List (List (List 
 abbrev pub end_sum : Shape → ℕ
 end_sum s = sum_by (λ (e : End2 × ℕ). e.1) s.ends
 
+-- the sum over all shapes
 abbrev pub all_ends_sum : List Shape → ℕ
 all_ends_sum shapes = sum_by end_sum shapes
