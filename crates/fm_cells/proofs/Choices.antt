@@ -1,5 +1,5 @@
 -- Choices that are made lawful: each may be made, and a choice that may be made is left as it is.
-use Rattle.std.proofs.Common.{◌≡◌, ℕ, ◌+◌, ◌<◌, ◌≤◌, ◌&&◌, Bool, true, false, not, cond, List, [], ◌∷◌, max, refl, sym, ◌∙◌, ap, arith, is_some, nat_lt}
+use Rattle.std.proofs.Common.{◌≡◌, ℕ, ◌+◌, ◌<◌, ◌≤◌, ◌&&◌, Bool, true, false, not, cond, List, [], ◌∷◌, max, refl, sym, ◌∙◌, ap, subst, arith, is_some, nat_lt}
 use Rattle.std.specs.Prelude.{Some, None}
 use Rattle.std.specs.Ordering.{nat_cmp, is_eq}
 use Rattle.std.specs.declared.cmp.Ordering.TheVariants.{Less, Equal, Greater}
@@ -10,7 +10,7 @@ use Rattle.std.proofs.lemmas.Bool.{lt-ltb, ltb-true}
 use Rattle.fm_cells.specs.Objects.{Object, Request, request_size_class}
 use Rattle.fm_cells.specs.Stores.{Store, object_at, passes_limit, free_cells}
 use Rattle.fm_cells.specs.Changes.{Choice, Take, RefuseStore}
-use Rattle.fm_cells.specs.Choices.{MayReuse, never_choice, last_choice, new_cell_choice, last_choice_among, greatest_cell, cell_above, lawful_choice}
+use Rattle.fm_cells.specs.Choices.{MayReuse, IsLawful, never_choice, last_choice, new_cell_choice, last_choice_among, greatest_cell, cell_above, lawful_choice, lawful}
 use Rattle.fm_cells.specs.Soundness.{IsNeverReused, IsLastReused}
 use Rattle.fm_cells.proofs.LastReused.{MayReuse-head, MayReuse-after}
 use Rattle.fm_cells.proofs.NeverReused.{MayReuse-next}
@@ -46,6 +46,14 @@ take-left store cell grows above free =
 pub lawful_choice-left : (store : Store) (request : Request) (choice : Choice) → MayReuse store request choice → lawful_choice store request choice ≡ choice
 lawful_choice-left store request (Take cell grows) may = take-left store cell grows may.0 may.1
 lawful_choice-left store request RefuseStore may = ap (λ b. cond b RefuseStore (Take (cell_above store) true)) may
+
+-- and what holds of it holds of the choice that is made lawful
+pub lawful-holds : (choose : Store → Request → Choice) (store : Store) (request : Request) → MayReuse store request (choose store request) → (P : Choice → Type 0) → P (choose store request) → P (lawful choose store request)
+lawful-holds choose store request may P h = subst P (sym (lawful_choice-left store request (choose store request) may)) h
+
+-- a function of such choices is left as it is
+pub lawful-is : (choose : Store → Request → Choice) → IsLawful choose → lawful choose ≡ choose
+lawful-is choose may = λ i store request. lawful_choice-left store request (choose store request) (may store request) i
 
 -- what is made lawful may be made
 take-may : (store : Store) (request : Request) (cell : ℕ) (grows : Bool) → MayReuse store request (cond (nat_lt 0 cell && not (is_some (object_at store cell))) (Take cell grows) (Take (cell_above store) true))

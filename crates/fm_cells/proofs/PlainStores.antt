@@ -149,13 +149,14 @@ pushed inside after residents resident request words cell peak class plain asked
     let open_limit : passes_limit store request ≡ false = le-ltb inside.limit (inside.made_words + cell_words (request_words request)) below in
     let choice : Take (store.births + 1) true ≡ never_choice store request = never_choice-is inside.residents.items inside.budget inside.limit inside.made_words inside.peak inside.made request below in
     let may = MayReuse-next store request true never in
+    let after_make = IsNeverReused-made_by store request never open_limit in
     let made : plain_store after ≡ made_by store request (Take (store.births + 1) true) =
     ap plain_store is ∙ plain_of-made inside.residents.items residents.items resident request inside.budget inside.limit inside.made_words inside.peak inside.live inside.made words cell peak class are (object ∙ ap (λ n. new_object n request) len) plain.live_is is_words is_cell is_peak is_class in
     let live : after.live ≡ live_words (made_by store request (Take (store.births + 1) true)) =
     ap (λ a. a.live) is ∙ omega (arith, plain.live_is, live_words-made_by store request (store.births + 1) true may.1) in (
       ap (λ n. Take (n + 1) true) len ∙ choice,
       made ∙ ap (made_by store request) choice,
-      IsPlain-is after _ made (IsSound-made_by store request (store.births + 1) true plain.sound asked fits needed may) (IsNeverReused-made_by store request never open_limit) live (subst (λ a. a.limit ≤ 2 ^ 32 - 2) (sym is) plain.limit_fits),
+      IsPlain-is after _ made (IsSound-made_by store request (store.births + 1) true plain.sound asked fits needed may (λ q h. omega (arith, after_make.within q h))) after_make live (subst (λ a. a.limit ≤ 2 ^ 32 - 2) (sym is) plain.limit_fits),
     )
 
 -- a resident with the numbers of a request is the object that it makes

@@ -15,7 +15,8 @@ use Rattle.fm_cells.specs.Objects.{Object, IsObject, object_words, size_class_of
 use Rattle.fm_cells.specs.Stores.{Store, opened, object_at, made_count, words_needed}
 use Rattle.fm_cells.specs.Changes.{Take, made_by, made_after, without_object, with_object, with_element, with_chain}
 use Rattle.fm_cells.specs.Choices.{MayReuse}
-use Rattle.fm_cells.specs.Soundness.{IsOrderly, IsSound}
+use Rattle.fm_cells.specs.Soundness.{CellsFit, IsOrderly, IsSound}
+use Rattle.fm_cells.proofs.Held.{held_if, nothing_held, held_after, held_before}
 use Rattle.fm_cells.proofs.SizeLaws.{size_class-lt}
 use Rattle.fm_cells.proofs.Changes.{live_words-opened, object_at-made_by, object_at-without_object, object_at-with_object, live_words-made_by, live_words-without_object, live_words-with_object}
 
@@ -33,6 +34,7 @@ pub IsSound-opened : (budget : ℕ) (limit : Option ℕ) (free : List (List ℕ)
 IsSound-opened budget limit free =
     record {
       orderly = IsOrderly-opened budget limit free;
+      cells_fit = λ cell h. absurd (nothing_held cell h);
       objects_fit = λ cell object h. grind (arith, gets, nat_tests);
       live_within_peak = omega (arith, live_words-opened budget limit free);
       peak_within_budget = omega arith;
@@ -136,13 +138,15 @@ IsOrderly-made_by store request cell grows orderly may =
     }
 
 -- and from a sound store to a sound store
-pub IsSound-made_by : (store : Store) (request : Request) (cell : ℕ) (grows : Bool) → IsSound store → IsRequest request → store.births < 2 ^ 32 - 1 → words_needed store request ≤ store.budget → MayReuse store request (Take cell grows) → IsSound (made_by store request (Take cell grows))
-IsSound-made_by store request cell grows sound asked fits within may =
+pub IsSound-made_by : (store : Store) (request : Request) (cell : ℕ) (grows : Bool) → IsSound store → IsRequest request → store.births < 2 ^ 32 - 1 → words_needed store request ≤ store.budget → MayReuse store request (Take cell grows)
+    → CellsFit (made_by store request (Take cell grows)) → IsSound (made_by store request (Take cell grows))
+IsSound-made_by store request cell grows sound asked fits within may cells =
     let at = object_at-made_by store request cell grows in
     let made = new_object store.births request in
     let class : request_size_class request < length store.made = omega (arith, request_size_class-lt request, sound.classes) in
     record {
       orderly = IsOrderly-made_by store request cell grows sound.orderly may;
+      cells_fit = cells;
       objects_fit = λ q object h. changed_object (λ o. IsObject o) (nat_eq q cell) made (object_at store q) _ object (at q) (IsObject-new_object store.births request (omega arith) asked) (sound.objects_fit q object) h;
       live_within_peak = omega (arith, live_words-made_by store request cell grows may.1);
       peak_within_budget = omega (arith, sound.peak_within_budget);
@@ -170,6 +174,7 @@ IsSound-without_object store cell object sound held =
     let left = λ (q : ℕ) (o : Object) (h : object_at (without_object store cell object) q ≡ Some o). kept_object (nat_eq q cell) (object_at store q) _ o (at q) h in
     record {
       orderly = IsOrderly-without_object store cell object sound.orderly;
+      cells_fit = λ q h. sound.cells_fit q (held_before (nat_eq q cell) _ _ (at q) h);
       objects_fit = λ q o h. sound.objects_fit q o (left q o h);
       live_within_peak = omega (arith, live_words-without_object store cell object held, sound.live_within_peak);
       peak_within_budget = sound.peak_within_budget;
@@ -198,6 +203,10 @@ IsSound-with_object store cell old object sound held fits same_birth same_words 
     let at = object_at-with_object store cell object in
     record {
       orderly = IsOrderly-with_object store cell old object sound.orderly held same_birth;
+      cells_fit = λ q h. elim (cases_eq q cell) as (λ _. q < 2 ^ 32) [
+        | inl e ↦ subst (λ c. c < 2 ^ 32) (sym e) (sound.cells_fit cell (held_if (object_at store cell) old held))
+        | inr e ↦ sound.cells_fit q (held_after q cell _ _ _ (at q) h e)
+      ];
       objects_fit = λ q o h. changed_object (λ o. IsObject o) (nat_eq q cell) object (object_at store q) _ o (at q) fits (sound.objects_fit q o) h;
       live_within_peak = omega (arith, live_words-with_object store cell old object held same_words, sound.live_within_peak);
       peak_within_budget = sound.peak_within_budget;

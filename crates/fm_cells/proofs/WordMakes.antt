@@ -1,6 +1,6 @@
 -- The store that the fields of the word cells are when they are opened and after a make.
 use Rattle.std.proofs.Common.{◌≡◌, ◌≢◌, ℕ, ◌+◌, ◌-◌, ◌*◌, ◌/◌, ◌%◌, ◌^◌, ◌<◌, ◌≤◌, Bool, true, false, cond, List, [], ◌∷◌, ◌++◌, length, get_or, set, replicate, max, refl, sym, ◌∙◌, ap, subst, nat_eq, arith, inl, inr, length-set, get_or-set_same, get_or-set_other, Global}
-use Rattle.std.specs.Prelude.{Some, None, Result, Ok, Err, IfOk, OnOk, slice_index}
+use Rattle.std.specs.Prelude.{Some, None, Result, Ok, Err, IfSome, IfOk, OnOk, slice_index}
 use Rattle.std.specs.List.{AllByRecursion}
 use Rattle.std.specs.Ordering.{nat_cmp}
 use Rattle.std.specs.FinMap.{get-empty}
@@ -12,7 +12,7 @@ use Rattle.fm_cells.specs.Sizes.{packed_words, class_words, cell_words, size_cla
 use Rattle.fm_cells.specs.Objects.{Request, IsRequest, request_words, request_size_class, new_object, request_of}
 use Rattle.fm_cells.specs.Stores.{Store, opened, empty_lists, object_at, live_words, words_needed, free_cells, passes_limit, made_count, held_count}
 use Rattle.fm_cells.specs.Changes.{Take, made_by}
-use Rattle.fm_cells.specs.Soundness.{IsSound, IsFree, IsLastReused}
+use Rattle.fm_cells.specs.Soundness.{CellsFit, IsSound, IsFree, IsLastReused}
 use Rattle.fm_cells.specs.inner.Words.{digit, with_digit, class_in, birth_in, pack_in, is_fixed, len_in, chain_in, extent_word, object_from, mark_in, marked_object}
 use Rattle.fm_cells.specs.Choices.{TakesCell, last_choice}
 use Rattle.fm_cells.specs.declared.answers.Cell.{Cell}
@@ -84,6 +84,12 @@ written-outside words words' cell identity extent count k written fits = λ i ou
 pub request-fits : (request : Request) → IsRequest request → request_words request ≤ class_words (request_size_class request)
 request-fits request asked = words-le-cell_words (request_words request) (omega (arith, request_words_bound request asked))
 
+-- held cells are within the made words, and so within the limit
+cells_fit-last : (store : Store) (limit : ℕ) → Some limit ≡ store.limit → limit ≤ 2 ^ 32 - 2 → IsLastReused store → CellsFit store
+cells_fit-last store limit is fits last cell held =
+    let made : store.made_words ≤ limit = subst (λ o. IfSome o (λ most. store.made_words ≤ most)) (sym is) last.made_within_limit in
+    omega (arith, last.within cell held)
+
 -- the words, the marks and the heads after a make that takes the head of a list
 Keeps-head : (words words' marks marks' heads : List ℕ) (store : Store) (request : Request) (cell : ℕ) (rest : List ℕ) → Keeps words marks heads store → IsLastReused store → IsSound store → IsRequest request → free_cells store (request_size_class request) ≡ cell ∷ rest → 64 ≤ length heads → length words' ≡ length words
     → SameOutside words words' cell (request_size_class request) → object_from words' cell ≡ new_object store.births request → ((q : ℕ) → mark_in marks' q ≡ cond (nat_eq q cell) 1 (mark_in marks q))
@@ -138,8 +144,9 @@ head-done inside after now cell rest class len pack fixed identity extent size k
     let all : Keeps words.items marks.items (set inside.heads kclass next) (made_by now request (Take cell false)) = subst (λ hs. Keeps words.items marks.items hs (made_by now request (Take cell false))) same_heads next_keeps in
     let live : inside.live ≡ live_words now = kept.live_is ∙ ap live_words view in
     let most : peak ≡ max now.peak (words_needed now request) = is_peak ∙ ap (λ p. max p (inside.live + size)) (ap (λ s. s.peak) view) ∙ ap (λ n. max now.peak (n + size)) live ∙ ap (λ n. max now.peak (live_words now + n)) is_size in
+    let next_last = IsLastReused-head now request cell rest last e in
     let done = IsWords-is (record inside { words = words; marks = marks; heads = set inside.heads kclass next; births = inside.births + 1; live = inside.live + size; peak = peak }) (made_by now request (Take cell false)) all
-    (IsLastReused-head now request cell rest last e) (IsSound-made_by now request cell false sound asked fits within (MayReuse-head now request cell rest false last e)) (ap (λ s. s.made) view) (ap (λ s. s.budget) view) (ap (λ s. s.limit) view) (ap (λ n. n + 1) births) most
+    next_last (IsSound-made_by now request cell false sound asked fits within (MayReuse-head now request cell rest false last e) (cells_fit-last (made_by now request (Take cell false)) inside.limit (ap (λ s. s.limit) view) kept.limit_fits next_last)) (ap (λ s. s.made) view) (ap (λ s. s.budget) view) (ap (λ s. s.limit) view) (ap (λ n. n + 1) births) most
     (omega (arith, live_words-made_by now request cell false (MayReuse-head now request cell rest false last e).1)) kept.limit_fits
     (omega (arith, kept.marks_long, ap length marked, length-set inside.marks.items (cell / 64) (with_digit 1 (cell % 64) 1 (get_or inside.marks.items (cell / 64) 0)))) in
     (ap word_store changed ∙ done.0, subst (λ a. IsWords a) (sym changed) done.1)
@@ -238,8 +245,9 @@ fresh-done inside after now class len pack fixed cell identity extent size kclas
     let live : inside.live ≡ live_words now = kept.live_is ∙ ap live_words view in
     let most : peak ≡ max now.peak (words_needed now request) = is_peak ∙ ap (λ p. max p (inside.live + size)) (ap (λ s. s.peak) view) ∙ ap (λ n. max now.peak (n + size)) live ∙ ap (λ n. max now.peak (live_words now + n)) is_size in
     let made : set inside.made kclass (get_or inside.made kclass 0 + 1) ≡ set now.made k (get_or now.made k 0 + 1) = ap (λ all. set all kclass (get_or all kclass 0 + 1)) (ap (λ s. s.made) view) ∙ ap (λ n. set now.made n (get_or now.made n 0 + 1)) class_is in
+    let next_last = IsLastReused-fresh now request last open_limit e in
     let done = IsWords-is (record inside { words = words; marks = marks; made = set inside.made kclass (get_or inside.made kclass 0 + 1); births = inside.births + 1; live = inside.live + size; peak = peak }) (made_by now request (Take (now.made_words + 1) true)) next_keeps
-    (IsLastReused-fresh now request last open_limit e) (IsSound-made_by now request (now.made_words + 1) true sound asked fits within (MayReuse-after now request true last)) made (ap (λ s. s.budget) view) (ap (λ s. s.limit) view) (ap (λ n. n + 1) births) most
+    next_last (IsSound-made_by now request (now.made_words + 1) true sound asked fits within (MayReuse-after now request true last) (cells_fit-last (made_by now request (Take (now.made_words + 1) true)) inside.limit (ap (λ s. s.limit) view) kept.limit_fits next_last)) made (ap (λ s. s.budget) view) (ap (λ s. s.limit) view) (ap (λ n. n + 1) births) most
     (omega (arith, live_words-made_by now request (now.made_words + 1) true (MayReuse-after now request true last).1)) kept.limit_fits
     (omega (arith, long, grown_long, ap length marked, length-set room.items (cell / 64) (with_digit 1 (cell % 64) 1 (get_or room.items (cell / 64) 0)))) in
     (ap word_store changed ∙ done.0, subst (λ a. IsWords a) (sym changed) done.1)

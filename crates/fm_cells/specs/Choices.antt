@@ -12,6 +12,10 @@ abbrev pub MayReuse : Store → Request → Choice → Type 0
 MayReuse store request (Take cell grows) = (0 < cell) × (object_at store cell ≡ None)
 MayReuse store request RefuseStore = passes_limit store request ≡ true
 
+-- a function whose choices are all those of memory that reuses cells in any way
+abbrev pub IsLawful : (Store → Request → Choice) → Type 0
+IsLawful choose = (store : Store) (request : Request) → MayReuse store request (choose store request)
+
 -- a new cell, or a refusal where it would pass the store limit
 abbrev pub new_cell_choice : Store → Request → ℕ → Choice
 new_cell_choice store request cell = (if passes_limit store request then RefuseStore else Take cell true)

@@ -5,7 +5,7 @@ use Rattle.fm_cells.specs.Sizes.{cell_words}
 use Rattle.fm_cells.specs.Objects.{Object, object_words, Request}
 use Rattle.fm_cells.specs.Stores.{Store, opened, object_at, live_words, words_needed}
 use Rattle.fm_cells.specs.Changes.{Choice, Take, made_by, freed_by, put_by, chained_by}
-use Rattle.fm_cells.specs.Choices.{MayReuse, lawful}
+use Rattle.fm_cells.specs.Choices.{MayReuse, IsLawful, lawful}
 
 -- a choice that may be made is left as it is
 abbrev pub LeavesLawful : Type 0
@@ -15,8 +15,7 @@ LeavesLawful =
 
 -- each choice that was made lawful may be made
 abbrev pub GivesLawful : Type 0
-GivesLawful =
-    (choose : Store → Request → Choice) (store : Store) (request : Request) → MayReuse store request (lawful choose store request)
+GivesLawful = (choose : Store → Request → Choice) → IsLawful (lawful choose)
 
 -- a choice may be made on each store that has a property
 abbrev pub MayChoose : (Store → Type 0) → (Store → Request → Choice) → Type 0

@@ -12,9 +12,14 @@ pub record IsOrderly (store : Store) : Type 0 where
   pub born : (cell : ℕ) (object : Object) → object_at store cell ≡ Some object → object.birth < store.births
   pub births_apart : (cell other : ℕ) (object second : Object) → object_at store cell ≡ Some object → object_at store other ≡ Some second → object.birth ≡ second.birth → cell ≡ other
 
+-- the cells that are held are numbers of 32 bits
+abbrev pub CellsFit : Store → Type 0
+CellsFit store = (cell : ℕ) → IsHeld store cell → cell < 2 ^ 32
+
 -- a store of any memory
 pub record IsSound (store : Store) : Type 0 where
   pub orderly : IsOrderly store
+  pub cells_fit : CellsFit store
   pub objects_fit : (cell : ℕ) (object : Object) → object_at store cell ≡ Some object → IsObject object
   pub live_within_peak : live_words store ≤ store.peak
   pub peak_within_budget : store.peak ≤ store.budget

@@ -19,7 +19,7 @@ ghost use Rattle.fm_cells.specs.Sizes.{IsPack};
 ghost use Rattle.fm_cells.specs.Objects.{request_of, request_size_class};
 ghost use Rattle.fm_cells.specs.Stores as spec;
 ghost use Rattle.fm_cells.specs.Changes.{Take, made_by};
-ghost use Rattle.fm_cells.specs.Choices.{MayReuse, TakesCell, IsRefused, last_choice};
+ghost use Rattle.fm_cells.specs.Choices.{MayReuse, TakesCell, IsRefused, last_choice, lawful};
 
 use crate::answers::{Cell, Freed, Head, MakeFail, NotHeld};
 use crate::bodies::{element, set_element, write_header, write_object};
@@ -162,7 +162,7 @@ impl WordCells {
 impl Memory for WordCells {
     ghost store = { λ s. s };
 
-    ghost choose = { last_choice };
+    ghost choose = { lawful last_choice };
 
     fn make(&mut self, class: u32, len: u32, pack: u8, fixed: bool) -> Result<Cell, MakeFail>
         requires class_fits { class < 2 ^ 28 }
