@@ -1,5 +1,5 @@
 -- What an item brings on, and what that shows of typings; and that states at which no item waits are the least typing.
-use Rattle.std.proofs.Common.{◌≡◌, ◌≢◌, refl, sym, ◌∙◌, ap, inl, inr, ⊎_elim, ℕ, zero, suc, ◌+◌, ◌<◌, ◌≤◌, ◌==◌, nat_le, Bool, true, false, List, [], ◌∷◌, ◌++◌, length, take, get_or, set, replicate, Option, Some, None, is_some, option_and_then, cond, Contains, subst, arith, length-set}
+use Rattle.std.proofs.Common.{◌≡◌, ◌≢◌, refl, sym, ◌∙◌, ap, inl, inr, ⊎_elim, ℕ, zero, suc, ◌+◌, ◌<◌, ◌≤◌, ◌==◌, nat_le, Bool, true, false, List, [], ◌∷◌, ◌++◌, length, take, get_or, set, replicate, Option, Some, None, is_some, option_and_then, cond, Contains, subst, sum_by, arith, length-append, length-set}
 use Rattle.std.specs.Prelude.{Any, Err, IfOk, IsSomeAnd, MatchBool, Ok, Result, slice_get}
 use Rattle.std.specs.List.{AllByRecursion, slice_index_or}
 use Rattle.std.specs.Option.{option_map}
@@ -10,8 +10,10 @@ use Rattle.std.proofs.lemmas.Option.{slice_get_past}
 use Rattle.fm_base.proofs.ListFacts.{AllByRecursion-append, AllByRecursion-weaker}
 use Rattle.fm_base.proofs.OptionFacts.{IsSomeAnd-at_some, IsSomeAnd-from_some, option_map-some, same_value, Some-from_some_and}
 use Rattle.fm_check.proofs.MergingLemmas.{fits-from, fits-parts, state-refl, state-trans}
-use Rattle.fm_check.proofs.WalkLemmas.{fits_at, fits_later, fits_one, given_at, Went-none, Went-then, with_waiting-waits}
-use Rattle.fm_check.specs.inner.Walks.{Brings, BringsAll, BringsCaught, BringsHandlers, BringsOn, falls_off, GoesOver, HasSettled, is_marked, IsForced, IsItem, IsKept, IsLeast, IsMet, IsSound, is_within, next_items, not_begun, Rises, Stands, Takes, Task, Untypable, Walked, Walking, with_state}
+use Rattle.fm_check.proofs.WalkLemmas.{alike-then, fits_at, fits_later, fits_one, given_at, same_locals, Went-none, Went-then, with_waiting-waits}
+use Rattle.fm_check.specs.inner.Ranks.{rank_at}
+use Rattle.fm_check.specs.inner.Risen.{IsAlikeBut}
+use Rattle.fm_check.specs.inner.Walks.{Brings, BringsAll, BringsCaught, BringsHandlers, BringsOn, falls_off, GoesOver, HasSettled, is_marked, IsForced, IsItem, IsKept, IsLeast, IsMet, IsMetBut, IsNearlyMet, IsSound, is_within, next_items, not_begun, Pops, risen_at, Rises, Stands, Takes, Task, Untypable, Walked, Walking, Went, with_risen, with_state, work_left}
 use Rattle.fm_code.specs.CodeRules.{HandlerIsValid}
 use Rattle.fm_code.specs.Edges.{Catches, falls_through, insn_of, IsEdge, IsFlowPath, IsHandlerEdge, IsNormalEdge, IsReachable, LeadsTo}
 use Rattle.fm_code.specs.SpellsCode.{targets_of}
@@ -93,7 +95,7 @@ item_small t j i sound at = let inside = insn_inside t.code j i at.is in let few
 row_at : Task → ℕ → Insn → TypeState → Option TypeState
 row_at t j i s = row_after t.program.outline t.number j (made_at t.program t.number t.code) (use_by t.program t.number i) i s
 
-after-row : (t : Task) (j : ℕ) (i : Insn) (s : TypeState) → insn_of t.code j ≡ Some i
+pub after-row : (t : Task) (j : ℕ) (i : Insn) (s : TypeState) → insn_of t.code j ≡ Some i
     → after_item t.program t.number t.code j s
     ≡ row_after t.program.outline t.number j (made_at t.program t.number t.code) (use_by t.program t.number i) i s
 after-row t j i s is =
@@ -176,7 +178,7 @@ handler-fits t caught s u sound fits =
       built = parts.built;
     })
 
-each_handler : (P : Handler → Type 0) (handlers : List Handler) (h : Handler) → Contains handlers h → AllByRecursion P handlers → P h
+pub each_handler : (P : Handler → Type 0) (handlers : List Handler) (h : Handler) → Contains handlers h → AllByRecursion P handlers → P h
 each_handler P handlers h found all = All-contains P handlers h (All-from_recursion P handlers all) found
 
 -- what an item brings to a handler
@@ -241,7 +243,7 @@ handler_later t a b j s h sound rises fits catches =
     IsSomeAnd-from_some (caught_type t.program t.number h) (λ c. FitsAt t.program b.states h.handler (handler_state c s)) found.0 found.1
     (fits_later t a b h.handler (handler_state found.0 s) sound rises found.2)
 
-handlers_later : (t : Task) (a b : Walked) (j : ℕ) (s : TypeState) (handlers : List Handler) → IsSound t → Rises t.program.outline a b
+pub handlers_later : (t : Task) (a b : Walked) (j : ℕ) (s : TypeState) (handlers : List Handler) → IsSound t → Rises t.program.outline a b
     → AllByRecursion (FitsHandler t.program t.number a.states j s) handlers → AllByRecursion (FitsHandler t.program t.number b.states j s) handlers
 handlers_later t a b j s handlers sound rises all =
     AllByRecursion-weaker (FitsHandler t.program t.number a.states j s) (FitsHandler t.program t.number b.states j s)
@@ -279,14 +281,14 @@ BringsAll-more t items k s a b c sound inside so_far one = record {
 }
 
 -- the items to which an instruction leads
-leads_from : (i : Insn) (j next : ℕ) → Contains (next_items i j) next → LeadsTo i j next
+pub leads_from : (i : Insn) (j next : ℕ) → Contains (next_items i j) next → LeadsTo i j next
 leads_from i j next found = by_fall (falls_through i) refl found where
   by_fall : (b : Bool) → falls_through i ≡ b → Contains (targets_of i ++ cond b ((j + 1) ∷ []) []) next → LeadsTo i j next
   by_fall true falls h =
       ⊎_elim (λ named. inl named) (λ (same : j + 1 ≡ next). inr (falls, sym same)) (Contains-push_cases (targets_of i) (j + 1) next h)
   by_fall false stays h = inl (subst (λ (xs : List ℕ). Contains xs next) (append-nil (targets_of i)) h)
 
-leads_to : (i : Insn) (j next : ℕ) → LeadsTo i j next → Contains (next_items i j) next
+pub leads_to : (i : Insn) (j next : ℕ) → LeadsTo i j next → Contains (next_items i j) next
 leads_to i j next (inl named) = Contains-append_left (targets_of i) (cond (falls_through i) ((j + 1) ∷ []) []) next named
 leads_to i j next (inr (falls, same)) =
     let pushed : Contains (targets_of i ++ (j + 1) ∷ []) next =
@@ -332,10 +334,10 @@ BringsOn-all t j i after old new stays all = record {
 
 -- ---- an item is gone over
 
-kept-locals : (code : Code) (s : TypeState) → is_within code s ≡ true → length s.locals ≡ code.max_locals
+pub kept-locals : (code : Code) (s : TypeState) → is_within code s ≡ true → length s.locals ≡ code.max_locals
 kept-locals code s h = eqb-true (length s.locals) code.max_locals (and_parts (length s.locals == code.max_locals) (nat_le (length s.stack) code.max_stack) h).0
 
-kept-stack : (code : Code) (s : TypeState) → is_within code s ≡ true → length s.stack ≤ code.max_stack
+pub kept-stack : (code : Code) (s : TypeState) → is_within code s ≡ true → length s.stack ≤ code.max_stack
 kept-stack code s h = leb-true (length s.stack) code.max_stack (and_parts (length s.locals == code.max_locals) (nat_le (length s.stack) code.max_stack) h).1
 
 is_met : (t : Task) (j : ℕ) (s after : TypeState) (i : Insn) (old middle new : Walked) → IsSound t → IsKept t j s → insn_of t.code j ≡ Some i
@@ -372,7 +374,7 @@ GoesOver-none t j w sound stands none = record { went = Went-none t w sound stan
 
 -- ---- the walk
 
-met_later : (t : Task) (a b : Walked) (j : ℕ) (s : TypeState) → IsSound t → Rises t.program.outline a b → IsMet t a.states j s → IsMet t b.states j s
+pub met_later : (t : Task) (a b : Walked) (j : ℕ) (s : TypeState) → IsSound t → Rises t.program.outline a b → IsMet t a.states j s → IsMet t b.states j s
 met_later t a b j s sound rises met =
     let row = Some-from_some_and (after_item t.program t.number t.code j s)
     (λ given. (next : ℕ) → IsNormalEdge t.code j next → FitsAt t.program a.states next given) met.meets.row in
@@ -400,6 +402,7 @@ Stands-taken t item w taken stands takes =
     record {
       one_each = ap length takes.states ∙ stands.one_each;
       one_mark = ap length takes.marks ∙ length-set w.marks item false ∙ stands.one_mark;
+      one_rise = ap length takes.risen ∙ length-set w.risen item (Some []) ∙ stands.one_rise;
       first = seen 0 ∙ stands.first;
       each = λ j s is. stands.each j s (sym (seen j) ∙ is);
       marked = λ j is.
@@ -423,41 +426,114 @@ taken-inside t item w taken stands takes =
 pub waiting_marked : (t : Task) (w : Walked) → Stands t w → (j : ℕ) → Contains w.waiting j → j < length w.marks
 waiting_marked t w stands j h = let below = stands.waiting j h in let one = stands.one_mark in omega arith
 
+-- the item waits no longer, and nothing rose there from here on
+pub takes-popped : (item : ℕ) (w popped taken : Walked) → Pops item w popped → taken ≡ with_risen item (Some []) popped → Takes item w taken
+takes-popped item w popped taken pops is = record {
+  states = ap (λ (x : Walked). x.states) is ∙ pops.states;
+  waiting = pops.waiting ∙ ap (λ (x : Walked). x.waiting ++ item ∷ []) (sym is);
+  marks = ap (λ (x : Walked). x.marks) is ∙ pops.marks;
+  risen = ap (λ (x : Walked). x.risen) is ∙ ap (λ risen. set risen item (Some [])) pops.risen;
+}
+
+pub popped-rise : (t : Task) (item : ℕ) (w popped : Walked) → Stands t w → Pops item w popped → item < length popped.risen
+popped-rise t item w popped stands pops =
+    let listed : Contains w.waiting item = subst (λ (xs : List ℕ). Contains xs item) (sym pops.waiting) (Contains-push popped.waiting item) in
+    let below = stands.waiting item listed in
+    let one = stands.one_rise in
+    let same = ap length pops.risen in
+    omega arith
+
+-- what rose at an item that was taken off the list, and at another one
+taken-rise : (t : Task) (item : ℕ) (w taken : Walked) → Stands t w → Takes item w taken → risen_at taken item ≡ Some []
+taken-rise t item w taken stands takes =
+    let below = taken-inside t item w taken stands takes in
+    let one = stands.one_rise in
+    ap (λ (xs : List (Option (List ℕ))). get_or xs item None) takes.risen ∙ get_or-set_same w.risen item (Some []) None (omega arith)
+
+other-rise : (item j : ℕ) (w taken : Walked) → Takes item w taken → j ≢ item → risen_at taken j ≡ risen_at w j
+other-rise item j w taken takes apart =
+    ap (λ (xs : List (Option (List ℕ))). get_or xs j None) takes.risen ∙ get_or-set_other w.risen item j (Some []) None apart
+
+-- what is known of its state
+pub taken-met : (t : Task) (item : ℕ) (w taken : Walked) → Walking t w → Takes item w taken → IsMetBut t taken.states (risen_at w item) item
+taken-met t item w taken walking takes =
+    subst (λ (states : List (Option TypeState)). IsMetBut t states (risen_at w item) item) (sym takes.states) (walking.closed item)
+
+-- less is left to do once it was gone over
+pub work-less : (t : Task) (item : ℕ) (w taken new : Walked) → Takes item w taken → Went t taken new → work_left t new < work_left t w
+work-less t item w taken new takes went =
+    let falls = went.falls in
+    let shorter = ap length takes.waiting ∙ length-append taken.waiting (item ∷ []) in
+    let states = ap (λ (xs : List (Option TypeState)). sum_by (rank_at t.program.outline t.code) xs) takes.states in
+    omega (arith, falls, shorter, states)
+
+-- an item that was nearly met, and whose state then rose
+nearly-tracked : (t : Task) (a b : Walked) (j : ℕ) (few locals : List ℕ) (before s : TypeState) → IsSound t → Rises t.program.outline a b
+    → ((k : ℕ) → Contains few k → Contains locals k) → IsNearlyMet t a.states few j before → IsAlikeBut locals s before
+    → IsNearlyMet t b.states locals j s
+nearly-tracked t a b j few locals before s sound rises among nearly alike = record {
+  before = nearly.before;
+  met = met_later t a b j nearly.before sound rises nearly.met;
+  alike = alike-then few locals s before nearly.before among alike nearly.alike;
+}
+
 -- and gone over
 pub Walking-more : (t : Task) (item : ℕ) (w taken new : Walked) → IsSound t → Walking t w → Takes item w taken → GoesOver t item taken new → Walking t new
 Walking-more t item w taken new sound walking takes goes = record {
   stands = goes.went.stands;
-  closed = λ j s is.
-      ⊎_elim
-      (λ (same : state_at new.states j ≡ state_at taken.states j).
-      let before : state_at taken.states j ≡ Some s = sym same ∙ is in
+  closed = λ j s locals is known.
+      let tracked = goes.went.rises.tracks j locals s known is in
       ⊎_elim
       (λ (this : j ≡ item).
-      inr (subst (λ (n : ℕ). IsMet t new.states n s) (sym this)
-      (goes.met s (ap (λ (n : ℕ). state_at taken.states n) (sym this) ∙ before))))
+      record {
+        before = tracked.before;
+        met = subst (λ (n : ℕ). IsMet t new.states n tracked.before) (sym this)
+            (goes.met tracked.before (ap (λ (n : ℕ). state_at taken.states n) (sym this) ∙ tracked.was));
+        alike = tracked.alike;
+      })
       (λ (apart : j ≢ item).
+      let was : state_at w.states j ≡ Some tracked.before = ap (λ (states : List (Option TypeState)). state_at states j) (sym takes.states) ∙ tracked.was in
+      let nearly = walking.closed j tracked.before tracked.known was (sym (other-rise item j w taken takes apart) ∙ tracked.is_known) in
+      let moved = subst (λ (states : List (Option TypeState)). IsNearlyMet t states tracked.known j tracked.before) (sym takes.states) nearly in
+      nearly-tracked t taken new j tracked.known locals tracked.before s sound goes.went.rises tracked.among moved tracked.alike)
+      (cases_eq j item);
+  quiet = λ j s is.
       ⊎_elim
+      (λ (same : (state_at new.states j ≡ state_at taken.states j) × (risen_at new j ≡ risen_at taken j)).
+      ⊎_elim
+      (λ (this : j ≡ item). inl (same.1 ∙ ap (risen_at taken) this ∙ taken-rise t item w taken walking.stands takes))
+      (λ (apart : j ≢ item).
+      let was : state_at w.states j ≡ Some s = ap (λ (states : List (Option TypeState)). state_at states j) (sym takes.states) ∙ sym same.0 ∙ is in
+      ⊎_elim (λ (none : risen_at w j ≡ Some []). inl (same.1 ∙ other-rise item j w taken takes apart ∙ none))
       (λ (waited : Contains w.waiting j).
-      ⊎_elim (λ (rest : Contains taken.waiting j). inl (goes.went.rises.still j rest)) (λ (this : item ≡ j). absurd (apart (sym this)))
+      ⊎_elim (λ (rest : Contains taken.waiting j). inr (goes.went.rises.still j rest)) (λ (this : item ≡ j). absurd (apart (sym this)))
       (Contains-push_cases taken.waiting item j (subst (λ (xs : List ℕ). Contains xs j) takes.waiting waited)))
-      (λ (met : IsMet t w.states j s).
-      inr (met_later t taken new j s sound goes.went.rises
-      (subst (λ (states : List (Option TypeState)). IsMet t states j s) (sym takes.states) met)))
-      (walking.closed j s (ap (λ (states : List (Option TypeState)). state_at states j) (sym takes.states) ∙ before)))
+      (walking.quiet j s was))
       (cases_eq j item))
-      (λ waits. inl waits)
+      (λ waits. inr waits)
       (goes.went.rises.changed j);
 }
 
 -- ---- the end
 
+-- states that are alike but for no local
+alike_none : (s other : TypeState) → IsAlikeBut [] s other → s ≡ other
+alike_none s other h =
+    let locals : s.locals ≡ other.locals =
+    same_locals s.locals other.locals h.locals.size (λ k. h.locals.apart k (λ found. let inside = found.1 in omega arith)) in
+    ap (λ x. record s { locals = x }) locals
+    ∙ ap (λ x. record s { locals = other.locals; stack = x }) h.stack
+    ∙ ap (λ x. record s { locals = other.locals; stack = other.stack; built = x }) h.built
+
 settled_met : (t : Task) (w : Walked) (j : ℕ) (s : TypeState) → HasSettled t w → state_at w.states j ≡ Some s → IsMet t w.states j s
 settled_met t w j s settled is =
     ⊎_elim
+    (λ (none : risen_at w j ≡ Some []).
+    let nearly = settled.walking.closed j s [] is none in
+    subst (λ (x : TypeState). IsMet t w.states j x) (sym (alike_none s nearly.before nearly.alike)) nearly.met)
     (λ (waits : Contains w.waiting j).
     let none : Contains [] j = subst (λ (xs : List ℕ). Contains xs j) settled.done waits in absurd (let inside = none.1 in omega arith))
-    (λ met. met)
-    (settled.walking.closed j s is)
+    (settled.walking.quiet j s is)
 
 some_fits : (t : Task) (states : List (Option TypeState)) (j : ℕ) (s : TypeState) → FitsAt t.program states j s → (u : TypeState) × (state_at states j ≡ Some u)
 some_fits t states j s h = let found = fits_one t states j s h in (found.state, found.is)
@@ -535,21 +611,33 @@ entry_forced t sound = record {
       (state-refl t.program.outline sound.tree (entry_state t.program.outline t.number t.code));
 }
 
+-- nothing is noted yet
+abbrev unnoted : ℕ → List (Option (List ℕ))
+unnoted n = replicate n None
+
+none_risen : (n j : ℕ) → get_or (set (unnoted n) 0 None) j None ≡ None
+none_risen zero j = refl
+none_risen (suc n) zero = refl
+none_risen (suc n) (suc j) =
+    ⊎_elim (λ (below : j < n). get_or-replicate {A = Option (List ℕ)} n j None None below)
+    (λ (past : n ≤ j). get_or_past (unnoted n) j None (let size = length-replicate {A = Option (List ℕ)} n None in omega arith))
+    (cases_lt j n)
+
 -- only the first item has a state, and waits
 pub Walking-first : (t : Task) (s : TypeState) → IsSound t → s ≡ entry_state t.program.outline t.number t.code → is_within t.code s ≡ true
-    → Walking t (with_state 0 s (not_begun (length t.code.items)))
+    → Walking t (with_state 0 None s (not_begun (length t.code.items)))
 Walking-first t s sound is within =
     let n = length t.code.items in
     let entry = entry_state t.program.outline t.number t.code in
-    let put : Walked = record (not_begun n) { states = set (replicate n None) 0 (Some s) } in
+    let put : Walked = record (not_begun n) { states = set (replicate n None) 0 (Some s); risen = set (replicate n None) 0 None } in
     let none : (j : ℕ) → is_marked put j ≡ true → Contains put.waiting j = λ j marked. absurd (false≢true (sym (has-replicate n j) ∙ marked)) in
     let waits = with_waiting-waits 0 put none in
     let some = (items_counted t.code sound.rules).0 in
     let size : length (replicate n None) ≡ n = length-replicate {A = Option TypeState} n None in
     let kept : IsKept t 0 s = record { forced = subst (λ (x : TypeState). IsForced t 0 x) (sym is) (entry_forced t sound); within = within } in
-    let seen : (j : ℕ) → state_at (with_state 0 s (not_begun n)).states j ≡ state_at (set (replicate n None) 0 (Some s)) j =
+    let seen : (j : ℕ) → state_at (with_state 0 None s (not_begun n)).states j ≡ state_at (set (replicate n None) 0 (Some s)) j =
     λ j. ap (λ (states : List (Option TypeState)). state_at states j) waits.states in
-    let only : (j : ℕ) (u : TypeState) → state_at (with_state 0 s (not_begun n)).states j ≡ Some u → (j ≡ 0) × (s ≡ u) = λ j u there.
+    let only : (j : ℕ) (u : TypeState) → state_at (with_state 0 None s (not_begun n)).states j ≡ Some u → (j ≡ 0) × (s ≡ u) = λ j u there.
     ⊎_elim
     (λ (this : (j ≡ 0) × (state_at (set (replicate n None) 0 (Some s)) j ≡ Some s)).
     (this.0, same_value (state_at (set (replicate n None) 0 (Some s)) j) s u this.1 (sym (seen j) ∙ there)))
@@ -560,6 +648,7 @@ Walking-first t s sound is within =
       stands = record {
         one_each = ap length waits.states ∙ length-set (replicate n None) 0 (Some s) ∙ size;
         one_mark = waits.one_mark ∙ length-replicate n false;
+        one_rise = ap length waits.risen ∙ length-set (replicate n None) 0 None ∙ length-replicate {A = Option (List ℕ)} n None;
         first = seen 0 ∙ get_or-set_same (replicate n None) 0 (Some s) None (omega arith) ∙ ap Some is;
         each = λ j u there.
             let found = only j u there in
@@ -568,7 +657,11 @@ Walking-first t s sound is within =
         waiting = λ j h.
             ⊎_elim (λ (old : Contains [] j). absurd (let inside = old.1 in omega arith)) (λ (same : 0 ≡ j). subst (λ (k : ℕ). k < n) same some) (waits.only j h);
       };
-      closed = λ j u there. inl (subst (λ (k : ℕ). Contains (with_state 0 s (not_begun n)).waiting k) (sym (only j u there).0) waits.listed);
+      closed = λ j u locals there known.
+          let never : None ≡ Some locals =
+          sym (none_risen n j) ∙ ap (λ (xs : List (Option (List ℕ))). get_or xs j None) (sym waits.risen) ∙ known in
+          absurd cc;
+      quiet = λ j u there. inr (subst (λ (k : ℕ). Contains (with_state 0 None s (not_begun n)).waiting k) (sym (only j u there).0) waits.listed);
     }
 
 pub settled-is_least : (t : Task) (w : Walked) → HasSettled t w → IsLeast t w.states

@@ -1,21 +1,26 @@
 -- Steps of the walk: what a state that is brought to an item shows, and what it leaves.
-use Rattle.std.proofs.Common.{◌≡◌, ◌≢◌, refl, sym, ◌∙◌, ap, inl, inr, ◌⊎◌, ⊎_elim, ℕ, ◌+◌, ◌<◌, ◌≤◌, ◌==◌, ◌&&◌, nat_le, Bool, true, false, List, [], ◌∷◌, ◌++◌, length, get_or, set, Option, Some, None, cond, Contains, subst, sum_by, arith, length-append, length-set}
-use Rattle.std.proofs.lemmas.Bool.{and_from, cases_eq, eq-eqb, false≢true, le-leb}
-use Rattle.std.proofs.lemmas.List.{get_or-set_same, get_or-set_other}
+use Rattle.std.proofs.Common.{◌≡◌, ◌≢◌, refl, sym, ◌∙◌, ap, inl, inr, ◌⊎◌, ⊎_elim, ℕ, zero, suc, ◌+◌, ◌<◌, ◌≤◌, ◌==◌, ◌&&◌, nat_le, Bool, true, false, List, [], ◌∷◌, ◌++◌, length, get_or, reverse, set, Option, Some, None, cond, Contains, subst, sum_by, arith, length-append, length-set}
+use Rattle.std.proofs.lemmas.Bool.{and_from, and_parts, cases_eq, eq-eqb, eqb-true, false≢true, le-leb, leb-true}
+use Rattle.std.proofs.lemmas.List.{get_or-map, get_or-set_same, get_or-set_other, length-reverse, reverse-reverse}
+use Rattle.std.specs.Option.{option_map}
 use Rattle.std.proofs.lemmas.List.Sums.{sum_by-set}
-use Rattle.std.proofs.lemmas.List.Elements.{Contains-append_left, Contains-push, Contains-push_cases}
+use Rattle.std.proofs.lemmas.List.Elements.{Contains-append_left, Contains-append_right, Contains-push, Contains-push_cases}
 use Rattle.fm_base.proofs.OptionFacts.{IsSomeAnd-from_some, same_value, Some-from_some_and}
-use Rattle.fm_check.proofs.MergingLemmas.{fits-parts, IsStateJoin, join_state-least, join_state-some, state-refl, state-trans}
+use Rattle.fm_check.proofs.MergingLemmas.{AreLevel, fits-parts, IsStateJoin, join_state-least, join_state-some, state-refl, state-trans}
 use Rattle.fm_check.proofs.RankLemmas.{state-less, state-within}
 use Rattle.fm_check.specs.inner.Merging.{join_state}
 use Rattle.fm_check.specs.inner.Ranks.{IsBoundedState, rank_at, state_rank}
-use Rattle.fm_check.specs.inner.Walks.{Brings, is_marked, is_within, IsForced, IsKept, IsSound, Rises, Stands, states_seen, Task, Untypable, Walked, Went, with_state, with_waiting, work_left}
+use Rattle.fm_check.specs.inner.Risen.{DifferIn, IsAlikeBut, IsRisenIn, noted}
+use Rattle.fm_check.specs.inner.Walks.{Brings, is_marked, is_within, IsForced, IsKept, IsSound, IsTracked, risen_at, Rises, Stands, states_seen, Task, Untypable, Walked, Went, with_state, with_waiting, work_left}
 use Rattle.fm_code.specs.declared.code_array.Code.{Code}
 use Rattle.fm_flow.proofs.RowFacts.{has-set_only}
 use Rattle.fm_types.proofs.StateOrder.{Fitting}
 use Rattle.fm_types.proofs.Zips.{zip-length}
-use Rattle.fm_types.specs.States.{state_fits, TypeState}
+use Rattle.fm_types.specs.Fits.{AreTree}
+use Rattle.fm_types.specs.States.{local_at, state_fits, TypeState}
 use Rattle.fm_types.specs.Typed.{FitsAt, state_at}
+use Rattle.fm_types.specs.Typings.{type_state}
+use Rattle.fm_types.specs.declared.slots.Slot.{Slot}
 use Rattle.fm_types.specs.declared.states.State.{State}
 use Rattle.fm_world.specs.Programs.{Outline}
 
@@ -87,6 +92,7 @@ no_join t w j s old sound stands forced is none states typing =
 pub record Waits (item : ℕ) (old new : Walked) : Type 0 where
   pub states : new.states ≡ old.states
   pub one_mark : length new.marks ≡ length old.marks
+  pub risen : new.risen ≡ old.risen
   pub listed : Contains new.waiting item
   pub marked : (j : ℕ) → is_marked new j ≡ true → Contains new.waiting j
   pub still : (j : ℕ) → Contains old.waiting j → Contains new.waiting j
@@ -97,6 +103,7 @@ waits-marked : (item : ℕ) (w : Walked) → ((j : ℕ) → is_marked w j ≡ tr
 waits-marked item w marked is = record {
   states = refl;
   one_mark = refl;
+  risen = refl;
   listed = marked item is;
   marked = marked;
   still = λ j h. h;
@@ -109,6 +116,7 @@ waits-pushed : (item : ℕ) (w : Walked) → ((j : ℕ) → is_marked w j ≡ tr
 waits-pushed item w marked = record {
   states = refl;
   one_mark = length-set w.marks item true;
+  risen = refl;
   listed = Contains-push w.waiting item;
   marked = λ j is.
       ⊎_elim
@@ -127,6 +135,118 @@ with_waiting-waits item w marked = by_mark (is_marked w item) refl where
   by_mark true is = waits-marked item w marked is
   by_mark false is = waits-pushed item w marked
 
+-- what an item's state is where it was looked up
+pub seen_read : (states : List (Option State)) (item : ℕ) (d : Option State) (state : State) → item < length states → d ≡ get_or states item d
+    → d ≡ Some state → state_at (states_seen states) item ≡ Some (type_state state)
+seen_read states item d state inside read is =
+    get_or-map (option_map type_state) states item d None inside ∙ ap (option_map type_state) (sym read ∙ is)
+
+pub set_twice : {X : Type 0} (xs : List X) (k : ℕ) (x y : X) → set (set xs k x) k y ≡ set xs k y
+set_twice [] k x y = refl
+set_twice (z ∷ xs) zero x y = refl
+set_twice (z ∷ xs) (suc k) x y = ap (λ zs. z ∷ zs) (set_twice xs k x y)
+
+-- ---- what rose
+
+pub same_locals : (xs ys : List Slot) → length xs ≡ length ys → ((k : ℕ) → local_at xs k ≡ local_at ys k) → xs ≡ ys
+same_locals [] [] size each = refl
+same_locals [] (y ∷ ys) size each = absurd (omega (arith, size))
+same_locals (x ∷ xs) [] size each = absurd (omega (arith, size))
+same_locals (x ∷ xs) (y ∷ ys) size each =
+    ap (λ z. z ∷ xs) (each 0) ∙ ap (λ zs. y ∷ zs) (same_locals xs ys (omega (arith, size)) (λ k. each (suc k)))
+
+pub no_places : (xs : List ℕ) → length xs ≡ 0 → xs ≡ []
+no_places [] none = refl
+no_places (x ∷ xs) none = absurd (omega (arith, none))
+
+-- stacks that differ in no place
+pub same_stack : (places : List ℕ) (xs ys a b : List Slot) → places ≡ [] → DifferIn places xs ys → xs ≡ reverse a → ys ≡ reverse b → length a ≡ length b
+    → a ≡ b
+same_stack places xs ys a b none differ first second size =
+    let long : length xs ≡ length ys = ap length first ∙ length-reverse a ∙ size ∙ sym (length-reverse b) ∙ ap length (sym second) in
+    let same : xs ≡ ys = same_locals xs ys long (λ k.
+    differ k (λ found.
+    let never : Contains [] k = subst (λ (zs : List ℕ). Contains zs k) none found in
+    let inside = never.1 in omega arith)) in
+    sym (reverse-reverse a) ∙ ap reverse (sym first ∙ same ∙ second) ∙ reverse-reverse b
+
+-- states that differ in these locals alone
+pub alike-from_places : (places : List ℕ) (xs ys : List Slot) (after before : TypeState) → DifferIn places xs ys → xs ≡ after.locals → ys ≡ before.locals
+    → length after.locals ≡ length before.locals → after.stack ≡ before.stack → after.built ≡ before.built → IsAlikeBut places after before
+alike-from_places places xs ys after before differ first second size stack built = record {
+  locals = record {
+    size = size;
+    among = λ k within. refl;
+    apart = λ k without. ap (λ zs. local_at zs k) (sym first) ∙ differ k without ∙ ap (λ zs. local_at zs k) second;
+  };
+  stack = stack;
+  built = built;
+}
+
+pub alike-refl : (locals : List ℕ) (s : TypeState) → IsAlikeBut locals s s
+alike-refl locals s =
+    record { locals = record { size = refl; among = λ k within. refl; apart = λ k without. refl }; stack = refl; built = refl }
+
+-- states that are alike but for fewer locals
+pub alike-more : (few more : List ℕ) (s other : TypeState) → ((k : ℕ) → Contains few k → Contains more k) → IsAlikeBut few s other
+    → IsAlikeBut more s other
+alike-more few more s other among h = record {
+  locals = record { size = h.locals.size; among = λ k within. refl; apart = λ k without. h.locals.apart k (λ found. without (among k found)) };
+  stack = h.stack;
+  built = h.built;
+}
+
+pub alike-then : (few more : List ℕ) (a b c : TypeState) → ((k : ℕ) → Contains few k → Contains more k) → IsAlikeBut more a b → IsAlikeBut few b c
+    → IsAlikeBut more a c
+alike-then few more a b c among first second = record {
+  locals = record {
+    size = first.locals.size ∙ second.locals.size;
+    among = λ k within. refl;
+    apart = λ k without. first.locals.apart k without ∙ second.locals.apart k (λ found. without (among k found));
+  };
+  stack = first.stack ∙ second.stack;
+  built = first.built ∙ second.built;
+}
+
+-- nothing rose since
+pub tracked-same : (w : Walked) (j : ℕ) (locals : List ℕ) (s : TypeState) → risen_at w j ≡ Some locals → state_at w.states j ≡ Some s
+    → IsTracked w j locals s
+tracked-same w j locals s known is =
+    record { known = locals; before = s; is_known = known; was = is; among = λ k found. found; alike = alike-refl locals s }
+
+-- what is noted in all
+record NotedParts (known rose : Option (List ℕ)) (locals : List ℕ) : Type 0 where
+  early : List ℕ
+  late : List ℕ
+  is_known : known ≡ Some early
+  is_rose : rose ≡ Some late
+  all : locals ≡ early ++ late
+
+noted-parts : (most : ℕ) (known rose : Option (List ℕ)) (locals : List ℕ) → noted most known rose ≡ Some locals → NotedParts known rose locals
+noted-parts most None rose locals e = absurd cc
+noted-parts most (Some early) None locals e = absurd cc
+noted-parts most (Some early) (Some late) locals e = by_test (nat_le most (length early)) e where
+  by_test : (b : Bool) → cond b None (Some (early ++ late)) ≡ Some locals → NotedParts (Some early) (Some late) locals
+  by_test true h = absurd cc
+  by_test false h = record { early = early; late = late; is_known = refl; is_rose = refl; all = cc }
+
+pub noted-tracked : (w : Walked) (item most : ℕ) (rose : Option (List ℕ)) (new old : TypeState) → state_at w.states item ≡ Some old
+    → IsRisenIn rose new old → (locals : List ℕ) → noted most (risen_at w item) rose ≡ Some locals → IsTracked w item locals new
+noted-tracked w item most rose new old is risen locals e =
+    let parts = noted-parts most (risen_at w item) rose locals e in
+    let in_all : (k : ℕ) → Contains parts.early k → Contains locals k = λ k found.
+    subst (λ (xs : List ℕ). Contains xs k) (sym parts.all) (Contains-append_left parts.early parts.late k found) in
+    let late_in_all : (k : ℕ) → Contains parts.late k → Contains locals k = λ k found.
+    subst (λ (xs : List ℕ). Contains xs k) (sym parts.all) (Contains-append_right parts.early parts.late k found) in
+    record {
+      known = parts.early;
+      before = old;
+      is_known = parts.is_known;
+      was = is;
+      among = in_all;
+      alike = alike-more parts.late locals new old late_in_all (risen parts.late parts.is_rose);
+    }
+
 -- ---- a state is given
 
 -- the item itself, or another one that is as before
@@ -138,38 +258,55 @@ given_at states item j s inside =
     (λ (apart : j ≢ item). inr (apart, get_or-set_other states item j (Some s) None apart))
     (cases_eq j item)
 
+-- the same of what rose
+rise_given_at : (risen : List (Option (List ℕ))) (item j : ℕ) (rose : Option (List ℕ)) → item < length risen
+    → ((j ≡ item) × (get_or (set risen item rose) j None ≡ rose)) ⊎ ((j ≢ item) × (get_or (set risen item rose) j None ≡ get_or risen j None))
+rise_given_at risen item j rose inside =
+    ⊎_elim
+    (λ (same : j ≡ item). inl (same, ap (λ n. get_or (set risen item rose) n None) same ∙ get_or-set_same risen item rose None inside))
+    (λ (apart : j ≢ item). inr (apart, get_or-set_other risen item j rose None apart))
+    (cases_eq j item)
+
 -- what is given ranks below what was there
-given_less : (t : Task) (item : ℕ) (new : TypeState) (w : Walked) → item < length w.states
+given_less : (t : Task) (item : ℕ) (rose : Option (List ℕ)) (new : TypeState) (w : Walked) → item < length w.states
     → ((j : ℕ) → is_marked w j ≡ true → Contains w.waiting j)
     → state_rank t.program.outline new < rank_at t.program.outline t.code (state_at w.states item)
-    → work_left t (with_state item new w) ≤ work_left t w
-given_less t item new w inside marked less =
-    let waits = with_waiting-waits item (record w { states = set w.states item (Some new) }) marked in
+    → work_left t (with_state item rose new w) ≤ work_left t w
+given_less t item rose new w inside marked less =
+    let waits = with_waiting-waits item (record w { states = set w.states item (Some new); risen = set w.risen item rose }) marked in
     let longer = waits.longer in
     let sums = sum_by-set (rank_at t.program.outline t.code) w.states item (Some new) None inside in
-    let same : sum_by (rank_at t.program.outline t.code) (with_state item new w).states
+    let same : sum_by (rank_at t.program.outline t.code) (with_state item rose new w).states
     ≡ sum_by (rank_at t.program.outline t.code) (set w.states item (Some new)) =
     ap (sum_by (rank_at t.program.outline t.code)) waits.states in
     omega arith
 
 -- a state that is new, or above the old one
-pub Went-given : (t : Task) (item : ℕ) (new : TypeState) (w : Walked) → IsSound t → Stands t w → IsKept t item new → (item ≡ 0 → ⊥)
+pub Went-given : (t : Task) (item : ℕ) (rose : Option (List ℕ)) (new : TypeState) (w : Walked) → IsSound t → Stands t w → IsKept t item new → (item ≡ 0 → ⊥)
     → ((s : TypeState) → state_at w.states item ≡ Some s → state_fits t.program.outline s new ≡ true)
     → state_rank t.program.outline new < rank_at t.program.outline t.code (state_at w.states item)
-    → Went t w (with_state item new w)
-Went-given t item new w sound stands kept later above less =
-    let put : Walked = record w { states = set w.states item (Some new) } in
+    → ((locals : List ℕ) → rose ≡ Some locals → IsTracked w item locals new)
+    → Went t w (with_state item rose new w)
+Went-given t item rose new w sound stands kept later above less tracked =
+    let put : Walked = record w { states = set w.states item (Some new); risen = set w.risen item rose } in
     let waits = with_waiting-waits item put stands.marked in
     let one = stands.one_each in
     let below = kept.forced.inside in
     let inside : item < length w.states = omega arith in
     let at = λ (j : ℕ). given_at w.states item j new inside in
-    let seen : (j : ℕ) → state_at (with_state item new w).states j ≡ state_at (set w.states item (Some new)) j =
+    let seen : (j : ℕ) → state_at (with_state item rose new w).states j ≡ state_at (set w.states item (Some new)) j =
     λ j. ap (λ (states : List (Option TypeState)). state_at states j) waits.states in
+    let one_rise = stands.one_rise in
+    let risen = λ (j : ℕ). rise_given_at w.risen item j rose (omega (arith, one, one_rise, inside)) in
+    let rise_seen : (j : ℕ) → risen_at (with_state item rose new w) j ≡ get_or (set w.risen item rose) j None =
+    λ j. ap (λ (xs : List (Option (List ℕ))). get_or xs j None) waits.risen in
+    let rise_kept : (j : ℕ) → j ≢ item → risen_at (with_state item rose new w) j ≡ risen_at w j =
+    λ j apart. rise_seen j ∙ get_or-set_other w.risen item j rose None apart in
     record {
       stands = record {
         one_each = ap length waits.states ∙ length-set w.states item (Some new) ∙ stands.one_each;
         one_mark = waits.one_mark ∙ stands.one_mark;
+        one_rise = ap length waits.risen ∙ length-set w.risen item rose ∙ stands.one_rise;
         first = ⊎_elim (λ (this : (0 ≡ item) × (state_at (set w.states item (Some new)) 0 ≡ Some new)). absurd (later (sym this.0)))
             (λ (other : (0 ≢ item) × (state_at (set w.states item (Some new)) 0 ≡ state_at w.states 0)). seen 0 ∙ other.1 ∙ stands.first)
             (at 0);
@@ -189,35 +326,49 @@ Went-given t item new w sound stands kept later above less =
         rises = λ j s is.
             ⊎_elim
             (λ (this : (j ≡ item) × (state_at (set w.states item (Some new)) j ≡ Some new)).
-            fits_at t (with_state item new w).states j s new (seen j ∙ this.1)
+            fits_at t (with_state item rose new w).states j s new (seen j ∙ this.1)
             (above s (ap (λ (n : ℕ). state_at w.states n) (sym this.0) ∙ is)))
             (λ (other : (j ≢ item) × (state_at (set w.states item (Some new)) j ≡ state_at w.states j)).
-            fits_at t (with_state item new w).states j s s (seen j ∙ other.1 ∙ is) (state-refl t.program.outline sound.tree s))
+            fits_at t (with_state item rose new w).states j s s (seen j ∙ other.1 ∙ is) (state-refl t.program.outline sound.tree s))
             (at j);
         changed = λ j.
             ⊎_elim
             (λ (this : (j ≡ item) × (state_at (set w.states item (Some new)) j ≡ Some new)).
-            inr (subst (λ (n : ℕ). Contains (with_state item new w).waiting n) (sym this.0) waits.listed))
-            (λ (other : (j ≢ item) × (state_at (set w.states item (Some new)) j ≡ state_at w.states j)). inl (seen j ∙ other.1))
+            inr (subst (λ (n : ℕ). Contains (with_state item rose new w).waiting n) (sym this.0) waits.listed))
+            (λ (other : (j ≢ item) × (state_at (set w.states item (Some new)) j ≡ state_at w.states j)).
+            inl (seen j ∙ other.1, rise_kept j other.0))
             (at j);
         still = waits.still;
+        tracks = λ j locals s known is.
+            ⊎_elim
+            (λ (this : (j ≡ item) × (state_at (set w.states item (Some new)) j ≡ Some new)).
+            let same : new ≡ s = same_value (state_at (set w.states item (Some new)) j) new s this.1 (sym (seen j) ∙ is) in
+            let noted : rose ≡ Some locals =
+            ⊎_elim (λ (here : (j ≡ item) × (get_or (set w.risen item rose) j None ≡ rose)). sym here.1 ∙ sym (rise_seen j) ∙ known)
+            (λ (there : (j ≢ item) × (get_or (set w.risen item rose) j None ≡ get_or w.risen j None)). absurd (there.0 this.0))
+            (risen j) in
+            subst (λ (n : ℕ). IsTracked w n locals s) (sym this.0) (subst (λ (x : TypeState). IsTracked w item locals x) same (tracked locals noted)))
+            (λ (other : (j ≢ item) × (state_at (set w.states item (Some new)) j ≡ state_at w.states j)).
+            tracked-same w j locals s (sym (rise_kept j other.0) ∙ known) (sym other.1 ∙ sym (seen j) ∙ is))
+            (at j);
       };
-      falls = given_less t item new w inside stands.marked less;
+      falls = given_less t item rose new w inside stands.marked less;
     }
 
 -- and a state that fits it was brought
-Brings-given : (t : Task) (item : ℕ) (s new : TypeState) (w : Walked) → IsSound t → Stands t w → IsKept t item new → (item ≡ 0 → ⊥)
+Brings-given : (t : Task) (item : ℕ) (rose : Option (List ℕ)) (s new : TypeState) (w : Walked) → IsSound t → Stands t w → IsKept t item new → (item ≡ 0 → ⊥)
     → ((s : TypeState) → state_at w.states item ≡ Some s → state_fits t.program.outline s new ≡ true) → state_fits t.program.outline s new ≡ true
     → state_rank t.program.outline new < rank_at t.program.outline t.code (state_at w.states item)
-    → Brings t item s w (with_state item new w)
-Brings-given t item s new w sound stands kept later above fits less =
-    let waits = with_waiting-waits item (record w { states = set w.states item (Some new) }) stands.marked in
+    → ((locals : List ℕ) → rose ≡ Some locals → IsTracked w item locals new)
+    → Brings t item s w (with_state item rose new w)
+Brings-given t item rose s new w sound stands kept later above fits less tracked =
+    let waits = with_waiting-waits item (record w { states = set w.states item (Some new); risen = set w.risen item rose }) stands.marked in
     let one = stands.one_each in
     let below = kept.forced.inside in
     let inside : item < length w.states = omega arith in
     record {
-      went = Went-given t item new w sound stands kept later above less;
-      fits = fits_at t (with_state item new w).states item s new
+      went = Went-given t item rose new w sound stands kept later above less tracked;
+      fits = fits_at t (with_state item rose new w).states item s new
           (ap (λ (states : List (Option TypeState)). state_at states item) waits.states ∙ get_or-set_same w.states item (Some new) None inside)
           fits;
     }
@@ -226,22 +377,24 @@ Brings-given t item s new w sound stands kept later above fits less =
 
 -- an item without a state
 pub Brings-first : (t : Task) (item : ℕ) (s : TypeState) (w : Walked) → IsSound t → Stands t w → IsForced t item s → is_within t.code s ≡ true
-    → state_at w.states item ≡ None → Brings t item s w (with_state item s w)
+    → state_at w.states item ≡ None → Brings t item s w (with_state item None s w)
 Brings-first t item s w sound stands forced within none =
-    Brings-given t item s s w sound stands (record { forced = forced; within = within })
+    Brings-given t item None s s w sound stands (record { forced = forced; within = within })
     (λ same. let first : state_at w.states item ≡ Some _ = ap (λ (n : ℕ). state_at w.states n) same ∙ stands.first in cc)
     (λ u is. absurd cc)
     (state-refl t.program.outline sound.tree s)
     (subst (λ (x : Option TypeState). state_rank t.program.outline s < rank_at t.program.outline t.code x) (sym none)
     (state-within t.program.outline t.code s within))
+    (λ locals e. absurd cc)
 
 pub Went-none : (t : Task) (w : Walked) → IsSound t → Stands t w → Went t w w
 Went-none t w sound stands = record {
   stands = stands;
   rises = record {
     rises = λ j s is. fits_at t w.states j s s is (state-refl t.program.outline sound.tree s);
-    changed = λ j. inl refl;
+    changed = λ j. inl (refl, refl);
     still = λ j h. h;
+    tracks = λ j locals s known is. tracked-same w j locals s known is;
   };
   falls = omega arith;
 }
@@ -257,6 +410,31 @@ join-within o code a b fits =
     let parts = fits-parts o a b fits in
     ap (λ n. (n == code.max_locals) && nat_le (length a.stack) code.max_stack) (zip-length (Fitting o) a.locals b.locals parts.locals)
     ∙ ap (λ n. (length b.locals == code.max_locals) && nat_le n code.max_stack) (zip-length (Fitting o) a.stack b.stack parts.stack)
+
+-- and as large as each of them
+pub joined_level : (o : Outline) (old s joined : TypeState) → AreTree o.classes → join_state o old s ≡ Some joined → AreLevel joined old
+joined_level o old s joined tree gives =
+    let parts = fits-parts o old joined (join_state-least o tree old s joined gives).first in
+    record {
+      locals = sym (zip-length (Fitting o) old.locals joined.locals parts.locals);
+      stack = sym (zip-length (Fitting o) old.stack joined.stack parts.stack);
+    }
+
+pub few_locals : (code : Code) (old joined : TypeState) → AreLevel joined old → is_within code old ≡ true → code.max_locals ≤ 65535
+    → length joined.locals ≤ 65535
+few_locals code old joined level within few =
+    let parts = and_parts (length old.locals == code.max_locals) (nat_le (length old.stack) code.max_stack) within in
+    let same = eqb-true (length old.locals) code.max_locals parts.0 in
+    let size = level.locals in
+    omega (arith, same, size, few)
+
+pub few_words : (code : Code) (old joined : TypeState) → AreLevel joined old → is_within code old ≡ true → code.max_stack ≤ 65535
+    → length joined.stack ≤ 65535
+few_words code old joined level within few =
+    let parts = and_parts (length old.locals == code.max_locals) (nat_le (length old.stack) code.max_stack) within in
+    let below = leb-true (length old.stack) code.max_stack parts.1 in
+    let size = level.stack in
+    omega (arith, below, size, few)
 
 -- what all typings have above both they have above the join
 join-forced : (t : Task) (j : ℕ) (a b joined : TypeState) → IsForced t j a → IsForced t j b → IsStateJoin t.program.outline a b joined → IsForced t j joined
@@ -282,13 +460,14 @@ joined_less t s old joined sound bounded join unfit =
       by_fit true e = absurd (false≢true (sym unfit ∙ state-trans t.program.outline sound.tree s joined old join.second e))
 
 -- a state that is joined
-pub Brings-joined : (t : Task) (item : ℕ) (s old joined : TypeState) (w : Walked) → IsSound t → Stands t w → IsForced t item s → (item ≡ 0 → ⊥)
+pub Brings-joined : (t : Task) (item most : ℕ) (rose : Option (List ℕ)) (s old joined : TypeState) (w : Walked) → IsSound t → Stands t w → IsForced t item s → (item ≡ 0 → ⊥)
     → state_at w.states item ≡ Some old → join_state t.program.outline old s ≡ Some joined → IsBoundedState old
-    → state_fits t.program.outline s old ≡ false → Brings t item s w (with_state item joined w)
-Brings-joined t item s old joined w sound stands forced later is gives bounded unfit =
+    → state_fits t.program.outline s old ≡ false → IsRisenIn rose joined old
+    → Brings t item s w (with_state item (noted most (risen_at w item) rose) joined w)
+Brings-joined t item most rose s old joined w sound stands forced later is gives bounded unfit risen =
     let join = join_state-least t.program.outline sound.tree old s joined gives in
     let kept = stands.each item old is in
-    Brings-given t item s joined w sound stands
+    Brings-given t item (noted most (risen_at w item) rose) s joined w sound stands
     (record {
       forced = join-forced t item old s joined kept.forced forced join;
       within = sym (join-within t.program.outline t.code old joined join.first) ∙ kept.within;
@@ -298,6 +477,7 @@ Brings-joined t item s old joined w sound stands forced later is gives bounded u
     join.second
     (subst (λ (x : Option TypeState). state_rank t.program.outline joined < rank_at t.program.outline t.code x) (sym is)
     (joined_less t s old joined sound bounded join unfit))
+    (noted-tracked w item most rose joined old is risen)
 
 -- ---- one step after the other
 
@@ -309,11 +489,25 @@ Rises-then t a b c sound first second = record {
       fits_at t c.states j s last.state last.is (state-trans t.program.outline sound.tree s middle.state last.state middle.fits last.fits);
   changed = λ j.
       ⊎_elim
-      (λ (late : state_at c.states j ≡ state_at b.states j).
-      ⊎_elim (λ (early : state_at b.states j ≡ state_at a.states j). inl (late ∙ early)) (λ waits. inr (second.still j waits)) (first.changed j))
+      (λ (late : (state_at c.states j ≡ state_at b.states j) × (risen_at c j ≡ risen_at b j)).
+      ⊎_elim
+      (λ (early : (state_at b.states j ≡ state_at a.states j) × (risen_at b j ≡ risen_at a j)). inl (late.0 ∙ early.0, late.1 ∙ early.1))
+      (λ waits. inr (second.still j waits))
+      (first.changed j))
       (λ waits. inr waits)
       (second.changed j);
   still = λ j h. second.still j (first.still j h);
+  tracks = λ j locals s known is.
+      let late = second.tracks j locals s known is in
+      let early = first.tracks j late.known late.before late.is_known late.was in
+      record {
+        known = early.known;
+        before = early.before;
+        is_known = early.is_known;
+        was = early.was;
+        among = λ k found. late.among k (early.among k found);
+        alike = alike-then late.known locals s late.before early.before late.among late.alike early.alike;
+      };
 }
 
 pub Went-then : (t : Task) (a b c : Walked) → IsSound t → Went t a b → Went t b c → Went t a c

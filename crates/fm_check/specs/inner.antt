@@ -1,5 +1,6 @@
 -- What serves the proofs alone: the join of states, their ranks, how the walk over items stands, and what its end says.
 pub mod Merging
 pub mod Ranks
+pub mod Risen
 pub mod Walks
 pub mod Judgements

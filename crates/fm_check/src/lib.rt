@@ -2,10 +2,12 @@
 // (JVMS 4.10).
 #![tactic(auto)]
 
+mod carrying;
 mod checking;
 mod error;
 mod merging;
 mod method;
+mod risen;
 mod steps;
 mod walk;
 

@@ -94,8 +94,8 @@ pub fn join_state(
     }))
 }
 
-// The numbers of a slot are within their bytes. It does nothing.
-fn law_bounded(_slot: Slot)
+/// The numbers of a slot are within their bytes. It does nothing.
+pub fn law_bounded(_slot: Slot)
     ensures { IsBounded _slot }
 {}
 

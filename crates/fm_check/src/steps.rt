@@ -2,7 +2,7 @@
 // that follow it.
 
 ghost use Rattle.std.specs.Prelude.{◌≡◌, ℕ, ◌+◌, ◌<◌, ◌∷◌, ◌++◌, [], Contains, IfOk, MatchBool, Some, if◌then◌else◌, length};
-ghost use Rattle.fm_check.specs.inner.Walks.{BringsAll, BringsCaught, BringsHandlers, BringsOn, GoesOver, IsForced, HasSettled, IsItem, IsSound, Stands, Untypable, Walking, falls_off, next_items, task, walked};
+ghost use Rattle.fm_check.specs.inner.Walks.{BringsAll, BringsCaught, BringsHandlers, BringsOn, GoesOver, IsForced, HasSettled, IsItem, IsMetBut, IsSound, Stands, Untypable, Walking, falls_off, next_items, task, walked};
 ghost use Rattle.fm_code.specs.Edges.{falls_through, insn_of, LeadsTo};
 ghost use Rattle.fm_code.specs.SpellsCode.{targets_of};
 ghost use Rattle.fm_rows.specs.Members.{UsesNameMembers};
@@ -11,8 +11,9 @@ ghost use Rattle.fm_types.specs.Typings.{type_state};
 ghost use Rattle.fm_world.specs.Members.{methods_of};
 
 use crate::method::Method;
+use crate::risen::{all_left_alone, rises_of};
 use crate::walk::{Walk, state_of};
-use fm_base::{NoMemory, TypeRef};
+use fm_base::{NoMemory, Seq, TypeRef};
 use fm_code::{Code, Handler, Insn};
 use fm_rows::{apply, built_in_type, type_of_use, use_in};
 use fm_types::{Slot, Stack, State, fits_type};
@@ -58,8 +59,8 @@ fn targets_of(alloc: Global, insn: &Insn) -> Result<Vec<u32>, NoMemory>
     Ok(targets)
 }
 
-// The items to which the instruction of an item leads.
-fn next_items(alloc: Global, insn: &Insn, item: u32) -> Result<Vec<u32>, NoMemory>
+/// The items to which the instruction of an item leads.
+pub fn next_items(alloc: Global, insn: &Insn, item: u32) -> Result<Vec<u32>, NoMemory>
     requires { item < 65535 }
     ensures { IfOk result (λ items. items.items ≡ next_items insn.now item) }
 {
@@ -215,8 +216,14 @@ impl Walk {
         self.bring_to_all(alloc, method, items.as_slice(), after)
     }
 
-    // Goes over one item that waited; false where no typing has room for what it brings.
-    fn go_over(&mut self, alloc: Global, method: &Method<'_>, item: u32) -> Result<bool, NoMemory>
+    // Goes over one item that waited, by its whole state; false where no typing has room for what it
+    // brings.
+    fn go_over_whole(
+        &mut self,
+        alloc: Global,
+        method: &Method<'_>,
+        item: u32,
+    ) -> Result<bool, NoMemory>
         requires sound { IsSound (task method.now) }
         requires stands { Stands (task method.now) (walked self.old) }
         requires inside { item < length (task method.now).code.items }
@@ -246,6 +253,37 @@ impl Walk {
         self.bring_on(alloc, method, item, insn, &state)
     }
 
+    // Goes over one item that waited, at which this rose since it was last gone over: only locals that
+    // rose and that its row leaves alone are carried on, or else its whole state is. False where no typing
+    // has room for what it brings.
+    fn go_over(
+        &mut self,
+        alloc: Global,
+        method: &Method<'_>,
+        item: u32,
+        risen: Option<Seq<u16>>,
+    ) -> Result<bool, NoMemory>
+        requires sound { IsSound (task method.now) }
+        requires stands { Stands (task method.now) (walked self.old) }
+        requires inside { item < length (task method.now).code.items }
+        requires met { IsMetBut (task method.now) (walked self.old).states risen item }
+        ensures { IfOk result (λ typed. MatchBool typed
+            (GoesOver (task method.now) item (walked self.old) (walked self.new))
+            (Untypable (task method.now))) }
+    {
+        let Some(own) = state_of(self.states.as_slice(), item) else {
+            return Ok(true);
+        };
+        let insn = &method.code.items.as_slice()[item as usize].insn;
+        if let Some(locals) = &risen {
+            let rises = rises_of(alloc, own, locals.as_slice())?;
+            if all_left_alone(insn, rises.as_slice()) {
+                return self.carry_on(alloc, method, item, insn, rises.as_slice());
+            }
+        }
+        self.go_over_whole(alloc, method, item)
+    }
+
     /// Goes over all items that wait, until none does; false where the method isn't typed.
     pub fn run(&mut self, alloc: Global, method: &Method<'_>) -> Result<bool, NoMemory>
         requires sound { IsSound (task method.now) }
@@ -255,7 +293,8 @@ impl Walk {
             (Untypable (task method.now))) }
     {
         while let Some(item) = self.next() {
-            if !self.go_over(alloc, method, item)? {
+            let risen = self.take_risen(alloc, item);
+            if !self.go_over(alloc, method, item, risen)? {
                 return Ok(false);
             }
         }

@@ -1,19 +1,23 @@
 // The walk over the items of a method by a list of work. Each state that is brought to an item is kept,
-// or joined where it doesn't fit the item's own; the item then waits to be gone over. At the end all
-// states fit, and each fits those of every typing.
+// or joined where it doesn't fit the item's own; the item then waits to be gone over, and what rose
+// there is noted. At the end all states fit, and each fits those of every typing.
 
-ghost use Rattle.std.specs.Prelude.{◌≡◌, ℕ, ◌<◌, None, replicate, IfOk, IfSome, IsNone, MatchBool, OnOk, Some, [], Contains, if◌then◌else◌, length, slice_set};
+ghost use Rattle.std.specs.Prelude.{◌≡◌, ℕ, ◌<◌, ◌≤◌, None, replicate, IfOk, IfSome, IsNone, MatchBool, OnOk, Some, [], ◌∷◌, Contains, if◌then◌else◌, length, slice_set};
 ghost use Rattle.std.specs.Option.{option_copied, option_map};
-ghost use Rattle.fm_check.specs.inner.Walks.{Brings, IsForced, IsKept, IsSound, Stands, Takes, Untypable, is_within, not_begun, states_seen, task, walked, with_state, with_waiting};
+ghost use Rattle.fm_check.specs.inner.Walks.{Brings, IsForced, IsKept, IsSound, Pops, Stands, Untypable, is_within, not_begun, risen_at, states_seen, task, walked, with_local, with_risen, with_state, with_waiting};
+ghost use Rattle.fm_check.specs.inner.Risen.{noted};
+ghost use Rattle.fm_types.specs.States.{TypeState};
 ghost use Rattle.fm_types.specs.Typed.{state_at};
 ghost use Rattle.fm_types.specs.Typings.{type_state};
 
 use crate::merging::{join_state, law_bounded_state, state_fits};
 use crate::method::Method;
-use fm_base::NoMemory;
+use crate::risen::{noted, risen_locals};
+use fm_base::{NoMemory, Seq};
 use fm_code::Code;
-use fm_types::State;
+use fm_types::{Slot, State};
 use std::alloc::Global;
+use std::mem;
 
 /// The states so far, and the items that are still to be gone over, each once.
 #[derive(Drop)]
@@ -22,6 +26,8 @@ pub struct Walk {
     pub states: Vec<Option<State>>,
     waiting: Vec<u32>,
     is_waiting: Vec<bool>,
+    // Of each item the locals that rose since it was gone over; none where more rose than these.
+    risen: Vec<Option<Seq<u16>>>,
 }
 
 // So many items without a state.
@@ -55,6 +61,30 @@ fn put(states: &mut Vec<Option<State>>, item: u32, state: State)
     states[item as usize] = Some(state);
 }
 
+// So many items of which nothing is carried on yet.
+fn nothing_noted(alloc: Global, items: usize) -> Result<Vec<Option<Seq<u16>>>, NoMemory>
+    ensures { IfOk result (λ risen. risen.items ≡ replicate items None) }
+{
+    let mut risen = Vec::with_capacity(alloc, items)?;
+    for _ in 0..items {
+        risen.push(None)?;
+    }
+    Ok(risen)
+}
+
+// Puts a slot into a local of an item's state, where it has one.
+fn put_local(states: &mut Vec<Option<State>>, item: u32, local: u16, slot: Slot)
+    requires item { item < length states.old.items }
+    requires local { (s : TypeState) → state_at (states_seen states.old.items) item ≡ Some s
+        → local < length s.locals }
+    ensures { states_seen states.new.items ≡ slice_set (states_seen states.old.items) item
+        (option_map (with_local local slot) (state_at (states_seen states.old.items) item)) }
+{
+    if let Some(state) = &mut states[item as usize] {
+        state.locals[usize::from(local)] = slot;
+    }
+}
+
 /// Whether the state has as many locals as the method, and no more words on the stack than it allows.
 pub fn is_within(code: &Code, state: &State) -> bool
     ensures { result ≡ is_within code.now (type_state state.now) }
@@ -62,6 +92,11 @@ pub fn is_within(code: &Code, state: &State) -> bool
     state.locals.len() == usize::from(code.max_locals)
         && state.stack.len() <= usize::from(code.max_stack)
 }
+
+// So many words have numbers of 16 bits. It does nothing.
+fn law_few(_words: u16)
+    ensures { _words ≤ 65535 }
+{}
 
 impl Walk {
     /// No item has a state yet.
@@ -72,6 +107,7 @@ impl Walk {
             states: no_states(alloc, items)?,
             waiting: Vec::new(alloc),
             is_waiting: vec![in alloc; false; items]?,
+            risen: nothing_noted(alloc, items)?,
         })
     }
 
@@ -87,14 +123,73 @@ impl Walk {
         Ok(())
     }
 
-    /// Gives an item a state, and lets it wait.
+    // Notes that this rose at an item.
+    fn note(&mut self, item: u32, rose: Option<Seq<u16>>, most: usize) -> Result<(), NoMemory>
+        requires { item < length (walked self.old).risen }
+        ensures { OnOk result (walked self.new ≡ with_risen item
+            (noted most (risen_at (walked self.old) item) rose) (walked self.old)) }
+    {
+        let known = mem::replace(&mut self.risen[item as usize], None);
+        self.risen[item as usize] = noted(most, known, rose)?;
+        Ok(())
+    }
+
+    /// Gives an item its first state, and lets it wait.
     pub fn begin(&mut self, item: u32, state: State) -> Result<(), NoMemory>
         requires states { item < length (walked self.old).states }
         requires marks { item < length (walked self.old).marks }
+        requires risen { item < length (walked self.old).risen }
         ensures { OnOk result
-            (walked self.new ≡ with_state item (type_state state) (walked self.old)) }
+            (walked self.new ≡ with_state item None (type_state state) (walked self.old)) }
     {
         put(&mut self.states, item, state);
+        self.risen[item as usize] = None;
+        self.wait(item)
+    }
+
+    // Gives an item a state in which this rose, and lets it wait.
+    fn raise_state(
+        &mut self,
+        item: u32,
+        state: State,
+        rose: Option<Seq<u16>>,
+        most: usize,
+    ) -> Result<(), NoMemory>
+        requires states { item < length (walked self.old).states }
+        requires marks { item < length (walked self.old).marks }
+        requires risen { item < length (walked self.old).risen }
+        ensures { OnOk result (walked self.new ≡ with_state item
+            (noted most (risen_at (walked self.old) item) rose) (type_state state)
+            (walked self.old)) }
+    {
+        put(&mut self.states, item, state);
+        self.note(item, rose, most)?;
+        self.wait(item)
+    }
+
+    /// Gives a local of an item's state a slot that is above its own, and lets the item wait.
+    pub fn raise_local(
+        &mut self,
+        alloc: Global,
+        item: u32,
+        local: u16,
+        slot: Slot,
+        most: usize,
+    ) -> Result<(), NoMemory>
+        requires states { item < length (walked self.old).states }
+        requires marks { item < length (walked self.old).marks }
+        requires risen { item < length (walked self.old).risen }
+        requires local { (s : TypeState) → state_at (walked self.old).states item ≡ Some s
+            → local < length s.locals }
+        ensures { OnOk result ((s : TypeState) → state_at (walked self.old).states item ≡ Some s
+            → walked self.new ≡ with_state item
+            (noted most (risen_at (walked self.old) item) (Some (local ∷ [])))
+            (with_local local slot s) (walked self.old)) }
+    {
+        let mut rose = Seq::empty(alloc);
+        rose.push(local)?;
+        put_local(&mut self.states, item, local, slot);
+        self.note(item, Some(rose), most)?;
         self.wait(item)
     }
 
@@ -102,13 +197,22 @@ impl Walk {
     pub fn next(&mut self) -> Option<u32>
         requires { (j : ℕ) → Contains (walked self.old).waiting j
             → j < length (walked self.old).marks }
-        ensures some { IfSome result (λ item. Takes item (walked self.old) (walked self.new)) }
+        ensures some { IfSome result (λ item. Pops item (walked self.old) (walked self.new)) }
         ensures none { IsNone result → (walked self.old).waiting ≡ [] }
         ensures same { IsNone result → walked self.new ≡ walked self.old }
     {
         let item = self.waiting.pop()?;
         self.is_waiting[item as usize] = false;
         Some(item)
+    }
+
+    /// What rose at an item since it was gone over; from here on nothing did.
+    pub fn take_risen(&mut self, alloc: Global, item: u32) -> Option<Seq<u16>>
+        requires { item < length (walked self.old).risen }
+        ensures taken { result ≡ risen_at (walked self.old) item }
+        ensures left { walked self.new ≡ with_risen item (Some []) (walked self.old) }
+    {
+        mem::replace(&mut self.risen[item as usize], Some(Seq::empty(alloc)))
     }
 
     /// Brings a state to an item; false where no typing has room for it.
@@ -142,10 +246,13 @@ impl Walk {
             return Ok(false);
         }
         law_bounded_state(state);
+        law_few(method.code.max_locals);
+        law_few(method.code.max_stack);
         let Some(joined) = join_state(alloc, method.program, state, brought)? else {
             return Ok(false);
         };
-        self.begin(item, joined)?;
+        let rose = risen_locals(alloc, state, &joined)?;
+        self.raise_state(item, joined, rose, usize::from(method.code.max_locals))?;
         Ok(true)
     }
 }

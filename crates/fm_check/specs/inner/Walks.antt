@@ -1,20 +1,23 @@
 -- How the walk over the items of a method stands.
-use Rattle.std.specs.Prelude.{◌≡◌, ℕ, ◌+◌, ◌<◌, ◌≤◌, ◌⊎◌, ◌==◌, ◌&&◌, nat_le, Bool, true, false, List, [], ◌∷◌, ◌++◌, length, map, replicate, Option, Some, None, IsSomeAnd, Contains, slice_set, sum_by, if◌then◌else◌}
+use Rattle.std.specs.Prelude.{◌≡◌, ℕ, ◌+◌, ◌<◌, ◌≤◌, ◌⊎◌, ◌==◌, ◌&&◌, nat_le, Bool, true, false, List, [], ◌∷◌, ◌++◌, length, map, replicate, Option, Some, None, IsSomeAnd, All, Contains, slice_set, sum_by, if◌then◌else◌}
 use Rattle.std.specs.List.{AllByRecursion, slice_index_or}
 use Rattle.std.specs.Option.{option_map}
 use Rattle.fm_check.specs.declared.walk.Walk.{Walk}
-use Rattle.fm_code.specs.Edges.{falls_through, insn_of, IsReachable, LeadsTo, MeetsCodeRules}
+use Rattle.fm_code.specs.Edges.{Catches, falls_through, insn_of, IsReachable, LeadsTo, MeetsCodeRules}
 use Rattle.fm_code.specs.SpellsCode.{targets_of}
 use Rattle.fm_code.specs.declared.code_array.Code.{Code}
 use Rattle.fm_code.specs.declared.code_array.Handler.{Handler}
 use Rattle.fm_code.specs.declared.instructions.Insn.{Insn}
 use Rattle.fm_check.specs.declared.method.Method.{Method}
 use Rattle.fm_check.specs.inner.Ranks.{rank_at}
+use Rattle.fm_check.specs.inner.Risen.{IsAlikeBut}
+use Rattle.fm_check.specs.declared.risen.Rise.{Rise}
 use Rattle.fm_rows.specs.Members.{UsesNameMembers}
-use Rattle.fm_types.specs.Fits.{AreTree}
-use Rattle.fm_types.specs.States.{is_whole, state_fits, TypeState}
+use Rattle.fm_types.specs.Fits.{AreTree, fits}
+use Rattle.fm_types.specs.States.{is_whole, local_at, state_fits, TypeState}
 use Rattle.fm_types.specs.Typed.{entry_state, FitsAt, FitsHandler, IsTypingOf, MeetsItem, state_at}
 use Rattle.fm_types.specs.Typings.{type_state}
+use Rattle.fm_types.specs.declared.slots.Slot.{Slot}
 use Rattle.fm_types.specs.declared.states.State.{State}
 use Rattle.fm_world.specs.Members.{methods_of}
 use Rattle.fm_world.specs.Programs.{Outline, Program}
@@ -59,20 +62,26 @@ pub record IsKept (t : Task) (j : ℕ) (s : TypeState) : Type 0 where
 
 -- ---- the walk
 
+-- of each item what rose since it was gone over: these locals, or more than locals
 pub record Walked : Type 0 where
   pub states : List (Option TypeState)
   pub waiting : List ℕ
   pub marks : List Bool
+  pub risen : List (Option (List ℕ))
 
 abbrev pub states_seen : List (Option State) → List (Option TypeState)
 states_seen states = map (option_map type_state) states
 
 abbrev pub walked : Walk → Walked
-walked w = record { states = states_seen w.states.items; waiting = w.waiting.items; marks = w.is_waiting.items }
+walked w = record { states = states_seen w.states.items; waiting = w.waiting.items; marks = w.is_waiting.items; risen = w.risen.items }
+
+-- the state with this slot in a local
+abbrev pub with_local : ℕ → Slot → TypeState → TypeState
+with_local k x s = record s { locals = slice_set s.locals k x }
 
 -- no item has a state yet
 abbrev pub not_begun : ℕ → Walked
-not_begun items = record { states = replicate items None; waiting = []; marks = replicate items false }
+not_begun items = record { states = replicate items None; waiting = []; marks = replicate items false; risen = replicate items None }
 
 abbrev pub is_marked : Walked → ℕ → Bool
 is_marked w item = slice_index_or w.marks item false
@@ -82,15 +91,32 @@ abbrev pub with_waiting : ℕ → Walked → Walked
 with_waiting item w =
     if is_marked w item then w else record w { waiting = w.waiting ++ item ∷ []; marks = slice_set w.marks item true }
 
--- the item has this state, and waits
-abbrev pub with_state : ℕ → TypeState → Walked → Walked
-with_state item s w = with_waiting item (record w { states = slice_set w.states item (Some s) })
+-- what rose at an item
+abbrev pub risen_at : Walked → ℕ → Option (List ℕ)
+risen_at w item = slice_index_or w.risen item None
+
+-- this is what rose there
+abbrev pub with_risen : ℕ → Option (List ℕ) → Walked → Walked
+with_risen item rose w = record w { risen = slice_set w.risen item rose }
+
+-- the item has this state, and waits, since this rose
+abbrev pub with_state : ℕ → Option (List ℕ) → TypeState → Walked → Walked
+with_state item rose s w =
+    with_waiting item (record w { states = slice_set w.states item (Some s); risen = slice_set w.risen item rose })
 
 -- the item waits no longer
+pub record Pops (item : ℕ) (old new : Walked) : Type 0 where
+  pub states : new.states ≡ old.states
+  pub waiting : old.waiting ≡ new.waiting ++ item ∷ []
+  pub marks : new.marks ≡ slice_set old.marks item false
+  pub risen : new.risen ≡ old.risen
+
+-- and from here on nothing rose there
 pub record Takes (item : ℕ) (old new : Walked) : Type 0 where
   pub states : new.states ≡ old.states
   pub waiting : old.waiting ≡ new.waiting ++ item ∷ []
   pub marks : new.marks ≡ slice_set old.marks item false
+  pub risen : new.risen ≡ slice_set old.risen item (Some [])
 
 -- what is left to do: as far as the states may still rise, and the items that wait
 abbrev pub work_left : Task → Walked → ℕ
@@ -100,16 +126,28 @@ work_left t w = sum_by (rank_at t.program.outline t.code) w.states + length w.wa
 pub record Stands (t : Task) (w : Walked) : Type 0 where
   pub one_each : length w.states ≡ length t.code.items
   pub one_mark : length w.marks ≡ length t.code.items
+  pub one_rise : length w.risen ≡ length t.code.items
   pub first : state_at w.states 0 ≡ Some (entry_state t.program.outline t.number t.code)
   pub each : (j : ℕ) (s : TypeState) → state_at w.states j ≡ Some s → IsKept t j s
   pub marked : (j : ℕ) → is_marked w j ≡ true → Contains w.waiting j
   pub waiting : (j : ℕ) → Contains w.waiting j → j < length t.code.items
 
--- states only rise, and items whose states do wait
+-- Where only locals rose at an item, fewer did before, and its state was the same but for those that did.
+pub record IsTracked (old : Walked) (j : ℕ) (locals : List ℕ) (s : TypeState) : Type 0 where
+  pub known : List ℕ
+  pub before : TypeState
+  pub is_known : risen_at old j ≡ Some known
+  pub was : state_at old.states j ≡ Some before
+  pub among : (k : ℕ) → Contains known k → Contains locals k
+  pub alike : IsAlikeBut locals s before
+
+-- states only rise, items whose states do wait, and what rose there is noted
 pub record Rises (o : Outline) (old new : Walked) : Type 0 where
   pub rises : (j : ℕ) (s : TypeState) → state_at old.states j ≡ Some s → IsSomeAnd (state_at new.states j) (λ t. state_fits o s t ≡ true)
-  pub changed : (j : ℕ) → (state_at new.states j ≡ state_at old.states j) ⊎ Contains new.waiting j
+  pub changed : (j : ℕ) → ((state_at new.states j ≡ state_at old.states j) × (risen_at new j ≡ risen_at old j)) ⊎ Contains new.waiting j
   pub still : (j : ℕ) → Contains old.waiting j → Contains new.waiting j
+  pub tracks :
+      (j : ℕ) (locals : List ℕ) (s : TypeState) → risen_at new j ≡ Some locals → state_at new.states j ≡ Some s → IsTracked old j locals s
 
 pub record Went (t : Task) (old new : Walked) : Type 0 where
   pub stands : Stands t new
@@ -167,10 +205,85 @@ pub record GoesOver (t : Task) (item : ℕ) (old new : Walked) : Type 0 where
   pub went : Went t old new
   pub met : (s : TypeState) → state_at old.states item ≡ Some s → IsMet t new.states item s
 
--- each item with a state waits or is met
+-- a state that was the same but for these locals met all that is asked of the item
+pub record IsNearlyMet (t : Task) (states : List (Option TypeState)) (locals : List ℕ) (j : ℕ) (s : TypeState) : Type 0 where
+  pub before : TypeState
+  pub met : IsMet t states j before
+  pub alike : IsAlikeBut locals s before
+
+-- what is known of an item's state where this rose since the item was gone over
+abbrev pub IsMetBut : Task → List (Option TypeState) → Option (List ℕ) → ℕ → Type 0
+IsMetBut t states rose j =
+    (s : TypeState) (locals : List ℕ) → state_at states j ≡ Some s → rose ≡ Some locals → IsNearlyMet t states locals j s
+
+-- each item with a state is met but for what rose there, and waits where something did
 pub record Walking (t : Task) (w : Walked) : Type 0 where
   pub stands : Stands t w
-  pub closed : (j : ℕ) (s : TypeState) → state_at w.states j ≡ Some s → Contains w.waiting j ⊎ IsMet t w.states j s
+  pub closed : (j : ℕ) → IsMetBut t w.states (risen_at w j) j
+  pub quiet : (j : ℕ) (s : TypeState) → state_at w.states j ≡ Some s → (risen_at w j ≡ Some []) ⊎ Contains w.waiting j
+
+-- ---- locals that are carried on
+
+-- the item's state has room for a local that rose
+abbrev pub HasRoom : Task → List (Option TypeState) → ℕ → Rise → Type 0
+HasRoom t states j rise = IsSomeAnd (state_at states j) (λ s. fits t.program.outline rise.slot (local_at s.locals rise.local) ≡ true)
+
+-- an item has a state, and in each typing one that a state fits which has this local
+pub record CanCarryOne (t : Task) (w : Walked) (j : ℕ) (rise : Rise) : Type 0 where
+  pub state : TypeState
+  pub there : state_at w.states j ≡ Some state
+  pub brought : TypeState
+  pub forced : IsForced t j brought
+  pub local : local_at brought.locals rise.local ≡ rise.slot
+
+-- the same of several locals
+pub record CanCarry (t : Task) (w : Walked) (j : ℕ) (rises : List Rise) : Type 0 where
+  pub state : TypeState
+  pub there : state_at w.states j ≡ Some state
+  pub brought : TypeState
+  pub forced : IsForced t j brought
+  pub locals : All (λ rise. local_at brought.locals rise.local ≡ rise.slot) rises
+
+-- a local was carried to an item
+pub record CarriesOne (t : Task) (item : ℕ) (rise : Rise) (old new : Walked) : Type 0 where
+  pub went : Went t old new
+  pub room : HasRoom t new.states item rise
+
+-- several locals were carried to an item
+pub record Carries (t : Task) (item : ℕ) (rises : List Rise) (old new : Walked) : Type 0 where
+  pub went : Went t old new
+  pub room : All (HasRoom t new.states item) rises
+
+-- and to several items
+pub record CarriesAll (t : Task) (items : List ℕ) (rises : List Rise) (old new : Walked) : Type 0 where
+  pub went : Went t old new
+  pub room : (item : ℕ) → Contains items item → All (HasRoom t new.states item) rises
+
+-- where an entry's range holds the item, its handler has room
+abbrev pub HandlerHasRoom : Task → List (Option TypeState) → ℕ → List Rise → Handler → Type 0
+HandlerHasRoom t states item rises h = Catches item h.handler h → All (HasRoom t states h.handler) rises
+
+-- the locals of an item were carried to the handler of an entry whose range holds the item
+pub record CarriesCaught (t : Task) (item : ℕ) (rises : List Rise) (h : Handler) (old new : Walked) : Type 0 where
+  pub went : Went t old new
+  pub room : HandlerHasRoom t new.states item rises h
+
+-- and to those of several entries
+pub record CarriesHandlers (t : Task) (item : ℕ) (rises : List Rise) (handlers : List Handler) (old new : Walked) : Type 0 where
+  pub went : Went t old new
+  pub room : AllByRecursion (HandlerHasRoom t new.states item rises) handlers
+
+-- the handlers of an item, and the items that follow it, can take its locals
+pub record IsReady (t : Task) (w : Walked) (item : ℕ) (i : Insn) (rises : List Rise) : Type 0 where
+  pub small : item < 65535
+  pub handlers : (h : Handler) → Contains t.code.handlers h → Catches item h.handler h → CanCarry t w h.handler rises
+  pub items : (next : ℕ) → Contains (next_items i item) next → CanCarry t w next rises
+
+-- the locals of an item were carried on
+pub record CarriesOn (t : Task) (item : ℕ) (i : Insn) (rises : List Rise) (old new : Walked) : Type 0 where
+  pub went : Went t old new
+  pub handlers : AllByRecursion (HandlerHasRoom t new.states item rises) t.code.handlers
+  pub items : (next : ℕ) → Contains (next_items i item) next → All (HasRoom t new.states next) rises
 
 -- none waits any longer
 pub record HasSettled (t : Task) (w : Walked) : Type 0 where

@@ -1,4 +1,4 @@
-use Rattle.std.proofs.Common.{◌∙◌, sym, ap, subst, List, Option}
+use Rattle.std.proofs.Common.{◌∙◌, sym, ap, subst, List, None, Option}
 use Rattle.fm_check.proofs.ItemLemmas.{entry_forced, match_true, settled-is_least, Walking-first}
 use Rattle.fm_check.proofs.WalkLemmas.{too_large}
 use Rattle.fm_check.specs.inner.Walks.{HasSettled, IsForced, IsLeast, not_begun, states_seen, task, Untypable, Walked, walked, Walking, with_state}
@@ -18,7 +18,7 @@ pub run-requires-clause-walking : goal.run-requires-clause-walking
 run-requires-clause-walking c =
     let t = task c.args.method.now in
     let s = type_state c.in_ok-first.first in
-    let is = c.in_ok-begin.ensures ∙ ap (λ (w : Walked). with_state 0 s w) (c.in_ok-walk.ensures ∙ ap not_begun c.len.ensures) in
+    let is = c.in_ok-begin.ensures ∙ ap (λ (w : Walked). with_state 0 None s w) (c.in_ok-walk.ensures ∙ ap not_begun c.len.ensures) in
     let Of : Walked → Type 0 = λ w. Walking t w in
     subst Of (sym is) (Walking-first t s c.requires c.in_ok-first.ensures (sym c.is_within.ensures ∙ c.if-not-is_within.false))
 

@@ -1,10 +1,11 @@
-use Rattle.std.proofs.Common.{◌∙◌, sym, ap, subst, List, None, Bool}
+use Rattle.std.proofs.Common.{◌≡◌, ◌∙◌, sym, ap, subst, map, All, List, None, Some, ℕ}
 use Rattle.std.specs.List.{slice_index_or}
-use Rattle.fm_check.proofs.ItemLemmas.{GoesOver-item, GoesOver-none, match_true, next_forced, ok_weaker, read_insn, row_unmet_at}
-use Rattle.fm_check.proofs.WalkLemmas.{state_copied, state_seen}
-use Rattle.fm_check.specs.inner.Walks.{BringsHandlers, BringsOn, GoesOver, task, Untypable, walked}
-use Rattle.fm_code.specs.declared.code_array.Handler.{Handler}
-use Rattle.fm_rows.specs.Outcomes.{outcome}
+use Rattle.fm_check.proofs.ItemLemmas.{GoesOver-none, ok_weaker, read_insn}
+use Rattle.fm_check.proofs.RiseLemmas.{GoesOver-carried, ready}
+use Rattle.fm_check.proofs.WalkLemmas.{state_seen}
+use Rattle.fm_check.specs.declared.risen.Rise.{Rise}
+use Rattle.fm_check.specs.inner.Risen.{IsLeftAlone, rise_of}
+use Rattle.fm_check.specs.inner.Walks.{CarriesOn, GoesOver, IsReady, task, Untypable, walked}
 use Rattle.fm_types.specs.Typings.{type_state}
 use Rattle.fm_check.proofs.walk.Walk.go_over.Goals as goal
 
@@ -13,58 +14,42 @@ returns-in_default c =
     GoesOver-none (task c.args.method.now) c.args.item (walked c.args.self.now) c.requires.sound c.requires.stands
     (state_seen c.args.self.now.states.items c.as_slice.result.now c.args.item None c.as_slice.ensures.value c.in_default.ensures)
 
-pub bring_to_handlers-requires-clause-forced : goal.bring_to_handlers-requires-clause-forced
-bring_to_handlers-requires-clause-forced c =
-    let copy = type_state c.in_ok-state.state in
-    let at = state_copied c.args.self.now.states.items c.as_slice.result.now c.args.item (type_state c.in-Some.own.now) copy c.as_slice.ensures.value
-    c.in-Some.ensures c.in_ok-state.ensures in
-    (c.requires.stands.each c.args.item copy at).forced
-
-pub returns-then-not-branch-2 : goal.returns-then-not-branch-2
-returns-then-not-branch-2 c =
-    let copy = type_state c.in_ok-state.state in
-    let at = state_copied c.args.self.now.states.items c.as_slice.result.now c.args.item (type_state c.in-Some.own.now) copy c.as_slice.ensures.value
-    c.in-Some.ensures c.in_ok-state.ensures in
-    row_unmet_at (task c.args.method.now) c.args.item copy c.requires.sound (c.requires.stands.each c.args.item copy at).forced
-    (sym c.in_ok-apply.ensures ∙ ap (λ (b : Bool). outcome b c.apply.new.state) c.if-not-branch-2.true)
-
-pub bring_on-requires-clause-item : goal.bring_on-requires-clause-item
-bring_on-requires-clause-item c =
-    let copy = type_state c.in_ok-state.state in
-    let at = state_copied c.args.self.now.states.items c.as_slice.result.now c.args.item (type_state c.in-Some.own.now) copy c.as_slice.ensures.value
-    c.in-Some.ensures c.in_ok-state.ensures in
-    record {
-      reachable = (c.requires.stands.each c.args.item copy at).forced.reachable;
-      is = read_insn c.args.method.now.code.now c.as_slice-2.result.now c.args.item c.index-as_slice-item.result c.as_slice-2.ensures c.requires.inside;
-    }
-
-pub bring_on-requires-clause-forced : goal.bring_on-requires-clause-forced
-bring_on-requires-clause-forced c = λ next leads inside.
-    let copy = type_state c.in_ok-state.state in
-    let at = state_copied c.args.self.now.states.items c.as_slice.result.now c.args.item (type_state c.in-Some.own.now) copy c.as_slice.ensures.value
-    c.in-Some.ensures c.in_ok-state.ensures in
-    let insn = (slice_index_or c.as_slice-2.result.now c.args.item c.index-as_slice-item.result).insn in
-    let is = read_insn c.args.method.now.code.now c.as_slice-2.result.now c.args.item c.index-as_slice-item.result c.as_slice-2.ensures c.requires.inside in
-    next_forced (task c.args.method.now) c.args.item next insn copy (type_state c.apply.new.state) c.requires.sound
-    (c.requires.stands.each c.args.item copy at).forced is
-    (sym c.in_ok-apply.ensures ∙ ap (λ (b : Bool). outcome b c.apply.new.state) c.if-not-branch-2.false) leads inside
-
-pub returns : goal.returns
-returns c =
+pub carry_on-requires-clause-ready : goal.carry_on-requires-clause-ready
+carry_on-requires-clause-ready c =
     let t = task c.args.method.now in
-    let copy = type_state c.in_ok-state.state in
-    let after = type_state c.apply.new.state in
-    let old = walked c.args.self.now in
-    let middle = walked c.bring_to_handlers.new.self in
-    let new = walked c.bring_on.new.self in
-    let at = state_copied c.args.self.now.states.items c.as_slice.result.now c.args.item (type_state c.in-Some.own.now) copy c.as_slice.ensures.value
-    c.in-Some.ensures c.in_ok-state.ensures in
+    let w = walked c.args.self.now in
+    let own = type_state c.in-Some.own.now in
+    let locals = c.in-Some-risen.locals in
+    let at = state_seen c.args.self.now.states.items c.as_slice.result.now c.args.item (Some own) c.as_slice.ensures.value c.in-Some.ensures in
     let insn = (slice_index_or c.as_slice-2.result.now c.args.item c.index-as_slice-item.result).insn in
     let is = read_insn c.args.method.now.code.now c.as_slice-2.result.now c.args.item c.index-as_slice-item.result c.as_slice-2.ensures c.requires.inside in
-    let gives = sym c.in_ok-apply.ensures ∙ ap (λ (b : Bool). outcome b c.apply.new.state) c.if-not-branch-2.false in
-    let Of : List Handler → Type 0 = λ handlers. BringsHandlers t c.args.item copy handlers old middle in
-    let caught = subst Of c.as_slice-handlers.ensures
-    (match_true (Of c.as_slice-handlers.result.now) (Untypable t) c.in_ok-bring_to_handlers.field-0 c.if-not-branch.false c.in_ok-bring_to_handlers.ensures) in
-    ok_weaker (BringsOn t c.args.item insn after middle new) (GoesOver t c.args.item old new) (Untypable t) c.bring_on.result
-    (λ on. GoesOver-item t c.args.item copy after insn old middle new c.requires.sound c.requires.stands at is gives caught on)
-    c.bring_on.ensures
+    let found : c.in_ok-rises.rises.items ≡ map (rise_of own) locals =
+    c.in_ok-rises.ensures ∙ ap (λ (xs : List ℕ). map (rise_of own) xs) c.as_slice-in-Some-risen.ensures in
+    let alone : All (IsLeftAlone insn) (map (rise_of own) locals) =
+    subst (λ (rises : List Rise). All (IsLeftAlone insn) rises) (c.as_slice-in-Some-risen-2.ensures.value ∙ found)
+    (c.all_left_alone.ensures c.if-all_left_alone.true) in
+    let nearly = c.requires.met own locals at c.in-Some-risen.is in
+    subst (λ (rises : List Rise). IsReady t w c.args.item insn rises) (sym (c.as_slice-then-all_left_alone.ensures.value ∙ found))
+    (ready t c.args.item insn own locals w c.requires.sound c.requires.stands at is nearly alone)
+
+pub returns-then-all_left_alone : goal.returns-then-all_left_alone
+returns-then-all_left_alone c =
+    let t = task c.args.method.now in
+    let w = walked c.args.self.now in
+    let new = walked c.carry_on.new.self in
+    let own = type_state c.in-Some.own.now in
+    let locals = c.in-Some-risen.locals in
+    let at = state_seen c.args.self.now.states.items c.as_slice.result.now c.args.item (Some own) c.as_slice.ensures.value c.in-Some.ensures in
+    let insn = (slice_index_or c.as_slice-2.result.now c.args.item c.index-as_slice-item.result).insn in
+    let is = read_insn c.args.method.now.code.now c.as_slice-2.result.now c.args.item c.index-as_slice-item.result c.as_slice-2.ensures c.requires.inside in
+    let found : c.in_ok-rises.rises.items ≡ map (rise_of own) locals =
+    c.in_ok-rises.ensures ∙ ap (λ (xs : List ℕ). map (rise_of own) xs) c.as_slice-in-Some-risen.ensures in
+    let alone : All (IsLeftAlone insn) (map (rise_of own) locals) =
+    subst (λ (rises : List Rise). All (IsLeftAlone insn) rises) (c.as_slice-in-Some-risen-2.ensures.value ∙ found)
+    (c.all_left_alone.ensures c.if-all_left_alone.true) in
+    let nearly = c.requires.met own locals at c.in-Some-risen.is in
+    let On : List Rise → Type 0 = λ rises. CarriesOn t c.args.item insn rises w new in
+    ok_weaker (On c.as_slice-then-all_left_alone.result.now) (GoesOver t c.args.item w new) (Untypable t) c.carry_on.result
+    (λ on. GoesOver-carried t c.args.item insn own locals w new c.requires.sound c.requires.stands at is nearly alone
+    (subst On (c.as_slice-then-all_left_alone.ensures.value ∙ found) on))
+    c.carry_on.ensures
