@@ -111,7 +111,7 @@ kept_if : (b : Bool) (t named : TypeRef) → cond b None (Some t) ≡ Some named
 kept_if true t named is = absurd (none-some named is)
 kept_if false t named is = ap (λ (u : TypeRef). u.dims) (sym (same_Some t named is))
 
-dims_kept : (dims : ℕ) (b : Base) (named : TypeRef) → type_with dims b ≡ Some named → named.dims ≡ dims
+pub dims_kept : (dims : ℕ) (b : Base) (named : TypeRef) → type_with dims b ≡ Some named → named.dims ≡ dims
 dims_kept dims (base.OfClass class) named is = ap (λ (u : TypeRef). u.dims) (sym (same_Some (record { dims = dims; base = base.OfClass class }) named is))
 dims_kept dims base.Boolean named is = kept_if (dims == 0) (record { dims = dims; base = base.Boolean }) named is
 dims_kept dims base.Byte named is = kept_if (dims == 0) (record { dims = dims; base = base.Byte }) named is

@@ -20,3 +20,6 @@ pub mod MadeTypes
 pub mod Making
 pub mod TextUnits
 pub mod TypeNames
+pub mod MainMethod
+pub mod FewTypes
+pub mod ObjectSizes

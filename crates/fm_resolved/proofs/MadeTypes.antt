@@ -55,7 +55,7 @@ distinct_there (u ∷ types) t found = by_place (distinct_there types t) (Contai
   by_place each (inr later) false e =
       Contains-later u kept t (Contains-filter (λ y. not (same_type u y)) (distinct same_type types) t (each later) (ap not e))
 
-from_distinct : (types : List TypeRef) (t : TypeRef) → Contains (distinct same_type types) t → Contains types t
+pub from_distinct : (types : List TypeRef) (t : TypeRef) → Contains (distinct same_type types) t → Contains types t
 from_distinct [] t found = found
 from_distinct (u ∷ types) t found =
     let kept = filter (λ y. not (same_type u y)) (distinct same_type types) in
@@ -83,11 +83,11 @@ some_there {X} (Some y ∷ os) x found = by_place (some_there os x) (Contains-co
 -- ---- the types that are numbered
 
 -- those that uses name and the arrays that are made
-abbrev Named : List DeclaredClass → List ClassDef → List TypeRef
+abbrev pub Named : List DeclaredClass → List ClassDef → List TypeRef
 Named classes given = used_types classes given ++ made_arrays classes given
 
 -- all of them, some more than once
-abbrev Listed : List DeclaredClass → List ClassDef → List TypeRef
+abbrev pub Listed : List DeclaredClass → List ClassDef → List TypeRef
 Listed classes given = class_types classes ++ used_types classes given ++ flat_map arrays_in (Named classes given)
 
 listed_numbered : (given : List ClassDef) (main : List ℕ) (t : TypeRef) → Contains (Listed (classes_of given) given) t → IsNumbered (outline_of given main) t
@@ -98,7 +98,7 @@ listed_numbered given main t found =
     numbered (outline_of given main) place.0 t place.1
 
 -- a type with fewer dimensions
-abbrev with_fewer : TypeRef → ℕ → TypeRef
+abbrev pub with_fewer : TypeRef → ℕ → TypeRef
 with_fewer t fewer = record { dims = t.dims - fewer; base = t.base }
 
 fewer_listed : (classes : List DeclaredClass) (given : List ClassDef) (t : TypeRef) (fewer : ℕ) → Contains (Named classes given) t → fewer < t.dims

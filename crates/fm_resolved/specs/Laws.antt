@@ -1,10 +1,11 @@
 -- What linking makes sure of, of the program of class files against which no cause stands.
-use Rattle.std.specs.Prelude.{◌≡◌, ℕ, ◌^◌, ◌<◌, ◌≤◌, Bool, true, false, List, [], ◌++◌, length, None, Some, slice_get, unwrap_or}
+use Rattle.std.specs.Prelude.{◌≡◌, ℕ, ◌<◌, ◌≤◌, Bool, true, false, List, [], ◌++◌, length, None, Some, slice_get, unwrap_or}
 use Rattle.std.specs.List.{AllByRecursion}
 use Rattle.fm_base.specs.declared.ids.FieldId.{FieldId}
 use Rattle.fm_base.specs.declared.ids.MethodId.{MethodId}
 use Rattle.fm_base.specs.declared.ids.TypeId.{TypeId}
 use Rattle.fm_base.specs.declared.kinds.TypeRef.{TypeRef}
+use Rattle.fm_base.specs.declared.limits.TheConstants.{MAX_CLASS_FILES}
 use Rattle.fm_code.specs.AccessFlags.{is_static}
 use Rattle.fm_code.specs.Edges.{insn_of}
 use Rattle.fm_code.specs.Profile.{IsSupported}
@@ -22,7 +23,7 @@ use Rattle.fm_same.specs.Resolved.{IsResolved}
 use Rattle.fm_sound.specs.Going.{ConstructorsGiveNothing}
 use Rattle.fm_sound.specs.Leading.{NamesField}
 use Rattle.fm_sound.specs.Making.{ConstantsAreStatic}
-use Rattle.fm_sound.specs.Resolved.{IsNamed, StepsAreResolved}
+use Rattle.fm_sound.specs.Resolved.{IsNamed, MainIsReady, StepsAreResolved}
 use Rattle.fm_sound.specs.Sound.{HasObjects}
 use Rattle.fm_types.specs.Fits.{AreTree, fits_type, object_of}
 use Rattle.fm_types.specs.Named.{class_of_method, throwable_type}
@@ -31,9 +32,9 @@ use Rattle.fm_world.specs.Causes.{static_field_wanted, static_method_wanted}
 use Rattle.fm_world.specs.Chains.{chain_of, is_among}
 use Rattle.fm_world.specs.Linking.{refusals}
 use Rattle.fm_world.specs.Lookups.{is_abstract_method, is_interface_at, select, special_target}
-use Rattle.fm_world.specs.Members.{field_at, method_at, methods_of, size_of, slot_of}
+use Rattle.fm_world.specs.Members.{field_at, method_at, methods_of, slot_of}
 use Rattle.fm_world.specs.Numbers.{type_number, type_of_class}
-use Rattle.fm_world.specs.Programs.{class_of_type, code_at, IsTypeIn, kind_at, outline_of, Program, program_of, use_of}
+use Rattle.fm_world.specs.Programs.{class_of_type, code_at, IsTypeIn, kind_at, Program, program_of, use_of}
 use Rattle.fm_world.specs.declared.declarations.DeclaredClass.{DeclaredClass}
 use Rattle.fm_world.specs.declared.uses.Use.{Use}
 use Rattle.fm_world.specs.declared.uses.Use.TheVariants as resolved
@@ -82,12 +83,11 @@ abbrev pub ProgramsAreLinkedWell : Type 0
 ProgramsAreLinkedWell =
     (given : List ClassDef) (main : List ℕ) → AllByRecursion HasSpelling given → refusals given main ≡ [] → IsLinkedWell (program_of given main)
 
--- No cause bounds how many files there are: that the numbers of types fit the header of an object, and the sizes of objects too, is asked of the program.
--- Then it is all that the laws of runs ask of a linked program.
+-- No cause bounds how many files there are. Of as many as one call takes, the program is all that the laws of runs ask of a linked program: the numbers of
+-- its types and the sizes of its objects fit the header of an object.
 abbrev pub ProgramsAreResolved : Type 0
 ProgramsAreResolved =
-    (given : List ClassDef) (main : List ℕ) → AllByRecursion HasSpelling given → refusals given main ≡ []
-    → length (outline_of given main).types ≤ 2 ^ 28 → ((class : ℕ) → size_of (outline_of given main).classes class < 2 ^ 31)
+    (given : List ClassDef) (main : List ℕ) → AllByRecursion HasSpelling given → refusals given main ≡ [] → length given ≤ MAX_CLASS_FILES
     → IsResolved (program_of given main)
 
 -- what linking and the rules of class files make sure of for each step of a program
@@ -117,10 +117,14 @@ abbrev pub StepsOfProgramsAreLinked : Type 0
 StepsOfProgramsAreLinked =
     (given : List ClassDef) (main : List ℕ) → AllByRecursion HasSpelling given → refusals given main ≡ [] → StepsAreLinked (program_of given main)
 
--- Where the files are accepted, and the numbers of types and the sizes of objects fit the header of an object, it is all that each step asks of calls,
--- fields and targets.
+-- Where the files are accepted, it is all that each step asks of calls, fields and targets.
 abbrev pub StepsOfProgramsAreResolved : Type 0
 StepsOfProgramsAreResolved =
     (given : List ClassDef) (main : List ℕ) → AllByRecursion HasSpelling given → AllByRecursion IsSupported given → refusals given main ≡ []
-    → length (outline_of given main).types ≤ 2 ^ 28 → ((class : ℕ) → size_of (outline_of given main).classes class < 2 ^ 31)
-    → StepsAreResolved (program_of given main)
+    → length given ≤ MAX_CLASS_FILES → StepsAreResolved (program_of given main)
+
+-- And its main has code, and takes the array of the arguments alone.
+abbrev pub MainOfProgramsIsReady : Type 0
+MainOfProgramsIsReady =
+    (given : List ClassDef) (main : List ℕ) → AllByRecursion HasSpelling given → AllByRecursion IsSupported given → refusals given main ≡ []
+    → MainIsReady (program_of given main)

@@ -2,6 +2,7 @@
 use Rattle.std.specs.Prelude.{◌≡◌, ℕ, ◌^◌, ◌<◌, ◌≤◌, List, [], length, Some, slice_get}
 use Rattle.std.specs.List.{AllByRecursion}
 use Rattle.fm_base.specs.declared.kinds.TypeRef.{TypeRef}
+use Rattle.fm_base.specs.declared.limits.TheConstants.{MAX_CLASS_FILES}
 use Rattle.fm_code.specs.Spells.{HasSpelling}
 use Rattle.fm_code.specs.declared.class_file.ClassDef.{ClassDef}
 use Rattle.fm_code.specs.declared.instructions.Insn.{Insn}
@@ -10,8 +11,7 @@ use Rattle.fm_frames.specs.ArrayRows.{element_type}
 use Rattle.fm_sound.specs.Making.{AreUnits, IsNumbered, MakesAreResolved, NamesAreUnits, NamesMade}
 use Rattle.fm_sound.specs.Resolved.{IsNamed}
 use Rattle.fm_world.specs.Linking.{refusals}
-use Rattle.fm_world.specs.Members.{size_of}
-use Rattle.fm_world.specs.Programs.{outline_of, Program, program_of}
+use Rattle.fm_world.specs.Programs.{Program, program_of}
 use Rattle.fm_world.specs.declared.uses.Use.{Use}
 
 -- what linking makes sure of where objects are made, for each step of a program
@@ -30,10 +30,8 @@ abbrev pub MakesOfProgramsAreLinked : Type 0
 MakesOfProgramsAreLinked =
     (given : List ClassDef) (main : List ℕ) → AllByRecursion HasSpelling given → refusals given main ≡ [] → MakesAreLinked (program_of given main)
 
--- No cause bounds how many files there are: with the two bounds on the numbers of types and on the sizes of objects, it is all that steps ask where
--- objects are made.
+-- Of as many files as one call takes, the program is all that steps ask where objects are made.
 abbrev pub MakesOfProgramsAreResolved : Type 0
 MakesOfProgramsAreResolved =
-    (given : List ClassDef) (main : List ℕ) → AllByRecursion HasSpelling given → refusals given main ≡ []
-    → length (outline_of given main).types ≤ 2 ^ 28 → ((class : ℕ) → size_of (outline_of given main).classes class < 2 ^ 31)
+    (given : List ClassDef) (main : List ℕ) → AllByRecursion HasSpelling given → refusals given main ≡ [] → length given ≤ MAX_CLASS_FILES
     → MakesAreResolved (program_of given main)

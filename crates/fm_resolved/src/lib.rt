@@ -3,6 +3,7 @@
 
 ghost use Rattle.fm_resolved.specs.DeadRegions.{LinkedRegionsDie};
 ghost use Rattle.fm_resolved.specs.Laws.{
+  MainOfProgramsIsReady,
   ProgramsAreLinkedWell,
   ProgramsAreResolved,
   StepsOfProgramsAreLinked,
@@ -13,7 +14,7 @@ ghost use Rattle.fm_resolved.specs.Makes.{
   MakesOfProgramsAreResolved,
 };
 
-use fm_same::law_dead_regions;
+use fm_same::{law_dead_regions, law_targets};
 use fm_world::law_class_types;
 
 /// Where nothing is refused, the program of spelled class files has what linking makes sure of.
@@ -23,8 +24,8 @@ pub fn law_linking()
     law_class_types();
 }
 
-/// Where nothing is refused, and the numbers of types and the sizes of objects fit the header of an
-/// object, the program of spelled class files is all that the laws of runs ask of a linked program.
+/// Where nothing is refused, the program of spelled class files, as many as one call takes, is all that the
+/// laws of runs ask of a linked program.
 pub fn law_resolved()
     ensures { ProgramsAreResolved }
 {
@@ -37,9 +38,8 @@ pub fn law_steps()
     ensures { StepsOfProgramsAreLinked }
 {}
 
-/// Where nothing is refused of supported files, and the numbers of types and the sizes of objects fit
-/// the header of an object, the program of spelled class files is all that each step of the machine
-/// asks of calls, fields and targets.
+/// Where nothing is refused of supported files, the program of spelled class files, as many as one call
+/// takes, is all that each step of the machine asks of calls, fields and targets.
 pub fn law_sound_steps()
     ensures { StepsOfProgramsAreResolved }
 {
@@ -54,8 +54,8 @@ pub fn law_makes()
     ensures { MakesOfProgramsAreLinked }
 {}
 
-/// Where nothing is refused, and the numbers of types and the sizes of objects fit the header of an
-/// object, the program of spelled class files is all that steps ask where objects are made.
+/// Where nothing is refused, the program of spelled class files, as many as one call takes, is all that
+/// steps ask where objects are made.
 pub fn law_makeable()
     ensures { MakesOfProgramsAreResolved }
 {
@@ -63,6 +63,12 @@ pub fn law_makeable()
     law_steps();
     law_makes();
 }
+
+/// Where nothing is refused of supported files, main of the program has code, and takes the array of the
+/// arguments alone.
+pub fn law_main()
+    ensures { MainOfProgramsIsReady }
+{}
 
 /// The law of dead regions of linked programs: in each run of the program of accepted class files
 /// against which no cause stands, which is typed and calls no FreeMe, what a captured class led to is dead
@@ -73,5 +79,7 @@ pub fn law_linked_regions()
     law_resolved();
     law_sound_steps();
     law_makeable();
+    law_main();
+    law_targets();
     law_dead_regions();
 }

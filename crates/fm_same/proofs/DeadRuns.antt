@@ -11,11 +11,13 @@ use Rattle.fm_sound.proofs.OpeningActs.{opening_fits}
 use Rattle.fm_sound.proofs.RunsSound.{runs_sound}
 use Rattle.fm_sound.proofs.StartActs.{start_alone}
 use Rattle.fm_sound.specs.Laws.{no_frame}
+use Rattle.fm_sound.specs.Making.{MakesAreResolved}
+use Rattle.fm_sound.specs.Resolved.{MainIsReady, StepsAreResolved}
 use Rattle.fm_sound.specs.Sound.{AreTyped}
 use Rattle.fm_types.specs.Typed.{IsTypingOf}
 use Rattle.fm_world.specs.Programs.{code_at, Program}
 use Rattle.fm_same.specs.Colours.{Coloured}
-use Rattle.fm_same.specs.DeadRegions.{states_of}
+use Rattle.fm_same.specs.DeadRegions.{AreSound, InEachRun, states_of}
 use Rattle.fm_same.specs.Laws.{DeadRegions, DeadRegionsOfSoundRuns}
 use Rattle.fm_same.specs.Targets.{AreCovered}
 use Rattle.fm_same.proofs.CoveredFrames.{opening_covered}
@@ -41,12 +43,16 @@ dead_of_sound_run p facts exact ready no_free choose job budget limit free run c
     (opening_coloured p facts (lawful choose) (λ s request. lawful_choice-may s request (choose s request)) (holds_numbers p ready) job budget limit free))
     method depth class birth first count h later le
 
-pub dead_of_run : DeadRegions
-dead_of_run p facts exact ready steps made main no_free choose job input given budget limit free few covers =
-    dead_of_sound_run p facts exact ready no_free choose job budget limit free
-    (λ k. runs_sound p facts.typing (facts_type p facts exact) steps main (λ x sound running. next_acts_fit p facts.typing steps made x sound) choose job input budget
+-- each state of a run is sound
+pub run_is_sound : (p : Program) (facts : Facts) → AreFacts p facts → StepsAreResolved p → MakesAreResolved p → MainIsReady p → InEachRun p (AreSound p facts)
+run_is_sound p facts exact steps made main choose job input given budget limit free few k =
+    runs_sound p facts.typing (facts_type p facts exact) steps main (λ x sound running. next_acts_fit p facts.typing steps made x sound) choose job input budget
     limit free few (record {
       opening = opening_fits p made.makeable (opened budget limit free) no_frame job given;
       start = start_alone p made.makeable made.constants (opened budget limit free) no_frame;
-    }) k)
-    covers
+    }) k
+
+pub dead_of_run : DeadRegions
+dead_of_run p facts exact ready steps made main no_free choose job input given budget limit free few covers =
+    dead_of_sound_run p facts exact ready no_free choose job budget limit free
+    (run_is_sound p facts exact steps made main choose job input given budget limit free few) covers

@@ -4,7 +4,7 @@ use Rattle.std.specs.Prelude.{option_to_list, nat_eq}
 use Rattle.std.specs.List.{filter_map, cons_option, range_with_len}
 use Rattle.std.proofs.lemmas.Bool.{eqb-true}
 use Rattle.fm_code.proofs.EdgesLemmas.{Contains-from_filter}
-use Rattle.fm_conn.proofs.ListLemmas.{Contains-none, Contains-one}
+use Rattle.fm_conn.proofs.ListLemmas.{Contains-first, Contains-later, Contains-none, Contains-one}
 use Rattle.fm_base.proofs.ContainsFacts.{Contains-cons_cases}
 use Rattle.fm_place.proofs.PlaceLemmas.{any-found}
 use Rattle.fm_world.specs.Chains.{is_among}
@@ -19,14 +19,21 @@ use Rattle.fm_sound.proofs.FoundMethods.{alike_itself, IsAlike, select_alike, sp
 
 -- ---- targets
 
-from_filter_map : (find : ℕ → Option ℕ) (xs : List ℕ) (y : ℕ) → Contains (filter_map find xs) y → (x : ℕ) × (find x ≡ Some y)
-from_filter_map find [] y h = absurd (Contains-none y h)
-from_filter_map find (x ∷ xs) y h = by_first (find x) refl h (from_filter_map find xs y) where
-  by_first : (o : Option ℕ) → find x ≡ o → Contains (cons_option o (filter_map find xs)) y
-      → (Contains (filter_map find xs) y → (z : ℕ) × (find z ≡ Some y)) → (z : ℕ) × (find z ≡ Some y)
-  by_first None here among later = later among
+pub Contains-from_filter_map : {X Y : Type 0} (find : X → Option Y) (xs : List X) (y : Y) → Contains (filter_map find xs) y
+    → (x : X) × Contains xs x × (find x ≡ Some y)
+Contains-from_filter_map find [] y h = absurd (Contains-none y h)
+Contains-from_filter_map {X} {Y} find (x ∷ xs) y h = by_first (find x) refl h (Contains-from_filter_map find xs y) where
+  IsFrom : List X → Type 0
+  IsFrom all = (z : X) × Contains all z × (find z ≡ Some y)
+
+  one_later : IsFrom xs → IsFrom (x ∷ xs)
+  one_later from = (from.0, Contains-later x xs from.0 from.1, from.2)
+
+  by_first : (o : Option Y) → find x ≡ o → Contains (cons_option o (filter_map find xs)) y → (Contains (filter_map find xs) y → IsFrom xs) → IsFrom (x ∷ xs)
+  by_first None here among later = one_later (later among)
   by_first (Some z) here among later =
-      ⊎_elim (λ (same : y ≡ z). (x, here ∙ ap Some (sym same))) (λ rest. later rest) (Contains-cons_cases z (filter_map find xs) y among)
+      ⊎_elim (λ (same : y ≡ z). (x, Contains-first x xs, here ∙ ap Some (sym same))) (λ rest. one_later (later rest))
+      (Contains-cons_cases z (filter_map find xs) y among)
 
 selected_alike : (p : Program) (c : Call) (target : ℕ)
     → Contains (filter (λ method. is_among method (selected p c.named c.method.0)) (range_with_len 0 (length (methods_of p.outline.classes)))) target
@@ -36,10 +43,10 @@ selected_alike p c target h =
     target h).1 in
     let found = any-found (nat_eq target) (selected p c.named c.method.0) passes in
     let same : target ≡ found.0 = eqb-true target found.0 found.2 in
-    let receiver = from_filter_map (λ class. select p.outline.classes class c.method.0)
+    let receiver = Contains-from_filter_map (λ class. select p.outline.classes class c.method.0)
     (filter (takes_class p c.named) (range_with_len 0 (length p.outline.classes))
     ++ cond (takes_arrays p.outline.classes c.named) (option_to_list (object_number p.outline.classes)) []) found.0 found.1 in
-    subst (IsAlike p.outline.classes c.method.0) (sym same) (select_alike p.outline.classes receiver.0 c.method.0 found.0 receiver.1)
+    subst (IsAlike p.outline.classes c.method.0) (sym same) (select_alike p.outline.classes receiver.0 c.method.0 found.0 receiver.2)
 
 -- each target is alike, and that of invokestatic is the method itself
 pub target_alike : (p : Program) (c : Call) (target : ℕ) → Contains (targets p c) target → IsAlike p.outline.classes c.method.0 target

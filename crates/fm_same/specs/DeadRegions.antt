@@ -1,11 +1,12 @@
 -- The law of dead regions: once a captured class of an activation isn't busy, or the activation is gone, nothing leads any longer to what the class led
 -- to, and no step changes it.
-use Rattle.std.specs.Prelude.{◌≡◌, ℕ, suc, ◌+◌, ◌<◌, ◌≤◌, ◌⊎◌, false, true, List, [], ◌∷◌, length, Some, slice_get}
+use Rattle.std.specs.Prelude.{◌≡◌, ℕ, suc, ◌+◌, ◌<◌, ◌≤◌, ◌⊎◌, false, true, List, [], ◌∷◌, length, Option, Some, slice_get}
 use Rattle.std.specs.List.{slice_index_or}
 use Rattle.fm_base.specs.declared.kinds.Kind.TheVariants as kind
 use Rattle.fm_base.specs.declared.kinds.TypeRef.{TypeRef}
+use Rattle.fm_base.specs.declared.limits.TheConstants.{MAX_FILE_BYTES, MAX_LIVE_WORDS}
 use Rattle.fm_cells.specs.Objects.{Object}
-use Rattle.fm_cells.specs.Stores.{object_at, Store}
+use Rattle.fm_cells.specs.Stores.{object_at, opened, Store}
 use Rattle.fm_code.specs.declared.code_array.Code.{Code}
 use Rattle.fm_conn.specs.Facts.{Facts}
 use Rattle.fm_conn.specs.Links.{typed_method}
@@ -20,6 +21,7 @@ use Rattle.fm_frames.specs.declared.values.Value.{Value}
 use Rattle.fm_place.specs.Places.{is_busy}
 use Rattle.fm_place.specs.Sites.{is_captured}
 use Rattle.fm_same.specs.Colours.{kind_in, node_of_word}
+use Rattle.fm_sound.specs.Making.{ArgumentsFit}
 use Rattle.fm_sound.specs.Sound.{IsSoundBy}
 use Rattle.fm_same.specs.Standing.{method_of}
 
@@ -123,3 +125,15 @@ AreSteps p choose xs = (k : ℕ) → xs (suc k) ≡ (step p choose (xs k)).state
 -- the states of a run from its opening on, over memory that reuses cells in any way
 abbrev pub states_of : Program → Choose → Job → Store → ℕ → State
 states_of p choose job store k = (after p (lawful choose) k (opening p (lawful choose) job store)).state
+
+-- it is so of the states of each run within the limits of a run
+abbrev pub InEachRun : Program → ((ℕ → State) → Type 0) → Type 0
+InEachRun p IsSo =
+    (choose : Choose) (job : Job) → length job.input ≤ MAX_FILE_BYTES → ArgumentsFit p.outline job.arguments
+    → (budget : ℕ) (limit : Option ℕ) (free : List (List ℕ)) → budget ≤ MAX_LIVE_WORDS → IsSo (states_of p choose job (opened budget limit free))
+
+-- in these states what a captured class led to is dead from the one on in which the class isn't busy, or the activation is gone
+abbrev pub RegionsDieIn : Program → Facts → (ℕ → State) → Type 0
+RegionsDieIn p facts xs =
+    (method depth class birth first count : ℕ) → IsRetired p facts xs method depth class birth first count
+    → (later : ℕ) → first + suc count ≤ later → IsDead p facts birth (xs later) (xs (suc later))

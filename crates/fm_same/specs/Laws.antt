@@ -1,5 +1,5 @@
 -- The laws that the functions of `laws` prove.
-use Rattle.std.specs.Prelude.{◌≡◌, ◌≢◌, ℕ, suc, ◌+◌, ◌≤◌, ◌⊎◌, true, List, ◌∷◌, length, Option, Some, None}
+use Rattle.std.specs.Prelude.{◌≡◌, ◌≢◌, ℕ, ◌≤◌, ◌⊎◌, true, List, ◌∷◌, length, Option, Some, None}
 use Rattle.fm_code.specs.Edges.{IsNormalEdge}
 use Rattle.fm_code.specs.declared.code_array.Code.{Code}
 use Rattle.fm_conn.specs.Facts.{AreFacts, Facts}
@@ -19,11 +19,10 @@ use Rattle.fm_place.specs.Sites.{is_captured}
 use Rattle.fm_same.specs.Advances.{GoesOver, OwesAt}
 use Rattle.fm_same.specs.Colours.{Colour, Coloured}
 use Rattle.fm_same.specs.Covering.{CoversAt, PlacesAgreeAt}
-use Rattle.fm_same.specs.DeadRegions.{IsDead, IsOver, AreSound, AreSteps, IsRetired, states_of}
+use Rattle.fm_same.specs.DeadRegions.{IsOver, AreSound, AreSteps, InEachRun, RegionsDieIn, states_of}
 use Rattle.fm_same.specs.Evenness.{HoldsNumbers}
 use Rattle.fm_same.specs.Regions.{argument, Own, region, Region, Retired}
-use Rattle.fm_base.specs.declared.limits.TheConstants.{MAX_FILE_BYTES, MAX_LIVE_WORDS}
-use Rattle.fm_sound.specs.Making.{ArgumentsFit, MakesAreResolved}
+use Rattle.fm_sound.specs.Making.{MakesAreResolved}
 use Rattle.fm_sound.specs.Resolved.{MainIsReady, StepsAreResolved}
 use Rattle.fm_sound.specs.Sound.{IsSoundBy}
 use Rattle.fm_same.specs.Resolved.{CallsNoFreeMe, IsResolved}
@@ -149,15 +148,12 @@ FullTargetsCover =
 
 -- ---- the law of dead regions
 
--- in states that are steps, the first of which has colours: what a captured class led to is dead from the state on in which the class isn't busy, or the
--- activation is gone
+-- in states that are steps, the first of which has colours
 abbrev pub RegionsDie : Type 0
 RegionsDie =
     (p : Program) (facts : Facts) → AreFacts p facts → IsResolved p → CallsNoFreeMe p → (choose : Choose) (xs : ℕ → State)
     → AreSteps p (lawful choose) xs → AreSound p facts xs → ((k : ℕ) → Covers p facts (xs k))
-    → AreCovered p facts (xs 0).frames → (colour : Colour) → Coloured p facts (xs 0) colour
-    → (method depth class birth first count : ℕ) → IsRetired p facts xs method depth class birth first count
-    → (later : ℕ) → first + suc count ≤ later → IsDead p facts birth (xs later) (xs (suc later))
+    → AreCovered p facts (xs 0).frames → (colour : Colour) → Coloured p facts (xs 0) colour → RegionsDieIn p facts xs
 
 -- so it is in each run of sound states, from its opening on
 abbrev pub DeadRegionsOfSoundRuns : Type 0
@@ -166,19 +162,10 @@ DeadRegionsOfSoundRuns =
     → (choose : Choose) (job : Job) (budget : ℕ) (limit : Option ℕ) (free : List (List ℕ))
     → AreSound p facts (states_of p choose job (opened budget limit free))
     → ((k : ℕ) → Covers p facts (states_of p choose job (opened budget limit free) k))
-    → (method depth class birth first count : ℕ)
-    → IsRetired p facts (states_of p choose job (opened budget limit free)) method depth class birth first count
-    → (later : ℕ) → first + suc count ≤ later
-    → IsDead p facts birth (states_of p choose job (opened budget limit free) later) (states_of p choose job (opened budget limit free) (suc later))
+    → RegionsDieIn p facts (states_of p choose job (opened budget limit free))
 
--- and in each run, within the limits of a run, of a typed and linked program that calls no FreeMe and whose calls lead to targets
+-- and in each run of a typed and linked program that calls no FreeMe and whose calls lead to targets
 abbrev pub DeadRegions : Type 0
 DeadRegions =
     (p : Program) (facts : Facts) → AreFacts p facts → IsResolved p → StepsAreResolved p → MakesAreResolved p → MainIsReady p → CallsNoFreeMe p
-    → (choose : Choose) (job : Job) → length job.input ≤ MAX_FILE_BYTES → ArgumentsFit p.outline job.arguments
-    → (budget : ℕ) (limit : Option ℕ) (free : List (List ℕ)) → budget ≤ MAX_LIVE_WORDS
-    → ((k : ℕ) → Covers p facts (states_of p choose job (opened budget limit free) k))
-    → (method depth class birth first count : ℕ)
-    → IsRetired p facts (states_of p choose job (opened budget limit free)) method depth class birth first count
-    → (later : ℕ) → first + suc count ≤ later
-    → IsDead p facts birth (states_of p choose job (opened budget limit free) later) (states_of p choose job (opened budget limit free) (suc later))
+    → InEachRun p (λ xs. ((k : ℕ) → Covers p facts (xs k)) → RegionsDieIn p facts xs)

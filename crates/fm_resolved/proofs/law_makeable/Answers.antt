@@ -21,6 +21,6 @@ makes_resolved p its steps makes = record {
 }
 
 pub returns : goal.returns
-returns c given main spelled none few small =
-    makes_resolved (program_of given main) (c.law_resolved.ensures given main spelled none few small) (c.law_steps.ensures given main spelled none)
+returns c given main spelled none few =
+    makes_resolved (program_of given main) (c.law_resolved.ensures given main spelled none few) (c.law_steps.ensures given main spelled none)
     (c.law_makes.ensures given main spelled none)

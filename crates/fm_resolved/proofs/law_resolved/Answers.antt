@@ -1,4 +1,5 @@
 use Rattle.std.proofs.Common.{ℕ, ◌^◌, ◌<◌, ◌≤◌, length}
+use Rattle.fm_resolved.proofs.ObjectSizes.{few_types, small_objects}
 use Rattle.fm_resolved.proofs.law_resolved.Goals as goal
 use Rattle.fm_resolved.specs.Laws.{IsLinkedWell}
 use Rattle.fm_same.specs.Resolved.{IsResolved}
@@ -32,4 +33,5 @@ resolved p well few small = record {
 
 pub returns : goal.returns
 unfolding program_of
-returns c given main spelled none few small = resolved (program_of given main) (c.law_linking.ensures given main spelled none) few small
+returns c given main spelled none few =
+    resolved (program_of given main) (c.law_linking.ensures given main spelled none) (few_types given main spelled few) (small_objects given main spelled few)

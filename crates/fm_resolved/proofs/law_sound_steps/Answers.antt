@@ -24,6 +24,6 @@ resolved_steps p well linked coded = record {
 }
 
 pub returns : goal.returns
-returns c given main spelled supported none few small =
-    resolved_steps (program_of given main) (c.law_resolved.ensures given main spelled none few small) (c.law_steps.ensures given main spelled none)
+returns c given main spelled supported none few =
+    resolved_steps (program_of given main) (c.law_resolved.ensures given main spelled none few) (c.law_steps.ensures given main spelled none)
     (concrete_coded given main spelled supported)
