@@ -16,7 +16,7 @@ use Rattle.fm_code.specs.declared.class_file.ClassDef.{ClassDef}
 use Rattle.fm_frames.specs.Natives.{native_of_row}
 use Rattle.fm_lookup.proofs.BuiltInParents.{number_first}
 use Rattle.fm_resolved.proofs.ConcreteCodes.{concrete_coded}
-use Rattle.fm_resolved.proofs.GivenFiles.{nil_right}
+use Rattle.fm_lookup.proofs.ParentRefusals.{nil_right}
 use Rattle.fm_resolved.proofs.Rows.{all_methods, row_past}
 use Rattle.fm_resolved.proofs.Steps.{concrete_there}
 use Rattle.fm_sound.proofs.FoundMethods.{found_among, IsFound, own_method_found}
