@@ -9,7 +9,7 @@ use Rattle.std.proofs.lemmas.List.{get_or_default}
 use Rattle.std.proofs.lemmas.Bool.{cases_lt, le-ltb}
 use Rattle.fm_cells.specs.Objects.{Object, IsObject, object_words, Request, IsRequest, request_words, request_size_class, new_object, request_of}
 use Rattle.fm_cells.specs.Sizes.{cell_words}
-use Rattle.fm_cells.specs.Choices.{never_choice}
+use Rattle.fm_cells.specs.Choices.{lawful, never_choice}
 use Rattle.fm_cells.specs.Changes.{Take, made_by, without_object, with_object}
 use Rattle.fm_cells.specs.Stores.{Store, object_at, live_words, words_needed, passes_limit}
 use Rattle.fm_cells.specs.Soundness.{IsSound, IsNeverReused}
@@ -20,6 +20,7 @@ use Rattle.fm_cells.specs.declared.plain_cells.PlainCells.TheInside.{Inside}
 use Rattle.fm_cells.proofs.Residents.{object_at-plain_of, place-lt, plain_of-some, plain_of-none, plain_of-made, never_choice-is}
 use Rattle.fm_cells.proofs.Held.{held_if}
 use Rattle.fm_cells.proofs.Changes.{live_words-made_by, live_words-with_object, live_words-without_object}
+use Rattle.fm_cells.proofs.Choices.{lawful_choice-left, MayReuse-never_choice}
 use Rattle.fm_cells.proofs.Soundness.{IsSound-made_by, IsSound-without_object, IsSound-with_object}
 use Rattle.fm_cells.proofs.NeverReused.{MayReuse-next, IsNeverReused-made_by, IsNeverReused-without_object, IsNeverReused-with_object}
 
@@ -158,6 +159,11 @@ pushed inside after residents resident request words cell peak class plain asked
       made ∙ ap (made_by store request) choice,
       IsPlain-is after _ made (IsSound-made_by store request (store.births + 1) true plain.sound asked fits needed may (λ q h. omega (arith, after_make.within q h))) after_make live (subst (λ a. a.limit ≤ 2 ^ 32 - 2) (sym is) plain.limit_fits),
     )
+
+-- the choice that is made lawful is the next number that no object had
+pub lawful-next : (inside : Inside) (now : Store) (request : Request) → plain_store inside ≡ now → IsPlain inside → lawful never_choice now request ≡ never_choice now request
+lawful-next inside now request view plain =
+    lawful_choice-left now request (never_choice now request) (MayReuse-never_choice now request (subst (λ s. IsNeverReused s) view plain.never_reused))
 
 -- a resident with the numbers of a request is the object that it makes
 pub new_resident : (class birth births pack : ℕ) (fixed : Bool) (len : ℕ) (elements : List ℕ) → birth ≡ births → elements ≡ replicate len 0

@@ -1,13 +1,10 @@
 // A memory whose cells are never reused: a list of optional objects.
 
-ghost use Rattle.std.specs.Prelude.{◌≡◌, ◌-◌, ◌^◌, ◌<◌, ◌≤◌, ◌↔◌, IfOk, OnOk, OnErr, Err, Some, replicate};
+ghost use Rattle.std.specs.Prelude.{◌≡◌, ◌-◌, ◌^◌, ◌≤◌, IfOk, Some, replicate};
 ghost use Rattle.std.specs.Option.{option_map, option_copied};
 ghost use Rattle.fm_cells.specs.inner.Residents.{resident_object, object_in};
-ghost use Rattle.fm_cells.specs.Sizes.{IsPack};
-ghost use Rattle.fm_cells.specs.Objects.{request_of};
 ghost use Rattle.fm_cells.specs.Stores as spec;
-ghost use Rattle.fm_cells.specs.Changes.{made_by};
-ghost use Rattle.fm_cells.specs.Choices.{MayReuse, TakesCell, IsRefused, never_choice, lawful};
+ghost use Rattle.fm_cells.specs.Choices.{never_choice, lawful};
 
 use crate::answers::{Cell, Freed, Head, MakeFail, NotHeld};
 use crate::memories::Memory;
@@ -99,23 +96,7 @@ impl Memory for PlainCells {
 
     ghost choose = { lawful never_choice };
 
-    fn make(&mut self, class: u32, len: u32, pack: u8, fixed: bool) -> Result<Cell, MakeFail>
-        requires class_fits { class < 2 ^ 28 }
-        requires len_fits { len < 2 ^ 31 }
-        requires pack_is { IsPack pack }
-        requires birth_fits { self.old.births < 2 ^ 32 - 1 }
-        ensures taken { let request = request_of class len pack fixed in
-            IfOk result (λ cell. TakesCell (never_choice self.old request) cell.0) }
-        ensures made { let request = request_of class len pack fixed in
-            OnOk result (self.new ≡ made_by self.old request (never_choice self.old request)) }
-        ensures budget { let request = request_of class len pack fixed in
-            (result ≡ Err MakeFail.Budget) ↔ spec.IsOverBudget self.old request }
-        ensures full { let request = request_of class len pack fixed in
-            (result ≡ Err MakeFail.Store) ↔ IsRefused never_choice self.old request }
-        ensures refused { OnErr result (self.new ≡ self.old) }
-        ensures may_reuse { let request = request_of class len pack fixed in
-            MayReuse self.old request (never_choice self.old request) }
-    {
+    fn make(&mut self, class: u32, len: u32, pack: u8, fixed: bool) -> Result<Cell, MakeFail> {
         let words = object_words(len, pack);
         if words as u64 > self.budget - self.live {
             return Err(MakeFail::Budget);

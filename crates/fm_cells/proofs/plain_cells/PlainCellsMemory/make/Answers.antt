@@ -6,7 +6,7 @@ use Rattle.fm_cells.specs.Choices.{never_choice}
 use Rattle.fm_cells.specs.inner.PlainStores.{plain_store, IsPlain}
 use Rattle.fm_cells.specs.declared.plain_cells.PlainCells.TheInside.{Inside}
 use Rattle.fm_cells.proofs.SizeLaws.{size_class-lt}
-use Rattle.fm_cells.proofs.PlainStores.{same_residents, pushed, new_resident}
+use Rattle.fm_cells.proofs.PlainStores.{lawful-next, same_residents, pushed, new_resident}
 use Rattle.fm_cells.proofs.Soundness.{request_words_bound}
 use Rattle.fm_cells.proofs.plain_cells.PlainCellsMemory.make.Goals as goal
 
@@ -56,9 +56,10 @@ invariant_of-self-2 c = (both c).2
 pub returns-clause-taken : goal.returns-clause-taken
 returns-clause-taken c =
     let request = request_of c.args.class c.args.len c.args.pack c.args.fixed in
-    (true, sym (ap (λ n. Take (n + 1) true) c.len-birth.ensures ∙ (both c).0 ∙ ap (λ s. never_choice s request) c.self.view_is))
+    (true, lawful-next c.self.inside c.args.self.now request c.self.view_is c.self.invariant ∙ sym (ap (λ n. Take (n + 1) true) c.len-birth.ensures ∙ (both c).0 ∙ ap (λ s. never_choice s request) c.self.view_is))
 
 pub returns-clause-made : goal.returns-clause-made
 returns-clause-made c =
     let request = request_of c.args.class c.args.len c.args.pack c.args.fixed in
     (both c).1 ∙ ap (λ s. made_by s request (never_choice s request)) c.self.view_is
+    ∙ sym (ap (made_by c.args.self.now request) (lawful-next c.self.inside c.args.self.now request c.self.view_is c.self.invariant))
