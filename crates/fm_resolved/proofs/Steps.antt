@@ -1,6 +1,6 @@
 -- What linking and the rules of class files make sure of for each step: static and private methods aren't abstract, fields are static as instructions want, targets are items,
 -- and constants are those of static fields.
-use Rattle.std.proofs.Common.{◌≡◌, refl, sym, ◌∙◌, subst, ℕ, ◌+◌, ◌<◌, ◌||◌, ◌&&◌, not, Bool, true, false, cond, List, [], ◌∷◌, length, map, Option, Some, None, slice_get}
+use Rattle.std.proofs.Common.{◌≡◌, refl, sym, ◌∙◌, subst, ℕ, ◌+◌, ◌<◌, ◌≤◌, ◌||◌, ◌&&◌, not, Bool, true, false, cond, List, [], ◌∷◌, length, map, Option, Some, None, slice_get}
 use Rattle.std.specs.List.{AllByRecursion, slice_index_or}
 use Rattle.std.specs.Option.{option_map}
 use Rattle.std.proofs.lemmas.Bool.{and_parts, false≢true}
@@ -16,10 +16,12 @@ use Rattle.fm_code.specs.SpellsCode.{IsSpelled, targets_of}
 use Rattle.fm_code.specs.declared.class_file.ClassDef.{ClassDef}
 use Rattle.fm_code.specs.declared.class_file.Member.{Member}
 use Rattle.fm_code.specs.declared.code_array.Code.{Code}
+use Rattle.fm_code.specs.declared.code_array.TheConstants.{MAX_CODE_BYTES}
 use Rattle.fm_code.specs.declared.code_array.Item.{Item}
 use Rattle.fm_code.specs.declared.constant_pool.Entry.{Entry}
 use Rattle.fm_code.specs.declared.instructions.Insn.{Insn}
 use Rattle.fm_code.specs.declared.instructions.Insn.TheVariants as insn
+use Rattle.fm_flow.proofs.CodeFacts.{items_counted}
 use Rattle.fm_resolved.proofs.CodedMethods.{code_there, contains_at}
 use Rattle.fm_resolved.proofs.Constants.{all_fields}
 use Rattle.fm_resolved.proofs.Fields.{access_there}
@@ -60,6 +62,17 @@ targets_there given spelled method code place i code_is insn_is = by_item (slice
   by_item (Some item) at e =
       let P : Insn → Type 0 = λ j. AllByRecursion (λ target. target < length code.items) (targets_of j) in
       subst P (same_Some item.insn i e) (each_one (IsSpelled code.items) code.items item all (contains_at code.items place item at)).targets
+
+-- ---- items
+
+pub items_few : (given : List ClassDef) → AllByRecursion HasSpelling given → (method : ℕ) (code : Code)
+    → slice_index_or (codes_of given) method None ≡ Some code → length code.items ≤ MAX_CODE_BYTES
+items_few given spelled method code code_is =
+    let there = code_there given method code code_is in
+    (items_counted code (
+      there.file.pool.entries,
+      valid_code there.file (spelled_at given there.place there.file spelled there.file_is) there.member code there.among there.code_is,
+    )).1
 
 -- ---- fields
 

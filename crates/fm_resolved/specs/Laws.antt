@@ -13,6 +13,7 @@ use Rattle.fm_code.specs.Spells.{HasSpelling}
 use Rattle.fm_code.specs.SpellsCode.{targets_of}
 use Rattle.fm_code.specs.declared.class_file.ClassDef.{ClassDef}
 use Rattle.fm_code.specs.declared.code_array.Code.{Code}
+use Rattle.fm_code.specs.declared.code_array.TheConstants.{MAX_CODE_BYTES}
 use Rattle.fm_code.specs.declared.instructions.Insn.{Insn}
 use Rattle.fm_code.specs.declared.instructions.Insn.TheVariants as insn
 use Rattle.fm_frames.specs.NativeRows.{text_kind}
@@ -109,6 +110,8 @@ pub record StepsAreLinked (p : Program) : Type 0 where
   -- the targets of an instruction are items (JVMS 4.9.1)
   pub targets : (method : ℕ) (code : Code) (item : ℕ) (i : Insn) → code_at p method ≡ Some code → insn_of code item ≡ Some i
       → AllByRecursion (λ target. target < length code.items) (targets_of i)
+  -- a code has no more items than bytes (JVMS 4.7.3)
+  pub items : (method : ℕ) (code : Code) → code_at p method ≡ Some code → length code.items ≤ MAX_CODE_BYTES
   -- a field with a constant is static (JVMS 4.7.2)
   pub constants : ConstantsAreStatic p.outline
 

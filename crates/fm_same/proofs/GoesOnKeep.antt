@@ -17,8 +17,9 @@ use Rattle.fm_frames.specs.Steps as steps
 use Rattle.fm_frames.specs.declared.values.Value.{Value}
 use Rattle.fm_same.specs.Advances.{point_of}
 use Rattle.fm_same.specs.Colours.{AreAreasColoured, AreFramesColoured, Colour, HasColour, IsEdgeEven, IsFrameColoured, IsOf, node_of_word, OfNull}
-use Rattle.fm_same.specs.Evenness.{given, GoesOn, is_written, Point, ReadAgrees, WritesFrom}
+use Rattle.fm_same.specs.Evenness.{given, GoesOn, is_written, Point, WritesFrom}
 use Rattle.fm_same.specs.Regions.{Region, region}
+use Rattle.fm_sound.specs.Placing.{ReadAgrees}
 use Rattle.fm_sound.specs.Sound.{IsReference}
 use Rattle.fm_same.specs.Standing.{Goes, method_of, StandsAt}
 use Rattle.fm_same.proofs.ActsKeep.{Went}
@@ -147,7 +148,7 @@ module _ (p : Program) (facts : Facts) (f : Frame) (callers : List Frame) (at : 
   region_in class = region p.outline facts f.method callers class
 
   writes_has : (class : ℕ) (s : Source) → WritesFrom point class s → HasColour y.store colour (region_in class) (value_of from s)
-  writes_has class (Plain v) h = source_gives p facts f callers at store colour coloured home y made gone class (Plain v) h tt
+  writes_has class (Plain v) h = source_gives p facts f callers at store colour coloured home y made gone class (Plain v) h h
   writes_has class (OfOperand n) h = source_gives p facts f callers at store colour coloured home y made gone class (OfOperand n) h tt
   writes_has class (LocalPlus k by) h = source_gives p facts f callers at store colour coloured home y made gone class (LocalPlus k by) h tt
   writes_has class other h = absurd h

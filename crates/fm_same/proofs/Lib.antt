@@ -32,8 +32,6 @@ pub mod ProgramNumbers
 pub mod CoveredFrames
 pub mod SoundFrames
 pub mod FullTargets
-pub mod KindsAgree
-pub mod PlaceRows
 pub mod PlacesSound
 pub mod RegionsDie
 pub mod DeadRuns

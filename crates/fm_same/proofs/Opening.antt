@@ -44,8 +44,7 @@ use Rattle.fm_same.proofs.CallsKeep.{starts_coloured, top_found}
 use Rattle.fm_same.proofs.GoesOnKeep.{append_found}
 use Rattle.fm_same.proofs.StoreChanges.{Extends, extends-refl, extends-then, for_ever-is_of, for_ever-later, is_of-later, set_found}
 use Rattle.fm_same.proofs.RegionLemmas.{region_within}
-use Rattle.fm_same.proofs.Starting.{all_flattened}
-use Rattle.fm_sound.proofs.Opening.{with_text}
+use Rattle.fm_sound.proofs.Opening.{all_flat, with_text}
 
 -- ---- what was made stays in its place
 
@@ -292,10 +291,10 @@ constant_has o store colour home field (Some (constant.Text text)) plain = text_
 starts_have : (o : Outline) (store : Store) (colour : Colour) (home : Region) → HoldsNumbers o → (classes : List ℕ)
     → AllByRecursion (ActHas o store colour [] home) (start_actions o classes)
 starts_have o store colour home numbers classes =
-    all_flattened (ActHas o store colour [] home) (start_of_class o) classes
+    all_flat (ActHas o store colour [] home) (start_of_class o) classes
     (λ class. (
       tt,
-      all_flattened (ActHas o store colour [] home) (λ field. set_constant o field (field_at o.classes field).field.value) (fields_at o class)
+      all_flat (ActHas o store colour [] home) (λ field. set_constant o field (field_at o.classes field).field.value) (fields_at o class)
           (λ field. constant_has o store colour home field (field_at o.classes field).field.value (numbers.constants field)),
     ))
 

@@ -23,7 +23,8 @@ use Rattle.fm_frames.specs.NumberRows.{compare_effect, convert_effect, increment
 use Rattle.fm_frames.specs.Operands.{thrown, thrown_null}
 use Rattle.fm_frames.specs.Sights.{Sight}
 use Rattle.fm_frames.specs.States.{Frame}
-use Rattle.fm_same.specs.Evenness.{ActsEvenly, ComesFrom, EndsEvenly, IsPlain, IsPlainKind, LeadsRight, Obeys, Point, WritesFrom}
+use Rattle.fm_same.specs.Evenness.{ActsEvenly, ComesFrom, EndsEvenly, IsPlainKind, LeadsRight, Obeys, Point, WritesFrom}
+use Rattle.fm_sound.specs.Placing.{IsPlain}
 use Rattle.fm_sound.proofs.Cases.{by_int, by_long, by_reference, by_thrown}
 use Rattle.fm_same.proofs.ItemFacts.{AtInsn, goes_obey, point, used}
 

@@ -2,7 +2,7 @@
 use Rattle.std.proofs.Common.{◌≡◌, ◌≢◌, ℕ, ℤ, zero, suc, ◌<◌, ◌⊎◌, true, false, List, [], ◌∷◌, length, Some, None, refl, sym, ◌∙◌, ap, subst, inl, inr, slice_get, slice_index_or, ⊎_elim}
 use Rattle.std.specs.List.{AllByRecursion}
 use Rattle.std.proofs.lemmas.Bool.{false≢true}
-use Rattle.std.proofs.lemmas.Option.{slice_get-get_or}
+use Rattle.std.proofs.lemmas.Option.{same_Some, slice_get-get_or}
 use Rattle.fm_base.specs.declared.kinds.Kind.{Kind}
 use Rattle.fm_base.specs.declared.kinds.Kind.TheVariants as kind
 use Rattle.fm_base.specs.declared.kinds.TypeRef.{TypeRef}
@@ -19,10 +19,11 @@ use Rattle.fm_frames.specs.States.{Areas, Frame, word_at}
 use Rattle.fm_frames.specs.declared.values.Value.{Value}
 use Rattle.fm_frames.specs.declared.values.Value.TheVariants as value
 use Rattle.fm_same.specs.Advances.{point_of}
-use Rattle.fm_same.specs.Colours.{Colour, HasColour, IsEdgeEven, IsFrameColoured, IsOf, kind_in, OfNull, OfObject}
-use Rattle.fm_same.specs.Evenness.{ActsEvenly, ComesFrom, IsObjectSource, IsPlain, IsPlainKind, LeadsOn, Point, PutAgrees, PutsEvenly, ReadAgrees, SetsEvenly, word}
+use Rattle.fm_same.specs.Colours.{Colour, HasColour, IsEdgeEven, IsFrameColoured, IsOf, OfNull, OfObject}
+use Rattle.fm_same.specs.Evenness.{ActsEvenly, ComesFrom, IsObjectSource, IsPlainKind, LeadsOn, Point, PutsEvenly, SetsEvenly, word}
 use Rattle.fm_same.specs.Regions.{Everywhere, Region, region, Retired}
 use Rattle.fm_same.specs.Standing.{StandsAt}
+use Rattle.fm_sound.specs.Placing.{IsPlain, kind_in, PutAgrees, ReadAgrees}
 use Rattle.fm_sound.specs.Sound.{IsReference}
 use Rattle.fm_same.proofs.ActsKeep.{ActHas, cell_has, PutHas, SourceHas, SourceLeads, StaticHas, Went}
 use Rattle.fm_same.proofs.RegionLemmas.{region_global, region_within}
@@ -206,7 +207,10 @@ module _ (p : Program) (facts : Facts) (f : Frame) (callers : List Frame) (at : 
     source_gives class (LocalPlus k by) from agrees = sum_value y.store colour (region_in class) (word_at f.locals k) by
     source_gives class (OfPlace n place (kind.Ref t)) from agrees =
         reference_read y.store colour (region_in class) t (slice_index_or (elements_at y.store (cell_of (word_at f.stack n))) place 0)
-        (element_has class (cell_of (word_at f.stack n)) place (cell_has store colour (region_in class) (word_at f.stack n) (operand_has n class from)) agrees)
+        (element_has class (cell_of (word_at f.stack n)) place (cell_has store colour (region_in class) (word_at f.stack n) (operand_has n class from))
+        (λ object held.
+        let same : agrees.0 ≡ object = same_Some agrees.0 object (sym agrees.1 ∙ held) in
+        (agrees.2, ap (λ (y : Object). kind_in p.outline y place) (sym same) ∙ agrees.3)))
     source_gives class (OfPlace n place k) from agrees =
         number_read y.store colour (region_in class) k (slice_index_or (elements_at y.store (cell_of (word_at f.stack n))) place 0) tt
     source_gives class (OfStatic slot) from agrees =

@@ -1,6 +1,7 @@
 -- What the start of a class makes of an effect owes no more than the effect; so the next effect of a sound state owes what it should.
-use Rattle.std.proofs.Common.{◌≡◌, ℕ, ◌==◌, Bool, true, false, List, [], ◌∷◌, ◌++◌, Option, Some, None, codes, option_and_then, refl, sym, ◌∙◌, ap, subst, slice_get, eq-eqb}
-use Rattle.std.specs.List.{AllByRecursion, cons_option, flat_map}
+use Rattle.std.proofs.Common.{◌≡◌, ℕ, ◌==◌, Bool, true, false, List, [], ◌∷◌, Option, Some, None, codes, option_and_then, refl, sym, ◌∙◌, ap, subst, slice_get, eq-eqb}
+use Rattle.std.specs.List.{AllByRecursion, cons_option}
+use Rattle.fm_base.proofs.ListFacts.{AllByRecursion-append}
 use Rattle.fm_base.specs.Texts.{units}
 use Rattle.fm_base.specs.declared.kinds.Kind.{Kind}
 use Rattle.fm_base.specs.declared.kinds.Kind.TheVariants as kind
@@ -15,7 +16,7 @@ use Rattle.fm_world.specs.Numbers.{text_number}
 use Rattle.fm_world.specs.Programs.{code_at, Outline, Program}
 use Rattle.fm_world.specs.declared.declarations.Constant.{Constant}
 use Rattle.fm_world.specs.declared.declarations.Constant.TheVariants as constant
-use Rattle.fm_frames.specs.Effects.{Action, Effect, Enters, MakeLiteral, nothing, OfLiteral, Plain, SetStatic}
+use Rattle.fm_frames.specs.Effects.{Effect, OfLiteral, Plain}
 use Rattle.fm_frames.specs.ObjectRows.{kind_of_field}
 use Rattle.fm_frames.specs.Sights.{sights}
 use Rattle.fm_frames.specs.Starts.{fields_at, set_constant, start_actions, start_methods, start_of_class, to_start, with_start}
@@ -25,22 +26,15 @@ use Rattle.fm_frames.specs.declared.values.Value.{Value}
 use Rattle.fm_frames.specs.declared.values.Value.TheVariants as value
 use Rattle.fm_same.specs.Advances.{OwesAt, point_of}
 use Rattle.fm_same.specs.Covering.{CoversAt, MeetsCalls}
-use Rattle.fm_same.specs.Evenness.{ActsEvenly, HoldsNumbers, IsNumber, IsPlainKind, Obeys, PlacesAgree, Point, PutAgrees, SetsEvenly}
+use Rattle.fm_same.specs.Evenness.{ActsEvenly, HoldsNumbers, IsNumber, IsPlainKind, Obeys, Point, SetsEvenly}
 use Rattle.fm_same.specs.Standing.{Goes, Stand}
 use Rattle.fm_same.proofs.ItemFacts.{AtInsn, depth_is}
 use Rattle.fm_same.proofs.Owing.{effect_obeys}
+use Rattle.fm_sound.specs.Placing.{PlacesAgree}
 use Rattle.fm_sound.proofs.FoundMethods.{own_method_found}
-use Rattle.fm_sound.proofs.Opening.{with_text}
-
--- ---- lists
-
-pub all_joined : (P : Action → Type 0) (xs ys : List Action) → AllByRecursion P xs → AllByRecursion P ys → AllByRecursion P (xs ++ ys)
-all_joined P [] ys h rest = rest
-all_joined P (x ∷ xs) ys h rest = (h.0, all_joined P xs ys h.1 rest)
-
-pub all_flattened : (P : Action → Type 0) (f : ℕ → List Action) (xs : List ℕ) → ((n : ℕ) → AllByRecursion P (f n)) → AllByRecursion P (flat_map f xs)
-all_flattened P f [] h = tt
-all_flattened P f (x ∷ xs) h = all_joined P (f x) (flat_map f xs) (h x) (all_flattened P f xs h)
+use Rattle.fm_sound.proofs.Opening.{all_flat, with_text}
+use Rattle.fm_sound.proofs.NextPlaces.{methods_agree}
+use Rattle.fm_sound.proofs.StartActs.{after_methods}
 
 -- ---- the actions of starts
 
@@ -67,44 +61,18 @@ constant_even o x home field (Some (constant.Text text)) plain = text_even o x h
 
 starts_even : (o : Outline) (x : Point) (home : ℕ) → HoldsNumbers o → (classes : List ℕ) → AllByRecursion (ActsEvenly o x home) (start_actions o classes)
 starts_even o x home numbers classes =
-    all_flattened (ActsEvenly o x home) (start_of_class o) classes
+    all_flat (ActsEvenly o x home) (start_of_class o) classes
     (λ class. (
       tt,
-      all_flattened (ActsEvenly o x home) (λ field. set_constant o field (field_at o.classes field).field.value) (fields_at o class)
+      all_flat (ActsEvenly o x home) (λ field. set_constant o field (field_at o.classes field).field.value) (fields_at o class)
           (λ field. constant_even o x home field (field_at o.classes field).field.value (numbers.constants field)),
-    ))
-
--- they put nothing into objects
-text_agrees : (o : Outline) (store : Store) (stack : List Value) (field : ℕ) (number : Option ℕ)
-    → AllByRecursion (PutAgrees o store stack) (with_text o field number)
-text_agrees o store stack field None = tt
-text_agrees o store stack field (Some number) = (tt, (tt, tt))
-
-constant_agrees : (o : Outline) (store : Store) (stack : List Value) (field : ℕ) (value : Option Constant)
-    → AllByRecursion (PutAgrees o store stack) (set_constant o field value)
-constant_agrees o store stack field None = tt
-constant_agrees o store stack field (Some (constant.Int n)) = (tt, tt)
-constant_agrees o store stack field (Some (constant.Long n)) = (tt, tt)
-constant_agrees o store stack field (Some (constant.Text text)) = text_agrees o store stack field (text_number o.texts (units text))
-
-starts_agree : (o : Outline) (store : Store) (stack : List Value) (classes : List ℕ) → AllByRecursion (PutAgrees o store stack) (start_actions o classes)
-starts_agree o store stack classes =
-    all_flattened (PutAgrees o store stack) (start_of_class o) classes
-    (λ class. (
-      tt,
-      all_flattened (PutAgrees o store stack) (λ field. set_constant o field (field_at o.classes field).field.value) (fields_at o class)
-          (λ field. constant_agrees o store stack field (field_at o.classes field).field.value),
     ))
 
 -- ---- the effect with what starts make of it
 
-abbrev by_methods : Outline → List ℕ → Effect → List ℕ → Effect
-by_methods o classes e [] = record e { starts = None; actions = start_actions o classes ++ e.actions }
-by_methods o classes e (m ∷ methods) = record nothing { actions = start_actions o classes; next = Enters (m ∷ methods) }
-
 abbrev by_class : Outline → List Bool → Effect → Option ℕ → Effect
 by_class o started e None = e
-by_class o started e (Some class) = by_methods o (to_start o started class) e (start_methods o (to_start o started class))
+by_class o started e (Some class) = after_methods o (to_start o started class) e (start_methods o (to_start o started class))
 
 start_is : (o : Outline) (started : List Bool) (e : Effect) → with_start o started e ≡ by_class o started e e.starts
 start_is o started e = refl
@@ -133,25 +101,22 @@ starts_are o (class ∷ classes) = by_start (start_of o.classes class) refl (sta
 
 methods_owe : (o : Outline) (x : Point) (i : Insn) (store : Store) (stack : List Value) → HoldsNumbers o → (classes : List ℕ) (e : Effect)
     → Both o x i store stack e → (methods : List ℕ) → AllByRecursion (λ m. is_start o m ≡ true) methods
-    → Both o x i store stack (by_methods o classes e methods)
+    → Both o x i store stack (after_methods o classes e methods)
 methods_owe o x i store stack numbers classes e owes [] starts = (
   record {
     home = owes.0.home;
-    acts = all_joined (ActsEvenly o x owes.0.home) (start_actions o classes) e.actions (starts_even o x owes.0.home numbers classes) owes.0.acts;
+    acts = AllByRecursion-append (ActsEvenly o x owes.0.home) (start_actions o classes) e.actions (starts_even o x owes.0.home numbers classes) owes.0.acts;
     leads = owes.0.leads;
     goes = λ next going edge.
         let on = owes.0.goes next going edge in
         record { stays = on.stays; gives = on.gives; writes = on.writes; lives = on.lives };
     ends = owes.0.ends;
   },
-  record {
-    puts = all_joined (PutAgrees o store stack) (start_actions o classes) e.actions (starts_agree o store stack classes) owes.1.puts;
-    reads = owes.1.reads;
-  },
+  methods_agree o store stack classes [] e owes.1,
 )
 methods_owe o x i store stack numbers classes e owes (m ∷ methods) starts = (
   record { home = 0; acts = starts_even o x 0 numbers classes; leads = tt; goes = λ next going edge. absurd going; ends = starts },
-  record { puts = starts_agree o store stack classes; reads = tt },
+  methods_agree o store stack classes (m ∷ methods) e owes.1,
 )
 
 class_owes : (o : Outline) (x : Point) (i : Insn) (store : Store) (stack : List Value) → HoldsNumbers o → (started : List Bool) (e : Effect)

@@ -13,15 +13,18 @@ use Rattle.fm_frames.specs.declared.ends.Ended.{Ended}
 use Rattle.fm_frames.specs.declared.ends.Ended.TheVariants as end
 use Rattle.fm_same.specs.Advances.{GoesOver, IsResult, IsStill, OwesAt, point_of}
 use Rattle.fm_same.specs.Colours.{AreAreasColoured, AreFramesColoured, Colour, Coloured}
-use Rattle.fm_same.specs.Evenness.{HoldsNumbers, Obeys, PlacesAgree}
+use Rattle.fm_same.specs.Evenness.{HoldsNumbers, Obeys}
 use Rattle.fm_same.specs.Regions.{Region, region}
 use Rattle.fm_same.specs.Standing.{Stand}
 use Rattle.fm_same.proofs.ActsKeep.{acts_go, WentTo}
 use Rattle.fm_same.proofs.GoesOnKeep.{areas-agree, frames-agree, frames-later, grown, grown_agrees, grown_new, went_first}
-use Rattle.fm_same.proofs.NextKeeps.{continued_is, followed, followed_areas, next_kept}
+use Rattle.fm_same.proofs.NextKeeps.{next_kept}
 use Rattle.fm_same.proofs.ReturnsKeep.{Kept}
 use Rattle.fm_same.proofs.SourcesKeep.{acts_have}
 use Rattle.fm_same.proofs.StoreChanges.{Agree}
+use Rattle.fm_sound.specs.Placing.{PlacesAgree}
+use Rattle.fm_sound.proofs.KindsAgree.{gives_agree}
+use Rattle.fm_sound.proofs.Following.{continued_is, followed, followed_areas}
 
 -- a state that has the same frames and areas
 pub stays_over : (p : Program) (facts : Facts) (x next : State) (colour : Colour) → Coloured p facts x colour → next.frames ≡ x.frames → next.areas ≡ x.areas
@@ -100,7 +103,7 @@ module _ (p : Program) (facts : Facts) (exact : AreFacts p facts) (choose : Choo
       (let stands = subst (λ (next : State). Stand p facts next.frames) is after in
       over areas.store.births (followed p from e f callers x e.next) gone.extends.births (ap (λ (z : Areas). z.store.births) same)
       (subst (λ (z : Areas). IsStill y.areas.store with_born z.store) (sym same) gone.still)
-      (next_kept p facts exact f callers stand.0.at stand.1 y.areas.store with_born frames_born obeys.home x refl made gone e agrees.reads stand.0.depth e.next
+      (next_kept p facts exact f callers stand.0.at stand.1 y.areas.store with_born frames_born obeys.home x refl made gone e (gives_agree p.outline y.areas.store f.stack e agrees) stand.0.depth e.next
       obeys.leads obeys.goes obeys.ends stands))
   finished_over price (FullAt areas needed) gone after =
       over areas.store.births (finished p price e before (FullAt areas needed)) gone.1.births refl gone.2

@@ -1,8 +1,7 @@
 -- Colours: a region for each object by its birth, such that what a frame holds has the region of the node that holds it, and objects that lead to one
 -- another are of one region. That objects are reached from elsewhere only as far as the analysis of classes says is then a matter of three lines.
-use Rattle.std.specs.Prelude.{◌≡◌, ℕ, ◌-◌, ◌⊎◌, true, false, List, [], ◌∷◌, length, Option, Some, slice_get}
+use Rattle.std.specs.Prelude.{◌≡◌, ℕ, ◌-◌, ◌⊎◌, true, false, List, [], ◌∷◌, length, Some, slice_get}
 use Rattle.std.specs.List.{slice_index_or}
-use Rattle.fm_base.specs.declared.kinds.Kind.{Kind}
 use Rattle.fm_base.specs.declared.kinds.Kind.TheVariants as kind
 use Rattle.fm_base.specs.declared.kinds.TypeRef.{TypeRef}
 use Rattle.fm_cells.specs.Objects.{Object}
@@ -10,11 +9,11 @@ use Rattle.fm_cells.specs.Soundness.{IsOrderly}
 use Rattle.fm_cells.specs.Stores.{Store, object_at}
 use Rattle.fm_conn.specs.Facts.{Facts}
 use Rattle.fm_conn.specs.Nodes.{Node, Local, Slot}
-use Rattle.fm_world.specs.Programs.{kind_at, Outline, Program}
-use Rattle.fm_frames.specs.Sights.{type_numbered}
+use Rattle.fm_world.specs.Programs.{Outline, Program}
 use Rattle.fm_frames.specs.States.{Areas, Frame, State}
 use Rattle.fm_frames.specs.declared.values.Value.{Value}
 use Rattle.fm_frames.specs.declared.values.Value.TheVariants as value
+use Rattle.fm_sound.specs.Placing.{kind_in}
 use Rattle.fm_same.specs.Regions.{Region, Everywhere, region}
 
 -- a region for each number of a birth
@@ -63,10 +62,6 @@ AreFramesColoured o facts store colour (f ∷ callers) =
     IsFrameColoured o facts store colour f callers × AreFramesColoured o facts store colour callers
 
 -- ---- what frames share
-
--- the kind of a place of an object
-abbrev pub kind_in : Outline → Object → ℕ → Option Kind
-kind_in o object place = kind_at o.classes (type_numbered o object.class) place
 
 -- a place for references of an object that doesn't live for ever, and leads to what has the object's own region
 pub record IsEdgeEven (store : Store) (colour : Colour) (object : Object) (place : ℕ) : Type 0 where

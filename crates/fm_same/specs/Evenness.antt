@@ -6,7 +6,6 @@ use Rattle.fm_base.specs.declared.kinds.Kind.{Kind}
 use Rattle.fm_base.specs.declared.kinds.Kind.TheVariants as kind
 use Rattle.fm_base.specs.declared.kinds.TypeRef.{TypeRef}
 use Rattle.fm_cells.specs.Objects.{Object}
-use Rattle.fm_cells.specs.Stores.{Store, object_at}
 use Rattle.fm_code.specs.Edges.{falls_through, IsNormalEdge}
 use Rattle.fm_code.specs.SpellsCode.{targets_of}
 use Rattle.fm_code.specs.Live.{stores_over}
@@ -21,15 +20,12 @@ use Rattle.fm_world.specs.declared.calls.Call.{Call}
 use Rattle.fm_world.specs.declared.declarations.Constant.{Constant}
 use Rattle.fm_world.specs.declared.declarations.Constant.TheVariants as constant
 use Rattle.fm_frames.specs.ObjectRows.{kind_of_field}
-use Rattle.fm_frames.specs.Acts.{cell_of}
 use Rattle.fm_frames.specs.Effects.{Action, Make, MakeFixed, MakeLiteral, Put, SetStatic, Start, Free, SetChain, FreeChain, Effect, Next, Falls, Jumps, JumpsIfSame, Calls, Returns, Throws, Enters, Source, Plain, OfOperand, OfLocal, LocalPlus, OfPlace, OfStatic, OfMade, OfLiteral, SameOperands}
 use Rattle.fm_frames.specs.Acts.{requested}
 use Rattle.fm_frames.specs.NativeRows.{text_type}
-use Rattle.fm_frames.specs.States.{word_at}
 use Rattle.fm_frames.specs.Steps.{is_start}
-use Rattle.fm_frames.specs.declared.values.Value.{Value}
 use Rattle.fm_frames.specs.declared.values.Value.TheVariants as value
-use Rattle.fm_same.specs.Colours.{kind_in}
+use Rattle.fm_sound.specs.Placing.{IsPlain, kind_in}
 
 -- ---- where values come from
 
@@ -40,13 +36,6 @@ pub record Point : Type 0 where
   pub depth : ℕ
   pub class : Node → ℕ
   pub live : (local item : ℕ) → Bool
-
--- a number or null
-abbrev pub IsPlain : Value → Type 0
-IsPlain value.Top = Unit {0}
-IsPlain (value.Int n) = Unit {0}
-IsPlain (value.Long n) = Unit {0}
-IsPlain (value.Ref cell) = cell.0 ≡ 0
 
 -- a word of the stack, counted from its top
 abbrev pub word : Point → ℕ → Node
@@ -186,25 +175,7 @@ pub record Obeys (o : Outline) (x : Point) (i : Insn) (e : Effect) : Type 0 wher
   pub goes : (next : ℕ) → IsGoing e.next → IsNormalEdge x.method.code x.item next → GoesOn x home e next
   pub ends : EndsEvenly o x home i e.next
 
--- ---- what it asks of places
-
--- a number is put where no reference stands
-abbrev pub PutAgrees : Outline → Store → List Value → Action → Type 0
-PutAgrees o store stack (Put (OfOperand n) place (kind.Ref t) v) = Unit {0}
-PutAgrees o store stack (Put (OfOperand n) place other v) =
-    (object : Object) → object_at store (cell_of (word_at stack n)) ≡ Some object → (t : TypeRef) → kind_in o object place ≡ Some (kind.Ref t) → ⊥
-PutAgrees o store stack action = Unit {0}
-
--- a reference is read where one stands
-abbrev pub ReadAgrees : Outline → Store → List Value → Source → Type 0
-ReadAgrees o store stack (OfPlace n place (kind.Ref t)) =
-    (object : Object) → object_at store (cell_of (word_at stack n)) ≡ Some object → (u : TypeRef) × (kind_in o object place ≡ Some (kind.Ref u))
-ReadAgrees o store stack s = Unit {0}
-
--- all that an effect puts, and all that it gives
-pub record PlacesAgree (o : Outline) (store : Store) (stack : List Value) (e : Effect) : Type 0 where
-  pub puts : AllByRecursion (PutAgrees o store stack) e.actions
-  pub reads : AllByRecursion (ReadAgrees o store stack) e.gives
+-- ---- what linking makes sure of
 
 -- a constant that is a number
 abbrev pub IsNumber : Option Constant → Type 0

@@ -41,7 +41,7 @@ kinds-set (x ∷ xs) [] n s v h at new = absurd h
 kinds-set (x ∷ xs) (w ∷ words) zero s v h at new = (subst (λ t. HasKind t v) (sym (same_Some x s at)) new, h.1)
 kinds-set (x ∷ xs) (w ∷ words) (suc n) s v h at new = (h.0, kinds-set xs words n s v h.1 at new)
 
-set_where : (xs : List ℕ) (i x k : ℕ)
+pub set_where : (xs : List ℕ) (i x k : ℕ)
     → ((i ≡ k) × (slice_index_or (slice_set xs i x) k 0 ≡ x)) ⊎ (slice_index_or (slice_set xs i x) k 0 ≡ slice_index_or xs k 0)
 set_where [] i x k = inr refl
 set_where (y ∷ xs) zero x zero = inl (refl, refl)
@@ -54,7 +54,7 @@ zeros_at zero place = refl
 zeros_at (suc n) zero = refl
 zeros_at (suc n) (suc place) = zeros_at n place
 
-all_or : (P : ℕ → Type 0) (xs : List ℕ) (n : ℕ) → AllByRecursion P xs → P 0 → P (slice_index_or xs n 0)
+pub all_or : (P : ℕ → Type 0) (xs : List ℕ) (n : ℕ) → AllByRecursion P xs → P 0 → P (slice_index_or xs n 0)
 all_or P [] n h default = default
 all_or P (x ∷ xs) zero h default = h.0
 all_or P (x ∷ xs) (suc n) h default = all_or P xs n h.1 default
@@ -90,6 +90,34 @@ kept_fits kind.Short v h = subst (λ w. kept kind.Short w < 2 ^ 16) (sym h.1) (l
 kept_fits kind.Int v h = subst (λ w. kept kind.Int w < 2 ^ 32) (sym h.1) (low_bits-lt 32 h.0)
 kept_fits kind.Long v h = subst (λ w. kept kind.Long w < 2 ^ 64) (sym h.1) (low_bits-lt 64 h.0)
 kept_fits (kind.Ref t) v h = tt
+
+-- ---- a cell that is changed
+
+put_cases : (store later : Store) (cell q : ℕ) (object found : Object) → object_at later q ≡ cond (nat_eq q cell) (Some object) (object_at store q)
+    → object_at later q ≡ Some found → (object ≡ found) ⊎ (object_at store q ≡ Some found)
+put_cases store later cell q object found at held = by_test (nat_eq q cell) (sym at ∙ held) where
+  by_test : (b : Bool) → cond b (Some object) (object_at store q) ≡ Some found → (object ≡ found) ⊎ (object_at store q ≡ Some found)
+  by_test true is = inl (same_Some object found is)
+  by_test false is = inr is
+
+-- what holds of the new object and of each one that was held holds of each one that is
+pub heap_put : (P : Object → Type 0) (store later : Store) (cell : ℕ) (object : Object) → P object
+    → ((q : ℕ) → object_at later q ≡ cond (nat_eq q cell) (Some object) (object_at store q))
+    → ((q : ℕ) (found : Object) → object_at store q ≡ Some found → P found)
+    → (q : ℕ) (found : Object) → object_at later q ≡ Some found → P found
+heap_put P store later cell object new puts h q found held =
+    ⊎_elim (λ (here : object ≡ found). subst P here new) (λ there. h q found there)
+    (put_cases store later cell q object found (puts q) held)
+
+-- the object that is made, and its store with these elements
+pub new_held : (store : Store) (request : Request) (cell : ℕ) (grows : Bool)
+    → object_at (made_by store request (Take cell grows)) cell ≡ Some (new_object store.births request)
+new_held store request cell grows =
+    let at = object_at-made_by store request cell grows cell in grind (arith, nat_tests, at)
+
+abbrev pub content_in : Store → ℕ → ℕ → List ℕ → Option Object → Store
+content_in store cell unit units None = store
+content_in store cell unit units (Some object) = with_object store cell (record object { elements = unit ∷ units })
 
 module _ (o : Outline) where
   -- ---- one object
@@ -168,21 +196,6 @@ module _ (o : Outline) where
 
   -- ---- one cell
 
-  put_cases : (store later : Store) (cell q : ℕ) (object found : Object) → object_at later q ≡ cond (nat_eq q cell) (Some object) (object_at store q)
-      → object_at later q ≡ Some found → (object ≡ found) ⊎ (object_at store q ≡ Some found)
-  put_cases store later cell q object found at held = by_test (nat_eq q cell) (sym at ∙ held) where
-    by_test : (b : Bool) → cond b (Some object) (object_at store q) ≡ Some found → (object ≡ found) ⊎ (object_at store q ≡ Some found)
-    by_test true is = inl (same_Some object found is)
-    by_test false is = inr is
-
-  heap_put : (store later : Store) (cell : ℕ) (object : Object) → IsObjectIn o object
-      → ((q : ℕ) → object_at later q ≡ cond (nat_eq q cell) (Some object) (object_at store q))
-      → ((q : ℕ) (found : Object) → object_at store q ≡ Some found → IsObjectIn o found)
-      → (q : ℕ) (found : Object) → object_at later q ≡ Some found → IsObjectIn o found
-  heap_put store later cell object new puts h q found held =
-      ⊎_elim (λ (here : object ≡ found). subst (λ y. IsObjectIn o y) here new) (λ there. h q found there)
-      (put_cases store later cell q object found (puts q) held)
-
   sound_changed : (x : Areas) (cell : ℕ) (old object : Object) → AreasAreSound o x → object_at x.store cell ≡ Some old → IsObjectIn o object
       → AreasAreSound o (record x { store = with_object x.store cell object })
   sound_changed x cell old object h held new = record {
@@ -190,7 +203,7 @@ module _ (o : Outline) where
     started = h.started;
     literals = h.literals;
     budget = h.budget;
-    heap = heap_put x.store (with_object x.store cell object) cell object new (λ q. object_at-with_object x.store cell object q) h.heap;
+    heap = heap_put (IsObjectIn o) x.store (with_object x.store cell object) cell object new (λ q. object_at-with_object x.store cell object q) h.heap;
     freed = ap (λ n. x.frees + n) (held_insert_held x.store.held cell old object held) ∙ h.freed;
     freed_words = h.freed_words;
   }
@@ -202,7 +215,7 @@ module _ (o : Outline) where
     started = h.started;
     literals = h.literals;
     budget = h.budget;
-    heap = heap_put x.store (made_by x.store request (Take cell grows)) cell (new_object x.store.births request) new
+    heap = heap_put (IsObjectIn o) x.store (made_by x.store request (Take cell grows)) cell (new_object x.store.births request) new
         (λ q. object_at-made_by x.store request cell grows q) h.heap;
     freed =
         let more = held_insert_new x.store.held cell (new_object x.store.births request) free in
@@ -327,15 +340,6 @@ module _ (o : Outline) where
   }
 
   -- ---- makes
-
-  new_held : (store : Store) (request : Request) (cell : ℕ) (grows : Bool)
-      → object_at (made_by store request (Take cell grows)) cell ≡ Some (new_object store.births request)
-  new_held store request cell grows =
-      let at = object_at-made_by store request cell grows cell in grind (arith, nat_tests, at)
-
-  abbrev content_in : Store → ℕ → ℕ → List ℕ → Option Object → Store
-  content_in store cell unit units None = store
-  content_in store cell unit units (Some object) = with_object store cell (record object { elements = unit ∷ units })
 
   -- the areas with the object made, and the object there
   pub record Makes (x : Areas) (later : Store) (cell : ℕ) (t : TypeRef) : Type 0 where

@@ -32,3 +32,11 @@ pub mod OpeningActs
 pub mod NextActs
 pub mod Opening
 pub mod RunsSound
+pub mod Following
+pub mod KindsAgree
+pub mod PlaceRows
+pub mod NextPlaces
+pub mod HeldStays
+pub mod CellsKeep
+pub mod StepCells
+pub mod OpeningCells

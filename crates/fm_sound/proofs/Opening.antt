@@ -58,14 +58,14 @@ pub record OpeningActsFit (p : Program) (job : Job) (store : Store) : Type 0 whe
 
 -- ---- actions that only make and put
 
-abbrev IsMade : Action → Type 0
+abbrev pub IsMade : Action → Type 0
 IsMade (Free operand) = ⊥
 IsMade (SetChain operand to) = ⊥
 IsMade (FreeChain operand) = ⊥
 IsMade action = Unit {0}
 
 -- those of a start name no object
-abbrev IsOfStart : Action → Type 0
+abbrev pub IsOfStart : Action → Type 0
 IsOfStart (MakeLiteral text) = Unit {0}
 IsOfStart (SetStatic slot k v) = Unit {0}
 IsOfStart (Start class) = Unit {0}
@@ -75,7 +75,7 @@ all_append : {A : Type 0} (P : A → Type 0) (xs ys : List A) → AllByRecursion
 all_append P [] ys h more = more
 all_append P (x ∷ xs) ys h more = (h.0, all_append P xs ys h.1 more)
 
-all_flat : {A B : Type 0} (P : B → Type 0) (g : A → List B) (xs : List A) → ((x : A) → AllByRecursion P (g x)) → AllByRecursion P (flat_map g xs)
+pub all_flat : {A B : Type 0} (P : B → Type 0) (g : A → List B) (xs : List A) → ((x : A) → AllByRecursion P (g x)) → AllByRecursion P (flat_map g xs)
 all_flat P g [] h = tt
 all_flat P g (x ∷ xs) h = all_append P (g x) (flat_map g xs) (h x) (all_flat P g xs h)
 
@@ -93,7 +93,7 @@ constant_made o field (Some (constant.Int n)) = (tt, tt)
 constant_made o field (Some (constant.Long n)) = (tt, tt)
 constant_made o field (Some (constant.Text text)) = text_made o field (text_number o.texts (units text))
 
-start_made : (o : Outline) (classes : List ℕ) → AllByRecursion IsOfStart (start_actions o classes)
+pub start_made : (o : Outline) (classes : List ℕ) → AllByRecursion IsOfStart (start_actions o classes)
 start_made o classes =
     all_flat IsOfStart (start_of_class o) classes
     (λ class. (
@@ -106,11 +106,11 @@ arguments_made : (o : Outline) (place : ℕ) (texts : List (List ℕ)) → AllBy
 arguments_made o place [] = tt
 arguments_made o place (text ∷ texts) = (tt, (tt, arguments_made o (place + 1) texts))
 
-opening_made : (o : Outline) (job : Job) → AllByRecursion IsMade (opening_actions o job)
+pub opening_made : (o : Outline) (job : Job) → AllByRecursion IsMade (opening_actions o job)
 unfolding opening_actions
 opening_made o job = (tt, (tt, (tt, arguments_made o 0 job.arguments)))
 
-of_start_made : (actions : List Action) → AllByRecursion IsOfStart actions → AllByRecursion IsMade actions
+pub of_start_made : (actions : List Action) → AllByRecursion IsOfStart actions → AllByRecursion IsMade actions
 of_start_made [] h = tt
 of_start_made (MakeLiteral text ∷ more) h = (tt, of_start_made more h.1)
 of_start_made (SetStatic slot k v ∷ more) h = (tt, of_start_made more h.1)
@@ -118,7 +118,7 @@ of_start_made (Start class ∷ more) h = (tt, of_start_made more h.1)
 of_start_made (action ∷ more) h = absurd h.0
 
 -- what was made before doesn't matter to them
-fit_later : (o : Outline) (store : Store) (f : Frame) (types : List TypeRef) (actions : List Action) → AllByRecursion IsOfStart actions
+pub fit_later : (o : Outline) (store : Store) (f : Frame) (types : List TypeRef) (actions : List Action) → AllByRecursion IsOfStart actions
     → ActsFit o store f [] actions → ActsFit o store f types actions
 fit_later o store f types [] h fit = tt
 fit_later o store f types (MakeLiteral text ∷ more) h fit = (fit.0, fit_later o store f types more h.1 fit.1)
@@ -233,7 +233,7 @@ first_kinds cs (f ∷ fields) = by_flag _ _ (is_static f.field.flags) (first_kin
   by_flag slots words true rest = (read_kind (field_kind cs f.field) 0, rest)
   by_flag slots words false rest = rest
 
-first_sound : (o : Outline) (budget : ℕ) (limit : Option ℕ) (free : List (List ℕ)) → budget ≤ MAX_LIVE_WORDS
+pub first_sound : (o : Outline) (budget : ℕ) (limit : Option ℕ) (free : List (List ℕ)) → budget ≤ MAX_LIVE_WORDS
     → AreasAreSound o (first_areas o (opened budget limit free))
 first_sound o budget limit free few = record {
   statics = first_kinds o.classes (fields_of o.classes);
@@ -309,6 +309,21 @@ streams_kinds o given is words out input h =
     (subst (λ slots. HaveKinds slots words) same h) (known given (codes "java/io/PrintStream") out_known out)
     (known given (codes "java/io/InputStream") in_known input))
 
+-- the streams are put into their static fields
+pub streams_keep : (p : Program) → StepsAreResolved p → (choose : Choose) (store : Store) (areas : Areas) (types : List TypeRef) (made : List ℕ)
+    → Keeps p.outline store areas types made → Keeps p.outline store (with_streams areas made) types made
+streams_keep p ready choose store areas types made h =
+    with_areas p.outline ready.calls.runnable.sizes (lawful choose) (λ s request. lawful_choice-may s request (choose s request)) store no_frame
+    areas (with_streams areas made) types made h refl (record {
+      statics = streams_kinds p.outline ready.calls.runnable.given ready.calls.runnable.classes areas.statics _ _ h.sound.statics;
+      started = h.sound.started;
+      literals = h.sound.literals;
+      budget = h.sound.budget;
+      heap = h.sound.heap;
+      freed = h.sound.freed;
+      freed_words = h.sound.freed_words;
+    })
+
 -- ---- all together
 
 module _ (p : Program) (typings : Typings) (typed : AreTyped p typings) (ready : StepsAreResolved p) (main : MainIsReady p) (choose : Choose) (job : Job) (few : length job.input ≤ MAX_FILE_BYTES) (store : Store) where
@@ -352,20 +367,6 @@ module _ (p : Program) (typings : Typings) (typed : AreTyped p typings) (ready :
           within = grind (arith, nat_tests, shallow);
         }
 
-  streams_keep : (areas : Areas) (types : List TypeRef) (made : List ℕ) → Keeps p.outline store areas types made
-      → Keeps p.outline store (with_streams areas made) types made
-  streams_keep areas types made h =
-      with_areas p.outline ready.calls.runnable.sizes (lawful choose) (λ s request. lawful_choice-may s request (choose s request)) store no_frame
-      areas (with_streams areas made) types made h refl (record {
-        statics = streams_kinds p.outline ready.calls.runnable.given ready.calls.runnable.classes areas.statics _ _ h.sound.statics;
-        started = h.sound.started;
-        literals = h.sound.literals;
-        budget = h.sound.budget;
-        heap = h.sound.heap;
-        freed = h.sound.freed;
-        freed_words = h.sound.freed_words;
-      })
-
   opened_sound : OpeningActsFit p job store → AreasAreSound p.outline (first_areas p.outline store)
       → IsSoundBy p typings (opening p (lawful choose) job store).state
   unfolding opening
@@ -380,7 +381,7 @@ module _ (p : Program) (typings : Typings) (typed : AreTyped p typings) (ready :
       (λ later more cells keeps. framed_sound classes (slice_index_or made 2 0) later keeps.sound)
       (of_start_made (start_actions p.outline classes) (start_made p.outline classes))
       (fit_later p.outline store no_frame types (start_actions p.outline classes) (start_made p.outline classes) (fit.start classes))
-      (streams_keep areas types made kept))
+      (streams_keep p ready choose store areas types made kept))
       (opening_made p.outline job) fit.opening (record {
         sound = sound;
         kept = λ cell object held. (object, held, refl);

@@ -30,11 +30,11 @@ past_fields (g ∷ fields) zero past = absurd (omega (arith, past))
 past_fields (g ∷ fields) (suc field) past = past_fields fields field (omega (arith, past))
 
 -- the effect after classes are started, by their methods, and by the class that has to be started
-abbrev after_methods : Outline → List ℕ → Effect → List ℕ → Effect
+abbrev pub after_methods : Outline → List ℕ → Effect → List ℕ → Effect
 after_methods o classes effect [] = record effect { starts = None; actions = start_actions o classes ++ effect.actions }
 after_methods o classes effect (m ∷ methods) = record nothing { actions = start_actions o classes; next = Enters (m ∷ methods) }
 
-abbrev for_class : Outline → List Bool → Effect → Option ℕ → Effect
+abbrev pub for_class : Outline → List Bool → Effect → Option ℕ → Effect
 for_class o started effect None = effect
 for_class o started effect (Some class) = started_by o (to_start o started class) effect
 
@@ -100,7 +100,7 @@ start_alone p ready statics store f classes =
 
 -- ---- before an effect
 
-all_after : (P : Action → Type 0) (xs ys : List Action) → AllByRecursion P (xs ++ ys) → AllByRecursion P ys
+pub all_after : {X : Type 0} (P : X → Type 0) (xs ys : List X) → AllByRecursion P (xs ++ ys) → AllByRecursion P ys
 all_after P [] ys all = all
 all_after P (x ∷ xs) ys all = all_after P xs ys all.1
 

@@ -215,7 +215,7 @@ room_for x (Throws source) shallow few = omega (arith, few)
 room_for x (Exits n) shallow few = omega (arith, few)
 room_for x (Faults source) shallow few = omega (arith, few)
 
-moved_by : (P : State → Type 0) (b : Bool) (one other : Moved) → (b ≡ true → P one.state) → (b ≡ false → P other.state) → P (cond b one other).state
+pub moved_by : (P : State → Type 0) (b : Bool) (one other : Moved) → (b ≡ true → P one.state) → (b ≡ false → P other.state) → P (cond b one other).state
 moved_by P true one other first second = first refl
 moved_by P false one other first second = second refl
 

@@ -4,6 +4,7 @@ use Rattle.std.specs.List.{AllByRecursion}
 use Rattle.fm_base.specs.declared.kinds.TypeRef.{TypeRef}
 use Rattle.fm_base.specs.declared.limits.TheConstants.{MAX_LIVE_WORDS, MAX_FILE_BYTES}
 use Rattle.fm_cells.specs.Choices.{lawful}
+use Rattle.fm_cells.specs.Soundness.{CellsFit}
 use Rattle.fm_cells.specs.Stores.{Store, opened}
 use Rattle.fm_code.specs.AccessFlags.{is_static}
 use Rattle.fm_code.specs.declared.instructions.Insn.{Insn}
@@ -24,7 +25,7 @@ use Rattle.fm_frames.specs.Natives.{Native}
 use Rattle.fm_frames.specs.ObjectRows.{kind_of_field}
 use Rattle.fm_frames.specs.Rows.{effect_of}
 use Rattle.fm_frames.specs.Sights.{Sight, sights}
-use Rattle.fm_frames.specs.Starts.{start_methods, with_start, start_actions}
+use Rattle.fm_frames.specs.Starts.{start_methods, with_start}
 use Rattle.fm_frames.specs.Runs.{after, Job, opening, opening_actions}
 use Rattle.fm_frames.specs.States.{Areas, Frame, State}
 use Rattle.fm_frames.specs.Steps.{caught, continued, InFrames, is_over, new_frame, next_effect, returned, start_frames, step}
@@ -33,6 +34,7 @@ use Rattle.fm_frames.specs.declared.values.Value.{Value}
 use Rattle.fm_sound.specs.Acting.{ActsFit}
 use Rattle.fm_sound.specs.BuiltIns.{native_slots, NativeLeads}
 use Rattle.fm_sound.specs.Going.{CallLeads, ConstructorsGiveNothing, IsCalled, IsGoingOn, StandsAtRow, StartsClass}
+use Rattle.fm_sound.specs.HeldCells.{HoldsCells}
 use Rattle.fm_sound.specs.Leading.{is_call, LeadsAs, NamesField, sources_of}
 use Rattle.fm_sound.specs.Resolved.{CallsAreResolved, MainIsReady, StepsAreResolved}
 use Rattle.fm_sound.specs.Sound.{AreasAreSound, AreTyped, FrameHasKinds, HaveKinds, IsReference, IsSoundBy, Stand, StandBelow, StandsWithout, static_slots, Typings}
@@ -223,3 +225,19 @@ SoundRuns =
     → length job.input ≤ MAX_FILE_BYTES → ArgumentsFit p.outline job.arguments → (budget : ℕ) (limit : Option ℕ) (free : List (List ℕ))
     → budget ≤ MAX_LIVE_WORDS → (k : ℕ)
     → IsSoundBy p typings (after p (lawful choose) k (opening p (lawful choose) job (opened budget limit free))).state
+
+-- ---- cells
+
+-- A step leads to no cell but to those to which the state led and those of what is held after it: so where these are numbers of 32 bits, those are.
+abbrev pub StepsHoldCells : Type 0
+StepsHoldCells =
+    (p : Program) (typings : Typings) → StepsAreResolved p → MakesAreResolved p → (choose : Choose) (x : State) → IsSoundBy p typings x → HoldsCells p x
+    → CellsFit (step p (lawful choose) x).state.areas.store → HoldsCells p (step p (lawful choose) x).state
+
+-- And the opening leads to no other cell.
+abbrev pub OpeningsHoldCells : Type 0
+OpeningsHoldCells =
+    (p : Program) → StepsAreResolved p → MakesAreResolved p → (choose : Choose) (job : Job) → ArgumentsFit p.outline job.arguments
+    → (budget : ℕ) (limit : Option ℕ) (free : List (List ℕ)) → budget ≤ MAX_LIVE_WORDS
+    → CellsFit (opening p (lawful choose) job (opened budget limit free)).state.areas.store
+    → HoldsCells p (opening p (lawful choose) job (opened budget limit free)).state

@@ -5,4 +5,6 @@ pub mod Going
 pub mod Resolved
 pub mod Acting
 pub mod Making
+pub mod Placing
+pub mod HeldCells
 pub mod Laws

@@ -2,6 +2,7 @@
 -- (JVMS 4.6, 5.4.3, 5.4.5, 6.5).
 use Rattle.std.specs.Prelude.{◌≡◌, ℕ, ◌<◌, ◌≤◌, Bool, true, false, [], ◌∷◌, length, None, Some, slice_get, unwrap_or}
 use Rattle.std.specs.List.{AllByRecursion}
+use Rattle.fm_base.specs.declared.ids.FieldId.{FieldId}
 use Rattle.fm_base.specs.declared.ids.MethodId.{MethodId}
 use Rattle.fm_base.specs.declared.ids.TypeId.{TypeId}
 use Rattle.fm_base.specs.declared.kinds.TypeRef.{TypeRef}
@@ -9,20 +10,22 @@ use Rattle.fm_code.specs.AccessFlags.{is_static}
 use Rattle.fm_code.specs.Edges.{insn_of}
 use Rattle.fm_code.specs.SpellsCode.{targets_of}
 use Rattle.fm_code.specs.declared.code_array.Code.{Code}
+use Rattle.fm_code.specs.declared.code_array.TheConstants.{MAX_CODE_BYTES}
 use Rattle.fm_code.specs.declared.instructions.Insn.{Insn}
 use Rattle.fm_code.specs.declared.instructions.Insn.TheVariants as insn
-use Rattle.fm_types.specs.Fits.{AreTree, object_of}
+use Rattle.fm_types.specs.Fits.{AreTree, fits_type, object_of}
 use Rattle.fm_types.specs.Named.{class_of_method}
 use Rattle.fm_types.specs.Typed.{entry_slots, use_by}
 use Rattle.fm_types.specs.declared.slots.Slot.TheVariants as slot
 use Rattle.fm_world.specs.BuiltIns.{built_in}
-use Rattle.fm_world.specs.Causes.{static_method_wanted}
+use Rattle.fm_world.specs.Causes.{static_field_wanted, static_method_wanted}
 use Rattle.fm_world.specs.Lookups.{is_abstract_method, select, special_target}
-use Rattle.fm_world.specs.Members.{method_at, methods_of}
-use Rattle.fm_world.specs.Programs.{class_of_type, code_at, Program}
+use Rattle.fm_world.specs.Members.{method_at, methods_of, slot_of}
+use Rattle.fm_world.specs.Programs.{class_of_type, code_at, kind_at, Program}
 use Rattle.fm_world.specs.declared.uses.Use.{Use}
 use Rattle.fm_world.specs.declared.uses.Use.TheVariants as resolved
 use Rattle.fm_frames.specs.CallRows.{native_of}
+use Rattle.fm_frames.specs.ObjectRows.{kind_of_field}
 use Rattle.fm_frames.specs.Runnable.{IsRunnable}
 use Rattle.fm_sound.specs.Going.{ConstructorsGiveNothing}
 use Rattle.fm_sound.specs.Leading.{NamesField}
@@ -68,9 +71,15 @@ pub record StepsAreResolved (p : Program) : Type 0 where
   pub tree : AreTree p.outline.classes
   -- getstatic and putstatic name a static field, getfield and putfield another one (JVMS 6.5.getstatic)
   pub fields : (method : ℕ) (i : Insn) (u : Use) → IsNamed p method i u → NamesField p.outline u i
+  -- an object of a type that fits the one that getfield or putfield names has the field at its place (JVMS 5.4.3.2, 6.5.getfield)
+  pub places : (method : ℕ) (i : Insn) (f : FieldId) (t : TypeId) (named of : TypeRef) → IsNamed p method i (resolved.OfField f t)
+      → static_field_wanted i ≡ Some false → slice_get p.outline.types t.0 ≡ Some named → fits_type p.outline.classes of named ≡ true
+      → kind_at p.outline.classes of (slot_of p.outline.classes f.0) ≡ Some (kind_of_field p.outline f.0)
   -- the targets of an instruction are items (JVMS 4.9.1)
   pub targets : (method : ℕ) (code : Code) (item : ℕ) (i : Insn) → code_at p method ≡ Some code → insn_of code item ≡ Some i
       → AllByRecursion (λ target. target < length code.items) (targets_of i)
+  -- a code has no more items than bytes (JVMS 4.7.3)
+  pub items : (method : ℕ) (code : Code) → code_at p method ≡ Some code → length code.items ≤ MAX_CODE_BYTES
 
 -- main has code, and takes the array of the arguments alone (JVMS 5.2)
 pub record MainIsReady (p : Program) : Type 0 where

@@ -97,3 +97,11 @@ pub fn law_sound()
     ensures steps { law.SoundStatesStep }
     ensures runs { law.SoundRuns }
 {}
+
+/// A step of a typed and linked program leads to no cell but to those to which the state led and those of
+/// what is held after it; and the opening leads to no cell but to those of what is held after it. So where
+/// held objects lie in cells that are numbers of 32 bits, all references are such numbers.
+pub fn law_cells()
+    ensures steps { law.StepsHoldCells }
+    ensures opening { law.OpeningsHoldCells }
+{}

@@ -3,4 +3,4 @@
 
 mod laws;
 
-pub use laws::{law_areas, law_effects, law_frames, law_kinds};
+pub use laws::{law_areas, law_cells, law_effects, law_frames, law_kinds, law_sound};

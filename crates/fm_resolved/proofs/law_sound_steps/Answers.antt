@@ -20,7 +20,9 @@ resolved_steps p well linked coded = record {
   };
   tree = well.tree;
   fields = linked.fields;
+  places = well.fields;
   targets = linked.targets;
+  items = linked.items;
 }
 
 pub returns : goal.returns

@@ -6,7 +6,7 @@ use Rattle.fm_resolved.proofs.Constructors.{constructor_gives}
 use Rattle.fm_resolved.proofs.GivenFiles.{no_field_refused, no_method_refused, none_implemented}
 use Rattle.fm_resolved.proofs.SelectedMethods.{selected_there}
 use Rattle.fm_resolved.proofs.SpecialCalls.{special_there}
-use Rattle.fm_resolved.proofs.Steps.{concrete_there, fields_named, static_constants, targets_there}
+use Rattle.fm_resolved.proofs.Steps.{concrete_there, fields_named, items_few, static_constants, targets_there}
 use Rattle.fm_resolved.proofs.law_steps.Goals as goal
 use Rattle.fm_resolved.specs.Laws.{StepsAreLinked}
 use Rattle.fm_world.specs.Linking.{refusals}
@@ -21,6 +21,7 @@ steps_linked given main spelled none = record {
   special = special_there given main spelled (no_method_refused given main none) (none_implemented given main none);
   fields = fields_named given main (no_field_refused given main none);
   targets = targets_there given spelled;
+  items = items_few given spelled;
   constants = static_constants given;
 }
 

@@ -1,6 +1,6 @@
 -- All rows read and put by the kinds of places: those of fields by what linking makes sure of, those of arrays by the array that is seen, and the others
 -- read no place and put no number.
-use Rattle.std.proofs.Common.{◌≡◌, ℕ, ℤ, pos, ◌+◌, ◌-◌, ◌||◌, not, int_lt, true, false, List, [], ◌∷◌, ◌++◌, length, reverse, nat_lt, Option, Some, None, codes, refl, slice_get}
+use Rattle.std.proofs.Common.{◌≡◌, ℕ, ℤ, pos, ◌+◌, ◌-◌, ◌||◌, not, int_lt, Bool, true, false, List, [], ◌∷◌, ◌++◌, length, reverse, nat_lt, Option, Some, None, codes, refl, slice_get}
 use Rattle.std.specs.List.{AllByRecursion, list_any, range_with_len}
 use Rattle.fm_alu.specs.Operations.{result_of_op}
 use Rattle.fm_base.specs.declared.ids.FieldId.{FieldId}
@@ -39,9 +39,9 @@ use Rattle.fm_frames.specs.Operands.{size_of_type, thrown, thrown_null}
 use Rattle.fm_frames.specs.Rows.{effect_of}
 use Rattle.fm_frames.specs.Sights.{Sight, sights}
 use Rattle.fm_frames.specs.declared.values.Value.{Value}
-use Rattle.fm_same.specs.Evenness.{PutAgrees, ReadAgrees}
+use Rattle.fm_sound.specs.Placing.{PutAgrees, ReadAgrees, sources_in}
 use Rattle.fm_sound.proofs.Cases.{by_any, by_builder, by_built, by_held, by_if, by_inner, by_int, by_long, by_object, by_on_field, by_on_method, by_on_type, by_passing, by_reference, by_shown, by_text, by_thrown}
-use Rattle.fm_same.proofs.KindsAgree.{Agrees, array_load_agrees, array_store_agrees, arrays_agree, bare, gone, loaded_agrees, nulls, put_agrees, seen_place, stucks, throws}
+use Rattle.fm_sound.proofs.KindsAgree.{Agrees, array_load_agrees, array_store_agrees, arrays_agree, bare, gone, loaded_agrees, nulls, put_agrees, seen_place, set_agrees, stucks, throws}
 
 module _ (o : Outline) (store : Store) (stack : List Value) where
   abbrev A : Effect → Type 0
@@ -63,7 +63,7 @@ module _ (o : Outline) (store : Store) (stack : List Value) where
   raises name = throws o store stack name
 
   -- words that are no places
-  plain : (e : Effect) → AllByRecursion (PutAgrees o store stack) e.actions → AllByRecursion (ReadAgrees o store stack) e.gives → A e
+  plain : (e : Effect) → AllByRecursion (PutAgrees o store stack) e.actions → AllByRecursion (ReadAgrees o store stack) (sources_in e) → A e
   plain e puts reads = bare o store stack e puts reads
 
   inner_lost : (n : ℕ) → A (going 0 (Faults (OfPlace n 0 (table.text_kind o))))
@@ -100,7 +100,7 @@ module _ (o : Outline) (store : Store) (stack : List Value) where
 
   builder_rows : (row : Native) → A (table.builder_native o row s)
   unfolding table.builder_native
-  builder_rows BuilderInit = by_builder A o s 0 _ null none (lost 0) (λ it. plain _ (tt, tt) tt)
+  builder_rows BuilderInit = by_builder A o s 0 _ null none (lost 0) (λ it. plain _ (refl, tt) tt)
   builder_rows (Append shown) =
       by_built A o s (table.shown_words shown) _ null none (lost (table.shown_words shown)) (inner_lost (table.shown_words shown))
       (λ units. by_shown A o shown s _ none (lost 0)
@@ -132,12 +132,12 @@ module _ (o : Outline) (store : Store) (stack : List Value) where
 
   throwable_rows : HasMessage → (row : Native) → A (table.throwable_native o row s)
   unfolding table.throwable_native
-  throwable_rows message ThrowableInit = by_object A o (throwable_type o) s 0 _ null none (lost 0) (λ it seen fits. plain _ (tt, tt) tt)
+  throwable_rows message ThrowableInit = by_object A o (throwable_type o) s 0 _ null none (lost 0) (λ it seen fits. plain _ (refl, tt) tt)
   throwable_rows message ThrowableInitOf = by_object A o (throwable_type o) s 1 _ null none (lost 1) (λ it seen fits. plain _ (tt, tt) tt)
   throwable_rows message GetMessage =
       by_object A o (throwable_type o) s 0 _ null none (lost 0)
       (λ it seen fits. plain (words 1 (OfPlace 0 0 (table.text_kind o) ∷ [])) tt
-      ((λ object held. (table.text_type o, seen_place o store stack 0 0 (table.text_kind o) it seen (message it.type fits) object held)), tt))
+      (let place = seen_place o store stack 0 0 (table.text_kind o) it seen (message it.type fits) in ((place.0, place.1, table.text_type o, place.2), tt)))
   throwable_rows message ThrowableToString =
       by_object A o (throwable_type o) s 0 _ null none (lost 0)
       (λ it seen fits. by_inner A o 0 it _ (lost 0) (inner_lost 0) (λ text. plain _ (tt, tt) (tt, tt)))
@@ -248,7 +248,7 @@ module _ (o : Outline) (store : Store) (stack : List Value) where
       by_on_field A o u _ none
       (λ f t named is there. let n = words_in f in by_object A o named s n _ null none (lost n)
       (λ it seen fits. plain _ (
-        put_agrees o store stack n (slot_of o.classes f.0) (objects.kind_of_field o f.0) _
+        put_agrees o store stack n (slot_of o.classes f.0) (objects.kind_of_field o f.0) (OfOperand (n - 1)) tt
             (seen_place o store stack n (slot_of o.classes f.0) (objects.kind_of_field o f.0) it seen (has f t named it.type is there fits)),
         tt,
       ) tt)) where
@@ -278,7 +278,8 @@ module _ (o : Outline) (store : Store) (stack : List Value) where
       by_on_field A o u _ none
       (λ f t named is there. let k = objects.kind_of_field o f.0 in
       let e : Effect = acting (kind_words k) (SetStatic (slot_of o.classes f.0) k (OfOperand (kind_words k - 1)) ∷ []) in
-      started (objects.class_of_field o f.0) e (plain e (tt, tt) tt))
+      started (objects.class_of_field o f.0) e
+      (plain e (set_agrees o store stack (slot_of o.classes f.0) k (OfOperand (kind_words k - 1)) tt, tt) tt))
 
   made_row : (t : TypeRef) (class : Option ℕ) → A (objects.made_of o t class)
   made_row t None = none
@@ -355,9 +356,9 @@ module _ (o : Outline) (store : Store) (stack : List Value) where
 
   store_row : (r : Reg) (k : ℕ) → A (numbers.store_effect r k)
   unfolding numbers.store_effect
-  store_row reg.Int k = plain _ tt tt
-  store_row reg.Long k = plain _ tt tt
-  store_row reg.Ref k = plain _ tt tt
+  store_row reg.Int k = plain _ tt (tt, tt)
+  store_row reg.Long k = plain _ tt (tt, (tt, tt))
+  store_row reg.Ref k = plain _ tt (tt, tt)
 
   convert_row : (to : Conv) → A (numbers.convert_effect to s)
   unfolding numbers.convert_effect
@@ -379,6 +380,11 @@ module _ (o : Outline) (store : Store) (stack : List Value) where
       by_long A s 1 _ none (λ b. by_long A s 3 _ none (λ a. by_thrown A o (result_of_op op 64 a b) (λ n. words 4 (long_words n))
       (raises (codes "java/lang/ArithmeticException")) (λ n. plain (words 4 (long_words n)) tt (tt, (tt, tt)))))
 
+  -- to the target, or on
+  jumping : (takes : ℕ) (b : Bool) → A (going takes (jumps.jumps_if b))
+  jumping takes true = plain _ tt tt
+  jumping takes false = plain _ tt tt
+
   return_row : (value : Option Reg) → A (jumps.return_effect value)
   unfolding jumps.return_effect
   return_row None = plain _ tt tt
@@ -391,13 +397,13 @@ module _ (o : Outline) (store : Store) (stack : List Value) where
   pub row_agrees : HasMessage → (method : ℕ) (u : Use) (i : Insn) (byte : Option ℕ) → (static_field_wanted i ≡ Some false → HasField u) → A (effect_of o method u i byte s)
   unfolding effect_of numbers.move_effect numbers.int_negate_effect numbers.long_negate_effect numbers.int_shift_effect numbers.long_shift_effect numbers.compare_effect jumps.int_jump_effect jumps.pair_jump_effect jumps.null_jump_effect jumps.table_effect jumps.lookup_effect jumps.throw_effect
   row_agrees message method u insn.Nop byte has = plain _ tt tt
-  row_agrees message method u insn.Null byte has = plain _ tt (tt, tt)
+  row_agrees message method u insn.Null byte has = plain _ tt (refl, tt)
   row_agrees message method u (insn.Const n) byte has = plain _ tt (tt, tt)
   row_agrees message method u (insn.LongConst n) byte has = plain _ tt (tt, (tt, tt))
   row_agrees message method u (insn.LoadPool index) byte has = constant_row u
   row_agrees message method u (insn.Load r k) byte has = load_row r k
   row_agrees message method u (insn.Store r k) byte has = store_row r k
-  row_agrees message method u (insn.Inc k by) byte has = plain _ tt tt
+  row_agrees message method u (insn.Inc k by) byte has = plain _ tt (tt, tt)
   row_agrees message method u insn.Pop byte has = plain _ tt tt
   row_agrees message method u insn.Pop2 byte has = plain _ tt tt
   row_agrees message method u insn.Dup byte has = plain _ tt (tt, (tt, tt))
@@ -415,15 +421,15 @@ module _ (o : Outline) (store : Store) (stack : List Value) where
   row_agrees message method u (insn.LongShift shift) byte has = by_int A s 0 _ none (λ n. by_long A s 2 _ none (λ a. plain _ tt (tt, (tt, tt))))
   row_agrees message method u (insn.Convert to) byte has = convert_row to
   row_agrees message method u insn.LongCompare byte has = by_long A s 1 _ none (λ b. by_long A s 3 _ none (λ a. plain _ tt (tt, tt)))
-  row_agrees message method u (insn.IfInt test target) byte has = by_int A s 0 _ none (λ a. plain _ tt tt)
-  row_agrees message method u (insn.IfPair test target) byte has = by_int A s 0 _ none (λ b. by_int A s 1 _ none (λ a. plain _ tt tt))
+  row_agrees message method u (insn.IfInt test target) byte has = by_int A s 0 _ none (λ a. jumping 1 _)
+  row_agrees message method u (insn.IfPair test target) byte has = by_int A s 0 _ none (λ b. by_int A s 1 _ none (λ a. jumping 2 _))
   row_agrees message method u (insn.IfSame same target) byte has = plain _ tt tt
-  row_agrees message method u (insn.IfNull is_null target) byte has = by_reference A s 0 _ none (λ b. plain _ tt tt)
+  row_agrees message method u (insn.IfNull is_null target) byte has = by_reference A s 0 _ none (λ b. jumping 1 _)
   row_agrees message method u (insn.Goto target) byte has = plain _ tt tt
   row_agrees message method u (insn.Table low others targets) byte has = by_int A s 0 _ none (λ key. plain _ tt tt)
   row_agrees message method u (insn.Lookup others keys targets) byte has = by_int A s 0 _ none (λ key. plain _ tt tt)
   row_agrees message method u (insn.Return value) byte has = return_row value
-  row_agrees message method u insn.Throw byte has = by_object A o (throwable_type o) s 0 _ null none (lost 0) (λ it seen fits. plain _ tt tt)
+  row_agrees message method u insn.Throw byte has = by_object A o (throwable_type o) s 0 _ null none (lost 0) (λ it seen fits. plain _ tt (tt, tt))
   row_agrees message method u (insn.New index) byte has = new_row u
   row_agrees message method u (insn.GetStatic index) byte has = get_static_row u
   row_agrees message method u (insn.PutStatic index) byte has = put_static_row u

@@ -1,8 +1,9 @@
 -- Places are read and put by their kinds: what an instruction sees of an object passes its test, so the object's place has the kind that the row goes by.
-use Rattle.std.proofs.Common.{◌≡◌, ℕ, pos, zero, suc, ◌+◌, ◌-◌, ◌*◌, ◌<◌, ◌==◌, ◌&&◌, ◌||◌, not, int_lt, cond, Bool, true, List, [], ◌∷◌, ◌++◌, Some, codes, unsigned_abs, option_and_then, refl, sym, ◌∙◌, ap, slice_get, arith, eqb-true, ltb-true, ne_eqb}
+use Rattle.std.proofs.Common.{◌≡◌, ℕ, pos, ◌+◌, ◌-◌, ◌*◌, ◌<◌, ◌==◌, ◌&&◌, ◌||◌, not, int_lt, Bool, true, List, [], ◌∷◌, ◌++◌, map, Some, codes, unsigned_abs, sym, ◌∙◌, ap, slice_get, arith, eqb-true, ltb-true}
 use Rattle.std.specs.List.{AllByRecursion, range_with_len}
 use Rattle.std.proofs.lemmas.Bool.{and_parts}
-use Rattle.std.proofs.lemmas.Option.{none-some, same_Some}
+use Rattle.std.proofs.lemmas.Option.{same_Some}
+use Rattle.fm_base.proofs.ListFacts.{AllByRecursion-append}
 use Rattle.fm_base.specs.declared.kinds.Base.{Base}
 use Rattle.fm_base.specs.declared.kinds.Base.TheVariants as base
 use Rattle.fm_base.specs.declared.kinds.Kind.{Kind}
@@ -14,65 +15,37 @@ use Rattle.fm_code.specs.declared.operations.Elem.{Elem}
 use Rattle.fm_code.specs.declared.operations.Elem.TheVariants as elem
 use Rattle.fm_types.specs.ArrayRows.{has_letter, is_array_of}
 use Rattle.fm_types.specs.Fits.{depth_of, depth_with}
-use Rattle.fm_world.specs.Members.{kinds_of}
-use Rattle.fm_world.specs.Programs.{class_of_type, kind_at, Outline}
-use Rattle.fm_world.specs.declared.declarations.DeclaredClass.{DeclaredClass}
+use Rattle.fm_world.specs.Programs.{kind_at, Outline}
 use Rattle.fm_frames.specs.Acts.{cell_of}
 use Rattle.fm_frames.specs.ArrayRows.{array_actions, array_load_effect, array_store_effect, arrays_made, element_kind, element_type, on_element, put_element, put_reference}
-use Rattle.fm_frames.specs.Effects.{Effect, faulty, loaded, OfMade, OfOperand, OfPlace, Put, Source, stuck, words}
+use Rattle.fm_frames.specs.Effects.{Effect, faulty, loaded, OfMade, OfOperand, OfPlace, Put, SetStatic, Source, stuck, words}
 use Rattle.fm_frames.specs.Operands.{thrown, thrown_null}
-use Rattle.fm_frames.specs.Sights.{Looks, looks, Sight, sight, sight_of_cell, sight_of_object, sights, Thing, type_numbered}
+use Rattle.fm_frames.specs.Sights.{Looks, Sight, sights, Thing}
 use Rattle.fm_frames.specs.States.{word_at}
 use Rattle.fm_frames.specs.declared.values.Value.{Value}
-use Rattle.fm_frames.specs.declared.values.Value.TheVariants as value
-use Rattle.fm_same.specs.Colours.{kind_in}
-use Rattle.fm_same.specs.Evenness.{PlacesAgree, PutAgrees, ReadAgrees}
+use Rattle.fm_sound.specs.Placing.{kind_in, PlacesAgree, PutAgrees, ReadAgrees, sources_in, thrown_in}
 use Rattle.fm_sound.proofs.Cases.{by_held, by_if, by_int, by_passing}
-use Rattle.fm_same.proofs.Starting.{all_flattened, all_joined}
+use Rattle.fm_sound.proofs.Opening.{all_flat}
+use Rattle.fm_sound.proofs.SeenObjects.{seen_at}
+use Rattle.fm_sound.proofs.StartActs.{all_after}
 use Rattle.fm_sound.proofs.NestedArrays.{array_kind}
 
 -- ---- the object that is seen
 
-looked_at : (o : Outline) (store : Store) (object : Object) → (looks o store object).type ≡ type_numbered o object.class
-unfolding looks
-looked_at o store object = refl
-
-cell_type : (o : Outline) (store : Store) (cell : ℕ) (it : Looks) (object : Object) → sight_of_cell o store cell ≡ Thing it → object_at store cell ≡ Some object
-    → it.type ≡ type_numbered o object.class
-cell_type o store zero it object seen held = absurd (cc)
-cell_type o store (suc cell) it object seen held =
-    let told : Thing (looks o store object) ≡ Thing it = sym (ap (sight_of_object o store) held) ∙ seen in
-    let same : looks o store object ≡ it = cc in
-    ap (λ (l : Looks). l.type) (sym same) ∙ looked_at o store object
-
-value_type : (o : Outline) (store : Store) (v : Value) (it : Looks) (object : Object) → sight o store v ≡ Thing it → object_at store (cell_of v) ≡ Some object
-    → it.type ≡ type_numbered o object.class
-value_type o store (value.Ref cell) it object seen held = cell_type o store cell.0 it object seen held
-value_type o store value.Top it object seen held = absurd (cc)
-value_type o store (value.Int n) it object seen held = absurd (cc)
-value_type o store (value.Long n) it object seen held = absurd (cc)
-
--- the object at an operand has the type that is seen
-pub word_type : (o : Outline) (store : Store) (stack : List Value) (n : ℕ) (it : Looks) (object : Object)
-    → slice_get (sights o store stack) n ≡ Some (Thing it) → object_at store (cell_of (word_at stack n)) ≡ Some object
-    → it.type ≡ type_numbered o object.class
-word_type o store [] n it object seen held = absurd (none-some (Thing it) seen)
-word_type o store (v ∷ stack) zero it object seen held = value_type o store v it object (same_Some (sight o store v) (Thing it) seen) held
-word_type o store (v ∷ stack) (suc n) it object seen held = word_type o store stack n it object seen held
-
 module _ (o : Outline) (store : Store) (stack : List Value) where
-  -- each object at the operand has a place of the kind
+  -- the operand is an object that is held, and has a place of the kind
   abbrev pub HasPlace : (operand place : ℕ) → Kind → Type 0
-  HasPlace n place k = (object : Object) → object_at store (cell_of (word_at stack n)) ≡ Some object → kind_in o object place ≡ Some k
+  HasPlace n place k = (object : Object) × (object_at store (cell_of (word_at stack n)) ≡ Some object) × (kind_in o object place ≡ Some k)
 
   pub seen_place : (n place : ℕ) (k : Kind) (it : Looks) → slice_get (sights o store stack) n ≡ Some (Thing it) → kind_at o.classes it.type place ≡ Some k
       → HasPlace n place k
-  seen_place n place k it seen is object held =
-      ap (λ t. kind_at o.classes t place) (sym (word_type o store stack n it object seen held)) ∙ is
+  seen_place n place k it seen is =
+      let found = seen_at o store stack n it seen in
+      (found.object, found.held, ap (λ t. kind_at o.classes t place) (sym found.type_is) ∙ is)
 
   -- what is loaded of it is read by that kind
   pub loaded_agrees : (n place : ℕ) (k : Kind) → HasPlace n place k → AllByRecursion (ReadAgrees o store stack) (loaded k (OfPlace n place k))
-  loaded_agrees n place (kind.Ref t) h = ((λ object held. (t, h object held)), tt)
+  loaded_agrees n place (kind.Ref t) h = ((h.0, h.1, t, h.2), tt)
   loaded_agrees n place kind.Long h = (tt, (tt, tt))
   loaded_agrees n place kind.Boolean h = (tt, tt)
   loaded_agrees n place kind.Byte h = (tt, tt)
@@ -80,15 +53,52 @@ module _ (o : Outline) (store : Store) (stack : List Value) where
   loaded_agrees n place kind.Short h = (tt, tt)
   loaded_agrees n place kind.Int h = (tt, tt)
 
+  -- the place of each object at the operand is no other one
+  no_reference : (n place : ℕ) (k : Kind) → HasPlace n place k → (object : Object) → object_at store (cell_of (word_at stack n)) ≡ Some object
+      → kind_in o object place ≡ Some k
+  no_reference n place k h object held =
+      let same : h.0 ≡ object = same_Some h.0 object (sym h.1 ∙ held) in ap (λ (y : Object). kind_in o y place) (sym same) ∙ h.2
+
   -- and what is put into it is put by that kind
-  pub put_agrees : (n place : ℕ) (k : Kind) (v : Source) → HasPlace n place k → PutAgrees o store stack (Put (OfOperand n) place k v)
-  put_agrees n place (kind.Ref t) v h = tt
-  put_agrees n place kind.Long v h = λ object held t is. let both : Some kind.Long ≡ Some (kind.Ref t) = sym (h object held) ∙ is in absurd (cc)
-  put_agrees n place kind.Boolean v h = λ object held t is. let both : Some kind.Boolean ≡ Some (kind.Ref t) = sym (h object held) ∙ is in absurd (cc)
-  put_agrees n place kind.Byte v h = λ object held t is. let both : Some kind.Byte ≡ Some (kind.Ref t) = sym (h object held) ∙ is in absurd (cc)
-  put_agrees n place kind.Char v h = λ object held t is. let both : Some kind.Char ≡ Some (kind.Ref t) = sym (h object held) ∙ is in absurd (cc)
-  put_agrees n place kind.Short v h = λ object held t is. let both : Some kind.Short ≡ Some (kind.Ref t) = sym (h object held) ∙ is in absurd (cc)
-  put_agrees n place kind.Int v h = λ object held t is. let both : Some kind.Int ≡ Some (kind.Ref t) = sym (h object held) ∙ is in absurd (cc)
+  pub put_agrees : (n place : ℕ) (k : Kind) (v : Source) → ReadAgrees o store stack v → HasPlace n place k → PutAgrees o store stack (Put (OfOperand n) place k v)
+  put_agrees n place (kind.Ref t) v reads h = reads
+  put_agrees n place kind.Long v reads h = λ object held t is.
+      let both : Some kind.Long ≡ Some (kind.Ref t) = sym (no_reference n place kind.Long h object held) ∙ is in absurd (cc)
+  put_agrees n place kind.Boolean v reads h = λ object held t is.
+      let both : Some kind.Boolean ≡ Some (kind.Ref t) = sym (no_reference n place kind.Boolean h object held) ∙ is in absurd (cc)
+  put_agrees n place kind.Byte v reads h = λ object held t is.
+      let both : Some kind.Byte ≡ Some (kind.Ref t) = sym (no_reference n place kind.Byte h object held) ∙ is in absurd (cc)
+  put_agrees n place kind.Char v reads h = λ object held t is.
+      let both : Some kind.Char ≡ Some (kind.Ref t) = sym (no_reference n place kind.Char h object held) ∙ is in absurd (cc)
+  put_agrees n place kind.Short v reads h = λ object held t is.
+      let both : Some kind.Short ≡ Some (kind.Ref t) = sym (no_reference n place kind.Short h object held) ∙ is in absurd (cc)
+  put_agrees n place kind.Int v reads h = λ object held t is.
+      let both : Some kind.Int ≡ Some (kind.Ref t) = sym (no_reference n place kind.Int h object held) ∙ is in absurd (cc)
+
+  -- what is put into an object that the step made, or into a static field
+  pub made_agrees : (n place : ℕ) (k : Kind) (v : Source) → ReadAgrees o store stack v → PutAgrees o store stack (Put (OfMade n) place k v)
+  made_agrees n place (kind.Ref t) v reads = reads
+  made_agrees n place kind.Long v reads = tt
+  made_agrees n place kind.Boolean v reads = tt
+  made_agrees n place kind.Byte v reads = tt
+  made_agrees n place kind.Char v reads = tt
+  made_agrees n place kind.Short v reads = tt
+  made_agrees n place kind.Int v reads = tt
+
+  pub set_agrees : (slot : ℕ) (k : Kind) (v : Source) → ReadAgrees o store stack v → PutAgrees o store stack (SetStatic slot k v)
+  set_agrees slot (kind.Ref t) v reads = reads
+  set_agrees slot kind.Long v reads = tt
+  set_agrees slot kind.Boolean v reads = tt
+  set_agrees slot kind.Byte v reads = tt
+  set_agrees slot kind.Char v reads = tt
+  set_agrees slot kind.Short v reads = tt
+  set_agrees slot kind.Int v reads = tt
+
+-- what is put on the stack is among all sources
+pub gives_agree : (o : Outline) (store : Store) (stack : List Value) (e : Effect) → PlacesAgree o store stack e
+    → AllByRecursion (ReadAgrees o store stack) e.gives
+gives_agree o store stack e h =
+    all_after (ReadAgrees o store stack) (thrown_in e.next ++ map (λ (w : ℕ × Source). w.1) e.writes) e.gives h.reads
 
 -- ---- arrays
 
@@ -107,15 +117,14 @@ module _ (o : Outline) (store : Store) (stack : List Value) where
   abbrev pub Agrees : Effect → Type 0
   Agrees e = PlacesAgree o store stack e
 
-  -- effects that read no place and put no number
-  pub bare : (e : Effect) → AllByRecursion (PutAgrees o store stack) e.actions → AllByRecursion (ReadAgrees o store stack) e.gives → Agrees e
+  pub bare : (e : Effect) → AllByRecursion (PutAgrees o store stack) e.actions → AllByRecursion (ReadAgrees o store stack) (sources_in e) → Agrees e
   bare e puts reads = record { puts = puts; reads = reads }
 
   pub nulls : Agrees (thrown_null o)
-  nulls = record { puts = (tt, tt); reads = tt }
+  nulls = record { puts = (tt, tt); reads = (tt, tt) }
 
   pub throws : (name : List ℕ) → Agrees (thrown o name)
-  throws name = record { puts = (tt, tt); reads = tt }
+  throws name = record { puts = (tt, tt); reads = (tt, tt) }
 
   pub stucks : Agrees stuck
   stucks = record { puts = tt; reads = tt }
@@ -146,7 +155,7 @@ module _ (o : Outline) (store : Store) (stack : List Value) where
       (loaded_agrees o store stack 1 place (element_kind it.type) h))
 
   element_agrees : (n : ℕ) (it : Looks) (place : ℕ) → HasPlace o store stack (n + 1) place (element_kind it.type) → Agrees (put_element n it place)
-  element_agrees n it place h = bare (put_element n it place) (put_agrees o store stack (n + 1) place (element_kind it.type) (OfOperand (n - 1)) h, tt) tt
+  element_agrees n it place h = bare (put_element n it place) (put_agrees o store stack (n + 1) place (element_kind it.type) (OfOperand (n - 1)) tt h, tt) tt
 
   reference_agrees : (it : Looks) (place : ℕ) → HasPlace o store stack 2 place (element_kind it.type) → Agrees (put_reference o s it place)
   reference_agrees it place h =
@@ -171,12 +180,13 @@ module _ (o : Outline) (store : Store) (stack : List Value) where
   arrays_agree t (count ∷ []) first = (tt, tt)
   arrays_agree t (count ∷ next ∷ counts) first = (
     tt,
-    all_flattened (PutAgrees o store stack)
+    all_flat (PutAgrees o store stack)
         (λ place. array_actions (element_type t) (next ∷ counts) (first + 1 + place * arrays_made (next ∷ counts))
         ++ Put (OfMade first) place (element_kind t) (OfMade (first + 1 + place * arrays_made (next ∷ counts))) ∷ [])
         (range_with_len 0 count)
-        (λ place. all_joined (PutAgrees o store stack)
+        (λ place. AllByRecursion-append (PutAgrees o store stack)
         (array_actions (element_type t) (next ∷ counts) (first + 1 + place * arrays_made (next ∷ counts)))
         (Put (OfMade first) place (element_kind t) (OfMade (first + 1 + place * arrays_made (next ∷ counts))) ∷ [])
-        (arrays_agree (element_type t) (next ∷ counts) (first + 1 + place * arrays_made (next ∷ counts))) (tt, tt)),
+        (arrays_agree (element_type t) (next ∷ counts) (first + 1 + place * arrays_made (next ∷ counts)))
+        (made_agrees o store stack first place (element_kind t) (OfMade (first + 1 + place * arrays_made (next ∷ counts))) tt, tt)),
   )
