@@ -5,26 +5,26 @@ use Rattle.std.proofs.lemmas.Bool.{cases_lt, eqb-true, false≢true}
 use Rattle.std.proofs.lemmas.List.{get_or-replicate, get_or_append_left}
 use Rattle.std.proofs.lemmas.List.FromFn.{get_or-map-range_with_len}
 use Rattle.std.proofs.lemmas.Option.{none-some, same_Some}
-use Rattle.fm_code.specs.ConstantPool.{AreSlots, class_name_at, entry_at}
+use Rattle.fm_code.specs.ConstantPool.{class_name_at, entry_at}
 use Rattle.fm_code.specs.Spells.{HasSpelling}
 use Rattle.fm_code.specs.declared.class_file.ClassDef.{ClassDef}
 use Rattle.fm_code.specs.declared.constant_pool.Entry.{Entry}
 use Rattle.fm_code.specs.declared.constant_pool.Entry.TheVariants as entry
 use Rattle.fm_lookup.proofs.BuiltInParents.{count_is, number_first, object_parent_is}
 use Rattle.fm_lookup.proofs.Downwards.{among_head, or_true, same_number}
-use Rattle.fm_lookup.proofs.ParentRefusals.{tree_object, first_true, length-declared, past_none, name_within, nil_left, none_of, spelled_at, not_refused, fails, if_true, refused_not, superclass_used, some_entries}
+use Rattle.fm_lookup.proofs.ParentRefusals.{tree_object, length-declared, past_none, name_within, nil_left, none_of, spelled_at, not_refused, fails, if_true, refused_not, superclass_used, some_entries}
 use Rattle.fm_code.specs.Names.{object}
 use Rattle.fm_resolved.proofs.GivenFiles.{class_of_file, none_used}
 use Rattle.fm_types.specs.Fits.{AreTree, object_of}
 use Rattle.fm_world.proofs.Displays.{class_number-within, parent_of-within}
 use Rattle.fm_world.specs.BuiltIns.{built_in}
-use Rattle.fm_world.specs.Causes.{bad_parent_at, bad_parents, bad_superclass, is_array_name, is_bad_superclass, missing_at, missing_classes, MissingClass, Refusal, missing, refused, refused_if, refused_where}
+use Rattle.fm_world.specs.Causes.{bad_parent_at, bad_parents, bad_superclass, is_array_name, is_bad_superclass, missing_at, missing_classes, MissingClass, missing, refused, refused_if, refused_where}
 use Rattle.fm_world.specs.Chains.{chain_of, class_at, is_among, parent_of}
 use Rattle.fm_world.specs.Declarations.{declared_from, name_at, no_class}
 use Rattle.fm_world.specs.Descriptors.{class_in, class_number, class_type, field_type, typed}
 use Rattle.fm_world.specs.Linking.{refused_missing_classes, refused_parents}
 use Rattle.fm_world.specs.Programs.{classes_of}
-use Rattle.fm_world.specs.Uses.{is_used, named_class, used_indices, uses_in_order}
+use Rattle.fm_world.specs.Uses.{named_class, uses_in_order}
 use Rattle.fm_world.specs.declared.declarations.DeclaredClass.{DeclaredClass}
 use Rattle.fm_world.specs.inner.Tables.{chain_from, IsLinear, numbers_below}
 

@@ -19,8 +19,6 @@ use Rattle.fm_world.specs.Declarations.{declared_field, declared_from, first_con
 use Rattle.fm_world.specs.Descriptors.{declared_kind, field_type}
 use Rattle.fm_world.specs.Members.{field_at, field_kind, fields_from, fields_of, OwnedField}
 use Rattle.fm_world.specs.Programs.{classes_of}
-use Rattle.fm_world.specs.declared.declarations.Constant.{Constant}
-use Rattle.fm_world.specs.declared.declarations.Constant.TheVariants as constant
 use Rattle.fm_world.specs.declared.declarations.DeclaredClass.{DeclaredClass}
 use Rattle.fm_records.proofs.FirstLaws.{constant_by}
 

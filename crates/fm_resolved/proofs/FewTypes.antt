@@ -24,7 +24,7 @@ use Rattle.fm_lookup.proofs.Downwards.{either}
 use Rattle.fm_resolved.proofs.CodedMethods.{contains_at}
 use Rattle.fm_resolved.proofs.GivenFiles.{each_one}
 use Rattle.fm_resolved.proofs.InterfaceCalls.{dims_kept}
-use Rattle.fm_resolved.proofs.MadeTypes.{from_distinct, Listed, Named, with_fewer}
+use Rattle.fm_resolved.proofs.MadeTypes.{from_distinct, Listed, made_by, Named, with_fewer}
 use Rattle.fm_same.proofs.TargetMethods.{Contains-from_filter_map}
 use Rattle.fm_types.proofs.LeastJoins.{same_type-refl}
 use Rattle.fm_world.specs.BuiltIns.{string_name}
@@ -194,9 +194,6 @@ module _ (classes : List DeclaredClass) (given : List ClassDef) (spelled : AllBy
       let index = Contains-from_filter_map (named_type classes from.0.pool.entries) (uses_in_order from.0) t from.2 in
       named_shallow classes from.0 (each_one HasSpelling given from.0 spelled from.1) index.0 t index.2
 
-  abbrev made_by : ClassDef → List (Option TypeRef)
-  made_by c = map (λ (item : Item). made_array classes c.pool.entries item.insn) (class_items c)
-
   argument_shallow : (t : TypeRef) → argument_array classes ≡ Some t → IsShallow t
   argument_shallow t e = by_class (class_number classes string_name) e where
     by_class : (o : Option ℕ) → option_and_then (λ class. array_of (type_of_class class)) o ≡ Some t → IsShallow t
@@ -205,12 +202,12 @@ module _ (classes : List DeclaredClass) (given : List ClassDef) (spelled : AllBy
 
   made_all_shallow : (t : TypeRef) → Contains (made_arrays classes given) t → IsShallow t
   made_all_shallow t found =
-      let from = Contains-from_filter_map (λ (o : Option TypeRef). o) (argument_array classes ∷ flat_map made_by given) t found in
-      by_place from.0 from.2 (Contains-cons_cases (argument_array classes) (flat_map made_by given) from.0 from.1) where
-        by_place : (o : Option TypeRef) → o ≡ Some t → (o ≡ argument_array classes) ⊎ Contains (flat_map made_by given) o → IsShallow t
+      let from = Contains-from_filter_map (λ (o : Option TypeRef). o) (argument_array classes ∷ flat_map (made_by classes) given) t found in
+      by_place from.0 from.2 (Contains-cons_cases (argument_array classes) (flat_map (made_by classes) given) from.0 from.1) where
+        by_place : (o : Option TypeRef) → o ≡ Some t → (o ≡ argument_array classes) ⊎ Contains (flat_map (made_by classes) given) o → IsShallow t
         by_place o e (inl same) = argument_shallow t (sym same ∙ e)
         by_place o e (inr later) =
-            let file = Contains-from_flat_map made_by given o later in
+            let file = Contains-from_flat_map (made_by classes) given o later in
             let item = Contains-from_map (λ (i : Item). made_array classes file.0.pool.entries i.insn) (class_items file.0) o file.2 in
             made_shallow classes file.0 (each_one HasSpelling given file.0 spelled file.1) item.0.insn t (item.2 ∙ e)
 

@@ -1,15 +1,10 @@
 -- Class files by their place: their classes, and what no cause against them says of one of them.
-use Rattle.std.proofs.Common.{◌≡◌, refl, sym, ◌∙◌, ap, subst, ℕ, zero, suc, ◌+◌, ◌<◌, ◌≤◌, ◌⊎◌, inl, inr, ◌||◌, Bool, true, false, cond, List, [], ◌∷◌, ◌++◌, length, filter, nat_eq, slice_get, Contains, Some, None, IsSome, arith, zero-add}
+use Rattle.std.proofs.Common.{◌≡◌, refl, sym, ◌∙◌, ap, subst, ℕ, zero, suc, ◌+◌, ◌<◌, ◌⊎◌, inl, inr, Bool, true, false, cond, List, [], ◌∷◌, ◌++◌, length, filter, nat_eq, slice_get, Contains, Some, arith, zero-add}
 use Rattle.std.specs.List.{AllByRecursion, flat_map}
-use Rattle.std.proofs.lemmas.Bool.{cases_lt, eqb-true, false≢true}
-use Rattle.std.proofs.lemmas.List.{get_or-append-add, get_or_past}
+use Rattle.std.proofs.lemmas.Bool.{eqb-true, false≢true}
+use Rattle.std.proofs.lemmas.List.{get_or-append-add}
 use Rattle.std.proofs.lemmas.List.FromFn.{get_or-range_with_len, length-range_with_len}
-use Rattle.std.proofs.lemmas.Option.{none-some, same_Some}
-use Rattle.fm_code.specs.ConstantPool.{class_name_at}
-use Rattle.fm_code.specs.Spells.{HasSpelling}
 use Rattle.fm_code.specs.declared.class_file.ClassDef.{ClassDef}
-use Rattle.fm_code.specs.declared.constant_pool.Entry.{Entry}
-use Rattle.fm_code.specs.declared.constant_pool.Entry.TheVariants as entry
 use Rattle.fm_lookup.proofs.Downwards.{either, or_true}
 use Rattle.fm_world.proofs.Displays.{is_among_at}
 use Rattle.fm_world.specs.BuiltIns.{built_in}
@@ -20,7 +15,7 @@ use Rattle.fm_world.specs.Linking.{refusals, refused_built_ins, refused_duplicat
 use Rattle.fm_world.specs.Programs.{classes_of}
 use Rattle.fm_world.specs.Uses.{is_used, pool_indices, uses_in_order}
 use Rattle.fm_world.specs.declared.declarations.DeclaredClass.{DeclaredClass}
-use Rattle.fm_lookup.proofs.ParentRefusals.{none_at, name_within, none_of, spelled_at, declared_at, past_none, nil_left, nil_right, first_true, length-declared}
+use Rattle.fm_lookup.proofs.ParentRefusals.{none_at, declared_at, nil_left, nil_right, first_true}
 
 -- ---- lists without refusals
 

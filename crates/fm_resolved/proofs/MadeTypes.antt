@@ -17,7 +17,9 @@ use Rattle.fm_code.specs.declared.constant_pool.Entry.TheVariants as entry
 use Rattle.fm_code.specs.declared.instructions.Insn.TheVariants as insn
 use Rattle.fm_code.specs.declared.operations.Elem.{Elem}
 use Rattle.fm_conn.proofs.ListLemmas.{Contains-flat_map, Contains-from_flat_map, Contains-from_map, Contains-map, Contains-none, Contains-range}
+use Rattle.fm_frames.proofs.Programs.{string-is, string_number}
 use Rattle.fm_frames.specs.ArrayRows.{element_type}
+use Rattle.fm_frames.specs.Runs.{arguments_type}
 use Rattle.fm_records.proofs.UseLaws.{resolved_by}
 use Rattle.fm_resolved.proofs.CodedMethods.{code_there, contains_at, item_there, use_at, uses_of_file}
 use Rattle.fm_resolved.proofs.InterfaceCalls.{type_named}
@@ -26,7 +28,8 @@ use Rattle.fm_sound.specs.Making.{IsNumbered}
 use Rattle.fm_sound.specs.Resolved.{IsNamed}
 use Rattle.fm_types.proofs.LeastJoins.{same_type-eq}
 use Rattle.fm_world.specs.Chains.{distinct, same_type}
-use Rattle.fm_world.specs.Descriptors.{class_type, type_in}
+use Rattle.fm_world.specs.Declarations.{declared_from}
+use Rattle.fm_world.specs.Descriptors.{class_type, of_class, type_in}
 use Rattle.fm_world.specs.Lookups.{resolved_field, resolved_method}
 use Rattle.fm_world.specs.Numbers.{argument_array, arrays_in, class_types, made_arrays, text_number, text_units, type_of_class, types_of, used_types}
 use Rattle.fm_world.specs.Programs.{classes_of, field_use, method_use, Outline, outline_of, program_of, type_number_at, uses_of, with_number}
@@ -85,6 +88,10 @@ some_there {X} (Some y ∷ os) x found = by_place (some_there os x) (Contains-co
 -- those that uses name and the arrays that are made
 abbrev pub Named : List DeclaredClass → List ClassDef → List TypeRef
 Named classes given = used_types classes given ++ made_arrays classes given
+
+-- the arrays that the instructions of a file make
+abbrev pub made_by : List DeclaredClass → ClassDef → List (Option TypeRef)
+made_by classes c = map (λ (item : Item). made_array classes c.pool.entries item.insn) (class_items c)
 
 -- all of them, some more than once
 abbrev pub Listed : List DeclaredClass → List ClassDef → List TypeRef
@@ -162,6 +169,25 @@ elements_numbered given main n t at many =
     listed_numbered given main (element_type t)
     (element_listed (classes_of given) given t (from_distinct types t (contains_at (distinct same_type types) n t at)) many)
 
+-- ---- the array of main's arguments
+
+pub arguments_numbered : (given : List ClassDef) (main : List ℕ) → IsNumbered (outline_of given main) (arguments_type (outline_of given main))
+unfolding outline_of classes_of
+arguments_numbered given main =
+    let classes = classes_of given in
+    let array : TypeRef = record { dims = 1; base = of_class 1 } in
+    let made : argument_array classes ≡ Some array =
+    ap (option_and_then (λ class. array_of (type_of_class class))) (string_number (declared_from 0 given)) in
+    let type : arguments_type (outline_of given main) ≡ array =
+    ap (λ (t : TypeRef). record { dims = 1; base = t.base }) (string-is (outline_of given main) (declared_from 0 given) refl) in
+    subst (IsNumbered (outline_of given main)) (sym type)
+    (listed_numbered given main array
+    (array_listed classes given array
+    (Contains-append_right (used_types classes given) (made_arrays classes given) array
+    (some_there (argument_array classes ∷ flat_map (made_by classes) given) array
+    (Contains-first (argument_array classes) (flat_map (made_by classes) given) (Some array) (sym made))))
+    (omega arith)))
+
 -- ---- the arrays that instructions make
 
 -- what an instruction of a file makes
@@ -176,16 +202,13 @@ made_numbered given main place c item array at among made some =
       classes : List DeclaredClass
       classes = classes_of given
 
-      of_file : ClassDef → List (Option TypeRef)
-      of_file d = map (λ (i : Item). made_array classes d.pool.entries i.insn) (class_items d)
-
       all : List (Option TypeRef)
-      all = flat_map of_file given
+      all = flat_map (made_by classes) given
 
       inside : Contains all (Some array)
       inside =
-          Contains-flat_map of_file given c (Some array) (contains_at given place c at)
-          (subst (Contains (of_file c)) made (Contains-map (λ (i : Item). made_array classes c.pool.entries i.insn) (class_items c) item among))
+          Contains-flat_map (made_by classes) given c (Some array) (contains_at given place c at)
+          (subst (Contains (made_by classes c)) made (Contains-map (λ (i : Item). made_array classes c.pool.entries i.insn) (class_items c) item among))
 
       there : Contains (made_arrays classes given) array
       there = some_there (argument_array classes ∷ all) array (Contains-later (argument_array classes) all (Some array) inside)

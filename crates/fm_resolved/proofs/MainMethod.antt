@@ -13,8 +13,8 @@ use Rattle.fm_code.specs.AccessFlags.{is_static}
 use Rattle.fm_code.specs.Profile.{IsSupported}
 use Rattle.fm_code.specs.Spells.{HasSpelling}
 use Rattle.fm_code.specs.declared.class_file.ClassDef.{ClassDef}
+use Rattle.fm_frames.proofs.Programs.{string_number}
 use Rattle.fm_frames.specs.Natives.{native_of_row}
-use Rattle.fm_lookup.proofs.BuiltInParents.{number_first}
 use Rattle.fm_resolved.proofs.ConcreteCodes.{concrete_coded}
 use Rattle.fm_lookup.proofs.ParentRefusals.{nil_right}
 use Rattle.fm_resolved.proofs.Rows.{all_methods, row_past}
@@ -101,10 +101,6 @@ main_past given method named = by_place (cases_lt method (length (methods_of bui
 
 -- ---- what it takes
 
-string_first : class_number built_in string_name ≡ Some 1
-unfolding built_in
-string_first = refl
-
 arguments_array : TypeRef
 arguments_array = record { dims = 1; base = base.OfClass (record { 0 = 1 }) }
 
@@ -118,7 +114,7 @@ main_takes o given method classes static descriptor =
     ++ flat_map local_slots (parameters_of o method)) static
     ∙ ap (λ d. flat_map local_slots (parameter_kinds o.classes d)) descriptor
     ∙ ap (λ n. flat_map local_slots (unwrap_or (option_map (kind_with 1) (option_map of_class n)) kind.Int ∷ []))
-    (ap (λ all. class_number all string_name) classes ∙ number_first built_in given string_name 1 string_first)
+    (ap (λ all. class_number all string_name) classes ∙ string_number given)
 
 -- ---- main of linked programs
 

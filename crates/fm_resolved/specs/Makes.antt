@@ -8,6 +8,7 @@ use Rattle.fm_code.specs.declared.class_file.ClassDef.{ClassDef}
 use Rattle.fm_code.specs.declared.instructions.Insn.{Insn}
 use Rattle.fm_frames.specs.Acts.{literal_text}
 use Rattle.fm_frames.specs.ArrayRows.{element_type}
+use Rattle.fm_frames.specs.Runs.{arguments_type}
 use Rattle.fm_sound.specs.Making.{AreUnits, IsNumbered, MakesAreResolved, NamesAreUnits, NamesMade}
 use Rattle.fm_sound.specs.Resolved.{IsNamed}
 use Rattle.fm_world.specs.Linking.{refusals}
@@ -22,6 +23,8 @@ pub record MakesAreLinked (p : Program) : Type 0 where
   pub names : NamesAreUnits p.outline
   -- the texts that instructions name are those of class files (JVMS 4.4.7)
   pub texts : (text : ℕ) → (length (literal_text p.outline text) < 2 ^ 31) × AreUnits (literal_text p.outline text)
+  -- the array of main's arguments has a number
+  pub arguments : IsNumbered p.outline (arguments_type p.outline)
   -- arrays that instructions make have numbers, and the fields that they put are where the objects have them
   pub made : (method : ℕ) (i : Insn) (u : Use) → IsNamed p method i u → NamesMade p.outline u i
 

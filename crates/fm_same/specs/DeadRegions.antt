@@ -130,7 +130,7 @@ states_of p choose job store k = (after p (lawful choose) k (opening p (lawful c
 -- it is so of the states of each run within the limits of a run
 abbrev pub InEachRun : Program → ((ℕ → State) → Type 0) → Type 0
 InEachRun p IsSo =
-    (choose : Choose) (job : Job) → length job.input ≤ MAX_FILE_BYTES → ArgumentsFit p.outline job.arguments
+    (choose : Choose) (job : Job) → length job.input ≤ MAX_FILE_BYTES → ArgumentsFit job.arguments
     → (budget : ℕ) (limit : Option ℕ) (free : List (List ℕ)) → budget ≤ MAX_LIVE_WORDS → IsSo (states_of p choose job (opened budget limit free))
 
 -- in these states what a captured class led to is dead from the one on in which the class isn't busy, or the activation is gone

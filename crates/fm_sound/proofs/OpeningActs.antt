@@ -73,14 +73,14 @@ module _ (p : Program) (ready : IsMakeable p) (store : Store) (f : Frame) where
         ),
       )
 
-  pub opening_fits : (job : Job) → ArgumentsFit o job.arguments → ActsFit o store f [] (opening_actions o job)
+  pub opening_fits : (job : Job) → ArgumentsFit job.arguments → ActsFit o store f [] (opening_actions o job)
   unfolding opening_actions
   opening_fits job given = (
     output_fits,
     (
       input_fits,
       (
-        array_made o (arguments_type o) (length job.arguments) given.array (omega arith) given.few,
+        array_made o (arguments_type o) (length job.arguments) ready.arguments (omega arith) given.few,
         arguments_fit 0 job.arguments
             (built_in_type o (codes "java/io/PrintStream") ∷ built_in_type o (codes "java/io/InputStream") ∷ arguments_type o ∷ []) refl given.texts,
       ),

@@ -159,7 +159,7 @@ StartsFit =
 -- The actions of the opening fit, where main is given texts.
 abbrev pub OpeningsFit : Type 0
 OpeningsFit =
-    (p : Program) → IsMakeable p → (job : Job) → ArgumentsFit p.outline job.arguments → (store : Store) (f : Frame)
+    (p : Program) → IsMakeable p → (job : Job) → ArgumentsFit job.arguments → (store : Store) (f : Frame)
     → ActsFit p.outline store f [] (opening_actions p.outline job)
 
 -- ---- places of fields
@@ -222,7 +222,7 @@ SoundStatesStep =
 abbrev pub SoundRuns : Type 0
 SoundRuns =
     (p : Program) (typings : Typings) → AreTyped p typings → StepsAreResolved p → MakesAreResolved p → MainIsReady p → (choose : Choose) (job : Job)
-    → length job.input ≤ MAX_FILE_BYTES → ArgumentsFit p.outline job.arguments → (budget : ℕ) (limit : Option ℕ) (free : List (List ℕ))
+    → length job.input ≤ MAX_FILE_BYTES → ArgumentsFit job.arguments → (budget : ℕ) (limit : Option ℕ) (free : List (List ℕ))
     → budget ≤ MAX_LIVE_WORDS → (k : ℕ)
     → IsSoundBy p typings (after p (lawful choose) k (opening p (lawful choose) job (opened budget limit free))).state
 

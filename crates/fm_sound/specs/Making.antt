@@ -47,6 +47,8 @@ pub record IsMakeable (p : Program) : Type 0 where
   pub elements : (n : ℕ) (t : TypeRef) → slice_get p.outline.types n ≡ Some t → 1 < t.dims → IsNumbered p.outline (element_type t)
   -- the texts that instructions name are those of class files (JVMS 4.4.7)
   pub texts : (text : ℕ) → (length (literal_text p.outline text) < 2 ^ 31) × AreUnits (literal_text p.outline text)
+  -- the array of main's arguments has a number
+  pub arguments : IsNumbered p.outline (arguments_type p.outline)
 
 -- objects of the type have the field: their class is the one that declares it, or is below it (JVMS 5.4.3.2)
 pub record IsFieldOf (o : Outline) (field : ℕ) (of : TypeRef) : Type 0 where
@@ -92,9 +94,8 @@ pub record MakesAreResolved (p : Program) : Type 0 where
   -- arrays that instructions make have numbers, and the fields that they put are where the objects have them
   pub made : (method : ℕ) (i : Insn) (u : Use) → IsNamed p method i u → NamesMade p.outline u i
 
--- The array of main's arguments has a number, and its texts are of 16-bit units; none is too long.
-pub record ArgumentsFit (o : Outline) (arguments : List (List ℕ)) : Type 0 where
-  pub array : IsNumbered o (arguments_type o)
+-- There are not too many arguments, and their texts are of 16-bit units; none is too long.
+pub record ArgumentsFit (arguments : List (List ℕ)) : Type 0 where
   pub few : length arguments < 2 ^ 31
   pub texts : AllByRecursion (λ text. (length text < 2 ^ 31) × AreUnits text) arguments
 

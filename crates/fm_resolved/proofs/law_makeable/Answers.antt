@@ -14,6 +14,7 @@ makes_resolved p its steps makes = record {
     class_types = its.class_types;
     elements = makes.elements;
     texts = makes.texts;
+    arguments = makes.arguments;
   };
   names = makes.names;
   constants = steps.constants;

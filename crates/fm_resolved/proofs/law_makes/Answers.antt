@@ -4,7 +4,7 @@ use Rattle.fm_code.specs.Spells.{HasSpelling}
 use Rattle.fm_code.specs.declared.class_file.ClassDef.{ClassDef}
 use Rattle.fm_linked.proofs.Trees.{no_parent_refused, tree_of}
 use Rattle.fm_resolved.proofs.GivenFiles.{no_field_refused}
-use Rattle.fm_resolved.proofs.MadeTypes.{elements_numbered}
+use Rattle.fm_resolved.proofs.MadeTypes.{arguments_numbered, elements_numbered}
 use Rattle.fm_resolved.proofs.Making.{made_there}
 use Rattle.fm_resolved.proofs.TextUnits.{literals_short}
 use Rattle.fm_resolved.proofs.TypeNames.{names_fit}
@@ -21,6 +21,7 @@ makes_linked given main spelled none =
       elements = elements_numbered given main;
       names = names_fit given main spelled;
       texts = literals_short given main spelled;
+      arguments = arguments_numbered given main;
       made = made_there given main spelled no_bad (no_field_refused given main none) (tree_of given spelled no_bad);
     }
 
