@@ -9,7 +9,7 @@ ghost use Rattle.fm_cells.specs.Objects.{Request, request_of};
 ghost use Rattle.fm_cells.specs.Stores as spec;
 ghost use Rattle.fm_cells.specs.Stores.{Store, IsHeld, IsOverBudget, elements_at, pack_at};
 ghost use Rattle.fm_cells.specs.Changes.{Choice, made_by, freed_by, put_by, chained_by};
-ghost use Rattle.fm_cells.specs.Choices.{IsLawful, TakesCell, IsRefused};
+ghost use Rattle.fm_cells.specs.Choices.{MayReuse, IsLawful, TakesCell, IsRefused};
 ghost use Rattle.fm_cells.specs.Soundness.{IsSound};
 ghost use Rattle.fm_cells.specs.Answers.{head_at, free_answer};
 
@@ -38,7 +38,9 @@ pub trait Memory {
             (result ≡ Err MakeFail.Budget) ↔ IsOverBudget (store self.old) request }
         ensures full { let request = request_of class len pack fixed in
             (result ≡ Err MakeFail.Store) ↔ IsRefused choose (store self.old) request }
-        ensures refused { OnErr result (store self.new ≡ store self.old) };
+        ensures refused { OnErr result (store self.new ≡ store self.old) }
+        ensures may_reuse { let request = request_of class len pack fixed in
+            MayReuse (store self.old) request (choose (store self.old) request) };
 
     /// Frees the object in a cell. Null and fixed objects are skipped. Takes no memory.
     fn free(&mut self, cell: Cell) -> Result<Freed, NotHeld>

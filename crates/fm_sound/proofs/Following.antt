@@ -8,6 +8,7 @@ use Rattle.fm_frames.specs.Steps.{caught, Caught, continued, fault_of, InFrames,
 use Rattle.fm_frames.specs.Steps as steps
 use Rattle.fm_frames.specs.declared.ends.Ended.TheVariants as end
 
+-- the state once the actions are done, by what comes next
 abbrev pub followed : Program → Sources → Effect → Frame → List Frame → State → Next → State
 followed p from e f callers x Falls = record x { frames = steps.went from e f (f.item + 1) ∷ callers }
 followed p from e f callers x (Jumps n) = record x { frames = steps.went from e f (target_at p f n) ∷ callers }

@@ -5,7 +5,7 @@ use Rattle.fm_cells.specs.Choices.{TakesCell, last_choice}
 use Rattle.fm_cells.specs.Objects.{request_of}
 use Rattle.fm_cells.specs.Stores.{words_needed}
 use Rattle.fm_cells.specs.declared.answers.MakeFail.{MakeFail}
-use Rattle.fm_cells.proofs.Choices.{lawful-holds}
+use Rattle.fm_cells.proofs.Choices.{lawful-holds, lawful_choice-may}
 use Rattle.fm_cells.proofs.word_cells.WordCellsMemory.TheImpl.Goals as goal
 
 pub make-tells : goal.make-tells
@@ -18,4 +18,5 @@ make-tells c =
       budget = c.ensures.budget;
       full = lawful-holds last_choice old request c.ensures.may_reuse (λ choice. (c.result ≡ Err MakeFail.Store) ↔ ((words_needed old request ≤ old.budget) × (choice ≡ RefuseStore))) c.ensures.full;
       refused = c.ensures.refused;
+      may_reuse = lawful_choice-may old request (last_choice old request);
     }
