@@ -180,14 +180,14 @@ fn inherit(
         ≡ with_inherited parents.now (lists own.now) (lists all.old.items) class) }
 {
     let mut met = Vec::from_slice(alloc, list_at(own, class))?;
-    met.extend_from_slice(inherited(all.as_slice(), at(parents, class)))?;
+    met.extend_from_slice(list_of_parent(all.as_slice(), at(parents, class)))?;
     let found = distinct(alloc, met.as_slice())?;
     put_list(all, class as usize, found);
     Ok(())
 }
 
-// What the table has at a superclass.
-fn inherited(all: &[Vec<u32>], parent: Option<u32>) -> &[u32]
+/// What the table has at a superclass; the empty list where there is none.
+pub fn list_of_parent(all: &[Vec<u32>], parent: Option<u32>) -> &[u32]
     ensures { result.now ≡ of_parent (lists all.now) parent }
 {
     match parent {

@@ -1,5 +1,5 @@
 -- Refusals of one element after the other: what is left of them, and the first one.
-use Rattle.std.proofs.Common.{◌≡◌, Result, sym, ◌∙◌, ap, subst, ℕ, ◌+◌, ◌<◌, ◌≤◌, List, [], ◌∷◌, ◌++◌, length, drop, get_or, Option, Some, None, slice_get}
+use Rattle.std.proofs.Common.{◌≡◌, Result, refl, sym, ◌∙◌, ap, subst, ℕ, ◌+◌, ◌<◌, ◌≤◌, List, [], ◌∷◌, ◌++◌, length, drop, get_or, Option, Some, None, slice_get}
 use Rattle.std.specs.List.{flat_map}
 use Rattle.std.proofs.Math.ListN.{drop_of_length-le}
 use Rattle.fm_declare.proofs.Drops.{drop_here}
@@ -7,7 +7,7 @@ use Rattle.fm_world.specs.Causes.{Refusal}
 use Rattle.fm_declare.specs.declared.given.GivenFile.{GivenFile}
 use Rattle.fm_declare.specs.inner.Files.{IsFile}
 use Rattle.std.proofs.lemmas.Option.{slice_get_read}
-use Rattle.std.proofs.Common.{refl}
+use Rattle.std.specs.Prelude.{Ok, Err, OnOk}
 use Rattle.fm_refuse.specs.Refused.{IsFirst, Refuses}
 use Rattle.fm_refuse.specs.declared.error.LinkFail.{LinkFail}
 use Rattle.fm_refuse.specs.inner.GivenClasses.{class_in, AreNumbered, IsNumbered}
@@ -44,6 +44,15 @@ refuses_after mine others r none is = subst (λ ms. Refuses (ms ++ others) r) (s
 
 pub first_after : (mine others : List Refusal) (o : Option Refusal) → mine ≡ [] → IsFirst others o → IsFirst (mine ++ others) o
 first_after mine others o none is = subst (λ ms. IsFirst (ms ++ others) o) (sym none) is
+
+-- what holds anyway
+pub on_ok : {X E P : Type 0} → P → (r : Result X E) → OnOk r P
+on_ok p (Ok x) = p
+on_ok p (Err e) = tt
+
+pub on_ok_then : {X E P Q : Type 0} → (P → Q) → (r : Result X E) → OnOk r P → OnOk r Q
+on_ok_then f (Ok x) p = f p
+on_ok_then f (Err e) p = tt
 
 -- ---- one file after the other
 

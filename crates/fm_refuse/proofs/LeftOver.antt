@@ -1,16 +1,12 @@
 -- Abstract methods that are left over, one after the other.
-use Rattle.std.proofs.Common.{◌≡◌, refl, sym, ◌∙◌, ap, subst, ℕ, suc, ◌+◌, ◌-◌, ◌<◌, ◌≤◌, ◌||◌, Bool, true, false, cond, List, [], ◌∷◌, ◌++◌, length, drop, map, get_or, Option, Some, None, append_assoc, length-append, arith, zero-add}
+use Rattle.std.proofs.Common.{◌≡◌, refl, sym, ◌∙◌, ap, subst, ℕ, suc, ◌+◌, ◌-◌, ◌<◌, ◌≤◌, ◌||◌, Bool, true, false, cond, List, [], ◌∷◌, ◌++◌, length, drop, map, get_or, Option, Some, None, append_assoc, length-append, arith}
 use Rattle.std.specs.List.{filter, flat_map, range_with_len}
 use Rattle.std.proofs.lemmas.Grind.{flat_map-append}
 use Rattle.std.proofs.lemmas.List.{get_or_default, length-map}
-use Rattle.std.specs.Global.{Vec}
 use Rattle.fm_base.specs.declared.characters.TheConstants.{DOT}
-use Rattle.fm_lookup.specs.inner.ListTables.{list_in, lists}
 use Rattle.fm_world.specs.BuiltIns.{built_in}
 use Rattle.fm_world.specs.Declarations.{declared_from}
 use Rattle.fm_world.specs.Programs.{classes_of}
-use Rattle.fm_world.specs.inner.Tables.{numbers_below}
-use Rattle.std.proofs.lemmas.List.FromFn.{get_or-map-range_with_len}
 use Rattle.fm_code.specs.AccessFlags.{is_abstract, is_interface}
 use Rattle.fm_code.specs.declared.class_file.ClassDef.{ClassDef}
 use Rattle.std.proofs.Math.ListN.{drop_of_length-le}
@@ -72,7 +68,7 @@ left_over_parts classes c class e f =
 abbrev pub numbers_from : ℕ → ℕ → ℕ → List ℕ
 numbers_from start end k = range_with_len k (end - k)
 
-number_here : (end k : ℕ) → k < end → range_with_len k (end - k) ≡ k ∷ range_with_len (k + 1) (end - (k + 1))
+pub number_here : (end k : ℕ) → k < end → range_with_len k (end - k) ≡ k ∷ range_with_len (k + 1) (end - (k + 1))
 number_here end k below = let e : end - k ≡ suc (end - (k + 1)) = omega arith in ap (range_with_len k) e
 
 pub number_none : (f : ℕ → List Refusal) (end k : ℕ) (all : List Refusal) → k < end → f k ≡ [] → all ≡ flat_map f (range_with_len k (end - k))
@@ -144,11 +140,6 @@ class_within files i class number within =
 abbrev pub abstract_or_none : List DeclaredClass → Option ℕ → Bool
 abstract_or_none classes None = true
 abstract_or_none classes (Some found) = is_abstract_method classes found
-
--- what a table has of a class
-pub list_of_class : (f : ℕ → List ℕ) (n : ℕ) (table : List (Vec ℕ)) (class : ℕ) → lists table ≡ map f (numbers_below n) → class < n
-    → list_in table class ≡ f class
-list_of_class f n table class are within = ap (λ ls. get_or ls class []) are ∙ get_or-map-range_with_len f 0 n class class [] within (zero-add class)
 
 -- ---- names of declared methods
 

@@ -9,4 +9,7 @@ pub mod WantedMembers
 pub mod Sections
 pub mod CallsOfAbstracts
 pub mod LeftOver
+pub mod Among
+pub mod LeftOverAbove
+pub mod LeftOverSteps
 pub mod MainMethods

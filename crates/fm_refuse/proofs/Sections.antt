@@ -1,17 +1,18 @@
 -- The methods of a class among those of all classes.
-use Rattle.std.proofs.Common.{◌≡◌, refl, sym, ◌∙◌, ap, subst, ℕ, zero, suc, ◌+◌, ◌-◌, ◌<◌, ◌≤◌, List, [], ◌∷◌, ◌++◌, length, take, get_or, Option, Some, None, arith, slice_get, cond, Bool, true, false, ◌⊎◌, inl, inr, zero-add}
+use Rattle.std.proofs.Common.{◌≡◌, refl, sym, ◌∙◌, ap, subst, ℕ, zero, suc, ◌+◌, ◌-◌, ◌<◌, ◌≤◌, List, [], ◌∷◌, ◌++◌, length, length-append, take, get_or, Option, Some, None, arith, slice_get, cond, Bool, true, false, nat_eq, ◌⊎◌, inl, inr, zero-add}
 use Rattle.std.specs.List.{flat_map, range_with_len}
-use Rattle.std.proofs.lemmas.Bool.{cases_lt}
+use Rattle.std.proofs.lemmas.Bool.{cases_lt, eqb-true, false≢true}
 use Rattle.std.proofs.lemmas.List.{get_or-append-add, get_or-map, get_or_append_left, get_or_past, length-map}
 use Rattle.std.proofs.lemmas.List.FromFn.{get_or-map-range_with_len, length-map-range_with_len}
 use Rattle.std.proofs.lemmas.List.Sums.{sum_by-cons, sum_by_more}
+use Rattle.fm_lookup.proofs.Downwards.{either}
 use Rattle.fm_lookup.proofs.SectionRows.{AreSections-methods}
 use Rattle.std.proofs.lemmas.Option.{slice_get-get_or, slice_get_past}
 use Rattle.fm_code.specs.AccessFlags.{is_abstract}
 use Rattle.fm_lookup.specs.declared.members.Members.{Members}
 use Rattle.fm_lookup.specs.inner.MemberRows.{method_alike, row_alike, section_of, AreMethodRows}
-use Rattle.fm_world.specs.Causes.{abstract_from, abstract_methods, Refusal}
-use Rattle.fm_world.specs.Chains.{class_at}
+use Rattle.fm_world.specs.Causes.{abstract_from, abstract_methods}
+use Rattle.fm_world.specs.Chains.{class_at, is_among}
 use Rattle.fm_world.specs.Declarations.{no_class, no_method}
 use Rattle.fm_world.specs.Lookups.{is_abstract_method}
 use Rattle.fm_world.specs.Members.{OwnedMethod, first_method, method_at, methods_from, methods_of, owned_methods}
@@ -48,9 +49,65 @@ pub method_here : (classes : List DeclaredClass) (class j : ℕ) → class < len
 unfolding methods_of
 method_here classes class j within inside = methods_at 0 classes class j within inside
 
+within_at : (number : ℕ) (classes : List DeclaredClass) (class j : ℕ) → class < length classes → j < length (class_at classes class).methods
+    → first_method classes class + j < length (methods_from number classes)
+within_at number [] class j within inside = absurd (omega arith)
+within_at number (c ∷ classes) zero j within inside =
+    let make = λ (m : DeclaredMethod). let o : OwnedMethod = record { class = number; method = m } in o in
+    let long = length-map c.methods make in
+    let all = length-append (owned_methods number c) (methods_from (number + 1) classes) in
+    omega (arith, long, all, inside)
+within_at number (c ∷ classes) (suc class) j within inside =
+    let make = λ (m : DeclaredMethod). let o : OwnedMethod = record { class = number; method = m } in o in
+    let long = length-map c.methods make in
+    let all = length-append (owned_methods number c) (methods_from (number + 1) classes) in
+    let counted = sum_by-cons (λ (d : DeclaredClass). length d.methods) c (take class classes) in
+    let others = within_at (number + 1) classes class j (omega arith) inside in
+    omega (arith, long, all, counted, others)
+
+pub method_within : (classes : List DeclaredClass) (class j : ℕ) → class < length classes → j < length (class_at classes class).methods
+    → first_method classes class + j < length (methods_of classes)
+unfolding methods_of
+method_within classes class j within inside = within_at 0 classes class j within inside
+
 -- ---- abstract methods by number
 
-abstract_by : (classes : List DeclaredClass) (g : ℕ → List Refusal) (start : ℕ) (methods : List DeclaredMethod)
+among_section : (start number : ℕ) (methods : List DeclaredMethod) → is_among number (abstract_from start methods) ≡ true
+    → (start ≤ number) × (number < start + length methods)
+among_section start number [] e = absurd (false≢true e)
+among_section start number (m ∷ methods) e = by_part (is_abstract m.flags) e (among_section (start + 1) number methods) where
+  by_rest : (start + 1 ≤ number) × (number < start + 1 + length methods) → (start ≤ number) × (number < start + suc (length methods))
+  by_rest h = let low = h.0 in let high = h.1 in (omega (arith, low), omega (arith, high))
+
+  by_part : (b : Bool) → is_among number (cond b (start ∷ []) [] ++ abstract_from (start + 1) methods) ≡ true
+      → (is_among number (abstract_from (start + 1) methods) ≡ true → (start + 1 ≤ number) × (number < start + 1 + length methods))
+      → (start ≤ number) × (number < start + suc (length methods))
+  by_part false h rest = by_rest (rest h)
+  by_part true h rest = by_number (either (nat_eq number start) (is_among number (abstract_from (start + 1) methods)) h) where
+    by_number : (nat_eq number start ≡ true) ⊎ (is_among number (abstract_from (start + 1) methods) ≡ true)
+        → (start ≤ number) × (number < start + suc (length methods))
+    by_number (inl same) = let is = eqb-true number start same in (omega (arith, is), omega (arith, is))
+    by_number (inr there) = by_rest (rest there)
+
+-- the number of an abstract method is that of a method
+pub abstract_within : (classes : List DeclaredClass) (class method : ℕ) → is_among method (abstract_methods classes class) ≡ true
+    → method < length (methods_of classes)
+abstract_within classes class method e = by_place (cases_lt class (length classes)) where
+  first : ℕ
+  first = first_method classes class
+
+  by_place : (class < length classes) ⊎ (length classes ≤ class) → method < length (methods_of classes)
+  by_place (inl within) =
+      let inside = among_section first method (class_at classes class).methods e in
+      let low = inside.0 in
+      let high = inside.1 in
+      let below = method_within classes class (method - first) within (omega (arith, low, high)) in
+      let is : first + (method - first) ≡ method = omega (arith, low) in
+      subst (λ n. n < length (methods_of classes)) is below
+  by_place (inr past) =
+      absurd (false≢true (sym (ap (λ (d : DeclaredClass). is_among method (abstract_from first d.methods)) (get_or_past classes class no_class past)) ∙ e))
+
+abstract_by : {Z : Type 0} (classes : List DeclaredClass) (g : ℕ → List Z) (start : ℕ) (methods : List DeclaredMethod)
     → ((j : ℕ) → j < length methods → (method_at classes (start + j)).method ≡ get_or methods j no_method)
     → flat_map g (abstract_from start methods) ≡ flat_map (λ k. cond (is_abstract_method classes k) (g k) []) (range_with_len start (length methods))
 abstract_by classes g start [] at = refl
@@ -75,7 +132,7 @@ pub record IsSection (classes : List DeclaredClass) (class start end : ℕ) : Ty
   pub at : (j : ℕ) → j < length (class_at classes class).methods → (method_at classes (start + j)).method
       ≡ get_or (class_at classes class).methods j no_method
 
-pub abstract_section : (classes : List DeclaredClass) (g : ℕ → List Refusal) (class start end : ℕ) → IsSection classes class start end
+pub abstract_section : {Z : Type 0} (classes : List DeclaredClass) (g : ℕ → List Z) (class start end : ℕ) → IsSection classes class start end
     → flat_map g (abstract_methods classes class) ≡ flat_map (λ k. cond (is_abstract_method classes k) (g k) []) (range_with_len start (end - start))
 abstract_section classes g class start end is =
     let test = λ (k : ℕ). cond (is_abstract_method classes k) (g k) [] in
@@ -108,13 +165,13 @@ one_class_more : (classes : List DeclaredClass) (class : ℕ) → class < length
     ≡ first_method classes class + length (class_at classes class).methods
 one_class_more classes class within = sum_by_more (λ (d : DeclaredClass). length d.methods) classes class no_class within
 
--- the refusals of the abstract methods of a class, by their numbers
-pub section_all : (texts : List (List ℕ)) (classes : List DeclaredClass) (m : Members) → AreMethodRows texts classes m
-    → (g : ℕ → List Refusal) (class : ℕ) (s : ℕ × ℕ)
+-- what the abstract methods of a class give, by their numbers
+pub section_all : {Z : Type 0} (texts : List (List ℕ)) (classes : List DeclaredClass) (m : Members) → AreMethodRows texts classes m
+    → (g : ℕ → List Z) (class : ℕ) (s : ℕ × ℕ)
     → s ≡ section_of m.first.items class
     → flat_map g (abstract_methods classes class) ≡ flat_map (λ k. cond (is_abstract_method classes k) (g k) []) (range_with_len s.0 (s.1 - s.0))
-section_all texts classes m are g class s is = by_place (cases_lt class (length classes)) where
-  test : ℕ → List Refusal
+section_all {Z} texts classes m are g class s is = by_place (cases_lt class (length classes)) where
+  test : ℕ → List Z
   test k = cond (is_abstract_method classes k) (g k) []
 
   by_place : (class < length classes) ⊎ (length classes ≤ class) → flat_map g (abstract_methods classes class)

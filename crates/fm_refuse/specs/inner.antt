@@ -1,6 +1,7 @@
 pub mod Abstracts
 pub mod Ancestry
 pub mod GivenClasses
+pub mod LeftOver
 pub mod Linking
 pub mod Naming
 pub mod MainClass

@@ -14,12 +14,13 @@ ghost use Rattle.fm_world.specs.declared.declarations.DeclaredClass.{DeclaredCla
 
 use crate::error::LinkFail;
 use crate::linking::{Linking, class_named, resolved_method};
-use crate::marks::{index_of, is_marked};
+use crate::marks::index_of;
 use crate::not_implemented::is_abstract;
 use crate::wanted_methods::bad_method;
 use fm_base::NoMemory;
 use fm_code::{Insn, Item, Member};
 use fm_declare::{GivenFile, MemberTexts, code_of};
+use fm_lookup::is_marked;
 use std::alloc::Global;
 
 /// Refuses the first instruction of a class that calls an abstract method by itself.

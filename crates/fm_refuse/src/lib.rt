@@ -7,6 +7,7 @@
 mod abstract_calls;
 mod duplicates;
 mod error;
+mod left_over;
 mod linking;
 mod main_class;
 mod marks;

@@ -1,20 +1,9 @@
-// Marks by number, and indices of a pool.
+// Marks of indices, and indices of a pool.
 
-ghost use Rattle.std.specs.Prelude.{◌≡◌, IfOk, false, slice_set, true};
-ghost use Rattle.std.specs.List.{slice_index_or};
+ghost use Rattle.std.specs.Prelude.{◌≡◌, IfOk, slice_set, true};
 ghost use Rattle.fm_declare.specs.inner.Marks.{marked};
 
 use fm_base::NoMemory;
-
-/// Whether there is a mark at a place; none past the end.
-pub(crate) fn is_marked(marks: &[bool], place: u32) -> bool
-    ensures { result ≡ slice_index_or marks.now place false }
-{
-    match marks.get(place as usize) {
-        Some(mark) => *mark,
-        None => false,
-    }
-}
 
 /// Sets the marks at the indices.
 pub(crate) fn set_marks(marks: &mut Vec<bool>, indices: &[u16])

@@ -14,12 +14,13 @@ ghost use Rattle.fm_world.specs.Uses.{uses_in_order};
 ghost use Rattle.fm_world.specs.declared.declarations.DeclaredClass.{DeclaredClass};
 
 use crate::error::{LinkFail, bad_of};
-use crate::marks::{index_of, is_marked};
+use crate::marks::index_of;
 use fm_base::NoMemory;
 use fm_code::Member;
 use fm_declare::{
     ClassNumbers, GivenFile, Texts, class_type, missing_class, missing_in, used_indices,
 };
+use fm_lookup::is_marked;
 use std::alloc::Global;
 
 // What names of classes are judged by. No text is judged once for each entry that names it: the marks

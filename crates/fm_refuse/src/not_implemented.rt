@@ -1,14 +1,14 @@
 // Abstract methods that are left over, and special calls of abstract methods (JVMS 5.4.5,
 // 6.5.invokespecial).
 
-ghost use Rattle.std.specs.Prelude.{◌≡◌, ◌+◌, ◌<◌, IfOk, List, length};
-ghost use Rattle.std.specs.List.{flat_map, slice_index_or};
+ghost use Rattle.std.specs.Prelude.{◌≡◌, ◌+◌, ◌<◌, IfOk, List, OnOk, false, length};
+ghost use Rattle.std.specs.List.{flat_map};
+ghost use Rattle.fm_code.specs.AccessFlags.{is_abstract, is_interface};
 ghost use Rattle.fm_declare.specs.inner.Numbering.{texts_in};
-ghost use Rattle.fm_lookup.specs.inner.ListTables.{list_in};
-ghost use Rattle.fm_lookup.specs.inner.MemberRows.{no_row};
 ghost use Rattle.fm_refuse.specs.Refused.{Refuses};
 ghost use Rattle.fm_refuse.specs.inner.Abstracts.{left_over_at, left_over_of};
 ghost use Rattle.fm_refuse.specs.inner.GivenClasses.{class_in, given_in, AreNumbered, IsNumbered};
+ghost use Rattle.fm_refuse.specs.inner.LeftOver.{IsLeftOver};
 ghost use Rattle.fm_refuse.specs.inner.Linking.{IsLinking};
 ghost use Rattle.fm_world.specs.BuiltIns.{built_in};
 ghost use Rattle.fm_world.specs.Causes.{declared_name, is_left_over, left_over, method_text, not_implemented, own_name};
@@ -21,11 +21,12 @@ ghost use Rattle.fm_world.specs.declared.declarations.DeclaredClass.{DeclaredCla
 
 use crate::abstract_calls::refuse_calls;
 use crate::error::{LinkBad, LinkFail};
+use crate::left_over::{LeftOver, find_all};
 use crate::linking::Linking;
 use fm_base::{Name, NoMemory};
 use fm_code::{ACC_ABSTRACT, ACC_INTERFACE, has_flag};
 use fm_declare::{GivenFile, number_of};
-use fm_lookup::{Hierarchy, MemberRow, Members};
+use fm_lookup::{list_at, row_at};
 use fm_world::{DeclaredClass, built_in_classes};
 use std::alloc::Global;
 
@@ -40,9 +41,11 @@ pub fn refuse_not_implemented(
     ensures { IsLinking (classes_of (given_in files.now)) linking.entry
         → Refuses (refused_not_implemented (given_in files.now)) result }
 {
+    let mut found = LeftOver::new(alloc, linking.hierarchy.classes.len())?;
+    find_all(alloc, linking, &mut found)?;
     for file in files {
         let class = class_of_file(file)?;
-        refuse_in_class(alloc, linking, file, class)?;
+        refuse_in_class(alloc, linking, &mut found, file, class)?;
     }
     Ok(())
 }
@@ -62,15 +65,18 @@ fn class_of_file(file: &GivenFile) -> Result<u32, NoMemory>
 fn refuse_in_class(
     alloc: Global,
     linking: Linking,
+    found: &mut LeftOver,
     file: &GivenFile,
     class: u32,
 ) -> Result<(), LinkFail>
     requires { IsNumbered (texts_in linking.texts.now) file.now }
-    ensures { (classes : List DeclaredClass) → IsLinking classes linking.entry
-        → class < length classes
+    ensures refuses { (classes : List DeclaredClass) → IsLinking classes linking.entry
+        → class < length classes → IsLeftOver classes found.old
         → Refuses (not_implemented classes (class_in file.now) class) result }
+    ensures keeps { OnOk result ((classes : List DeclaredClass) → IsLinking classes linking.entry
+        → class < length classes → IsLeftOver classes found.old → IsLeftOver classes found.new) }
 {
-    refuse_left_over(alloc, linking, file, class)?;
+    refuse_left_over(alloc, linking, found, file, class)?;
     refuse_calls(alloc, linking, file, class)
 }
 
@@ -79,12 +85,15 @@ fn refuse_in_class(
 fn refuse_left_over(
     alloc: Global,
     linking: Linking,
+    found: &mut LeftOver,
     file: &GivenFile,
     class: u32,
 ) -> Result<(), LinkFail>
-    ensures { (classes : List DeclaredClass) → IsLinking classes linking.entry
-        → class < length classes
+    ensures refuses { (classes : List DeclaredClass) → IsLinking classes linking.entry
+        → class < length classes → IsLeftOver classes found.old
         → Refuses (left_over classes (class_in file.now) class) result }
+    ensures keeps { OnOk result ((classes : List DeclaredClass) → IsLinking classes linking.entry
+        → class < length classes → IsLeftOver classes found.old → IsLeftOver classes found.new) }
 {
     if has_flag(file.class.flags, ACC_ABSTRACT) {
         return Ok(());
@@ -92,19 +101,27 @@ fn refuse_left_over(
     if has_flag(file.class.flags, ACC_INTERFACE) {
         return Ok(());
     }
-    let hierarchy = linking.hierarchy;
-    refuse_left_over_in(alloc, linking, file, class, hierarchy.chain(class))?;
-    refuse_left_over_in(alloc, linking, file, class, interfaces_at(hierarchy, class))
+    if found.is_clear(alloc, linking, class)? {
+        return Ok(());
+    }
+    refuse_first(alloc, linking, file, class)
 }
 
-// The superinterfaces of a class and of its superclasses.
-fn interfaces_at<'w>(hierarchy: &'w Hierarchy, class: u32) -> &'w [u32]
-    ensures { result.now ≡ list_in hierarchy.now.interfaces.items class }
+// The same of a class that isn't abstract, looked for among all that stand above it.
+fn refuse_first(
+    alloc: Global,
+    linking: Linking,
+    file: &GivenFile,
+    class: u32,
+) -> Result<(), LinkFail>
+    ensures { (classes : List DeclaredClass) → IsLinking classes linking.entry
+        → class < length classes → is_abstract (class_in file.now).flags ≡ false
+        → is_interface (class_in file.now).flags ≡ false
+        → Refuses (left_over classes (class_in file.now) class) result }
 {
-    match hierarchy.interfaces.get(class as usize) {
-        Some(interfaces) => interfaces.as_slice(),
-        None => &[],
-    }
+    let interfaces = linking.hierarchy.interfaces.as_slice();
+    refuse_left_over_in(alloc, linking, file, class, linking.hierarchy.chain(class))?;
+    refuse_left_over_in(alloc, linking, file, class, list_at(interfaces, class))
 }
 
 // The same for the abstract methods that these classes declare.
@@ -174,7 +191,7 @@ pub(crate) fn is_abstract(linking: Linking, method: u32) -> bool
 }
 
 // Whether no method is selected for it, or an abstract one.
-fn is_left_over(linking: Linking, class: u32, method: u32) -> bool
+pub(crate) fn is_left_over(linking: Linking, class: u32, method: u32) -> bool
     ensures { (classes : List DeclaredClass) → IsLinking classes linking.entry
         → class < length classes → method < length (methods_of classes)
         → result ≡ is_left_over classes class method }
@@ -196,7 +213,7 @@ fn bad_declared(
         → method < length (methods_of classes) → IfOk result (λ bad.
         (bad.name ≡ method_text (declared_name classes method)) × (bad.user ≡ own_name (class_in file.now))) }
 {
-    let row = row_at(&linking.methods.members, method);
+    let row = row_at(linking.methods.members.rows.as_slice(), method);
     let mut name = Vec::from_slice(alloc, class_name(linking.hierarchy.classes, row.class))?;
     name.push(b'.')?;
     name.extend_from_slice(linking.texts.text(row.name))?;
@@ -206,21 +223,6 @@ fn bad_declared(
         name: Name::new(name),
         user: Name::new(user),
     })
-}
-
-// The member of that number; past the last one, one of the first class without a name.
-fn row_at(members: &Members, member: u32) -> MemberRow
-    ensures { result ≡ slice_index_or members.now.rows.items member no_row }
-{
-    match members.rows.get(member as usize) {
-        Some(row) => *row,
-        None => MemberRow {
-            class: 0,
-            name: 0,
-            descriptor: 0,
-            flags: 0,
-        },
-    }
 }
 
 // The name of a class; past the last one, none.

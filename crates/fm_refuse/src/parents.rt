@@ -21,11 +21,11 @@ ghost use Rattle.fm_world.specs.Uses.{pool_indices};
 ghost use Rattle.fm_world.specs.declared.declarations.DeclaredClass.{DeclaredClass};
 
 use crate::error::{LinkFail, bad_of};
-use crate::marks::{index_of, is_marked, set_marks};
+use crate::marks::{index_of, set_marks};
 use fm_base::NoMemory;
 use fm_code::{ACC_INTERFACE, has_flag};
 use fm_declare::{ClassNumbers, GivenFile, name_at};
-use fm_lookup::{Ancestors, class_listed, goes_up, is_interface_at};
+use fm_lookup::{Ancestors, class_listed, goes_up, is_interface_at, is_marked};
 use fm_world::DeclaredClass;
 use std::alloc::Global;
 

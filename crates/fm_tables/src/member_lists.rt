@@ -1,11 +1,11 @@
 // The descriptors and the flags of members, and which texts are descriptors.
 
-ghost use Rattle.std.specs.Prelude.{◌≡◌, IfOk, false, replicate, slice_set, true};
+ghost use Rattle.std.specs.Prelude.{◌≡◌, IfOk, false, replicate};
 ghost use Rattle.fm_declare.specs.inner.Marks.{marked};
 ghost use Rattle.fm_tables.specs.inner.MemberLists.{descriptors_in, flags_in};
 
 use fm_base::NoMemory;
-use fm_lookup::MemberRow;
+use fm_lookup::{MemberRow, mark_all};
 use std::alloc::Global;
 
 /// The descriptor of each member, by the number of its text.
@@ -44,23 +44,4 @@ pub fn descriptor_marks(
     mark_all(&mut marks, fields);
     mark_all(&mut marks, methods);
     Ok(marks)
-}
-
-// Sets the marks at the numbers.
-fn mark_all(marks: &mut Vec<bool>, numbers: &[u32])
-    ensures { marks.new.items ≡ marked marks.old.items numbers.now }
-{
-    for number in numbers {
-        mark(marks, *number);
-    }
-}
-
-// Sets the mark at a number, where there is one.
-fn mark(marks: &mut Vec<bool>, number: u32)
-    ensures { marks.new.items ≡ slice_set marks.old.items number true }
-{
-    let place = number as usize;
-    if place < marks.len() {
-        marks[place] = true;
-    }
 }

@@ -18,6 +18,7 @@ use Rattle.fm_world.specs.declared.declarations.DeclaredMethod.{DeclaredMethod}
 abbrev pub HasFewDimensions : FieldType → Type 0
 HasFewDimensions t = t.dimensions ≤ 255
 
+-- the same of each type
 abbrev pub HaveFewDimensions : List FieldType → Type 0
 HaveFewDimensions types = AllByRecursion HasFewDimensions types
 
@@ -34,6 +35,7 @@ if_few t answer = if nat_lt t.dimensions 256 then answer else None
 abbrev pub few_kind_in : List DeclaredClass → FieldType → Option Kind
 few_kind_in classes t = if_few t (kind_in classes t)
 
+-- the same, where an int stands for what is no kind
 abbrev pub few_kind : List DeclaredClass → FieldType → Kind
 few_kind classes t = unwrap_or (few_kind_in classes t) kind.Int
 

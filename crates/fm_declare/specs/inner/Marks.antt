@@ -29,5 +29,6 @@ values_among (a ∷ attributes) = values_among attributes
 abbrev pub operands_among : List Item → List ℕ
 operands_among items = filter_map (λ item. operand_of item.insn) items
 
+-- those of a method's items
 abbrev pub operands_in : Member → List ℕ
 operands_in m = operands_among (items_of m)

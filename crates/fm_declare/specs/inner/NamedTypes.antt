@@ -8,10 +8,12 @@ use Rattle.fm_declare.specs.declared.first_types.NamedBase.TheVariants as named
 use Rattle.fm_declare.specs.declared.first_types.NamedType.{NamedType}
 use Rattle.fm_world.specs.Descriptors.{typed, types_from, types_in}
 
+-- the base of a type that is read: a letter, or the name of a class
 abbrev pub base_named : NamedBase → BaseType
 base_named (named.Letter letter) = primitive letter
 base_named (named.Class name) = object name.now
 
+-- the type that is read
 abbrev pub type_named : NamedType → FieldType
 type_named t = typed t.dimensions (base_named t.base)
 

@@ -54,6 +54,7 @@ pub record IsReady (texts : Texts) (files : List GivenFile) (classes : List Decl
   pub methods_are : AreMethodRows (texts_in texts) (classes_of (given_in files)) methods
   pub constructor_is : slice_get (texts_in texts) constructor ≡ Some constructor_name
 
+-- the same of what is handed on
 abbrev pub AreReady : Ready → Members → Members → Type 0
 AreReady r fields methods = IsReady r.texts.now r.files.now r.classes.now r.constructor fields methods
 

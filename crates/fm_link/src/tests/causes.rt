@@ -167,8 +167,30 @@ const B_OF_I_CLASS: ClassSample<'static> = ClassSample {
     ..B_CLASS
 };
 
+// A abstract, with I as its interface; A with an m()V that returns; B below A, with I as its interface.
+const A_ABSTRACT_CLASS: ClassSample<'static> = ClassSample {
+    flags: b"\x04\x21",
+    ..A_OF_I_CLASS
+};
+
+const A_WITH_M_CLASS: ClassSample<'static> = ClassSample {
+    methods_count: b"\0\x01",
+    methods: &[MethodSample {
+        flags: b"\0\x01",
+        name: b"\0\x10",
+        descriptor: b"\0\x11",
+        ..MAIN
+    }],
+    ..A_CLASS
+};
+
+const B_BELOW_A_OF_I_CLASS: ClassSample<'static> = ClassSample {
+    super_class: b"\0\x09",
+    ..B_OF_I_CLASS
+};
+
 // All of these classes, and their places.
-const CLASSES: [ClassSample<'static>; 15] = [
+const CLASSES: [ClassSample<'static>; 18] = [
     M_CLASS,
     NO_MAIN_CLASS,
     M_CALLS_CLASS,
@@ -184,6 +206,9 @@ const CLASSES: [ClassSample<'static>; 15] = [
     A_OF_B_CLASS,
     A_OF_I_CLASS,
     B_OF_I_CLASS,
+    A_ABSTRACT_CLASS,
+    A_WITH_M_CLASS,
+    B_BELOW_A_OF_I_CLASS,
 ];
 
 const M: usize = 0;
@@ -215,6 +240,12 @@ const A_OF_B: usize = 12;
 const A_OF_I: usize = 13;
 
 const B_OF_I: usize = 14;
+
+const A_ABSTRACT: usize = 15;
+
+const A_WITH_M: usize = 16;
+
+const B_BELOW_A_OF_I: usize = 17;
 
 // The places of classes, and the line.
 type Row = (&'static [usize], &'static str);
@@ -251,6 +282,18 @@ const SEVERAL: [Row; 10] = [
     (&[M_CALLS, B_OF_I, A_OF_I, I], "not-implemented I.m()V in B"),
     (&[NO_MAIN, B, A_OF_I, I], "not-implemented I.m()V in A"),
     (&[NO_MAIN, A_BELOW_B, B_READS], "missing-field A.x in B"),
+];
+
+// I's m()V is left over in B, whose abstract superclass leaves it over, or which adds I itself; or a
+// superclass implements it.
+const LEFT_OVER: [Row; 4] = [
+    (&[M, A_ABSTRACT, I], "linked"),
+    (
+        &[M, A_ABSTRACT, B_BELOW_A, I],
+        "not-implemented I.m()V in B",
+    ),
+    (&[M, A, B_BELOW_A_OF_I, I], "not-implemented I.m()V in B"),
+    (&[M, B_BELOW_A_OF_I, A_WITH_M, I], "linked"),
 ];
 
 // The line of an answer.
@@ -321,5 +364,11 @@ fn each_cause_is_told(rt: HostRuntime) -> Result<(), Fail> {
 #[test]
 fn of_several_causes_the_first_is_told(rt: HostRuntime) -> Result<(), Fail> {
     assert_eq!(rt; first_other(rt.alloc(), &SEVERAL)?, None);
+    Ok(())
+}
+
+#[test]
+fn a_method_is_left_over_where_no_superclass_has_it(rt: HostRuntime) -> Result<(), Fail> {
+    assert_eq!(rt; first_other(rt.alloc(), &LEFT_OVER)?, None);
     Ok(())
 }

@@ -3,6 +3,7 @@ use Rattle.std.specs.Prelude.{ℕ, List, [], map}
 use Rattle.std.specs.Global.{Vec}
 use Rattle.std.specs.List.{slice_index_or}
 
+-- the lists of a table
 abbrev pub lists : List (Vec ℕ) → List (List ℕ)
 lists table = map (λ (list : Vec ℕ). list.items) table
 

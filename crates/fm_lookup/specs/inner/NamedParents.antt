@@ -26,24 +26,28 @@ abbrev pub class_at_text : (List ℕ → Option ℕ) → List (Option ℕ) → O
 class_at_text find by_text None = find []
 class_at_text find by_text (Some text) = at_text by_text text
 
+-- the class of the name at an index of a file
 abbrev pub class_listed_in : (List ℕ → Option ℕ) → List (Option ℕ) → GivenFile → ℕ → Option ℕ
 class_listed_in find by_text file index = class_at_text find by_text (class_text_in file index)
 
--- the superclass of a declared class, and the interfaces that it lists
+-- the superclass of a declared class
 abbrev pub superclass_by : (List ℕ → Option ℕ) → DeclaredClass → Option ℕ
 superclass_by find class = option_and_then find class.superclass
 
+-- the interfaces that a declared class lists
 abbrev pub interfaces_by : (List ℕ → Option ℕ) → DeclaredClass → List ℕ
 interfaces_by find class = filter_map find class.interfaces
 
--- those of all classes
+-- the superclass of each class
 abbrev pub parents_by : (List ℕ → Option ℕ) → List (Option ℕ) → List GivenFile → List (Option ℕ)
 parents_by find by_text files =
     map (superclass_by find) built_in ++ map (λ (file : GivenFile). class_named_in by_text file file.class.now.super_class) files
 
+-- the interfaces that a file's class lists
 abbrev pub listed_in : (List ℕ → Option ℕ) → List (Option ℕ) → GivenFile → List ℕ
 listed_in find by_text file = filter_map (class_listed_in find by_text file) file.class.now.interfaces
 
+-- those that each class lists
 abbrev pub listed_by : (List ℕ → Option ℕ) → List (Option ℕ) → List GivenFile → List (List ℕ)
 listed_by find by_text files = map (interfaces_by find) built_in ++ map (listed_in find by_text) files
 

@@ -14,10 +14,12 @@ use Rattle.fm_world.specs.declared.uses.Use.TheVariants as resolved
 use Rattle.fm_declare.specs.declared.descriptors.Kinds.{Kinds}
 use Rattle.fm_records.specs.inner.Rows.{map_from}
 
+-- the kind that a field's descriptor declares
 abbrev pub kind_field : Option Kinds → Kind
 kind_field None = kind.Int
 kind_field (Some kinds) = kinds.field
 
+-- the record of a field
 abbrev pub field_told : OwnedField → Option Kinds → ℕ → Use → FieldInfo
 field_told owned kinds slot first = record {
   class = class_id owned.class;
@@ -37,6 +39,7 @@ abbrev pub field_numbered : List (Option Kinds) → List ℕ → List Use → �
 field_numbered kinds slots firsts number f =
     field_told f (slice_index_or kinds number None) (slice_index slots number) (slice_index_or firsts number resolved.Unused)
 
+-- the records of fields, the first of which has this number
 abbrev pub fields_told : List (Option Kinds) → List ℕ → List Use → ℕ → List OwnedField → List FieldInfo
 fields_told kinds slots firsts number fields = map_from (field_numbered kinds slots firsts) number fields
 

@@ -10,14 +10,17 @@ use Rattle.fm_world.specs.declared.records.MethodInfo.{MethodInfo}
 use Rattle.fm_declare.specs.declared.descriptors.Kinds.{Kinds}
 use Rattle.fm_records.specs.inner.Rows.{map_from}
 
+-- the kinds of the parameters that a method's descriptor declares
 abbrev pub kind_params : Option Kinds → List Kind
 kind_params None = []
 kind_params (Some kinds) = kinds.params
 
+-- the kind of its result
 abbrev pub kind_result : Option Kinds → Option Kind
 kind_result None = None
 kind_result (Some kinds) = kinds.result
 
+-- the record of a method
 abbrev pub method_told : OwnedMethod → Option Kinds → Option Code → MethodInfo
 method_told owned kinds code = record {
   class = class_id owned.class;
@@ -37,5 +40,6 @@ methods_among class methods = map (λ m. record { class = class; method = m }) m
 abbrev pub method_numbered : List (Option Kinds) → List (Option Code) → ℕ → OwnedMethod → MethodInfo
 method_numbered kinds codes number m = method_told m (slice_index_or kinds number None) (slice_index_or codes number None)
 
+-- the records of methods, the first of which has this number
 abbrev pub methods_told : List (Option Kinds) → List (Option Code) → ℕ → List OwnedMethod → List MethodInfo
 methods_told kinds codes number methods = map_from (method_numbered kinds codes) number methods

@@ -21,6 +21,7 @@ abbrev pub text_of_entry : GivenFile → Entry → Option ℕ
 text_of_entry file (entry.Text text) = text_in file text
 text_of_entry file e = None
 
+-- the same of an index
 abbrev pub text_at : GivenFile → ℕ → Option ℕ
 text_at file index = text_of_entry file (entry_at file.class.now.pool.entries index)
 
@@ -30,12 +31,14 @@ made_at types file (insn.NewArray e) = option_map (λ b. record { dims = 1; base
 made_at types file (insn.NewRefs index) = option_and_then array_of (type_at types file index)
 made_at types file i = None
 
--- what the uses of a file name, and what its instructions make
+-- the types that the uses of a file name
 abbrev pub types_named : List (Option TypeRef) → GivenFile → List TypeRef
 types_named types file = filter_map (type_at types file) (uses_in_order file.class.now)
 
+-- the texts that the uses of a file name
 abbrev pub texts_named : GivenFile → List ℕ
 texts_named file = filter_map (text_at file) (uses_in_order file.class.now)
 
+-- the arrays that the instructions of a file make
 abbrev pub types_made : List (Option TypeRef) → GivenFile → List TypeRef
 types_made types file = filter_map (λ item. made_at types file item.insn) (class_items file.class.now)

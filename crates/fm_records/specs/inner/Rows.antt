@@ -11,9 +11,11 @@ abbrev pub map_from : {A B : Type 0} → (ℕ → A → B) → ℕ → List A �
 map_from f n [] = []
 map_from f n (x ∷ xs) = f n x ∷ map_from f (n + 1) xs
 
+-- what lent descriptors declare
 abbrev pub lent_kinds : List (Option (Bor Kinds)) → List (Option Kinds)
 lent_kinds kinds = map (λ (o : Option (Bor Kinds)). option_copied o) kinds
 
+-- the codes that are lent
 abbrev pub lent_codes : List (Option (Bor Code)) → List (Option Code)
 lent_codes codes = map (λ (o : Option (Bor Code)). option_copied o) codes
 

@@ -32,13 +32,15 @@ is_member_and test (Some m) = test m
 abbrev pub calls_abstract_at : List DeclaredClass → ClassDef → ℕ → ℕ → Bool
 calls_abstract_at classes c class index = is_member_and (calls_abstract classes class) (named_member c.pool.entries index)
 
--- what a special call gives, and any instruction
+-- what a special call gives that names a member
 abbrev pub call_refusals : List DeclaredClass → ClassDef → ℕ → MemberName → List Refusal
 call_refusals classes c class m = refused_if (calls_abstract classes class m) (refused NotImplemented c (method_text m))
 
+-- what a special call gives that names an index
 abbrev pub special_call : List DeclaredClass → ClassDef → ℕ → ℕ → List Refusal
 special_call classes c class index = refused_where (call_refusals classes c class) (named_member c.pool.entries index)
 
+-- what an instruction gives
 abbrev pub insn_call : List DeclaredClass → ClassDef → ℕ → Insn → List Refusal
 insn_call classes c class (insn.Special index) = special_call classes c class index
 insn_call classes c class i = []

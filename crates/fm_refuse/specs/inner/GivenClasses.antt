@@ -4,6 +4,7 @@ use Rattle.fm_code.specs.declared.class_file.ClassDef.{ClassDef}
 use Rattle.fm_declare.specs.declared.given.GivenFile.{GivenFile}
 use Rattle.fm_declare.specs.inner.Files.{IsFile}
 
+-- the class file of a file whose texts are numbered
 abbrev pub class_in : GivenFile → ClassDef
 class_in file = file.class.now
 

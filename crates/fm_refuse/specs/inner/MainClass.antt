@@ -19,9 +19,11 @@ use Rattle.fm_world.specs.declared.declarations.DeclaredClass.{DeclaredClass}
 
 -- ---- by names
 
+-- the name of a main method
 abbrev pub main_name : List ℕ
 main_name = codes "main"
 
+-- its descriptor
 abbrev pub main_descriptor : List ℕ
 main_descriptor = codes "([Ljava/lang/String;)V"
 
@@ -44,17 +46,20 @@ abbrev pub is_main_row : List (List ℕ) → MemberRow → Bool
 is_main_row texts row =
     bytes_eq (text_of texts row.name) main_name && bytes_eq (text_of texts row.descriptor) main_descriptor && is_static row.flags
 
+-- the same of a row that may be missing
 abbrev pub is_main_in : List (List ℕ) → Option MemberRow → Bool
 is_main_in texts None = false
 is_main_in texts (Some row) = is_main_row texts row
 
+-- the same of the member of a number
 abbrev pub is_main_at : List (List ℕ) → List MemberRow → ℕ → Bool
 is_main_at texts rows member = is_main_in texts (slice_get rows member)
 
--- the first one among members that stand together, and among those of a class
+-- the first one among members that stand together
 abbrev pub main_between : List (List ℕ) → List MemberRow → ℕ × ℕ → Option ℕ
 main_between texts rows section = first_from (is_main_at texts rows) (section.1 - section.0) section.0
 
+-- that of a class
 abbrev pub own_main_in : Linking → ℕ → Option ℕ
 own_main_in l class = main_between (texts_in l.texts.now) l.methods.now.members.rows.items (section_of l.methods.now.members.first.items class)
 

@@ -15,6 +15,7 @@ use Rattle.fm_refuse.specs.declared.missing.Naming.{Naming}
 abbrev pub is_name_met : List DeclaredClass → List ℕ → Bool
 is_name_met classes name = is_none (missing_name classes (class_type name))
 
+-- the same of a descriptor
 abbrev pub is_descriptor_met : List DeclaredClass → List ℕ → Bool
 is_descriptor_met classes descriptor = is_none (first_missing classes (types_in descriptor))
 

@@ -1,7 +1,8 @@
 use Rattle.std.proofs.Common.{◌∙◌, ap, List}
+use Rattle.std.specs.List.{slice_index_or}
 use Rattle.fm_declare.specs.inner.Numbering.{texts_in}
 use Rattle.fm_lookup.proofs.LookupLemmas.{method_row}
-use Rattle.fm_lookup.specs.inner.MemberRows.{row_alike, Owned}
+use Rattle.fm_lookup.specs.inner.MemberRows.{no_row, row_alike, Owned}
 use Rattle.fm_world.specs.Causes.{declared_name}
 use Rattle.fm_world.specs.Chains.{class_at}
 use Rattle.fm_world.specs.declared.declarations.DeclaredClass.{DeclaredClass}
@@ -13,7 +14,7 @@ returns c = λ classes linked within.
     let texts = texts_in c.args.linking.texts.now in
     let row = c.row_at-row.result in
     let named = declared_name classes c.args.method in
-    let told = ap (row_alike texts) c.row_at-row.ensures
+    let told = ap (row_alike texts) (c.row_at-row.ensures ∙ ap (λ rows. slice_index_or rows c.args.method no_row) c.as_slice.ensures.value)
     ∙ method_row texts classes c.args.linking.methods.now linked.methods c.args.method within in (
       declared_spelled c.class_name.result.now c.text.result.now c.text-2.result.now named.class named.name named.descriptor c.in_ok-name.name.items
           c.push.new.self.items

@@ -1,55 +1,26 @@
-use Rattle.std.proofs.Common.{◌≡◌, sym, ◌∙◌, subst, [], length}
-use Rattle.std.specs.List.{flat_map}
-use Rattle.std.proofs.lemmas.Result.{err_from_is_err_and}
-use Rattle.fm_world.specs.Chains.{chain_of, interfaces_of}
-use Rattle.fm_refuse.proofs.FirstRefusals.{first-append, refuses_after}
-use Rattle.fm_refuse.proofs.LeftOver.{left_over_parts, list_of_class, none_abstract, none_interface}
-use Rattle.fm_refuse.specs.Refused.{refusal_of, IsFirst, Refuses}
-use Rattle.fm_refuse.specs.inner.Abstracts.{left_over_of}
+use Rattle.std.proofs.Common.{sym, ◌∙◌}
+use Rattle.fm_refuse.proofs.FirstRefusals.{on_ok}
+use Rattle.fm_refuse.proofs.LeftOver.{none_abstract, none_interface}
+use Rattle.fm_refuse.proofs.LeftOverAbove.{nothing_left}
 use Rattle.fm_refuse.specs.inner.GivenClasses.{class_in}
 use Rattle.fm_refuse.proofs.not_implemented.refuse_left_over.Goals as goal
 
-pub returns-then-has_flag : goal.returns-then-has_flag
-returns-then-has_flag c = λ classes linked within. none_abstract classes (class_in c.args.file.now) c.args.class
+pub returns-then-has_flag-clause-refuses : goal.returns-then-has_flag-clause-refuses
+returns-then-has_flag-clause-refuses c = λ classes linked within are. none_abstract classes (class_in c.args.file.now) c.args.class
     (sym c.has_flag.ensures ∙ c.if-has_flag.true)
 
-pub returns-then-has_flag-2 : goal.returns-then-has_flag-2
-returns-then-has_flag-2 c = λ classes linked within.
+pub returns-then-has_flag-2-clause-refuses : goal.returns-then-has_flag-2-clause-refuses
+returns-then-has_flag-2-clause-refuses c = λ classes linked within are.
     none_interface classes (class_in c.args.file.now) c.args.class (sym c.has_flag.ensures ∙ c.if-has_flag.false)
     (sym c.has_flag-2.ensures ∙ c.if-has_flag-2.true)
 
-pub returns-in_err-refuse_left_over_in : goal.returns-in_err-refuse_left_over_in
-returns-in_err-refuse_left_over_in c = λ classes linked within.
-    let class = class_in c.args.file.now in
-    let tables = c.args.linking.hierarchy.now in
-    let count = length classes in
-    let chain = flat_map (left_over_of classes class c.args.class) (chain_of classes c.args.class) in
-    let interfaces = flat_map (left_over_of classes class c.args.class) (interfaces_of classes c.args.class) in
-    let in_chain = c.chain.ensures ∙ list_of_class (chain_of classes) count tables.chains.items c.args.class linked.hierarchy.chains within in
-    let parts = left_over_parts classes class c.args.class (sym c.has_flag.ensures ∙ c.if-has_flag.false)
-    (sym c.has_flag-2.ensures ∙ c.if-has_flag-2.false) in
-    let first = refusal_of c.in_err-refuse_left_over_in.field-0.0 in
-    let p = err_from_is_err_and c.from_residual.result c.from_residual.ensures.1 in
-    rw (p.1, p.2)
-    (subst (λ rs. IsFirst rs first) (sym parts)
-    (first-append chain interfaces first
-    (subst (λ xs. IsFirst (flat_map (left_over_of classes class c.args.class) xs) first) in_chain
-    (c.in_err-refuse_left_over_in.ensures classes linked within))))
+pub returns-then-branch-clause-refuses : goal.returns-then-branch-clause-refuses
+returns-then-branch-clause-refuses c = λ classes linked within found.
+    nothing_left classes (class_in c.args.file.now) c.args.class (c.in_ok-is_clear.ensures.clear classes linked within found c.if-branch.true)
 
-pub returns : goal.returns
-returns c = λ classes linked within.
-    let class = class_in c.args.file.now in
-    let tables = c.args.linking.hierarchy.now in
-    let count = length classes in
-    let chain = flat_map (left_over_of classes class c.args.class) (chain_of classes c.args.class) in
-    let interfaces = flat_map (left_over_of classes class c.args.class) (interfaces_of classes c.args.class) in
-    let in_chain = c.chain.ensures ∙ list_of_class (chain_of classes) count tables.chains.items c.args.class linked.hierarchy.chains within in
-    let parts = left_over_parts classes class c.args.class (sym c.has_flag.ensures ∙ c.if-has_flag.false)
-    (sym c.has_flag-2.ensures ∙ c.if-has_flag-2.false) in
-    let r = c.refuse_left_over_in-2.result in
-    let listed = c.interfaces_at.ensures ∙ list_of_class
-    (interfaces_of classes) count tables.interfaces.items c.args.class linked.hierarchy.interfaces within in
-    subst (λ rs. Refuses rs r) (sym parts)
-    (refuses_after chain interfaces r
-    (subst (λ xs. flat_map (left_over_of classes class c.args.class) xs ≡ []) in_chain (c.in_ok-refuse_left_over_in.ensures classes linked within))
-    (subst (λ xs. Refuses (flat_map (left_over_of classes class c.args.class) xs) r) listed (c.refuse_left_over_in-2.ensures classes linked within)))
+pub returns-clause-refuses : goal.returns-clause-refuses
+returns-clause-refuses c = λ classes linked within found.
+    c.refuse_first.ensures classes linked within (sym c.has_flag.ensures ∙ c.if-has_flag.false) (sym c.has_flag-2.ensures ∙ c.if-has_flag-2.false)
+
+pub returns-clause-keeps : goal.returns-clause-keeps
+returns-clause-keeps c = on_ok (λ classes linked within found. c.in_ok-is_clear.ensures.keeps classes linked within found) c.refuse_first.result

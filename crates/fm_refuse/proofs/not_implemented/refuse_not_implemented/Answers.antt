@@ -13,10 +13,14 @@ use Rattle.fm_refuse.proofs.not_implemented.refuse_not_implemented.Goals as goal
 
 pub loop-file-init : goal.loop-file-init
 unfolding refused_not_implemented
-loop-file-init c = λ linked.
+loop-file-init c =
     let given = given_in c.args.files.now in
     let e : length built_in ≡ length built_in + 0 = omega arith in
-    ap (λ n. each_from n (not_implemented (classes_of given)) given) e
+    record {
+      found = λ linked.
+          c.in_ok-find_all.ensures (classes_of given) linked (c.in_ok-found.ensures (classes_of given) (ap length linked.hierarchy.classes_are));
+      left = λ linked. ap (λ n. each_from n (not_implemented (classes_of given)) given) e;
+    }
 
 pub refuse_in_class-requires : goal.refuse_in_class-requires
 refuse_in_class-requires c =
@@ -39,11 +43,11 @@ returns-in_err-refuse_in_class c = λ linked.
     (refused_not_implemented given) first
     c.loop-file-test.true c.file-item.is
     (subst (λ n. IsFirst (not_implemented classes (class_in c.file-item.result) n) first) number
-    (c.in_err-refuse_in_class.ensures classes linked within))
-    (c.loop-file.invariant linked))
+    (c.in_err-refuse_in_class.ensures.refuses classes linked within (c.loop-file.invariant.found linked)))
+    (c.loop-file.invariant.left linked))
 
 pub loop-file-preserved : goal.loop-file-preserved
-loop-file-preserved c = λ linked.
+loop-file-preserved c =
     let given = given_in c.args.files.now in
     let classes = classes_of given in
     let here = file_here (texts_in c.args.linking.texts.now) c.args.files.now c.loop-file.file-index c.file-item.result c.requires
@@ -51,14 +55,20 @@ loop-file-preserved c = λ linked.
     let number : c.in_ok-class.class ≡ length built_in + c.loop-file.file-index = c.in_ok-class.ensures
     ∙ ap (λ n. length built_in + n) here.number_is in
     let within = class_within c.args.files.now c.loop-file.file-index c.in_ok-class.class number c.loop-file-test.true in
-    each_none (length built_in) (not_implemented classes) c.args.files.now c.loop-file.file-index c.file-item.result
-    (refused_not_implemented given) c.loop-file-test.true
-    c.file-item.is
-    (subst (λ n. not_implemented classes (class_in c.file-item.result) n ≡ []) number (c.in_ok-refuse_in_class.ensures classes linked within))
-    (c.loop-file.invariant linked)
+    let inv = c.loop-file.invariant in
+    record {
+      found = λ linked. c.in_ok-refuse_in_class.ensures.keeps classes linked within (inv.found linked);
+      left = λ linked.
+          each_none (length built_in) (not_implemented classes) c.args.files.now c.loop-file.file-index c.file-item.result
+          (refused_not_implemented given) c.loop-file-test.true
+          c.file-item.is
+          (subst (λ n. not_implemented classes (class_in c.file-item.result) n ≡ []) number
+          (c.in_ok-refuse_in_class.ensures.refuses classes linked within (inv.found linked)))
+          (inv.left linked);
+    }
 
 pub returns : goal.returns
 returns c = λ linked.
     let given = given_in c.args.files.now in
     each_end (length built_in) (not_implemented (classes_of given)) c.args.files.now c.loop-file.file-index
-    (refused_not_implemented given) c.loop-file-test.false (c.loop-file.invariant linked)
+    (refused_not_implemented given) c.loop-file-test.false (c.loop-file.invariant.left linked)

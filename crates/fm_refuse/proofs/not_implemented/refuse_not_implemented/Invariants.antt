@@ -1,6 +1,7 @@
 use Rattle.std.proofs.Common.{◌≡◌, length}
 use Rattle.fm_refuse.proofs.LeftOver.{each_left}
 use Rattle.fm_refuse.specs.inner.GivenClasses.{given_in}
+use Rattle.fm_refuse.specs.inner.LeftOver.{IsLeftOver}
 use Rattle.fm_refuse.specs.inner.Linking.{IsLinking}
 use Rattle.fm_world.specs.BuiltIns.{built_in}
 use Rattle.fm_world.specs.Causes.{not_implemented}
@@ -9,6 +10,9 @@ use Rattle.fm_world.specs.Programs.{classes_of}
 use Rattle.fm_refuse.proofs.not_implemented.refuse_not_implemented.Given as goal
 
 abbrev pub invariant-loop-file : goal.invariant-loop-file
-invariant-loop-file l =
-    IsLinking (classes_of (given_in l.files)) l.linking
-    → refused_not_implemented (given_in l.files) ≡ each_left (length built_in) (not_implemented (classes_of (given_in l.files))) l.files l.file-index
+invariant-loop-file l = record {
+  found : IsLinking (classes_of (given_in l.files)) l.linking → IsLeftOver (classes_of (given_in l.files)) l.found;
+  left : IsLinking (classes_of (given_in l.files)) l.linking
+      → refused_not_implemented (given_in l.files)
+      ≡ each_left (length built_in) (not_implemented (classes_of (given_in l.files))) l.files l.file-index;
+}
