@@ -1,45 +1,20 @@
 -- The queue of methods and its marks.
-use Rattle.std.proofs.Common.{◌≡◌, ◌≢◌, ℕ, zero, suc, ◌+◌, ◌<◌, ◌≤◌, Bool, true, false, List, [], ◌∷◌, ◌++◌, length, take, get_or, set, replicate, Contains, refl, ap, sym, ◌∙◌, subst, ⊎_elim, arith}
+use Rattle.std.proofs.Common.{◌≡◌, ◌≢◌, ℕ, ◌+◌, ◌<◌, ◌≤◌, Bool, true, false, List, [], ◌∷◌, ◌++◌, length, take, get_or, set, replicate, Contains, ap, sym, ◌∙◌, subst, ⊎_elim, arith}
 use Rattle.std.proofs.lemmas.Bool.{cases_eq, cases_lt, false≢true}
-use Rattle.std.proofs.lemmas.List.{get_or_past, get_or-set_other, get_or-set_same, take_all, take_more}
+use Rattle.std.proofs.lemmas.List.{get_or_past, get_or-replicate, get_or-set_other, get_or-set_same, length-replicate, take_all, take_more}
 use Rattle.std.proofs.lemmas.List.Elements.{Contains-append_left, Contains-push, Contains-push_cases}
-use Rattle.std.specs.List.{range_with_len}
 use Rattle.fm_base.proofs.ContainsFacts.{Contains-cons_cases}
-use Rattle.fm_conn.proofs.ListLemmas.{Contains-from_range, Contains-range}
 
-range_next : (a n : ℕ) → range_with_len a (suc n) ≡ range_with_len a n ++ (a + n) ∷ []
-range_next a zero = let e : a ≡ a + 0 = omega arith in ap (λ k. k ∷ []) e
-range_next a (suc n) =
-    let e : a + 1 + n ≡ a + suc n = omega arith in
-    ap (λ list. a ∷ list) (range_next (a + 1) n ∙ ap (λ k. range_with_len (a + 1) n ++ k ∷ []) e)
+pub none_count : (count : ℕ) (waits : List Bool) → waits ≡ replicate count false → length waits ≡ count
+none_count count waits are = ap length are ∙ length-replicate count false
 
-pub range_more : (n : ℕ) (before after : List ℕ) → before ≡ range_with_len 0 n → after ≡ before ++ n ∷ [] → after ≡ range_with_len 0 (n + 1)
-range_more n before after so_far more =
-    let one : suc n ≡ n + 1 = omega arith in
-    let same : 0 + n ≡ n = omega arith in
-    more ∙ ap (λ list. list ++ n ∷ []) so_far ∙ sym (range_next 0 n ∙ ap (λ k. range_with_len 0 n ++ k ∷ []) same) ∙ ap (range_with_len 0) one
-
-pub all_inside : (queue : List ℕ) (n count : ℕ) → queue ≡ range_with_len 0 n → n ≡ count → (m : ℕ) → Contains queue m → m < count
-all_inside queue n count are size m found =
-    let at = Contains-from_range 0 n m (subst (λ list. Contains list m) are found) in omega (arith, at.1, size)
-
-pub all_wait : (queue : List ℕ) (n count : ℕ) → queue ≡ range_with_len 0 n → n ≡ count → (m : ℕ) → m < count → Contains queue m
-all_wait queue n count are size m inside = subst (λ list. Contains list m) (sym are) (Contains-range 0 n m (omega arith) (omega arith))
-
-replicate_count : (n : ℕ) → length (replicate n true) ≡ n
-replicate_count zero = refl
-replicate_count (suc n) = let rest = replicate_count n in omega arith
-
-pub replicate_size : (n : ℕ) (waits : List Bool) → waits ≡ replicate n true → length waits ≡ n
-replicate_size n waits are = ap length are ∙ replicate_count n
-
-pub all_marked : (queue : List ℕ) (n count : ℕ) (waits : List Bool) → queue ≡ range_with_len 0 n → n ≡ count → waits ≡ replicate count true →
-    (m : ℕ) → get_or waits m false ≡ true → Contains queue m
-all_marked queue n count waits are size marks m is =
-    let many = replicate_size count waits marks in
-    ⊎_elim (λ (inside : m < count). all_wait queue n count are size m inside)
-    (λ (past : count ≤ m). absurd (false≢true (sym (get_or_past waits m false (omega arith)) ∙ is)))
-    (cases_lt m count)
+-- none waits at first
+pub none_marked : (count : ℕ) (waits : List Bool) → waits ≡ replicate count false → (queue : List ℕ) (m : ℕ) → get_or waits m false ≡ true → Contains queue m
+none_marked count waits are queue m is =
+    absurd (false≢true (sym (⊎_elim
+    (λ (inside : m < count). ap (λ list. get_or list m false) are ∙ get_or-replicate count m false false inside)
+    (λ (past : count ≤ m). get_or_past waits m false (let size = none_count count waits are in omega (arith, size, past)))
+    (cases_lt m count)) ∙ is))
 
 -- the first one waits no more
 pub next_marked : (method : ℕ) (rest : List ℕ) (waits : List Bool) → method < length waits →

@@ -8,6 +8,7 @@ mod built_ins;
 mod calls;
 mod laws;
 mod linked;
+mod order;
 mod pairs;
 mod renumbering;
 mod shapes;

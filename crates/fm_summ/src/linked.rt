@@ -15,6 +15,7 @@ ghost use Rattle.fm_summ.specs.inner.Renumberings.{renumber, IsRenumbering};
 
 use crate::built_ins::bare_entries;
 use crate::calls::{callers_of, targets_of};
+use crate::order::callees_first;
 use crate::pairs::pairs_of;
 use crate::renumbering::Renumbering;
 use crate::shapes::{is_changed, renumbered};
@@ -38,7 +39,8 @@ pub fn summaries(alloc: Global, program: &Program, shapes: &[Shape]) -> Result<S
     let targets = targets_of(alloc, program, shapes)?;
     let callers = callers_of(alloc, targets.as_slice())?;
     let mut so_far = first_shapes(alloc, program, shapes)?;
-    let mut waiting = Waiting::all(alloc, count)?;
+    let order = callees_first(alloc, count, targets.as_slice())?;
+    let mut waiting = Waiting::all(alloc, count, order.as_slice())?;
     while let Some(method) = waiting.next(count) {
         let index = method as usize;
         let changed = pass_on(alloc, targets[index].as_slice(), &mut so_far, method)?;

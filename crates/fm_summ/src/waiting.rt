@@ -17,17 +17,21 @@ pub struct Waiting {
 impl Waiting {
     ghost use Rattle.fm_summ.specs.inner.Waits.{IsWaiting};
 
-    /// All methods, of which there are so many, in their order.
-    pub fn all(alloc: Global, count: u32) -> Result<Waiting, NoMemory>
+    /// All methods, of which there are so many: these first, as far as they are methods, and then the
+    /// others by their numbers.
+    pub fn all(alloc: Global, count: u32, first: &[u32]) -> Result<Waiting, NoMemory>
         ensures kept { IfOk result (IsWaiting count) }
         ensures all { IfOk result (λ w. (m : ℕ) → m < count → Contains w.queue.items m) }
     {
-        let mut queue = VecDeque::new(alloc);
+        let mut waiting = Waiting {
+            queue: VecDeque::new(alloc),
+            waits: vec![in alloc; false; count as usize]?,
+        };
+        waiting.push_known(count, first)?;
         for method in 0..count {
-            queue.push_back(method)?;
+            waiting.push(count, method)?;
         }
-        let waits = vec![in alloc; true; count as usize]?;
-        Ok(Waiting { queue, waits })
+        Ok(waiting)
     }
 
     /// The first method, which waits no more.
@@ -74,6 +78,19 @@ impl Waiting {
     {
         if wait {
             return self.push_all(count, methods);
+        }
+        Ok(())
+    }
+
+    // Each of them waits that is a method.
+    fn push_known(&mut self, count: u32, methods: &[u32]) -> Result<(), NoMemory>
+        requires { IsWaiting count self.old }
+        ensures { OnOk result (IsWaiting count self.new) }
+    {
+        for method in methods {
+            if *method < count {
+                self.push(count, *method)?;
+            }
         }
         Ok(())
     }

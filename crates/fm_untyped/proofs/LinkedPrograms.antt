@@ -17,7 +17,7 @@ use Rattle.fm_rows.proofs.UseLemmas.{uses_name_members}
 use Rattle.fm_world.specs.BuiltIns.{built_in}
 use Rattle.fm_world.specs.Linking.{refusals}
 use Rattle.fm_world.specs.Members.{method_at, methods_of}
-use Rattle.fm_world.specs.Programs.{body_of, classes_of, code_at, codes_of, method_info, outline_of, Program, program_of}
+use Rattle.fm_world.specs.Programs.{body_of, classes_of, codes_of, method_info, outline_of, program_of}
 use Rattle.fm_world.specs.declared.declarations.DeclaredMethod.{DeclaredMethod}
 
 -- ---- the codes of files
@@ -26,22 +26,44 @@ use Rattle.fm_world.specs.declared.declarations.DeclaredMethod.{DeclaredMethod}
 abbrev IsGood : Code → Type 0
 IsGood code = MeetsCodeRules code × IsNarrow code
 
-abbrev AreGood : List (Option Code) → Type 0
-AreGood codes = AllByRecursion (λ (o : Option Code). IfSome o IsGood) codes
+-- each code that is there has this
+abbrev pub AreAll : (Code → Type 0) → List (Option Code) → Type 0
+AreAll P codes = AllByRecursion (λ (o : Option Code). IfSome o P) codes
 
-good-append : (codes others : List (Option Code)) → AreGood codes → AreGood others → AreGood (codes ++ others)
-good-append [] others first second = second
-good-append (o ∷ codes) others first second = (first.0, good-append codes others first.1 second)
+all-append : (P : Code → Type 0) (codes others : List (Option Code)) → AreAll P codes → AreAll P others → AreAll P (codes ++ others)
+all-append P [] others first second = second
+all-append P (o ∷ codes) others first second = (first.0, all-append P codes others first.1 second)
 
-good-none : (n : ℕ) → AreGood (replicate n None)
-good-none zero = tt
-good-none (suc n) = (tt, good-none n)
+all-none : (P : Code → Type 0) (n : ℕ) → AreAll P (replicate n None)
+all-none P zero = tt
+all-none P (suc n) = (tt, all-none P n)
+
+all_files : (P : Code → Type 0) (given : List ClassDef) → AllByRecursion (λ (c : ClassDef). AreAll P (map code_of c.methods)) given
+    → AreAll P (flat_map (λ (c : ClassDef). map code_of c.methods) given)
+all_files P [] all = tt
+all_files P (c ∷ given) all =
+    all-append P (map code_of c.methods) (flat_map (λ (d : ClassDef). map code_of d.methods) given) all.0 (all_files P given all.1)
+
+-- what each code of the files has, each code of a program has
+pub all_codes : (P : Code → Type 0) (given : List ClassDef) → AllByRecursion (λ (c : ClassDef). AreAll P (map code_of c.methods)) given
+    → AreAll P (codes_of given)
+unfolding codes_of
+all_codes P given all =
+    all-append P (replicate (length (methods_of built_in)) None) (flat_map (λ (c : ClassDef). map code_of c.methods) given)
+    (all-none P (length (methods_of built_in))) (all_files P given all)
+
+-- and so has the code of a method
+pub code_there : (P : Code → Type 0) (codes : List (Option Code)) (k : ℕ) (code : Code) → AreAll P codes → slice_index_or codes k None ≡ Some code
+    → (k < length codes) × P code
+code_there P [] k code all is = absurd cc
+code_there P (o ∷ codes) zero code all is = (omega arith, subst (λ (x : Option Code). IfSome x P) is all.0)
+code_there P (o ∷ codes) (suc k) code all is = let later = code_there P codes k code all.1 is in (omega (arith, later.0), later.1)
 
 among_later : (m n : Member) (members : List Member) → Contains members n → Contains (m ∷ members) n
 among_later m n members (k, within, there) = (suc k, omega (arith, within), there)
 
 good_members : (c : ClassDef) → HasSpelling c → (members : List Member) → ((m : Member) → Contains members m → Contains c.methods m)
-    → AllByRecursion MethodIsWithin members → AreGood (map code_of members)
+    → AllByRecursion MethodIsWithin members → AreAll IsGood (map code_of members)
 good_members c spelled [] among within = tt
 good_members c spelled (m ∷ members) among within =
     (good (code_of m) refl within.0, good_members c spelled members (λ n there. among n (among_later m n members there)) within.1) where
@@ -51,22 +73,10 @@ good_members c spelled (m ∷ members) among within =
           (MeetsCodeRules-method c m code spelled (among m (0, omega arith, refl)) is, record { stack = fits.stack; locals = fits.locals })
 
 good_files : (given : List ClassDef) → AllByRecursion HasSpelling given → AllByRecursion IsWithinLimits given
-    → AreGood (flat_map (λ (c : ClassDef). map code_of c.methods) given)
+    → AllByRecursion (λ (c : ClassDef). AreAll IsGood (map code_of c.methods)) given
 good_files [] spelled within = tt
 good_files (c ∷ given) spelled within =
-    good-append (map code_of c.methods) (flat_map (λ (d : ClassDef). map code_of d.methods) given)
-    (good_members c spelled.0 c.methods (λ m there. there) within.0) (good_files given spelled.1 within.1)
-
-good_codes : (given : List ClassDef) → AllByRecursion HasSpelling given → AllByRecursion IsWithinLimits given → AreGood (codes_of given)
-unfolding codes_of
-good_codes given spelled within =
-    good-append (replicate (length (methods_of built_in)) None) (flat_map (λ (c : ClassDef). map code_of c.methods) given)
-    (good-none (length (methods_of built_in))) (good_files given spelled within)
-
-good_at : (codes : List (Option Code)) (k : ℕ) (code : Code) → AreGood codes → slice_index_or codes k None ≡ Some code → (k < length codes) × IsGood code
-good_at [] k code good is = absurd cc
-good_at (o ∷ codes) zero code good is = (omega arith, subst (λ (x : Option Code). IfSome x IsGood) is good.0)
-good_at (o ∷ codes) (suc k) code good is = let later = good_at codes k code good.1 is in (omega (arith, later.0), later.1)
+    (good_members c spelled.0 c.methods (λ m there. there) within.0, good_files given spelled.1 within.1)
 
 -- ---- programs
 
@@ -87,7 +97,7 @@ are_checkable given main spelled within none = record {
       → IfSome o (λ code. HasCode (program_of given main) method code × IsNarrow code)
   at method None is = tt
   at method (Some code) is =
-      let found = good_at (codes_of given) method code (good_codes given spelled within) is in
+      let found = code_there IsGood (codes_of given) method code (all_codes IsGood given (good_files given spelled within)) is in
       let all = AreCodes-all given in
       let inside : method < length (methods_of (classes_of given)) = let count = all.count in omega (arith, found.0, count) in
       let m = (method_at (classes_of given) method).method in

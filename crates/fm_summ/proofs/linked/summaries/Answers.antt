@@ -102,4 +102,4 @@ returns c = λ typings are.
     told_exact c.args.program.now typings shapes c.told.result
     (λ s is. going_end c.args.program.now c.args.shapes.now _ shapes c.loop-method.waiting.queue.items s c.loop-method.invariant.going c.in_default.ensures.first
     c.requires.built_ins is typings are)
-    (subst (λ (list : List Shape). IfOk c.told.result (λ s. s ≡ summaries_of list)) c.as_slice-2.ensures.value c.told.ensures)
+    (subst (λ (list : List Shape). IfOk c.told.result (λ s. s ≡ summaries_of list)) c.as_slice-4.ensures.value c.told.ensures)
