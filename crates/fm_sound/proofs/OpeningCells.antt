@@ -321,7 +321,7 @@ module _ (p : Program) (ready : StepsAreResolved p) (choose : Choose) (job : Job
         count = refl;
       }) leads (λ n d inside. absurd (omega (arith, inside)))
 
-pub opening_holds : (p : Program) → StepsAreResolved p → MakesAreResolved p → (choose : Choose) (job : Job) → ArgumentsFit p.outline job.arguments
+pub opening_holds : (p : Program) → StepsAreResolved p → MakesAreResolved p → (choose : Choose) (job : Job) → ArgumentsFit job.arguments
     → (budget : ℕ) (limit : Option ℕ) (free : List (List ℕ)) → budget ≤ MAX_LIVE_WORDS
     → CellsFit (opening p (lawful choose) job (opened budget limit free)).state.areas.store
     → HoldsCells p (opening p (lawful choose) job (opened budget limit free)).state

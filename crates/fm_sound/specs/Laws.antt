@@ -237,7 +237,7 @@ StepsHoldCells =
 -- And the opening leads to no other cell.
 abbrev pub OpeningsHoldCells : Type 0
 OpeningsHoldCells =
-    (p : Program) → StepsAreResolved p → MakesAreResolved p → (choose : Choose) (job : Job) → ArgumentsFit p.outline job.arguments
+    (p : Program) → StepsAreResolved p → MakesAreResolved p → (choose : Choose) (job : Job) → ArgumentsFit job.arguments
     → (budget : ℕ) (limit : Option ℕ) (free : List (List ℕ)) → budget ≤ MAX_LIVE_WORDS
     → CellsFit (opening p (lawful choose) job (opened budget limit free)).state.areas.store
     → HoldsCells p (opening p (lawful choose) job (opened budget limit free)).state
