@@ -360,6 +360,12 @@ left_alone : (i : Insn) (s : TypeState) (locals : List ℕ) → All (IsLeftAlone
     → leaves_alone i k (local_at s.locals k) ≡ true
 left_alone i s locals all k found = All-contains (IsLeftAlone i) (map (rise_of s) locals) (rise_of s k) all (Contains-map (rise_of s) locals k found)
 
+-- the locals of which it was asked
+pub asked-alone : (i : Insn) (s : TypeState) (locals words : List ℕ) (rises given : List Rise) → given ≡ rises → rises ≡ map (rise_of s) words
+    → words ≡ locals → All (IsLeftAlone i) given → All (IsLeftAlone i) (map (rise_of s) locals)
+asked-alone i s locals words rises given same found all h =
+    subst (λ (xs : List Rise). All (IsLeftAlone i) xs) (same ∙ found ∙ ap (λ (ks : List ℕ). map (rise_of s) ks) all) h
+
 -- states that are alike have the locals that are carried
 all_held : (s brought : TypeState) (locals : List ℕ) → ((k : ℕ) → Contains locals k → local_at brought.locals k ≡ local_at s.locals k)
     → All (λ rise. local_at brought.locals rise.local ≡ rise.slot) (map (rise_of s) locals)

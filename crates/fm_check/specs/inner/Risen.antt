@@ -11,13 +11,9 @@ use Rattle.fm_types.specs.declared.slots.Slot.TheVariants as slot
 
 -- an object that isn't initialised
 abbrev pub is_bare : Slot → Bool
-is_bare slot.Top = false
-is_bare slot.Int = false
-is_bare slot.Long = false
-is_bare slot.Null = false
-is_bare (slot.Ref t) = false
 is_bare (slot.Uninit item) = true
 is_bare slot.UninitThis = true
+is_bare s = false
 
 -- neither is the other one, or beside it
 abbrev pub are_apart : ℕ → ℕ → Bool

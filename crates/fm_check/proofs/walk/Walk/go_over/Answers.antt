@@ -1,10 +1,10 @@
-use Rattle.std.proofs.Common.{◌≡◌, ◌∙◌, sym, ap, subst, map, All, List, None, Some, ℕ}
+use Rattle.std.proofs.Common.{◌∙◌, sym, ap, subst, map, List, None, Some, ℕ}
 use Rattle.std.specs.List.{slice_index_or}
 use Rattle.fm_check.proofs.ItemLemmas.{GoesOver-none, ok_weaker, read_insn}
-use Rattle.fm_check.proofs.RiseLemmas.{GoesOver-carried, ready}
+use Rattle.fm_check.proofs.RiseLemmas.{asked-alone, GoesOver-carried, ready}
 use Rattle.fm_check.proofs.WalkLemmas.{state_seen}
 use Rattle.fm_check.specs.declared.risen.Rise.{Rise}
-use Rattle.fm_check.specs.inner.Risen.{IsLeftAlone, rise_of}
+use Rattle.fm_check.specs.inner.Risen.{rise_of}
 use Rattle.fm_check.specs.inner.Walks.{CarriesOn, GoesOver, IsReady, task, Untypable, walked}
 use Rattle.fm_types.specs.Typings.{type_state}
 use Rattle.fm_check.proofs.walk.Walk.go_over.Goals as goal
@@ -22,34 +22,32 @@ carry_on-requires-clause-ready c =
     let locals = c.in-Some-risen.locals in
     let at = state_seen c.args.self.now.states.items c.as_slice.result.now c.args.item (Some own) c.as_slice.ensures.value c.in-Some.ensures in
     let insn = (slice_index_or c.as_slice-2.result.now c.args.item c.index-as_slice-item.result).insn in
-    let is = read_insn c.args.method.now.code.now c.as_slice-2.result.now c.args.item c.index-as_slice-item.result c.as_slice-2.ensures c.requires.inside in
-    let found : c.in_ok-rises.rises.items ≡ map (rise_of own) locals =
-    c.in_ok-rises.ensures ∙ ap (λ (xs : List ℕ). map (rise_of own) xs) c.as_slice-in-Some-risen.ensures in
-    let alone : All (IsLeftAlone insn) (map (rise_of own) locals) =
-    subst (λ (rises : List Rise). All (IsLeftAlone insn) rises) (c.as_slice-in-Some-risen-2.ensures.value ∙ found)
+    let alone = asked-alone insn own locals c.as_slice-in-Some-risen.result.now c.in_ok-rises.rises.items c.as_slice-in-Some-risen-2.result.now
+    c.as_slice-in-Some-risen-2.ensures.value c.in_ok-rises.ensures c.as_slice-in-Some-risen.ensures
     (c.all_left_alone.ensures c.if-all_left_alone.true) in
-    let nearly = c.requires.met own locals at c.in-Some-risen.is in
+    let found = c.in_ok-rises.ensures ∙ ap (λ (xs : List ℕ). map (rise_of own) xs) c.as_slice-in-Some-risen.ensures in
     subst (λ (rises : List Rise). IsReady t w c.args.item insn rises) (sym (c.as_slice-then-all_left_alone.ensures.value ∙ found))
-    (ready t c.args.item insn own locals w c.requires.sound c.requires.stands at is nearly alone)
+    (ready t c.args.item insn own locals w c.requires.sound c.requires.stands at
+    (read_insn c.args.method.now.code.now c.as_slice-2.result.now c.args.item c.index-as_slice-item.result c.as_slice-2.ensures c.requires.inside)
+    (c.requires.met own locals at c.in-Some-risen.is) alone)
 
 pub returns-then-all_left_alone : goal.returns-then-all_left_alone
 returns-then-all_left_alone c =
     let t = task c.args.method.now in
-    let w = walked c.args.self.now in
+    let old = walked c.args.self.now in
     let new = walked c.carry_on.new.self in
     let own = type_state c.in-Some.own.now in
-    let locals = c.in-Some-risen.locals in
+    let known = c.in-Some-risen.locals in
     let at = state_seen c.args.self.now.states.items c.as_slice.result.now c.args.item (Some own) c.as_slice.ensures.value c.in-Some.ensures in
-    let insn = (slice_index_or c.as_slice-2.result.now c.args.item c.index-as_slice-item.result).insn in
+    let i = (slice_index_or c.as_slice-2.result.now c.args.item c.index-as_slice-item.result).insn in
     let is = read_insn c.args.method.now.code.now c.as_slice-2.result.now c.args.item c.index-as_slice-item.result c.as_slice-2.ensures c.requires.inside in
-    let found : c.in_ok-rises.rises.items ≡ map (rise_of own) locals =
-    c.in_ok-rises.ensures ∙ ap (λ (xs : List ℕ). map (rise_of own) xs) c.as_slice-in-Some-risen.ensures in
-    let alone : All (IsLeftAlone insn) (map (rise_of own) locals) =
-    subst (λ (rises : List Rise). All (IsLeftAlone insn) rises) (c.as_slice-in-Some-risen-2.ensures.value ∙ found)
+    let alone = asked-alone i own known c.as_slice-in-Some-risen.result.now c.in_ok-rises.rises.items c.as_slice-in-Some-risen-2.result.now
+    c.as_slice-in-Some-risen-2.ensures.value c.in_ok-rises.ensures c.as_slice-in-Some-risen.ensures
     (c.all_left_alone.ensures c.if-all_left_alone.true) in
-    let nearly = c.requires.met own locals at c.in-Some-risen.is in
-    let On : List Rise → Type 0 = λ rises. CarriesOn t c.args.item insn rises w new in
-    ok_weaker (On c.as_slice-then-all_left_alone.result.now) (GoesOver t c.args.item w new) (Untypable t) c.carry_on.result
-    (λ on. GoesOver-carried t c.args.item insn own locals w new c.requires.sound c.requires.stands at is nearly alone
-    (subst On (c.as_slice-then-all_left_alone.ensures.value ∙ found) on))
+    let carried = c.in_ok-rises.ensures ∙ ap (λ (xs : List ℕ). map (rise_of own) xs) c.as_slice-in-Some-risen.ensures in
+    let On : List Rise → Type 0 = λ rises. CarriesOn t c.args.item i rises old new in
+    ok_weaker (On c.as_slice-then-all_left_alone.result.now) (GoesOver t c.args.item old new) (Untypable t) c.carry_on.result
+    (λ on. GoesOver-carried t c.args.item i own known old new c.requires.sound c.requires.stands at is
+    (c.requires.met own known at c.in-Some-risen.is) alone
+    (subst On (c.as_slice-then-all_left_alone.ensures.value ∙ carried) on))
     c.carry_on.ensures
