@@ -1,5 +1,5 @@
 -- Numbers that stand in lists made of other lists.
-use Rattle.std.proofs.Common.{◌≡◌, sym, ◌∙◌, ap, refl, ℕ, ◌⊎◌, inl, inr, ◌||◌, Bool, true, false, cond, List, [], ◌∷◌, ◌++◌, nat_eq}
+use Rattle.std.proofs.Common.{◌≡◌, sym, ◌∙◌, ap, refl, ℕ, ◌⊎◌, inl, inr, Bool, true, false, cond, List, [], ◌∷◌, ◌++◌, nat_eq}
 use Rattle.std.specs.List.{filter, flat_map}
 use Rattle.std.proofs.lemmas.Bool.{eqb-true, false≢true}
 use Rattle.std.proofs.lemmas.List.Folds.{list_any-append}
@@ -28,20 +28,6 @@ in_flat f (z ∷ zs) x y among e = by_part (in_flat f zs x y) (either (nat_eq x 
       → is_among y (f z ++ flat_map f zs) ≡ true
   by_part later (inl same) = among_left y (f z) (flat_map f zs) (ap (λ k. is_among y (f k)) (sym (eqb-true x z same)) ∙ e)
   by_part later (inr there) = among_right y (f z) (flat_map f zs) (later there e)
-
-pub in_filter : (p : ℕ → Bool) (xs : List ℕ) (x : ℕ) → is_among x xs ≡ true → p x ≡ true → is_among x (filter p xs) ≡ true
-in_filter p [] x among e = absurd (false≢true among)
-in_filter p (y ∷ ys) x among e = by_part (in_filter p ys x) (either (nat_eq x y) (is_among x ys) among) where
-  kept : (b : Bool) → is_among x (filter p ys) ≡ true → is_among x (cond b (y ∷ filter p ys) (filter p ys)) ≡ true
-  kept true h = or_true (nat_eq x y) (is_among x (filter p ys)) h
-  kept false h = h
-
-  by_part : (is_among x ys ≡ true → p x ≡ true → is_among x (filter p ys) ≡ true) → (nat_eq x y ≡ true) ⊎ (is_among x ys ≡ true)
-      → is_among x (filter p (y ∷ ys)) ≡ true
-  by_part later (inl same) =
-      ap (λ b. is_among x (cond b (y ∷ filter p ys) (filter p ys))) (ap p (sym (eqb-true x y same)) ∙ e)
-      ∙ ap (λ b. b || is_among x (filter p ys)) same
-  by_part later (inr there) = kept (p y) (later there e)
 
 -- no number of the list passes
 pub filter_none : (p : ℕ → Bool) (xs : List ℕ) → ((x : ℕ) → is_among x xs ≡ true → p x ≡ true → ⊥) → filter p xs ≡ []

@@ -1,6 +1,6 @@
 -- What is left over in a class was left over in its superclass, or the class adds it.
-use Rattle.std.proofs.Common.{◌≡◌, refl, sym, ◌∙◌, ap, subst, ℕ, zero, suc, ◌+◌, ◌<◌, ◌≤◌, ◌⊎◌, inl, inr, ◌||◌, ◌&&◌, not, Bool, true, false, cond, List, [], ◌∷◌, ◌++◌, length, map, get_or, nat_eq, position, drop, Option, Some, None, arith}
-use Rattle.std.specs.List.{filter, flat_map, range_with_len}
+use Rattle.std.proofs.Common.{◌≡◌, refl, sym, ◌∙◌, ap, subst, ℕ, zero, suc, ◌+◌, ◌<◌, ◌⊎◌, inl, inr, ◌||◌, ◌&&◌, not, Bool, true, false, cond, List, [], ◌∷◌, ◌++◌, length, map, get_or, nat_eq, position, Option, Some, None, arith}
+use Rattle.std.specs.List.{flat_map}
 use Rattle.std.specs.Option.{option_map}
 use Rattle.std.specs.Str.{bytes_eq}
 use Rattle.std.proofs.lemmas.Bool.{eqb-true, eq-eqb, false≢true}
@@ -9,24 +9,36 @@ use Rattle.std.proofs.lemmas.Option.{none-some, same_Some}
 use Rattle.std.proofs.lemmas.Slice.Eq.{bytes_eq-Decides}
 use Rattle.fm_code.specs.AccessFlags.{is_abstract, is_interface, is_private, is_static}
 use Rattle.fm_code.specs.declared.class_file.ClassDef.{ClassDef}
-use Rattle.fm_declare.proofs.Drops.{drop_here}
 use Rattle.fm_lookup.proofs.Distinct.{among_distinct}
-use Rattle.fm_lookup.proofs.Downwards.{among_head, among_left, among_right, either, or_true}
+use Rattle.fm_lookup.proofs.Downwards.{among_left, among_right, either}
 use Rattle.fm_lookup.proofs.NearestLemmas.{first_found-cons}
 use Rattle.fm_lookup.specs.inner.NearestSteps.{or_else}
 use Rattle.fm_world.proofs.Displays.{parent_of-within}
 use Rattle.fm_world.specs.Causes.{abstract_from, abstract_methods, is_left_over, left_over, NotImplemented, refused, method_text, declared_name, Refusal}
-use Rattle.fm_world.specs.Chains.{chain_of, class_at, first_found, interfaces_of, is_among, parent_of, superinterfaces_of}
+use Rattle.fm_world.specs.Chains.{chain_of, class_at, interfaces_of, is_among, parent_of, superinterfaces_of}
 use Rattle.fm_world.specs.Declarations.{no_method}
 use Rattle.fm_world.specs.Lookups.{is_abstract_method, is_selectable, select}
 use Rattle.fm_world.specs.Members.{first_method, method_among, method_at, methods_of, own_method}
 use Rattle.fm_world.specs.declared.declarations.DeclaredClass.{DeclaredClass}
 use Rattle.fm_world.specs.declared.declarations.DeclaredMethod.{DeclaredMethod}
 use Rattle.fm_world.specs.inner.Tables.{chain_from, IsLinear}
-use Rattle.fm_refuse.proofs.Among.{among_either, among_flat, filter_none, in_filter, in_flat, IsInOne}
-use Rattle.fm_refuse.proofs.LeftOver.{abstract_or_none, none_abstract}
+use Rattle.fm_refuse.proofs.Among.{among_either, among_flat, filter_none, in_flat}
+use Rattle.fm_refuse.proofs.LeftOver.{abstract_or_none}
 use Rattle.fm_refuse.proofs.Sections.{abstract_within, method_here, method_within}
-use Rattle.fm_refuse.specs.inner.LeftOver.{interfaces_from, methods_owed, AreLeftOver, HasAdded, HasOwed, IsStoodFor, StandsFor}
+use Rattle.fm_refuse.specs.inner.LeftOver.{interfaces_from, methods_owed, HasAdded, HasOwed, IsStoodFor, StandsFor}
+
+-- ---- lists with a first number
+
+abbrev head : List ℕ → ℕ
+head [] = 0
+head (x ∷ xs) = x
+
+abbrev tail : List ℕ → List ℕ
+tail [] = []
+tail (x ∷ xs) = xs
+
+no_number : (x : ℕ) (xs : List ℕ) → x ∷ xs ≡ [] → ⊥
+no_number x xs e = cc
 
 -- ---- which method is selected
 
@@ -277,16 +289,6 @@ pub owes-more : (classes : List DeclaredClass) (class above : ℕ) (found more r
     → HasAdded classes above found more
     → Owes classes class found (above ∷ rest) → Owes classes class more rest
 owes-more classes class above found more rest linear added owes = by_next owes.next owes.rest_is owes.next_within owes.each where
-  all_of : (x y : ℕ) (xs ys : List ℕ) → x ∷ xs ≡ y ∷ ys → (x ≡ y) × (xs ≡ ys)
-  all_of x y xs ys e = (ap head e, ap tail e) where
-    head : List ℕ → ℕ
-    head [] = 0
-    head (z ∷ zs) = z
-
-    tail : List ℕ → List ℕ
-    tail [] = []
-    tail (z ∷ zs) = zs
-
   -- of what is left over in this class
   one : above < length classes → (method : ℕ) → is_left_over classes above method ≡ true → IsOwedBy classes above (parent_of classes above) method
       → IsStoodFor classes more method ⊎ IsLeftAt classes (parent_of classes above) method
@@ -303,15 +305,13 @@ owes-more classes class above found more rest linear added owes = by_next owes.n
   by_next : (o : Option ℕ) → above ∷ rest ≡ chain_from classes o → ((k : ℕ) → o ≡ Some k → k < length classes)
       → ((method : ℕ) → is_among method (methods_owed classes class) ≡ true → is_left_over classes class method ≡ true
       → IsStoodFor classes found method ⊎ IsLeftAt classes o method) → Owes classes class more rest
-  by_next None is within each = absurd (cons_nil is) where
-    cons_nil : above ∷ rest ≡ [] → ⊥
-    cons_nil e = cc
+  by_next None is within each = absurd (no_number above rest is)
   by_next (Some k) is within each =
       let inside = within k refl in
-      let parts = all_of above k rest (chain_from classes (parent_of classes k)) (is ∙ linear k inside) in
+      let whole = is ∙ linear k inside in
       record {
         next = parent_of classes above;
-        rest_is = parts.1 ∙ ap (λ j. chain_from classes (parent_of classes j)) (sym parts.0);
+        rest_is = ap tail whole ∙ ap (λ j. chain_from classes (parent_of classes j)) (sym (ap head whole));
         next_within = λ p e. parent_of-within classes above p e;
         each = λ method owed left. go method (each method owed left);
       } where
@@ -320,7 +320,7 @@ owes-more classes class above found more rest linear added owes = by_next owes.n
         go method (inl s) = inl (stood_for classes found more method added.kept s)
         go method (inr here) =
             let inside = within k refl in
-            let same : k ≡ above = sym (all_of above k rest (chain_from classes (parent_of classes k)) (is ∙ linear k inside)).0 in
+            let same : k ≡ above = sym (ap head (is ∙ linear k inside)) in
             let mine = subst (λ j. IsLeftAt classes (Some j) method) same here in
             let there = subst (λ j. j < length classes) same inside in
             one there method mine.1
@@ -330,14 +330,8 @@ owes-more classes class above found more rest linear added owes = by_next owes.n
 pub owes-here : (classes : List DeclaredClass) (class above : ℕ) (found rest : List ℕ) → IsLinear classes → Owes classes class found (above ∷ rest)
     → above < length classes
 owes-here classes class above found rest linear owes = by_next owes.next owes.rest_is owes.next_within where
-  head : List ℕ → ℕ
-  head [] = 0
-  head (z ∷ zs) = z
-
   by_next : (o : Option ℕ) → above ∷ rest ≡ chain_from classes o → ((k : ℕ) → o ≡ Some k → k < length classes) → above < length classes
-  by_next None is within = absurd (cons_nil is) where
-    cons_nil : above ∷ rest ≡ [] → ⊥
-    cons_nil e = cc
+  by_next None is within = absurd (no_number above rest is)
   by_next (Some k) is within =
       let inside = within k refl in
       subst (λ n. n < length classes) (sym (ap head (is ∙ linear k inside))) inside
@@ -347,10 +341,6 @@ pub owes-known : (classes : List DeclaredClass) (class above : ℕ) (found known
     → Owes classes class found (above ∷ rest) → HasOwed classes class (found ++ known)
 owes-known classes class above found known rest linear has owes method owed left = by_next owes.next owes.rest_is owes.next_within
     (owes.each method owed left) where
-      head : List ℕ → ℕ
-      head [] = 0
-      head (z ∷ zs) = z
-
       by_next : (o : Option ℕ) → above ∷ rest ≡ chain_from classes o → ((k : ℕ) → o ≡ Some k → k < length classes)
           → IsStoodFor classes found method ⊎ IsLeftAt classes o method → IsStoodFor classes (found ++ known) method
       by_next o is within (inl s) = stood_for classes found (found ++ known) method (λ k among. among_left k found known among) s
@@ -366,9 +356,8 @@ owes-end classes class found linear owes method owed left = by_next owes.next ow
       → IsStoodFor classes found method ⊎ IsLeftAt classes o method → IsStoodFor classes found method
   by_next o is within (inl s) = s
   by_next None is within (inr none) = absurd none
-  by_next (Some k) is within (inr here) = absurd (nil_cons (is ∙ linear k (within k refl))) where
-    nil_cons : [] ≡ k ∷ chain_from classes (parent_of classes k) → ⊥
-    nil_cons e = cc
+  by_next (Some k) is within (inr here) =
+      absurd (no_number k (chain_from classes (parent_of classes k)) (sym (is ∙ linear k (within k refl))))
 
 -- ---- what is kept of a class
 

@@ -1,4 +1,4 @@
-use Rattle.std.proofs.Common.{◌≡◌, ◌∙◌, sym, ap, length, get_or, Option, Some, None}
+use Rattle.std.proofs.Common.{◌≡◌, ◌∙◌, sym, ap, length, get_or, Some, None}
 use Rattle.fm_lookup.proofs.ParentTables.{row_within}
 use Rattle.fm_world.proofs.Displays.{parent_of-within}
 use Rattle.fm_world.specs.Chains.{parent_of}

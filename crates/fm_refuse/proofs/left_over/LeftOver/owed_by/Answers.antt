@@ -1,14 +1,12 @@
-use Rattle.std.proofs.Common.{◌≡◌, ◌∙◌, ◌+◌, ◌<◌, ◌∷◌, [], sym, ap, subst, drop, get_or, length, List, ◌++◌, true, false}
+use Rattle.std.proofs.Common.{◌∙◌, ◌+◌, sym, ap, subst, drop, get_or, length, ◌++◌, false}
 use Rattle.std.proofs.lemmas.List.{drop_all}
 use Rattle.fm_declare.proofs.Drops.{drop_here}
 use Rattle.fm_lookup.proofs.FoundLemmas.{list_in-row}
 use Rattle.fm_lookup.specs.inner.ListTables.{list_in}
 use Rattle.fm_world.specs.Chains.{chain_of}
-use Rattle.fm_world.specs.declared.declarations.DeclaredClass.{DeclaredClass}
 use Rattle.fm_refuse.proofs.LeftOver.{get_or_self}
 use Rattle.fm_refuse.proofs.LeftOverAbove.{owes-end, owes-here, owes-known, owes-more, owes-start, Owes}
-use Rattle.fm_refuse.specs.inner.LeftOver.{HasOwed, IsLeftOver}
-use Rattle.fm_refuse.specs.inner.Linking.{IsLinking}
+use Rattle.fm_refuse.specs.inner.LeftOver.{HasOwed}
 use Rattle.fm_refuse.proofs.left_over.LeftOver.owed_by.Goals as goal
 
 pub loop-above-init : goal.loop-above-init
