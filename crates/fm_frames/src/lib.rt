@@ -12,6 +12,7 @@ mod elements;
 mod ends;
 mod faults;
 mod frames;
+mod frees;
 mod jumps;
 mod laws;
 mod literals;
@@ -25,6 +26,7 @@ mod statics;
 mod streams;
 mod texts;
 mod throws;
+mod turns;
 mod values;
 
 pub use built_ins::{
@@ -41,4 +43,5 @@ pub use looks::Look;
 pub use machine::Machine;
 pub use report::Report;
 pub use throws::{Catch, is_start};
+pub use turns::{StepFail, Turn};
 pub use values::Value;

@@ -22,7 +22,7 @@ use fm_cells::{Cell, MakeFail, Memory, cell_words};
 use fm_world::Program;
 
 /// The words of an object of so many elements, where a word holds `pack` of them. Takes no memory.
-fn object_words(len: u32, pack: u8) -> u32
+pub(crate) fn object_words(len: u32, pack: u8) -> u32
     requires len_fits { len < 2 ^ 31 }
     requires pack_is { IsPack pack }
     ensures { result ≡ packed_words len pack }

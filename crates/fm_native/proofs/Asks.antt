@@ -127,7 +127,7 @@ held-at x operand cell head e =
 -- ---- texts
 
 -- what follows of an object that is to be a text
-abbrev text_follows : Outline → ℕ → (List ℕ → Effect) → Looks → Effect
+abbrev pub text_follows : Outline → ℕ → (List ℕ → Effect) → Looks → Effect
 text_follows o operand follows it = if fits_type o.classes it.type (text_type o) then follows it.units else faulty operand
 
 pub text-refused : (o : Outline) (store : Store) (s : List Sight) (operand : ℕ) (r : Refusal) → AsksHeld o store s operand (Err r) → AsksText o store s operand (Err r)
@@ -149,7 +149,7 @@ text-unfit o store s operand held object asks at unfit follows =
     object-follows o store s operand held object asks at follows ∙ ap (λ b. if b then follows (units_of o object) else faulty operand) unfit
 
 -- the units of an object, by whether it is a text
-units-are : (o : Outline) (store : Store) (held : Held) (object : Object) (is_text : Bool) → object_at store held.cell.0 ≡ Some object
+pub units-are : (o : Outline) (store : Store) (held : Held) (object : Object) (is_text : Bool) → object_at store held.cell.0 ≡ Some object
     → head_of object ≡ held.head → is_text_type o (type_numbered o object.class) ≡ is_text → units_of o object ≡ units_in store (text_of is_text held)
 units-are o store held object is_text at head_is told =
     ap (λ b. if b then object.elements else []) told ∙ by_test is_text where

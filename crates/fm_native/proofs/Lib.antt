@@ -1,6 +1,16 @@
 pub mod Asks
 pub mod BuiltIns
+pub mod ChainCells
+pub mod FreeRows
+pub mod HiddenRows
+pub mod HiddenSteps
+pub mod HidingTypes
+pub mod Hidings
 pub mod Lists
+pub mod NameTexts
+pub mod Nulls
+pub mod Prints
 pub mod Rows
 pub mod ShownRows
+pub mod TextRows
 pub mod UnitReads

@@ -9,8 +9,8 @@ use Rattle.fm_frames.specs.Natives.{Native, CharAt, CompareTo, Exit, ObjectEqual
 use Rattle.fm_frames.specs.Operands.{on_int, on_text, thrown_null}
 use Rattle.fm_frames.specs.Sights.{looks, Looks, Sight}
 use Rattle.fm_frames.specs.States.{State}
-use Rattle.fm_frames.specs.inner.Doings.{DoesIn}
-use Rattle.fm_native.specs.Doing.{DoesRow, seen}
+use Rattle.fm_frames.specs.inner.Doings.{DoesIn, seen}
+use Rattle.fm_native.specs.Doing.{DoesRow}
 use Rattle.fm_native.specs.declared.asked.Held.{Held}
 use Rattle.fm_native.specs.declared.asked.Refusal.{Refusal}
 use Rattle.fm_native.specs.declared.asked.Text.{Text}

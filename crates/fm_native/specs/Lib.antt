@@ -1,4 +1,6 @@
 pub mod Doing
+pub mod Serving
 pub mod Showing
+pub mod Tables
 pub mod Texts
 pub mod inner

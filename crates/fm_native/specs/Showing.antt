@@ -6,6 +6,8 @@ use Rattle.fm_frames.specs.Natives as table
 use Rattle.fm_native.specs.declared.shown.Primitive.{Primitive}
 use Rattle.fm_native.specs.declared.shown.Primitive.TheVariants as primitive
 use Rattle.fm_native.specs.declared.shown.Showing.{Showing}
+use Rattle.fm_native.specs.declared.shown.Shown.{Shown}
+use Rattle.fm_native.specs.declared.shown.Shown.TheVariants as shown
 use Rattle.fm_native.specs.declared.shown.Showing.TheVariants as showing
 
 -- the type as the table names it
@@ -14,6 +16,11 @@ shown_of primitive.Int = table.ShownInt
 shown_of primitive.Long = table.ShownLong
 shown_of primitive.Char = table.ShownChar
 shown_of primitive.Boolean = table.ShownBoolean
+
+-- what is appended or printed, as the table names it
+abbrev pub shown_as : Shown → table.Shown
+shown_as (shown.Primitive primitive) = shown_of primitive
+shown_as shown.Text = table.ShownText
 
 -- the units of a value: a char by its lowest 16 bits, each boolean but 0 as true
 abbrev pub shown_units : Showing → List ℕ

@@ -1,2 +1,5 @@
 pub mod Asked
+pub mod Chains
+pub mod Hidden
+pub mod Names
 pub mod Shown

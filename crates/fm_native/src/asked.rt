@@ -3,12 +3,11 @@
 // Operands are counted from the top of the stack. Each call answers what is there, or the refusal by
 // which the step then ends, and changes nothing.
 
-ghost use Rattle.std.specs.Prelude.{◌≡◌, ◌<◌, ◌^◌, ℕ, IfErr, IfOk, OnOk};
-ghost use Rattle.fm_native.specs.Doing.{seen};
+ghost use Rattle.std.specs.Prelude.{◌≡◌, ◌<◌, ◌^◌, ℕ, IfErr, IfOk, IfSome, OnOk};
 ghost use Rattle.fm_native.specs.Texts.{HoldsTexts};
-ghost use Rattle.fm_native.specs.inner.Asked.{refused, text_of, units_in, AsksHeld, AsksInt, AsksLong, AsksText, IsAt, IsHeldAt, IsTextAt};
+ghost use Rattle.fm_native.specs.inner.Asked.{refused, text_of, units_in, AsksHeld, AsksHeldOrNull, AsksInt, AsksLong, AsksText, AsksTextOrNull, IsAt, IsHeldAt, IsTextAt};
 ghost use Rattle.fm_frames.specs.Runnable.{IsRunnable};
-ghost use Rattle.fm_frames.specs.inner.Doings.{CanStep, DoesIn};
+ghost use Rattle.fm_frames.specs.inner.Doings.{seen, CanStep, DoesIn};
 
 use fm_base::{NoMemory, TypeId};
 use fm_cells::{Cell, Head, Memory};
@@ -92,8 +91,29 @@ pub fn held_at<M: Memory>(
     }
 }
 
+/// The object that an operand leads to; none where it is null. Takes no memory.
+pub fn held_or_null_at<M: Memory>(
+    machine: &Machine<M>,
+    program: &Program,
+    place: usize,
+) -> Result<Option<Held>, Refusal>
+    ensures value { AsksHeldOrNull program.now.outline machine.now.areas.store
+        (seen program.now machine.now) place result }
+    ensures held { IfOk result (λ found. IfSome found
+        (IsHeldAt machine.now.areas.store machine.now place)) }
+    ensures at { IfErr result (IsAt program.now.outline machine.now place) }
+{
+    let _classes = program.classes();
+    match machine.look(place) {
+        Look::Other => Err(Refusal::Other),
+        Look::Null => Ok(None),
+        Look::Gone(cell) => Err(Refusal::Unfit(cell)),
+        Look::Object(cell, head) => Ok(Some(Held { cell, head })),
+    }
+}
+
 // The text of a held cell; none of the elements of an object that isn't one are its units.
-fn text_of(held: Held, is_text: bool) -> Text
+pub(crate) fn text_of(held: Held, is_text: bool) -> Text
     ensures { result ≡ text_of is_text held }
 {
     let len = if is_text { held.head.len } else { 0 };
@@ -121,6 +141,30 @@ pub fn text_at<M: Memory>(
     let fits = fits_type(program, t, type_of_class(STRING));
     if fits {
         return Ok(text_of(held, is_text(t)));
+    }
+    Err(Refusal::Unfit(held.cell))
+}
+
+/// The text that an operand leads to; none where it is null. Takes no memory.
+pub fn text_or_null_at<M: Memory>(
+    machine: &Machine<M>,
+    program: &Program,
+    place: usize,
+) -> Result<Option<Text>, Refusal>
+    requires runnable { IsRunnable program.now }
+    requires texts { HoldsTexts program.now.outline machine.now.areas.store }
+    ensures value { AsksTextOrNull program.now.outline machine.now.areas.store
+        (seen program.now machine.now) place result }
+    ensures text { IfOk result (λ found. IfSome found (IsTextAt machine.now.areas.store)) }
+    ensures at { IfErr result (IsAt program.now.outline machine.now place) }
+{
+    let Some(held) = held_or_null_at(machine, program, place)? else {
+        return Ok(None);
+    };
+    let t = type_numbered(program, TypeId(held.head.class));
+    let fits = fits_type(program, t, type_of_class(STRING));
+    if fits {
+        return Ok(Some(text_of(held, is_text(t))));
     }
     Err(Refusal::Unfit(held.cell))
 }

@@ -5,10 +5,18 @@
 #![tactic(auto)]
 
 pub mod asked;
+pub mod builders;
 pub mod contents;
+pub mod free_me;
+pub mod hidden;
+mod names;
+mod natives;
 pub mod objects;
 pub mod shown;
 pub mod spelling;
 pub mod streams;
 pub mod strings;
+pub mod throwables;
 pub mod units;
+
+pub use natives::native;

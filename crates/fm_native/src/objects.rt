@@ -2,16 +2,19 @@
 
 ghost use Rattle.std.specs.Prelude.{◌≡◌, OnOk};
 ghost use Rattle.fm_native.specs.Doing.{DoesRow};
+ghost use Rattle.fm_native.specs.Serving.{HoldsNames};
 ghost use Rattle.fm_frames.specs.Acts.{cell_of, told_same};
 ghost use Rattle.fm_frames.specs.NativeRows.{hash_of};
-ghost use Rattle.fm_frames.specs.Natives.{ObjectEquals, ObjectHashCode, ObjectInit};
+ghost use Rattle.fm_frames.specs.Natives.{ObjectEquals, ObjectHashCode, ObjectInit, ObjectToString};
 ghost use Rattle.fm_frames.specs.inner.Doings.{CanStep};
 
 use crate::asked::{held_at, refuse};
+use crate::names::object_units;
 use fm_base::NoMemory;
 use fm_cells::{Cell, Memory};
 use fm_frames::{Machine, Value};
 use fm_world::Program;
+use std::alloc::Global;
 
 /// The constructor of Object, which does nothing. Takes no memory.
 pub fn init<M: Memory>(machine: &mut Machine<M>, program: &Program)
@@ -44,7 +47,7 @@ pub fn hash_code<M: Memory>(machine: &mut Machine<M>, program: &Program) -> Resu
 }
 
 // The cell of a reference; null of another value.
-fn cell_of(value: Value) -> Cell
+pub(crate) fn cell_of(value: Value) -> Cell
     ensures { result.0 ≡ cell_of value }
 {
     match value {
@@ -61,6 +64,25 @@ fn told_same(first: Value, second: Value) -> Value
         Value::Int(1)
     } else {
         Value::Int(0)
+    }
+}
+
+/// toString of an object: a new text.
+pub fn to_string<M: Memory>(
+    alloc: Global,
+    machine: &mut Machine<M>,
+    program: &Program,
+) -> Result<(), NoMemory>
+    requires can { CanStep program.now machine.old }
+    requires names { HoldsNames program.now.outline machine.old.areas.store }
+    ensures { OnOk result (DoesRow program.now M.choose machine.old machine.new ObjectToString) }
+{
+    match held_at(machine, program, 0) {
+        Ok(held) => {
+            let units = object_units(alloc, program, held)?;
+            machine.give_text(program, 1, &units)
+        }
+        Err(refusal) => refuse(machine, program, refusal),
     }
 }
 

@@ -63,8 +63,8 @@ fn lone_character(unit: u32) -> Option<char>
     char::from_u32(unit)
 }
 
-// The first unit, and the bytes after those that go on with it.
-fn split_unit(bytes: &[u8]) -> Option<(u32, &[u8])>
+/// The first unit of a text in modified UTF-8, and the bytes after those that go on with it.
+pub fn split_unit(bytes: &[u8]) -> Option<(u32, &[u8])>
     ensures { MatchOption result (units bytes.now ≡ [])
         (λ first. (units bytes.now ≡ first.0 ∷ units first.1.now) × (first.0 < 0x11_0000)
         × (length first.1.now < length bytes.now)) }

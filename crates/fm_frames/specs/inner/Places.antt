@@ -1,5 +1,6 @@
 -- What the code reads and puts at the places of objects.
-use Rattle.std.specs.Prelude.{◌≡◌, ℕ, ◌^◌, ◌<◌, List, ◌++◌, length, take, drop, Option, Some, None}
+use Rattle.std.specs.Prelude.{◌≡◌, ℕ, ◌+◌, ◌*◌, ◌^◌, ◌<◌, ◌≤◌, List, ◌++◌, length, take, drop, Option, Some, None}
+use Rattle.std.specs.FinMap as map
 use Rattle.std.specs.List.{slice_index_or}
 use Rattle.fm_base.specs.declared.kinds.Kind.{Kind}
 use Rattle.fm_cells.specs.Changes.{with_object}
@@ -7,6 +8,7 @@ use Rattle.fm_cells.specs.Objects.{Object}
 use Rattle.fm_cells.specs.Sizes.{element_bits}
 use Rattle.fm_cells.specs.Stores.{elements_at, object_at, pack_at, Store}
 use Rattle.fm_frames.specs.Elements.{int_bits, kept}
+use Rattle.fm_frames.specs.States.{Areas}
 use Rattle.fm_frames.specs.declared.values.Value.{Value}
 
 -- the element at a place of the object in a cell; 0 where there is none
@@ -35,3 +37,8 @@ written_units store cell units count = of_object (object_at store cell) where
   of_object : Option Object → Store
   of_object None = store
   of_object (Some object) = with_object store cell (record object { elements = take count units ++ drop count object.elements })
+
+-- what was made is held or was freed, and what was freed had no more words than so many objects may have
+pub record CountsFrees (x : Areas) : Type 0 where
+  pub freed : x.frees + length (map.entries x.store.held) ≡ x.store.births
+  pub freed_words : x.freed_words ≤ 2 ^ 32 * x.frees

@@ -1,13 +1,14 @@
 -- What rows ask of their operands, as the code finds it out.
-use Rattle.std.specs.Prelude.{◌≡◌, ℕ, ◌<◌, ◌^◌, ℤ, Bool, List, take, length, Option, Some, None, Result, Ok, Err, if◌then◌else◌}
+use Rattle.std.specs.Prelude.{◌≡◌, ℕ, ◌<◌, ◌^◌, ℤ, pos, Bool, false, List, codes, take, length, Option, Some, None, Result, Ok, Err, if◌then◌else◌}
 use Rattle.std.specs.List.{All}
+use Rattle.std.specs.Str.{bytes_eq}
 use Rattle.fm_cells.specs.Answers.{head_of}
 use Rattle.fm_cells.specs.Objects.{Object}
 use Rattle.fm_cells.specs.Stores.{elements_at, object_at, Store}
 use Rattle.fm_frames.specs.Acts.{cell_of, value_of}
-use Rattle.fm_frames.specs.Effects.{Effect, Faults, OfPlace, faulty, going, stuck}
-use Rattle.fm_frames.specs.NativeRows.{text_kind}
-use Rattle.fm_frames.specs.Operands.{on_held, on_int, on_long, on_text, thrown_null}
+use Rattle.fm_frames.specs.Effects.{Effect, Faults, OfPlace, faulty, going, int_word, stuck, words}
+use Rattle.fm_frames.specs.NativeRows.{equal_to, part_of, text_kind}
+use Rattle.fm_frames.specs.Operands.{on_held, on_int, on_long, on_text, on_text_or_null, thrown_null}
 use Rattle.fm_frames.specs.Sights.{Sight, looks, Looks}
 use Rattle.fm_frames.specs.States.{State, word_at}
 use Rattle.fm_frames.specs.Steps.{stack_of}
@@ -72,6 +73,17 @@ AsksHeld o store s operand found =
     (of_null : Effect) (follows : Looks → Effect)
     → on_held of_null s operand follows ≡ asked_by of_null o operand found (on_cell o store follows)
 
+-- the same where null is passed over: what follows of null, of an object, or of a refusal
+abbrev pub passed_by : {A : Type 0} → Effect → Outline → ℕ → Result (Option A) Refusal → (A → Effect) → Effect
+passed_by of_null o operand (Ok None) follows = of_null
+passed_by of_null o operand (Ok (Some found)) follows = follows found
+passed_by of_null o operand (Err r) follows = refused o operand r
+
+abbrev pub AsksHeldOrNull : Outline → Store → List Sight → ℕ → Result (Option Held) Refusal → Type 0
+AsksHeldOrNull o store s operand found =
+    (of_null : Effect) (follows : Looks → Effect)
+    → on_held of_null s operand follows ≡ passed_by of_null o operand found (on_cell o store follows)
+
 -- ---- texts
 
 -- the units of a text that was found
@@ -87,6 +99,23 @@ abbrev pub AsksText : Outline → Store → List Sight → ℕ → Result Text R
 AsksText o store s operand found =
     (follows : List ℕ → Effect) → on_text o s operand follows ≡ asked o operand found (λ text. follows (units_in store text))
 
+-- the same where null stands for the word null
+abbrev pub AsksTextOrNull : Outline → Store → List Sight → ℕ → Result (Option Text) Refusal → Type 0
+AsksTextOrNull o store s operand found =
+    (follows : List ℕ → Effect)
+    → on_text_or_null o s operand follows ≡ passed_by (follows (codes "null")) o operand found (λ text. follows (units_in store text))
+
+-- the units of a text are those of another one, if there is one
+abbrev pub equals_other : Store → Text → Option Text → Bool
+equals_other store text None = false
+equals_other store text (Some other) = bytes_eq (units_in store other) (units_in store text)
+
+-- a text that may be equal to another one was asked for, and this is what was found
+abbrev pub AsksOther : Outline → Store → List Sight → Result (Option Text) Refusal → Type 0
+AsksOther o store s found =
+    (text : Text)
+    → equal_to o (units_in store text) s ≡ asked o 0 found (λ other. words 2 (int_word (if equals_other store text other then pos 1 else pos 0)))
+
 -- what is known of a text that was found
 pub record IsTextAt (store : Store) (text : Text) : Type 0 where
   pub len : length (units_in store text) ≡ text.len
@@ -94,6 +123,10 @@ pub record IsTextAt (store : Store) (text : Text) : Type 0 where
   pub units : All (λ unit. unit < 2 ^ 16) (units_in store text)
 
 -- ---- numbers
+
+-- the part of a text from a place up to the one on top of the stack
+abbrev pub part_up_to : Outline → List Sight → List ℕ → ℤ → Effect
+part_up_to o s units begin = on_int s 0 (λ end. part_of o units begin end)
 
 -- an int was asked for at an operand, and this is what was found
 abbrev pub AsksInt : Outline → List Sight → ℕ → Result ℤ Refusal → Type 0

@@ -2,7 +2,7 @@ use Rattle.std.proofs.Common.{◌≡◌, Ok, Err, false, true, sym, ◌∙◌, s
 use Rattle.fm_native.proofs.Asks.{fits-told, is_text-told, text-found, text-known, text-refused, text-unfit}
 use Rattle.fm_native.proofs.BuiltIns.{text-is}
 use Rattle.fm_native.proofs.asked.text_at.Goals as goal
-use Rattle.fm_native.specs.Doing.{seen}
+use Rattle.fm_frames.specs.inner.Doings.{seen}
 use Rattle.fm_native.specs.inner.Asked.{AsksText, IsTextAt}
 use Rattle.fm_world.specs.Numbers.{type_of_class}
 

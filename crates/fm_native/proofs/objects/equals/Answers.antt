@@ -4,7 +4,7 @@ use Rattle.fm_frames.specs.Effects.{SameOperands, words}
 use Rattle.fm_frames.specs.Natives.{ObjectEquals}
 use Rattle.fm_native.proofs.Rows.{carried, equals-is, told-ok}
 use Rattle.fm_native.proofs.objects.equals.Goals as goal
-use Rattle.fm_native.specs.Doing.{seen}
+use Rattle.fm_frames.specs.inner.Doings.{seen}
 
 pub returns : goal.returns
 returns g c =

@@ -4,7 +4,7 @@ use Rattle.fm_frames.specs.Natives.{ObjectHashCode}
 use Rattle.fm_frames.specs.declared.values.Value.TheVariants as value
 use Rattle.fm_native.proofs.Rows.{carried, hash_code-is, hashed-at, told-ok}
 use Rattle.fm_native.proofs.objects.hash_code.Goals as goal
-use Rattle.fm_native.specs.Doing.{seen}
+use Rattle.fm_frames.specs.inner.Doings.{seen}
 use Rattle.fm_native.specs.inner.Asked.{refused}
 
 pub returns-in-Ok : goal.returns-in-Ok

@@ -3,7 +3,7 @@ use Rattle.fm_frames.specs.Effects.{words}
 use Rattle.fm_frames.specs.Natives.{ObjectInit}
 use Rattle.fm_native.proofs.Rows.{carried, init-is}
 use Rattle.fm_native.proofs.objects.init.Goals as goal
-use Rattle.fm_native.specs.Doing.{seen}
+use Rattle.fm_frames.specs.inner.Doings.{seen}
 
 pub returns : goal.returns
 returns g c =

@@ -4,7 +4,7 @@ use Rattle.fm_frames.specs.Effects.{Exits, going}
 use Rattle.fm_frames.specs.Natives.{Exit}
 use Rattle.fm_native.proofs.Rows.{carried, exit-is, told-ok}
 use Rattle.fm_native.proofs.streams.exit.Goals as goal
-use Rattle.fm_native.specs.Doing.{seen}
+use Rattle.fm_frames.specs.inner.Doings.{seen}
 use Rattle.fm_native.specs.inner.Asked.{refused}
 
 pub returns-in-Ok : goal.returns-in-Ok

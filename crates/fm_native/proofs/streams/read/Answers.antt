@@ -5,7 +5,7 @@ use Rattle.fm_frames.specs.Natives.{Read}
 use Rattle.fm_frames.specs.declared.values.Value.TheVariants as value
 use Rattle.fm_native.proofs.Rows.{carried-one, read-is, told-ok}
 use Rattle.fm_native.proofs.streams.read.Goals as goal
-use Rattle.fm_native.specs.Doing.{seen}
+use Rattle.fm_frames.specs.inner.Doings.{seen}
 
 pub returns-in-Some : goal.returns-in-Some
 returns-in-Some g c =

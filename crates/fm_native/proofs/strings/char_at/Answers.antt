@@ -4,7 +4,7 @@ use Rattle.fm_frames.specs.NativeRows.{char_at}
 use Rattle.fm_frames.specs.Natives.{CharAt}
 use Rattle.fm_native.proofs.Rows.{carried, char-is, char-refused, told-ok}
 use Rattle.fm_native.proofs.strings.char_at.Goals as goal
-use Rattle.fm_native.specs.Doing.{seen}
+use Rattle.fm_frames.specs.inner.Doings.{seen}
 use Rattle.fm_native.specs.inner.Asked.{refused, units_in}
 
 pub returns-in-Ok-int_at : goal.returns-in-Ok-int_at

@@ -5,7 +5,7 @@ use Rattle.fm_frames.specs.Natives.{CompareTo}
 use Rattle.fm_frames.specs.declared.values.Value.TheVariants as value
 use Rattle.fm_native.proofs.Rows.{carried, compared-is, compared-refused, told-ok}
 use Rattle.fm_native.proofs.strings.compare_to.Goals as goal
-use Rattle.fm_native.specs.Doing.{seen}
+use Rattle.fm_frames.specs.inner.Doings.{seen}
 use Rattle.fm_native.specs.inner.Asked.{refused, units_in}
 
 pub returns-in_ok-others-in-Ok-text_at : goal.returns-in_ok-others-in-Ok-text_at

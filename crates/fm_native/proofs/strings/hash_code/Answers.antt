@@ -5,7 +5,7 @@ use Rattle.fm_frames.specs.NativeRows.{hash_from}
 use Rattle.fm_frames.specs.declared.values.Value.TheVariants as value
 use Rattle.fm_native.proofs.Rows.{carried, hash-is, told-ok}
 use Rattle.fm_native.proofs.strings.hash_code.Goals as goal
-use Rattle.fm_native.specs.Doing.{seen}
+use Rattle.fm_frames.specs.inner.Doings.{seen}
 use Rattle.fm_native.specs.inner.Asked.{refused, units_in}
 
 pub returns-in_ok-units-in-Ok : goal.returns-in_ok-units-in-Ok

@@ -5,7 +5,7 @@ use Rattle.fm_frames.specs.Natives.{ValueOf}
 use Rattle.fm_native.proofs.Rows.{carried, told-ok}
 use Rattle.fm_native.proofs.ShownRows.{value-is}
 use Rattle.fm_native.proofs.strings.value_of.Goals as goal
-use Rattle.fm_native.specs.Doing.{seen}
+use Rattle.fm_frames.specs.inner.Doings.{seen}
 use Rattle.fm_native.specs.Showing.{shown_of, shown_units}
 use Rattle.fm_native.specs.inner.Asked.{refused}
 use Rattle.fm_native.specs.inner.Shown.{operand_of}

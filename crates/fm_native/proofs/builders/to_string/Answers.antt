@@ -1,0 +1,35 @@
+use Rattle.std.proofs.Common.{◌≡◌, Ok, Err, Some, None, [], ◌∷◌, ◌+◌, ◌++◌, pos, if◌then◌else◌, ap, sym, ◌∙◌, subst, rules, arith}
+use Rattle.fm_frames.specs.Effects.{making}
+use Rattle.fm_frames.specs.NativeRows.{text_made}
+use Rattle.fm_frames.specs.Natives.{BuilderToString}
+use Rattle.fm_frames.specs.inner.Doings.{seen}
+use Rattle.fm_native.proofs.HiddenRows.{built-text}
+use Rattle.fm_native.proofs.Rows.{carried, told-ok}
+use Rattle.fm_native.specs.inner.Asked.{refused, units_in}
+use Rattle.fm_native.specs.inner.Hidden.{units_so_far}
+use Rattle.fm_native.proofs.builders.to_string.Goals as goal
+
+pub returns-in_ok-units-in-Ok : goal.returns-in_ok-units-in-Ok
+returns-in_ok-units-in-Ok g c =
+    let p = c.args.program.now in
+    let o = p.outline in
+    let x = c.args.machine.now in
+    let told : units_so_far x.areas.store c.in-Ok.built.text ≡ c.deref.result.now = search rules in
+    told-ok c.give_text.result _ _
+    (λ given.
+    carried p g.M.Memory.choose x c.give_text.new.self BuilderToString (making 1 (text_made o c.deref.result.now))
+    (λ byte. built-text o x.areas.store byte (seen p x) (Ok c.in-Ok.built) c.in-Ok.ensures.value ∙ ap (λ us. making 1 (text_made o us)) told)
+    given)
+    c.give_text.ensures
+
+pub returns-in-Err : goal.returns-in-Err
+returns-in-Err g c =
+    let p = c.args.program.now in
+    let o = p.outline in
+    let x = c.args.machine.now in
+    told-ok c.refuse.result _ _
+    (λ ended.
+    carried p g.M.Memory.choose x c.refuse.new.machine BuilderToString (refused o 0 c.in-Err.refusal)
+    (λ byte. built-text o x.areas.store byte (seen p x) (Err c.in-Err.refusal) c.in-Err.ensures.value)
+    (ended 0 c.in-Err.ensures.at))
+    c.refuse.ensures

@@ -1,0 +1,28 @@
+use Rattle.std.proofs.Common.{◌≡◌, Ok, Err, Some, None, [], ◌∷◌, ◌+◌, ◌++◌, pos, if◌then◌else◌, ap, sym, ◌∙◌, subst, rules, arith}
+use Rattle.fm_frames.specs.Natives.{ThrowableInit}
+use Rattle.fm_frames.specs.inner.Doings.{seen}
+use Rattle.fm_native.proofs.HiddenRows.{throwable-init, cleared}
+use Rattle.fm_native.proofs.Rows.{carried, told-ok}
+use Rattle.fm_native.specs.inner.Asked.{refused, units_in}
+use Rattle.fm_native.proofs.throwables.init.Goals as goal
+
+pub returns-in-Ok : goal.returns-in-Ok
+returns-in-Ok g c =
+    let p = c.args.program.now in
+    let o = p.outline in
+    let x = c.args.machine.now in
+    carried p g.M.Memory.choose x c.clear.new.machine ThrowableInit (cleared o)
+    (λ byte. throwable-init o x.areas.store x byte (seen p x) (Ok c.in-Ok.held) c.in-Ok.ensures.value c.in-Ok.ensures.held)
+    c.clear.ensures
+
+pub returns-in-Err : goal.returns-in-Err
+returns-in-Err g c =
+    let p = c.args.program.now in
+    let o = p.outline in
+    let x = c.args.machine.now in
+    told-ok c.refuse.result _ _
+    (λ ended.
+    carried p g.M.Memory.choose x c.refuse.new.machine ThrowableInit (refused o 0 c.in-Err.refusal)
+    (λ byte. throwable-init o x.areas.store x byte (seen p x) (Err c.in-Err.refusal) c.in-Err.ensures.value tt)
+    (ended 0 c.in-Err.ensures.at))
+    c.refuse.ensures

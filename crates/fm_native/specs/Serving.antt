@@ -1,0 +1,41 @@
+-- What built-in methods ask of all that frames share, so that the numbers in it fit those of the code; in the run of a typed program all is so.
+use Rattle.std.specs.Prelude.{◌≡◌, ℕ, ◌^◌, ◌<◌, ◌||◌, Bool, true, Some, codes}
+use Rattle.std.specs.List.{All, slice_index_or}
+use Rattle.fm_base.specs.declared.kinds.TypeRef.{TypeRef}
+use Rattle.fm_cells.specs.Objects.{Object}
+use Rattle.fm_cells.specs.Stores.{object_at, Store}
+use Rattle.fm_types.specs.Fits.{fits_type}
+use Rattle.fm_types.specs.Named.{built_in_type, throwable_type}
+use Rattle.fm_world.specs.Programs.{Outline}
+use Rattle.fm_frames.specs.NativeRows.{type_name}
+use Rattle.fm_frames.specs.Sights.{type_numbered}
+use Rattle.fm_frames.specs.States.{Areas}
+use Rattle.fm_frames.specs.inner.Places.{CountsFrees}
+use Rattle.fm_native.specs.Texts.{HoldsTexts}
+
+-- the first element of the object is a whole word, and is a cell: it is the hidden field
+pub record HasCellFirst (object : Object) : Type 0 where
+  pub wide : object.pack ≡ 1
+  pub cell : slice_index_or object.elements 0 0 < 2 ^ 32
+
+-- whether objects of the type have a text in a hidden field: they build texts, or are throwables
+abbrev pub hides_text : Outline → TypeRef → Bool
+hides_text o t =
+    fits_type o.classes t (built_in_type o (codes "java/lang/StringBuilder"))
+    || fits_type o.classes t (built_in_type o (codes "java/lang/StringBuffer"))
+    || fits_type o.classes t (throwable_type o)
+
+-- all such objects that are held are so
+pub record HoldsHidden (o : Outline) (store : Store) : Type 0 where
+  pub first : (cell : ℕ) (object : Object) → object_at store cell ≡ Some object → hides_text o (type_numbered o object.class) ≡ true → HasCellFirst object
+
+-- the names of the types of all objects that are held are of 16-bit units (JVMS 4.4.7)
+pub record HoldsNames (o : Outline) (store : Store) : Type 0 where
+  pub units : (cell : ℕ) (object : Object) → object_at store cell ≡ Some object → All (λ unit. unit < 2 ^ 16) (type_name o (type_numbered o object.class))
+
+-- all of this
+pub record ServesNatives (o : Outline) (x : Areas) : Type 0 where
+  pub texts : HoldsTexts o x.store
+  pub hidden : HoldsHidden o x.store
+  pub names : HoldsNames o x.store
+  pub counts : CountsFrees x

@@ -1,0 +1,121 @@
+// The methods of StringBuilder and StringBuffer.
+
+ghost use Rattle.std.specs.Prelude.{OnOk};
+ghost use Rattle.fm_native.specs.Doing.{DoesRow};
+ghost use Rattle.fm_native.specs.Serving.{HoldsHidden};
+ghost use Rattle.fm_native.specs.Showing.{shown_as};
+ghost use Rattle.fm_native.specs.Texts.{HoldsTexts};
+ghost use Rattle.fm_frames.specs.Natives.{Append, BufferInitOf, BuilderInit, BuilderLength, BuilderToString};
+ghost use Rattle.fm_frames.specs.inner.Doings.{CanStep};
+
+use crate::asked::{refuse, text_at};
+use crate::contents::units_of;
+use crate::hidden::{builder_at, built_at, built_len, clear, joined, units_so_far};
+use crate::shown::{Shown, units_at};
+use fm_base::NoMemory;
+use fm_cells::Memory;
+use fm_frames::{Machine, Value};
+use fm_world::Program;
+use std::alloc::Global;
+
+/// The constructor of a StringBuilder or a StringBuffer: no unit is there yet.
+pub fn init<M: Memory>(machine: &mut Machine<M>, program: &Program) -> Result<(), NoMemory>
+    requires can { CanStep program.now machine.old }
+    requires hidden { HoldsHidden program.now.outline machine.old.areas.store }
+    ensures { OnOk result (DoesRow program.now M.choose machine.old machine.new BuilderInit) }
+{
+    match builder_at(machine, program, 0) {
+        Ok(held) => {
+            clear(machine, program, held);
+            Ok(())
+        }
+        Err(refusal) => refuse(machine, program, refusal),
+    }
+}
+
+/// The constructor of a StringBuffer with the units of a text; null throws.
+pub fn init_of<M: Memory>(
+    alloc: Global,
+    machine: &mut Machine<M>,
+    program: &Program,
+) -> Result<(), NoMemory>
+    requires can { CanStep program.now machine.old }
+    requires hidden { HoldsHidden program.now.outline machine.old.areas.store }
+    requires texts { HoldsTexts program.now.outline machine.old.areas.store }
+    ensures { OnOk result (DoesRow program.now M.choose machine.old machine.new BufferInitOf) }
+{
+    match builder_at(machine, program, 1) {
+        Ok(held) => match text_at(machine, program, 0) {
+            Ok(text) => {
+                let units = units_of(alloc, machine, text)?;
+                machine.keep_text(program, 2, held.cell, &units)
+            }
+            Err(refusal) => refuse(machine, program, refusal),
+        },
+        Err(refusal) => refuse(machine, program, refusal),
+    }
+}
+
+/// append: the units so far and those that are added are a new text.
+pub fn append<M: Memory>(
+    alloc: Global,
+    machine: &mut Machine<M>,
+    program: &Program,
+    shown: Shown,
+) -> Result<(), NoMemory>
+    requires can { CanStep program.now machine.old }
+    requires hidden { HoldsHidden program.now.outline machine.old.areas.store }
+    requires texts { HoldsTexts program.now.outline machine.old.areas.store }
+    ensures { OnOk result (DoesRow program.now M.choose machine.old machine.new
+        (Append (shown_as shown))) }
+{
+    match built_at(machine, program, shown.words()) {
+        Ok(built) => {
+            let found = units_at(alloc, machine, program, shown)?;
+            match found {
+                Ok(added) => {
+                    let units = joined(alloc, machine, built.text, &added)?;
+                    machine.append_text(program, shown.words() + 1, built.held.cell, &units)
+                }
+                Err(refusal) => refuse(machine, program, refusal),
+            }
+        }
+        Err(refusal) => refuse(machine, program, refusal),
+    }
+}
+
+/// length of what is built.
+pub fn length<M: Memory>(machine: &mut Machine<M>, program: &Program) -> Result<(), NoMemory>
+    requires can { CanStep program.now machine.old }
+    requires hidden { HoldsHidden program.now.outline machine.old.areas.store }
+    requires texts { HoldsTexts program.now.outline machine.old.areas.store }
+    ensures { OnOk result (DoesRow program.now M.choose machine.old machine.new BuilderLength) }
+{
+    match built_at(machine, program, 0) {
+        Ok(built) => {
+            let len = built_len(machine, built.text);
+            machine.give(1, Value::Int(len))
+        }
+        Err(refusal) => refuse(machine, program, refusal),
+    }
+}
+
+/// toString of what is built: a new text of the units so far.
+pub fn to_string<M: Memory>(
+    alloc: Global,
+    machine: &mut Machine<M>,
+    program: &Program,
+) -> Result<(), NoMemory>
+    requires can { CanStep program.now machine.old }
+    requires hidden { HoldsHidden program.now.outline machine.old.areas.store }
+    requires texts { HoldsTexts program.now.outline machine.old.areas.store }
+    ensures { OnOk result (DoesRow program.now M.choose machine.old machine.new BuilderToString) }
+{
+    match built_at(machine, program, 0) {
+        Ok(built) => {
+            let units = units_so_far(alloc, machine, built.text)?;
+            machine.give_text(program, 1, &units)
+        }
+        Err(refusal) => refuse(machine, program, refusal),
+    }
+}
