@@ -29,8 +29,8 @@ pub(crate) fn kind_words(kind: Kind) -> usize
     }
 }
 
-// The words of the arguments of a method, without the receiver.
-fn argument_words(program: &Program, m: MethodId) -> usize
+/// The words of the arguments of a method, without the receiver. Takes no memory.
+pub fn argument_words(program: &Program, m: MethodId) -> usize
     requires { m.0 < length (methods_of program.now.outline.classes) }
     ensures { result ≡ words_of_arguments program.now.outline m.0 }
 {

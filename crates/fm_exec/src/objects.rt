@@ -16,8 +16,8 @@ use fm_cells::Memory;
 use fm_frames::Machine;
 use fm_world::Program;
 
-// The class that a type is; none for an array.
-fn class_of_type(t: TypeRef) -> Option<ClassId>
+/// The class that a type is; none for an array. Takes no memory.
+pub fn class_of_type(t: TypeRef) -> Option<ClassId>
     ensures { option_map (λ (c : ids.ClassId). c.0) result ≡ class_of_type t }
 {
     if t.dims != 0 {
