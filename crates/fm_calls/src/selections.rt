@@ -109,11 +109,11 @@ pub fn interface_target<M: Memory>(
         machine.throw_new(program, CLASS_CHANGE_ERROR)?;
         return Ok(None);
     }
-    let Some(target) = selected(program, t, m) else {
+    let Some(found) = selected(program, t, m) else {
         machine.stuck(program);
         return Ok(None);
     };
-    Ok(Some(target))
+    Ok(Some(found))
 }
 
 // The method that invokespecial calls in a method of the caller's class.

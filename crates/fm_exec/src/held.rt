@@ -55,7 +55,7 @@ pub fn type_in(program: &Program, head: Head) -> TypeRef
 }
 
 /// Puts a value of a kind in place of so many words: a long takes two.
-pub(crate) fn give<M: Memory>(
+pub fn give<M: Memory>(
     machine: &mut Machine<M>,
     takes: usize,
     kind: Kind,

@@ -8,9 +8,12 @@ pub mod Throwing
 pub mod Calling
 pub mod Acting
 pub mod Underways
+pub mod FrameRoom
 pub mod Contents
 pub mod TextSteps
 pub mod Bits
 pub mod LiteralSteps
 pub mod Jumping
 pub mod Shuffling
+pub mod ClassStarts
+pub mod StartActions

@@ -62,5 +62,5 @@ returns g c =
     let told : true ≡ is_sub o.classes c.type_in-t.result c.type_of.result = search rules in (
       refl,
       λ byte. interface-selected o x.areas.store (stack_of x) c.args.m c.args.named c.type_of.result byte c.in-Some.field-0-0 c.in-Some.head c.type_in-t.result
-          (Some c.in-Some-selected.target.0) c.type_of.ensures it c.type_in-t.ensures.value told c.in-Some-selected.ensures,
+          (Some c.in-Some-selected.found.0) c.type_of.ensures it c.type_in-t.ensures.value told c.in-Some-selected.ensures,
     )
