@@ -57,3 +57,17 @@ store-found given = position_from-zero (λ (c : DeclaredClass). bytes_eq c.name 
 
 pub store-is : (p : Program) → IsRunnable p → built_in_type p.outline (codes "java/lang/ArrayStoreException") ≡ type_of_class 14
 store-is p runnable = numbered p (codes "java/lang/ArrayStoreException") 14 runnable store-found
+
+cast-found : (given : List DeclaredClass) → class_number (built_in ++ given) (codes "java/lang/ClassCastException") ≡ Some 15
+unfolding built_in
+cast-found given = position_from-zero (λ (c : DeclaredClass). bytes_eq c.name (codes "java/lang/ClassCastException")) (built_in ++ given)
+
+pub cast-is : (p : Program) → IsRunnable p → built_in_type p.outline (codes "java/lang/ClassCastException") ≡ type_of_class 15
+cast-is p runnable = numbered p (codes "java/lang/ClassCastException") 15 runnable cast-found
+
+change-found : (given : List DeclaredClass) → class_number (built_in ++ given) (codes "java/lang/IncompatibleClassChangeError") ≡ Some 25
+unfolding built_in
+change-found given = position_from-zero (λ (c : DeclaredClass). bytes_eq c.name (codes "java/lang/IncompatibleClassChangeError")) (built_in ++ given)
+
+pub change-is : (p : Program) → IsRunnable p → built_in_type p.outline (codes "java/lang/IncompatibleClassChangeError") ≡ type_of_class 25
+change-is p runnable = numbered p (codes "java/lang/IncompatibleClassChangeError") 25 runnable change-found

@@ -96,10 +96,6 @@ pub field-kind : (o : Outline) (f : ℕ) → (field_info o f).kind ≡ kind_of_f
 unfolding field_info
 field-kind o f = refl
 
--- an effect that gives words starts no class
-pub loaded-as : (takes : ℕ) (kind : Kind) (source : Source) → (words takes (loaded kind source)).starts ≡ None
-loaded-as takes kind source = refl
-
 -- the test of the code is that of the row
 pub told-fits : (o : Outline) (head : Head) (found t : TypeRef) (told : Bool) → told ≡ fits_type o.classes found t → found ≡ type_numbered o head.class
     → told ≡ fits_type o.classes (type_numbered o head.class) t

@@ -1,35 +1,22 @@
--- The effects of rows that start classes, where all of them have started; and of calls and returns.
-use Rattle.std.proofs.Common.{◌≡◌, ℕ, List, [], Option, Some, None, slice_get, refl, ap, sym, ◌∙◌, subst}
+-- The effects of rows that start classes, and of calls and returns.
+use Rattle.std.proofs.Common.{◌≡◌, ℕ, List, [], Option, Some, None, slice_get, refl, ap, sym, ◌∙◌}
 use Rattle.fm_base.specs.declared.ids.MethodId.{MethodId}
 use Rattle.fm_base.specs.declared.ids.TypeId.{TypeId}
 use Rattle.fm_base.specs.declared.kinds.TypeRef.{TypeRef}
 use Rattle.fm_code.specs.declared.operations.Reg.{Reg}
 use Rattle.fm_code.specs.declared.operations.Reg.TheVariants as reg
-use Rattle.fm_exec.specs.Steps.{reg_words, Steps}
-use Rattle.fm_frames.specs.Acts.{Choose}
+use Rattle.fm_exec.specs.Steps.{reg_words}
 use Rattle.fm_frames.specs.CallRows.{entered_as, native_of, static_effect, words_of_arguments}
-use Rattle.fm_frames.specs.Effects.{Calls, Effect, Make, Returns, going, making, stuck}
+use Rattle.fm_frames.specs.Effects.{Calls, Make, Returns, going, making, stuck}
 use Rattle.fm_frames.specs.JumpRows.{return_effect}
 use Rattle.fm_frames.specs.ObjectRows.{made_of, new_effect, starting}
 use Rattle.fm_frames.specs.Sights.{Sight}
-use Rattle.fm_frames.specs.Starts.{started_by, to_start, with_start}
-use Rattle.fm_frames.specs.States.{State}
 use Rattle.fm_frames.specs.Uses.{by_type}
-use Rattle.fm_frames.specs.inner.Doings.{DoesIn}
 use Rattle.fm_types.specs.Named.{class_of_method}
 use Rattle.fm_world.specs.Descriptors.{parameter_kinds}
 use Rattle.fm_world.specs.Members.{method_at, size_of}
 use Rattle.fm_world.specs.Programs.{class_of_type, method_info, Outline, Program}
 use Rattle.fm_world.specs.declared.uses.Use.TheVariants as used
-
--- ---- classes that have started
-
--- where no class is left to start, the effect is that of the instruction alone
-pub all-started : (p : Program) (choose : Choose) (x y : State) (class : ℕ) (e f : Effect) → e ≡ starting class f → f.starts ≡ None
-    → to_start p.outline x.areas.started class ≡ [] → DoesIn p choose x y f → Steps p choose x y e
-all-started p choose x y class e f same alone none does =
-    subst (λ e. DoesIn p choose x y (with_start p.outline x.areas.started e)) (sym same)
-    (subst (λ e. DoesIn p choose x y e) (sym (ap (λ classes. started_by p.outline classes (starting class f)) none ∙ ap (λ s. record f { starts = s }) (sym alone))) does)
 
 -- ---- new
 

@@ -1,24 +1,21 @@
-// The rows of calls and returns (JVMS 6.5.invokestatic, 6.5.return and its like).
+// The words of calls, and the rows of returns (JVMS 6.5.return and its like).
 
-ghost use Rattle.std.specs.Prelude.{◌≡◌, ◌<◌, ◌≤◌, ℕ, [], List, length, sum_by, None, Option, OnOk};
-ghost use Rattle.fm_exec.specs.Steps.{reg_words, seen, Steps};
-ghost use Rattle.fm_frames.specs.CallRows.{native_of, static_effect, words_of_arguments};
+ghost use Rattle.std.specs.Prelude.{◌≡◌, ◌<◌, ◌≤◌, length, sum_by, OnOk};
+ghost use Rattle.fm_exec.specs.Steps.{reg_words, Steps};
+ghost use Rattle.fm_frames.specs.CallRows.{words_of_arguments};
 ghost use Rattle.fm_frames.specs.JumpRows.{return_effect};
-ghost use Rattle.fm_frames.specs.Starts.{to_start};
 ghost use Rattle.fm_frames.specs.inner.Doings.{CanStep};
-ghost use Rattle.fm_types.specs.Named.{class_of_method};
 ghost use Rattle.fm_world.specs.Descriptors.{kind_words};
 ghost use Rattle.fm_world.specs.Members.{methods_of};
-ghost use Rattle.fm_world.specs.declared.uses.Use.TheVariants as used;
 
-use fm_base::{Kind, MethodId, NoMemory, TypeId};
+use fm_base::{Kind, MethodId, NoMemory};
 use fm_cells::Memory;
 use fm_code::Reg;
 use fm_frames::Machine;
 use fm_world::Program;
 
 /// The words of a value of the kind on a stack.
-pub(crate) fn kind_words(kind: Kind) -> usize
+pub fn kind_words(kind: Kind) -> usize
     ensures value { result ≡ kind_words kind }
     ensures some { 0 < result }
     ensures few { result ≤ 2 }
@@ -29,8 +26,8 @@ pub(crate) fn kind_words(kind: Kind) -> usize
     }
 }
 
-// The words of the arguments of a method, without the receiver.
-fn argument_words(program: &Program, m: MethodId) -> usize
+/// The words of the arguments of a method, without the receiver. Takes no memory.
+pub fn argument_words(program: &Program, m: MethodId) -> usize
     requires { m.0 < length (methods_of program.now.outline.classes) }
     ensures { result ≡ words_of_arguments program.now.outline m.0 }
 {
@@ -46,25 +43,6 @@ fn words_of_kinds(kinds: &[Kind]) -> usize
         words += kind_words(*kind);
     }
     words
-}
-
-/// invokestatic of a method that has code, whose class has started with all its superclasses.
-pub fn static_call<M: Memory>(
-    machine: &mut Machine<M>,
-    program: &Program,
-    m: MethodId,
-    named: TypeId,
-) -> Result<(), NoMemory>
-    requires can { CanStep program.now machine.old }
-    requires method { m.0 < length (methods_of program.now.outline.classes) }
-    requires named { named.0 < length program.now.outline.types }
-    requires coded { native_of program.now.outline m.0 ≡ None }
-    requires started { to_start program.now.outline machine.old.areas.started
-        (class_of_method program.now.outline m.0) ≡ [] }
-    ensures { (byte : Option ℕ) → OnOk result (Steps program.now M.choose machine.old machine.new
-        (static_effect program.now.outline (used.OfMethod m named) byte (seen program.now machine.old))) }
-{
-    machine.call(program, argument_words(program, m), m)
 }
 
 // The words of a value that is returned.

@@ -19,7 +19,7 @@ use fm_world::Program;
 
 /// The step of an instruction whose operand at this place is no object: null throws, and a cell that isn't
 /// held is a fault.
-pub(crate) fn refuse<M: Memory>(
+pub fn refuse<M: Memory>(
     machine: &mut Machine<M>,
     program: &Program,
     operand: usize,
@@ -46,8 +46,8 @@ pub(crate) fn refuse<M: Memory>(
     }
 }
 
-/// The type of an object by its head.
-pub(crate) fn type_in(program: &Program, head: Head) -> TypeRef
+/// The type of an object by its head. Takes no memory.
+pub fn type_in(program: &Program, head: Head) -> TypeRef
     ensures value { result ≡ type_numbered program.now.outline head.class }
     ensures inside { IsRunnable program.now → IsTypeIn program.now.outline.classes result }
 {
@@ -55,7 +55,7 @@ pub(crate) fn type_in(program: &Program, head: Head) -> TypeRef
 }
 
 /// Puts a value of a kind in place of so many words: a long takes two.
-pub(crate) fn give<M: Memory>(
+pub fn give<M: Memory>(
     machine: &mut Machine<M>,
     takes: usize,
     kind: Kind,

@@ -6,6 +6,7 @@
 
 mod arrays;
 mod calls;
+mod casts;
 mod constants;
 mod elements;
 mod fields;
@@ -18,15 +19,17 @@ mod shuffles;
 mod throws;
 
 pub use arrays::{array_length, new_array, new_references};
-pub use calls::{leave, static_call};
+pub use calls::{argument_words, kind_words, leave};
+pub use casts::{cast, is_instance};
 pub use constants::{int_constant, long_constant, nop, null};
 pub use elements::{array_load, array_store, reference_store};
-pub use fields::{get_field, get_static, put_field, put_static};
+pub use fields::{get_field, put_field};
+pub use held::{give, refuse, type_in};
 pub use jumps::{go_to, if_int, if_null, if_pair, if_same, lookup_switch, table_switch};
 pub use locals::{increment, load, store};
 pub use numbers::{
     convert, int_negate, int_op, int_shift, long_compare, long_negate, long_op, long_shift,
 };
-pub use objects::new_object;
+pub use objects::class_of_type;
 pub use shuffles::{dup, dup_x1, dup_x2, dup2, dup2_x1, dup2_x2, pop, pop2, swap};
 pub use throws::throw;

@@ -8,6 +8,7 @@ pub mod Throwing
 pub mod Calling
 pub mod Acting
 pub mod Underways
+pub mod FrameRoom
 pub mod Contents
 pub mod TextSteps
 pub mod Bits
@@ -16,3 +17,5 @@ pub mod Jumping
 pub mod Shuffling
 pub mod HeldCounts
 pub mod BuiltInTypes
+pub mod ClassStarts
+pub mod StartActions

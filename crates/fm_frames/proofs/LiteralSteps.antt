@@ -1,5 +1,5 @@
 -- The literal of a text is given, and made before where it isn't there.
-use Rattle.std.proofs.Common.{◌≡◌, ◌≢◌, ℕ, ◌+◌, ◌<◌, Bool, true, false, ◌||◌, nat_lt, if◌then◌else◌, List, [], ◌∷◌, length, Some, None, refl, ap, sym, ◌∙◌, subst, arith}
+use Rattle.std.proofs.Common.{◌≡◌, ◌≢◌, ℕ, ◌+◌, ◌<◌, ◌≤◌, min, Bool, true, false, ◌||◌, nat_lt, if◌then◌else◌, List, [], ◌∷◌, length, Some, None, refl, ap, sym, ◌∙◌, subst, arith}
 use Rattle.std.proofs.lemmas.Bool.{lt-ltb}
 use Rattle.std.proofs.lemmas.List.{get_or-set_same}
 use Rattle.std.proofs.lemmas.Option.{get_or_from_slice_get}
@@ -9,14 +9,14 @@ use Rattle.fm_cells.specs.Objects.{request_words}
 use Rattle.fm_cells.specs.Sizes.{packed_words}
 use Rattle.fm_cells.specs.declared.answers.Cell.{Cell}
 use Rattle.fm_frames.proofs.TextSteps.{text-pack}
-use Rattle.fm_frames.proofs.Underways.{ended-one, literal-full, literal-next, literal-there, reserved}
+use Rattle.fm_frames.proofs.Underways.{ended-one, literal-full, literal-next, literal-there, reserved, told-whole}
 use Rattle.fm_frames.specs.Acts.{Choose, is_there, literal_made, literal_text, requested}
 use Rattle.fm_frames.specs.Effects.{Effect, MakeLiteral, OfLiteral, Plain, acting, words}
 use Rattle.fm_frames.specs.Elements.{pack_of}
 use Rattle.fm_frames.specs.NativeRows.{text_type}
 use Rattle.fm_frames.specs.Runnable.{IsRunnable}
 use Rattle.fm_frames.specs.States.{Areas, ref, State}
-use Rattle.fm_frames.specs.Steps.{attempted, words_made}
+use Rattle.fm_frames.specs.Steps.{attempted, most_words, words_made}
 use Rattle.fm_frames.specs.inner.Doings.{DoesIn, Makes, NextFits, silent, Underway}
 use Rattle.fm_world.specs.Chains.{is_among}
 use Rattle.fm_world.specs.Programs.{Program}
@@ -25,7 +25,7 @@ use Rattle.fm_world.specs.Programs.{Program}
 abbrev pub literal_given : ℕ → Effect
 literal_given text = record (acting 0 (MakeLiteral text ∷ [])) { gives = OfLiteral text ∷ [] }
 
-there-is : (x : Areas) (text made : ℕ) → made ≡ slice_index_or x.literals text 0 → made ≢ 0 → is_there x text ≡ true
+pub there-is : (x : Areas) (text made : ℕ) → made ≡ slice_index_or x.literals text 0 → made ≢ 0 → is_there x text ≡ true
 there-is x text made is some =
     let above : 0 < slice_index_or x.literals text 0 = omega (arith, is, some) in lt-ltb 0 (slice_index_or x.literals text 0) above
 
@@ -37,15 +37,16 @@ words_by p text there =
     (if there || is_among text [] then 0 else request_words (requested p.outline (text_type p.outline) (length (literal_text p.outline text)) true)) + 0
 
 -- the words of a literal that isn't there
-pub literal-words : (p : Program) (x : Areas) (text : ℕ) (units : List ℕ) → IsRunnable p → is_there x text ≡ false → literal_text p.outline text ≡ units
+pub literal-words : (p : Program) (x : Areas) (text : ℕ) (units : List ℕ) → IsRunnable p → packed_words (length units) 4 ≤ most_words → is_there x text ≡ false
+    → literal_text p.outline text ≡ units
     → words_made p.outline x (MakeLiteral text ∷ []) ≡ packed_words (length units) 4
 unfolding words_by
-literal-words p x text units runnable there is =
+literal-words p x text units runnable few there is =
     let all : packed_words (length (literal_text p.outline text)) (pack_of p.outline (text_type p.outline)) ≡ packed_words (length units) 4 =
     λ i. packed_words (length (is i)) (text-pack p runnable i) in
     let more : packed_words (length (literal_text p.outline text)) (pack_of p.outline (text_type p.outline)) + 0
     ≡ packed_words (length (literal_text p.outline text)) (pack_of p.outline (text_type p.outline)) = omega arith in
-    ap (words_by p text) there ∙ more ∙ all
+    ap (λ n. min n most_words) (ap (words_by p text) there ∙ more ∙ all) ∙ told-whole (packed_words (length units) 4) few
 
 pub text-is : (p : Program) (text : ℕ) (units : List ℕ) → slice_get p.outline.texts text ≡ Some units → literal_text p.outline text ≡ units
 text-is p text units at = get_or_from_slice_get p.outline.texts text units [] at
@@ -57,8 +58,8 @@ pub given-there : (p : Program) (choose : Choose) (x w : State) (text made : ℕ
 unfolding words_by
 given-there p choose x w text made fits is some given =
     let there = there-is x.areas text made is some in
-    let none : words_made p.outline x.areas (MakeLiteral text ∷ []) ≡ 0 = ap (words_by p text) there in
-    let so = reserved p choose x (literal_given text) (words_made p.outline x.areas (MakeLiteral text ∷ [])) refl refl refl
+    let none : words_made p.outline x.areas (MakeLiteral text ∷ []) ≡ 0 = ap (λ there. min (words_by p text there) most_words) there in
+    let so = reserved p choose x (literal_given text) (words_made p.outline x.areas (MakeLiteral text ∷ [])) refl refl
     (λ needed. absurd (omega (arith, needed, none))) in
     ended-one p choose x x w [] 0 (MakeLiteral text ∷ []) (OfLiteral text) (ref made) fits refl
     (literal-there p choose x x (literal_given text) [] text [] there so) (ap ref (sym is)) given

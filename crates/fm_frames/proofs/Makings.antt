@@ -1,5 +1,5 @@
 -- An effect that makes one object: what comes of each answer of the memory.
-use Rattle.std.proofs.Common.{◌≡◌, ◌⊎◌, inl, inr, length, ℕ, ◌+◌, ◌<◌, ◌≤◌, Bool, true, false, cond, nat_lt, ◌&&◌, if◌then◌else◌, List, [], ◌∷◌, max, Some, refl, ap, sym, ◌∙◌, subst, arith}
+use Rattle.std.proofs.Common.{◌≡◌, ◌⊎◌, inl, inr, length, ℕ, ◌+◌, ◌<◌, ◌≤◌, Bool, true, false, cond, nat_lt, ◌&&◌, if◌then◌else◌, List, [], ◌∷◌, max, min, Some, refl, ap, sym, ◌∙◌, subst, arith}
 use Rattle.std.proofs.lemmas.Bool.{eq-eqb, lt-ltb, le-ltb}
 use Rattle.fm_cells.proofs.Changes.{object_at-made_by}
 use Rattle.fm_base.specs.declared.kinds.TypeRef.{TypeRef}
@@ -11,22 +11,27 @@ use Rattle.fm_world.specs.Programs.{Program}
 use Rattle.fm_frames.specs.Acts.{Choose, Did, made_then, performed, requested}
 use Rattle.fm_frames.specs.Effects.{Action, Effect, Make}
 use Rattle.fm_frames.specs.States.{Moved, State}
-use Rattle.fm_frames.specs.Steps.{attempted, done_by, halted, is_deep, is_over, locals_of, objects_made, stack_of, words_made}
+use Rattle.fm_frames.specs.Steps.{attempted, done_by, halted, is_deep, is_over, locals_of, most_words, objects_made, stack_of, words_made}
 use Rattle.fm_frames.specs.declared.ends.Ended.TheVariants as end
 use Rattle.fm_frames.specs.inner.Doings.{MakesOne, silent}
 use Rattle.fm_frames.proofs.FrameValues.{below_or_not}
 use Rattle.fm_cells.specs.declared.answers.Cell.{Cell}
 
+-- the words of one object, as they are told
+abbrev told_words : ℕ → ℕ
+told_words words = min (words + 0) most_words
+
 -- where the words that live with the object are within the budget
-fits-budget : (live budget words : ℕ) → live + words ≤ budget → (nat_lt 0 (words + 0) && nat_lt budget (live + (words + 0))) ≡ false
-fits-budget live budget words within = none (nat_lt 0 (words + 0)) (le-ltb budget (live + (words + 0)) (omega arith)) where
+fits-budget : (live budget words : ℕ) → live + words ≤ budget → (nat_lt 0 (told_words words) && nat_lt budget (live + told_words words)) ≡ false
+fits-budget live budget words within = none (nat_lt 0 (told_words words)) (le-ltb budget (live + told_words words) (omega arith)) where
   none : (b : Bool) {over : Bool} → over ≡ false → (b && over) ≡ false
   none true e = e
   none false e = refl
 
-passes-budget : (live budget words : ℕ) → 0 < words → budget < live + words → (nat_lt 0 (words + 0) && nat_lt budget (live + (words + 0))) ≡ true
-passes-budget live budget words some over =
-    ap (λ b. b && nat_lt budget (live + (words + 0))) (lt-ltb 0 (words + 0) (omega arith)) ∙ lt-ltb budget (live + (words + 0)) (omega arith)
+passes-budget : (live budget words : ℕ) → 0 < words → words ≤ most_words → budget < live + words
+    → (nat_lt 0 (told_words words) && nat_lt budget (live + told_words words)) ≡ true
+passes-budget live budget words some few over =
+    ap (λ b. b && nat_lt budget (live + told_words words)) (lt-ltb 0 (told_words words) (omega arith)) ∙ lt-ltb budget (live + told_words words) (omega arith)
 
 -- the effect with what is known of it: it isn't too deep, and makes one object
 abbrev attempted_by : Program → Choose → State → Effect → Bool → List Action → Moved
@@ -38,11 +43,11 @@ attempted_by p choose x e deep actions =
 -- the same where it is known whether the object is within the budget, and what the memory chose
 abbrev after_choice : Program → State → Effect → Request → (over : Bool) → Choice → Moved
 after_choice p x e r over choice =
-    if over then halted x (end.Exhausted (live_words x.areas.store) (request_words r + 0))
+    if over then halted x (end.Exhausted (live_words x.areas.store) (told_words (request_words r)))
     else done_by p 1 e x (made_then x.areas r [] choice (λ y cell. Did y (cell ∷ [])))
 
 abbrev over_budget : Store → Request → Bool
-over_budget store r = nat_lt 0 (request_words r + 0) && nat_lt store.budget (live_words store + (request_words r + 0))
+over_budget store r = nat_lt 0 (told_words (request_words r)) && nat_lt store.budget (live_words store + told_words (request_words r))
 
 attempted-one : (p : Program) (choose : Choose) (x : State) (e : Effect) (t : TypeRef) (len : ℕ) (r : Request)
     → requested p.outline t len false ≡ r → e.actions ≡ Make t len [] ∷ [] → is_deep x e.next ≡ false
@@ -55,19 +60,19 @@ attempted-one p choose x e t len r request actions deep =
 
 pub one-over : (p : Program) (choose : Choose) (old x : State) (e : Effect) (t : TypeRef) (len : ℕ) (r : Request) (store : Store) (live words : ℕ)
     → old ≡ x → store ≡ old.areas.store → requested p.outline t len false ≡ r → e.actions ≡ Make t len [] ∷ [] → is_deep x e.next ≡ false
-    → IsOverBudget old.areas.store r → live ≡ live_words store → words ≡ request_words r
+    → IsOverBudget old.areas.store r → live ≡ live_words store → words ≡ request_words r → words ≤ most_words
     → silent (record old { areas = record old.areas { store = store }; ended = Some (end.Exhausted live words) }) ≡ attempted p choose x e
-one-over p choose old x e t len r store live words is same request actions deep over l w =
+one-over p choose old x e t len r store live words is same request actions deep over l w few =
     let P : State → Type 0 = λ x. is_deep x e.next ≡ false
     → silent (record old { areas = record old.areas { store = store }; ended = Some (end.Exhausted live words) }) ≡ attempted p choose x e in
     subst P is
     (λ deep.
     let now : live ≡ live_words old.areas.store = l ∙ ap live_words same in
-    let many : words ≡ request_words r + 0 = omega arith in
+    let many : words ≡ told_words (request_words r) = omega (arith, w, few) in
     (λ i. silent (record old { areas = record old.areas { store = same i }; ended = Some (end.Exhausted (now i) (many i)) }))
     ∙ sym (attempted-one p choose old e t len r request actions deep
     ∙ ap (λ b. after_choice p old e r b (choose old.areas.store r))
-    (passes-budget (live_words old.areas.store) old.areas.store.budget (request_words r) (omega arith) over)))
+    (passes-budget (live_words old.areas.store) old.areas.store.budget (request_words r) (omega arith) (omega (arith, w, few)) over)))
     deep
 
 pub one-full : (p : Program) (choose : Choose) (old x : State) (e : Effect) (t : TypeRef) (len : ℕ) (r : Request) (store : Store) (made words : ℕ)

@@ -1,5 +1,5 @@
 -- Texts are made: what is asked of the memory, and what comes of each answer.
-use Rattle.std.proofs.Common.{◌≡◌, ◌≢◌, ℕ, ◌+◌, ◌<◌, ◌^◌, ◌==◌, Bool, false, cond, List, [], ◌∷◌, length, Option, Some, None, unwrap_or, refl, ap, sym, ◌∙◌, subst, arith}
+use Rattle.std.proofs.Common.{◌≡◌, ◌≢◌, ℕ, ◌+◌, ◌<◌, ◌≤◌, min, ◌^◌, ◌==◌, Bool, false, cond, List, [], ◌∷◌, length, Option, Some, None, unwrap_or, refl, ap, sym, ◌∙◌, subst, arith}
 use Rattle.std.proofs.lemmas.Bool.{eq-eqb, ne_eqb}
 use Rattle.std.proofs.lemmas.Option.{none-some}
 use Rattle.std.proofs.lemmas.List.{length-replicate}
@@ -13,14 +13,14 @@ use Rattle.fm_cells.specs.Stores.{object_at, Store}
 use Rattle.fm_cells.specs.declared.answers.Cell.{Cell}
 use Rattle.fm_frames.proofs.Contents.{content_in}
 use Rattle.fm_frames.proofs.Programs.{pack-is, string-is}
-use Rattle.fm_frames.proofs.Underways.{ended-one, made-next, put-next}
+use Rattle.fm_frames.proofs.Underways.{ended-one, made-next, put-next, told-whole}
 use Rattle.fm_frames.specs.Acts.{Choose, put_value, requested, with_content}
 use Rattle.fm_frames.specs.Effects.{Effect, OfMade, OfOperand, Plain, Put, making, words}
 use Rattle.fm_frames.specs.Elements.{pack_of}
 use Rattle.fm_frames.specs.NativeRows.{has_text, text_kind, text_made, text_type}
 use Rattle.fm_frames.specs.Runnable.{IsRunnable}
 use Rattle.fm_frames.specs.States.{Areas, ref, State, word_at}
-use Rattle.fm_frames.specs.Steps.{attempted, stack_of, words_made}
+use Rattle.fm_frames.specs.Steps.{attempted, most_words, stack_of, words_made}
 use Rattle.fm_frames.specs.declared.values.Value.TheVariants as value
 use Rattle.fm_frames.specs.inner.Doings.{DoesIn, IsReady, Makes, NextFits, silent, Underway}
 use Rattle.fm_frames.specs.inner.Places.{FitsIn, IsWide, TakesUnits}
@@ -40,23 +40,23 @@ text-request p id len fixed runnable number =
     let n : unwrap_or (type_number p.outline.types (text_type p.outline)) 0 ≡ id = ap (λ t. unwrap_or (type_number p.outline.types t) 0) t ∙ sym number in
     λ i. request_of (n i) len (text-pack p runnable i) fixed
 
-pub text-words : (p : Program) (x : Areas) (units : List ℕ) → IsRunnable p
+pub text-words : (p : Program) (x : Areas) (units : List ℕ) → IsRunnable p → packed_words (length units) 4 ≤ most_words
     → words_made p.outline x (text_made p.outline units ∷ []) ≡ packed_words (length units) 4
-text-words p x units runnable =
+text-words p x units runnable few =
     let words : packed_words (length units) (pack_of p.outline (text_type p.outline)) ≡ packed_words (length units) 4 =
     ap (packed_words (length units)) (text-pack p runnable) in
     let more : packed_words (length units) (pack_of p.outline (text_type p.outline)) + 0
     ≡ packed_words (length units) (pack_of p.outline (text_type p.outline)) = omega arith in
-    more ∙ words
+    ap (λ n. min n most_words) (more ∙ words) ∙ told-whole (packed_words (length units) 4) few
 
-pub kept-words : (p : Program) (x : Areas) (operand : ℕ) (units : List ℕ) → IsRunnable p
+pub kept-words : (p : Program) (x : Areas) (operand : ℕ) (units : List ℕ) → IsRunnable p → packed_words (length units) 4 ≤ most_words
     → words_made p.outline x (has_text p.outline operand units) ≡ packed_words (length units) 4
-kept-words p x operand units runnable =
+kept-words p x operand units runnable few =
     let words : packed_words (length units) (pack_of p.outline (text_type p.outline)) ≡ packed_words (length units) 4 =
     ap (packed_words (length units)) (text-pack p runnable) in
     let more : packed_words (length units) (pack_of p.outline (text_type p.outline)) + (0 + 0)
     ≡ packed_words (length units) (pack_of p.outline (text_type p.outline)) = omega arith in
-    more ∙ words
+    ap (λ n. min n most_words) (more ∙ words) ∙ told-whole (packed_words (length units) 4) few
 
 -- ---- the object that is made
 

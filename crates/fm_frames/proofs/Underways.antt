@@ -1,6 +1,6 @@
 -- Effects of several actions, which are done one after the other.
-use Rattle.std.proofs.Common.{◌≡◌, ◌⊎◌, inl, inr, ℕ, ◌+◌, ◌<◌, ◌≤◌, Bool, true, false, nat_lt, ◌&&◌, if◌then◌else◌, List, [], ◌∷◌, ◌++◌, max, length, Some, None, refl, ap, sym, ◌∙◌, subst}
-use Rattle.std.proofs.lemmas.Bool.{lt-ltb, le-ltb}
+use Rattle.std.proofs.Common.{◌≡◌, ◌⊎◌, inl, inr, ℕ, ◌+◌, ◌<◌, ◌≤◌, Bool, true, false, nat_lt, ◌&&◌, if◌then◌else◌, List, [], ◌∷◌, ◌++◌, max, min, length, Some, None, refl, ap, sym, ◌∙◌, subst, arith}
+use Rattle.std.proofs.lemmas.Bool.{false≢true, lt-ltb, le-ltb}
 use Rattle.fm_base.specs.declared.kinds.Kind.{Kind}
 use Rattle.fm_base.specs.declared.kinds.TypeRef.{TypeRef}
 use Rattle.fm_cells.specs.Changes.{Choice, Take, made_by}
@@ -8,12 +8,12 @@ use Rattle.fm_cells.specs.Objects.{Request, request_words}
 use Rattle.fm_cells.specs.Sizes.{cell_words}
 use Rattle.fm_cells.specs.Stores.{live_words}
 use Rattle.fm_cells.specs.declared.answers.Cell.{Cell}
-use Rattle.fm_world.specs.Programs.{Program}
+use Rattle.fm_world.specs.Programs.{Outline, Program}
 use Rattle.fm_frames.specs.Acts.{Choose, Did, is_there, literal_made, literal_text, made_then, performed, Performed, put_value, requested, set_static, value_of, with_content}
-use Rattle.fm_frames.specs.Effects.{Action, Make, MakeLiteral, Put, SetStatic, Source, Plain, Effect, acting, words}
+use Rattle.fm_frames.specs.Effects.{Action, Make, MakeFixed, MakeLiteral, Put, SetStatic, Start, Free, SetChain, FreeChain, Source, Plain, Effect, acting, words}
 use Rattle.fm_frames.specs.NativeRows.{text_type}
 use Rattle.fm_frames.specs.States.{Areas, Moved, ref, State}
-use Rattle.fm_frames.specs.Steps.{attempted, done_by, halted, is_deep, is_over, locals_of, makes, objects_made, stack_of, stopped, words_made}
+use Rattle.fm_frames.specs.Steps.{attempted, done_by, halted, is_deep, is_over, locals_of, makes, most_words, objects_made, stack_of, stopped, words_among, words_made}
 use Rattle.fm_frames.specs.declared.ends.Ended.TheVariants as end
 use Rattle.fm_frames.specs.declared.values.Value.{Value}
 use Rattle.fm_frames.specs.inner.Doings.{DoesIn, Makes, NextFits, silent, Underway}
@@ -22,7 +22,12 @@ use Rattle.fm_frames.proofs.Acting.{done-none, done-one, sources_in}
 
 -- ---- the beginning
 
-abbrev by_tests : Program → Choose → State → Effect → (deep over : Bool) → Moved
+-- a number of words that isn't too great is told as it is
+pub told-whole : (words : ℕ) → words ≤ most_words → min words most_words ≡ words
+told-whole words few = omega (arith, few)
+
+-- by whether it needs too many frames, or too many words
+abbrev pub by_tests : Program → Choose → State → Effect → (deep over : Bool) → Moved
 by_tests p choose x e deep over =
     if deep then halted x (end.TooDeep (length x.frames)) else
     if over then halted x (end.Exhausted (live_words x.areas.store) (words_made p.outline x.areas e.actions)) else
@@ -46,21 +51,35 @@ within live budget words room = by_test (below_or_not 0 words) where
       ap (λ b. b && nat_lt budget (live + words)) (lt-ltb 0 words some) ∙ le-ltb budget (live + words) (room some)
   by_test (inr none) = ap (λ b. b && nat_lt budget (live + words)) (le-ltb 0 words none)
 
-pub reserved : (p : Program) (choose : Choose) (x : State) (e : Effect) (words : ℕ) → is_deep x e.next ≡ false → makes e.actions ≡ true
+-- actions that make nothing need no words
+none-made : (o : Outline) (x : Areas) (literals : List ℕ) (actions : List Action) → makes actions ≡ false → words_among o x literals actions ≡ 0
+none-made o x literals [] none = refl
+none-made o x literals (Make t len content ∷ more) none = absurd (false≢true (sym none))
+none-made o x literals (MakeFixed t ∷ more) none = absurd (false≢true (sym none))
+none-made o x literals (MakeLiteral text ∷ more) none = absurd (false≢true (sym none))
+none-made o x literals (Put object place k v ∷ more) none = let rest = none-made o x literals more none in omega (arith, rest)
+none-made o x literals (SetStatic slot k v ∷ more) none = let rest = none-made o x literals more none in omega (arith, rest)
+none-made o x literals (Start class ∷ more) none = let rest = none-made o x literals more none in omega (arith, rest)
+none-made o x literals (Free operand ∷ more) none = let rest = none-made o x literals more none in omega (arith, rest)
+none-made o x literals (SetChain operand to ∷ more) none = let rest = none-made o x literals more none in omega (arith, rest)
+none-made o x literals (FreeChain operand ∷ more) none = let rest = none-made o x literals more none in omega (arith, rest)
+
+pub reserved : (p : Program) (choose : Choose) (x : State) (e : Effect) (words : ℕ) → is_deep x e.next ≡ false
     → words_made p.outline x.areas e.actions ≡ words → (0 < words → live_words x.areas.store + words ≤ x.areas.store.budget)
     → Underway p choose x x e [] e.actions
-reserved p choose x e words deep some many room =
-    begun p choose x e deep
-    ((λ i. over_by x (some i) (many i)) ∙ within (live_words x.areas.store) x.areas.store.budget words room)
+reserved p choose x e words deep many room = begun p choose x e deep (by_making (makes e.actions) refl) where
+  by_making : (b : Bool) → makes e.actions ≡ b → is_over p.outline x.areas e.actions ≡ false
+  by_making true some = (λ i. over_by x (some i) (many i)) ∙ within (live_words x.areas.store) x.areas.store.budget words room
+  by_making false none = ap (λ b. over_by x b (words_made p.outline x.areas e.actions)) none
 
 over : (live budget words : ℕ) → 0 < words → budget < live + words → (nat_lt 0 words && nat_lt budget (live + words)) ≡ true
 over live budget words some passes =
     ap (λ b. b && nat_lt budget (live + words)) (lt-ltb 0 words some) ∙ lt-ltb budget (live + words) passes
 
-pub exhausted : (p : Program) (choose : Choose) (old x : State) (e : Effect) (live words : ℕ) → old ≡ x → is_deep x e.next ≡ false → makes e.actions ≡ true
+pub exhausted : (p : Program) (choose : Choose) (old x : State) (e : Effect) (live words : ℕ) → old ≡ x → is_deep x e.next ≡ false
     → words_made p.outline x.areas e.actions ≡ words → live ≡ live_words old.areas.store → 0 < words → old.areas.store.budget < live + words
     → DoesIn p choose x (record old { ended = Some (end.Exhausted live words) }) e
-exhausted p choose old x e live words is deep some many lives needed passes =
+exhausted p choose old x e live words is deep many lives needed passes =
     let P : State → Type 0 = λ x. is_deep x e.next ≡ false → words_made p.outline x.areas e.actions ≡ words
     → DoesIn p choose x (record old { ended = Some (end.Exhausted live words) }) e in
     subst P is
@@ -68,10 +87,14 @@ exhausted p choose old x e live words is deep some many lives needed passes =
     (λ i. silent (record old { ended = Some (end.Exhausted (lives i) (sym many i)) }))
     ∙ sym (ap (λ d. by_tests p choose old e d (is_over p.outline old.areas e.actions)) deep
     ∙ ap (by_tests p choose old e false)
-    ((λ i. over_by old (some i) (many i))
+    ((λ i. over_by old (some (makes e.actions) refl i) (many i))
     ∙ over (live_words old.areas.store) old.areas.store.budget words needed
     (subst (λ l. old.areas.store.budget < l + words) lives passes))))
-    deep many
+    deep many where
+      some : (b : Bool) → makes e.actions ≡ b → makes e.actions ≡ true
+      some true made = made
+      some false none =
+          let nothing = none-made p.outline x.areas [] e.actions none in absurd (omega (arith, many, needed, nothing))
 
 -- ---- an object
 

@@ -1,5 +1,5 @@
 -- One step of the machine: the effect of the next instruction is found and carried out (JVMS 2.6, 2.10, 2.11, 6.5).
-use Rattle.std.specs.Prelude.{ℕ, ◌+◌, ◌-◌, ◌==◌, ◌&&◌, ◌||◌, not, Bool, true, false, List, [], ◌∷◌, ◌++◌, length, map, max, take, drop, reverse, replicate, nat_le, nat_lt, Option, Some, None, option_map, option_and_then, unwrap_or, count_by, slice_get, slice_set, if◌then◌else◌}
+use Rattle.std.specs.Prelude.{ℕ, ◌+◌, ◌-◌, ◌^◌, ◌==◌, ◌&&◌, ◌||◌, not, Bool, true, false, List, [], ◌∷◌, ◌++◌, length, map, max, min, take, drop, reverse, replicate, nat_le, nat_lt, Option, Some, None, option_map, option_and_then, unwrap_or, count_by, slice_get, slice_set, if◌then◌else◌}
 use Rattle.std.specs.List.{slice_index_or}
 use Rattle.fm_base.specs.declared.kinds.TypeRef.{TypeRef}
 use Rattle.fm_cells.specs.Objects.{Object, request_words}
@@ -71,9 +71,13 @@ abbrev pub words_among : Outline → Areas → List ℕ → List Action → ℕ
 words_among o x literals [] = 0
 words_among o x literals (action ∷ more) = words_of o x literals action + words_among o x (literal_of action ++ literals) more
 
--- the words of all that the actions make
+-- the greatest number of words that is told
+abbrev pub most_words : ℕ
+most_words = 2 ^ 64 - 1
+
+-- the words of all that the actions make; a sum above the greatest 64-bit number counts as that number
 abbrev pub words_made : Outline → Areas → List Action → ℕ
-words_made o x actions = words_among o x [] actions
+words_made o x actions = min (words_among o x [] actions) most_words
 
 -- whether some action makes an object
 abbrev pub is_making : Action → Bool

@@ -5,9 +5,11 @@
 // whose operands look alike do the same.
 #![tactic(auto)]
 
+mod actions;
 mod built_ins;
 mod calls;
 mod coded;
+mod depths;
 mod elements;
 mod ends;
 mod faults;
@@ -22,6 +24,7 @@ mod makes;
 mod moves;
 mod report;
 mod shuffles;
+mod starts;
 mod statics;
 mod streams;
 mod texts;
@@ -29,6 +32,7 @@ mod throws;
 mod turns;
 mod values;
 
+pub use actions::{StartAction, start_actions};
 pub use built_ins::{
     ARITHMETIC_EXCEPTION, ARRAY_INDEX_EXCEPTION, ARRAY_STORE_EXCEPTION, CLASS_CAST_EXCEPTION,
     CLASS_CHANGE_ERROR, NEGATIVE_ARRAY_SIZE_EXCEPTION, NULL_POINTER_EXCEPTION, STRING,
@@ -41,7 +45,10 @@ pub use frames::{Cursor, Frames};
 pub use laws::{law_object_example, law_sum_example};
 pub use looks::Look;
 pub use machine::Machine;
+pub use makes::object_words;
 pub use report::Report;
+pub use starts::{enter_starts, first_field, start_count, start_of};
+pub use texts::text_words;
 pub use throws::{Catch, is_start};
 pub use turns::{StepFail, Turn};
 pub use values::Value;

@@ -5,11 +5,12 @@ ghost use Rattle.fm_base.specs.declared.kinds.TypeRef as kinds;
 ghost use Rattle.fm_cells.specs.Objects.{new_object, request_of};
 ghost use Rattle.fm_cells.specs.Sizes as spec;
 ghost use Rattle.fm_cells.specs.Sizes.{packed_words, IsPack};
+ghost use Rattle.fm_cells.specs.Soundness.{IsSound};
 ghost use Rattle.fm_cells.specs.Stores.{live_words, object_at, words_needed};
 ghost use Rattle.fm_cells.specs.declared.answers.Cell.{Cell};
 ghost use Rattle.fm_frames.specs.Acts.{requested, Choose};
 ghost use Rattle.fm_frames.specs.Effects.{making, Effect, Make};
-ghost use Rattle.fm_frames.specs.Steps.{is_deep, makes, words_made};
+ghost use Rattle.fm_frames.specs.Steps.{is_deep, words_made};
 ghost use Rattle.fm_frames.specs.inner.Doings.{CanStep, DoesIn, IsReserved, Makes, MakesOne};
 ghost use Rattle.fm_world.specs.Programs as world;
 
@@ -22,7 +23,7 @@ use fm_cells::{Cell, MakeFail, Memory, cell_words};
 use fm_world::Program;
 
 /// The words of an object of so many elements, where a word holds `pack` of them. Takes no memory.
-pub(crate) fn object_words(len: u32, pack: u8) -> u32
+pub fn object_words(len: u32, pack: u8) -> u32
     requires len_fits { len < 2 ^ 31 }
     requires pack_is { IsPack pack }
     ensures { result ≡ packed_words len pack }
@@ -71,13 +72,21 @@ impl<M: Memory> Machine<M> {
         }
     }
 
+    /// How many objects were made so far. The store is sound. Takes no memory.
+    pub fn births(&self) -> u64
+        ensures value { result ≡ self.now.areas.store.births }
+        ensures sound { IsSound self.now.areas.store }
+    {
+        self.memory.births()
+    }
+
     /// Whether so many words more may live; where they may not, the run ends. Takes no memory.
     pub fn reserve(&mut self, words: u64) -> bool
         ensures room { result ≡ true → 0 < words
             → live_words self.old.areas.store + words ≤ self.old.areas.store.budget }
         ensures kept { result ≡ true → self.new ≡ self.old }
         ensures told { (p : world.Program) (choose : Choose) (e : Effect) → is_deep self.old e.next ≡ false
-            → makes e.actions ≡ true → words_made p.outline self.old.areas e.actions ≡ words
+            → words_made p.outline self.old.areas e.actions ≡ words
             → IsReserved p choose self.old self.new e result }
     {
         let live = self.memory.live_words();

@@ -49,6 +49,7 @@ few_within o x actions budget not_over = by_making (makes actions) refl where
   by_making false none = none_made o actions none
   by_making true some =
       let needed : ℕ = words_made o x actions in
-      few_of o x actions []
-      (few_needed needed x.store.budget (live_words x.store)
-      (sym (ap (λ b. cond b (nat_lt 0 needed && nat_lt x.store.budget (live_words x.store + needed)) false) some) ∙ not_over) budget)
+      let few : needed ≤ MAX_LIVE_WORDS =
+      few_needed needed x.store.budget (live_words x.store)
+      (sym (ap (λ b. cond b (nat_lt 0 needed && nat_lt x.store.budget (live_words x.store + needed)) false) some) ∙ not_over) budget in
+      few_of o x actions [] (omega (arith, few))

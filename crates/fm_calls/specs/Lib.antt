@@ -1,0 +1,3 @@
+pub mod Selections
+pub mod inner
+pub mod Constants
