@@ -42,6 +42,7 @@ effect_of_native p x n = native_effect p.outline n (slice_get x.input 0) (seen p
 abbrev pub PrintsRow : Program → Choose → State → State → (old new : Output) → Native → Type 0
 PrintsRow p choose x y old new n = StepsTo p choose x y old new (effect_of_native p x n)
 
+-- a built-in method prints something, and the put of it failed
 abbrev pub FailsRow : Program → Choose → State → (old new : Output) → Native → Type 0
 FailsRow p choose x old new n = FailsAt p choose x old new (effect_of_native p x n)
 

@@ -23,6 +23,7 @@ Suits p literals (SetStatic slot k (Plain v)) = IsOfKind k (kept k v)
 Suits p literals (SetStatic slot k (OfLiteral text)) = (t : TypeRef) × (k ≡ kind.Ref t)
 Suits p literals action = Unit {0}
 
+-- all of several actions suit
 abbrev pub AllSuit : Program → (literals : ℕ) → List Action → Type 0
 AllSuit p literals actions = AllByRecursion (Suits p literals) actions
 

@@ -11,6 +11,7 @@ use Rattle.fm_frames.specs.declared.actions.StartAction.{StartAction}
 use Rattle.fm_frames.specs.declared.actions.StartAction.TheVariants as starting
 use Rattle.fm_frames.specs.declared.values.Value.TheVariants as value
 
+-- the action that one of a class's start stands for
 abbrev pub action_of : StartAction → Action
 action_of (starting.Start class) = Start class.0
 action_of (starting.MakeLiteral text) = MakeLiteral text

@@ -79,6 +79,7 @@ passed_by of_null o operand (Ok None) follows = of_null
 passed_by of_null o operand (Ok (Some found)) follows = follows found
 passed_by of_null o operand (Err r) follows = refused o operand r
 
+-- an object or null was asked for at an operand, and this is what was found
 abbrev pub AsksHeldOrNull : Outline → Store → List Sight → ℕ → Result (Option Held) Refusal → Type 0
 AsksHeldOrNull o store s operand found =
     (of_null : Effect) (follows : Looks → Effect)
