@@ -1,5 +1,5 @@
 -- The effects of the rows of FreeMe, by what their operands are; and steps that free or chain.
-use Rattle.std.proofs.Common.{◌≡◌, ℕ, suc, ◌+◌, ◌<◌, Bool, true, false, if◌then◌else◌, List, [], ◌∷◌, length, drop, map, get_or, Option, Some, None, Result, Ok, Err, IfOk, IfSome, refl, ap, sym, ◌∙◌, subst, arith}
+use Rattle.std.proofs.Common.{◌≡◌, ℕ, suc, ◌+◌, ◌<◌, Bool, false, if◌then◌else◌, List, [], ◌∷◌, length, drop, map, get_or, Option, Some, None, Result, Ok, Err, IfOk, IfSome, refl, ap, sym, ◌∙◌, subst, arith}
 use Rattle.std.proofs.Math.Seq.{drop-cons}
 use Rattle.fm_cells.specs.Stores.{Store}
 use Rattle.fm_cells.specs.declared.answers.Cell.{Cell}
@@ -10,7 +10,7 @@ use Rattle.fm_frames.specs.Effects.{Effect, Faults, Free, FreeChain, OfOperand, 
 use Rattle.fm_frames.specs.NativeRows.{free_native, linked, native_effect}
 use Rattle.fm_frames.specs.Natives as table
 use Rattle.fm_frames.specs.Sights.{looks, Sight}
-use Rattle.fm_frames.specs.States.{Areas, Frame, State, word_at}
+use Rattle.fm_frames.specs.States.{Frame, State, word_at}
 use Rattle.fm_frames.specs.Steps.{attempted, continued, done_by, stack_of}
 use Rattle.fm_frames.specs.declared.values.Value.{Value}
 use Rattle.fm_frames.specs.declared.values.Value.TheVariants as value

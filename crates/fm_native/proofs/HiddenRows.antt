@@ -1,5 +1,5 @@
 -- The effects of the rows of objects that have a text in a hidden field, by what their operands are.
-use Rattle.std.proofs.Common.{◌≡◌, ℕ, ◌+◌, pos, Bool, List, [], ◌∷◌, ◌++◌, length, Option, Some, None, Result, Ok, Err, IfOk, option_map, refl, ap, sym, ◌∙◌}
+use Rattle.std.proofs.Common.{◌≡◌, ℕ, ◌+◌, pos, Bool, List, [], ◌∷◌, ◌++◌, length, Option, Result, Ok, Err, IfOk, option_map, ap, sym, ◌∙◌}
 use Rattle.std.specs.Global.{Vec}
 use Rattle.fm_base.specs.declared.kinds.TypeRef.{TypeRef}
 use Rattle.fm_cells.specs.Stores.{Store}

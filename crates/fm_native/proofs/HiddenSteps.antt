@@ -1,5 +1,5 @@
 -- What lies in a hidden field is put and read.
-use Rattle.std.proofs.Common.{◌≡◌, ℕ, ◌^◌, ◌<◌, [], ◌∷◌, ap, sym, ◌∙◌, subst, arith}
+use Rattle.std.proofs.Common.{◌≡◌, ℕ, ◌^◌, ◌<◌, [], ◌∷◌, ap, sym, ◌∙◌, subst}
 use Rattle.fm_base.specs.declared.kinds.Kind.{Kind}
 use Rattle.fm_cells.proofs.Elements.{pack_at-some}
 use Rattle.fm_cells.specs.Sizes.{element_bits}

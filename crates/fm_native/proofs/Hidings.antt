@@ -1,5 +1,5 @@
 -- Objects that have a text in a hidden field: what is seen of them, and that they have that field.
-use Rattle.std.proofs.Common.{◌≡◌, ℕ, zero, suc, ◌==◌, ◌||◌, ◌⊎◌, inl, inr, Bool, true, false, nat_eq, if◌then◌else◌, List, [], ◌∷◌, length, take, Option, Some, None, Result, Ok, Err, option_map, unwrap_or, refl, ap, sym, ◌∙◌, subst, arith}
+use Rattle.std.proofs.Common.{◌≡◌, ℕ, zero, suc, ◌==◌, ◌||◌, ◌⊎◌, inl, inr, Bool, true, false, nat_eq, if◌then◌else◌, List, [], ◌∷◌, length, take, Option, Some, None, Ok, Err, option_map, unwrap_or, refl, ap, sym, ◌∙◌, arith}
 use Rattle.std.specs.List.{list_any, slice_index_or}
 use Rattle.std.proofs.lemmas.Bool.{eqb-true, false≢true, or_cases}
 use Rattle.std.proofs.lemmas.List.{take_all}
@@ -19,13 +19,10 @@ use Rattle.fm_native.specs.declared.asked.Held.{Held}
 use Rattle.fm_native.specs.declared.asked.Refusal.{Refusal}
 use Rattle.fm_native.specs.declared.asked.Refusal.TheVariants as refusal
 use Rattle.fm_native.specs.declared.asked.Text.{Text}
-use Rattle.fm_native.specs.declared.hidden.Built.{Built}
 use Rattle.fm_native.specs.inner.Asked.{AsksHeld, on_cell, on_found, units_in}
 use Rattle.fm_native.specs.inner.Hidden.{AsksBuilt, AsksFitting, AsksInner, HidesText}
 use Rattle.fm_world.specs.Chains.{chain_of, class_at, is_among}
-use Rattle.fm_world.specs.Numbers.{type_of_class}
 use Rattle.fm_world.specs.Programs.{Outline}
-use Rattle.fm_world.specs.declared.declarations.DeclaredClass.{DeclaredClass}
 
 -- ---- objects that pass a test
 

@@ -1,5 +1,5 @@
 -- What is seen of an operand that is an object, a text or null, where null is passed over.
-use Rattle.std.proofs.Common.{◌≡◌, ℕ, ℤ, pos, Bool, true, false, ◌&&◌, codes, if◌then◌else◌, List, [], Option, Some, None, Result, Ok, Err, slice_get, refl, ap, sym, ◌∙◌}
+use Rattle.std.proofs.Common.{◌≡◌, ℕ, pos, Bool, true, false, ◌&&◌, codes, if◌then◌else◌, List, Option, Some, None, Result, Ok, Err, slice_get, refl, ap, ◌∙◌}
 use Rattle.std.specs.Str.{bytes_eq}
 use Rattle.fm_cells.specs.Answers.{head_of}
 use Rattle.fm_cells.specs.Objects.{Object}
@@ -16,7 +16,7 @@ use Rattle.fm_native.proofs.Asks.{found_by, held-asked, text_follows, units-are}
 use Rattle.fm_native.specs.declared.asked.Held.{Held}
 use Rattle.fm_native.specs.declared.asked.Refusal.{Refusal}
 use Rattle.fm_native.specs.declared.asked.Refusal.TheVariants as refusal
-use Rattle.fm_native.specs.inner.Asked.{asked_by, AsksHeldOrNull, AsksOther, AsksTextOrNull, equals_other, on_cell, on_found, passed_by, text_of, units_in}
+use Rattle.fm_native.specs.inner.Asked.{asked_by, AsksHeldOrNull, AsksOther, AsksTextOrNull, on_cell, on_found, passed_by, text_of, units_in}
 use Rattle.fm_types.specs.Fits.{fits_type}
 use Rattle.fm_world.specs.Programs.{Outline}
 

@@ -1,4 +1,4 @@
-use Rattle.std.proofs.Common.{◌≡◌, Ok, Err, Some, None, [], ◌∷◌, ◌+◌, ◌++◌, pos, if◌then◌else◌, ap, sym, ◌∙◌, subst, rules, arith}
+use Rattle.std.proofs.Common.{◌≡◌, Ok, Err, [], ◌∷◌, ◌+◌, ◌++◌, sym, ◌∙◌, subst, rules}
 use Rattle.fm_frames.specs.Effects.{acting, OfOperand}
 use Rattle.fm_frames.specs.NativeRows.{has_text, shown_words}
 use Rattle.fm_frames.specs.Natives.{Append}
@@ -10,7 +10,7 @@ use Rattle.fm_native.proofs.HiddenRows.{append-is, append-refused}
 use Rattle.fm_native.proofs.Rows.{carried, told-ok}
 use Rattle.fm_native.specs.Showing.{shown_as}
 use Rattle.fm_native.specs.inner.Asked.{IsAt}
-use Rattle.fm_native.specs.inner.Asked.{refused, units_in}
+use Rattle.fm_native.specs.inner.Asked.{refused}
 use Rattle.fm_native.specs.inner.Hidden.{AsksBuilt, units_so_far}
 use Rattle.fm_native.specs.inner.Shown.{AsksUnits, operand_as}
 use Rattle.std.specs.Prelude.{IfErr}

@@ -1,4 +1,4 @@
-use Rattle.std.proofs.Common.{◌≡◌, Ok, Err, Some, None, [], ◌∷◌, ◌+◌, ◌++◌, pos, if◌then◌else◌, ap, sym, ◌∙◌, subst, rules, arith}
+use Rattle.std.proofs.Common.{◌≡◌, Ok, Err, ap, ◌∙◌, rules}
 use Rattle.fm_frames.specs.Effects.{acting}
 use Rattle.fm_frames.specs.NativeRows.{has_text}
 use Rattle.fm_frames.specs.Natives.{BufferInitOf}

@@ -1,11 +1,11 @@
-use Rattle.std.proofs.Common.{◌≡◌, Ok, Err, Some, None, [], ◌∷◌, ◌+◌, ◌++◌, pos, if◌then◌else◌, ap, sym, ◌∙◌, subst, rules, arith}
+use Rattle.std.proofs.Common.{Ok, Err, ap, sym, ◌∙◌, rules}
 use Rattle.fm_frames.specs.Effects.{Plain, int_word, words}
 use Rattle.fm_frames.specs.Natives.{BuilderLength}
 use Rattle.fm_frames.specs.declared.values.Value.TheVariants as value
 use Rattle.fm_frames.specs.inner.Doings.{seen}
 use Rattle.fm_native.proofs.HiddenRows.{built-length}
 use Rattle.fm_native.proofs.Rows.{carried, told-ok}
-use Rattle.fm_native.specs.inner.Asked.{refused, units_in}
+use Rattle.fm_native.specs.inner.Asked.{refused}
 use Rattle.fm_native.proofs.builders.length.Goals as goal
 
 pub returns-in-Ok : goal.returns-in-Ok

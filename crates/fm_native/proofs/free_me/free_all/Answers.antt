@@ -1,4 +1,4 @@
-use Rattle.std.proofs.Common.{◌≡◌, arith, rules}
+use Rattle.std.proofs.Common.{arith, rules}
 use Rattle.std.proofs.lemmas.List.{drop_all}
 use Rattle.fm_native.proofs.FreeRows.{frees-end, frees-next, frees-start}
 use Rattle.fm_native.proofs.free_me.free_all.Goals as goal

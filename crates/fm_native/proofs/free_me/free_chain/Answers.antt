@@ -1,12 +1,11 @@
-use Rattle.std.proofs.Common.{◌≡◌, Ok, Err, Some, None, [], ◌∷◌, ◌+◌, ◌++◌, pos, if◌then◌else◌, ap, sym, ◌∙◌, subst, rules, arith}
+use Rattle.std.proofs.Common.{◌≡◌, ap, sym, ◌∙◌, rules}
 use Rattle.fm_cells.specs.declared.answers.Cell.{Cell}
 use Rattle.fm_frames.specs.Acts.{all_freed, cell_of, chain_from}
 use Rattle.fm_frames.specs.Effects.{OfOperand}
 use Rattle.fm_frames.specs.Natives.{FreeMeFreeChain}
 use Rattle.fm_frames.specs.inner.Doings.{seen}
 use Rattle.fm_native.proofs.FreeRows.{chain-done, chain-is, chain-lost, freeing_chain}
-use Rattle.fm_native.proofs.Rows.{carried, told-ok}
-use Rattle.fm_native.specs.inner.Asked.{refused, units_in}
+use Rattle.fm_native.proofs.Rows.{carried}
 use Rattle.fm_native.specs.inner.Chains.{cells_in}
 use Rattle.std.specs.Option.{option_map}
 use Rattle.std.specs.Prelude.{map}

@@ -1,12 +1,10 @@
-use Rattle.std.proofs.Common.{◌≡◌, Ok, Err, false, true, sym, ◌∙◌, subst, rules}
+use Rattle.std.proofs.Common.{◌≡◌, Err, false, true, sym, subst, rules}
 use Rattle.fm_frames.specs.NativeRows.{is_builder}
 use Rattle.fm_frames.specs.inner.Doings.{seen}
 use Rattle.fm_native.proofs.HidingTypes.{builder-hides}
 use Rattle.fm_native.proofs.Hidings.{fitting-found, fitting-refused, fitting-unfit, type-told}
 use Rattle.fm_native.proofs.hidden.builder_at.Goals as goal
-use Rattle.fm_native.specs.inner.Hidden.{AsksFitting, builds_text, is_throwable}
-use Rattle.fm_types.specs.Fits.{fits_type}
-use Rattle.fm_types.specs.Named.{throwable_type}
+use Rattle.fm_native.specs.inner.Hidden.{AsksFitting, builds_text}
 
 pub returns-in_err-held-clause-value : goal.returns-in_err-held-clause-value
 returns-in_err-held-clause-value g c =

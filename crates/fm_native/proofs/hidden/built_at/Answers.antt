@@ -1,4 +1,3 @@
-use Rattle.std.proofs.Common.{Ok, Err}
 use Rattle.fm_frames.specs.inner.Doings.{seen}
 use Rattle.fm_native.proofs.Hidings.{built-found, built-lost, built-refused}
 use Rattle.fm_native.proofs.hidden.built_at.Goals as goal

@@ -1,10 +1,9 @@
-use Rattle.std.proofs.Common.{◌≡◌, Ok, Err, false, true, sym, ◌∙◌, subst, rules}
-use Rattle.fm_frames.specs.NativeRows.{is_builder}
+use Rattle.std.proofs.Common.{◌≡◌, Err, false, true, sym, subst, rules}
 use Rattle.fm_frames.specs.inner.Doings.{seen}
 use Rattle.fm_native.proofs.HidingTypes.{throwable-hides}
 use Rattle.fm_native.proofs.Hidings.{fitting-found, fitting-refused, fitting-unfit, type-told}
 use Rattle.fm_native.proofs.hidden.throwable_at.Goals as goal
-use Rattle.fm_native.specs.inner.Hidden.{AsksFitting, builds_text, is_throwable}
+use Rattle.fm_native.specs.inner.Hidden.{AsksFitting, is_throwable}
 use Rattle.fm_types.specs.Fits.{fits_type}
 use Rattle.fm_types.specs.Named.{throwable_type}
 

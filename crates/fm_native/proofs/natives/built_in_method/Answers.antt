@@ -1,9 +1,8 @@
 use Rattle.std.proofs.Common.{sym, subst}
-use Rattle.fm_frames.specs.Natives.{Exit, Read}
-use Rattle.fm_native.proofs.Prints.{quiet-does, quiet-fails, quiet-row, quiet-told}
+use Rattle.fm_native.proofs.Prints.{quiet-fails, quiet-row, quiet-told}
 use Rattle.fm_native.proofs.natives.built_in_method.Goals as goal
-use Rattle.fm_native.specs.Doing.{effect_of_native, PrintsRow}
-use Rattle.fm_native.specs.Tables.{builder_row, free_me_row, native_as, object_row, stream_row, string_row, throwable_row}
+use Rattle.fm_native.specs.Doing.{PrintsRow}
+use Rattle.fm_native.specs.Tables.{builder_row, free_me_row, native_as, object_row, string_row, throwable_row}
 
 pub returns-in-Object-clause-told : goal.returns-in-Object-clause-told
 returns-in-Object-clause-told g c =

@@ -3,7 +3,7 @@ use Rattle.fm_frames.specs.Natives.{Exit, Read}
 use Rattle.fm_native.proofs.Prints.{quiet-does, quiet-fails, quiet-row, quiet-told}
 use Rattle.fm_native.proofs.natives.stream_method.Goals as goal
 use Rattle.fm_native.specs.Doing.{effect_of_native, PrintsRow}
-use Rattle.fm_native.specs.Tables.{builder_row, free_me_row, native_as, object_row, stream_row, string_row, throwable_row}
+use Rattle.fm_native.specs.Tables.{stream_row}
 
 pub returns-in-Exit-clause-told : goal.returns-in-Exit-clause-told
 returns-in-Exit-clause-told g c =

@@ -1,4 +1,3 @@
-use Rattle.std.proofs.Common.{OnOk}
 use Rattle.fm_frames.specs.inner.Doings.{seen}
 use Rattle.fm_native.proofs.Prints.{fails-as, steps-as}
 use Rattle.fm_native.proofs.Rows.{told-ok}

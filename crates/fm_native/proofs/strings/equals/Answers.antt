@@ -1,4 +1,4 @@
-use Rattle.std.proofs.Common.{◌≡◌, Ok, Err, Some, None, [], ◌∷◌, ◌+◌, ◌++◌, pos, if◌then◌else◌, ap, sym, ◌∙◌, subst, rules, arith}
+use Rattle.std.proofs.Common.{◌≡◌, Ok, Err, pos, if◌then◌else◌, ap, ◌∙◌, rules}
 use Rattle.fm_frames.specs.Effects.{Plain, int_word, words}
 use Rattle.fm_frames.specs.Natives.{StringEquals}
 use Rattle.fm_frames.specs.declared.values.Value.TheVariants as value
@@ -6,7 +6,7 @@ use Rattle.fm_frames.specs.inner.Doings.{seen}
 use Rattle.fm_native.proofs.Rows.{carried, told-ok}
 use Rattle.fm_native.proofs.TextRows.{equal-is, equal-refused}
 use Rattle.fm_native.specs.inner.Asked.{equals_other}
-use Rattle.fm_native.specs.inner.Asked.{refused, units_in}
+use Rattle.fm_native.specs.inner.Asked.{refused}
 use Rattle.fm_native.proofs.strings.equals.Goals as goal
 
 pub returns-in_ok-equal-in-Ok-other_on_top : goal.returns-in_ok-equal-in-Ok-other_on_top

@@ -1,4 +1,4 @@
-use Rattle.std.proofs.Common.{◌≡◌, Ok, Err, Some, None, [], ◌∷◌, ◌+◌, ◌++◌, pos, if◌then◌else◌, ap, sym, ◌∙◌, subst, rules, arith}
+use Rattle.std.proofs.Common.{◌≡◌, Ok, Err, ap, ◌∙◌, rules}
 use Rattle.fm_frames.specs.Effects.{making}
 use Rattle.fm_frames.specs.NativeRows.{text_made, throwable_text}
 use Rattle.fm_frames.specs.Natives.{ThrowableToString}
