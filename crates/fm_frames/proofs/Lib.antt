@@ -14,3 +14,5 @@ pub mod Bits
 pub mod LiteralSteps
 pub mod Jumping
 pub mod Shuffling
+pub mod ClassStarts
+pub mod StartActions

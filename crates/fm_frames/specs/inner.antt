@@ -5,3 +5,4 @@ pub mod Catching
 pub mod Looks
 pub mod Places
 pub mod Targets
+pub mod StartActions

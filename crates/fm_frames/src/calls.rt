@@ -15,7 +15,7 @@ use fm_cells::Memory;
 use fm_world::Program;
 
 // The words of the locals of a method; none where it has no code.
-fn max_locals_of(program: &Program, method: MethodId) -> u16
+pub(crate) fn max_locals_of(program: &Program, method: MethodId) -> u16
     ensures { IsRunnable program.now → result ≡ max_locals_of program.now method.0 }
 {
     match code_of(program, method) {

@@ -5,6 +5,7 @@
 // whose operands look alike do the same.
 #![tactic(auto)]
 
+mod actions;
 mod built_ins;
 mod calls;
 mod coded;
@@ -21,12 +22,15 @@ mod makes;
 mod moves;
 mod report;
 mod shuffles;
+mod starts;
 mod statics;
 mod streams;
 mod texts;
 mod throws;
+mod turns;
 mod values;
 
+pub use actions::{StartAction, start_actions};
 pub use built_ins::{
     ARITHMETIC_EXCEPTION, ARRAY_INDEX_EXCEPTION, ARRAY_STORE_EXCEPTION, CLASS_CAST_EXCEPTION,
     CLASS_CHANGE_ERROR, NEGATIVE_ARRAY_SIZE_EXCEPTION, NULL_POINTER_EXCEPTION, STRING,
@@ -40,5 +44,7 @@ pub use laws::{law_object_example, law_sum_example};
 pub use looks::Look;
 pub use machine::Machine;
 pub use report::Report;
+pub use starts::{enter_starts, first_field, start_count, start_of};
 pub use throws::{Catch, is_start};
+pub use turns::{StepFail, Turn};
 pub use values::Value;

@@ -1,7 +1,9 @@
 -- How frames lie among the values of one list: the lowest first, and of each first its locals and then its stack, whose last value is its top. And what
 -- changes the topmost frame.
 use Rattle.std.specs.Prelude.{ℕ, ◌+◌, ◌-◌, ◌≤◌, nat_lt, if◌then◌else◌, slice_get, List, [], ◌∷◌, ◌++◌, length, replicate, take, drop, reverse, Option, Some, None}
+use Rattle.fm_world.specs.Programs.{Program}
 use Rattle.fm_frames.specs.States.{Frame}
+use Rattle.fm_frames.specs.Steps.{new_frame}
 use Rattle.fm_frames.specs.declared.frames.Cursor.{Cursor}
 use Rattle.fm_frames.specs.declared.values.Value.{Value}
 use Rattle.fm_frames.specs.declared.values.Value.TheVariants as value
@@ -82,3 +84,10 @@ with_words more f = record f { stack = more ++ f.stack }
 abbrev pub with_result : ℕ → List Frame → List Frame
 with_result words [] = []
 with_result words (f ∷ callers) = on_top (λ caller. record caller { item = caller.item + 1; stack = take words f.stack ++ caller.stack }) callers
+
+-- ---- the starts of classes
+
+-- the frame of the method that starts a class on top, if there is one
+abbrev pub with_start : Program → Option ℕ → List Frame → List Frame
+with_start p None frames = frames
+with_start p (Some start) frames = new_frame p start [] ∷ frames
