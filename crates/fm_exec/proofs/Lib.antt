@@ -10,3 +10,4 @@ pub mod HeldSteps
 pub mod FieldSteps
 pub mod ArraySteps
 pub mod ElementSteps
+pub mod LiteralRow

@@ -19,7 +19,7 @@ mod throws;
 
 pub use arrays::{array_length, new_array, new_references};
 pub use calls::{leave, static_call};
-pub use constants::{int_constant, long_constant, nop, null};
+pub use constants::{int_constant, long_constant, nop, null, text_constant};
 pub use elements::{array_load, array_store, reference_store};
 pub use fields::{get_field, get_static, put_field, put_static};
 pub use jumps::{go_to, if_int, if_null, if_pair, if_same, lookup_switch, table_switch};
