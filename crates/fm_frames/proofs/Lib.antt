@@ -16,3 +16,10 @@ pub mod Jumping
 pub mod Shuffling
 pub mod ClassStarts
 pub mod StartActions
+pub mod OpeningSteps
+pub mod OpeningStarts
+pub mod FirstValues
+pub mod OpeningArguments
+pub mod OpeningObjects
+pub mod MainFrame
+pub mod OpeningMain

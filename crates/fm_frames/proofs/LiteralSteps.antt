@@ -25,7 +25,7 @@ use Rattle.fm_world.specs.Programs.{Program}
 abbrev pub literal_given : ℕ → Effect
 literal_given text = record (acting 0 (MakeLiteral text ∷ [])) { gives = OfLiteral text ∷ [] }
 
-there-is : (x : Areas) (text made : ℕ) → made ≡ slice_index_or x.literals text 0 → made ≢ 0 → is_there x text ≡ true
+pub there-is : (x : Areas) (text made : ℕ) → made ≡ slice_index_or x.literals text 0 → made ≢ 0 → is_there x text ≡ true
 there-is x text made is some =
     let above : 0 < slice_index_or x.literals text 0 = omega (arith, is, some) in lt-ltb 0 (slice_index_or x.literals text 0) above
 

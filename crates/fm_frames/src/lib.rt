@@ -20,6 +20,7 @@ mod looks;
 mod machine;
 mod makes;
 mod moves;
+mod opens;
 mod report;
 mod shuffles;
 mod starts;

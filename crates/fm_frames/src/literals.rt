@@ -25,8 +25,8 @@ impl<M: Memory> Machine<M> {
         }
     }
 
-    // Keeps the cell of the literal of a text, if there is that text.
-    fn set_literal(&mut self, text: u32, cell: Cell)
+    /// Keeps the cell of the literal of a text, if there is that text. Takes no memory.
+    pub fn set_literal(&mut self, text: u32, cell: Cell)
         ensures { self.new ≡ record self.old { areas = literal_made self.old.areas text cell.0 } }
     {
         if (text as usize) < self.literals.len() {
