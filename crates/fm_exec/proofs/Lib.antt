@@ -11,3 +11,4 @@ pub mod FieldSteps
 pub mod ArraySteps
 pub mod ElementSteps
 pub mod CastSteps
+pub mod LiteralRow

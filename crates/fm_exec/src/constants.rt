@@ -1,9 +1,11 @@
 // The rows of constants (JVMS 6.5.aconst_null, 6.5.bipush and its like, 6.5.ldc).
 
-ghost use Rattle.std.specs.Prelude.{OnOk, []};
+ghost use Rattle.std.specs.Prelude.{◌<◌, length, OnOk, []};
 ghost use Rattle.fm_exec.specs.Steps.{Steps};
 ghost use Rattle.fm_frames.specs.Effects.{int_word, long_words, null_word, words};
+ghost use Rattle.fm_frames.specs.NumberRows.{constant_effect};
 ghost use Rattle.fm_frames.specs.inner.Doings.{CanStep};
+ghost use Rattle.fm_world.specs.declared.uses.Use.TheVariants as used;
 
 use fm_base::NoMemory;
 use fm_cells::{Cell, Memory};
@@ -52,4 +54,19 @@ pub fn long_constant<M: Memory>(
 {
     let _classes = program.classes();
     machine.give_wide(0, Value::Long(n))
+}
+
+/// ldc of a text, by its number: the literal is made at its first use.
+pub fn text_constant<M: Memory>(
+    machine: &mut Machine<M>,
+    program: &Program,
+    text: u32,
+) -> Result<(), NoMemory>
+    requires can { CanStep program.now machine.old }
+    requires text { text < length program.now.outline.texts }
+    requires literals { text < length machine.old.areas.literals }
+    ensures { OnOk result (Steps program.now M.choose machine.old machine.new
+        (constant_effect (used.OfText text))) }
+{
+    machine.give_literal(program, text)
 }

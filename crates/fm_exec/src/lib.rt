@@ -21,7 +21,7 @@ mod throws;
 pub use arrays::{array_length, new_array, new_references};
 pub use calls::{argument_words, kind_words, leave};
 pub use casts::{cast, is_instance};
-pub use constants::{int_constant, long_constant, nop, null};
+pub use constants::{int_constant, long_constant, nop, null, text_constant};
 pub use elements::{array_load, array_store, reference_store};
 pub use fields::{get_field, put_field};
 pub use held::{give, refuse, type_in};

@@ -19,3 +19,10 @@ pub mod HeldCounts
 pub mod BuiltInTypes
 pub mod ClassStarts
 pub mod StartActions
+pub mod OpeningSteps
+pub mod OpeningStarts
+pub mod FirstValues
+pub mod OpeningArguments
+pub mod OpeningObjects
+pub mod MainFrame
+pub mod OpeningMain

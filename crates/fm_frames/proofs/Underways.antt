@@ -33,7 +33,7 @@ by_tests p choose x e deep over =
     if over then halted x (end.Exhausted (live_words x.areas.store) (words_made p.outline x.areas e.actions)) else
     done_by p (max 1 (objects_made e.actions)) e x (performed p.outline choose (locals_of x) (stack_of x) e.actions x.areas [])
 
-abbrev over_by : State → (makes : Bool) → (words : ℕ) → Bool
+abbrev pub over_by : State → (makes : Bool) → (words : ℕ) → Bool
 over_by x makes words = if makes then (nat_lt 0 words && nat_lt x.areas.store.budget (live_words x.areas.store + words)) else false
 
 -- an effect for which there is room begins with all its actions left
@@ -44,7 +44,7 @@ begun p choose x e deep over = record {
   same = refl;
 }
 
-within : (live budget words : ℕ) → (0 < words → live + words ≤ budget) → (nat_lt 0 words && nat_lt budget (live + words)) ≡ false
+pub within : (live budget words : ℕ) → (0 < words → live + words ≤ budget) → (nat_lt 0 words && nat_lt budget (live + words)) ≡ false
 within live budget words room = by_test (below_or_not 0 words) where
   by_test : (0 < words) ⊎ (words ≤ 0) → (nat_lt 0 words && nat_lt budget (live + words)) ≡ false
   by_test (inl some) =
@@ -72,7 +72,7 @@ reserved p choose x e words deep many room = begun p choose x e deep (by_making 
   by_making true some = (λ i. over_by x (some i) (many i)) ∙ within (live_words x.areas.store) x.areas.store.budget words room
   by_making false none = ap (λ b. over_by x b (words_made p.outline x.areas e.actions)) none
 
-over : (live budget words : ℕ) → 0 < words → budget < live + words → (nat_lt 0 words && nat_lt budget (live + words)) ≡ true
+pub over : (live budget words : ℕ) → 0 < words → budget < live + words → (nat_lt 0 words && nat_lt budget (live + words)) ≡ true
 over live budget words some passes =
     ap (λ b. b && nat_lt budget (live + words)) (lt-ltb 0 words some) ∙ lt-ltb budget (live + words) passes
 

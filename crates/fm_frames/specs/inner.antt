@@ -6,3 +6,4 @@ pub mod Looks
 pub mod Places
 pub mod Targets
 pub mod StartActions
+pub mod Opening

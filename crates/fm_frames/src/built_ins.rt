@@ -11,6 +11,12 @@ pub const STRING_BUILDER: ClassId = ClassId(2);
 /// `java/lang/StringBuffer`.
 pub const STRING_BUFFER: ClassId = ClassId(3);
 
+/// `java/io/PrintStream`.
+pub const PRINT_STREAM: ClassId = ClassId(5);
+
+/// `java/io/InputStream`.
+pub const INPUT_STREAM: ClassId = ClassId(6);
+
 /// `java/lang/Throwable`.
 pub const THROWABLE: ClassId = ClassId(7);
 

@@ -3,12 +3,12 @@
 // The locals of a frame come first, and then its operand stack, whose last value is its top. A call takes
 // the arguments off the stack of its caller by letting the callee's locals begin with them.
 
-ghost use Rattle.std.specs.Prelude.{◌≡◌, ◌<◌, ◌^◌, ◌+◌, ◌++◌, ◌-◌, [], ◌∷◌, length, drop, take, reverse, replicate, slice_get, slice_set, option_to_list, ◌≤◌, OnOk};
+ghost use Rattle.std.specs.Prelude.{◌≡◌, ◌<◌, ◌^◌, ◌+◌, ◌++◌, ◌-◌, [], ◌∷◌, length, drop, take, reverse, replicate, slice_get, slice_set, option_to_list, ◌≤◌, IfOk, OnOk};
 ghost use Rattle.std.specs.Option.{option_map};
 ghost use Rattle.fm_frames.specs.States.{word_at};
 ghost use Rattle.fm_frames.specs.inner.Frames as spec;
 ghost use Rattle.fm_frames.specs.inner.Doings.{NextFits};
-ghost use Rattle.fm_frames.specs.inner.Frames.{on_top, place, place_of, result_word, stack_in, locals_in, with_called, with_result, with_words};
+ghost use Rattle.fm_frames.specs.inner.Frames.{main_frame, on_top, place, place_of, result_word, stack_in, locals_in, with_called, with_result, with_words};
 
 use crate::values::Value;
 use fm_base::{MethodId, NoMemory};
@@ -57,6 +57,31 @@ impl Frames {
             topmost: None,
             callers: Vec::new(alloc),
         }
+    }
+
+    /// The frame of main alone, whose first local is a value.
+    pub fn of_main(
+        alloc: Global,
+        method: MethodId,
+        max_locals: u16,
+        argument: Value,
+    ) -> Result<Frames, NoMemory>
+        ensures { IfOk result (λ frames. frames ≡ main_frame method.0 max_locals argument ∷ []) }
+    {
+        let mut values = Vec::new(alloc);
+        values.push(argument)?;
+        let stack = (max_locals as usize).max(1);
+        values.resize(stack, Value::Top)?;
+        Ok(Frames {
+            values,
+            topmost: Some(Cursor {
+                method,
+                item: 0,
+                locals: 0,
+                stack,
+            }),
+            callers: Vec::new(alloc),
+        })
     }
 
     /// The operand at this place, counted from the top; none where there are fewer.

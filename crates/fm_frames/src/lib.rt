@@ -22,6 +22,7 @@ mod looks;
 mod machine;
 mod makes;
 mod moves;
+mod opens;
 mod report;
 mod shuffles;
 mod starts;

@@ -10,7 +10,8 @@ ghost use Rattle.fm_cells.specs.Stores.{live_words, object_at, words_needed};
 ghost use Rattle.fm_cells.specs.declared.answers.Cell.{Cell};
 ghost use Rattle.fm_frames.specs.Acts.{requested, Choose};
 ghost use Rattle.fm_frames.specs.Effects.{making, Effect, Make};
-ghost use Rattle.fm_frames.specs.Steps.{is_deep, words_made};
+ghost use Rattle.fm_frames.specs.Steps.{is_deep, stopped, words_made};
+ghost use Rattle.fm_frames.specs.declared.ends.Ended.TheVariants as end;
 ghost use Rattle.fm_frames.specs.inner.Doings.{CanStep, DoesIn, IsReserved, Makes, MakesOne};
 ghost use Rattle.fm_world.specs.Programs as world;
 
@@ -85,6 +86,10 @@ impl<M: Memory> Machine<M> {
         ensures room { result ≡ true → 0 < words
             → live_words self.old.areas.store + words ≤ self.old.areas.store.budget }
         ensures kept { result ≡ true → self.new ≡ self.old }
+        ensures over { result ≡ false → (0 < words)
+            × (self.old.areas.store.budget < live_words self.old.areas.store + words)
+            × (self.new ≡ stopped self.old
+            (end.Exhausted (live_words self.old.areas.store) words)) }
         ensures told { (p : world.Program) (choose : Choose) (e : Effect) → is_deep self.old e.next ≡ false
             → words_made p.outline self.old.areas e.actions ≡ words
             → IsReserved p choose self.old self.new e result }

@@ -98,3 +98,7 @@ with_result words (f ∷ callers) = on_top (λ caller. record caller { item = ca
 abbrev pub with_start : Program → Option ℕ → List Frame → List Frame
 with_start p None frames = frames
 with_start p (Some start) frames = new_frame p start [] ∷ frames
+
+-- main's frame, whose first local is the array of the arguments
+abbrev pub main_frame : (method max_locals : ℕ) → Value → Frame
+main_frame method max_locals v = record { method = method; item = 0; locals = v ∷ replicate (max_locals - 1) value.Top; stack = [] }
