@@ -1,11 +1,12 @@
 -- The first objects of the opening: the streams, and the array of the arguments with their texts.
-use Rattle.std.proofs.Common.{◌≡◌, ℕ, Bool, true, false, List, [], ◌∷◌, ◌++◌, codes, length, Option, Some, None, unwrap_or, refl, ap, sym, ◌∙◌, subst}
+use Rattle.std.proofs.Common.{◌≡◌, ℕ, Bool, true, false, List, [], ◌∷◌, ◌++◌, codes, length, Option, Some, None, refl, ap, sym, ◌∙◌, subst}
 use Rattle.std.specs.Prelude.{slice_set}
 use Rattle.std.proofs.lemmas.Iterator.Adapters.{position_from-zero}
 use Rattle.std.specs.List.{slice_index_or}
 use Rattle.std.specs.Str.{bytes_eq}
 use Rattle.fm_base.specs.declared.kinds.TypeRef.{TypeRef}
 use Rattle.fm_cells.specs.declared.answers.Cell.{Cell}
+use Rattle.fm_frames.proofs.BuiltInTypes.{named_class}
 use Rattle.fm_frames.proofs.OpeningSteps.{added, as_made, asks-fixed, asks-object}
 use Rattle.fm_frames.proofs.Programs.{string-is}
 use Rattle.fm_frames.specs.Acts.{Choose, requested}
@@ -38,12 +39,10 @@ unfolding built_in
 in_number given = position_from-zero (λ (c : DeclaredClass). bytes_eq c.name in_name) (built_in ++ given)
 
 out_is : (p : Program) → IsRunnable p → built_in_type p.outline out_name ≡ type_of_class 5
-out_is p runnable =
-    ap (λ n. type_of_class (unwrap_or n 0)) (ap (λ all. class_number all out_name) runnable.classes ∙ out_number runnable.given)
+out_is p runnable = named_class p out_name 5 runnable out_number
 
 in_is : (p : Program) → IsRunnable p → built_in_type p.outline in_name ≡ type_of_class 6
-in_is p runnable =
-    ap (λ n. type_of_class (unwrap_or n 0)) (ap (λ all. class_number all in_name) runnable.classes ∙ in_number runnable.given)
+in_is p runnable = named_class p in_name 6 runnable in_number
 
 abbrev pub texts_type : TypeRef
 texts_type = record { dims = 1; base = (type_of_class 1).base }

@@ -1,5 +1,5 @@
 -- One action of the opening: what comes of each answer of the memory.
-use Rattle.std.proofs.Common.{◌≡◌, ℕ, ◌+◌, ◌<◌, ◌≤◌, ◌^◌, Bool, true, false, ◌||◌, if◌then◌else◌, List, [], ◌∷◌, ◌++◌, length, Option, Some, None, refl, ap, sym, ◌∙◌, subst, arith}
+use Rattle.std.proofs.Common.{◌≡◌, ℕ, ◌+◌, ◌<◌, ◌≤◌, ◌^◌, Bool, true, false, ◌||◌, if◌then◌else◌, List, [], ◌∷◌, ◌++◌, length, min, Option, Some, None, refl, ap, sym, ◌∙◌, subst, arith}
 use Rattle.std.specs.List.{slice_index_or}
 use Rattle.std.specs.Prelude.{IfOk, IfSome, OnOk, Result, Ok, Err, unwrap_or}
 use Rattle.fm_base.specs.declared.kinds.Kind.{Kind}
@@ -19,7 +19,7 @@ use Rattle.fm_frames.specs.Elements.{int_bits, kept, pack_of}
 use Rattle.fm_frames.specs.NativeRows.{text_type}
 use Rattle.fm_frames.specs.Runs.{after_action, opened_by}
 use Rattle.fm_frames.specs.States.{Areas, ref, State}
-use Rattle.fm_frames.specs.Steps.{makes, stopped, words_made}
+use Rattle.fm_frames.specs.Steps.{makes, most_words, stopped, words_made}
 use Rattle.fm_frames.specs.declared.ends.Ended.{Ended}
 use Rattle.fm_frames.specs.declared.ends.Ended.TheVariants as end
 use Rattle.fm_frames.specs.declared.values.Value.{Value}
@@ -39,54 +39,54 @@ opened_tests p choose x action more made follows passes =
 -- ---- an object
 
 pub asked-over : (p : Program) (choose : Choose) (x y : State) (action : Action) (r : Request) (content : List ℕ) (after : Areas → ℕ → Areas)
-    (grown : List ℕ → ℕ → List ℕ) (words : ℕ) → Asks p.outline x.areas action r content after grown → words ≡ request_words r → 0 < words
+    (grown : List ℕ → ℕ → List ℕ) (words : ℕ) → Asks p.outline x.areas action r content after grown → words ≡ request_words r → words ≤ most_words → 0 < words
     → x.areas.store.budget < live_words x.areas.store + words → y ≡ stopped x (end.Exhausted (live_words x.areas.store) words)
     → EndsAt p choose x action y
-asked-over p choose x y action r content after grown words asks is some passes ended more made follows =
-    let needs : words_made p.outline x.areas (action ∷ []) ≡ words = asks.needs ∙ sym is in
+asked-over p choose x y action r content after grown words asks is few some passes ended more made follows =
+    let needs : words_made p.outline x.areas (action ∷ []) ≡ words = asks.needs (omega (arith, is, few)) ∙ sym is in
     ap (opened_tests p choose x action more made follows)
     ((λ i. over_by x (asks.making i) (needs i)) ∙ over (live_words x.areas.store) x.areas.store.budget words some passes)
     ∙ ap (λ n. stopped x (end.Exhausted (live_words x.areas.store) n)) needs ∙ sym ended
 
 -- where there is room
 asked_room : (p : Program) (choose : Choose) (x : State) (action : Action) (r : Request) (content : List ℕ) (after : Areas → ℕ → Areas)
-    (grown : List ℕ → ℕ → List ℕ) (words : ℕ) → Asks p.outline x.areas action r content after grown → words ≡ request_words r
+    (grown : List ℕ → ℕ → List ℕ) (words : ℕ) → Asks p.outline x.areas action r content after grown → words ≡ request_words r → words ≤ most_words
     → (0 < words → live_words x.areas.store + words ≤ x.areas.store.budget) → (more : List Action) (made : List ℕ) (follows : Follows)
     → opened_by p choose (action ∷ more) x made follows
     ≡ after_action x (made_then x.areas r content (choose x.areas.store r) (λ y cell. Did (after y cell) (grown made cell)))
     (λ y cells. opened_by p choose more y cells follows)
-asked_room p choose x action r content after grown words asks is room more made follows =
-    let needs : words_made p.outline x.areas (action ∷ []) ≡ words = asks.needs ∙ sym is in
+asked_room p choose x action r content after grown words asks is few room more made follows =
+    let needs : words_made p.outline x.areas (action ∷ []) ≡ words = asks.needs (omega (arith, is, few)) ∙ sym is in
     ap (opened_tests p choose x action more made follows)
     ((λ i. over_by x (asks.making i) (needs i)) ∙ within (live_words x.areas.store) x.areas.store.budget words room)
     ∙ ap (λ result. after_action x result (λ y cells. opened_by p choose more y cells follows)) (asks.does choose made)
 
 asked_full : (p : Program) (choose : Choose) (x y : State) (action : Action) (r : Request) (content : List ℕ) (after : Areas → ℕ → Areas)
-    (grown : List ℕ → ℕ → List ℕ) (words : ℕ) → Asks p.outline x.areas action r content after grown → words ≡ request_words r
+    (grown : List ℕ → ℕ → List ℕ) (words : ℕ) → Asks p.outline x.areas action r content after grown → words ≡ request_words r → words ≤ most_words
     → (0 < words → live_words x.areas.store + words ≤ x.areas.store.budget) → Makes choose x y r content None → EndsAt p choose x action y
-asked_full p choose x y action r content after grown words asks is room (refused, ended) more made follows =
-    asked_room p choose x action r content after grown words asks is room more made follows
+asked_full p choose x y action r content after grown words asks is few room (refused, ended) more made follows =
+    asked_room p choose x action r content after grown words asks is few room more made follows
     ∙ ap (λ choice. after_action x (made_then x.areas r content choice (λ y cell. Did (after y cell) (grown made cell)))
     (λ y cells. opened_by p choose more y cells follows)) refused
     ∙ sym ended
 
 asked_made : (p : Program) (choose : Choose) (x y : State) (action : Action) (r : Request) (content : List ℕ) (after : Areas → ℕ → Areas)
-    (grown : List ℕ → ℕ → List ℕ) (words : ℕ) (cell : Cell) → Asks p.outline x.areas action r content after grown → words ≡ request_words r
+    (grown : List ℕ → ℕ → List ℕ) (words : ℕ) (cell : Cell) → Asks p.outline x.areas action r content after grown → words ≡ request_words r → words ≤ most_words
     → (0 < words → live_words x.areas.store + words ≤ x.areas.store.budget) → Makes choose x y r content (Some cell)
     → Opens p choose x action (record y { areas = after y.areas cell.0 }) (λ made. grown made cell.0)
-asked_made p choose x y action r content after grown words cell asks is room (grows, taken, free, there) more made follows =
-    asked_room p choose x action r content after grown words asks is room more made follows
+asked_made p choose x y action r content after grown words cell asks is few room (grows, taken, free, there) more made follows =
+    asked_room p choose x action r content after grown words asks is few room more made follows
     ∙ ap (λ choice. after_action x (made_then x.areas r content choice (λ y cell. Did (after y cell) (grown made cell)))
     (λ y cells. opened_by p choose more y cells follows)) taken
     ∙ ap (λ (y : State). opened_by p choose more (record y { areas = after y.areas cell.0 }) (grown made cell.0) follows) (sym there)
 
-pub opens-asked : (p : Program) (choose : Choose) (x z y : State) (r : Request) (content : List ℕ) (words : ℕ) → words ≡ request_words r
+pub opens-asked : (p : Program) (choose : Choose) (x z y : State) (r : Request) (content : List ℕ) (words : ℕ) → words ≡ request_words r → words ≤ most_words
     → (0 < words → live_words x.areas.store + words ≤ x.areas.store.budget) → z ≡ x → (made : Option Cell) → Makes choose z y r content made
     → OpensAsked p choose x y r content made
-opens-asked p choose x z y r content words is room same None made = λ action after grown asks.
-    asked_full p choose x y action r content after grown words asks is room (subst (λ z. Makes choose z y r content None) same made)
-opens-asked p choose x z y r content words is room same (Some cell) made = λ action after grown asks.
-    asked_made p choose x y action r content after grown words cell asks is room (subst (λ z. Makes choose z y r content (Some cell)) same made)
+opens-asked p choose x z y r content words is few room same None made = λ action after grown asks.
+    asked_full p choose x y action r content after grown words asks is few room (subst (λ z. Makes choose z y r content None) same made)
+opens-asked p choose x z y r content words is few room same (Some cell) made = λ action after grown asks.
+    asked_made p choose x y action r content after grown words cell asks is few room (subst (λ z. Makes choose z y r content (Some cell)) same made)
 
 -- ---- what actions ask for
 
@@ -96,21 +96,21 @@ added made cell = made ++ cell ∷ []
 abbrev pub as_made : Areas → ℕ → Areas
 as_made y cell = y
 
-more_words : (n : ℕ) → n + 0 ≡ n
-more_words n = omega arith
+one_word : (n : ℕ) → n ≤ most_words → min (n + 0) most_words ≡ n
+one_word n few = omega (arith, few)
 
 pub asks-fixed : (o : Outline) (x : Areas) (t : TypeRef) (r : Request) → requested o t 0 true ≡ r → Asks o x (MakeFixed t) r [] as_made added
 unfolding performed
 asks-fixed o x t r is =
     subst (λ r. Asks o x (MakeFixed t) r [] as_made added) is
-    (record { making = refl; needs = more_words (request_words (requested o t 0 true)); does = λ choose made. refl })
+    (record { making = refl; needs = one_word (request_words (requested o t 0 true)); does = λ choose made. refl })
 
 pub asks-object : (o : Outline) (x : Areas) (t : TypeRef) (len : ℕ) (content : List ℕ) (r : Request) → requested o t len false ≡ r
     → Asks o x (Make t len content) r content as_made added
 unfolding performed
 asks-object o x t len content r is =
     subst (λ r. Asks o x (Make t len content) r content as_made added) is
-    (record { making = refl; needs = more_words (request_words (requested o t len false)); does = λ choose made. refl })
+    (record { making = refl; needs = one_word (request_words (requested o t len false)); does = λ choose made. refl })
 
 literal_words : Outline → ℕ → Bool → ℕ
 literal_words o text there =
@@ -130,7 +130,9 @@ asks-literal o x text units none is =
     is
     (record {
       making = refl;
-      needs = ap (literal_words o text) none ∙ more_words (request_words (requested o (text_type o) (length (literal_text o text)) true));
+      needs = λ few.
+          ap (λ there. min (literal_words o text there) most_words) none
+          ∙ one_word (request_words (requested o (text_type o) (length (literal_text o text)) true)) few;
       does = λ choose made. ap (literal_after o choose x text made) none;
     })
 
@@ -165,7 +167,8 @@ opens-literal p choose x y slot kind text cell at is =
 pub opens-there : (p : Program) (choose : Choose) (x : State) (text : ℕ) → is_there x.areas text ≡ true → Opens p choose x (MakeLiteral text) x (λ made. made)
 unfolding performed literal_words literal_after
 opens-there p choose x text there more made follows =
-    let none : words_made p.outline x.areas (MakeLiteral text ∷ []) ≡ 0 = ap (literal_words p.outline text) there in
+    let no_words : min (0 + 0) most_words ≡ 0 = omega arith in
+    let none : words_made p.outline x.areas (MakeLiteral text ∷ []) ≡ 0 = ap (λ there. min (literal_words p.outline text there) most_words) there ∙ no_words in
     ap (opened_tests p choose x (MakeLiteral text) more made follows)
     (ap (over_by x true) none ∙ within (live_words x.areas.store) x.areas.store.budget 0 (λ some. absurd (omega (arith, some))))
     ∙ ap (λ result. after_action x result (λ y cells. opened_by p choose more y cells follows)) (ap (literal_after p.outline choose x.areas text made) there)

@@ -86,6 +86,7 @@ impl<M: Memory> Machine<M> {
         ensures room { result ≡ true → 0 < words
             → live_words self.old.areas.store + words ≤ self.old.areas.store.budget }
         ensures kept { result ≡ true → self.new ≡ self.old }
+        ensures few { words ≤ 2 ^ 64 - 1 }
         ensures over { result ≡ false → (0 < words)
             × (self.old.areas.store.budget < live_words self.old.areas.store + words)
             × (self.new ≡ stopped self.old

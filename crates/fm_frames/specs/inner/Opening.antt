@@ -11,7 +11,7 @@ use Rattle.fm_frames.specs.NativeRows.{text_kind, text_made}
 use Rattle.fm_frames.specs.Runs.{argument_actions, Job, framed, opened_by, opening_actions, opening_frames, with_streams}
 use Rattle.fm_frames.specs.Starts.{start_actions, start_methods, to_start}
 use Rattle.fm_frames.specs.States.{Areas, State}
-use Rattle.fm_frames.specs.Steps.{makes, words_made}
+use Rattle.fm_frames.specs.Steps.{makes, most_words, words_made}
 use Rattle.fm_frames.specs.declared.values.Value.{Value}
 use Rattle.fm_frames.specs.inner.Places.{IsOfKind}
 use Rattle.fm_world.specs.Programs.{Outline, Program}
@@ -23,7 +23,7 @@ Follows = State → List ℕ → State
 -- the action asks for an object that holds this content; once the object is there, the areas and the cells made are these
 pub record Asks (o : Outline) (x : Areas) (action : Action) (r : Request) (content : List ℕ) (after : Areas → ℕ → Areas) (grown : List ℕ → ℕ → List ℕ) : Type 0 where
   pub making : makes (action ∷ []) ≡ true
-  pub needs : words_made o x (action ∷ []) ≡ request_words r
+  pub needs : request_words r ≤ most_words → words_made o x (action ∷ []) ≡ request_words r
   pub does : (choose : Choose) (made : List ℕ)
       → performed o choose [] [] (action ∷ []) x made ≡ made_then x r content (choose x.store r) (λ y cell. Did (after y cell) (grown made cell))
 

@@ -16,7 +16,7 @@ returns-then-not-reserve-clause-told g c =
     (sym (request-is p.outline c.args.t c.type_id-id.result.0 c.args.len c.pack_of-pack.result c.args.fixed c.type_id-id.ensures.number
     (c.pack_of-pack.ensures.value c.requires.runnable)))
     (λ action after grown asks.
-    asked-over p g.M.Memory.choose c.args.self.now c.reserve.new.self action r [] after grown c.object_words.result asks c.object_words.ensures some
+    asked-over p g.M.Memory.choose c.args.self.now c.reserve.new.self action r [] after grown c.object_words.result asks c.object_words.ensures c.if-not-reserve.ensures.few some
     passes ended)
 
 pub returns-then-not-reserve-clause-grows : goal.returns-then-not-reserve-clause-grows
@@ -33,7 +33,7 @@ returns-clause-told g c =
     subst (λ r. OpensAsked p g.M.Memory.choose c.args.self.now c.make_object.new.self r [] made)
     (sym (request-is p.outline c.args.t c.type_id-id.result.0 c.args.len c.pack_of-pack.result c.args.fixed c.type_id-id.ensures.number
     (c.pack_of-pack.ensures.value c.requires.runnable)))
-    (opens-asked p g.M.Memory.choose c.args.self.now c.reserve.new.self c.make_object.new.self r [] c.object_words.result c.object_words.ensures
+    (opens-asked p g.M.Memory.choose c.args.self.now c.reserve.new.self c.make_object.new.self r [] c.object_words.result c.object_words.ensures c.if-not-reserve.ensures.few
     (c.if-not-reserve.ensures.room refl) (c.if-not-reserve.ensures.kept refl) made makes))
     c.make_object.ensures
 

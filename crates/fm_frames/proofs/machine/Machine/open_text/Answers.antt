@@ -13,7 +13,7 @@ returns-then-not-reserve-clause-told g c action after grown asks =
     let (some, passes, ended) = c.if-not-reserve.ensures.over refl in
     asked-over p g.M.Memory.choose c.args.self.now c.reserve.new.self action
     (requested p.outline (text_type p.outline) (length units) c.args.fixed) units after grown c.text_words.result asks
-    (c.text_words.ensures ∙ ap (packed_words (length units)) (sym (text-pack p c.requires.runnable))) some passes ended
+    (c.text_words.ensures ∙ ap (packed_words (length units)) (sym (text-pack p c.requires.runnable))) c.if-not-reserve.ensures.few some passes ended
 
 pub returns-then-not-reserve-clause-grows : goal.returns-then-not-reserve-clause-grows
 returns-then-not-reserve-clause-grows g c =
@@ -28,7 +28,7 @@ returns-clause-told g c =
     (λ made makes.
     opens-asked p g.M.Memory.choose c.args.self.now c.reserve.new.self c.make_units.new.self
     (requested p.outline (text_type p.outline) (length units) c.args.fixed) units c.text_words.result
-    (c.text_words.ensures ∙ ap (packed_words (length units)) (sym (text-pack p c.requires.runnable)))
+    (c.text_words.ensures ∙ ap (packed_words (length units)) (sym (text-pack p c.requires.runnable))) c.if-not-reserve.ensures.few
     (c.if-not-reserve.ensures.room refl) (c.if-not-reserve.ensures.kept refl) made makes)
     c.make_units.ensures
 
