@@ -1,3 +1,4 @@
 pub mod AcceptedLemmas
 pub mod LeastLemmas
 pub mod ShapesLemmas
+pub mod TestLemmas

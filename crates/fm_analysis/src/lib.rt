@@ -6,6 +6,8 @@
 
 mod laws;
 mod shapes;
+#[cfg(test)]
+mod tests;
 mod typed;
 
 pub use laws::{law_accepted, law_least};
