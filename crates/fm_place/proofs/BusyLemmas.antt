@@ -14,15 +14,15 @@ use Rattle.fm_place.proofs.PlaceLemmas.{any-found, any-from, both-first, both-fr
 use Rattle.fm_place.specs.Laws.{BusyIsByWitness}
 use Rattle.fm_place.specs.Places.{InLocal, InWord, is_busy, is_local_in, is_reference_word, is_word_in, IsBusy}
 
-either : (a b : Bool) → (a || b) ≡ true → (a ≡ true) ⊎ (b ≡ true)
+pub either : (a b : Bool) → (a || b) ≡ true → (a ≡ true) ⊎ (b ≡ true)
 either true b holds = inl refl
 either false b holds = inr holds
 
-from-first : (a b : Bool) → a ≡ true → (a || b) ≡ true
+pub from-first : (a b : Bool) → a ≡ true → (a || b) ≡ true
 from-first true b holds = refl
 from-first false b holds = absurd (false≢true holds)
 
-from-second : (a b : Bool) → b ≡ true → (a || b) ≡ true
+pub from-second : (a b : Bool) → b ≡ true → (a || b) ≡ true
 from-second true b holds = refl
 from-second false b holds = holds
 

@@ -3,3 +3,4 @@ pub mod BusyLemmas
 pub mod FullLemmas
 pub mod WovenLemmas
 pub mod Example
+pub mod SiteLemmas

@@ -1,4 +1,5 @@
 pub mod Sites
+pub mod FactsBy
 pub mod Places
 pub mod Insertions
 pub mod Woven
@@ -6,3 +7,4 @@ pub mod Rewriting
 pub mod Safe
 pub mod Laws
 pub mod Example
+pub mod inner

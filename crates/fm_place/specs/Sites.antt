@@ -1,9 +1,10 @@
 -- Which items of a method come by an object that nothing else leads to yet, and of which of these objects no one outside of the method hears.
-use Rattle.std.specs.Prelude.{ℕ, zero, suc, ◌+◌, ◌-◌, ◌==◌, ◌&&◌, ◌||◌, not, Bool, true, false, List, [], length, filter, take, Option, Some, None, is_some, nat_lt, option_and_then, if◌then◌else◌}
-use Rattle.std.specs.List.{list_any, range_with_len, slice_index_or}
+use Rattle.std.specs.Prelude.{ℕ, zero, suc, ◌+◌, ◌-◌, ◌==◌, ◌&&◌, ◌||◌, not, Bool, true, false, List, [], ◌∷◌, length, filter, take, Option, Some, None, is_some, nat_lt, option_and_then, if◌then◌else◌}
+use Rattle.std.specs.List.{flat_map, list_any, range_with_len, slice_index_or}
 use Rattle.fm_base.specs.declared.limits.TheConstants.{MAX_LOCAL_WORDS}
 use Rattle.fm_base.specs.declared.kinds.Kind.{Kind}
 use Rattle.fm_code.specs.Edges.{insn_of}
+use Rattle.fm_code.specs.declared.code_array.Code.{Code}
 use Rattle.fm_code.specs.declared.instructions.Insn.{Insn}
 use Rattle.fm_code.specs.declared.instructions.Insn.TheVariants as insn
 use Rattle.fm_conn.specs.Facts.{Facts}
@@ -22,6 +23,7 @@ use Rattle.fm_world.specs.Programs.{Outline, targets}
 use Rattle.fm_world.specs.declared.calls.Call.{Call}
 use Rattle.fm_world.specs.declared.uses.Use.{Use}
 use Rattle.fm_place.specs.declared.limits.TheConstants.{MAX_HOLDING_STACK_WORDS}
+use Rattle.fm_place.specs.declared.found_sites.Site.{Site}
 
 -- ---- parameters
 
@@ -46,12 +48,14 @@ makes_array (insn.NewRefs index) = true
 makes_array (insn.MultiArray index dimensions) = true
 makes_array i = false
 
--- the item of the `new` whose object stands in this word of the stack, before its constructor has returned
+-- the item of the `new` whose object this is, before its constructor has returned
+abbrev pub new_item : slots.Slot → Option ℕ
+new_item (slot.Uninit item) = Some item
+new_item s = None
+
+-- the item of the `new` whose object stands in this word of the stack
 abbrev pub new_item_at : TypedMethod → ℕ → ℕ → Option ℕ
-new_item_at x j depth = option_and_then of_slot (word_at x j depth) where
-  of_slot : slots.Slot → Option ℕ
-  of_slot (slot.Uninit item) = Some item
-  of_slot s = None
+new_item_at x j depth = option_and_then new_item (word_at x j depth)
 
 -- whether the word at this depth and the one below it hold the object of the same `new`; the lowest word has none below it
 abbrev pub is_doubled : TypedMethod → ℕ → ℕ → Bool
@@ -90,15 +94,18 @@ receives_new facts x (Some called) =
     has_reference_result x.program.outline called.method.0 && nat_lt 0 (length (targets x.program called))
     && not (list_any (may_give_old x.program.outline facts) (targets x.program called))
 
--- what kind of a site an item is that can be reached, if it is one
+-- what kind of a site an item with this instruction is, if it is one
+abbrev pub kind_of_site : Facts → TypedMethod → ℕ → Insn → Option SiteKind
+kind_of_site facts x j i =
+    if makes_array i then Some MakesArray else
+    if constructs x j i then Some Constructs else
+    if receives_new facts x (call_of x i) then Some ReceivesNew else
+    None
+
+-- the same of an item, which isn't a site where it can't be reached
 abbrev pub site_kind : Facts → TypedMethod → ℕ → Option SiteKind
-site_kind facts x j = if is_some (state_at x.states j) then option_and_then of_insn (insn_of x.code j) else None where
-  of_insn : Insn → Option SiteKind
-  of_insn i =
-      if makes_array i then Some MakesArray else
-      if constructs x j i then Some Constructs else
-      if receives_new facts x (call_of x i) then Some ReceivesNew else
-      None
+site_kind facts x j =
+    if is_some (state_at x.states j) then option_and_then (kind_of_site facts x j) (insn_of x.code j) else None
 
 -- the object of a site stands on top of the stack at the next item
 abbrev pub site_node : TypedMethod → ℕ → Node
@@ -130,3 +137,35 @@ captured_sites facts x = filter (is_captured_site facts x) (range_with_len 0 (le
 abbrev pub held_sites : Facts → TypedMethod → List ℕ
 held_sites facts x =
     if nat_lt MAX_HOLDING_STACK_WORDS x.code.max_stack then [] else take (MAX_LOCAL_WORDS - x.code.max_locals) (captured_sites facts x)
+
+-- ---- all sites
+
+-- how many sites are held at most
+abbrev pub holder_room : Code → ℕ
+holder_room code = if nat_lt MAX_HOLDING_STACK_WORDS code.max_stack then 0 else MAX_LOCAL_WORDS - code.max_locals
+
+-- the number of the holder of an item before which there are so many captured sites
+abbrev pub holder_after : Facts → TypedMethod → (captured j : ℕ) → Option ℕ
+holder_after facts x captured j =
+    if is_captured facts x (site_class facts x j) && nat_lt captured (holder_room x.code) then Some captured else None
+
+-- what is told of a site before which there are so many captured ones
+abbrev pub site_after : Facts → TypedMethod → (captured j : ℕ) → Site
+site_after facts x captured j = record {
+  item = j;
+  class = site_class facts x j;
+  captured = is_captured facts x (site_class facts x j);
+  holder = holder_after facts x captured j;
+}
+
+-- how many captured sites stand before an item
+abbrev pub captured_before : Facts → TypedMethod → ℕ → ℕ
+captured_before facts x j = length (filter (is_captured_site facts x) (range_with_len 0 j))
+
+-- the item, if it is a site
+abbrev pub site_at : Facts → TypedMethod → ℕ → List Site
+site_at facts x j = if is_some (site_kind facts x j) then site_after facts x (captured_before facts x j) j ∷ [] else []
+
+-- the sites of a method in the order of its items
+unfoldable pub sites_of : Facts → TypedMethod → List Site
+sites_of facts x = flat_map (site_at facts x) (range_with_len 0 (length x.code.items))

@@ -3,7 +3,9 @@
 // The definitions are in specs/; the laws say what follows of them.
 #![tactic(auto)]
 
+mod found_sites;
 mod laws;
 pub mod limits;
 
+pub use found_sites::{Site, sites};
 pub use laws::{law_busy, law_example, law_full, law_places, law_stack, law_woven};
