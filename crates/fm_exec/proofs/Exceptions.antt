@@ -1,7 +1,8 @@
 -- The built-in exceptions by their numbers, which are the same in each program.
-use Rattle.std.proofs.Common.{◌≡◌, ℕ, List, ◌++◌, codes, Some, unwrap_or, ap, ◌∙◌}
+use Rattle.std.proofs.Common.{◌≡◌, List, ◌++◌, codes, Some}
 use Rattle.std.specs.Str.{bytes_eq}
 use Rattle.std.proofs.lemmas.Iterator.Adapters.{position_from-zero}
+use Rattle.fm_frames.proofs.BuiltInTypes.{named_class, throwable_there}
 use Rattle.fm_frames.specs.Runnable.{IsRunnable}
 use Rattle.fm_types.specs.Named.{built_in_type}
 use Rattle.fm_world.specs.BuiltIns.{built_in}
@@ -10,64 +11,47 @@ use Rattle.fm_world.specs.Numbers.{type_of_class}
 use Rattle.fm_world.specs.Programs.{Program}
 use Rattle.fm_world.specs.declared.declarations.DeclaredClass.{DeclaredClass}
 
--- a name that is found among the built-in classes is found there in each program
-numbered : (p : Program) (name : List ℕ) (class : ℕ) → IsRunnable p
-    → ((given : List DeclaredClass) → class_number (built_in ++ given) name ≡ Some class) → built_in_type p.outline name ≡ type_of_class class
-numbered p name class runnable found =
-    ap (λ n. type_of_class (unwrap_or n 0)) (ap (λ all. class_number all name) runnable.classes ∙ found runnable.given)
-
 arithmetic-found : (given : List DeclaredClass) → class_number (built_in ++ given) (codes "java/lang/ArithmeticException") ≡ Some 13
 unfolding built_in
 arithmetic-found given = position_from-zero (λ (c : DeclaredClass). bytes_eq c.name (codes "java/lang/ArithmeticException")) (built_in ++ given)
 
 pub arithmetic-is : (p : Program) → IsRunnable p → built_in_type p.outline (codes "java/lang/ArithmeticException") ≡ type_of_class 13
-arithmetic-is p runnable = numbered p (codes "java/lang/ArithmeticException") 13 runnable arithmetic-found
-
-null-found : (given : List DeclaredClass) → class_number (built_in ++ given) (codes "java/lang/NullPointerException") ≡ Some 18
-unfolding built_in
-null-found given = position_from-zero (λ (c : DeclaredClass). bytes_eq c.name (codes "java/lang/NullPointerException")) (built_in ++ given)
-
-pub null-is : (p : Program) → IsRunnable p → built_in_type p.outline (codes "java/lang/NullPointerException") ≡ type_of_class 18
-null-is p runnable = numbered p (codes "java/lang/NullPointerException") 18 runnable null-found
-
-throwable-found : (given : List DeclaredClass) → class_number (built_in ++ given) (codes "java/lang/Throwable") ≡ Some 7
-unfolding built_in
-throwable-found given = position_from-zero (λ (c : DeclaredClass). bytes_eq c.name (codes "java/lang/Throwable")) (built_in ++ given)
+arithmetic-is p runnable = named_class p (codes "java/lang/ArithmeticException") 13 runnable arithmetic-found
 
 pub throwable-is : (p : Program) → IsRunnable p → built_in_type p.outline (codes "java/lang/Throwable") ≡ type_of_class 7
-throwable-is p runnable = numbered p (codes "java/lang/Throwable") 7 runnable throwable-found
+throwable-is p runnable = named_class p (codes "java/lang/Throwable") 7 runnable throwable_there
 
 negative-found : (given : List DeclaredClass) → class_number (built_in ++ given) (codes "java/lang/NegativeArraySizeException") ≡ Some 17
 unfolding built_in
 negative-found given = position_from-zero (λ (c : DeclaredClass). bytes_eq c.name (codes "java/lang/NegativeArraySizeException")) (built_in ++ given)
 
 pub negative-is : (p : Program) → IsRunnable p → built_in_type p.outline (codes "java/lang/NegativeArraySizeException") ≡ type_of_class 17
-negative-is p runnable = numbered p (codes "java/lang/NegativeArraySizeException") 17 runnable negative-found
+negative-is p runnable = named_class p (codes "java/lang/NegativeArraySizeException") 17 runnable negative-found
 
 index-found : (given : List DeclaredClass) → class_number (built_in ++ given) (codes "java/lang/ArrayIndexOutOfBoundsException") ≡ Some 22
 unfolding built_in
 index-found given = position_from-zero (λ (c : DeclaredClass). bytes_eq c.name (codes "java/lang/ArrayIndexOutOfBoundsException")) (built_in ++ given)
 
 pub index-is : (p : Program) → IsRunnable p → built_in_type p.outline (codes "java/lang/ArrayIndexOutOfBoundsException") ≡ type_of_class 22
-index-is p runnable = numbered p (codes "java/lang/ArrayIndexOutOfBoundsException") 22 runnable index-found
+index-is p runnable = named_class p (codes "java/lang/ArrayIndexOutOfBoundsException") 22 runnable index-found
 
 store-found : (given : List DeclaredClass) → class_number (built_in ++ given) (codes "java/lang/ArrayStoreException") ≡ Some 14
 unfolding built_in
 store-found given = position_from-zero (λ (c : DeclaredClass). bytes_eq c.name (codes "java/lang/ArrayStoreException")) (built_in ++ given)
 
 pub store-is : (p : Program) → IsRunnable p → built_in_type p.outline (codes "java/lang/ArrayStoreException") ≡ type_of_class 14
-store-is p runnable = numbered p (codes "java/lang/ArrayStoreException") 14 runnable store-found
+store-is p runnable = named_class p (codes "java/lang/ArrayStoreException") 14 runnable store-found
 
 cast-found : (given : List DeclaredClass) → class_number (built_in ++ given) (codes "java/lang/ClassCastException") ≡ Some 15
 unfolding built_in
 cast-found given = position_from-zero (λ (c : DeclaredClass). bytes_eq c.name (codes "java/lang/ClassCastException")) (built_in ++ given)
 
 pub cast-is : (p : Program) → IsRunnable p → built_in_type p.outline (codes "java/lang/ClassCastException") ≡ type_of_class 15
-cast-is p runnable = numbered p (codes "java/lang/ClassCastException") 15 runnable cast-found
+cast-is p runnable = named_class p (codes "java/lang/ClassCastException") 15 runnable cast-found
 
 change-found : (given : List DeclaredClass) → class_number (built_in ++ given) (codes "java/lang/IncompatibleClassChangeError") ≡ Some 25
 unfolding built_in
 change-found given = position_from-zero (λ (c : DeclaredClass). bytes_eq c.name (codes "java/lang/IncompatibleClassChangeError")) (built_in ++ given)
 
 pub change-is : (p : Program) → IsRunnable p → built_in_type p.outline (codes "java/lang/IncompatibleClassChangeError") ≡ type_of_class 25
-change-is p runnable = numbered p (codes "java/lang/IncompatibleClassChangeError") 25 runnable change-found
+change-is p runnable = named_class p (codes "java/lang/IncompatibleClassChangeError") 25 runnable change-found

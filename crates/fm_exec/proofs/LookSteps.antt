@@ -1,5 +1,5 @@
 -- What rows see of operands that are references, by what the machine looked at.
-use Rattle.std.proofs.Common.{◌≡◌, ℕ, zero, suc, Bool, true, false, ◌==◌, if◌then◌else◌, List, Option, Some, None, slice_get, option_map, refl, ap, sym, ◌∙◌, arith}
+use Rattle.std.proofs.Common.{◌≡◌, ℕ, zero, suc, Bool, ◌==◌, if◌then◌else◌, List, Option, Some, None, slice_get, option_map, refl, ap, sym, ◌∙◌, arith}
 use Rattle.std.proofs.lemmas.Bool.{ne_eqb}
 use Rattle.std.proofs.lemmas.Option.{get_or_from_slice_get, none-some, same_Some, slice_get-map}
 use Rattle.fm_base.specs.declared.kinds.TypeRef.{TypeRef}
@@ -8,6 +8,7 @@ use Rattle.fm_cells.specs.Objects.{Object}
 use Rattle.fm_cells.specs.Stores.{object_at, Store}
 use Rattle.fm_cells.specs.declared.answers.Cell.{Cell}
 use Rattle.fm_cells.specs.declared.answers.Head.{Head}
+use Rattle.fm_frames.proofs.Refusals.{object-in}
 use Rattle.fm_frames.specs.Effects.{Effect, OfOperand, Throws, faulty, going, stuck}
 use Rattle.fm_frames.specs.JumpRows.{throw_effect}
 use Rattle.fm_frames.specs.Operands.{on_held_of, on_object, thrown_null}
@@ -72,38 +73,6 @@ pub record Found (store : Store) (stack : List Value) (operand : ℕ) (cell : Ce
   pub held : object_at store cell.0 ≡ Some object
   pub head_is : head_of object ≡ head
   pub word : word_at stack operand ≡ value.Ref cell
-
-gone-in : (store : Store) (cell : Cell) (v : Option Value) → look.Gone cell ≡ look_at store v → v ≡ Some (value.Ref cell)
-gone-in store cell None e = cc
-gone-in store cell (Some value.Top) e = cc
-gone-in store cell (Some (value.Int n)) e = cc
-gone-in store cell (Some (value.Long n)) e = cc
-gone-in store cell (Some (value.Ref d)) e = by_test (d.0 == 0) (head_at store d.0) e where
-  by_test : (null : Bool) (head : Option Head) → look.Gone cell ≡ (if null then look.Null else look_head d head) → Some (value.Ref d) ≡ Some (value.Ref cell)
-  by_test true head e = cc
-  by_test false None e = let same : cell ≡ d = cc in ap (λ c. Some (value.Ref c)) (sym same)
-  by_test false (Some head) e = cc
-
-pub gone-at : (store : Store) (stack : List Value) (operand : ℕ) (cell : Cell) → look.Gone cell ≡ look_at store (slice_get stack operand)
-    → word_at stack operand ≡ value.Ref cell
-gone-at store stack operand cell e =
-    get_or_from_slice_get stack operand (value.Ref cell) value.Top (gone-in store cell (slice_get stack operand) e)
-
-object-in : (store : Store) (cell : Cell) (head : Head) (v : Option Value) → look.Object cell head ≡ look_at store v
-    → (v ≡ Some (value.Ref cell)) × (head_at store cell.0 ≡ Some head)
-object-in store cell head None e = absurd (cc)
-object-in store cell head (Some value.Top) e = absurd (cc)
-object-in store cell head (Some (value.Int n)) e = absurd (cc)
-object-in store cell head (Some (value.Long n)) e = absurd (cc)
-object-in store cell head (Some (value.Ref d)) e = by_test (d.0 == 0) (head_at store d.0) refl e where
-  by_test : (null : Bool) (there : Option Head) → there ≡ head_at store d.0 → look.Object cell head ≡ (if null then look.Null else look_head d there)
-      → (Some (value.Ref d) ≡ Some (value.Ref cell)) × (head_at store cell.0 ≡ Some head)
-  by_test true there is e = absurd (cc)
-  by_test false None is e = absurd (cc)
-  by_test false (Some h) is e =
-      let same : cell ≡ d = cc in
-      let told : head ≡ h = cc in
-      (ap (λ c. Some (value.Ref c)) (sym same), ap (λ (c : Cell). head_at store c.0) same ∙ sym is ∙ ap Some (sym told))
 
 pub found-at : (store : Store) (stack : List Value) (operand : ℕ) (cell : Cell) (head : Head)
     → look.Object cell head ≡ look_at store (slice_get stack operand) → Found store stack operand cell head

@@ -6,8 +6,9 @@ use Rattle.std.proofs.lemmas.Option.{get_or_from_slice_get, slice_get-get_or}
 use Rattle.fm_code.specs.SpellsCode.{targets_of}
 use Rattle.fm_code.specs.declared.instructions.Insn.{Insn}
 use Rattle.fm_exec.proofs.NullSteps.{by_look, reference-seen}
-use Rattle.fm_exec.proofs.Seen.{carried, int-seen, long-seen, told-ok}
+use Rattle.fm_exec.proofs.Seen.{carried, int-seen, long-seen}
 use Rattle.fm_exec.specs.Steps.{seen, Steps}
+use Rattle.fm_frames.proofs.Throwing.{told-ok}
 use Rattle.fm_frames.specs.Acts.{Choose, value_of}
 use Rattle.fm_frames.specs.Effects.{Effect, Source, Plain, Jumps, going, stuck, words}
 use Rattle.fm_frames.specs.JumpRows.{jumps_if, key_target, null_jump_effect}

@@ -1,13 +1,13 @@
 -- What rows see of operands, by what the machine holds.
-use Rattle.std.proofs.Common.{◌≡◌, ℕ, zero, suc, ℤ, List, Option, Some, None, Result, Ok, Err, OnOk, slice_get, option_map, refl, ap, sym, ◌∙◌, subst}
+use Rattle.std.proofs.Common.{◌≡◌, ℕ, ℤ, List, Option, Some, None, slice_get, option_map, refl, ap, sym, ◌∙◌, subst}
 use Rattle.std.proofs.lemmas.Option.{slice_get-map}
-use Rattle.fm_cells.specs.Objects.{Object}
-use Rattle.fm_cells.specs.Stores.{object_at, Store}
+use Rattle.fm_cells.specs.Stores.{Store}
 use Rattle.fm_exec.specs.Steps.{Steps}
+use Rattle.fm_frames.proofs.Refusals.{cell-no-int, cell-no-long}
 use Rattle.fm_frames.specs.Acts.{Choose}
 use Rattle.fm_frames.specs.Effects.{Effect, stuck}
 use Rattle.fm_frames.specs.Operands.{on_int, on_int_of, on_long, on_long_of}
-use Rattle.fm_frames.specs.Sights.{sight, sight_of_cell, sight_of_object, sights}
+use Rattle.fm_frames.specs.Sights.{sight, sights}
 use Rattle.fm_frames.specs.Starts.{with_start}
 use Rattle.fm_frames.specs.States.{State}
 use Rattle.fm_frames.specs.declared.values.Value.{Value}
@@ -22,23 +22,11 @@ pub carried : (p : Program) (choose : Choose) (x y : State) (e f : Effect) → e
     → DoesIn p choose x y (with_start p.outline x.areas.started f) → Steps p choose x y e
 carried p choose x y e f same does = subst (λ e. DoesIn p choose x y (with_start p.outline x.areas.started e)) (sym same) does
 
--- what an answer tells that is Ok
-pub told-ok : {T E : Type 0} (r : Result T E) (P Q : Type 0) → (P → Q) → OnOk r P → OnOk r Q
-told-ok (Ok x) P Q f h = f h
-told-ok (Err e) P Q f h = tt
-
 -- ---- ints
 
 abbrev pub by_int : Option ℤ → (ℤ → Effect) → Effect
 by_int None follows = stuck
 by_int (Some n) follows = follows n
-
-cell-no-int : (o : Outline) (store : Store) (cell : ℕ) (follows : ℤ → Effect) → on_int_of (Some (sight_of_cell o store cell)) follows ≡ stuck
-cell-no-int o store zero follows = refl
-cell-no-int o store (suc cell) follows = by_object (object_at store (suc cell)) where
-  by_object : (object : Option Object) → on_int_of (Some (sight_of_object o store object)) follows ≡ stuck
-  by_object None = refl
-  by_object (Some object) = refl
 
 int-of : (o : Outline) (store : Store) (v : Option Value) (follows : ℤ → Effect)
     → on_int_of (option_map (sight o store) v) follows ≡ by_int (int_in v) follows
@@ -59,13 +47,6 @@ int-seen o store stack operand found follows is =
 abbrev pub by_long : Option ℤ → (ℤ → Effect) → Effect
 by_long None follows = stuck
 by_long (Some n) follows = follows n
-
-cell-no-long : (o : Outline) (store : Store) (cell : ℕ) (follows : ℤ → Effect) → on_long_of (Some (sight_of_cell o store cell)) follows ≡ stuck
-cell-no-long o store zero follows = refl
-cell-no-long o store (suc cell) follows = by_object (object_at store (suc cell)) where
-  by_object : (object : Option Object) → on_long_of (Some (sight_of_object o store object)) follows ≡ stuck
-  by_object None = refl
-  by_object (Some object) = refl
 
 long-of : (o : Outline) (store : Store) (v : Option Value) (follows : ℤ → Effect)
     → on_long_of (option_map (sight o store) v) follows ≡ by_long (long_in v) follows

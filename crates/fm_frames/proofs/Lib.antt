@@ -17,6 +17,7 @@ pub mod Jumping
 pub mod Shuffling
 pub mod HeldCounts
 pub mod BuiltInTypes
+pub mod Refusals
 pub mod ClassStarts
 pub mod StartActions
 pub mod OpeningSteps

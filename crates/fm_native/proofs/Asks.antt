@@ -11,12 +11,13 @@ use Rattle.fm_cells.specs.Objects.{Object}
 use Rattle.fm_cells.specs.Stores.{elements_at, object_at, Store}
 use Rattle.fm_cells.specs.declared.answers.Cell.{Cell}
 use Rattle.fm_cells.specs.declared.answers.Head.{Head}
-use Rattle.fm_frames.specs.Effects.{Effect, faulty, stuck}
+use Rattle.fm_frames.proofs.Refusals.{cell-no-int, cell-no-long, object-in}
+use Rattle.fm_frames.specs.Effects.{Effect, faulty}
 use Rattle.fm_frames.specs.Elements.{is_text_type}
 use Rattle.fm_frames.specs.NativeRows.{text_type}
 use Rattle.fm_frames.specs.Operands.{on_held_of, on_int_of, on_long_of, thrown_null}
 use Rattle.fm_frames.specs.Sights.{looks, Looks, sight, sight_of_cell, sight_of_object, sights, Sight, type_numbered, units_of}
-use Rattle.fm_frames.specs.States.{State, word_at}
+use Rattle.fm_frames.specs.States.{State}
 use Rattle.fm_frames.specs.Steps.{stack_of}
 use Rattle.fm_frames.specs.declared.looks.Look.{Look}
 use Rattle.fm_frames.specs.declared.looks.Look.TheVariants as look
@@ -74,38 +75,6 @@ held-asked o store stack operand seen is of_null follows =
     ∙ value-held of_null o store operand follows (slice_get stack operand) ∙ ap (held_follows of_null o store operand follows) (sym is)
 
 -- ---- which cell was looked at
-
-gone-in : (store : Store) (cell : Cell) (v : Option Value) → look.Gone cell ≡ look_at store v → v ≡ Some (value.Ref cell)
-gone-in store cell None e = cc
-gone-in store cell (Some value.Top) e = cc
-gone-in store cell (Some (value.Int n)) e = cc
-gone-in store cell (Some (value.Long n)) e = cc
-gone-in store cell (Some (value.Ref d)) e = by_test (d.0 == 0) (head_at store d.0) e where
-  by_test : (null : Bool) (head : Option Head) → look.Gone cell ≡ (if null then look.Null else look_head d head) → Some (value.Ref d) ≡ Some (value.Ref cell)
-  by_test true head e = cc
-  by_test false None e = let same : cell ≡ d = cc in ap (λ c. Some (value.Ref c)) (sym same)
-  by_test false (Some head) e = cc
-
-pub gone-at : (store : Store) (stack : List Value) (operand : ℕ) (cell : Cell) → look.Gone cell ≡ look_at store (slice_get stack operand)
-    → word_at stack operand ≡ value.Ref cell
-gone-at store stack operand cell e =
-    get_or_from_slice_get stack operand (value.Ref cell) value.Top (gone-in store cell (slice_get stack operand) e)
-
-object-in : (store : Store) (cell : Cell) (head : Head) (v : Option Value) → look.Object cell head ≡ look_at store v
-    → (v ≡ Some (value.Ref cell)) × (head_at store cell.0 ≡ Some head)
-object-in store cell head None e = absurd (cc)
-object-in store cell head (Some value.Top) e = absurd (cc)
-object-in store cell head (Some (value.Int n)) e = absurd (cc)
-object-in store cell head (Some (value.Long n)) e = absurd (cc)
-object-in store cell head (Some (value.Ref d)) e = by_test (d.0 == 0) (head_at store d.0) refl e where
-  by_test : (null : Bool) (there : Option Head) → there ≡ head_at store d.0 → look.Object cell head ≡ (if null then look.Null else look_head d there)
-      → (Some (value.Ref d) ≡ Some (value.Ref cell)) × (head_at store cell.0 ≡ Some head)
-  by_test true there is e = absurd (cc)
-  by_test false None is e = absurd (cc)
-  by_test false (Some h) is e =
-      let same : cell ≡ d = cc in
-      let told : head ≡ h = cc in
-      (ap (λ c. Some (value.Ref c)) (sym same), ap (λ (c : Cell). head_at store c.0) same ∙ sym is ∙ ap Some (sym told))
 
 pub held-at : (x : State) (operand : ℕ) (cell : Cell) (head : Head) → look.Object cell head ≡ look_at x.areas.store (slice_get (stack_of x) operand)
     → IsHeldAt x.areas.store x operand (record { cell = cell; head = head })
@@ -213,13 +182,6 @@ abbrev pub found_number : Option ℤ → Result ℤ Refusal
 found_number None = Err refusal.Other
 found_number (Some n) = Ok n
 
-cell-no-int : (o : Outline) (store : Store) (cell : ℕ) (follows : ℤ → Effect) → on_int_of (Some (sight_of_cell o store cell)) follows ≡ stuck
-cell-no-int o store zero follows = refl
-cell-no-int o store (suc cell) follows = by_object (object_at store (suc cell)) where
-  by_object : (object : Option Object) → on_int_of (Some (sight_of_object o store object)) follows ≡ stuck
-  by_object None = refl
-  by_object (Some object) = refl
-
 int-of : (o : Outline) (store : Store) (operand : ℕ) (v : Option Value) (follows : ℤ → Effect)
     → on_int_of (option_map (sight o store) v) follows ≡ asked o operand (found_number (int_in v)) follows
 int-of o store operand None follows = refl
@@ -233,13 +195,6 @@ pub int-asked : (o : Outline) (store : Store) (stack : List Value) (operand : �
 int-asked o store stack operand found is follows =
     ap (λ s. on_int_of s follows) (slice_get-map (sight o store) stack operand)
     ∙ int-of o store operand (slice_get stack operand) follows ∙ ap (λ n. asked o operand (found_number n) follows) (sym is)
-
-cell-no-long : (o : Outline) (store : Store) (cell : ℕ) (follows : ℤ → Effect) → on_long_of (Some (sight_of_cell o store cell)) follows ≡ stuck
-cell-no-long o store zero follows = refl
-cell-no-long o store (suc cell) follows = by_object (object_at store (suc cell)) where
-  by_object : (object : Option Object) → on_long_of (Some (sight_of_object o store object)) follows ≡ stuck
-  by_object None = refl
-  by_object (Some object) = refl
 
 long-of : (o : Outline) (store : Store) (operand : ℕ) (v : Option Value) (follows : ℤ → Effect)
     → on_long_of (option_map (sight o store) v) follows ≡ asked o operand (found_number (long_in v)) follows

@@ -1,5 +1,5 @@
 -- The effects of the rows of built-in methods, by what their operands are; and how a row's step follows from its effect.
-use Rattle.std.proofs.Common.{◌≡◌, ℕ, ℤ, pos, List, [], ◌∷◌, length, Option, Result, Ok, Err, OnOk, refl, ap, sym, ◌∙◌, subst}
+use Rattle.std.proofs.Common.{◌≡◌, ℕ, ℤ, pos, List, [], ◌∷◌, length, Option, Result, Ok, Err, refl, ap, sym, ◌∙◌, subst}
 use Rattle.fm_cells.specs.Stores.{Store}
 use Rattle.fm_cells.specs.declared.answers.Head.{Head}
 use Rattle.fm_frames.specs.Acts.{Choose}
@@ -18,11 +18,6 @@ use Rattle.fm_native.specs.inner.Asked.{asked, AsksHeld, AsksInt, AsksText, IsHe
 use Rattle.fm_world.specs.Programs.{Outline, Program}
 
 -- ---- rows
-
--- what an answer tells that is Ok
-pub told-ok : {T E : Type 0} (r : Result T E) (P Q : Type 0) → (P → Q) → OnOk r P → OnOk r Q
-told-ok (Ok x) P Q f h = f h
-told-ok (Err e) P Q f h = tt
 
 -- a row does what its effect says, where it did what an equal one says
 pub carried : (p : Program) (choose : Choose) (x y : State) (n : Native) (f : Effect) → ((byte : Option ℕ) → native_effect p.outline n byte (seen p x) ≡ f)

@@ -1,11 +1,9 @@
 -- Throwables have their message at the first place: Throwable gives it, and each class below keeps it there.
-use Rattle.std.proofs.Common.{◌≡◌, refl, sym, ◌∙◌, ap, ℕ, suc, ◌+◌, ◌<◌, ◌≤◌, ◌⊎◌, inl, inr, ◌==◌, ◌||◌, ◌&&◌, Bool, true, false, List, [], ◌∷◌, ◌++◌, length, reverse, codes, nat_le, Some, unwrap_or, slice_get, arith}
+use Rattle.std.proofs.Common.{◌≡◌, refl, sym, ◌∙◌, ap, ℕ, suc, ◌+◌, ◌<◌, ◌≤◌, ◌⊎◌, inl, inr, ◌==◌, ◌||◌, ◌&&◌, Bool, true, false, List, [], ◌∷◌, ◌++◌, length, reverse, nat_le, Some, unwrap_or, slice_get, arith}
 use Rattle.std.specs.List.{flat_map}
 use Rattle.std.specs.Option.{option_map}
-use Rattle.std.specs.Str.{bytes_eq}
 use Rattle.std.proofs.lemmas.Bool.{and_parts, cases_lt, eqb-true, false≢true}
 use Rattle.std.proofs.lemmas.Grind.{flat_map-append}
-use Rattle.std.proofs.lemmas.Iterator.Adapters.{position_from-zero}
 use Rattle.std.proofs.lemmas.List.{reverse-append}
 use Rattle.fm_base.specs.declared.kinds.Base.{Base}
 use Rattle.fm_base.specs.declared.kinds.Base.TheVariants as base
@@ -14,6 +12,7 @@ use Rattle.fm_base.specs.declared.kinds.Kind.TheVariants as kind
 use Rattle.fm_base.specs.declared.kinds.TypeRef.{TypeRef}
 use Rattle.fm_code.specs.Names.{object}
 use Rattle.fm_code.specs.declared.class_file.ClassDef.{ClassDef}
+use Rattle.fm_frames.proofs.BuiltInTypes.{object_there, throwable_there}
 use Rattle.fm_frames.proofs.Programs.{string-is, string_number}
 use Rattle.fm_frames.specs.NativeRows.{text_kind}
 use Rattle.fm_types.proofs.ClassTree.{among_one, chain_past_end}
@@ -23,19 +22,15 @@ use Rattle.fm_world.proofs.Displays.{chain_ends}
 use Rattle.fm_world.specs.BuiltIns.{built_in, string_name}
 use Rattle.fm_world.specs.Chains.{chain_of, class_at, is_among, upwards}
 use Rattle.fm_world.specs.Declarations.{declared_from}
-use Rattle.fm_world.specs.Descriptors.{class_number, declared_kind, kind_with, of_class, typed}
+use Rattle.fm_world.specs.Descriptors.{declared_kind, kind_with, of_class, typed}
 use Rattle.fm_world.specs.Lookups.{is_interface_at}
 use Rattle.fm_world.specs.Members.{kinds_of, own_kinds}
 use Rattle.fm_world.specs.Numbers.{type_of_class}
 use Rattle.fm_world.specs.Programs.{classes_of, kind_at, outline_of}
 use Rattle.fm_world.specs.declared.declarations.DeclaredClass.{DeclaredClass}
-use Rattle.fm_sound.proofs.MadeObjects.{two_up, object_there, size_is, object_top}
+use Rattle.fm_sound.proofs.MadeObjects.{two_up, size_is, object_top}
 
 -- ---- the class of what is thrown, which has the number 7 in each program
-
-throwable_number : (given : List DeclaredClass) → class_number (built_in ++ given) (codes "java/lang/Throwable") ≡ Some 7
-unfolding built_in
-throwable_number given = position_from-zero (λ (c : DeclaredClass). bytes_eq c.name (codes "java/lang/Throwable")) (built_in ++ given)
 
 throwable_chain : (given : List DeclaredClass) → chain_of (built_in ++ given) 7 ≡ 7 ∷ 0 ∷ []
 unfolding chain_of built_in
@@ -148,6 +143,6 @@ unfolding outline_of classes_of
 message_there given main tree of fits =
     let o = outline_of given main in
     let more = declared_from 0 given in
-    let thrown : throwable_type o ≡ type_of_class 7 = ap (λ n. type_of_class (unwrap_or n 0)) (throwable_number more) in
+    let thrown : throwable_type o ≡ type_of_class 7 = ap (λ n. type_of_class (unwrap_or n 0)) (throwable_there more) in
     message_first more tree of (ap (fits_type (built_in ++ more) of) (sym thrown) ∙ fits)
     ∙ ap Some (text_declared more ∙ sym (ap kind.Ref (string-is o more refl)))

@@ -1,11 +1,9 @@
 -- What built-in methods take and give: the words and the ends that their rows work on, by computation over all of them.
-use Rattle.std.proofs.Common.{◌≡◌, ℕ, zero, suc, ◌+◌, ◌<◌, ◌⊎◌, ◌==◌, ◌&&◌, ◌||◌, not, cond, Bool, true, false, List, [], ◌∷◌, ◌++◌, length, map, Option, Some, None, codes, option_and_then, IsSomeAnd, refl, sym, ◌∙◌, ap, subst, slice_get, slice_index_or, sum_by, arith, eqb-true, append_assoc, inl, inr, ⊎_elim}
+use Rattle.std.proofs.Common.{◌≡◌, ℕ, zero, suc, ◌+◌, ◌<◌, ◌⊎◌, ◌==◌, ◌&&◌, ◌||◌, not, cond, Bool, true, false, List, [], ◌∷◌, ◌++◌, length, map, Option, Some, None, codes, option_and_then, IsSomeAnd, refl, sym, ◌∙◌, ap, subst, slice_get, slice_index_or, sum_by, eqb-true, inl, inr, ⊎_elim}
 use Rattle.std.specs.Prelude.{option_map, unwrap_or}
 use Rattle.std.specs.List.{flat_map}
 use Rattle.std.specs.Str.{bytes_eq}
 use Rattle.std.proofs.lemmas.Bool.{and_parts, false≢true}
-use Rattle.std.proofs.lemmas.Iterator.Adapters.{position_from-zero}
-use Rattle.std.proofs.lemmas.List.{get_or_append_left}
 use Rattle.std.proofs.lemmas.List.Sums.{sum_by-cons}
 use Rattle.std.proofs.lemmas.Slice.Eq.{bytes_eq-Decides}
 use Rattle.std.proofs.lemmas.Option.{option_and_then_some}
@@ -26,16 +24,17 @@ use Rattle.fm_types.specs.declared.slots.Slot.TheVariants as slot
 use Rattle.fm_world.specs.BuiltIns.{built_in, string_name}
 use Rattle.fm_world.specs.Declarations.{no_method}
 use Rattle.fm_world.specs.Descriptors.{argument_words, base_in, class_number, declared_kind, kind_with, kind_words, of_class, parameter_types, result_type}
-use Rattle.fm_world.specs.Members.{method_at, methods_from, methods_of, OwnedMethod}
+use Rattle.fm_world.specs.Members.{method_at, methods_of, OwnedMethod}
 use Rattle.fm_world.specs.Numbers.{type_of_class}
 use Rattle.fm_world.specs.Programs.{Outline}
 use Rattle.fm_world.specs.declared.declarations.DeclaredClass.{DeclaredClass}
 use Rattle.fm_world.specs.declared.declarations.DeclaredMethod.{DeclaredMethod}
+use Rattle.fm_frames.proofs.BuiltInTypes.{builder_there, buffer_there}
+use Rattle.fm_frames.proofs.Programs.{string_number}
 use Rattle.fm_frames.specs.CallRows.{native_of, words_of_arguments}
 use Rattle.fm_frames.specs.Natives.{Append, FreeMeFree, FreeMeFreeChain, FreeMeLink, GetMessage, Native, native_of_row, StringToString, ThrowableInitOf}
 use Rattle.fm_same.specs.Covering.{is_free_me, native_words, NativeEnds}
-use Rattle.fm_sound.proofs.BuiltInMethods.{methods_from-append, method_same, untrue}
-use Rattle.fm_sound.proofs.HiddenFields.{string_there, builder_there, buffer_there}
+use Rattle.fm_sound.proofs.BuiltInMethods.{method_same, untrue}
 
 -- ---- words of descriptors: a class takes one word, whether it is there or not
 
@@ -127,7 +126,7 @@ or_cases false b h = inr h
 
 text_there : (given : List DeclaredClass) (name : List ℕ) → names_text (object name) ≡ true → (class : ℕ) × (class_number (built_in ++ given) name ≡ Some class)
 text_there given name h =
-    ⊎_elim (λ string. (1, ap (class_number (built_in ++ given)) ((bytes_eq-Decides name string_name).0 string) ∙ string_there given))
+    ⊎_elim (λ string. (1, ap (class_number (built_in ++ given)) ((bytes_eq-Decides name string_name).0 string) ∙ string_number given))
     (λ others. ⊎_elim
     (λ builder. (2, ap (class_number (built_in ++ given)) ((bytes_eq-Decides name (codes "java/lang/StringBuilder")).0 builder) ∙ builder_there given))
     (λ buffer. (3, ap (class_number (built_in ++ given)) ((bytes_eq-Decides name (codes "java/lang/StringBuffer")).0 buffer) ∙ buffer_there given))
@@ -171,7 +170,7 @@ module _ (o : Outline) (given : List DeclaredClass) (classes : o.classes ≡ bui
   text_parameter is =
       ap (λ d. map (declared_kind o.classes) (parameter_types d)) is
       ∙ ap (λ (n : Option ℕ). unwrap_or (option_map (kind_with 0) (option_map of_class n)) kind.Int ∷ [])
-      (ap (λ cs. class_number cs string_name) classes ∙ string_there given)
+      (ap (λ cs. class_number cs string_name) classes ∙ string_number given)
 
   message_end : is_static declared.flags ≡ false → declared.descriptor ≡ codes "(Ljava/lang/String;)V" → IsEnd o target (end.Parameter 1)
   message_end instance is =

@@ -1,28 +1,26 @@
 -- Texts and streams have no place for references, in each program: they have no fields.
-use Rattle.std.proofs.Common.{◌≡◌, ℕ, suc, ◌+◌, ◌<◌, List, [], ◌∷◌, ◌++◌, length, reverse, Some, None, codes, refl, sym, ◌∙◌, ap, slice_get, slice_index_or, arith}
+use Rattle.std.proofs.Common.{◌≡◌, ℕ, ◌+◌, ◌<◌, List, [], ◌++◌, length, Some, codes, sym, ◌∙◌, ap, slice_get, slice_index_or, arith}
 use Rattle.std.specs.Prelude.{unwrap_or}
-use Rattle.std.specs.List.{flat_map}
 use Rattle.std.specs.Str.{bytes_eq}
 use Rattle.std.proofs.lemmas.Iterator.Adapters.{position_from-zero}
-use Rattle.std.proofs.lemmas.List.{length-append}
 use Rattle.std.proofs.lemmas.List.Quantifiers.{position-Some}
 use Rattle.std.proofs.lemmas.Option.{none-some}
-use Rattle.fm_base.specs.declared.kinds.Kind.{Kind}
 use Rattle.fm_base.specs.declared.kinds.Kind.TheVariants as kind
 use Rattle.fm_base.specs.declared.kinds.TypeRef.{TypeRef}
 use Rattle.fm_types.specs.Named.{built_in_type}
 use Rattle.fm_types.proofs.LeastJoins.{same_type-eq}
-use Rattle.fm_world.specs.BuiltIns.{built_in, object_name, string_name}
-use Rattle.fm_world.specs.Chains.{chain_of, class_at, parent_of, same_type, upwards}
+use Rattle.fm_world.specs.BuiltIns.{built_in, string_name}
+use Rattle.fm_world.specs.Chains.{same_type}
 use Rattle.fm_world.specs.Descriptors.{class_number}
-use Rattle.fm_world.specs.Members.{kinds_of, own_kinds}
+use Rattle.fm_world.specs.Members.{kinds_of}
 use Rattle.fm_world.specs.Numbers.{type_number, type_of_class}
 use Rattle.fm_world.specs.Programs.{kind_at, Program}
 use Rattle.fm_world.specs.declared.declarations.DeclaredClass.{DeclaredClass}
+use Rattle.fm_frames.proofs.BuiltInTypes.{object_there, named_class}
 use Rattle.fm_frames.proofs.Programs.{built_in-inside, string-is}
 use Rattle.fm_same.specs.Evenness.{HasNoEdge, HoldsNumbers}
 use Rattle.fm_same.specs.Resolved.{IsResolved}
-use Rattle.fm_sound.proofs.MadeObjects.{chain_is, two_up, object_there, size_is, object_top, string_kinds, both_kinds}
+use Rattle.fm_sound.proofs.MadeObjects.{chain_is, object_top, string_kinds, both_kinds}
 
 -- ---- the chain of a class right below Object
 
@@ -48,11 +46,6 @@ no_edge p ready t class is inside none object len fixed same place u found =
     (sym (ap (λ n. kind_at p.outline.classes (slice_index_or p.outline.types n (type_of_class 0)) place) at
     ∙ ap (λ s. kind_at p.outline.classes s place) (sym typed) ∙ ap (λ kinds. slice_get kinds place) none) ∙ found)
 
-named_type : (p : Program) → IsResolved p → (name : List ℕ) (class : ℕ)
-    → ((given : List DeclaredClass) → class_number (built_in ++ given) name ≡ Some class) → built_in_type p.outline name ≡ type_of_class class
-named_type p ready name class found =
-    ap (λ n. type_of_class (unwrap_or n 0)) (ap (λ all. class_number all name) ready.runnable.classes ∙ found ready.runnable.given)
-
 output_there : (given : List DeclaredClass) → class_number (built_in ++ given) (codes "java/io/PrintStream") ≡ Some 5
 unfolding built_in
 output_there given = position_from-zero (λ (c : DeclaredClass). bytes_eq c.name (codes "java/io/PrintStream")) (built_in ++ given)
@@ -66,9 +59,9 @@ pub holds_numbers : (p : Program) → IsResolved p → HoldsNumbers p.outline
 holds_numbers p ready = record {
   texts = no_edge p ready (built_in_type p.outline string_name) 1 (string-is p.outline ready.runnable.given ready.runnable.classes)
       (built_in-inside p 1 ready.runnable (omega arith)) (kinds 1 string_kinds);
-  output = no_edge p ready (built_in_type p.outline (codes "java/io/PrintStream")) 5 (named_type p ready (codes "java/io/PrintStream") 5 output_there)
+  output = no_edge p ready (built_in_type p.outline (codes "java/io/PrintStream")) 5 (named_class p (codes "java/io/PrintStream") 5 ready.runnable output_there)
       (built_in-inside p 5 ready.runnable (omega arith)) (kinds 5 output_kinds);
-  input = no_edge p ready (built_in_type p.outline (codes "java/io/InputStream")) 6 (named_type p ready (codes "java/io/InputStream") 6 input_there)
+  input = no_edge p ready (built_in_type p.outline (codes "java/io/InputStream")) 6 (named_class p (codes "java/io/InputStream") 6 ready.runnable input_there)
       (built_in-inside p 6 ready.runnable (omega arith)) (kinds 6 input_kinds);
   constants = ready.constants;
 } where

@@ -29,8 +29,9 @@ use Rattle.fm_sound.specs.Acting.{ActsFit, MakeFits, ObjectFits, PlaceFits, Valu
 use Rattle.fm_sound.specs.Laws.{LeavesSound}
 use Rattle.fm_sound.specs.Leading.{sources_of}
 use Rattle.fm_sound.specs.Sound.{AreasAreSound, ElementFits, field_slot, HasKind, HasLength, HaveKinds, IsObjectIn, IsObjectOf, static_slots}
-use Rattle.fm_sound.proofs.Counts.{held_insert_held, held_insert_new, held_remove, words_few}
+use Rattle.fm_sound.proofs.Counts.{words_few}
 use Rattle.fm_sound.proofs.Leaving.{read_kind}
+use Rattle.fm_frames.proofs.HeldCounts.{held_insert_held, held_insert_new, held_remove}
 
 -- ---- lists
 

@@ -1,19 +1,15 @@
 -- Objects that build texts, and throwables, have the text that they lead to at their first place: it is the first field of the class that brings it.
-use Rattle.std.proofs.Common.{◌≡◌, ℕ, ◌<◌, ◌≤◌, ◌==◌, ◌&&◌, ◌||◌, ◌⊎◌, inl, inr, Bool, true, false, List, [], ◌∷◌, ◌++◌, length, codes, unwrap_or, nat_le, Some, refl, sym, ◌∙◌, ap, slice_get, arith}
+use Rattle.std.proofs.Common.{◌≡◌, ℕ, ◌<◌, ◌≤◌, ◌==◌, ◌⊎◌, inl, inr, true, false, List, [], ◌∷◌, ◌++◌, length, codes, unwrap_or, Some, refl, sym, ◌∙◌, ap, slice_get, arith}
 use Rattle.std.specs.Option.{option_map}
-use Rattle.std.specs.Str.{bytes_eq}
-use Rattle.std.proofs.lemmas.Bool.{and_parts, cases_lt, eqb-true, false≢true, or_cases}
-use Rattle.std.proofs.lemmas.Iterator.Adapters.{position_from-zero}
-use Rattle.fm_base.specs.declared.kinds.Base.{Base}
-use Rattle.fm_base.specs.declared.kinds.Base.TheVariants as base
+use Rattle.std.proofs.lemmas.Bool.{cases_lt, or_cases}
 use Rattle.fm_base.specs.declared.kinds.Kind.{Kind}
 use Rattle.fm_base.specs.declared.kinds.Kind.TheVariants as kind
 use Rattle.fm_base.specs.declared.kinds.TypeRef.{TypeRef}
 use Rattle.fm_code.specs.Names.{object}
 use Rattle.fm_types.proofs.ClassTree.{among_one, chain_past_end}
-use Rattle.fm_types.specs.Fits.{AreTree, depth_of, fits_base, fits_type, is_object_base, is_objects_within, object_of}
+use Rattle.fm_types.specs.Fits.{AreTree, fits_type}
 use Rattle.fm_types.specs.Named.{built_in_type}
-use Rattle.fm_world.specs.BuiltIns.{built_in, object_name, string_name}
+use Rattle.fm_world.specs.BuiltIns.{built_in, string_name}
 use Rattle.fm_world.specs.Chains.{chain_of, is_among}
 use Rattle.fm_world.specs.Descriptors.{class_number, declared_kind, kind_with, of_class, typed}
 use Rattle.fm_world.specs.Lookups.{is_interface_at}
@@ -21,18 +17,16 @@ use Rattle.fm_world.specs.Members.{kinds_of, slot_of}
 use Rattle.fm_world.specs.Numbers.{type_of_class}
 use Rattle.fm_world.specs.Programs.{kind_at, Outline, Program}
 use Rattle.fm_world.specs.declared.declarations.DeclaredClass.{DeclaredClass}
-use Rattle.fm_frames.proofs.Programs.{built_in-inside, string-is}
+use Rattle.fm_frames.proofs.BuiltInTypes.{below_named, buffer_there, builder_there, no_interfaces, object_there, throwable_there}
+use Rattle.fm_frames.proofs.Programs.{built_in-inside, string-is, string_number}
 use Rattle.fm_frames.specs.NativeRows.{text_kind}
 use Rattle.fm_frames.specs.ObjectRows.{kind_of_field}
 use Rattle.fm_frames.specs.Runnable.{IsRunnable}
 use Rattle.fm_sound.specs.Making.{HaveTextFirst, IsFieldOf}
 use Rattle.fm_sound.proofs.FieldPlaces.{field_place, kinds_grow}
-use Rattle.fm_sound.proofs.MadeObjects.{both_kinds, chain_is, object_there, object_top}
+use Rattle.fm_sound.proofs.MadeObjects.{both_kinds, chain_is, object_top}
 
 -- ---- what fits a class
-
-or_none : (a b : Bool) → a ≡ false → b ≡ false → (a || b) ≡ false
-or_none a b first second = ap (λ x. x || b) first ∙ second
 
 -- what has a class among its superclasses is a class
 among_inside : (classes : List DeclaredClass) (class above : ℕ) → above < length classes → is_among above (chain_of classes class) ≡ true
@@ -43,32 +37,6 @@ among_inside classes class above there among = by_place (cases_lt class (length 
   by_place (inr past) =
       let same : above ≡ class = among_one above class (sym (ap (is_among above) (chain_past_end classes class past)) ∙ among) in
       absurd (omega (arith, same, there, past))
-
--- the type is a class that has this one among its superclasses
-abbrev pub IsBelow : List DeclaredClass → ℕ → TypeRef → Type 0
-IsBelow classes above t = (class : ℕ) × (t ≡ type_of_class class) × (is_among above (chain_of classes class) ≡ true)
-
-base_below : (classes : List DeclaredClass) (above : ℕ) (b : Base) → fits_base classes b (of_class above) ≡ true
-    → (class : ℕ) × (b ≡ of_class class) × (is_among above (chain_of classes class) ≡ true)
-base_below classes above (base.OfClass class) fits = (class.0, refl, fits)
-base_below classes above b fits = absurd (false≢true fits)
-
-pub type_below : (classes : List DeclaredClass) (above : ℕ) (t : TypeRef) → is_interface_at classes above ≡ false → (above == object_of classes) ≡ false
-    → fits_type classes t (type_of_class above) ≡ true → IsBelow classes above t
-unfolding fits_type
-type_below classes above t no_interface no_object fits =
-    by_way (or_cases (is_objects_within classes (depth_of t) (type_of_class above)) ((t.dims == 0) && fits_base classes t.base (of_class above)) fits) where
-      by_way : (is_objects_within classes (depth_of t) (type_of_class above) ≡ true) ⊎ (((t.dims == 0) && fits_base classes t.base (of_class above)) ≡ true)
-          → IsBelow classes above t
-      by_way (inl seen) =
-          let parts = and_parts (nat_le 0 (depth_of t)) (is_object_base classes (of_class above)) seen in
-          absurd (false≢true (sym (or_none (is_interface_at classes above) (above == object_of classes) no_interface no_object) ∙ parts.1))
-      by_way (inr level) =
-          let parts = and_parts (t.dims == 0) (fits_base classes t.base (of_class above)) level in
-          let below = base_below classes above t.base parts.1 in
-          let flat : t ≡ record t { dims = 0 } = ap (λ n. record t { dims = n }) (eqb-true t.dims 0 parts.0) in
-          let named : record t { dims = 0 } ≡ type_of_class below.0 = ap (λ b. record { dims = 0; base = b }) below.1 in
-          (below.0, flat ∙ named, below.2)
 
 -- the first place of a class is that of all below it
 first_kept : (classes : List DeclaredClass) → AreTree classes → (above class : ℕ) (k : Kind) → above < length classes
@@ -88,12 +56,8 @@ field_seen o tree field of h =
 
 -- ---- the classes that bring the field
 
-pub string_there : (given : List DeclaredClass) → class_number (built_in ++ given) string_name ≡ Some 1
-unfolding built_in
-string_there given = position_from-zero (λ (c : DeclaredClass). bytes_eq c.name string_name) (built_in ++ given)
-
 hidden_kind : (given : List DeclaredClass) → declared_kind (built_in ++ given) (typed 0 (object string_name)) ≡ kind.Ref (type_of_class 1)
-hidden_kind given = ap (λ n. unwrap_or (option_map (kind_with 0) (option_map of_class n)) kind.Int) (string_there given)
+hidden_kind given = ap (λ n. unwrap_or (option_map (kind_with 0) (option_map of_class n)) kind.Int) (string_number given)
 
 abbrev hidden_kinds : List DeclaredClass → List Kind
 hidden_kinds given = declared_kind (built_in ++ given) (typed 0 (object string_name)) ∷ []
@@ -110,33 +74,9 @@ throwable_kinds : (given : List DeclaredClass) → kinds_of (built_in ++ given) 
 unfolding kinds_of built_in
 throwable_kinds given = ap (both_kinds (built_in ++ given)) (chain_is given 7 (object_there given) (object_top given))
 
-no_interfaces : (given : List DeclaredClass)
-    → (is_interface_at (built_in ++ given) 2 ≡ false) × (is_interface_at (built_in ++ given) 3 ≡ false) × (is_interface_at (built_in ++ given) 7 ≡ false)
-unfolding built_in
-no_interfaces given = (refl, refl, refl)
-
-pub builder_there : (given : List DeclaredClass) → class_number (built_in ++ given) (codes "java/lang/StringBuilder") ≡ Some 2
-unfolding built_in
-builder_there given = position_from-zero (λ (c : DeclaredClass). bytes_eq c.name (codes "java/lang/StringBuilder")) (built_in ++ given)
-
-pub buffer_there : (given : List DeclaredClass) → class_number (built_in ++ given) (codes "java/lang/StringBuffer") ≡ Some 3
-unfolding built_in
-buffer_there given = position_from-zero (λ (c : DeclaredClass). bytes_eq c.name (codes "java/lang/StringBuffer")) (built_in ++ given)
-
-throwable_there : (given : List DeclaredClass) → class_number (built_in ++ given) (codes "java/lang/Throwable") ≡ Some 7
-unfolding built_in
-throwable_there given = position_from-zero (λ (c : DeclaredClass). bytes_eq c.name (codes "java/lang/Throwable")) (built_in ++ given)
-
 module _ (p : Program) (runnable : IsRunnable p) (tree : AreTree p.outline.classes) where
   abbrev o : Outline
   o = p.outline
-
-  named : (name : List ℕ) (class : ℕ) → ((given : List DeclaredClass) → class_number (built_in ++ given) name ≡ Some class)
-      → built_in_type o name ≡ type_of_class class
-  named name class found = ap (λ n. type_of_class (unwrap_or n 0)) (ap (λ all. class_number all name) runnable.classes ∙ found runnable.given)
-
-  object_is : object_of o.classes ≡ 0
-  object_is = ap (λ n. unwrap_or n 0) (ap (λ all. class_number all object_name) runnable.classes ∙ object_there runnable.given)
 
   text_is : kind.Ref (type_of_class 1) ≡ text_kind o
   text_is = ap (λ t. kind.Ref t) (sym (string-is o runnable.given runnable.classes))
@@ -147,10 +87,7 @@ module _ (p : Program) (runnable : IsRunnable p) (tree : AreTree p.outline.class
       → ((given : List DeclaredClass) → kinds_of (built_in ++ given) above ≡ hidden_kinds given) → (t : TypeRef)
       → fits_type o.classes t (built_in_type o name) ≡ true → kind_at o.classes t 0 ≡ Some (text_kind o)
   first_is name above early other found no_interface kinds t fits =
-      let no_interface_here : is_interface_at o.classes above ≡ false =
-      ap (λ all. is_interface_at all above) runnable.classes ∙ no_interface runnable.given in
-      let below = type_below o.classes above t no_interface_here (ap (λ n. above == n) object_is ∙ other)
-      (sym (ap (λ u. fits_type o.classes t u) (named name above found)) ∙ fits) in
+      let below = below_named p name above runnable other found no_interface t fits in
       let one : kinds_of o.classes above ≡ kind.Ref (type_of_class 1) ∷ [] =
       ap (λ all. kinds_of all above) runnable.classes ∙ kinds runnable.given ∙ ap (λ k. k ∷ []) (hidden_kind runnable.given) in
       ap (λ u. kind_at o.classes u 0) below.1

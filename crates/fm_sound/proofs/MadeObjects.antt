@@ -1,5 +1,5 @@
 -- Objects that rows make are of types that have a number, and have their length.
-use Rattle.std.proofs.Common.{◌≡◌, ℕ, zero, suc, ◌+◌, ◌^◌, ◌<◌, ◌≤◌, ◌==◌, not, Bool, true, false, cond, List, [], ◌∷◌, ◌++◌, length, codes, unwrap_or, reverse, Option, Some, None, refl, sym, ◌∙◌, ap, subst, inl, inr, slice_get, get_or, arith}
+use Rattle.std.proofs.Common.{◌≡◌, ℕ, zero, suc, ◌+◌, ◌^◌, ◌<◌, ◌≤◌, ◌==◌, not, Bool, true, false, cond, List, [], ◌∷◌, ◌++◌, length, codes, reverse, Option, Some, None, refl, sym, ◌∙◌, ap, subst, inl, inr, slice_get, get_or, arith}
 use Rattle.std.specs.List.{flat_map, position_or_len}
 use Rattle.std.specs.Str.{bytes_eq}
 use Rattle.std.proofs.lemmas.Bool.{and_parts, false≢true, lt-ltb, ne_eqb}
@@ -17,13 +17,14 @@ use Rattle.fm_code.specs.AccessFlags.{is_abstract, is_interface}
 use Rattle.fm_types.proofs.LeastJoins.{same_type-eq, same_type-refl}
 use Rattle.fm_types.specs.Named.{built_in_type}
 use Rattle.fm_types.specs.ObjectRows.{has_objects}
-use Rattle.fm_world.specs.BuiltIns.{built_in, object_name}
+use Rattle.fm_world.specs.BuiltIns.{built_in}
 use Rattle.fm_world.specs.Chains.{chain_of, class_at, parent_of, same_type, upwards}
 use Rattle.fm_world.specs.Descriptors.{class_number}
 use Rattle.fm_world.specs.Members.{kinds_of, own_kinds, size_of}
 use Rattle.fm_world.specs.Numbers.{type_number, type_of_class}
 use Rattle.fm_world.specs.Programs.{class_of_type, kind_at, Outline, Program}
 use Rattle.fm_world.specs.declared.declarations.DeclaredClass.{DeclaredClass}
+use Rattle.fm_frames.proofs.BuiltInTypes.{object_there, named_class}
 use Rattle.fm_frames.proofs.Programs.{built_in-inside, string-is}
 use Rattle.fm_frames.specs.Effects.{Make}
 use Rattle.fm_frames.specs.Elements.{is_text_type, pack_of}
@@ -35,10 +36,6 @@ use Rattle.fm_sound.specs.Sound.{HasLength, HasLengthBy}
 use Rattle.fm_sound.proofs.Counts.{type_pack}
 
 -- ---- texts have no fields
-
-pub object_there : (given : List DeclaredClass) → class_number (built_in ++ given) object_name ≡ Some 0
-unfolding built_in
-object_there given = position_from-zero (λ (c : DeclaredClass). bytes_eq c.name object_name) (built_in ++ given)
 
 pub two_up : (n : ℕ) (classes : List DeclaredClass) (class : ℕ) → parent_of classes class ≡ Some 0 → parent_of classes 0 ≡ None
     → upwards (suc (suc (suc n))) classes (Some class) ≡ class ∷ 0 ∷ []
@@ -189,12 +186,6 @@ module _ (p : Program) (ready : IsMakeable p) where
   abbrev o : Outline
   o = p.outline
 
-  -- the type of the name
-  pub named_type : (name : List ℕ) (class : ℕ) → ((given : List DeclaredClass) → class_number (built_in ++ given) name ≡ Some class)
-      → built_in_type o name ≡ type_of_class class
-  named_type name class found =
-      ap (λ n. type_of_class (unwrap_or n 0)) (ap (λ all. class_number all name) ready.runnable.classes ∙ found ready.runnable.given)
-
   pub class_fits : (class len : ℕ) (content : List ℕ) → class < 28 → ((given : List DeclaredClass) → IsPlain (built_in ++ given) class)
       → HasLength o (type_of_class class) len → ContentFits o (type_of_class class) len content → MakeFits o (type_of_class class) len content
   class_fits class len content early plain length_fits content_fits =
@@ -212,7 +203,7 @@ module _ (p : Program) (ready : IsMakeable p) where
       → ((given : List DeclaredClass) → IsPlain (built_in ++ given) class)
       → MakeFits o (built_in_type o name) (size_of_type o (built_in_type o name)) []
   thrown_by name class early found plain =
-      subst (λ t. MakeFits o t (size_of_type o t) []) (sym (named_type name class found))
+      subst (λ t. MakeFits o t (size_of_type o t) []) (sym (named_class p name class ready.runnable found))
       (class_fits class (size_of o.classes class) [] early plain
       (class_length o (is_text_type o (type_of_class class)) class (ready.runnable.sizes class)) tt)
 

@@ -48,8 +48,8 @@ use Rattle.fm_sound.proofs.ActsKeep.{class_set, Keeps, keeps_later, literal_set,
 use Rattle.fm_sound.proofs.BuiltInMethods.{class_there, is_known}
 use Rattle.fm_sound.proofs.CallsStand.{new_stands, started_stand}
 use Rattle.fm_sound.proofs.ClassStarts.{starts_are_methods}
-use Rattle.fm_sound.proofs.Counts.{held_total}
 use Rattle.fm_sound.proofs.Leaving.{read_kind}
+use Rattle.fm_frames.proofs.HeldCounts.{held_total}
 
 -- the actions of the opening fit, and so do those that start classes
 pub record OpeningActsFit (p : Program) (job : Job) (store : Store) : Type 0 where

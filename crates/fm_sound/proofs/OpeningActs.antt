@@ -11,6 +11,7 @@ use Rattle.fm_world.specs.Descriptors.{class_number}
 use Rattle.fm_world.specs.Members.{size_among, size_of}
 use Rattle.fm_world.specs.Programs.{Outline, Program}
 use Rattle.fm_world.specs.declared.declarations.DeclaredClass.{DeclaredClass}
+use Rattle.fm_frames.proofs.BuiltInTypes.{object_there, named_class}
 use Rattle.fm_frames.specs.NativeRows.{text_kind, text_type}
 use Rattle.fm_frames.specs.Runs.{argument_actions, arguments_type, Job, opening_actions}
 use Rattle.fm_frames.specs.States.{Frame}
@@ -18,7 +19,7 @@ use Rattle.fm_sound.specs.Acting.{ActsFit, MakeFits, PlaceFits}
 use Rattle.fm_sound.specs.Making.{ArgumentsFit, AreUnits, IsMakeable}
 use Rattle.fm_sound.specs.Sound.{HasLengthBy}
 use Rattle.fm_sound.proofs.FieldPlaces.{still}
-use Rattle.fm_sound.proofs.MadeObjects.{array_made, chain_is, class_fits, IsPlain, named_type, object_there, object_top, text_fits}
+use Rattle.fm_sound.proofs.MadeObjects.{array_made, chain_is, class_fits, IsPlain, object_top, text_fits}
 use Rattle.fm_sound.proofs.NestedArrays.{array_place}
 
 output_size : (given : List DeclaredClass) → size_of (built_in ++ given) 5 ≡ 0
@@ -42,7 +43,7 @@ module _ (p : Program) (ready : IsMakeable p) (store : Store) (f : Frame) where
       → ((given : List DeclaredClass) → IsPlain (built_in ++ given) class) → ((given : List DeclaredClass) → size_of (built_in ++ given) class ≡ 0)
       → MakeFits o (built_in_type o name) 0 []
   fixed_fits name class early found plain size =
-      subst (λ t. MakeFits o t 0 []) (sym (named_type p ready name class found))
+      subst (λ t. MakeFits o t 0 []) (sym (named_class p name class ready.runnable found))
       (class_fits p ready class 0 [] early plain (no_length class size _) tt)
 
   output_fits : MakeFits o (built_in_type o (codes "java/io/PrintStream")) 0 []

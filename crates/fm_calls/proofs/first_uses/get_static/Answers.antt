@@ -4,8 +4,8 @@ use Rattle.fm_calls.proofs.UseSteps.{field-class, field-owner}
 use Rattle.fm_calls.proofs.first_uses.get_static.Goals as goal
 use Rattle.fm_calls.specs.inner.Starting.{StartsBefore}
 use Rattle.fm_exec.proofs.FieldSteps.{field-kind, get_static-named}
-use Rattle.fm_exec.proofs.Seen.{told-ok}
 use Rattle.fm_exec.specs.Steps.{Steps}
+use Rattle.fm_frames.proofs.Throwing.{told-ok}
 use Rattle.fm_frames.specs.Effects.{OfStatic, loaded, words}
 use Rattle.fm_frames.specs.ObjectRows.{kind_of_field, starting}
 use Rattle.fm_frames.specs.States.{word_at}

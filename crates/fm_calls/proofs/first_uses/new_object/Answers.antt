@@ -4,9 +4,10 @@ use Rattle.fm_calls.proofs.first_uses.new_object.Goals as goal
 use Rattle.fm_calls.specs.inner.Starting.{StartsBefore}
 use Rattle.fm_cells.specs.Sizes.{packed_words}
 use Rattle.fm_exec.proofs.ObjectSteps.{new-array, new-class}
-use Rattle.fm_exec.proofs.Seen.{carried, told-ok}
+use Rattle.fm_exec.proofs.Seen.{carried}
 use Rattle.fm_exec.specs.Steps.{Steps}
 use Rattle.fm_frames.proofs.Programs.{class-size}
+use Rattle.fm_frames.proofs.Throwing.{told-ok}
 use Rattle.fm_frames.specs.Effects.{Make, making, stuck}
 use Rattle.fm_frames.specs.ObjectRows.{new_effect}
 use Rattle.fm_world.specs.declared.records.ClassInfo.{ClassInfo}

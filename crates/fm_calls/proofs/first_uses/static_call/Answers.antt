@@ -3,9 +3,9 @@ use Rattle.std.proofs.lemmas.Option.{slice_get-get_or}
 use Rattle.fm_calls.proofs.first_uses.static_call.Goals as goal
 use Rattle.fm_calls.specs.inner.Starting.{StartsBefore}
 use Rattle.fm_exec.proofs.ObjectSteps.{static-coded}
-use Rattle.fm_exec.proofs.Seen.{told-ok}
 use Rattle.fm_exec.specs.Steps.{seen, Steps}
 use Rattle.fm_frames.proofs.Programs.{method-class}
+use Rattle.fm_frames.proofs.Throwing.{told-ok}
 use Rattle.fm_frames.specs.Effects.{Calls, going}
 use Rattle.fm_frames.specs.ObjectRows.{starting}
 use Rattle.fm_world.specs.Numbers.{type_of_class}

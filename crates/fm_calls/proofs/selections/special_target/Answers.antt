@@ -2,9 +2,9 @@ use Rattle.std.proofs.Common.{codes, get_or, refl, ◌∙◌}
 use Rattle.std.proofs.lemmas.Option.{slice_get-get_or}
 use Rattle.fm_calls.proofs.SelectSteps.{special-entered, special-seen}
 use Rattle.fm_calls.proofs.selections.special_target.Goals as goal
-use Rattle.fm_exec.proofs.Exceptions.{null-is}
 use Rattle.fm_exec.proofs.Seen.{carried}
 use Rattle.fm_exec.specs.Steps.{seen}
+use Rattle.fm_frames.proofs.Refusals.{null-is}
 use Rattle.fm_frames.specs.CallRows.{special_effect}
 use Rattle.fm_frames.specs.Effects.{stuck}
 use Rattle.fm_frames.specs.Operands.{thrown_null}

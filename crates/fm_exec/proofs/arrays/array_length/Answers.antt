@@ -4,9 +4,10 @@ use Rattle.fm_cells.specs.declared.answers.Head.{Head}
 use Rattle.fm_exec.proofs.ArraySteps.{length-is, length-told, length_of}
 use Rattle.fm_exec.proofs.HeldSteps.{object-found}
 use Rattle.fm_exec.proofs.PlainSteps.{gave}
-use Rattle.fm_exec.proofs.Seen.{carried, told-ok}
+use Rattle.fm_exec.proofs.Seen.{carried}
 use Rattle.fm_exec.proofs.arrays.array_length.Goals as goal
 use Rattle.fm_exec.specs.Steps.{seen, Steps}
+use Rattle.fm_frames.proofs.Throwing.{told-ok}
 use Rattle.fm_frames.specs.Acts.{cell_of}
 use Rattle.fm_frames.specs.ArrayRows.{length_effect}
 use Rattle.fm_frames.specs.Effects.{OfOperand, faulty, int_word, words}

@@ -2,8 +2,8 @@ use Rattle.std.proofs.Common.{◌≡◌, codes, [], Some, None, rules}
 use Rattle.fm_exec.proofs.ArraySteps.{count-made, count-refused, counted, len_of}
 use Rattle.fm_exec.proofs.Exceptions.{negative-is}
 use Rattle.fm_exec.proofs.PlainSteps.{stuck-int, with-int}
-use Rattle.fm_exec.proofs.Seen.{told-ok}
 use Rattle.fm_exec.proofs.arrays.make_array.Goals as goal
+use Rattle.fm_frames.proofs.Throwing.{told-ok}
 use Rattle.fm_frames.specs.ArrayRows.{thrown_negative}
 use Rattle.fm_frames.specs.Effects.{Make, making}
 

@@ -1,8 +1,9 @@
 use Rattle.std.proofs.Common.{◌≡◌, Some, None, rules, sym, subst}
 use Rattle.fm_exec.proofs.ArraySteps.{new_references-is}
-use Rattle.fm_exec.proofs.Seen.{carried, told-ok}
+use Rattle.fm_exec.proofs.Seen.{carried}
 use Rattle.fm_exec.proofs.arrays.new_references.Goals as goal
 use Rattle.fm_exec.specs.Steps.{seen, Steps}
+use Rattle.fm_frames.proofs.Throwing.{told-ok}
 use Rattle.fm_frames.specs.ArrayRows.{new_references_effect}
 use Rattle.fm_frames.specs.Effects.{stuck}
 use Rattle.fm_world.specs.Uses.{array_of}

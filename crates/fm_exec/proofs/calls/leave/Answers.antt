@@ -1,6 +1,7 @@
 use Rattle.fm_exec.proofs.ObjectSteps.{return-nothing, return-word}
-use Rattle.fm_exec.proofs.Seen.{carried, told-ok}
+use Rattle.fm_exec.proofs.Seen.{carried}
 use Rattle.fm_exec.proofs.calls.leave.Goals as goal
+use Rattle.fm_frames.proofs.Throwing.{told-ok}
 use Rattle.fm_frames.specs.Effects.{Returns, going}
 use Rattle.fm_frames.specs.JumpRows.{return_effect}
 

@@ -2,9 +2,10 @@ use Rattle.std.proofs.Common.{◌≡◌, [], codes, true, false, refl, ap, ◌�
 use Rattle.fm_exec.proofs.CastSteps.{cast-refused, cast-told, casts_by}
 use Rattle.fm_exec.proofs.Exceptions.{cast-is}
 use Rattle.fm_exec.proofs.HeldSteps.{object-found}
-use Rattle.fm_exec.proofs.LookSteps.{gone-at}
-use Rattle.fm_exec.proofs.Seen.{carried, told-ok}
+use Rattle.fm_exec.proofs.Seen.{carried}
 use Rattle.fm_exec.proofs.casts.cast.Goals as goal
+use Rattle.fm_frames.proofs.Refusals.{gone-at}
+use Rattle.fm_frames.proofs.Throwing.{told-ok}
 use Rattle.fm_frames.specs.Acts.{cell_of}
 use Rattle.fm_frames.specs.Effects.{OfOperand, faulty, stuck, words}
 use Rattle.fm_frames.specs.ObjectRows.{cast_effect}

@@ -1,9 +1,10 @@
 use Rattle.std.proofs.Common.{pos, if◌then◌else◌, refl, ap, sym, ◌∙◌}
 use Rattle.fm_exec.proofs.CastSteps.{answered_by, is_a-refused, is_a-told}
 use Rattle.fm_exec.proofs.HeldSteps.{object-found}
-use Rattle.fm_exec.proofs.LookSteps.{gone-at}
-use Rattle.fm_exec.proofs.Seen.{carried, told-ok}
+use Rattle.fm_exec.proofs.Seen.{carried}
 use Rattle.fm_exec.proofs.casts.is_instance.Goals as goal
+use Rattle.fm_frames.proofs.Refusals.{gone-at}
+use Rattle.fm_frames.proofs.Throwing.{told-ok}
 use Rattle.fm_frames.specs.Acts.{cell_of}
 use Rattle.fm_frames.specs.Effects.{OfOperand, Plain, faulty, int_word, stuck, words}
 use Rattle.fm_frames.specs.ObjectRows.{is_a_effect}

@@ -1,7 +1,8 @@
 use Rattle.fm_exec.proofs.LiteralRow.{text-constant}
-use Rattle.fm_exec.proofs.Seen.{carried, told-ok}
+use Rattle.fm_exec.proofs.Seen.{carried}
 use Rattle.fm_exec.proofs.constants.text_constant.Goals as goal
 use Rattle.fm_frames.proofs.LiteralSteps.{literal_given}
+use Rattle.fm_frames.proofs.Throwing.{told-ok}
 use Rattle.fm_frames.specs.NumberRows.{constant_effect}
 use Rattle.fm_world.specs.declared.uses.Use.TheVariants as used
 

@@ -3,9 +3,10 @@ use Rattle.fm_exec.proofs.ElementSteps.{element-faulty, element-inside, element-
 use Rattle.fm_exec.proofs.Exceptions.{index-is}
 use Rattle.fm_exec.proofs.FieldSteps.{place-source}
 use Rattle.fm_exec.proofs.HeldSteps.{object-found}
-use Rattle.fm_exec.proofs.Seen.{carried, told-ok}
+use Rattle.fm_exec.proofs.Seen.{carried}
 use Rattle.fm_exec.proofs.elements.array_load.Goals as goal
 use Rattle.fm_exec.specs.Steps.{seen, Steps}
+use Rattle.fm_frames.proofs.Throwing.{told-ok}
 use Rattle.fm_frames.specs.Acts.{cell_of}
 use Rattle.fm_frames.specs.ArrayRows.{array_load_effect, element_kind}
 use Rattle.fm_frames.specs.Effects.{OfOperand, OfPlace, faulty, loaded, stuck, words}

@@ -2,9 +2,10 @@ use Rattle.std.proofs.Common.{◌≡◌, ◌+◌, ◌-◌, [], ◌∷◌, codes,
 use Rattle.fm_exec.proofs.ElementSteps.{element-faulty, element-inside, element-outside, element-stuck, outside, place_in, put-kind, store-is, store_held}
 use Rattle.fm_exec.proofs.Exceptions.{index-is}
 use Rattle.fm_exec.proofs.HeldSteps.{object-found}
-use Rattle.fm_exec.proofs.Seen.{carried, told-ok}
+use Rattle.fm_exec.proofs.Seen.{carried}
 use Rattle.fm_exec.proofs.elements.array_store.Goals as goal
 use Rattle.fm_exec.specs.Steps.{seen, Steps}
+use Rattle.fm_frames.proofs.Throwing.{told-ok}
 use Rattle.fm_frames.specs.Acts.{cell_of}
 use Rattle.fm_frames.specs.ArrayRows.{array_store_effect, element_kind, put_element}
 use Rattle.fm_frames.specs.Effects.{OfOperand, Put, acting, faulty, stuck}

@@ -2,9 +2,10 @@ use Rattle.std.proofs.Common.{◌≡◌, codes, true, false, refl, ap, ◌∙◌
 use Rattle.fm_exec.proofs.ElementSteps.{put_fitting, put_of, value-refused, value-told}
 use Rattle.fm_exec.proofs.Exceptions.{store-is}
 use Rattle.fm_exec.proofs.HeldSteps.{object-found}
-use Rattle.fm_exec.proofs.LookSteps.{gone-at}
-use Rattle.fm_exec.proofs.Seen.{carried, told-ok}
+use Rattle.fm_exec.proofs.Seen.{carried}
 use Rattle.fm_exec.proofs.elements.put_reference.Goals as goal
+use Rattle.fm_frames.proofs.Refusals.{gone-at}
+use Rattle.fm_frames.proofs.Throwing.{told-ok}
 use Rattle.fm_frames.specs.Acts.{cell_of}
 use Rattle.fm_frames.specs.ArrayRows.{put_reference}
 use Rattle.fm_frames.specs.Effects.{OfOperand, faulty, stuck}

@@ -3,9 +3,10 @@ use Rattle.fm_code.specs.declared.operations.Elem.TheVariants as elem
 use Rattle.fm_exec.proofs.ElementSteps.{element-faulty, element-inside, element-outside, element-stuck, outside, place_in, reference-is, reference_held}
 use Rattle.fm_exec.proofs.Exceptions.{index-is}
 use Rattle.fm_exec.proofs.HeldSteps.{looks-type, object-found}
-use Rattle.fm_exec.proofs.Seen.{carried, told-ok}
+use Rattle.fm_exec.proofs.Seen.{carried}
 use Rattle.fm_exec.proofs.elements.reference_store.Goals as goal
 use Rattle.fm_exec.specs.Steps.{seen, Steps}
+use Rattle.fm_frames.proofs.Throwing.{told-ok}
 use Rattle.fm_frames.specs.Acts.{cell_of}
 use Rattle.fm_frames.specs.ArrayRows.{array_store_effect, element_kind, put_reference}
 use Rattle.fm_frames.specs.Effects.{OfOperand, faulty, stuck}

@@ -2,8 +2,9 @@ use Rattle.std.proofs.Common.{true, false, get_or, ap, sym, ◌∙◌, subst}
 use Rattle.std.proofs.lemmas.Option.{slice_get-get_or}
 use Rattle.fm_exec.proofs.FieldSteps.{field-kind, get_field-named, named-fits, object-told, place-source, read_of, told-fits}
 use Rattle.fm_exec.proofs.HeldSteps.{object-found}
-use Rattle.fm_exec.proofs.Seen.{carried, told-ok}
+use Rattle.fm_exec.proofs.Seen.{carried}
 use Rattle.fm_exec.specs.Steps.{Steps}
+use Rattle.fm_frames.proofs.Throwing.{told-ok}
 use Rattle.fm_frames.specs.Acts.{cell_of}
 use Rattle.fm_frames.specs.Effects.{OfOperand, OfPlace, faulty, loaded, words}
 use Rattle.fm_frames.specs.ObjectRows.{get_field_effect, kind_of_field}

@@ -2,8 +2,9 @@ use Rattle.std.proofs.Common.{◌≡◌, ◌+◌, ◌-◌, [], ◌∷◌, true, 
 use Rattle.std.proofs.lemmas.Option.{slice_get-get_or}
 use Rattle.fm_exec.proofs.FieldSteps.{field-kind, named-fits, object-told, put_field-named, told-fits, written_of}
 use Rattle.fm_exec.proofs.HeldSteps.{object-found, Seen}
-use Rattle.fm_exec.proofs.Seen.{carried, told-ok}
+use Rattle.fm_exec.proofs.Seen.{carried}
 use Rattle.fm_exec.specs.Steps.{Steps}
+use Rattle.fm_frames.proofs.Throwing.{told-ok}
 use Rattle.fm_frames.specs.Acts.{cell_of}
 use Rattle.fm_frames.specs.Effects.{OfOperand, Put, acting, faulty}
 use Rattle.fm_frames.specs.ObjectRows.{kind_of_field, put_field_effect}

@@ -1,7 +1,7 @@
 use Rattle.std.proofs.Common.{sym, subst}
 use Rattle.fm_exec.proofs.FieldSteps.{loaded-long, loaded-one}
-use Rattle.fm_exec.proofs.Seen.{told-ok}
 use Rattle.fm_exec.proofs.held.give.Goals as goal
+use Rattle.fm_frames.proofs.Throwing.{told-ok}
 use Rattle.fm_frames.specs.Effects.{words}
 use Rattle.fm_frames.specs.inner.Doings.{Does}
 

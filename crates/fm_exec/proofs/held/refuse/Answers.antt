@@ -1,10 +1,10 @@
 use Rattle.std.proofs.Common.{codes, ap, sym, ◌∙◌}
 use Rattle.std.proofs.lemmas.Option.{none-some}
-use Rattle.fm_exec.proofs.Exceptions.{null-is}
 use Rattle.fm_exec.proofs.HeldSteps.{held-refused}
-use Rattle.fm_exec.proofs.LookSteps.{gone-at}
-use Rattle.fm_exec.proofs.Seen.{carried, told-ok}
+use Rattle.fm_exec.proofs.Seen.{carried}
 use Rattle.fm_exec.proofs.held.refuse.Goals as goal
+use Rattle.fm_frames.proofs.Refusals.{gone-at, null-is}
+use Rattle.fm_frames.proofs.Throwing.{told-ok}
 use Rattle.fm_frames.specs.Acts.{cell_of}
 use Rattle.fm_frames.specs.Effects.{OfOperand, faulty, stuck}
 use Rattle.fm_frames.specs.Operands.{on_any, thrown_null}

@@ -1,7 +1,8 @@
 use Rattle.std.proofs.Common.{[], ◌∷◌, sym}
 use Rattle.fm_exec.proofs.NumberSteps.{load-int, load-long, load-ref}
-use Rattle.fm_exec.proofs.Seen.{carried, told-ok}
+use Rattle.fm_exec.proofs.Seen.{carried}
 use Rattle.fm_exec.proofs.locals.load.Goals as goal
+use Rattle.fm_frames.proofs.Throwing.{told-ok}
 use Rattle.fm_frames.specs.Effects.{OfLocal, Plain, words}
 use Rattle.fm_frames.specs.NumberRows.{load_effect}
 use Rattle.fm_frames.specs.declared.values.Value.TheVariants as value

@@ -1,8 +1,9 @@
 use Rattle.std.proofs.Common.{ap}
 use Rattle.fm_code.specs.declared.operations.Conv.TheVariants as conv
-use Rattle.fm_exec.proofs.Seen.{carried, told-ok}
+use Rattle.fm_exec.proofs.Seen.{carried}
 use Rattle.fm_exec.proofs.numbers.convert.Goals as goal
 use Rattle.fm_exec.specs.Steps.{seen}
+use Rattle.fm_frames.proofs.Throwing.{told-ok}
 use Rattle.fm_frames.specs.NumberRows.{convert_effect}
 
 pub returns-in-IntToLong : goal.returns-in-IntToLong

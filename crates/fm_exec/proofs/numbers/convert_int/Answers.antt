@@ -2,7 +2,7 @@ use Rattle.std.proofs.Common.{◌≡◌, ap, rules}
 use Rattle.fm_exec.proofs.PlainSteps.{gave, stuck-int, with-int}
 use Rattle.fm_exec.proofs.numbers.convert_int.Goals as goal
 use Rattle.fm_alu.specs.Conversions.{result_of_conversion}
-use Rattle.fm_exec.proofs.Seen.{told-ok}
+use Rattle.fm_frames.proofs.Throwing.{told-ok}
 use Rattle.fm_frames.specs.Effects.{int_word, words}
 use Rattle.fm_frames.specs.declared.values.Value.TheVariants as value
 

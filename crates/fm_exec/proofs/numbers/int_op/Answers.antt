@@ -2,9 +2,10 @@ use Rattle.std.proofs.Common.{◌≡◌, codes, None, Some, rules}
 use Rattle.fm_alu.specs.Operations.{result_of_op}
 use Rattle.fm_exec.proofs.Exceptions.{arithmetic-is}
 use Rattle.fm_exec.proofs.NumberSteps.{int_op-both, int_op-first, int_op-second, int_op_result}
-use Rattle.fm_exec.proofs.Seen.{carried, told-ok}
+use Rattle.fm_exec.proofs.Seen.{carried}
 use Rattle.fm_exec.proofs.numbers.int_op.Goals as goal
 use Rattle.fm_exec.specs.Steps.{seen}
+use Rattle.fm_frames.proofs.Throwing.{told-ok}
 use Rattle.fm_frames.specs.Effects.{Plain, stuck}
 use Rattle.fm_frames.specs.NumberRows.{int_op_effect}
 use Rattle.fm_frames.specs.Steps.{stack_of}

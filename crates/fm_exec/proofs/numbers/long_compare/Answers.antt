@@ -2,7 +2,7 @@ use Rattle.std.proofs.Common.{◌≡◌, refl, ap, rules}
 use Rattle.fm_exec.proofs.PlainSteps.{gave, stuck-long, with-long}
 use Rattle.fm_exec.proofs.numbers.long_compare.Goals as goal
 use Rattle.fm_alu.specs.Conversions.{result_of_comparison}
-use Rattle.fm_exec.proofs.Seen.{told-ok}
+use Rattle.fm_frames.proofs.Throwing.{told-ok}
 use Rattle.fm_frames.specs.Effects.{int_word, words}
 use Rattle.fm_frames.specs.NumberRows.{compare_effect}
 use Rattle.fm_frames.specs.declared.values.Value.TheVariants as value

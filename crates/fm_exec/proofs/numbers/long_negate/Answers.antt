@@ -2,7 +2,7 @@ use Rattle.std.proofs.Common.{◌≡◌, pos, ◌-ℤ◌, ap, rules}
 use Rattle.fm_exec.proofs.PlainSteps.{gave-wide, stuck-long, with-long}
 use Rattle.fm_exec.proofs.numbers.long_negate.Goals as goal
 use Rattle.fm_alu.specs.TwosComplement.{signed}
-use Rattle.fm_exec.proofs.Seen.{told-ok}
+use Rattle.fm_frames.proofs.Throwing.{told-ok}
 use Rattle.fm_frames.specs.Effects.{long_words, words}
 use Rattle.fm_frames.specs.NumberRows.{long_negate_effect}
 use Rattle.fm_frames.specs.declared.values.Value.TheVariants as value

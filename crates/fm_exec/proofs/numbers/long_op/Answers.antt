@@ -2,8 +2,8 @@ use Rattle.std.proofs.Common.{◌≡◌, codes, None, Some, refl, ap, rules}
 use Rattle.fm_alu.specs.Operations.{result_of_op}
 use Rattle.fm_exec.proofs.Exceptions.{arithmetic-is}
 use Rattle.fm_exec.proofs.PlainSteps.{gave-wide, stuck-long, with-long}
-use Rattle.fm_exec.proofs.Seen.{told-ok}
 use Rattle.fm_exec.proofs.numbers.long_op.Goals as goal
+use Rattle.fm_frames.proofs.Throwing.{told-ok}
 use Rattle.fm_frames.specs.Effects.{long_words, words}
 use Rattle.fm_frames.specs.NumberRows.{long_op_effect}
 use Rattle.fm_frames.specs.Operands.{or_thrown}

@@ -3,7 +3,7 @@ use Rattle.fm_exec.proofs.PlainSteps.{gave-wide, stuck-int, stuck-long, with-int
 use Rattle.fm_exec.proofs.numbers.long_shift.Goals as goal
 use Rattle.fm_alu.specs.TwosComplement.{low_bits}
 use Rattle.fm_alu.specs.Shifts.{result_of_shift}
-use Rattle.fm_exec.proofs.Seen.{told-ok}
+use Rattle.fm_frames.proofs.Throwing.{told-ok}
 use Rattle.fm_frames.specs.Effects.{long_words, words}
 use Rattle.fm_frames.specs.NumberRows.{long_shift_effect}
 use Rattle.fm_frames.specs.declared.values.Value.TheVariants as value

@@ -3,7 +3,7 @@ use Rattle.fm_exec.proofs.PlainSteps.{gave, stuck-long, with-long}
 use Rattle.fm_exec.proofs.numbers.narrow.Goals as goal
 use Rattle.fm_code.specs.declared.operations.Conv.TheVariants as conv
 use Rattle.fm_alu.specs.Conversions.{result_of_conversion}
-use Rattle.fm_exec.proofs.Seen.{told-ok}
+use Rattle.fm_frames.proofs.Throwing.{told-ok}
 use Rattle.fm_frames.specs.Effects.{int_word, words}
 use Rattle.fm_frames.specs.NumberRows.{convert_effect}
 use Rattle.fm_frames.specs.declared.values.Value.TheVariants as value

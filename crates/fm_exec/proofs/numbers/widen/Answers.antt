@@ -1,7 +1,7 @@
 use Rattle.std.proofs.Common.{refl, rules}
 use Rattle.fm_exec.proofs.PlainSteps.{gave-wide, stuck-int, with-int}
 use Rattle.fm_exec.proofs.numbers.widen.Goals as goal
-use Rattle.fm_exec.proofs.Seen.{told-ok}
+use Rattle.fm_frames.proofs.Throwing.{told-ok}
 use Rattle.fm_frames.specs.NumberRows.{convert_effect}
 use Rattle.fm_frames.specs.declared.values.Value.TheVariants as value
 

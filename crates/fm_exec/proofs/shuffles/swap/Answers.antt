@@ -1,6 +1,6 @@
 use Rattle.std.proofs.Common.{[], ◌∷◌, sym}
-use Rattle.fm_exec.proofs.Seen.{told-ok}
 use Rattle.fm_exec.proofs.shuffles.swap.Goals as goal
+use Rattle.fm_frames.proofs.Throwing.{told-ok}
 use Rattle.fm_frames.specs.Effects.{OfOperand}
 use Rattle.fm_frames.specs.NumberRows.{move_effect}
 

@@ -1,11 +1,12 @@
 use Rattle.std.proofs.Common.{codes, true, false, ap, sym, ◌∙◌}
 use Rattle.fm_cells.specs.declared.answers.Head.{Head}
-use Rattle.fm_exec.proofs.Exceptions.{null-is, throwable-is}
-use Rattle.fm_exec.proofs.LookSteps.{fits-told, found-at, gone-at, throw-seen}
-use Rattle.fm_exec.proofs.Seen.{carried, told-ok}
+use Rattle.fm_exec.proofs.Exceptions.{throwable-is}
+use Rattle.fm_exec.proofs.LookSteps.{fits-told, found-at, throw-seen}
+use Rattle.fm_exec.proofs.Seen.{carried}
 use Rattle.fm_exec.proofs.throws.throw.Goals as goal
 use Rattle.fm_exec.specs.Steps.{seen}
-use Rattle.fm_frames.proofs.Throwing.{threw-operand}
+use Rattle.fm_frames.proofs.Refusals.{gone-at, null-is}
+use Rattle.fm_frames.proofs.Throwing.{threw-operand, told-ok}
 use Rattle.fm_frames.specs.Acts.{cell_of}
 use Rattle.fm_frames.specs.Effects.{OfOperand, Throws, faulty, going, stuck}
 use Rattle.fm_frames.specs.JumpRows.{throw_effect}

@@ -1,7 +1,7 @@
 use Rattle.std.proofs.Common.{codes, sym, subst}
+use Rattle.fm_frames.proofs.Refusals.{null-is}
+use Rattle.fm_frames.proofs.Throwing.{told-ok}
 use Rattle.fm_frames.specs.inner.Doings.{DoesIn}
-use Rattle.fm_native.proofs.BuiltIns.{null-is}
-use Rattle.fm_native.proofs.Rows.{told-ok}
 use Rattle.fm_native.proofs.asked.refuse.Goals as goal
 use Rattle.fm_native.specs.inner.Asked.{refused, IsAt}
 

@@ -1,4 +1,5 @@
 use Rattle.std.proofs.Common.{◌≡◌, Ok, Err, [], ◌∷◌, ◌+◌, ◌++◌, sym, ◌∙◌, subst, rules}
+use Rattle.fm_frames.proofs.Throwing.{told-ok}
 use Rattle.fm_frames.specs.Effects.{acting, OfOperand}
 use Rattle.fm_frames.specs.NativeRows.{has_text, shown_words}
 use Rattle.fm_frames.specs.Natives.{Append}
@@ -7,7 +8,7 @@ use Rattle.fm_frames.specs.Steps.{stack_of}
 use Rattle.fm_frames.specs.declared.values.Value.TheVariants as value
 use Rattle.fm_frames.specs.inner.Doings.{seen}
 use Rattle.fm_native.proofs.HiddenRows.{append-is, append-refused}
-use Rattle.fm_native.proofs.Rows.{carried, told-ok}
+use Rattle.fm_native.proofs.Rows.{carried}
 use Rattle.fm_native.specs.Showing.{shown_as}
 use Rattle.fm_native.specs.inner.Asked.{IsAt}
 use Rattle.fm_native.specs.inner.Asked.{refused}

@@ -1,8 +1,9 @@
 use Rattle.std.proofs.Common.{Ok, Err}
+use Rattle.fm_frames.proofs.Throwing.{told-ok}
 use Rattle.fm_frames.specs.Natives.{BuilderInit}
 use Rattle.fm_frames.specs.inner.Doings.{seen}
 use Rattle.fm_native.proofs.HiddenRows.{builder-init, cleared}
-use Rattle.fm_native.proofs.Rows.{carried, told-ok}
+use Rattle.fm_native.proofs.Rows.{carried}
 use Rattle.fm_native.specs.inner.Asked.{refused}
 use Rattle.fm_native.proofs.builders.init.Goals as goal
 

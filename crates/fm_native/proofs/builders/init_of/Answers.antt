@@ -1,10 +1,11 @@
 use Rattle.std.proofs.Common.{◌≡◌, Ok, Err, ap, ◌∙◌, rules}
+use Rattle.fm_frames.proofs.Throwing.{told-ok}
 use Rattle.fm_frames.specs.Effects.{acting}
 use Rattle.fm_frames.specs.NativeRows.{has_text}
 use Rattle.fm_frames.specs.Natives.{BufferInitOf}
 use Rattle.fm_frames.specs.inner.Doings.{seen}
 use Rattle.fm_native.proofs.HiddenRows.{buffer-is, buffer-refused}
-use Rattle.fm_native.proofs.Rows.{carried, told-ok}
+use Rattle.fm_native.proofs.Rows.{carried}
 use Rattle.fm_native.specs.inner.Asked.{refused, units_in}
 use Rattle.fm_native.proofs.builders.init_of.Goals as goal
 

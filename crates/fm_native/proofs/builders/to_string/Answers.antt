@@ -1,10 +1,11 @@
 use Rattle.std.proofs.Common.{◌≡◌, Ok, Err, ap, ◌∙◌, rules}
+use Rattle.fm_frames.proofs.Throwing.{told-ok}
 use Rattle.fm_frames.specs.Effects.{making}
 use Rattle.fm_frames.specs.NativeRows.{text_made}
 use Rattle.fm_frames.specs.Natives.{BuilderToString}
 use Rattle.fm_frames.specs.inner.Doings.{seen}
 use Rattle.fm_native.proofs.HiddenRows.{built-text}
-use Rattle.fm_native.proofs.Rows.{carried, told-ok}
+use Rattle.fm_native.proofs.Rows.{carried}
 use Rattle.fm_native.specs.inner.Asked.{refused}
 use Rattle.fm_native.specs.inner.Hidden.{units_so_far}
 use Rattle.fm_native.proofs.builders.to_string.Goals as goal

@@ -1,9 +1,10 @@
 use Rattle.std.proofs.Common.{Ok, Err, Some, None, [], subst}
+use Rattle.fm_frames.proofs.Throwing.{told-ok}
 use Rattle.fm_frames.specs.Effects.{words}
 use Rattle.fm_frames.specs.Natives.{FreeMeFree}
 use Rattle.fm_frames.specs.inner.Doings.{seen}
 use Rattle.fm_native.proofs.FreeRows.{free-is, freed-done, freeing}
-use Rattle.fm_native.proofs.Rows.{carried, told-ok}
+use Rattle.fm_native.proofs.Rows.{carried}
 use Rattle.fm_native.specs.inner.Asked.{AsksHeldOrNull, IsHeldAt}
 use Rattle.fm_native.specs.inner.Asked.{refused}
 use Rattle.std.specs.Prelude.{IfSome}

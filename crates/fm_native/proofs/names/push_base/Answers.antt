@@ -1,9 +1,9 @@
 use Rattle.std.proofs.Common.{◌≡◌, ◌++◌, ap, sym, ◌∙◌, arith}
 use Rattle.fm_native.proofs.NameTexts.{class-alone, class-in-array, name-of-info}
-use Rattle.fm_native.proofs.Rows.{told-ok}
 use Rattle.fm_native.proofs.names.push_base.Goals as goal
 use Rattle.fm_world.specs.Chains.{class_at}
 use Rattle.fm_world.specs.declared.records.ClassInfo.{ClassInfo}
+use Rattle.fm_frames.proofs.Throwing.{told-ok}
 
 pub returns-then-dims-eq0 : goal.returns-then-dims-eq0
 returns-then-dims-eq0 c =

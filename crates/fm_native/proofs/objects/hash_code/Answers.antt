@@ -1,8 +1,9 @@
 use Rattle.std.proofs.Common.{Ok, Err, ap, sym, ◌∙◌, rules}
+use Rattle.fm_frames.proofs.Throwing.{told-ok}
 use Rattle.fm_frames.specs.Effects.{Plain, int_word, words}
 use Rattle.fm_frames.specs.Natives.{ObjectHashCode}
 use Rattle.fm_frames.specs.declared.values.Value.TheVariants as value
-use Rattle.fm_native.proofs.Rows.{carried, hash_code-is, hashed-at, told-ok}
+use Rattle.fm_native.proofs.Rows.{carried, hash_code-is, hashed-at}
 use Rattle.fm_native.proofs.objects.hash_code.Goals as goal
 use Rattle.fm_frames.specs.inner.Doings.{seen}
 use Rattle.fm_native.specs.inner.Asked.{refused}

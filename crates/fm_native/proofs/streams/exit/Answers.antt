@@ -1,8 +1,9 @@
 use Rattle.std.proofs.Common.{◌≡◌, Ok, Err, ap, sym, ◌∙◌, arith, w32, to_z, of_z}
 use Rattle.std.proofs.lemmas.Int.{ints, to_z-of_z}
+use Rattle.fm_frames.proofs.Throwing.{told-ok}
 use Rattle.fm_frames.specs.Effects.{Exits, going}
 use Rattle.fm_frames.specs.Natives.{Exit}
-use Rattle.fm_native.proofs.Rows.{carried, exit-is, told-ok}
+use Rattle.fm_native.proofs.Rows.{carried, exit-is}
 use Rattle.fm_native.proofs.streams.exit.Goals as goal
 use Rattle.fm_frames.specs.inner.Doings.{seen}
 use Rattle.fm_native.specs.inner.Asked.{refused}

@@ -1,9 +1,9 @@
 use Rattle.std.proofs.Common.{◌≡◌, ◌+◌, Ok, Err, sym, ◌∙◌, subst, rules}
 use Rattle.std.specs.Prelude.{IfErr, slice_get}
+use Rattle.fm_frames.proofs.Throwing.{told-ok}
 use Rattle.fm_frames.specs.Effects.{printing}
 use Rattle.fm_frames.specs.inner.Doings.{seen}
 use Rattle.fm_native.proofs.Prints.{fails-as, quiet-does, quiet-fails, quiet-told, steps-as}
-use Rattle.fm_native.proofs.Rows.{told-ok}
 use Rattle.fm_native.proofs.TextRows.{print-is}
 use Rattle.fm_native.proofs.streams.print.Goals as goal
 use Rattle.fm_native.specs.Doing.{effect_of_native}

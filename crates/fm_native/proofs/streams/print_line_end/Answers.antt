@@ -1,6 +1,6 @@
+use Rattle.fm_frames.proofs.Throwing.{told-ok}
 use Rattle.fm_frames.specs.inner.Doings.{seen}
 use Rattle.fm_native.proofs.Prints.{fails-as, steps-as}
-use Rattle.fm_native.proofs.Rows.{told-ok}
 use Rattle.fm_native.proofs.TextRows.{line-end-is}
 use Rattle.fm_native.proofs.streams.print_line_end.Goals as goal
 use Rattle.std.specs.Prelude.{slice_get}

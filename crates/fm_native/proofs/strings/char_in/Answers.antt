@@ -2,10 +2,11 @@ use Rattle.std.proofs.Common.{◌≡◌, ◌||◌, int_lt, not, pos, codes, if�
 use Rattle.std.specs.List.{slice_index_or}
 use Rattle.std.specs.Prelude.{unsigned_abs}
 use Rattle.std.proofs.lemmas.Int.{ints, to_z-of_z}
+use Rattle.fm_frames.proofs.Throwing.{told-ok}
 use Rattle.fm_frames.specs.Effects.{int_word, words}
 use Rattle.fm_frames.specs.NativeRows.{char_at, thrown_outside}
 use Rattle.fm_native.proofs.BuiltIns.{index-is}
-use Rattle.fm_native.proofs.Rows.{carried-one, told-ok}
+use Rattle.fm_native.proofs.Rows.{carried-one}
 use Rattle.fm_native.proofs.strings.char_in.Goals as goal
 use Rattle.fm_native.specs.inner.Asked.{units_in}
 

@@ -1,8 +1,9 @@
 use Rattle.std.proofs.Common.{Ok, Err, pos, ap, ◌∙◌, rules}
+use Rattle.fm_frames.proofs.Throwing.{told-ok}
 use Rattle.fm_frames.specs.Effects.{Plain, int_word, words}
 use Rattle.fm_frames.specs.Natives.{StringLength}
 use Rattle.fm_frames.specs.declared.values.Value.TheVariants as value
-use Rattle.fm_native.proofs.Rows.{carried, length-is, told-ok}
+use Rattle.fm_native.proofs.Rows.{carried, length-is}
 use Rattle.fm_native.proofs.strings.length.Goals as goal
 use Rattle.fm_frames.specs.inner.Doings.{seen}
 use Rattle.fm_native.specs.inner.Asked.{refused}

@@ -1,10 +1,11 @@
 use Rattle.std.proofs.Common.{◌≡◌, ◌-◌, ◌||◌, int_lt, pos, codes, drop, take, if◌then◌else◌, ap, sym, ◌∙◌, arith, w32, to_z, of_z}
 use Rattle.std.specs.Prelude.{unsigned_abs}
 use Rattle.std.proofs.lemmas.Int.{ints, to_z-of_z}
+use Rattle.fm_frames.proofs.Throwing.{told-ok}
 use Rattle.fm_frames.specs.Effects.{making}
 use Rattle.fm_frames.specs.NativeRows.{part_of, text_made, thrown_outside}
 use Rattle.fm_native.proofs.BuiltIns.{index-is}
-use Rattle.fm_native.proofs.Rows.{carried-one, told-ok}
+use Rattle.fm_native.proofs.Rows.{carried-one}
 use Rattle.fm_native.proofs.strings.part_in.Goals as goal
 use Rattle.fm_native.specs.inner.Asked.{units_in}
 

@@ -1,8 +1,9 @@
 use Rattle.std.proofs.Common.{◌≡◌, Ok, Err, ap, sym, ◌∙◌, arith, w32, to_z, of_z}
 use Rattle.std.proofs.lemmas.Int.{ints, to_z-of_z}
+use Rattle.fm_frames.proofs.Throwing.{told-ok}
 use Rattle.fm_frames.specs.Natives.{Substring}
 use Rattle.fm_frames.specs.inner.Doings.{seen}
-use Rattle.fm_native.proofs.Rows.{carried, told-ok}
+use Rattle.fm_native.proofs.Rows.{carried}
 use Rattle.fm_native.proofs.TextRows.{part-begun, part-refused}
 use Rattle.fm_native.proofs.strings.substring.Goals as goal
 use Rattle.fm_native.specs.inner.Asked.{part_up_to, refused, units_in}

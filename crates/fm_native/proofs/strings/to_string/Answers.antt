@@ -1,7 +1,8 @@
 use Rattle.std.proofs.Common.{Ok, Err, [], ◌∷◌, sym}
+use Rattle.fm_frames.proofs.Throwing.{told-ok}
 use Rattle.fm_frames.specs.Effects.{OfOperand, words}
 use Rattle.fm_frames.specs.Natives.{StringToString}
-use Rattle.fm_native.proofs.Rows.{carried, itself-is, told-ok}
+use Rattle.fm_native.proofs.Rows.{carried, itself-is}
 use Rattle.fm_native.proofs.strings.to_string.Goals as goal
 use Rattle.fm_frames.specs.inner.Doings.{seen}
 use Rattle.fm_native.specs.inner.Asked.{refused}

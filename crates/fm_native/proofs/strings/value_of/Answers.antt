@@ -1,8 +1,9 @@
 use Rattle.std.proofs.Common.{◌≡◌, Ok, Err, sym, ◌∙◌, rules}
+use Rattle.fm_frames.proofs.Throwing.{told-ok}
 use Rattle.fm_frames.specs.Effects.{making}
 use Rattle.fm_frames.specs.NativeRows.{text_made}
 use Rattle.fm_frames.specs.Natives.{ValueOf}
-use Rattle.fm_native.proofs.Rows.{carried, told-ok}
+use Rattle.fm_native.proofs.Rows.{carried}
 use Rattle.fm_native.proofs.ShownRows.{value-is}
 use Rattle.fm_native.proofs.strings.value_of.Goals as goal
 use Rattle.fm_frames.specs.inner.Doings.{seen}

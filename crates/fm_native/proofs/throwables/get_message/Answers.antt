@@ -1,11 +1,12 @@
 use Rattle.std.proofs.Common.{Ok, Err}
+use Rattle.fm_frames.proofs.Throwing.{told-ok}
 use Rattle.fm_frames.specs.Effects.{OfPlace}
 use Rattle.fm_frames.specs.NativeRows.{text_kind}
 use Rattle.fm_frames.specs.Natives.{GetMessage}
 use Rattle.fm_frames.specs.inner.Doings.{seen}
 use Rattle.fm_native.proofs.HiddenRows.{message-is, told_message}
 use Rattle.fm_native.proofs.HiddenSteps.{message-read}
-use Rattle.fm_native.proofs.Rows.{carried, told-ok}
+use Rattle.fm_native.proofs.Rows.{carried}
 use Rattle.fm_native.specs.inner.Asked.{refused}
 use Rattle.fm_native.proofs.throwables.get_message.Goals as goal
 

@@ -1,10 +1,11 @@
 use Rattle.std.proofs.Common.{Ok, Err, sym, arith}
+use Rattle.fm_frames.proofs.Throwing.{told-ok}
 use Rattle.fm_frames.specs.Effects.{OfOperand}
 use Rattle.fm_frames.specs.Natives.{ThrowableInitOf}
 use Rattle.fm_frames.specs.inner.Doings.{seen}
 use Rattle.fm_native.proofs.HiddenRows.{throwable-init-of, kept_message}
 use Rattle.fm_native.proofs.HiddenSteps.{message-fits, message-kept}
-use Rattle.fm_native.proofs.Rows.{carried, told-ok}
+use Rattle.fm_native.proofs.Rows.{carried}
 use Rattle.fm_native.specs.inner.Asked.{refused}
 use Rattle.fm_native.proofs.throwables.init_of.Goals as goal
 

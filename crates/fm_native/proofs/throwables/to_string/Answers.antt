@@ -1,4 +1,5 @@
 use Rattle.std.proofs.Common.{◌≡◌, Ok, Err, ap, ◌∙◌, rules}
+use Rattle.fm_frames.proofs.Throwing.{told-ok}
 use Rattle.fm_frames.specs.Effects.{making}
 use Rattle.fm_frames.specs.NativeRows.{text_made, throwable_text}
 use Rattle.fm_frames.specs.Natives.{ThrowableToString}
@@ -6,7 +7,7 @@ use Rattle.fm_frames.specs.Sights.{type_numbered}
 use Rattle.fm_frames.specs.inner.Doings.{seen}
 use Rattle.fm_native.proofs.HiddenRows.{shown-is, shown-refused}
 use Rattle.fm_native.proofs.NameTexts.{name-fits}
-use Rattle.fm_native.proofs.Rows.{carried, told-ok}
+use Rattle.fm_native.proofs.Rows.{carried}
 use Rattle.fm_native.specs.inner.Asked.{refused, units_in}
 use Rattle.std.specs.Option.{option_map}
 use Rattle.fm_native.proofs.throwables.to_string.Goals as goal
