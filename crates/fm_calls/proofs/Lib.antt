@@ -4,3 +4,6 @@ pub mod StartSteps
 pub mod StartRoom
 pub mod ActSteps
 pub mod UseSteps
+pub mod PlainEffects
+pub mod BuiltInStarts
+pub mod CallSteps

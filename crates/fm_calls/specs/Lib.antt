@@ -1,3 +1,4 @@
+pub mod Calls
 pub mod Selections
 pub mod inner
 pub mod Constants

@@ -103,8 +103,8 @@ pub fn put_static<M: Memory>(
     Ok(())
 }
 
-/// invokestatic of a method that has code.
-pub fn static_call<M: Memory>(
+/// invokestatic of a method that isn't built in.
+pub(crate) fn coded_call<M: Memory>(
     alloc: Global,
     machine: &mut Machine<M>,
     program: &Program,

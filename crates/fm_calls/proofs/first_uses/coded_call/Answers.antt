@@ -1,6 +1,6 @@
 use Rattle.std.proofs.Common.{◌<◌, get_or, length, refl, ap, sym, ◌∙◌, subst}
 use Rattle.std.proofs.lemmas.Option.{slice_get-get_or}
-use Rattle.fm_calls.proofs.first_uses.static_call.Goals as goal
+use Rattle.fm_calls.proofs.first_uses.coded_call.Goals as goal
 use Rattle.fm_calls.specs.inner.Starting.{StartsBefore}
 use Rattle.fm_exec.proofs.ObjectSteps.{static-coded}
 use Rattle.fm_exec.specs.Steps.{seen, Steps}
