@@ -2,7 +2,7 @@ use Rattle.std.proofs.Common.{◌+◌, sym, subst}
 use Rattle.fm_calls.proofs.CallSteps.{refused-steps, selected-fails, selected-steps}
 use Rattle.fm_calls.proofs.calls.interface_call.Goals as goal
 use Rattle.fm_calls.specs.Selections.{Selects}
-use Rattle.fm_exec.proofs.Seen.{told-ok}
+use Rattle.fm_frames.proofs.Throwing.{told-ok}
 use Rattle.fm_exec.specs.Steps.{seen}
 use Rattle.fm_frames.specs.CallRows.{interface_effect, words_of_arguments}
 use Rattle.fm_frames.specs.States.{State}

@@ -2,7 +2,7 @@ use Rattle.std.proofs.Common.{get_or, option_and_then, slice_get, ap, sym, â—Œâˆ
 use Rattle.std.proofs.lemmas.Option.{slice_get-get_or}
 use Rattle.fm_calls.proofs.CallSteps.{refused-steps, static-is}
 use Rattle.fm_calls.proofs.calls.static_call.Goals as goal
-use Rattle.fm_exec.proofs.Seen.{told-ok}
+use Rattle.fm_frames.proofs.Throwing.{told-ok}
 use Rattle.fm_exec.specs.Steps.{seen}
 use Rattle.fm_frames.specs.CallRows.{static_effect}
 use Rattle.fm_frames.specs.Natives.{native_of_row}
