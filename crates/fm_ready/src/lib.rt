@@ -7,4 +7,4 @@
 
 mod laws;
 
-pub use laws::law_steps;
+pub use laws::{law_calls, law_names, law_puts, law_reads, law_runs, law_steps};
