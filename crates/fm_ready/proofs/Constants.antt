@@ -1,18 +1,15 @@
 -- What the start of classes asks of the constants of static fields; and that built-in methods alone have rows.
-use Rattle.std.proofs.Common.{◌≡◌, ℕ, ℤ, ◌^◌, ◌<◌, ◌≤◌, List, [], ◌∷◌, length, Option, Some, None, refl, sym, ap, subst, arith}
+use Rattle.std.proofs.Common.{◌≡◌, ℕ, ◌<◌, ◌≤◌, List, [], length, Option, Some, None, refl, sym, subst, arith}
 use Rattle.std.specs.List.{AllByRecursion}
 use Rattle.std.specs.Str.{bytes_eq}
 use Rattle.std.proofs.lemmas.List.Quantifiers.{position-Some}
 use Rattle.fm_alu.proofs.TwosComplementLemmas.{low_bits-lt}
 use Rattle.fm_base.specs.Texts.{units}
-use Rattle.fm_base.specs.declared.kinds.Kind.{Kind}
 use Rattle.fm_base.specs.declared.kinds.Kind.TheVariants as kind
 use Rattle.fm_base.specs.declared.kinds.TypeRef.{TypeRef}
 use Rattle.fm_calls.specs.Calls.{AreRowsBuiltIn}
 use Rattle.fm_calls.specs.Constants.{ConstantsSuit}
-use Rattle.fm_calls.specs.inner.Actions.{AllSuit, Suits}
-use Rattle.fm_frames.specs.Acts.{literal_text}
-use Rattle.fm_frames.specs.Effects.{Action, MakeLiteral, SetStatic}
+use Rattle.fm_calls.specs.inner.Actions.{AllSuit}
 use Rattle.fm_frames.specs.Elements.{int_bits}
 use Rattle.fm_frames.specs.ObjectRows.{kind_of_field}
 use Rattle.fm_frames.specs.Starts.{fields_at, set_constant, start_actions, start_of_class}
@@ -22,7 +19,7 @@ use Rattle.fm_ready.specs.Ready.{CanRun, IsGoing}
 use Rattle.fm_sound.proofs.Opening.{all_flat, with_text}
 use Rattle.fm_world.specs.Members.{field_at}
 use Rattle.fm_world.specs.Numbers.{text_number}
-use Rattle.fm_world.specs.Programs.{Outline, Program}
+use Rattle.fm_world.specs.Programs.{Program}
 use Rattle.fm_world.specs.declared.declarations.Constant.{Constant}
 use Rattle.fm_world.specs.declared.declarations.Constant.TheVariants as constant
 

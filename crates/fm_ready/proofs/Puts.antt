@@ -1,5 +1,5 @@
 -- The values that the next instruction puts fit where it puts them.
-use Rattle.std.proofs.Common.{◌≡◌, ℕ, ◌+◌, ◌-◌, ◌^◌, ◌<◌, ◌≤◌, ◌==◌, Bool, false, true, cond, List, [], ◌∷◌, ◌++◌, length, take, Option, Some, refl, sym, ◌∙◌, ap, subst, slice_get, ◌&&◌, arith}
+use Rattle.std.proofs.Common.{◌≡◌, ℕ, ◌-◌, ◌^◌, ◌<◌, ◌≤◌, ◌==◌, Bool, false, true, cond, List, [], ◌∷◌, ◌++◌, take, Some, refl, sym, ◌∙◌, subst, slice_get, ◌&&◌, arith}
 use Rattle.std.proofs.Math.Pow.{pow_mono}
 use Rattle.std.proofs.lemmas.Bool.{eqb-true}
 use Rattle.std.proofs.lemmas.List.Elements.{All-head}
@@ -50,7 +50,7 @@ use Rattle.fm_types.specs.ArrayRows.{array_store_row, has_letter, is_array_of}
 use Rattle.fm_types.specs.Named.{field_words}
 use Rattle.fm_types.specs.ObjectRows.{put_field_row, put_static_row, takes_field}
 use Rattle.fm_types.specs.Rows.{row_after}
-use Rattle.fm_types.specs.States.{stack_slots, taken, TypeState, worked, worked_below}
+use Rattle.fm_types.specs.States.{stack_slots, taken, worked, worked_below}
 use Rattle.fm_types.specs.declared.slots.Slot.{Slot}
 use Rattle.fm_types.specs.declared.slots.Slot.TheVariants as slot
 use Rattle.fm_world.specs.Descriptors.{kind_with, kind_words}

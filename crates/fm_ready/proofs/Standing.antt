@@ -1,5 +1,5 @@
 -- Where the frames of a state that goes on stand, and what that gives to each step.
-use Rattle.std.proofs.Common.{◌≡◌, ℕ, zero, suc, ◌+◌, ◌-◌, ◌^◌, ◌<◌, ◌≤◌, ◌⊎◌, inl, inr, true, List, [], ◌∷◌, length, max, Option, Some, None, option_and_then, refl, sym, ◌∙◌, ap, subst, slice_get, arith}
+use Rattle.std.proofs.Common.{◌≡◌, ℕ, zero, suc, ◌+◌, ◌-◌, ◌^◌, ◌<◌, ◌≤◌, ◌⊎◌, inl, inr, true, List, [], ◌∷◌, length, max, Option, Some, None, refl, sym, subst, slice_get, arith}
 use Rattle.std.specs.List.{slice_index_or}
 use Rattle.fm_base.proofs.OptionFacts.{option_and_then-some, Some-from_some_and}
 use Rattle.fm_calls.specs.inner.Actions.{unmade}
