@@ -5,4 +5,5 @@ pub mod Puts
 pub mod Serving
 pub mod Constants
 pub mod Loops
+pub mod Openings
 pub mod Premises

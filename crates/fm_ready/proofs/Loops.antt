@@ -4,7 +4,8 @@ use Rattle.fm_base.specs.declared.limits.TheConstants.{MAX_FILE_BYTES, MAX_LIVE_
 use Rattle.fm_cells.proofs.Choices.{lawful-is}
 use Rattle.fm_cells.specs.Choices.{IsLawful, lawful}
 use Rattle.fm_cells.specs.Soundness.{CellsFit}
-use Rattle.fm_cells.specs.Stores.{opened}
+use Rattle.fm_cells.specs.Soundness as cells
+use Rattle.fm_cells.specs.Stores.{opened, Store}
 use Rattle.fm_frames.specs.Acts.{Choose}
 use Rattle.fm_frames.specs.Runs.{Job, opening}
 use Rattle.fm_frames.specs.States.{State}
@@ -55,3 +56,16 @@ opened_steady p typings choose job may can typed input given budget limit free f
     (opening_holds p can.steps can.makes choose job given budget limit free few
     (subst (λ c. CellsFit (opening p c job (opened budget limit free)).state.areas.store) (sym same) fit)) in
     ((typings, first), held)
+
+-- and so it does over each memory in which nothing was made
+pub opened_first : (p : Program) (typings : Typings) (choose : Choose) (job : Job) (store : Store) → IsLawful choose → CanRun p → AreTyped p typings
+    → length job.input ≤ MAX_FILE_BYTES → ArgumentsFit job.arguments → cells.IsSound store → store.births ≡ 0 → store.budget ≤ MAX_LIVE_WORDS
+    → CellsFit (opening p choose job store).state.areas.store
+    → IsSound p (opening p choose job store).state × HoldsCells p (opening p choose job store).state
+opened_first p typings choose job store may can typed input given sound none few fit =
+    let same : store ≡ opened store.budget store.limit store.free = sound.untouched none in
+    let first = opened_steady p typings choose job may can typed input given store.budget store.limit store.free few
+    (subst (λ s. CellsFit (opening p choose job s).state.areas.store) same fit) in (
+      subst (λ s. IsSound p (opening p choose job s).state) (sym same) first.0,
+      subst (λ s. HoldsCells p (opening p choose job s).state) (sym same) first.1,
+    )

@@ -5,4 +5,5 @@ pub use Rattle.fm_ready.proofs.Heap.{element_fits, holds_elements, holds_field, 
 pub use Rattle.fm_ready.proofs.Puts.{keeps_static, takes_element, takes_field_value}
 pub use Rattle.fm_ready.proofs.Serving.{serves}
 pub use Rattle.fm_ready.proofs.Constants.{rows, start_fits, suit}
-pub use Rattle.fm_ready.proofs.Loops.{opened_steady, steady}
+pub use Rattle.fm_ready.proofs.Loops.{opened_first, opened_steady, steady}
+pub use Rattle.fm_ready.proofs.Openings.{opened_births}

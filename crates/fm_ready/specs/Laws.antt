@@ -10,7 +10,7 @@ use Rattle.fm_calls.specs.Constants.{ConstantsSuit}
 use Rattle.fm_calls.specs.inner.Actions.{unmade}
 use Rattle.fm_cells.specs.Choices.{IsLawful}
 use Rattle.fm_cells.specs.Soundness.{CellsFit}
-use Rattle.fm_cells.specs.Stores.{opened}
+use Rattle.fm_cells.specs.Stores.{opened, Store}
 use Rattle.fm_code.specs.declared.instructions.Insn.{Insn}
 use Rattle.fm_code.specs.declared.instructions.Insn.TheVariants as insn
 use Rattle.fm_code.specs.declared.operations.Elem.{Elem}
@@ -128,3 +128,10 @@ OpeningsAreSteady =
 -- what the start of main's class does fits
 abbrev pub OpeningStartsFit : Type 0
 OpeningStartsFit = (p : Program) → CanRun p → AllByRecursion (StartFits p.outline) (start_actions p.outline (opening_classes p.outline))
+
+-- the objects of the opening, with all literals, are no more than the texts, what main is given, its array and the two streams
+abbrev pub OpeningsMakeFew : Type 0
+OpeningsMakeFew =
+    (p : Program) (choose : Choose) (job : Job) (store : Store) → IsLawful choose → CanRun p
+    → (opening p choose job store).state.areas.store.births + unmade (opening p choose job store).state.areas.literals
+    ≤ store.births + length p.outline.texts + (length job.arguments + 3)

@@ -41,4 +41,5 @@ pub fn law_runs()
     ensures steps { law.StepsStaySteady }
     ensures opening { law.OpeningsAreSteady }
     ensures opening_starts { law.OpeningStartsFit }
+    ensures opening_births { law.OpeningsMakeFew }
 {}
