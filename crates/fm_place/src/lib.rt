@@ -6,6 +6,8 @@
 mod found_sites;
 mod laws;
 pub mod limits;
+mod plans;
 
 pub use found_sites::{Site, sites};
 pub use laws::{law_busy, law_example, law_full, law_places, law_stack, law_woven};
+pub use plans::Plan;
