@@ -1,5 +1,5 @@
 -- What is inserted into a method as pairs of an item and a holder, and the facts of one method that its classes and its live locals tell.
-use Rattle.std.specs.Prelude.{◌≡◌, ◌↔◌, ℕ, Bool, true, false, List, length, map, Option, Some, None}
+use Rattle.std.specs.Prelude.{◌≡◌, ◌↔◌, ℕ, true, false, List, length, map, Option}
 use Rattle.std.specs.List.{filter_map, flat_map, range_with_len}
 use Rattle.std.specs.Option.{option_map}
 use Rattle.fm_conn.specs.Classes.{class_of, has_class, local_count}
