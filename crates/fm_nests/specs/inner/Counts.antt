@@ -1,0 +1,24 @@
+-- The counts of the dimensions, as they lie on the stack.
+use Rattle.std.specs.Prelude.{◌≡◌, ℕ, zero, suc, ◌^◌, ◌<◌, ℤ, pos, int_lt, Bool, true, false, List, [], ◌∷◌, map, Option, Some, None, slice_get, unsigned_abs}
+use Rattle.std.specs.List.{AllByRecursion, list_any}
+use Rattle.fm_frames.specs.declared.values.Value.{Value}
+use Rattle.fm_frames.specs.inner.Doings.{int_in}
+
+-- a count before the others, none where there is none of both
+abbrev pub joined : Option ℤ → Option (List ℤ) → Option (List ℤ)
+joined (Some n) (Some others) = Some (n ∷ others)
+joined n others = None
+
+-- so many ints from the top of a stack, the lowest first
+abbrev pub ints_on : List Value → ℕ → Option (List ℤ)
+ints_on stack zero = Some []
+ints_on stack (suc n) = joined (int_in (slice_get stack n)) (ints_on stack n)
+
+-- one of the counts is negative
+abbrev pub any_negative : List ℤ → Bool
+any_negative counts = list_any (λ n. int_lt n (pos 0)) counts
+
+-- the lengths that counts mean, each of which an array may have; none where one of them is negative
+abbrev pub Lens : List ℤ → Option (List ℕ) → Type 0
+Lens counts None = any_negative counts ≡ true
+Lens counts (Some lens) = (any_negative counts ≡ false) × (lens ≡ map unsigned_abs counts) × AllByRecursion (λ len. len < 2 ^ 31) lens

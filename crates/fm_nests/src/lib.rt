@@ -1,0 +1,10 @@
+// Arrays of arrays, made by one instruction (JVMS 6.5.multianewarray), and the cost of a step, which counts
+// each of them.
+#![tactic(auto)]
+
+mod counts;
+mod nests;
+mod rows;
+mod steps;
+
+pub use rows::multi_array;
