@@ -46,11 +46,12 @@ use Rattle.fm_world.specs.declared.uses.Use.TheVariants as resolved
 use Rattle.fm_frames.specs.CallRows.{words_of_arguments}
 use Rattle.fm_sound.specs.Going.{ConstructorsGiveNothing}
 use Rattle.fm_sound.specs.Resolved.{StepsAreResolved}
+use Rattle.fm_place.proofs.BusyLemmas.{words_keep_busy}
 use Rattle.fm_place.proofs.PlaceLemmas.{both-first, both-second}
 use Rattle.fm_place.specs.Sites.{constructs, has_reference_result, is_doubled, Constructs, kind_of_site, makes_array, MakesArray, may_give_old, names_constructor, new_item, receives_new, ReceivesNew, site_kind, site_node}
 use Rattle.fm_same.proofs.CallWords.{alike_other, arguments_length, slice_after, taken_off, tested, untested}
 use Rattle.fm_same.proofs.EdgesKeep.{edge_to_next, item_with_insn}
-use Rattle.fm_same.specs.Laws.{SitesAreNodes}
+use Rattle.fm_same.specs.Laws.{SitesAreNodes, SitesMakeBusy}
 
 -- ---- what stands on top
 
@@ -411,3 +412,8 @@ module _ (p : Program) (facts : Facts) (method : ℕ) (code : Code) (states : Li
 
 pub sites_are_nodes : SitesAreNodes
 sites_are_nodes p facts method code states steps coded typed j site = site-node p facts method code states steps coded typed j site
+
+pub sites_make_busy : SitesMakeBusy
+sites_make_busy p facts method code states steps coded typed j site =
+    words_keep_busy facts (method_with p method code states) (j + 1) (depth_at (method_with p method code states) (j + 1) - 1)
+    (site-node p facts method code states steps coded typed j site)

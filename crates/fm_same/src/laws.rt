@@ -10,9 +10,10 @@ pub fn law_classes()
 {}
 
 /// The object of each site of a typed method of a linked program is a node: a reference stands on top of
-/// the stack at the next item.
+/// the stack at the next item, where its class is busy.
 pub fn law_sites()
-    ensures { law.SitesAreNodes }
+    ensures nodes { law.SitesAreNodes }
+    ensures busy { law.SitesMakeBusy }
 {}
 
 /// Regions of classes: a frame's own regions are told apart by its classes and end with it, and what is
