@@ -11,7 +11,7 @@ use Rattle.fm_types.specs.States.{is_reference, TypeState}
 use Rattle.fm_types.specs.Typed.{state_at}
 use Rattle.fm_types.specs.declared.slots.Slot as slots
 use Rattle.fm_place.proofs.PlaceLemmas.{any-found, any-from, both-first, both-from, both-second}
-use Rattle.fm_place.specs.Laws.{BusyIsByWitness}
+use Rattle.fm_place.specs.Laws.{BusyIsByWitness, WordsKeepBusy}
 use Rattle.fm_place.specs.Places.{InLocal, InWord, is_busy, is_local_in, is_reference_word, is_word_in, IsBusy}
 
 pub either : (a b : Bool) → (a || b) ≡ true → (a ≡ true) ⊎ (b ≡ true)
@@ -53,6 +53,29 @@ state-depth (Some s) depth node = slot-depth s depth (slice_get (reverse s.stack
 
 node-depth : (x : TypedMethod) (j depth : ℕ) → IsNode x (Slot j depth) → depth < depth_at x j
 node-depth x j depth node = state-depth (state_at x.states j) depth node
+
+-- what has a word has a state
+word-reached : (o : Option TypeState) (depth : ℕ)
+    → IsSomeAnd (option_and_then (λ (s : TypeState). slice_get (reverse s.stack) depth) o) (λ v. is_reference v ≡ true) → is_some o ≡ true
+word-reached None depth node = absurd node
+word-reached (Some s) depth node = refl
+
+pub words_keep_busy : WordsKeepBusy
+words_keep_busy facts x j depth node =
+    both-from (is_some (state_at x.states j)) (words || locals) (word-reached (state_at x.states j) depth node)
+    (from-first words locals
+    (any-from (is_word_in facts x class j) (range_with_len 0 (depth_at x j)) depth
+    (Contains-range 0 (depth_at x j) depth (omega arith) (omega (arith, node-depth x j depth node)))
+    (both-from (is_reference_word (word_at x j depth)) (nat_eq (facts.class x.number (Slot j depth)) class) (node-word (word_at x j depth) node)
+    (eq-eqb class class refl)))) where
+      class : ℕ
+      class = facts.class x.number (Slot j depth)
+
+      words : Bool
+      words = list_any (is_word_in facts x class j) (range_with_len 0 (depth_at x j))
+
+      locals : Bool
+      locals = list_any (is_local_in facts x class j) (range_with_len 0 x.code.max_locals)
 
 pub busy_is_by_witness : BusyIsByWitness
 busy_is_by_witness facts x class j within = (forth, back) where

@@ -6,7 +6,7 @@ use Rattle.fm_code.specs.declared.code_array.Code.{Code}
 use Rattle.fm_code.specs.declared.class_file.ClassDef.{ClassDef}
 use Rattle.fm_conn.specs.Facts.{Facts}
 use Rattle.fm_conn.specs.Classes.{class_of}
-use Rattle.fm_conn.specs.Nodes.{Node, TypedMethod}
+use Rattle.fm_conn.specs.Nodes.{IsNode, Node, Slot, TypedMethod}
 use Rattle.fm_conn.specs.Summaries.{is_linked}
 use Rattle.fm_conn.specs.declared.class_numbers.Classes.{Classes}
 use Rattle.fm_conn.specs.declared.ends.End2.{End2}
@@ -30,6 +30,11 @@ abbrev pub BusyIsByWitness : Type 0
 BusyIsByWitness =
     (facts : Facts) (x : TypedMethod) (class j : ℕ) → ((k : ℕ) → facts.live x.number k j ≡ true → k < x.code.max_locals)
     → (is_busy facts x class j ≡ true) ↔ (IsBusy facts x class j)
+
+-- a word of the stack that is a reference makes its class busy, whichever locals are live
+abbrev pub WordsKeepBusy : Type 0
+WordsKeepBusy =
+    (facts : Facts) (x : TypedMethod) (j depth : ℕ) → IsNode x (Slot j depth) → is_busy facts x (facts.class x.number (Slot j depth)) j ≡ true
 
 -- a place is an item at which the class isn't busy, with an edge from one at which it is
 abbrev pub PlacesAreByEdges : Type 0

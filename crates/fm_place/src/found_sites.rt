@@ -182,7 +182,8 @@ impl Known<'_> {
     }
 
     // The class of the object that a site gives, which stands on top of the stack at the next item.
-    // `NoMemory` where no reference stands there; that a typed method has no such site isn't proved.
+    // `NoMemory` where no reference stands there, which is at no site of a typed method of a linked
+    // program.
     fn class_of_site(&self, item: u32) -> Result<u32, NoMemory>
         requires known { IsKnown self.now }
         requires inside { item < length self.now.method.code.now.items }

@@ -6,7 +6,7 @@ ghost use Rattle.fm_base.specs.declared.limits.TheConstants.{MAX_STACK_WORDS};
 ghost use Rattle.fm_code.specs.ClassBytes.{class_bytes};
 ghost use Rattle.fm_place.specs.Example.{array_holder, main_number, popping_class, popping_code, popping_facts, popping_main, popping_marks, popping_plan, popping_program, popping_woven, read_bytes, written_bytes};
 ghost use Rattle.fm_place.specs.Insertions.{full_insertions};
-ghost use Rattle.fm_place.specs.Laws.{AnchorsAreAnchors, BusyIsByWitness, FreesAreCounted, FullIsSafe, FullSuits, HoldersAreAll, HoldersAreFew, HoldersTellFull, PlacesAreByEdges, SitesAreTold, WovenIsLaidOut};
+ghost use Rattle.fm_place.specs.Laws.{AnchorsAreAnchors, BusyIsByWitness, FreesAreCounted, FullIsSafe, FullSuits, HoldersAreAll, HoldersAreFew, HoldersTellFull, PlacesAreByEdges, SitesAreTold, WordsKeepBusy, WovenIsLaidOut};
 ghost use Rattle.fm_place.specs.Places.{is_busy, is_place};
 ghost use Rattle.fm_place.specs.Rewriting.{frees_in, marks_with, rewritten, sites_in};
 ghost use Rattle.fm_place.specs.Safe.{full_plans};
@@ -20,9 +20,10 @@ pub fn law_stack()
 {}
 
 /// A class is busy where a word of the stack or a live local is in it, as long as no local past the
-/// method's own is live.
+/// method's own is live; by a word it is so whatever is live.
 pub fn law_busy()
-    ensures { BusyIsByWitness }
+    ensures witness { BusyIsByWitness }
+    ensures words { WordsKeepBusy }
 {}
 
 /// A place is an item at which the class isn't busy, with an edge from an item at which it is.

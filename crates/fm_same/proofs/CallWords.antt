@@ -85,7 +85,7 @@ alike_reverse (x ∷ xs) (y ∷ ys) h =
     (subst (λ zs. AllZip IsAlike (reverse xs ++ x ∷ []) zs) (sym (reverse_cons y ys))
     (zip-append IsAlike (reverse xs) (reverse ys) (x ∷ []) (y ∷ []) (alike_reverse xs ys h.1) (h.0, tt)))
 
-alike_other : (o : Outline) (a b : slots.Slot) → fits o a b ≡ true → shape_of b ≡ 2 → is_reference a ≡ is_reference b
+pub alike_other : (o : Outline) (a b : slots.Slot) → fits o a b ≡ true → shape_of b ≡ 2 → is_reference a ≡ is_reference b
 unfolding fits
 alike_other o a slot.Top h e = absurd (omega (arith, e))
 alike_other o a slot.Long h e = absurd (omega (arith, e))
@@ -117,12 +117,12 @@ level_above o (x ∷ xs) (y ∷ ys) rest h first second =
 
 -- ---- what a row takes
 
-record TakesOff (o : Outline) (wanted stack rest : Slots) : Type 0 where
-  words : Slots
-  is : stack ≡ words ++ rest
-  fitting : AllZip (Fitting o) words wanted
+pub record TakesOff (o : Outline) (wanted stack rest : Slots) : Type 0 where
+  pub words : Slots
+  pub is : stack ≡ words ++ rest
+  pub fitting : AllZip (Fitting o) words wanted
 
-taken_off : (o : Outline) (wanted stack rest : Slots) → taken o wanted stack ≡ Some rest → TakesOff o wanted stack rest
+pub taken_off : (o : Outline) (wanted stack rest : Slots) → taken o wanted stack ≡ Some rest → TakesOff o wanted stack rest
 taken_off o [] stack rest h = record { words = []; is = same_Some stack rest h; fitting = tt }
 taken_off o (w ∷ wanted) [] rest h = absurd (none-some rest h)
 taken_off o (w ∷ wanted) (s ∷ stack) rest h = by_fit (fits o s w) refl h (taken_off o wanted stack rest) where
@@ -185,11 +185,11 @@ worked_static o method given s after h whole =
       level = subst (λ ys. AllZip IsAlike off.1 ys) (sym (append-nil (argument_words o method))) off.3;
     }
 
-untested : (b : Bool) (x : Option TypeState) (after : TypeState) → cond b None x ≡ Some after → x ≡ Some after
+pub untested : (b : Bool) (x : Option TypeState) (after : TypeState) → cond b None x ≡ Some after → x ≡ Some after
 untested true x after h = absurd (none-some after h)
 untested false x after h = h
 
-tested : (b : Bool) (x : Option TypeState) (after : TypeState) → cond b x None ≡ Some after → x ≡ Some after
+pub tested : (b : Bool) (x : Option TypeState) (after : TypeState) → cond b x None ≡ Some after → x ≡ Some after
 tested true x after h = h
 tested false x after h = absurd (none-some after h)
 
@@ -325,7 +325,7 @@ reverse_twice : (xs : Slots) → reverse (reverse xs) ≡ xs
 reverse_twice [] = refl
 reverse_twice (x ∷ xs) = ap reverse (reverse_cons x xs) ∙ reverse-append (reverse xs) (x ∷ []) ∙ ap (λ ys. x ∷ ys) (reverse_twice xs)
 
-slice_after : (xs ys : Slots) (k : ℕ) → slice_get (xs ++ ys) (length xs + k) ≡ slice_get ys k
+pub slice_after : (xs ys : Slots) (k : ℕ) → slice_get (xs ++ ys) (length xs + k) ≡ slice_get ys k
 slice_after [] ys k = let e : 0 + k ≡ k = omega arith in ap (slice_get ys) e
 slice_after (x ∷ xs) ys k =
     let e : length (x ∷ xs) + k ≡ suc (length xs + k) = omega arith in ap (slice_get (x ∷ (xs ++ ys))) e ∙ slice_after xs ys k

@@ -35,3 +35,4 @@ pub mod FullTargets
 pub mod PlacesSound
 pub mod RegionsDie
 pub mod DeadRuns
+pub mod SiteNodes

@@ -1,5 +1,5 @@
 -- The laws that the functions of `laws` prove.
-use Rattle.std.specs.Prelude.{◌≡◌, ◌≢◌, ℕ, ◌≤◌, ◌⊎◌, true, List, ◌∷◌, length, Option, Some, None}
+use Rattle.std.specs.Prelude.{◌≡◌, ◌≢◌, ℕ, ◌+◌, ◌≤◌, ◌⊎◌, true, List, ◌∷◌, length, Option, Some, None, is_some}
 use Rattle.fm_code.specs.Edges.{IsNormalEdge}
 use Rattle.fm_code.specs.declared.code_array.Code.{Code}
 use Rattle.fm_conn.specs.Facts.{AreFacts, Facts}
@@ -15,7 +15,11 @@ use Rattle.fm_cells.specs.Stores.{opened, Store}
 use Rattle.fm_frames.specs.Runs.{Job, opening}
 use Rattle.fm_frames.specs.States.{Frame, State}
 use Rattle.fm_frames.specs.Steps.{next_effect, step}
-use Rattle.fm_place.specs.Sites.{is_captured}
+use Rattle.fm_conn.specs.Shapes.{method_with}
+use Rattle.fm_types.specs.States.{TypeState}
+use Rattle.fm_types.specs.Typed.{IsTypingOf}
+use Rattle.fm_place.specs.Places.{is_busy}
+use Rattle.fm_place.specs.Sites.{is_captured, site_class, site_kind, site_node}
 use Rattle.fm_same.specs.Advances.{GoesOver, OwesAt}
 use Rattle.fm_same.specs.Colours.{Colour, Coloured}
 use Rattle.fm_same.specs.Covering.{CoversAt, PlacesAgreeAt}
@@ -43,6 +47,22 @@ PairsAreInOneClass =
     (p : Program) (facts : Facts) → AreFacts p facts → (method : ℕ) (code : Code) → code_at p method ≡ Some code
     → (j : ℕ) (a b : Node) → PairAt (Linked p facts.typing) (typed_method p facts.typing method code) j a b
     → facts.class method a ≡ facts.class method b
+
+-- ---- sites
+
+-- the object of each site of a typed method is a node: a reference stands on top of the stack at the next item
+abbrev pub SitesAreNodes : Type 0
+SitesAreNodes =
+    (p : Program) (facts : Facts) (method : ℕ) (code : Code) (states : List (Option TypeState)) → StepsAreResolved p → code_at p method ≡ Some code
+    → IsTypingOf p method code states → (j : ℕ) → is_some (site_kind facts (method_with p method code states) j) ≡ true
+    → IsNode (method_with p method code states) (site_node (method_with p method code states) j)
+
+-- so its class is busy there, until the reference is gone from stack and live locals
+abbrev pub SitesMakeBusy : Type 0
+SitesMakeBusy =
+    (p : Program) (facts : Facts) (method : ℕ) (code : Code) (states : List (Option TypeState)) → StepsAreResolved p → code_at p method ≡ Some code
+    → IsTypingOf p method code states → (j : ℕ) → is_some (site_kind facts (method_with p method code states) j) ≡ true
+    → is_busy facts (method_with p method code states) (site_class facts (method_with p method code states) j) (j + 1) ≡ true
 
 -- ---- regions
 

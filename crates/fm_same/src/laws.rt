@@ -9,6 +9,13 @@ pub fn law_classes()
     ensures paired { law.PairsAreInOneClass }
 {}
 
+/// The object of each site of a typed method of a linked program is a node: a reference stands on top of
+/// the stack at the next item, where its class is busy.
+pub fn law_sites()
+    ensures nodes { law.SitesAreNodes }
+    ensures busy { law.SitesMakeBusy }
+{}
+
 /// Regions of classes: a frame's own regions are told apart by its classes and end with it, and what is
 /// handed over by a call or given back by a return has one region on both sides.
 pub fn law_regions()
