@@ -13,12 +13,12 @@ from hostile_shapes import Pool, class_file, code, member, u2
 
 LONGEST = 65_535
 PUBLIC_STATIC = 0x0009
-NOP, NULL, ZERO, RETURN = b"\0", b"\x01", b"\x03", b"\xb1"
+NOP, NULL, ZERO, POP, RETURN = b"\0", b"\x01", b"\x03", b"\x57", b"\xb1"
 LOAD_ARGUMENTS, CAST, IF_NULL, GO_TO, STORE_INT, STORE = b"\x2a", b"\xc0", b"\xc6", b"\xa7", b"\x36", b"\x3a"
 WIDE_LOAD, WIDE_STORE = b"\xc4\x19", b"\xc4\x3a"
 
 
-def program(max_locals, array, chain=0):
+def program(max_locals, array, chain=0, max_stack=1):
     """M with a main of this code, and a chain of classes, the lowest one first, of which class c is entry 9 + 2c of M's pool."""
     names = [b"C%d" % place for place in range(chain)]
     files = [(b"M", b"java/lang/Object")] + list(zip(names, names[1:] + [b"java/lang/Object"]))
@@ -30,7 +30,7 @@ def program(max_locals, array, chain=0):
             main, arguments, code_name = pool.text(b"main"), pool.text(b"([Ljava/lang/String;)V"), pool.text(b"Code")
             for other in names:
                 pool.class_named(other)
-            methods = [member(PUBLIC_STATIC, main, arguments, code(code_name, array, 1, max_locals))]
+            methods = [member(PUBLIC_STATIC, main, arguments, code(code_name, array, max_stack, max_locals))]
         yield name, class_file(pool, this_class, above, methods)
 
 
@@ -58,21 +58,33 @@ def forgetting():
     return program(100, array + RETURN)
 
 
-def shifting():
-    """A loop that moves each of 100 locals into the next one, entered with 30 classes of a chain in the first local."""
-    last, chain = 100, 30
+def moved(last, chain, filled):
+    """A loop that moves each of so many locals into the next one, entered with each class of a chain in the first local. Where it
+    is filled, each turn puts all of them on the stack before, and takes them off."""
     array = b"".join(NULL + WIDE_STORE + u2(local) for local in range(1, last + 1)) + NOP
     head = len(array) - 1
+    if filled:
+        array += b"".join(WIDE_LOAD + u2(local) for local in range(1, last + 1)) + POP * last
     for local in range(last, 1, -1):
         array += WIDE_LOAD + u2(local - 1) + WIDE_STORE + u2(local)
     for place in range(chain):
         there = len(array) + 15
         array += LOAD_ARGUMENTS + IF_NULL + u2(14) + NULL + CAST + u2(9 + 2 * place) + WIDE_STORE + u2(1)
         array += GO_TO + u2((head - (there - 3)) % 65_536)
-    return program(last + 1, array + GO_TO + u2((head - len(array)) % 65_536), chain)
+    return program(last + 1, array + GO_TO + u2((head - len(array)) % 65_536), chain, last if filled else 1)
 
 
-PROGRAMS = [straight, nops, wide, forgetting, shifting]
+def shifting():
+    """A loop that moves each of 100 locals into the next one, entered with 30 classes of a chain in the first local."""
+    return moved(100, 30, False)
+
+
+def refilling():
+    """The same of 400 locals and 20 classes, that puts all of them on the stack in each turn."""
+    return moved(400, 20, True)
+
+
+PROGRAMS = [straight, nops, wide, forgetting, shifting, refilling]
 
 
 def main():

@@ -1,16 +1,17 @@
 -- What an item brings on, and what that shows of typings; and that states at which no item waits are the least typing.
-use Rattle.std.proofs.Common.{◌≡◌, ◌≢◌, refl, sym, ◌∙◌, ap, inl, inr, ⊎_elim, ℕ, zero, suc, ◌+◌, ◌<◌, ◌≤◌, ◌==◌, nat_le, Bool, true, false, List, [], ◌∷◌, ◌++◌, length, take, get_or, set, replicate, Option, Some, None, is_some, option_and_then, cond, Contains, subst, sum_by, arith, length-append, length-set}
+use Rattle.std.proofs.Common.{◌≡◌, ◌≢◌, refl, sym, ◌∙◌, ap, inl, inr, ⊎_elim, ℕ, zero, suc, ◌+◌, ◌<◌, ◌≤◌, ◌==◌, nat_le, Bool, true, false, List, [], ◌∷◌, ◌++◌, length, reverse, take, get_or, set, replicate, Option, Some, None, is_some, option_and_then, cond, Contains, subst, sum_by, arith, length-append, length-set}
 use Rattle.std.specs.Prelude.{Any, Err, IfOk, IsSomeAnd, MatchBool, Ok, Result, slice_get}
 use Rattle.std.specs.List.{AllByRecursion, slice_index_or}
 use Rattle.std.specs.Option.{option_map}
 use Rattle.std.proofs.lemmas.Bool.{and_from, and_parts, cases_eq, cases_lt, eqb-true, eq-eqb, false≢true, leb-true}
-use Rattle.std.proofs.lemmas.List.{append-nil, get_or-set_same, get_or-replicate, get_or-set_other, get_or_past, length-replicate, take_more}
+use Rattle.std.proofs.lemmas.List.{append-nil, get_or-set_same, get_or-replicate, get_or-set_other, get_or_past, length-replicate, reverse-reverse, take_more}
 use Rattle.std.proofs.lemmas.List.Elements.{All-contains, All-from_recursion, Contains-append_left, Contains-push, Contains-push_cases}
 use Rattle.std.proofs.lemmas.Option.{slice_get_past}
 use Rattle.fm_base.proofs.ListFacts.{AllByRecursion-append, AllByRecursion-weaker}
 use Rattle.fm_base.proofs.OptionFacts.{IsSomeAnd-at_some, IsSomeAnd-from_some, option_map-some, same_value, Some-from_some_and}
 use Rattle.fm_check.proofs.MergingLemmas.{fits-from, fits-parts, state-refl, state-trans}
 use Rattle.fm_check.proofs.WalkLemmas.{alike-then, fits_at, fits_later, fits_one, given_at, same_locals, Went-none, Went-then, with_waiting-waits}
+use Rattle.fm_check.specs.declared.known.Place.{Place}
 use Rattle.fm_check.specs.inner.Ranks.{rank_at}
 use Rattle.fm_check.specs.inner.Risen.{IsAlikeBut}
 use Rattle.fm_check.specs.inner.Walks.{Brings, BringsAll, BringsCaught, BringsHandlers, BringsOn, falls_off, GoesOver, HasSettled, is_marked, IsForced, IsItem, IsKept, IsLeast, IsMet, IsMetBut, IsNearlyMet, IsSound, is_within, next_items, not_begun, Pops, risen_at, Rises, Stands, Takes, Task, Untypable, Walked, Walking, Went, with_risen, with_state, work_left}
@@ -448,11 +449,11 @@ taken-rise : (t : Task) (item : ℕ) (w taken : Walked) → Stands t w → Takes
 taken-rise t item w taken stands takes =
     let below = taken-inside t item w taken stands takes in
     let one = stands.one_rise in
-    ap (λ (xs : List (Option (List ℕ))). get_or xs item None) takes.risen ∙ get_or-set_same w.risen item (Some []) None (omega arith)
+    ap (λ (xs : List (Option (List Place))). get_or xs item None) takes.risen ∙ get_or-set_same w.risen item (Some []) None (omega arith)
 
 other-rise : (item j : ℕ) (w taken : Walked) → Takes item w taken → j ≢ item → risen_at taken j ≡ risen_at w j
 other-rise item j w taken takes apart =
-    ap (λ (xs : List (Option (List ℕ))). get_or xs j None) takes.risen ∙ get_or-set_other w.risen item j (Some []) None apart
+    ap (λ (xs : List (Option (List Place))). get_or xs j None) takes.risen ∙ get_or-set_other w.risen item j (Some []) None apart
 
 -- what is known of its state
 pub taken-met : (t : Task) (item : ℕ) (w taken : Walked) → Walking t w → Takes item w taken → IsMetBut t taken.states (risen_at w item) item
@@ -468,14 +469,23 @@ work-less t item w taken new takes went =
     omega (arith, falls, shorter, states)
 
 -- an item that was nearly met, and whose state then rose
-nearly-tracked : (t : Task) (a b : Walked) (j : ℕ) (few locals : List ℕ) (before s : TypeState) → IsSound t → Rises t.program.outline a b
-    → ((k : ℕ) → Contains few k → Contains locals k) → IsNearlyMet t a.states few j before → IsAlikeBut locals s before
-    → IsNearlyMet t b.states locals j s
-nearly-tracked t a b j few locals before s sound rises among nearly alike = record {
+nearly-tracked : (t : Task) (a b : Walked) (j : ℕ) (few locals : List Place) (before s : TypeState) → IsSound t → Rises t.program.outline a b
+    → ((k : Place) → Contains few k → Contains locals k) → IsNearlyMet t a.states few j before → IsAlikeBut locals s before
+    → state_fits t.program.outline before s ≡ true → IsNearlyMet t b.states locals j s
+nearly-tracked t a b j few locals before s sound rises among nearly alike fits = record {
   before = nearly.before;
   met = met_later t a b j nearly.before sound rises nearly.met;
   alike = alike-then few locals s before nearly.before among alike nearly.alike;
+  below = state-trans t.program.outline sound.tree nearly.before before s nearly.below fits;
 }
+
+-- a state that was there before fits the one that is there now
+risen-above : (t : Task) (a b : Walked) (j : ℕ) (before s : TypeState) → Rises t.program.outline a b → state_at a.states j ≡ Some before
+    → state_at b.states j ≡ Some s → state_fits t.program.outline before s ≡ true
+risen-above t a b j before s rises was is =
+    let found = fits_one t b.states j before (rises.rises j before was) in
+    let same : found.state ≡ s = same_value (state_at b.states j) found.state s found.is is in
+    ap (state_fits t.program.outline before) (sym same) ∙ found.fits
 
 -- and gone over
 pub Walking-more : (t : Task) (item : ℕ) (w taken new : Walked) → IsSound t → Walking t w → Takes item w taken → GoesOver t item taken new → Walking t new
@@ -490,12 +500,14 @@ Walking-more t item w taken new sound walking takes goes = record {
         met = subst (λ (n : ℕ). IsMet t new.states n tracked.before) (sym this)
             (goes.met tracked.before (ap (λ (n : ℕ). state_at taken.states n) (sym this) ∙ tracked.was));
         alike = tracked.alike;
+        below = risen-above t taken new j tracked.before s goes.went.rises tracked.was is;
       })
       (λ (apart : j ≢ item).
       let was : state_at w.states j ≡ Some tracked.before = ap (λ (states : List (Option TypeState)). state_at states j) (sym takes.states) ∙ tracked.was in
       let nearly = walking.closed j tracked.before tracked.known was (sym (other-rise item j w taken takes apart) ∙ tracked.is_known) in
       let moved = subst (λ (states : List (Option TypeState)). IsNearlyMet t states tracked.known j tracked.before) (sym takes.states) nearly in
-      nearly-tracked t taken new j tracked.known locals tracked.before s sound goes.went.rises tracked.among moved tracked.alike)
+      nearly-tracked t taken new j tracked.known locals tracked.before s sound goes.went.rises tracked.among moved tracked.alike
+      (risen-above t taken new j tracked.before s goes.went.rises tracked.was is))
       (cases_eq j item);
   quiet = λ j s is.
       ⊎_elim
@@ -521,8 +533,11 @@ alike_none : (s other : TypeState) → IsAlikeBut [] s other → s ≡ other
 alike_none s other h =
     let locals : s.locals ≡ other.locals =
     same_locals s.locals other.locals h.locals.size (λ k. h.locals.apart k (λ found. let inside = found.1 in omega arith)) in
+    let words : reverse s.stack ≡ reverse other.stack =
+    same_locals (reverse s.stack) (reverse other.stack) h.words.size (λ k. h.words.apart k (λ found. let inside = found.1 in omega arith)) in
+    let stack : s.stack ≡ other.stack = sym (reverse-reverse s.stack) ∙ ap reverse words ∙ reverse-reverse other.stack in
     ap (λ x. record s { locals = x }) locals
-    ∙ ap (λ x. record s { locals = other.locals; stack = x }) h.stack
+    ∙ ap (λ x. record s { locals = other.locals; stack = x }) stack
     ∙ ap (λ x. record s { locals = other.locals; stack = other.stack; built = x }) h.built
 
 settled_met : (t : Task) (w : Walked) (j : ℕ) (s : TypeState) → HasSettled t w → state_at w.states j ≡ Some s → IsMet t w.states j s
@@ -612,15 +627,15 @@ entry_forced t sound = record {
 }
 
 -- nothing is noted yet
-abbrev unnoted : ℕ → List (Option (List ℕ))
+abbrev unnoted : ℕ → List (Option (List Place))
 unnoted n = replicate n None
 
 none_risen : (n j : ℕ) → get_or (set (unnoted n) 0 None) j None ≡ None
 none_risen zero j = refl
 none_risen (suc n) zero = refl
 none_risen (suc n) (suc j) =
-    ⊎_elim (λ (below : j < n). get_or-replicate {A = Option (List ℕ)} n j None None below)
-    (λ (past : n ≤ j). get_or_past (unnoted n) j None (let size = length-replicate {A = Option (List ℕ)} n None in omega arith))
+    ⊎_elim (λ (below : j < n). get_or-replicate {A = Option (List Place)} n j None None below)
+    (λ (past : n ≤ j). get_or_past (unnoted n) j None (let size = length-replicate {A = Option (List Place)} n None in omega arith))
     (cases_lt j n)
 
 -- only the first item has a state, and waits
@@ -648,7 +663,7 @@ Walking-first t s sound is within =
       stands = record {
         one_each = ap length waits.states ∙ length-set (replicate n None) 0 (Some s) ∙ size;
         one_mark = waits.one_mark ∙ length-replicate n false;
-        one_rise = ap length waits.risen ∙ length-set (replicate n None) 0 None ∙ length-replicate {A = Option (List ℕ)} n None;
+        one_rise = ap length waits.risen ∙ length-set (replicate n None) 0 None ∙ length-replicate {A = Option (List Place)} n None;
         first = seen 0 ∙ get_or-set_same (replicate n None) 0 (Some s) None (omega arith) ∙ ap Some is;
         each = λ j u there.
             let found = only j u there in
@@ -659,7 +674,7 @@ Walking-first t s sound is within =
       };
       closed = λ j u locals there known.
           let never : None ≡ Some locals =
-          sym (none_risen n j) ∙ ap (λ (xs : List (Option (List ℕ))). get_or xs j None) (sym waits.risen) ∙ known in
+          sym (none_risen n j) ∙ ap (λ (xs : List (Option (List Place))). get_or xs j None) (sym waits.risen) ∙ known in
           absurd cc;
       quiet = λ j u there. inr (subst (λ (k : ℕ). Contains (with_state 0 None s (not_begun n)).waiting k) (sym (only j u there).0) waits.listed);
     }

@@ -1,6 +1,8 @@
+pub mod StackFrames
 pub mod RowFrames
 pub mod MergingLemmas
 pub mod RankLemmas
+pub mod PlaceLemmas
 pub mod WalkLemmas
 pub mod ItemLemmas
 pub mod RiseLemmas

@@ -4,19 +4,19 @@ use Rattle.std.proofs.lemmas.Bool.{and_parts, eqb-true, false≢true, leb-true}
 use Rattle.std.proofs.lemmas.List.{get_or-reverse, length-reverse}
 use Rattle.std.proofs.lemmas.List.Elements.{All-head, All-tail, Contains-append_left, Contains-append_right}
 use Rattle.std.proofs.lemmas.List.FromFn.{get_or-range_with_len, length-range_with_len}
-use Rattle.std.proofs.lemmas.List.Sums.{count_by-le-length, sum_by-cons, sum_by-le, sum_by-le-sum_by, sum_by-set}
+use Rattle.std.proofs.lemmas.List.Sums.{count_by-le-length, sum_by-cons, sum_by-le, sum_by-le-sum_by}
 use Rattle.std.proofs.lemmas.Nat.{mul-le}
 use Rattle.std.specs.List.{flat_map, range_with_len}
 use Rattle.fm_base.proofs.ContainsFacts.{Contains-cons_cases}
 use Rattle.fm_base.specs.declared.kinds.Base.{Base}
 use Rattle.fm_base.specs.declared.kinds.Base.TheVariants as base
 use Rattle.fm_check.specs.inner.Ranks.{bases_below, IsBounded, IsBoundedBase, IsBoundedState, rank, slots_below, slots_rank, state_rank, top_rank, types_with}
-use Rattle.fm_check.specs.inner.Walks.{is_within, with_local}
+use Rattle.fm_check.specs.inner.Walks.{is_within}
 use Rattle.fm_code.proofs.EdgesLemmas.{Contains-map}
 use Rattle.fm_code.specs.declared.code_array.Code.{Code}
 use Rattle.fm_types.proofs.Order.{fits-refl, fits-trans}
 use Rattle.fm_types.specs.Fits.{AreTree, fits}
-use Rattle.fm_types.specs.States.{all_fit, local_at, state_fits, TypeState}
+use Rattle.fm_types.specs.States.{all_fit, state_fits, TypeState}
 use Rattle.fm_types.specs.declared.slots.Slot.{Slot}
 use Rattle.fm_types.specs.declared.slots.Slot.TheVariants as slot
 use Rattle.fm_world.specs.Descriptors.{of_class}
@@ -116,7 +116,7 @@ rank-le o tree a b h =
     sum_by-le-sum_by (λ u. cond (fits o b u) 1 0) (λ u. cond (fits o a u) 1 0) (slots_below 256 (2 ^ 32))
     (λ u. counts_le (fits o b u) (fits o a u) (λ e. fits-trans o tree a b u h e))
 
-rank-less : (o : Outline) → AreTree o.classes → (a b : Slot) → IsBounded a → fits o a b ≡ true → fits o b a ≡ false → rank o b < rank o a
+pub rank-less : (o : Outline) → AreTree o.classes → (a b : Slot) → IsBounded a → fits o a b ≡ true → fits o b a ≡ false → rank o b < rank o a
 unfolding rank
 rank-less o tree a b bounded h back =
     count_less (λ u. fits o b u) (λ u. fits o a u) (λ u e. fits-trans o tree a b u h e) (slots_below 256 (2 ^ 32)) a
@@ -207,14 +207,6 @@ state-less o tree old new bounded h back = by_parts (all_fit o new.locals old.lo
       ∙ ap (λ (b : Bool). b && (new.built || not old.built)) f in
       let built = built-less old.built new.built (sym left ∙ back) in
       omega arith
-
--- a local that rises, and nothing else
-pub local-less : (o : Outline) → AreTree o.classes → (s : TypeState) (k : ℕ) (y : Slot) → k < length s.locals → IsBounded (local_at s.locals k)
-    → fits o (local_at s.locals k) y ≡ true → fits o y (local_at s.locals k) ≡ false → state_rank o (with_local k y s) < state_rank o s
-local-less o tree s k y inside bounded h back =
-    let sums = sum_by-set (rank o) s.locals k y slot.Top inside in
-    let less = rank-less o tree (local_at s.locals k) y bounded h back in
-    omega (arith, sums, less)
 
 pub state-within : (o : Outline) (code : Code) (s : TypeState) → is_within code s ≡ true
     → state_rank o s < code.max_locals * top_rank + code.max_stack * top_rank + 2

@@ -1,116 +1,48 @@
--- Locals that are carried on: what one that an item's state has no room for shows or leaves, and that an item whose locals were carried on is met.
-use Rattle.std.proofs.Common.{◌≡◌, ◌≢◌, refl, sym, ◌∙◌, ap, inl, inr, ◌⊎◌, ⊎_elim, ℕ, zero, suc, ◌+◌, ◌<◌, ◌≤◌, ◌==◌, ◌&&◌, ◌||◌, not, nat_le, Bool, true, false, List, [], ◌∷◌, length, map, take, get_or, set, All, Option, Some, None, Contains, subst, arith, length-set}
+-- Slots that are carried on: what one that an item's state has no room for shows or leaves, and that an item is met of which some places were carried on.
+use Rattle.std.proofs.Common.{◌≡◌, ◌≢◌, refl, sym, ◌∙◌, ap, inl, inr, ◌⊎◌, ⊎_elim, ℕ, ◌+◌, ◌-◌, ◌<◌, ◌==◌, ◌&&◌, ◌||◌, not, Bool, true, false, List, [], ◌∷◌, length, map, take, get_or, reverse, set, All, Option, Some, None, Contains, subst, arith}
 use Rattle.std.specs.Prelude.{IsSomeAnd}
-use Rattle.std.specs.List.{AllByRecursion, AllZip}
-use Rattle.std.proofs.lemmas.Bool.{cases_eq, cases_lt, eqb-true, false≢true}
-use Rattle.std.proofs.lemmas.List.{get_or-set_same, get_or-set_other, get_or_past, take_more}
+use Rattle.std.specs.List.{AllByRecursion, AllZip, filter}
+use Rattle.std.proofs.lemmas.Bool.{cases_eq, eqb-true, false≢true}
+use Rattle.std.proofs.lemmas.List.{get_or-set_same, length-reverse, take_more}
 use Rattle.std.proofs.lemmas.List.Elements.{All-contains, All-more, Contains-get_or}
 use Rattle.fm_base.proofs.ContainsFacts.{Contains-cons_cases}
 use Rattle.fm_base.proofs.ListFacts.{AllByRecursion-append, AllByRecursion-weaker}
 use Rattle.fm_base.proofs.OptionFacts.{IsSomeAnd-at_some, IsSomeAnd-from_some, same_value, Some-from_some_and}
 use Rattle.fm_base.specs.declared.kinds.TypeRef.{TypeRef}
 use Rattle.fm_check.proofs.ItemLemmas.{after-row, blank, caught_forced, each_handler, item_small, kept-locals, kept-stack, leads_from, leads_to, met_later, next_forced, next_inside}
-use Rattle.fm_check.proofs.MergingLemmas.{fits-from, fits-parts, state-refl}
-use Rattle.fm_check.proofs.RankLemmas.{local-less}
+use Rattle.fm_check.proofs.MergingLemmas.{fits-from, fits-parts}
+use Rattle.fm_check.proofs.PlaceLemmas.{lost-fits, place_wanted, same_longs, slot-fits, slot-less, with_slot-above, with_slot-alike, with_slot-below, with_slot-read, with_slot-whole, with_slot-within, zip-from, zip-turned}
 use Rattle.fm_check.proofs.RowFrames.{row-carried}
 use Rattle.fm_check.proofs.WalkLemmas.{fits_at, fits_one, first_unfit, noted-tracked, Went-given, Went-none, Went-then, with_waiting-waits}
+use Rattle.fm_check.specs.declared.known.Place.{Place}
+use Rattle.fm_check.specs.declared.known.Place.TheVariants as place
 use Rattle.fm_check.specs.declared.risen.Rise.{Rise}
 use Rattle.fm_check.specs.inner.Ranks.{IsBounded, state_rank, rank_at}
-use Rattle.fm_check.specs.inner.Risen.{IsAlikeBut, IsCarried, IsLeftAlone, leaves_alone, noted, rise_of}
-use Rattle.fm_check.specs.inner.Walks.{CanCarry, CanCarryOne, Carries, CarriesAll, CarriesCaught, CarriesHandlers, CarriesOn, CarriesOne, falls_off, GoesOver, HandlerHasRoom, HasRoom, is_marked, is_within, IsForced, IsKept, IsMet, IsNearlyMet, IsReady, IsSound, next_items, risen_at, Rises, Stands, Task, Untypable, Walked, Went, with_local, with_state}
-use Rattle.fm_code.proofs.EdgesLemmas.{Contains-from_map, Contains-later, Contains-map}
+use Rattle.fm_check.specs.inner.Risen.{HasPlace, is_local, is_lost, IsAlikeBut, IsCarried, IsLeftAlone, leaves_alone, locals_of, noted, rise_of, slot_at, with_slot, words_taken}
+use Rattle.fm_check.specs.inner.Walks.{CanCarry, CanCarryOne, Carries, CarriesAll, CarriesCaught, CarriesHandlers, CarriesOn, CarriesOne, falls_off, GoesOver, HandlerHasRoom, HasRoom, is_marked, IsForced, IsKept, IsMet, IsNearlyMet, IsReady, IsSound, next_items, risen_at, Rises, Stands, Task, Untypable, Walked, Went, with_state}
+use Rattle.fm_code.proofs.EdgesLemmas.{Contains-filter, Contains-from_filter, Contains-from_map, Contains-later, Contains-map}
 use Rattle.fm_code.specs.Edges.{Catches, falls_through, insn_of, IsNormalEdge, LeadsTo}
-use Rattle.fm_code.specs.declared.code_array.Code.{Code}
 use Rattle.fm_code.specs.declared.code_array.Handler.{Handler}
 use Rattle.fm_code.specs.declared.instructions.Insn.{Insn}
 use Rattle.fm_flow.proofs.RisingLemmas.{Contains-take_more}
 use Rattle.fm_types.proofs.LeastJoins.{join-least}
-use Rattle.fm_types.proofs.Order.{fits-refl, fits-top, fits-trans}
-use Rattle.fm_types.proofs.StateOrder.{Fitting}
-use Rattle.fm_types.proofs.Zips.{Follows, zip-length, zip-refl}
-use Rattle.fm_types.specs.Fits.{AreTree, fits}
+use Rattle.fm_types.proofs.Order.{fits-trans}
+use Rattle.fm_types.proofs.StateOrder.{Fitting, IsShaped}
+use Rattle.fm_types.proofs.Zips.{Follows, zip-length}
+use Rattle.fm_types.specs.Fits.{fits}
 use Rattle.fm_types.specs.Joins.{IsJoin, join}
 use Rattle.fm_types.specs.Rows.{row_after}
-use Rattle.fm_types.specs.States.{local_at, state_fits, TypeState}
-use Rattle.fm_types.specs.Typed.{after_item, caught_type, FitsAt, FitsHandler, handler_state, made_at, state_at, use_by}
+use Rattle.fm_types.specs.States.{state_fits, TypeState}
+use Rattle.fm_types.specs.Typed.{after_item, caught_type, FitsAt, FitsHandler, handler_state, IsTypingOf, made_at, state_at, use_by}
 use Rattle.fm_types.specs.declared.slots.Slot.{Slot}
 use Rattle.fm_types.specs.declared.slots.Slot.TheVariants as slot
 use Rattle.fm_world.specs.Programs.{Outline}
 use Rattle.fm_world.specs.declared.uses.Use.{Use}
 
--- ---- one local
-
-local_fits : (o : Outline) (xs ys : List Slot) (k : ℕ) → AllZip (Fitting o) xs ys → fits o (local_at xs k) (local_at ys k) ≡ true
-local_fits o [] [] k h = fits-top o slot.Top
-local_fits o [] (y ∷ ys) k h = absurd h
-local_fits o (x ∷ xs) [] k h = absurd h
-local_fits o (x ∷ xs) (y ∷ ys) zero h = h.0
-local_fits o (x ∷ xs) (y ∷ ys) (suc k) h = local_fits o xs ys k h.1
-
-fits_local : (o : Outline) (s t : TypeState) (k : ℕ) → state_fits o s t ≡ true → fits o (local_at s.locals k) (local_at t.locals k) ≡ true
-fits_local o s t k h = local_fits o s.locals t.locals k (fits-parts o s t h).locals
-
--- Top has room for all, so there is such a local
-pub room_wanted : (o : Outline) (x : Slot) (locals : List Slot) (k : ℕ) → fits o x (local_at locals k) ≡ false → k < length locals
-room_wanted o x locals k unfit =
-    ⊎_elim (λ (inside : k < length locals). inside)
-    (λ (past : length locals ≤ k).
-    absurd (false≢true (sym unfit ∙ ap (fits o x) (get_or_past locals k slot.Top past) ∙ fits-top o x)))
-    (cases_lt k (length locals))
-
-raised_above : (o : Outline) → AreTree o.classes → (xs : List Slot) (k : ℕ) (y : Slot) → fits o (local_at xs k) y ≡ true → AllZip (Fitting o) xs (set xs k y)
-raised_above o tree [] k y h = tt
-raised_above o tree (x ∷ xs) zero y h = (h, zip-refl (Fitting o) (fits-refl o tree) xs)
-raised_above o tree (x ∷ xs) (suc k) y h = (fits-refl o tree x, raised_above o tree xs k y h)
-
-raised_below : (o : Outline) (xs zs : List Slot) (k : ℕ) (y : Slot) → AllZip (Fitting o) xs zs → fits o y (local_at zs k) ≡ true
-    → AllZip (Fitting o) (set xs k y) zs
-raised_below o [] [] k y w h = tt
-raised_below o [] (z ∷ zs) k y w h = absurd w
-raised_below o (x ∷ xs) [] k y w h = absurd w
-raised_below o (x ∷ xs) (z ∷ zs) zero y w h = (h, w.1)
-raised_below o (x ∷ xs) (z ∷ zs) (suc k) y w h = (w.0, raised_below o xs zs k y w.1 h)
-
-with_local-above : (o : Outline) → AreTree o.classes → (s : TypeState) (k : ℕ) (y : Slot) → fits o (local_at s.locals k) y ≡ true
-    → state_fits o s (with_local k y s) ≡ true
-with_local-above o tree s k y h =
-    let same = fits-parts o s s (state-refl o tree s) in
-    fits-from o s (with_local k y s) (record { locals = raised_above o tree s.locals k y h; stack = same.stack; built = same.built })
-
-with_local-below : (o : Outline) (s u : TypeState) (k : ℕ) (y : Slot) → state_fits o s u ≡ true → fits o y (local_at u.locals k) ≡ true
-    → state_fits o (with_local k y s) u ≡ true
-with_local-below o s u k y h fitting =
-    let parts = fits-parts o s u h in
-    fits-from o (with_local k y s) u
-    (record { locals = raised_below o s.locals u.locals k y parts.locals fitting; stack = parts.stack; built = parts.built })
-
-with_local-alike : (s : TypeState) (k : ℕ) (y : Slot) → IsAlikeBut (k ∷ []) (with_local k y s) s
-with_local-alike s k y = record {
-  locals = record {
-    size = length-set s.locals k y;
-    among = λ j within. refl;
-    apart = λ j without.
-        ⊎_elim
-        (λ (this : j ≡ k). absurd (without (0, omega arith, sym this)))
-        (λ (other : j ≢ k). get_or-set_other s.locals k j y slot.Top other)
-        (cases_eq j k);
-  };
-  stack = refl;
-  built = refl;
-}
-
--- ---- a local is carried to an item
-
--- as large as a state that is within the counts
-within-same : (code : Code) (s new : TypeState) → length s.locals ≡ length new.locals → s.stack ≡ new.stack → is_within code s ≡ true
-    → is_within code new ≡ true
-within-same code s new locals stack h =
-    ap (λ n. (n == code.max_locals) && nat_le (length new.stack) code.max_stack) (sym locals)
-    ∙ ap (λ (xs : List Slot). (length s.locals == code.max_locals) && nat_le (length xs) code.max_stack) (sym stack)
-    ∙ h
+-- ---- a slot is carried to an item
 
 -- the state that is given is there
-given-there : (item : ℕ) (rose : Option (List ℕ)) (new : TypeState) (w : Walked) → item < length w.states
+given-there : (item : ℕ) (rose : Option (List Place)) (new : TypeState) (w : Walked) → item < length w.states
     → ((j : ℕ) → is_marked w j ≡ true → Contains w.waiting j) → state_at (with_state item rose new w).states item ≡ Some new
 given-there item rose new w inside marked =
     let waits = with_waiting-waits item (record w { states = set w.states item (Some new); risen = set w.risen item rose }) marked in
@@ -118,15 +50,15 @@ given-there item rose new w inside marked =
 
 -- its state has room
 pub carried_room : (t : Task) (item : ℕ) (rise : Rise) (state : TypeState) (w : Walked) → IsSound t → Stands t w → state_at w.states item ≡ Some state
-    → fits t.program.outline rise.slot (local_at state.locals rise.local) ≡ true → CarriesOne t item rise w w
+    → fits t.program.outline rise.slot (slot_at state rise.place) ≡ true → CarriesOne t item rise w w
 carried_room t item rise state w sound stands is fitting = record {
   went = Went-none t w sound stands;
-  room = IsSomeAnd-from_some (state_at w.states item) (λ s. fits t.program.outline rise.slot (local_at s.locals rise.local) ≡ true) state is fitting;
+  room = IsSomeAnd-from_some (state_at w.states item) (λ s. fits t.program.outline rise.slot (slot_at s rise.place) ≡ true) state is fitting;
 }
 
 -- the first item's state hasn't
 pub carried_first : (t : Task) (item : ℕ) (rise : Rise) (state : TypeState) (w : Walked) → item ≡ 0 → Stands t w → CanCarryOne t w item rise
-    → state_at w.states item ≡ Some state → fits t.program.outline rise.slot (local_at state.locals rise.local) ≡ false → Untypable t
+    → state_at w.states item ≡ Some state → fits t.program.outline rise.slot (slot_at state rise.place) ≡ false → Untypable t
 carried_first t item rise state w here stands can is unfit =
     first_unfit t w can.brought state stands (subst (λ (n : ℕ). IsForced t n can.brought) here can.forced)
     (ap (λ (n : ℕ). state_at w.states n) (sym here) ∙ is) (by_fit (state_fits t.program.outline can.brought state) refl) where
@@ -134,54 +66,93 @@ carried_first t item rise state w here stands can is unfit =
       by_fit false e = e
       by_fit true e =
           absurd
-          (false≢true (sym unfit ∙ ap (λ x. fits t.program.outline x (local_at state.locals rise.local)) (sym can.local)
-          ∙ fits_local t.program.outline can.brought state rise.local e))
+          (false≢true (sym unfit ∙ ap (λ x. fits t.program.outline x (slot_at state rise.place)) (sym can.slot)
+          ∙ slot-fits t.program.outline can.brought state rise.place e))
+
+-- in a typing the state that both fit, which has room for the join of both
+record AboveBoth (t : Task) (states : List (Option TypeState)) (item : ℕ) (p : Place) (own brought : TypeState) : Type 0 where
+  state : TypeState
+  is : state_at states item ≡ Some state
+  below : state_fits t.program.outline own state ≡ true
+  room : fits t.program.outline (join t.program.outline (slot_at own p) (slot_at brought p)) (slot_at state p) ≡ true
+
+above_both : (t : Task) (states : List (Option TypeState)) (item : ℕ) (p : Place) (own brought : TypeState) → IsSound t → IsForced t item own
+    → IsForced t item brought → IsTypingOf t.program t.number t.code states → AboveBoth t states item p own brought
+above_both t states item p own brought sound first second typing =
+    let o = t.program.outline in
+    let above = fits_one t states item own (first.below states typing) in
+    let other = fits_one t states item brought (second.below states typing) in
+    let same : other.state ≡ above.state = same_value (state_at states item) other.state above.state other.is above.is in
+    let least = join-least o sound.tree (slot_at own p) (slot_at brought p) in
+    record {
+      state = above.state;
+      is = above.is;
+      below = above.fits;
+      room = least.least (slot_at above.state p) (slot-fits o own above.state p above.fits)
+          (slot-fits o brought above.state p (ap (state_fits o brought) (sym same) ∙ other.fits));
+    }
+
+-- a word of its state would be lost
+pub carried_lost : (t : Task) (item : ℕ) (rise : Rise) (state : TypeState) (w : Walked) → IsSound t → Stands t w → CanCarryOne t w item rise
+    → state_at w.states item ≡ Some state → fits t.program.outline rise.slot (slot_at state rise.place) ≡ false
+    → is_lost rise.place (join t.program.outline (slot_at state rise.place) rise.slot) ≡ true → Untypable t
+carried_lost t item rise state w sound stands can is unfit lost states typing =
+    let o = t.program.outline in
+    let kept = stands.each item state is in
+    let above = above_both t states item rise.place state can.brought sound kept.forced can.forced typing in
+    let same : join o (slot_at state rise.place) rise.slot ≡ join o (slot_at state rise.place) (slot_at can.brought rise.place) =
+    ap (join o (slot_at state rise.place)) (sym can.slot) in
+    false≢true (sym unfit
+    ∙ lost-fits o state above.state rise.place rise.slot (join o (slot_at state rise.place) (slot_at can.brought rise.place))
+    (ap (is_lost rise.place) (sym same) ∙ lost) above.below kept.forced.whole (typing.items item above.state above.is).whole above.room)
 
 -- the state with the join of both is below those of all typings
-raised_forced : (t : Task) (item k : ℕ) (own brought : TypeState) (y : Slot) → IsForced t item own → IsForced t item brought
-    → ((u : Slot) → fits t.program.outline (local_at own.locals k) u ≡ true → fits t.program.outline (local_at brought.locals k) u ≡ true
-    → fits t.program.outline y u ≡ true)
-    → IsForced t item (with_local k y own)
-raised_forced t item k own brought y first second least = record {
+raised_forced : (t : Task) (item : ℕ) (p : Place) (own brought : TypeState) (x : Slot) → IsSound t → IsForced t item own → IsForced t item brought
+    → slot_at brought p ≡ x → is_lost p (join t.program.outline (slot_at own p) x) ≡ false
+    → IsForced t item (with_slot p (join t.program.outline (slot_at own p) x) own)
+raised_forced t item p own brought x sound first second is kept = record {
   reachable = first.reachable;
   inside = first.inside;
-  whole = first.whole;
+  whole = with_slot-whole o own p joined (join-least o sound.tree (slot_at own p) x).first kept first.whole;
   below = λ states typing.
-      let above = fits_one t states item own (first.below states typing) in
-      let other = fits_one t states item brought (second.below states typing) in
-      let same : other.state ≡ above.state = same_value (state_at states item) other.state above.state other.is above.is in
-      fits_at t states item (with_local k y own) above.state above.is
-      (with_local-below t.program.outline own above.state k y above.fits
-      (least (local_at above.state.locals k) (fits_local t.program.outline own above.state k above.fits)
-      (fits_local t.program.outline brought above.state k (ap (state_fits t.program.outline brought) (sym same) ∙ other.fits))));
-}
+      let above = above_both t states item p own brought sound first second typing in
+      fits_at t states item (with_slot p joined own) above.state above.is
+      (with_slot-below o own above.state p joined above.below
+      (ap (λ y. fits o (join o (slot_at own p) y) (slot_at above.state p)) (sym is) ∙ above.room));
+} where
+  o : Outline
+  o = t.program.outline
+
+  joined : Slot
+  joined = join o (slot_at own p) x
 
 -- its state gets room
 pub carried_raised : (t : Task) (item most : ℕ) (rise : Rise) (state : TypeState) (w : Walked) → IsSound t → Stands t w → CanCarryOne t w item rise
-    → (item ≡ 0 → ⊥) → state_at w.states item ≡ Some state → IsBounded (local_at state.locals rise.local)
-    → fits t.program.outline rise.slot (local_at state.locals rise.local) ≡ false
+    → (item ≡ 0 → ⊥) → state_at w.states item ≡ Some state → IsBounded (slot_at state rise.place)
+    → fits t.program.outline rise.slot (slot_at state rise.place) ≡ false
+    → is_lost rise.place (join t.program.outline (slot_at state rise.place) rise.slot) ≡ false
     → CarriesOne t item rise w
-    (with_state item (noted most (risen_at w item) (Some (rise.local ∷ [])))
-    (with_local rise.local (join t.program.outline (local_at state.locals rise.local) rise.slot) state) w)
-carried_raised t item most rise state w sound stands can later is bounded unfit = record {
+    (with_state item (noted most (risen_at w item) (Some (rise.place ∷ [])))
+    (with_slot rise.place (join t.program.outline (slot_at state rise.place) rise.slot) state) w)
+carried_raised t item most rise state w sound stands can later is bounded unfit holds = record {
   went = went;
-  room = IsSomeAnd-from_some (state_at now.states item) (λ s. fits o rise.slot (local_at s.locals rise.local) ≡ true) new there
-      (ap (fits o rise.slot) (get_or-set_same state.locals rise.local joined slot.Top inside) ∙ least.second);
+  room = IsSomeAnd-from_some (state_at now.states item) (λ s. fits o rise.slot (slot_at s rise.place) ≡ true) new there
+      (ap (fits o rise.slot) (with_slot-read rise.place joined state inside) ∙ least.second);
 } where
   o : Outline
   o = t.program.outline
 
   own : Slot
-  own = local_at state.locals rise.local
+  own = slot_at state rise.place
 
   joined : Slot
   joined = join o own rise.slot
 
   new : TypeState
-  new = with_local rise.local joined state
+  new = with_slot rise.place joined state
 
-  rose : Option (List ℕ)
-  rose = noted most (risen_at w item) (Some (rise.local ∷ []))
+  rose : Option (List Place)
+  rose = noted most (risen_at w item) (Some (rise.place ∷ []))
 
   now : Walked
   now = with_state item rose new w
@@ -189,8 +160,8 @@ carried_raised t item most rise state w sound stands can later is bounded unfit 
   least : IsJoin o own rise.slot joined
   least = join-least o sound.tree own rise.slot
 
-  inside : rise.local < length state.locals
-  inside = room_wanted o rise.slot state.locals rise.local unfit
+  inside : HasPlace state rise.place
+  inside = place_wanted o rise.slot state rise.place unfit
 
   kept : IsKept t item state
   kept = stands.each item state is
@@ -199,27 +170,23 @@ carried_raised t item most rise state w sound stands can later is bounded unfit 
   back false e = e
   back true e = absurd (false≢true (sym unfit ∙ fits-trans o sound.tree rise.slot joined own least.second e))
 
-  same_size : length new.locals ≡ length state.locals
-  same_size = length-set state.locals rise.local joined
-
   went : Went t w now
   went =
       Went-given t item rose new w sound stands
       (record {
-        forced = raised_forced t item rise.local state can.brought joined kept.forced can.forced
-            (λ u first second. least.least u first (ap (λ x. fits o x u) (sym can.local) ∙ second));
-        within = within-same t.code state new (sym same_size) refl kept.within;
+        forced = raised_forced t item rise.place state can.brought rise.slot sound kept.forced can.forced can.slot holds;
+        within = with_slot-within t.code rise.place joined state kept.within;
       })
       later
       (λ s also.
       let same : state ≡ s = same_value (state_at w.states item) state s is also in
-      ap (λ (x : TypeState). state_fits o x new) (sym same) ∙ with_local-above o sound.tree state rise.local joined least.first)
+      ap (λ (x : TypeState). state_fits o x new) (sym same) ∙ with_slot-above o sound.tree state rise.place joined least.first)
       (subst (λ (x : Option TypeState). state_rank o new < rank_at o t.code x) (sym is)
-      (local-less o sound.tree state rise.local joined inside bounded least.first (back (fits o joined own) refl)))
-      (noted-tracked w item most (Some (rise.local ∷ [])) new state is
-      (λ locals e.
-      let same : rise.local ∷ [] ≡ locals = cc in
-      subst (λ (xs : List ℕ). IsAlikeBut xs new state) same (with_local-alike state rise.local joined)))
+      (slot-less o sound.tree state rise.place joined inside bounded least.first (back (fits o joined own) refl)))
+      (noted-tracked w item most (Some (rise.place ∷ [])) new state is
+      (λ places e.
+      let same : rise.place ∷ [] ≡ places = cc in
+      subst (λ (xs : List Place). IsAlikeBut xs new state) same (with_slot-alike state rise.place joined)))
 
   there : state_at now.states item ≡ Some new
   there = given-there item rose new w (let one = stands.one_each in let below = kept.forced.inside in omega arith) stands.marked
@@ -229,12 +196,12 @@ carried_raised t item most rise state w sound stands can later is bounded unfit 
 room_later : (t : Task) (a b : Walked) (j : ℕ) (rise : Rise) → IsSound t → Rises t.program.outline a b → HasRoom t a.states j rise → HasRoom t b.states j rise
 room_later t a b j rise sound rises h =
     let o = t.program.outline in
-    let Room : TypeState → Type 0 = λ s. fits o rise.slot (local_at s.locals rise.local) ≡ true in
+    let Room : TypeState → Type 0 = λ s. fits o rise.slot (slot_at s rise.place) ≡ true in
     let before = Some-from_some_and (state_at a.states j) Room h in
     let after = fits_one t b.states j before.0 (rises.rises j before.0 before.1) in
     IsSomeAnd-from_some (state_at b.states j) Room after.state after.is
-    (fits-trans o sound.tree rise.slot (local_at before.0.locals rise.local) (local_at after.state.locals rise.local) before.2
-    (fits_local o before.0 after.state rise.local after.fits))
+    (fits-trans o sound.tree rise.slot (slot_at before.0 rise.place) (slot_at after.state rise.place) before.2
+    (slot-fits o before.0 after.state rise.place after.fits))
 
 all_room_later : (t : Task) (a b : Walked) (j : ℕ) (rises : List Rise) → IsSound t → Rises t.program.outline a b → All (HasRoom t a.states j) rises
     → All (HasRoom t b.states j) rises
@@ -243,19 +210,19 @@ all_room_later t a b j rises sound rising h = λ k d below. room_later t a b j (
 can_later : (t : Task) (a b : Walked) (j : ℕ) (rises : List Rise) → Rises t.program.outline a b → CanCarry t a j rises → CanCarry t b j rises
 can_later t a b j rises rising can =
     let found = fits_one t b.states j can.state (rising.rises j can.state can.there) in
-    record { state = found.state; there = found.is; brought = can.brought; forced = can.forced; locals = can.locals }
+    record { state = found.state; there = found.is; brought = can.brought; forced = can.forced; slots = can.slots }
 
 pub can_one : (t : Task) (a b : Walked) (j k : ℕ) (d : Rise) (rises : List Rise) → Rises t.program.outline a b → CanCarry t a j rises → k < length rises
     → CanCarryOne t b j (get_or rises k d)
 can_one t a b j k d rises rising can below =
     let later = can_later t a b j rises rising can in
-    record { state = later.state; there = later.there; brought = can.brought; forced = can.forced; local = can.locals k d below }
+    record { state = later.state; there = later.there; brought = can.brought; forced = can.forced; slot = can.slots k d below }
 
--- ---- several locals, handlers and items
+-- ---- several slots, handlers and items
 
--- a local that didn't rise
+-- a place at which nothing rose
 abbrev pub nothing : Rise
-nothing = record { local = 0; slot = slot.Top }
+nothing = record { place = place.Local 0; slot = slot.Top }
 
 pub Carries-none : (t : Task) (item : ℕ) (w : Walked) → IsSound t → Stands t w → Carries t item [] w w
 Carries-none t item w sound stands = record { went = Went-none t w sound stands; room = λ k d below. absurd (omega arith) }
@@ -316,29 +283,34 @@ CarriesAll-more t items rises k a b c sound inside so_far one = record {
 pub can_carry_later : (t : Task) (a b : Walked) (j : ℕ) (rises : List Rise) → Went t a b → CanCarry t a j rises → CanCarry t b j rises
 can_carry_later t a b j rises went can = can_later t a b j rises went.rises can
 
-pub CarriesOn-both : (t : Task) (item : ℕ) (i : Insn) (rises : List Rise) (a b c : Walked) → IsSound t → CarriesHandlers t item rises t.code.handlers a b
+pub CarriesOn-both : (t : Task) (item : ℕ) (i : Insn) (rises : List Rise) (a b c : Walked) → IsSound t → CarriesHandlers t item (locals_of rises) t.code.handlers a b
     → CarriesAll t (next_items i item) rises b c → CarriesOn t item i rises a c
 CarriesOn-both t item i rises a b c sound caught all = record {
   went = Went-then t a b c sound caught.went all.went;
-  handlers = handlers_room_later t b c item rises t.code.handlers sound all.went.rises caught.room;
+  handlers = handlers_room_later t b c item (locals_of rises) t.code.handlers sound all.went.rises caught.room;
   items = all.room;
 }
 
 -- ---- the rows of states that are alike
 
+-- the words that lie below those that the row of an item takes
+abbrev pub words_below : Task → Insn → TypeState → ℕ
+words_below t i s = length s.stack - words_taken t.program.outline (use_by t.program t.number i) i
+
 -- the state after an item, beside that after a state like its own
-record AfterAlike (t : Task) (j : ℕ) (locals : List ℕ) (s known : TypeState) : Type 0 where
+record AfterAlike (t : Task) (j : ℕ) (places : List Place) (s known : TypeState) : Type 0 where
   after : TypeState
   is : after_item t.program t.number t.code j s ≡ Some after
-  carried : IsCarried (λ k. Contains locals k) (local_at s.locals) after known
+  carried : IsCarried (λ p. Contains places p) (slot_at s) after known
 
-after_alike : (t : Task) (j : ℕ) (i : Insn) (locals : List ℕ) (s before known : TypeState) → insn_of t.code j ≡ Some i → IsAlikeBut locals s before
-    → ((k : ℕ) → Contains locals k → leaves_alone i k (local_at s.locals k) ≡ true)
-    → after_item t.program t.number t.code j before ≡ Some known → AfterAlike t j locals s known
-after_alike t j i locals s before known is alike alone gives =
+after_alike : (t : Task) (j : ℕ) (i : Insn) (places : List Place) (s before known : TypeState) → insn_of t.code j ≡ Some i → IsAlikeBut places s before
+    → AllZip IsShaped s.stack before.stack
+    → ((p : Place) → Contains places p → leaves_alone i (words_below t i s) p (slot_at s p) ≡ true)
+    → after_item t.program t.number t.code j before ≡ Some known → AfterAlike t j places s known
+after_alike t j i places s before known is alike shaped alone gives =
     by_given (row_after o t.number j news used i s) (row_after o t.number j news used i before) (after-row t j i s is)
     (sym (after-row t j i before is) ∙ gives)
-    (row-carried (λ k. Contains locals k) (local_at s.locals) o t.number j news used i s before alone alike) where
+    (row-carried (λ p. Contains places p) (slot_at s) o t.number j news used i s before shaped alone alike) where
       o : Outline
       o = t.program.outline
 
@@ -349,67 +321,118 @@ after_alike t j i locals s before known is alike alone gives =
       used = use_by t.program t.number i
 
       by_given : (x y : Option TypeState) → after_item t.program t.number t.code j s ≡ x → y ≡ Some known
-          → Follows (IsCarried (λ k. Contains locals k) (local_at s.locals)) x y → AfterAlike t j locals s known
+          → Follows (IsCarried (λ p. Contains places p) (slot_at s)) x y → AfterAlike t j places s known
       by_given x None e f h = absurd cc
       by_given None (Some b) e f h = absurd h
       by_given (Some a) (Some b) e f h =
           let same : b ≡ known = cc in
-          record { after = a; is = e; carried = subst (IsCarried (λ k. Contains locals k) (local_at s.locals) a) same h }
+          record { after = a; is = e; carried = subst (IsCarried (λ p. Contains places p) (slot_at s) a) same h }
 
-left_alone : (i : Insn) (s : TypeState) (locals : List ℕ) → All (IsLeftAlone i) (map (rise_of s) locals) → (k : ℕ) → Contains locals k
-    → leaves_alone i k (local_at s.locals k) ≡ true
-left_alone i s locals all k found = All-contains (IsLeftAlone i) (map (rise_of s) locals) (rise_of s k) all (Contains-map (rise_of s) locals k found)
+left_alone : (i : Insn) (below : ℕ) (s : TypeState) (places : List Place) → All (IsLeftAlone i below) (map (rise_of s) places) → (p : Place)
+    → Contains places p → leaves_alone i below p (slot_at s p) ≡ true
+left_alone i below s places all p found =
+    All-contains (IsLeftAlone i below) (map (rise_of s) places) (rise_of s p) all (Contains-map (rise_of s) places p found)
 
--- the locals of which it was asked
-pub asked-alone : (i : Insn) (s : TypeState) (locals words : List ℕ) (rises given : List Rise) → given ≡ rises → rises ≡ map (rise_of s) words
-    → words ≡ locals → All (IsLeftAlone i) given → All (IsLeftAlone i) (map (rise_of s) locals)
-asked-alone i s locals words rises given same found all h =
-    subst (λ (xs : List Rise). All (IsLeftAlone i) xs) (same ∙ found ∙ ap (λ (ks : List ℕ). map (rise_of s) ks) all) h
+-- the places of which it was asked
+pub asked-alone : (i : Insn) (below words : ℕ) (s : TypeState) (places asked : List Place) (rises given : List Rise) → given ≡ rises
+    → rises ≡ map (rise_of s) asked → asked ≡ places → below ≡ words → All (IsLeftAlone i below) given → All (IsLeftAlone i words) (map (rise_of s) places)
+asked-alone i below words s places asked rises given same found all enough h =
+    subst (λ (n : ℕ). All (IsLeftAlone i n) (map (rise_of s) places)) enough
+    (subst (λ (xs : List Rise). All (IsLeftAlone i below) xs) (same ∙ found ∙ ap (λ (ps : List Place). map (rise_of s) ps) all) h)
 
--- states that are alike have the locals that are carried
-all_held : (s brought : TypeState) (locals : List ℕ) → ((k : ℕ) → Contains locals k → local_at brought.locals k ≡ local_at s.locals k)
-    → All (λ rise. local_at brought.locals rise.local ≡ rise.slot) (map (rise_of s) locals)
-all_held s brought locals holds = λ n d below.
-    let found = Contains-from_map (rise_of s) locals (get_or (map (rise_of s) locals) n d) (Contains-get_or (map (rise_of s) locals) n d below) in
-    subst (λ (rise : Rise). local_at brought.locals rise.local ≡ rise.slot) found.2 (holds found.0 found.1)
+-- states that are alike have the slots that are carried
+slot_carried : (P : Place → Type 0) (v : Place → Slot) (s other : TypeState) (p : Place) → IsCarried P v s other → P p → slot_at s p ≡ v p
+slot_carried P v s other (place.Local k) h within = h.locals.among k within
+slot_carried P v s other (place.Word k) h within = h.words.among k within
 
-among_or_not : (xs : List ℕ) (k : ℕ) → Contains xs k ⊎ (Contains xs k → ⊥)
-among_or_not [] k = inr (λ found. let inside = found.1 in omega arith)
-among_or_not (x ∷ xs) k =
-    ⊎_elim (λ (same : k ≡ x). inl (0, omega arith, sym same))
-    (λ (apart : k ≢ x).
-    ⊎_elim (λ (later : Contains xs k). inl (Contains-later x xs k later))
-    (λ (never : Contains xs k → ⊥). inr (λ found. ⊎_elim (λ (same : k ≡ x). apart same) never (Contains-cons_cases x xs k found)))
-    (among_or_not xs k))
-    (cases_eq k x)
+all_held : (s brought : TypeState) (places : List Place) → ((p : Place) → Contains places p → slot_at brought p ≡ slot_at s p)
+    → All (λ rise. slot_at brought rise.place ≡ rise.slot) (map (rise_of s) places)
+all_held s brought places holds = λ n d below.
+    let found = Contains-from_map (rise_of s) places (get_or (map (rise_of s) places) n d) (Contains-get_or (map (rise_of s) places) n d below) in
+    subst (λ (rise : Rise). slot_at brought rise.place ≡ rise.slot) found.2 (holds found.0 found.1)
 
-zip_from : (o : Outline) (xs ys : List Slot) → length xs ≡ length ys → ((k : ℕ) → fits o (local_at xs k) (local_at ys k) ≡ true) → AllZip (Fitting o) xs ys
-zip_from o [] [] size each = tt
-zip_from o [] (y ∷ ys) size each = absurd (omega (arith, size))
-zip_from o (x ∷ xs) [] size each = absurd (omega (arith, size))
-zip_from o (x ∷ xs) (y ∷ ys) size each = (each 0, zip_from o xs ys (omega (arith, size)) (λ k. each (suc k)))
+-- a handler's state has those of locals
+locals_held : (s : TypeState) (caught : TypeRef) (rises : List Rise) → All (λ rise. slot_at s rise.place ≡ rise.slot) rises
+    → All (λ rise. slot_at (handler_state caught s) rise.place ≡ rise.slot) (locals_of rises)
+locals_held s caught rises all = λ n d below.
+    let rise = get_or (locals_of rises) n d in
+    let found = Contains-from_filter (λ (r : Rise). is_local r.place) rises rise (Contains-get_or (locals_of rises) n d below) in
+    by_place (rise.slot) rise.place (All-contains (λ r. slot_at s r.place ≡ r.slot) rises rise all found.0) found.1 where
+      by_place : (x : Slot) (p : Place) → slot_at s p ≡ x → is_local p ≡ true → slot_at (handler_state caught s) p ≡ x
+      by_place x (place.Local k) held local = held
+      by_place x (place.Word k) held local = absurd (false≢true local)
 
--- a state fits where one that is like it fits and there is room for the other locals
-carried_fits : (o : Outline) (locals : List ℕ) (held a known u : TypeState) → IsCarried (λ k. Contains locals k) (local_at held.locals) a known
-    → state_fits o known u ≡ true → ((k : ℕ) → Contains locals k → fits o (local_at held.locals k) (local_at u.locals k) ≡ true)
+same_place : (p q : Place) → (p ≡ q) ⊎ (p ≢ q)
+same_place (place.Local j) (place.Local k) =
+    ⊎_elim (λ (same : j ≡ k). inl (ap (λ n. place.Local n) same)) (λ (apart : j ≢ k). inr (λ e. apart (let same : j ≡ k = cc in same))) (cases_eq j k)
+same_place (place.Word j) (place.Word k) =
+    ⊎_elim (λ (same : j ≡ k). inl (ap (λ n. place.Word n) same)) (λ (apart : j ≢ k). inr (λ e. apart (let same : j ≡ k = cc in same))) (cases_eq j k)
+same_place (place.Local j) (place.Word k) = inr (λ e. cc)
+same_place (place.Word j) (place.Local k) = inr (λ e. cc)
+
+among_or_not : (xs : List Place) (p : Place) → Contains xs p ⊎ (Contains xs p → ⊥)
+among_or_not [] p = inr (λ found. let inside = found.1 in omega arith)
+among_or_not (x ∷ xs) p =
+    ⊎_elim (λ (same : p ≡ x). inl (0, omega arith, sym same))
+    (λ (apart : p ≢ x).
+    ⊎_elim (λ (later : Contains xs p). inl (Contains-later x xs p later))
+    (λ (never : Contains xs p → ⊥). inr (λ found. ⊎_elim (λ (same : p ≡ x). apart same) never (Contains-cons_cases x xs p found)))
+    (among_or_not xs p))
+    (same_place p x)
+
+-- what a state brings fits at each place
+slot_room : (o : Outline) (P : Place → Type 0) (v : Place → Slot) (a known u : TypeState) (p : Place) → IsCarried P v a known
+    → state_fits o known u ≡ true → (P p ⊎ (P p → ⊥)) → (P p → fits o (v p) (slot_at u p) ≡ true) → fits o (slot_at a p) (slot_at u p) ≡ true
+slot_room o P v a known u p carried fitting (inl within) room =
+    ap (λ x. fits o x (slot_at u p)) (slot_carried P v a known p carried within) ∙ room within
+slot_room o P v a known u (place.Local k) carried fitting (inr without) room =
+    ap (λ x. fits o x (slot_at u (place.Local k))) (carried.locals.apart k without) ∙ slot-fits o known u (place.Local k) fitting
+slot_room o P v a known u (place.Word k) carried fitting (inr without) room =
+    ap (λ x. fits o x (slot_at u (place.Word k))) (carried.words.apart k without) ∙ slot-fits o known u (place.Word k) fitting
+
+-- a state fits where one that is like it fits and there is room at the other places
+carried_fits : (o : Outline) (places : List Place) (v : Place → Slot) (a known u : TypeState) → IsCarried (λ p. Contains places p) v a known
+    → state_fits o known u ≡ true → ((p : Place) → Contains places p → fits o (v p) (slot_at u p) ≡ true)
     → state_fits o a u ≡ true
-carried_fits o locals held a known u carried fitting room =
+carried_fits o places v a known u carried fitting room =
     let parts = fits-parts o known u fitting in
+    let deep = zip-length (Fitting o) known.stack u.stack parts.stack in
+    let turned = length-reverse known.stack in
+    let other = length-reverse u.stack in
+    let words = carried.words.size in
+    let each : (p : Place) → fits o (slot_at a p) (slot_at u p) ≡ true =
+    λ p. slot_room o (λ q. Contains places q) v a known u p carried fitting (among_or_not places p) (λ found. room p found) in
     fits-from o a u (record {
-      locals = zip_from o a.locals u.locals (carried.locals.size ∙ zip-length (Fitting o) known.locals u.locals parts.locals) (λ k.
-          ⊎_elim (λ (found : Contains locals k). ap (λ x. fits o x (local_at u.locals k)) (carried.locals.among k found) ∙ room k found)
-          (λ (without : Contains locals k → ⊥).
-          ap (λ x. fits o x (local_at u.locals k)) (carried.locals.apart k without) ∙ local_fits o known.locals u.locals k parts.locals)
-          (among_or_not locals k));
-      stack = subst (λ (stack : List Slot). AllZip (Fitting o) stack u.stack) (sym carried.stack) parts.stack;
+      locals = zip-from (Fitting o) a.locals u.locals (carried.locals.size ∙ zip-length (Fitting o) known.locals u.locals parts.locals)
+          (λ k. each (place.Local k));
+      stack = zip-turned (Fitting o) a.stack u.stack
+          (zip-from (Fitting o) (reverse a.stack) (reverse u.stack) (omega (arith, words, deep, turned, other)) (λ k. each (place.Word k)));
       built = ap (λ (b : Bool). b || not u.built) carried.built ∙ parts.built;
     })
 
--- ---- an item whose locals are carried on
+-- ---- an item of which some places are carried on
 
-caught_alike : (locals : List ℕ) (s before : TypeState) (caught : TypeRef) → IsAlikeBut locals s before
-    → IsCarried (λ k. Contains locals k) (local_at s.locals) (handler_state caught s) (handler_state caught before)
-caught_alike locals s before caught alike = record { locals = alike.locals; stack = refl; built = alike.built }
+-- those of the places that are locals
+abbrev locals_in : List Place → List Place
+locals_in places = filter is_local places
+
+-- what handlers get of states that are alike
+caught_alike : (places : List Place) (s before : TypeState) (caught : TypeRef) → IsAlikeBut places s before
+    → IsCarried (λ p. Contains (locals_in places) p) (slot_at s) (handler_state caught s) (handler_state caught before)
+caught_alike places s before caught alike = record {
+  locals = record {
+    size = alike.locals.size;
+    among = λ k within. refl;
+    apart = λ k without.
+        alike.locals.apart k (λ found. without (Contains-filter is_local places (place.Local k) found refl));
+  };
+  words = record {
+    size = refl;
+    among = λ k within. absurd (false≢true (Contains-from_filter is_local places (place.Word k) within).1);
+    apart = λ k without. refl;
+  };
+  built = alike.built;
+}
 
 stays_inside : (t : Task) (j : ℕ) (i : Insn) → insn_of t.code j ≡ Some i
     → IsSomeAnd (insn_of t.code j) (λ i. falls_through i ≡ true → j + 1 < length t.code.items) → falls_off t.code i j ≡ false
@@ -422,11 +445,16 @@ stays_inside t j i is inside = by_tests (falls_through i) (j + 1 == length t.cod
       let last = eqb-true (j + 1) (length t.code.items) f in
       absurd (omega (arith, below, last))
 
+-- the longs of a state stand where they stood
+longs_kept : (t : Task) (w : Walked) (j : ℕ) (s before : TypeState) → IsKept t j s → IsMet t w.states j before
+    → state_fits t.program.outline before s ≡ true → AllZip IsShaped s.stack before.stack
+longs_kept t w j s before kept met below = same_longs t.program.outline s before below met.meets.whole kept.forced.whole
+
 -- what is asked before
-pub ready : (t : Task) (j : ℕ) (i : Insn) (s : TypeState) (locals : List ℕ) (w : Walked) → IsSound t → Stands t w → state_at w.states j ≡ Some s
-    → insn_of t.code j ≡ Some i → IsNearlyMet t w.states locals j s → All (IsLeftAlone i) (map (rise_of s) locals)
-    → IsReady t w j i (map (rise_of s) locals)
-ready t j i s locals w sound stands at is nearly alone = record {
+pub ready : (t : Task) (j : ℕ) (i : Insn) (s : TypeState) (places : List Place) (w : Walked) → IsSound t → Stands t w → state_at w.states j ≡ Some s
+    → insn_of t.code j ≡ Some i → IsNearlyMet t w.states places j s → All (IsLeftAlone i (words_below t i s)) (map (rise_of s) places)
+    → IsReady t w j i (map (rise_of s) places)
+ready t j i s places w sound stands at is nearly alone = record {
   small = item_small t j i sound (record { reachable = forced.reachable; is = is });
   handlers = λ h listed catches.
       let fits = each_handler (FitsHandler t.program t.number w.states j nearly.before) t.code.handlers h listed nearly.met.meets.handlers catches in
@@ -437,7 +465,7 @@ ready t j i s locals w sound stands at is nearly alone = record {
         there = found.is;
         brought = handler_state caught.0 s;
         forced = caught_forced t j h caught.0 s sound forced listed catches.after_start catches.before_end caught.1;
-        locals = all_held s (handler_state caught.0 s) locals (λ k found. refl);
+        slots = locals_held s caught.0 (map (rise_of s) places) (all_held s s places (λ p within. refl));
       };
   items = λ next found.
       let leads = leads_from i j next found in
@@ -449,11 +477,15 @@ ready t j i s locals w sound stands at is nearly alone = record {
         there = there.is;
         brought = after.after;
         forced = next_forced t j next i s after.after sound forced is after.is leads inside;
-        locals = all_held s after.after locals after.carried.locals.among;
+        slots = all_held s after.after places
+            (λ p within. slot_carried (λ q. Contains places q) (slot_at s) after.after row.0 p after.carried within);
       };
 } where
+  kept : IsKept t j s
+  kept = stands.each j s at
+
   forced : IsForced t j s
-  forced = (stands.each j s at).forced
+  forced = kept.forced
 
   row : (known : TypeState) × (after_item t.program t.number t.code j nearly.before ≡ Some known)
       × ((next : ℕ) → IsNormalEdge t.code j next → FitsAt t.program w.states next known)
@@ -461,19 +493,33 @@ ready t j i s locals w sound stands at is nearly alone = record {
       Some-from_some_and (after_item t.program t.number t.code j nearly.before)
       (λ known. (next : ℕ) → IsNormalEdge t.code j next → FitsAt t.program w.states next known) nearly.met.meets.row
 
-  after : AfterAlike t j locals s row.0
-  after = after_alike t j i locals s nearly.before row.0 is nearly.alike (left_alone i s locals alone) row.1
+  after : AfterAlike t j places s row.0
+  after = after_alike t j i places s nearly.before row.0 is nearly.alike (longs_kept t w j s nearly.before kept nearly.met nearly.below)
+      (left_alone i (words_below t i s) s places alone) row.1
 
 -- an item has room for what a state brings that is like one for which it has
-pub room_fits : (t : Task) (states : List (Option TypeState)) (j : ℕ) (locals : List ℕ) (s a known : TypeState)
-    → IsCarried (λ k. Contains locals k) (local_at s.locals) a known → FitsAt t.program states j known
-    → All (HasRoom t states j) (map (rise_of s) locals) → FitsAt t.program states j a
-room_fits t states j locals s a known carried fitting room =
+pub room_fits : (t : Task) (states : List (Option TypeState)) (j : ℕ) (places : List Place) (v : Place → Slot) (a known : TypeState)
+    → IsCarried (λ p. Contains places p) v a known → FitsAt t.program states j known
+    → ((p : Place) → Contains places p → HasRoom t states j (record { place = p; slot = v p })) → FitsAt t.program states j a
+room_fits t states j places v a known carried fitting room =
     let found = fits_one t states j known fitting in
     fits_at t states j a found.state found.is
-    (carried_fits t.program.outline locals s a known found.state carried found.fits (λ k among.
-    IsSomeAnd-at_some (state_at states j) (λ u. fits t.program.outline (local_at s.locals k) (local_at u.locals k) ≡ true) found.state found.is
-    (All-contains (HasRoom t states j) (map (rise_of s) locals) (rise_of s k) room (Contains-map (rise_of s) locals k among))))
+    (carried_fits t.program.outline places v a known found.state carried found.fits (λ p among.
+    IsSomeAnd-at_some (state_at states j) (λ u. fits t.program.outline (v p) (slot_at u p) ≡ true) found.state found.is (room p among)))
+
+-- there is room at each of the places
+room_at : (t : Task) (states : List (Option TypeState)) (j : ℕ) (s : TypeState) (places : List Place) → All (HasRoom t states j) (map (rise_of s) places)
+    → (p : Place) → Contains places p → HasRoom t states j (rise_of s p)
+room_at t states j s places room p among =
+    All-contains (HasRoom t states j) (map (rise_of s) places) (rise_of s p) room (Contains-map (rise_of s) places p among)
+
+-- and at those of locals
+local_room_at : (t : Task) (states : List (Option TypeState)) (j : ℕ) (s : TypeState) (places : List Place)
+    → All (HasRoom t states j) (locals_of (map (rise_of s) places)) → (p : Place) → Contains (locals_in places) p → HasRoom t states j (rise_of s p)
+local_room_at t states j s places room p among =
+    let found = Contains-from_filter is_local places p among in
+    All-contains (HasRoom t states j) (locals_of (map (rise_of s) places)) (rise_of s p) room
+    (Contains-filter (λ (r : Rise). is_local r.place) (map (rise_of s) places) (rise_of s p) (Contains-map (rise_of s) places p found.0) found.1)
 
 both_by_recursion : (P Q R : Handler → Type 0) → ((h : Handler) → P h → Q h → R h) → (hs : List Handler) → AllByRecursion P hs → AllByRecursion Q hs
     → AllByRecursion R hs
@@ -481,10 +527,11 @@ both_by_recursion P Q R each [] p q = tt
 both_by_recursion P Q R each (h ∷ hs) p q = (each h p.0 q.0, both_by_recursion P Q R each hs p.1 q.1)
 
 -- and what is left after
-pub GoesOver-carried : (t : Task) (j : ℕ) (i : Insn) (s : TypeState) (locals : List ℕ) (w new : Walked) → IsSound t → Stands t w
-    → state_at w.states j ≡ Some s → insn_of t.code j ≡ Some i → IsNearlyMet t w.states locals j s → All (IsLeftAlone i) (map (rise_of s) locals)
-    → CarriesOn t j i (map (rise_of s) locals) w new → GoesOver t j w new
-GoesOver-carried t j i s locals w new sound stands at is nearly alone carries = record {
+pub GoesOver-carried : (t : Task) (j : ℕ) (i : Insn) (s : TypeState) (places : List Place) (w new : Walked) → IsSound t → Stands t w
+    → state_at w.states j ≡ Some s → insn_of t.code j ≡ Some i → IsNearlyMet t w.states places j s
+    → All (IsLeftAlone i (words_below t i s)) (map (rise_of s) places)
+    → CarriesOn t j i (map (rise_of s) places) w new → GoesOver t j w new
+GoesOver-carried t j i s places w new sound stands at is nearly alone carries = record {
   went = carries.went;
   met = λ u also. let same : s ≡ u = cc in subst (λ (x : TypeState). IsMet t new.states j x) same is_met;
 } where
@@ -500,17 +547,18 @@ GoesOver-carried t j i s locals w new sound stands at is nearly alone carries = 
       Some-from_some_and (after_item t.program t.number t.code j nearly.before)
       (λ known. (next : ℕ) → IsNormalEdge t.code j next → FitsAt t.program new.states next known) met.meets.row
 
-  after : AfterAlike t j locals s row.0
-  after = after_alike t j i locals s nearly.before row.0 is nearly.alike (left_alone i s locals alone) row.1
+  after : AfterAlike t j places s row.0
+  after = after_alike t j i places s nearly.before row.0 is nearly.alike (longs_kept t new j s nearly.before kept met nearly.below)
+      (left_alone i (words_below t i s) s places alone) row.1
 
   on_handler : (h : Handler) → FitsHandler t.program t.number new.states j nearly.before h
-      → HandlerHasRoom t new.states j (map (rise_of s) locals) h → FitsHandler t.program t.number new.states j s h
+      → HandlerHasRoom t new.states j (locals_of (map (rise_of s) places)) h → FitsHandler t.program t.number new.states j s h
   on_handler h fitting room catches =
       let caught = Some-from_some_and (caught_type t.program t.number h) (λ c. FitsAt t.program new.states h.handler (handler_state c nearly.before))
       (fitting catches) in
       IsSomeAnd-from_some (caught_type t.program t.number h) (λ c. FitsAt t.program new.states h.handler (handler_state c s)) caught.0 caught.1
-      (room_fits t new.states h.handler locals s (handler_state caught.0 s) (handler_state caught.0 nearly.before)
-      (caught_alike locals s nearly.before caught.0 nearly.alike) caught.2 (room catches))
+      (room_fits t new.states h.handler (locals_in places) (slot_at s) (handler_state caught.0 s) (handler_state caught.0 nearly.before)
+      (caught_alike places s nearly.before caught.0 nearly.alike) caught.2 (local_room_at t new.states h.handler s places (room catches)))
 
   is_met : IsMet t new.states j s
   is_met = record {
@@ -521,10 +569,11 @@ GoesOver-carried t j i s locals w new sound stands at is nearly alone carries = 
       row = IsSomeAnd-from_some (after_item t.program t.number t.code j s)
           (λ given. (next : ℕ) → IsNormalEdge t.code j next → FitsAt t.program new.states next given) after.after after.is
           (λ next edge.
-          room_fits t new.states next locals s after.after row.0 after.carried (row.2 next edge)
-          (carries.items next (leads_to i j next (IsSomeAnd-at_some (insn_of t.code j) (λ x. LeadsTo x j next) i is edge.leads))));
+          room_fits t new.states next places (slot_at s) after.after row.0 after.carried (row.2 next edge)
+          (room_at t new.states next s places
+          (carries.items next (leads_to i j next (IsSomeAnd-at_some (insn_of t.code j) (λ x. LeadsTo x j next) i is edge.leads)))));
       handlers = both_by_recursion (FitsHandler t.program t.number new.states j nearly.before)
-          (HandlerHasRoom t new.states j (map (rise_of s) locals)) (FitsHandler t.program t.number new.states j s) on_handler t.code.handlers
+          (HandlerHasRoom t new.states j (locals_of (map (rise_of s) places))) (FitsHandler t.program t.number new.states j s) on_handler t.code.handlers
           met.meets.handlers carries.handlers;
     };
     inside = met.inside;

@@ -1,17 +1,19 @@
 -- Steps of the walk: what a state that is brought to an item shows, and what it leaves.
-use Rattle.std.proofs.Common.{◌≡◌, ◌≢◌, refl, sym, ◌∙◌, ap, inl, inr, ◌⊎◌, ⊎_elim, ℕ, zero, suc, ◌+◌, ◌<◌, ◌≤◌, ◌==◌, ◌&&◌, nat_le, Bool, true, false, List, [], ◌∷◌, ◌++◌, length, get_or, reverse, set, Option, Some, None, cond, Contains, subst, sum_by, arith, length-append, length-set}
+use Rattle.std.proofs.Common.{◌≡◌, ◌≢◌, refl, sym, ◌∙◌, ap, inl, inr, ◌⊎◌, ⊎_elim, ℕ, zero, suc, ◌+◌, ◌<◌, ◌≤◌, ◌==◌, ◌&&◌, nat_le, Bool, true, false, List, [], ◌∷◌, ◌++◌, length, map, get_or, reverse, set, Option, Some, None, cond, Contains, subst, sum_by, arith, length-append, length-set}
 use Rattle.std.proofs.lemmas.Bool.{and_from, and_parts, cases_eq, eq-eqb, eqb-true, false≢true, le-leb, leb-true}
-use Rattle.std.proofs.lemmas.List.{get_or-map, get_or-set_same, get_or-set_other, length-reverse, reverse-reverse}
+use Rattle.std.proofs.lemmas.List.{get_or-map, get_or-set_same, get_or-set_other, length-reverse}
 use Rattle.std.specs.Option.{option_map}
 use Rattle.std.proofs.lemmas.List.Sums.{sum_by-set}
 use Rattle.std.proofs.lemmas.List.Elements.{Contains-append_left, Contains-append_right, Contains-push, Contains-push_cases}
 use Rattle.fm_base.proofs.OptionFacts.{IsSomeAnd-from_some, same_value, Some-from_some_and}
 use Rattle.fm_check.proofs.MergingLemmas.{AreLevel, fits-parts, IsStateJoin, join_state-least, join_state-some, state-refl, state-trans}
+use Rattle.fm_check.proofs.PlaceLemmas.{same_slots}
 use Rattle.fm_check.proofs.RankLemmas.{state-less, state-within}
 use Rattle.fm_check.specs.inner.Merging.{join_state}
 use Rattle.fm_check.specs.inner.Ranks.{IsBoundedState, rank_at, state_rank}
-use Rattle.fm_check.specs.inner.Risen.{DifferIn, IsAlikeBut, IsRisenIn, noted}
+use Rattle.fm_check.specs.inner.Risen.{AreCarried, DifferIn, IsAlikeBut, IsRisenIn, known_state, noted}
 use Rattle.fm_check.specs.inner.Walks.{Brings, is_marked, is_within, IsForced, IsKept, IsSound, IsTracked, risen_at, Rises, Stands, states_seen, Task, Untypable, Walked, Went, with_state, with_waiting, work_left}
+use Rattle.fm_code.proofs.EdgesLemmas.{Contains-map}
 use Rattle.fm_code.specs.declared.code_array.Code.{Code}
 use Rattle.fm_flow.proofs.RowFacts.{has-set_only}
 use Rattle.fm_types.proofs.StateOrder.{Fitting}
@@ -19,19 +21,20 @@ use Rattle.fm_types.proofs.Zips.{zip-length}
 use Rattle.fm_types.specs.Fits.{AreTree}
 use Rattle.fm_types.specs.States.{local_at, state_fits, TypeState}
 use Rattle.fm_types.specs.Typed.{FitsAt, state_at}
-use Rattle.fm_types.specs.Typings.{type_state}
 use Rattle.fm_types.specs.declared.slots.Slot.{Slot}
-use Rattle.fm_types.specs.declared.states.State.{State}
+use Rattle.fm_check.specs.declared.known.Known.{Known}
+use Rattle.fm_check.specs.declared.known.Place.{Place}
+use Rattle.fm_check.specs.declared.known.Place.TheVariants as place
 use Rattle.fm_world.specs.Programs.{Outline}
 
 -- ---- states as they are seen
 
-pub state_seen : (states slice : List (Option State)) (j : ℕ) (o : Option TypeState) → slice ≡ states → o ≡ state_at (states_seen slice) j
+pub state_seen : (states slice : List (Option Known)) (j : ℕ) (o : Option TypeState) → slice ≡ states → o ≡ state_at (states_seen slice) j
     → state_at (states_seen states) j ≡ o
-state_seen states slice j o same is = ap (λ (xs : List (Option State)). state_at (states_seen xs) j) (sym same) ∙ sym is
+state_seen states slice j o same is = ap (λ (xs : List (Option Known)). state_at (states_seen xs) j) (sym same) ∙ sym is
 
 -- the same of a copy
-pub state_copied : (states slice : List (Option State)) (j : ℕ) (own copy : TypeState) → slice ≡ states → Some own ≡ state_at (states_seen slice) j → copy ≡ own
+pub state_copied : (states slice : List (Option Known)) (j : ℕ) (own copy : TypeState) → slice ≡ states → Some own ≡ state_at (states_seen slice) j → copy ≡ own
     → state_at (states_seen states) j ≡ Some copy
 state_copied states slice j own copy same is copied = state_seen states slice j (Some own) same is ∙ ap Some (sym copied)
 
@@ -136,10 +139,10 @@ with_waiting-waits item w marked = by_mark (is_marked w item) refl where
   by_mark false is = waits-pushed item w marked
 
 -- what an item's state is where it was looked up
-pub seen_read : (states : List (Option State)) (item : ℕ) (d : Option State) (state : State) → item < length states → d ≡ get_or states item d
-    → d ≡ Some state → state_at (states_seen states) item ≡ Some (type_state state)
+pub seen_read : (states : List (Option Known)) (item : ℕ) (d : Option Known) (state : Known) → item < length states → d ≡ get_or states item d
+    → d ≡ Some state → state_at (states_seen states) item ≡ Some (known_state state)
 seen_read states item d state inside read is =
-    get_or-map (option_map type_state) states item d None inside ∙ ap (option_map type_state) (sym read ∙ is)
+    get_or-map (option_map known_state) states item d None inside ∙ ap (option_map known_state) (sym read ∙ is)
 
 pub set_twice : {X : Type 0} (xs : List X) (k : ℕ) (x y : X) → set (set xs k x) k y ≡ set xs k y
 set_twice [] k x y = refl
@@ -155,74 +158,97 @@ same_locals (x ∷ xs) [] size each = absurd (omega (arith, size))
 same_locals (x ∷ xs) (y ∷ ys) size each =
     ap (λ z. z ∷ xs) (each 0) ∙ ap (λ zs. y ∷ zs) (same_locals xs ys (omega (arith, size)) (λ k. each (suc k)))
 
-pub no_places : (xs : List ℕ) → length xs ≡ 0 → xs ≡ []
-no_places [] none = refl
-no_places (x ∷ xs) none = absurd (omega (arith, none))
+-- words that differ in these places alone
+words-differ : (words : List ℕ) (xs ys a b : List Slot) → DifferIn words xs ys → xs ≡ reverse a → ys ≡ reverse b → DifferIn words (reverse a) (reverse b)
+words-differ words xs ys a b differ first second k without =
+    ap (λ zs. local_at zs k) (sym first) ∙ differ k without ∙ ap (λ zs. local_at zs k) second
 
--- stacks that differ in no place
-pub same_stack : (places : List ℕ) (xs ys a b : List Slot) → places ≡ [] → DifferIn places xs ys → xs ≡ reverse a → ys ≡ reverse b → length a ≡ length b
-    → a ≡ b
-same_stack places xs ys a b none differ first second size =
-    let long : length xs ≡ length ys = ap length first ∙ length-reverse a ∙ size ∙ sym (length-reverse b) ∙ ap length (sym second) in
-    let same : xs ≡ ys = same_locals xs ys long (λ k.
-    differ k (λ found.
-    let never : Contains [] k = subst (λ (zs : List ℕ). Contains zs k) none found in
-    let inside = never.1 in omega arith)) in
-    sym (reverse-reverse a) ∙ ap reverse (sym first ∙ same ∙ second) ∙ reverse-reverse b
-
--- states that differ in these locals alone
-pub alike-from_places : (places : List ℕ) (xs ys : List Slot) (after before : TypeState) → DifferIn places xs ys → xs ≡ after.locals → ys ≡ before.locals
-    → length after.locals ≡ length before.locals → after.stack ≡ before.stack → after.built ≡ before.built → IsAlikeBut places after before
-alike-from_places places xs ys after before differ first second size stack built = record {
+-- states that differ in these locals and words alone
+pub alike-from_places : (locals words : List ℕ) (places : List Place) (xs ys us vs : List Slot) (after before : TypeState)
+    → places ≡ map (λ k. place.Local k) locals ++ map (λ h. place.Word h) words
+    → DifferIn locals xs ys → xs ≡ after.locals → ys ≡ before.locals → DifferIn words us vs → us ≡ reverse after.stack → vs ≡ reverse before.stack
+    → length after.locals ≡ length before.locals → length after.stack ≡ length before.stack → after.built ≡ before.built
+    → IsAlikeBut places after before
+alike-from_places locals words places xs ys us vs after before is differ first second differing third fourth size deep built = record {
   locals = record {
     size = size;
     among = λ k within. refl;
-    apart = λ k without. ap (λ zs. local_at zs k) (sym first) ∙ differ k without ∙ ap (λ zs. local_at zs k) second;
+    apart = λ k without.
+        ap (λ zs. local_at zs k) (sym first)
+        ∙ differ k (λ found. without (among (place.Local k)
+        (Contains-append_left (map (λ k. place.Local k) locals) (map (λ h. place.Word h) words) (place.Local k)
+        (Contains-map (λ k. place.Local k) locals k found))))
+        ∙ ap (λ zs. local_at zs k) second;
   };
-  stack = stack;
+  words = record {
+    size = length-reverse after.stack ∙ deep ∙ sym (length-reverse before.stack);
+    among = λ h within. refl;
+    apart = λ h without.
+        words-differ words us vs after.stack before.stack differing third fourth h (λ found. without (among (place.Word h)
+        (Contains-append_right (map (λ k. place.Local k) locals) (map (λ h. place.Word h) words) (place.Word h)
+        (Contains-map (λ h. place.Word h) words h found))));
+  };
   built = built;
+} where
+  among : (p : Place) → Contains (map (λ k. place.Local k) locals ++ map (λ h. place.Word h) words) p → Contains places p
+  among p found = subst (λ (ps : List Place). Contains ps p) (sym is) found
+
+pub alike-refl : (places : List Place) (s : TypeState) → IsAlikeBut places s s
+alike-refl places s = record {
+  locals = same_slots (λ k. Contains places (place.Local k)) s.locals;
+  words = same_slots (λ h. Contains places (place.Word h)) (reverse s.stack);
+  built = refl;
 }
 
-pub alike-refl : (locals : List ℕ) (s : TypeState) → IsAlikeBut locals s s
-alike-refl locals s =
-    record { locals = record { size = refl; among = λ k within. refl; apart = λ k without. refl }; stack = refl; built = refl }
+-- slots that are alike but for fewer places
+slots-more : (P Q : ℕ → Type 0) (xs ys : List Slot) → ((k : ℕ) → P k → Q k) → AreCarried P (local_at xs) xs ys → AreCarried Q (local_at xs) xs ys
+slots-more P Q xs ys among h =
+    record { size = h.size; among = λ k within. refl; apart = λ k without. h.apart k (λ found. without (among k found)) }
 
--- states that are alike but for fewer locals
-pub alike-more : (few more : List ℕ) (s other : TypeState) → ((k : ℕ) → Contains few k → Contains more k) → IsAlikeBut few s other
+-- states that are
+pub alike-more : (few more : List Place) (s other : TypeState) → ((p : Place) → Contains few p → Contains more p) → IsAlikeBut few s other
     → IsAlikeBut more s other
 alike-more few more s other among h = record {
-  locals = record { size = h.locals.size; among = λ k within. refl; apart = λ k without. h.locals.apart k (λ found. without (among k found)) };
-  stack = h.stack;
+  locals = slots-more (λ k. Contains few (place.Local k)) (λ k. Contains more (place.Local k)) s.locals other.locals
+      (λ k found. among (place.Local k) found) h.locals;
+  words = slots-more (λ k. Contains few (place.Word k)) (λ k. Contains more (place.Word k)) (reverse s.stack) (reverse other.stack)
+      (λ k found. among (place.Word k) found) h.words;
   built = h.built;
 }
 
-pub alike-then : (few more : List ℕ) (a b c : TypeState) → ((k : ℕ) → Contains few k → Contains more k) → IsAlikeBut more a b → IsAlikeBut few b c
-    → IsAlikeBut more a c
-alike-then few more a b c among first second = record {
-  locals = record {
-    size = first.locals.size ∙ second.locals.size;
-    among = λ k within. refl;
-    apart = λ k without. first.locals.apart k without ∙ second.locals.apart k (λ found. without (among k found));
-  };
-  stack = first.stack ∙ second.stack;
-  built = first.built ∙ second.built;
+slots-then : (P : ℕ → Type 0) (xs ys zs : List Slot) → AreCarried P (local_at xs) xs ys → AreCarried P (local_at ys) ys zs
+    → AreCarried P (local_at xs) xs zs
+slots-then P xs ys zs first second = record {
+  size = first.size ∙ second.size;
+  among = λ k within. refl;
+  apart = λ k without. first.apart k without ∙ second.apart k without;
 }
 
+pub alike-then : (few more : List Place) (a b c : TypeState) → ((p : Place) → Contains few p → Contains more p) → IsAlikeBut more a b → IsAlikeBut few b c
+    → IsAlikeBut more a c
+alike-then few more a b c among first second =
+    let late = alike-more few more b c among second in
+    record {
+      locals = slots-then (λ k. Contains more (place.Local k)) a.locals b.locals c.locals first.locals late.locals;
+      words = slots-then (λ k. Contains more (place.Word k)) (reverse a.stack) (reverse b.stack) (reverse c.stack) first.words late.words;
+      built = first.built ∙ late.built;
+    }
+
 -- nothing rose since
-pub tracked-same : (w : Walked) (j : ℕ) (locals : List ℕ) (s : TypeState) → risen_at w j ≡ Some locals → state_at w.states j ≡ Some s
+pub tracked-same : (w : Walked) (j : ℕ) (locals : List Place) (s : TypeState) → risen_at w j ≡ Some locals → state_at w.states j ≡ Some s
     → IsTracked w j locals s
 tracked-same w j locals s known is =
     record { known = locals; before = s; is_known = known; was = is; among = λ k found. found; alike = alike-refl locals s }
 
 -- what is noted in all
-record NotedParts (known rose : Option (List ℕ)) (locals : List ℕ) : Type 0 where
-  early : List ℕ
-  late : List ℕ
+record NotedParts (known rose : Option (List Place)) (locals : List Place) : Type 0 where
+  early : List Place
+  late : List Place
   is_known : known ≡ Some early
   is_rose : rose ≡ Some late
   all : locals ≡ early ++ late
 
-noted-parts : (most : ℕ) (known rose : Option (List ℕ)) (locals : List ℕ) → noted most known rose ≡ Some locals → NotedParts known rose locals
+noted-parts : (most : ℕ) (known rose : Option (List Place)) (locals : List Place) → noted most known rose ≡ Some locals → NotedParts known rose locals
 noted-parts most None rose locals e = absurd cc
 noted-parts most (Some early) None locals e = absurd cc
 noted-parts most (Some early) (Some late) locals e = by_test (nat_le most (length early)) e where
@@ -230,14 +256,14 @@ noted-parts most (Some early) (Some late) locals e = by_test (nat_le most (lengt
   by_test true h = absurd cc
   by_test false h = record { early = early; late = late; is_known = refl; is_rose = refl; all = cc }
 
-pub noted-tracked : (w : Walked) (item most : ℕ) (rose : Option (List ℕ)) (new old : TypeState) → state_at w.states item ≡ Some old
-    → IsRisenIn rose new old → (locals : List ℕ) → noted most (risen_at w item) rose ≡ Some locals → IsTracked w item locals new
+pub noted-tracked : (w : Walked) (item most : ℕ) (rose : Option (List Place)) (new old : TypeState) → state_at w.states item ≡ Some old
+    → IsRisenIn rose new old → (locals : List Place) → noted most (risen_at w item) rose ≡ Some locals → IsTracked w item locals new
 noted-tracked w item most rose new old is risen locals e =
     let parts = noted-parts most (risen_at w item) rose locals e in
-    let in_all : (k : ℕ) → Contains parts.early k → Contains locals k = λ k found.
-    subst (λ (xs : List ℕ). Contains xs k) (sym parts.all) (Contains-append_left parts.early parts.late k found) in
-    let late_in_all : (k : ℕ) → Contains parts.late k → Contains locals k = λ k found.
-    subst (λ (xs : List ℕ). Contains xs k) (sym parts.all) (Contains-append_right parts.early parts.late k found) in
+    let in_all : (k : Place) → Contains parts.early k → Contains locals k = λ k found.
+    subst (λ (xs : List Place). Contains xs k) (sym parts.all) (Contains-append_left parts.early parts.late k found) in
+    let late_in_all : (k : Place) → Contains parts.late k → Contains locals k = λ k found.
+    subst (λ (xs : List Place). Contains xs k) (sym parts.all) (Contains-append_right parts.early parts.late k found) in
     record {
       known = parts.early;
       before = old;
@@ -259,7 +285,7 @@ given_at states item j s inside =
     (cases_eq j item)
 
 -- the same of what rose
-rise_given_at : (risen : List (Option (List ℕ))) (item j : ℕ) (rose : Option (List ℕ)) → item < length risen
+rise_given_at : (risen : List (Option (List Place))) (item j : ℕ) (rose : Option (List Place)) → item < length risen
     → ((j ≡ item) × (get_or (set risen item rose) j None ≡ rose)) ⊎ ((j ≢ item) × (get_or (set risen item rose) j None ≡ get_or risen j None))
 rise_given_at risen item j rose inside =
     ⊎_elim
@@ -268,7 +294,7 @@ rise_given_at risen item j rose inside =
     (cases_eq j item)
 
 -- what is given ranks below what was there
-given_less : (t : Task) (item : ℕ) (rose : Option (List ℕ)) (new : TypeState) (w : Walked) → item < length w.states
+given_less : (t : Task) (item : ℕ) (rose : Option (List Place)) (new : TypeState) (w : Walked) → item < length w.states
     → ((j : ℕ) → is_marked w j ≡ true → Contains w.waiting j)
     → state_rank t.program.outline new < rank_at t.program.outline t.code (state_at w.states item)
     → work_left t (with_state item rose new w) ≤ work_left t w
@@ -282,10 +308,10 @@ given_less t item rose new w inside marked less =
     omega arith
 
 -- a state that is new, or above the old one
-pub Went-given : (t : Task) (item : ℕ) (rose : Option (List ℕ)) (new : TypeState) (w : Walked) → IsSound t → Stands t w → IsKept t item new → (item ≡ 0 → ⊥)
+pub Went-given : (t : Task) (item : ℕ) (rose : Option (List Place)) (new : TypeState) (w : Walked) → IsSound t → Stands t w → IsKept t item new → (item ≡ 0 → ⊥)
     → ((s : TypeState) → state_at w.states item ≡ Some s → state_fits t.program.outline s new ≡ true)
     → state_rank t.program.outline new < rank_at t.program.outline t.code (state_at w.states item)
-    → ((locals : List ℕ) → rose ≡ Some locals → IsTracked w item locals new)
+    → ((locals : List Place) → rose ≡ Some locals → IsTracked w item locals new)
     → Went t w (with_state item rose new w)
 Went-given t item rose new w sound stands kept later above less tracked =
     let put : Walked = record w { states = set w.states item (Some new); risen = set w.risen item rose } in
@@ -299,7 +325,7 @@ Went-given t item rose new w sound stands kept later above less tracked =
     let one_rise = stands.one_rise in
     let risen = λ (j : ℕ). rise_given_at w.risen item j rose (omega (arith, one, one_rise, inside)) in
     let rise_seen : (j : ℕ) → risen_at (with_state item rose new w) j ≡ get_or (set w.risen item rose) j None =
-    λ j. ap (λ (xs : List (Option (List ℕ))). get_or xs j None) waits.risen in
+    λ j. ap (λ (xs : List (Option (List Place))). get_or xs j None) waits.risen in
     let rise_kept : (j : ℕ) → j ≢ item → risen_at (with_state item rose new w) j ≡ risen_at w j =
     λ j apart. rise_seen j ∙ get_or-set_other w.risen item j rose None apart in
     record {
@@ -356,10 +382,10 @@ Went-given t item rose new w sound stands kept later above less tracked =
     }
 
 -- and a state that fits it was brought
-Brings-given : (t : Task) (item : ℕ) (rose : Option (List ℕ)) (s new : TypeState) (w : Walked) → IsSound t → Stands t w → IsKept t item new → (item ≡ 0 → ⊥)
+Brings-given : (t : Task) (item : ℕ) (rose : Option (List Place)) (s new : TypeState) (w : Walked) → IsSound t → Stands t w → IsKept t item new → (item ≡ 0 → ⊥)
     → ((s : TypeState) → state_at w.states item ≡ Some s → state_fits t.program.outline s new ≡ true) → state_fits t.program.outline s new ≡ true
     → state_rank t.program.outline new < rank_at t.program.outline t.code (state_at w.states item)
-    → ((locals : List ℕ) → rose ≡ Some locals → IsTracked w item locals new)
+    → ((locals : List Place) → rose ≡ Some locals → IsTracked w item locals new)
     → Brings t item s w (with_state item rose new w)
 Brings-given t item rose s new w sound stands kept later above fits less tracked =
     let waits = with_waiting-waits item (record w { states = set w.states item (Some new); risen = set w.risen item rose }) stands.marked in
@@ -460,7 +486,7 @@ joined_less t s old joined sound bounded join unfit =
       by_fit true e = absurd (false≢true (sym unfit ∙ state-trans t.program.outline sound.tree s joined old join.second e))
 
 -- a state that is joined
-pub Brings-joined : (t : Task) (item most : ℕ) (rose : Option (List ℕ)) (s old joined : TypeState) (w : Walked) → IsSound t → Stands t w → IsForced t item s → (item ≡ 0 → ⊥)
+pub Brings-joined : (t : Task) (item most : ℕ) (rose : Option (List Place)) (s old joined : TypeState) (w : Walked) → IsSound t → Stands t w → IsForced t item s → (item ≡ 0 → ⊥)
     → state_at w.states item ≡ Some old → join_state t.program.outline old s ≡ Some joined → IsBoundedState old
     → state_fits t.program.outline s old ≡ false → IsRisenIn rose joined old
     → Brings t item s w (with_state item (noted most (risen_at w item) rose) joined w)

@@ -1,5 +1,5 @@
-// Carrying on the locals of an item that rose, where nothing else did and the item's row leaves them alone:
-// what they cost is told by their number, and not by that of all locals.
+// Carrying on what rose at places of an item that its row leaves alone, where nothing else rose: what it
+// costs is told by the number of these places, and not by that of all locals and words.
 
 ghost use Rattle.std.specs.Prelude.{ℕ, Contains, IfOk, MatchBool};
 ghost use Rattle.fm_check.specs.inner.Walks.{CanCarry, CanCarryOne, Carries, CarriesAll, CarriesCaught, CarriesHandlers, CarriesOn, CarriesOne, IsReady, IsSound, Stands, Untypable, task, walked};
@@ -8,16 +8,16 @@ ghost use Rattle.fm_code.specs.declared.code_array.Handler.{Handler as HandlerSp
 
 use crate::merging::law_bounded;
 use crate::method::Method;
-use crate::risen::{Rise, local_at};
+use crate::risen::{Rise, is_lost, locals_of};
 use crate::steps::next_items;
-use crate::walk::{Walk, state_of};
+use crate::walk::{Walk, most_noted, state_of};
 use fm_base::NoMemory;
 use fm_code::{Handler, Insn};
 use fm_types::{fits, join};
 use std::alloc::Global;
 
 impl Walk {
-    // Carries a local to an item; false where no typing has room for it.
+    // Carries a slot to a place of an item; false where no typing has room for it.
     fn carry(
         &mut self,
         alloc: Global,
@@ -35,7 +35,7 @@ impl Walk {
         let Some(state) = state_of(self.states.as_slice(), item) else {
             return Ok(true);
         };
-        let own = local_at(state, rise.local);
+        let own = state.slot_at(rise.place);
         if fits(method.program, rise.slot, own) {
             return Ok(true);
         }
@@ -44,12 +44,14 @@ impl Walk {
         }
         law_bounded(own);
         let joined = join(method.program, own, rise.slot);
-        let most = usize::from(method.code.max_locals);
-        self.raise_local(alloc, item, rise.local, joined, most)?;
+        if is_lost(rise.place, joined) {
+            return Ok(false);
+        }
+        self.raise_slot(alloc, item, rise.place, joined, most_noted(method.code))?;
         Ok(true)
     }
 
-    // Carries locals to an item.
+    // Carries slots to places of an item.
     fn carry_all(
         &mut self,
         alloc: Global,
@@ -72,7 +74,7 @@ impl Walk {
         Ok(true)
     }
 
-    // Carries locals of an item to the handler of an entry whose range holds the item.
+    // Carries slots to the handler of an entry whose range holds the item.
     fn carry_caught(
         &mut self,
         alloc: Global,
@@ -125,7 +127,7 @@ impl Walk {
         Ok(true)
     }
 
-    // Carries locals to each item of the list.
+    // Carries slots to each item of the list.
     fn carry_to_all(
         &mut self,
         alloc: Global,
@@ -149,8 +151,8 @@ impl Walk {
         Ok(true)
     }
 
-    /// Carries locals of an item, which its row leaves alone, to its handlers and to the items that
-    /// follow it; false where no typing has room for them.
+    /// Carries what stands at places of an item, which its row leaves alone, to the items that follow it,
+    /// and to its handlers where it is a local's; false where no typing has room for them.
     pub fn carry_on(
         &mut self,
         alloc: Global,
@@ -168,7 +170,8 @@ impl Walk {
             (Untypable (task method.now))) }
     {
         let handlers = method.code.handlers.as_slice();
-        if !self.carry_to_handlers(alloc, method, item, handlers, rises)? {
+        let locals = locals_of(alloc, rises)?;
+        if !self.carry_to_handlers(alloc, method, item, handlers, locals.as_slice())? {
             return Ok(false);
         }
         let items = next_items(alloc, insn, item)?;

@@ -1,10 +1,11 @@
 // The checker's one call.
 
-ghost use Rattle.std.specs.Prelude.{◌≡◌, ℕ, ◌<◌, ◌-◌, ◌++◌, Err, IfOk, IsSomeAnd, MatchOption, OnOk, length, replicate};
-ghost use Rattle.std.specs.Option.{option_copied};
+ghost use Rattle.std.specs.Prelude.{◌≡◌, ℕ, ◌<◌, ◌-◌, ◌++◌, Err, IfOk, IsSomeAnd, MatchOption, OnOk, length, map, replicate};
+ghost use Rattle.std.specs.Option.{option_copied, option_map};
 ghost use Rattle.fm_check.specs.Checking.{HasCode, IsCheckable, IsLeastTyping, IsNarrow, IsTooWide, coded};
 ghost use Rattle.fm_check.specs.inner.Judgements.{Judged};
-ghost use Rattle.fm_check.specs.inner.Walks.{IsLeast, IsSound, Untypable, task};
+ghost use Rattle.fm_check.specs.inner.Risen.{known_state};
+ghost use Rattle.fm_check.specs.inner.Walks.{IsLeast, IsSound, Untypable, states_seen, task};
 ghost use Rattle.std.specs.List.{flat_map};
 ghost use Rattle.fm_code.specs.AccessFlags.{is_static};
 ghost use Rattle.fm_types.specs.Named.{parameters_of};
@@ -16,6 +17,7 @@ ghost use Rattle.fm_world.specs.Members.{method_at, methods_of};
 ghost use Rattle.fm_world.specs.Programs.{code_at, method_info};
 
 use crate::error::CheckFail;
+use crate::known::Known;
 use crate::method::Method;
 use crate::walk::{Walk, is_within};
 use fm_base::limits::{MAX_LOCAL_WORDS, MAX_STACK_WORDS};
@@ -103,13 +105,32 @@ fn typing_of(alloc: Global, method: &Method<'_>) -> Result<Option<Typing>, NoMem
         return Ok(None);
     }
     let mut walk = Walk::new(alloc, method.code.items.len())?;
-    walk.begin(0, first)?;
+    walk.begin(0, Known::new(alloc, &first)?)?;
     if !walk.run(alloc, method)? {
         return Ok(None);
     }
     Ok(Some(Typing {
-        states: Seq::new(walk.states),
+        states: Seq::new(typed_states(alloc, walk.states)?),
     }))
+}
+
+// The states that are known, as a typing has them.
+fn typed_states(alloc: Global, states: Vec<Option<Known>>) -> Result<Vec<Option<State>>, NoMemory>
+    ensures { IfOk result
+        (λ typed. map (option_map type_state) typed.items ≡ states_seen states.items) }
+{
+    let mut typed = Vec::with_capacity(alloc, states.len())?;
+    for known in states {
+        typed.push(state_of(known))?;
+    }
+    Ok(typed)
+}
+
+// The state that is known, if one is.
+fn state_of(known: Option<Known>) -> Option<State>
+    ensures { option_map type_state result ≡ option_map known_state known }
+{
+    known.map(Known::into_state)
 }
 
 // Whether the method is static.
@@ -122,9 +143,9 @@ fn is_static(program: &Program, method: MethodId) -> bool
     has_flag(program.method(method).flags, ACC_STATIC)
 }
 
-// The words of the parameters.
+/// The words of the parameters.
 #[tactic(auto, unfolding(fm_world::specs::Programs::method_info))]
-fn parameter_slots(
+pub fn parameter_slots(
     alloc: Global,
     program: &Program,
     method: MethodId,

@@ -5,6 +5,8 @@
 mod carrying;
 mod checking;
 mod error;
+mod frames;
+mod known;
 mod merging;
 mod method;
 mod risen;

@@ -1,90 +1,67 @@
-// What rose at an item: local variables alone, or more; and which of them the item's row leaves alone.
+// What rose at an item: some places, or more.
 
-ghost use Rattle.std.specs.Prelude.{◌≡◌, ◌≤◌, All, IfOk, IsTrue, OnOk, length, map};
-ghost use Rattle.fm_check.specs.inner.Risen.{DifferIn, IsLeftAlone, IsPlaced, IsRisenIn, are_apart, is_bare, leaves_alone, noted, rise_of};
-ghost use Rattle.fm_types.specs.States.{local_at};
+ghost use Rattle.std.specs.Prelude.{◌≡◌, ◌≤◌, IfOk, OnOk, length, map};
+ghost use Rattle.fm_check.specs.inner.Risen.{DifferIn, IsPlaced, IsRisenIn, is_local, is_lost, known_state, locals_of, noted, rise_of};
+ghost use Rattle.fm_check.specs.declared.known.Place.TheVariants as place;
 ghost use Rattle.fm_types.specs.Typings.{type_state};
 
+use crate::known::{Known, Place};
 use fm_base::{NoMemory, Seq};
-use fm_code::Insn;
 use fm_types::{Slot, State};
 use std::alloc::Global;
 
-/// A local variable that rose, and what it holds now.
+/// A place at which something rose, and what stands there now.
 #[derive(Clone, Copy)]
 pub struct Rise {
-    /// Its number.
-    pub local: u16,
-    /// What it holds.
+    /// Where it rose.
+    pub place: Place,
+    /// What stands there.
     pub slot: Slot,
 }
 
-/// What the local of this number holds; `Top` past the last one.
-pub fn local_at(state: &State, local: u16) -> Slot
-    ensures { result ≡ local_at (type_state state.now).locals local }
-{
-    match state.locals.get(usize::from(local)) {
-        Some(slot) => *slot,
-        None => Slot::Top,
-    }
-}
-
-/// What these locals hold, in their order.
-pub fn rises_of(alloc: Global, state: &State, locals: &[u16]) -> Result<Vec<Rise>, NoMemory>
+/// What stands at these places, in their order.
+pub fn rises_of(alloc: Global, known: &Known, places: &[Place]) -> Result<Vec<Rise>, NoMemory>
     ensures { IfOk result
-        (λ rises. rises.items ≡ map (rise_of (type_state state.now)) locals.now) }
+        (λ rises. rises.items ≡ map (rise_of (known_state known.now)) places.now) }
 {
-    let mut rises = Vec::with_capacity(alloc, locals.len())?;
-    for local in locals {
+    let mut rises = Vec::with_capacity(alloc, places.len())?;
+    for place in places {
         rises.push(Rise {
-            local: *local,
-            slot: local_at(state, *local),
+            place: *place,
+            slot: known.slot_at(*place),
         })?;
     }
     Ok(rises)
 }
 
-// Whether neither local is the other one, or beside it.
-fn are_apart(k: u16, local: u16) -> bool
-    ensures { result ≡ are_apart k local }
+// Whether the place is a local's.
+fn is_local(place: Place) -> bool
+    ensures { result ≡ is_local place }
 {
-    let (k, local) = (u32::from(k), u32::from(local));
-    if k + 1 < local {
-        return true;
-    }
-    local + 1 < k
+    matches!(place, Place::Local(_))
 }
 
-// Whether it is an object that isn't initialised.
-fn is_bare(slot: Slot) -> bool
-    ensures { result ≡ is_bare slot }
+/// Those of them that are in locals, in their order.
+pub fn locals_of(alloc: Global, rises: &[Rise]) -> Result<Vec<Rise>, NoMemory>
+    ensures { IfOk result (λ locals. locals.items ≡ locals_of rises.now) }
 {
-    matches!(slot, Slot::Uninit(_) | Slot::UninitThis)
-}
-
-// Whether the row of the instruction neither looks at the local nor changes it.
-fn leaves_alone(insn: &Insn, rise: Rise) -> bool
-    ensures { result ≡ leaves_alone insn.now rise.local rise.slot }
-{
-    match insn {
-        Insn::Load(_, local) | Insn::Store(_, local) | Insn::Inc(local, _) => {
-            are_apart(rise.local, *local)
-        }
-        Insn::New(_) | Insn::Special(_) => !is_bare(rise.slot),
-        _ => true,
-    }
-}
-
-/// Whether the row of the instruction leaves each of these locals alone.
-pub fn all_left_alone(insn: &Insn, rises: &[Rise]) -> bool
-    ensures { IsTrue result → All (IsLeftAlone insn.now) rises.now }
-{
+    let mut locals = Vec::new(alloc);
     for rise in rises {
-        if !leaves_alone(insn, *rise) {
-            return false;
+        if is_local(rise.place) {
+            locals.push(*rise)?;
         }
     }
-    true
+    Ok(locals)
+}
+
+/// Whether it is a word of the stack of which nothing is known any longer.
+pub fn is_lost(place: Place, slot: Slot) -> bool
+    ensures { result ≡ is_lost place slot }
+{
+    match (place, slot) {
+        (Place::Word(_), Slot::Top) => true,
+        _ => false,
+    }
 }
 
 // Puts a place after the others where the slots that stand there aren't the same.
@@ -111,13 +88,35 @@ fn differing_places(alloc: Global, slots: &[Slot], others: &[Slot]) -> Result<Ve
     Ok(places)
 }
 
-/// The locals in which the second state differs from the first; none where it differs in more. They
+// These locals as places.
+fn local_places(alloc: Global, locals: &[u16]) -> Result<Vec<Place>, NoMemory>
+    ensures { IfOk result (λ places. places.items ≡ map (λ k. place.Local k) locals.now) }
+{
+    let mut places = Vec::with_capacity(alloc, locals.len())?;
+    for local in locals {
+        places.push(Place::Local(*local))?;
+    }
+    Ok(places)
+}
+
+// These words of the stack as places.
+fn word_places(alloc: Global, words: &[u16]) -> Result<Vec<Place>, NoMemory>
+    ensures { IfOk result (λ places. places.items ≡ map (λ h. place.Word h) words.now) }
+{
+    let mut places = Vec::with_capacity(alloc, words.len())?;
+    for word in words {
+        places.push(Place::Word(*word))?;
+    }
+    Ok(places)
+}
+
+/// The places at which the second state differs from the first; none where it differs in more. They
 /// have as many locals, and words of the stack.
-pub fn risen_locals(
+pub fn risen_places(
     alloc: Global,
     before: &State,
     after: &State,
-) -> Result<Option<Seq<u16>>, NoMemory>
+) -> Result<Option<Seq<Place>>, NoMemory>
     requires locals { length after.now.locals.items ≡ length before.now.locals.items }
     requires stack { length after.now.stack ≡ length before.now.stack }
     requires few_locals { length after.now.locals.items ≤ 65535 }
@@ -128,20 +127,20 @@ pub fn risen_locals(
         return Ok(None);
     }
     let words = differing_places(alloc, after.stack.as_slice(), before.stack.as_slice())?;
-    if !words.is_empty() {
-        return Ok(None);
-    }
-    let places = differing_places(alloc, after.locals.as_slice(), before.locals.as_slice())?;
+    let locals = differing_places(alloc, after.locals.as_slice(), before.locals.as_slice())?;
+    let mut places = local_places(alloc, locals.as_slice())?;
+    let others = word_places(alloc, words.as_slice())?;
+    places.extend_from_slice(others.as_slice())?;
     Ok(Some(Seq::new(places)))
 }
 
-/// What rose at an item in all, where at first this did and then that. So many locals are the most that
-/// are noted one by one.
+/// The places at which something rose at an item in all, where at first it did at these and then at
+/// those. So many places are the most that are noted one by one.
 pub fn noted(
     most: usize,
-    known: Option<Seq<u16>>,
-    rose: Option<Seq<u16>>,
-) -> Result<Option<Seq<u16>>, NoMemory>
+    known: Option<Seq<Place>>,
+    rose: Option<Seq<Place>>,
+) -> Result<Option<Seq<Place>>, NoMemory>
     ensures { IfOk result (λ all. all ≡ noted most known rose) }
 {
     let Some(known) = known else {

@@ -10,8 +10,10 @@ ghost use Rattle.fm_types.specs.Typed.{caught_type, handler_state};
 ghost use Rattle.fm_types.specs.Typings.{type_state};
 ghost use Rattle.fm_world.specs.Members.{methods_of};
 
+use crate::frames::{all_left_alone, words_taken};
+use crate::known::Place;
 use crate::method::Method;
-use crate::risen::{all_left_alone, rises_of};
+use crate::risen::rises_of;
 use crate::walk::{Walk, state_of};
 use fm_base::{NoMemory, Seq, TypeRef};
 use fm_code::{Code, Handler, Insn};
@@ -234,7 +236,7 @@ impl Walk {
         let Some(own) = state_of(self.states.as_slice(), item) else {
             return Ok(true);
         };
-        let mut state = own.copy(alloc)?;
+        let mut state = own.to_state(alloc)?;
         let handlers = method.code.handlers.as_slice();
         if !self.bring_to_handlers(alloc, method, item, handlers, &state)? {
             return Ok(false);
@@ -253,15 +255,15 @@ impl Walk {
         self.bring_on(alloc, method, item, insn, &state)
     }
 
-    // Goes over one item that waited, at which this rose since it was last gone over: only locals that
-    // rose and that its row leaves alone are carried on, or else its whole state is. False where no typing
+    // Goes over one item that waited, at which this rose since it was last gone over: only places that
+    // its row leaves alone are carried on, or else its whole state is. False where no typing
     // has room for what it brings.
     fn go_over(
         &mut self,
         alloc: Global,
         method: &Method<'_>,
         item: u32,
-        risen: Option<Seq<u16>>,
+        risen: Option<Seq<Place>>,
     ) -> Result<bool, NoMemory>
         requires sound { IsSound (task method.now) }
         requires stands { Stands (task method.now) (walked self.old) }
@@ -275,9 +277,13 @@ impl Walk {
             return Ok(true);
         };
         let insn = &method.code.items.as_slice()[item as usize].insn;
-        if let Some(locals) = &risen {
-            let rises = rises_of(alloc, own, locals.as_slice())?;
-            if all_left_alone(insn, rises.as_slice()) {
+        if let Some(places) = &risen {
+            let rises = rises_of(alloc, own, places.as_slice())?;
+            let below = own
+                .words
+                .len()
+                .saturating_sub(words_taken(alloc, method, insn)?);
+            if all_left_alone(insn, below, rises.as_slice()) {
                 return self.carry_on(alloc, method, item, insn, rises.as_slice());
             }
         }

@@ -4,15 +4,16 @@
 
 ghost use Rattle.std.specs.Prelude.{◌≡◌, ℕ, ◌<◌, ◌≤◌, None, replicate, IfOk, IfSome, IsNone, MatchBool, OnOk, Some, [], ◌∷◌, Contains, if◌then◌else◌, length, slice_set};
 ghost use Rattle.std.specs.Option.{option_copied, option_map};
-ghost use Rattle.fm_check.specs.inner.Walks.{Brings, IsForced, IsKept, IsSound, Pops, Stands, Untypable, is_within, not_begun, risen_at, states_seen, task, walked, with_local, with_risen, with_state, with_waiting};
-ghost use Rattle.fm_check.specs.inner.Risen.{noted};
+ghost use Rattle.fm_check.specs.inner.Walks.{Brings, IsForced, IsKept, IsSound, Pops, Stands, Untypable, is_within, not_begun, risen_at, states_seen, task, walked, with_risen, with_state, with_waiting};
+ghost use Rattle.fm_check.specs.inner.Risen.{HasPlace, known_state, noted, with_slot};
 ghost use Rattle.fm_types.specs.States.{TypeState};
 ghost use Rattle.fm_types.specs.Typed.{state_at};
 ghost use Rattle.fm_types.specs.Typings.{type_state};
 
+use crate::known::{Known, Place};
 use crate::merging::{join_state, law_bounded_state, state_fits};
 use crate::method::Method;
-use crate::risen::{noted, risen_locals};
+use crate::risen::{noted, risen_places};
 use fm_base::{NoMemory, Seq};
 use fm_code::Code;
 use fm_types::{Slot, State};
@@ -23,15 +24,15 @@ use std::mem;
 #[derive(Drop)]
 pub struct Walk {
     /// One for each item; none where none was brought yet.
-    pub states: Vec<Option<State>>,
+    pub states: Vec<Option<Known>>,
     waiting: Vec<u32>,
     is_waiting: Vec<bool>,
-    // Of each item the locals that rose since it was gone over; none where more rose than these.
-    risen: Vec<Option<Seq<u16>>>,
+    // Of each item the places at which something rose since it was gone over; none where more rose.
+    risen: Vec<Option<Seq<Place>>>,
 }
 
 // So many items without a state.
-fn no_states(alloc: Global, items: usize) -> Result<Vec<Option<State>>, NoMemory>
+fn no_states(alloc: Global, items: usize) -> Result<Vec<Option<Known>>, NoMemory>
     ensures { IfOk result (λ states. states_seen states.items ≡ replicate items None) }
 {
     let mut states = Vec::with_capacity(alloc, items)?;
@@ -42,8 +43,8 @@ fn no_states(alloc: Global, items: usize) -> Result<Vec<Option<State>>, NoMemory
 }
 
 /// The state of an item, if it has one.
-pub fn state_of(states: &[Option<State>], item: u32) -> Option<&State>
-    ensures { option_map type_state (option_copied result)
+pub fn state_of(states: &[Option<Known>], item: u32) -> Option<&Known>
+    ensures { option_map known_state (option_copied result)
         ≡ state_at (states_seen states.now) item }
 {
     match states.get(item as usize) {
@@ -53,16 +54,16 @@ pub fn state_of(states: &[Option<State>], item: u32) -> Option<&State>
 }
 
 // Gives an item a state.
-fn put(states: &mut Vec<Option<State>>, item: u32, state: State)
+fn put(states: &mut Vec<Option<Known>>, item: u32, known: Known)
     requires { item < length states.old.items }
     ensures { states_seen states.new.items
-        ≡ slice_set (states_seen states.old.items) item (Some (type_state state)) }
+        ≡ slice_set (states_seen states.old.items) item (Some (known_state known)) }
 {
-    states[item as usize] = Some(state);
+    states[item as usize] = Some(known);
 }
 
 // So many items of which nothing is carried on yet.
-fn nothing_noted(alloc: Global, items: usize) -> Result<Vec<Option<Seq<u16>>>, NoMemory>
+fn nothing_noted(alloc: Global, items: usize) -> Result<Vec<Option<Seq<Place>>>, NoMemory>
     ensures { IfOk result (λ risen. risen.items ≡ replicate items None) }
 {
     let mut risen = Vec::with_capacity(alloc, items)?;
@@ -72,16 +73,16 @@ fn nothing_noted(alloc: Global, items: usize) -> Result<Vec<Option<Seq<u16>>>, N
     Ok(risen)
 }
 
-// Puts a slot into a local of an item's state, where it has one.
-fn put_local(states: &mut Vec<Option<State>>, item: u32, local: u16, slot: Slot)
+// Puts a slot at a place of an item's state, where it has one.
+fn put_slot(states: &mut Vec<Option<Known>>, item: u32, place: Place, slot: Slot)
     requires item { item < length states.old.items }
-    requires local { (s : TypeState) → state_at (states_seen states.old.items) item ≡ Some s
-        → local < length s.locals }
+    requires place { (s : TypeState) → state_at (states_seen states.old.items) item ≡ Some s
+        → HasPlace s place }
     ensures { states_seen states.new.items ≡ slice_set (states_seen states.old.items) item
-        (option_map (with_local local slot) (state_at (states_seen states.old.items) item)) }
+        (option_map (with_slot place slot) (state_at (states_seen states.old.items) item)) }
 {
-    if let Some(state) = &mut states[item as usize] {
-        state.locals[usize::from(local)] = slot;
+    if let Some(known) = &mut states[item as usize] {
+        known.set(place, slot);
     }
 }
 
@@ -91,6 +92,11 @@ pub fn is_within(code: &Code, state: &State) -> bool
 {
     state.locals.len() == usize::from(code.max_locals)
         && state.stack.len() <= usize::from(code.max_stack)
+}
+
+/// The most places of an item that are noted one by one: as many as a state may have.
+pub fn most_noted(code: &Code) -> usize {
+    usize::from(code.max_locals) + usize::from(code.max_stack)
 }
 
 // So many words have numbers of 16 bits. It does nothing.
@@ -124,7 +130,7 @@ impl Walk {
     }
 
     // Notes that this rose at an item.
-    fn note(&mut self, item: u32, rose: Option<Seq<u16>>, most: usize) -> Result<(), NoMemory>
+    fn note(&mut self, item: u32, rose: Option<Seq<Place>>, most: usize) -> Result<(), NoMemory>
         requires { item < length (walked self.old).risen }
         ensures { OnOk result (walked self.new ≡ with_risen item
             (noted most (risen_at (walked self.old) item) rose) (walked self.old)) }
@@ -135,14 +141,14 @@ impl Walk {
     }
 
     /// Gives an item its first state, and lets it wait.
-    pub fn begin(&mut self, item: u32, state: State) -> Result<(), NoMemory>
+    pub fn begin(&mut self, item: u32, known: Known) -> Result<(), NoMemory>
         requires states { item < length (walked self.old).states }
         requires marks { item < length (walked self.old).marks }
         requires risen { item < length (walked self.old).risen }
         ensures { OnOk result
-            (walked self.new ≡ with_state item None (type_state state) (walked self.old)) }
+            (walked self.new ≡ with_state item None (known_state known) (walked self.old)) }
     {
-        put(&mut self.states, item, state);
+        put(&mut self.states, item, known);
         self.risen[item as usize] = None;
         self.wait(item)
     }
@@ -151,44 +157,45 @@ impl Walk {
     fn raise_state(
         &mut self,
         item: u32,
-        state: State,
-        rose: Option<Seq<u16>>,
+        known: Known,
+        rose: Option<Seq<Place>>,
         most: usize,
     ) -> Result<(), NoMemory>
         requires states { item < length (walked self.old).states }
         requires marks { item < length (walked self.old).marks }
         requires risen { item < length (walked self.old).risen }
         ensures { OnOk result (walked self.new ≡ with_state item
-            (noted most (risen_at (walked self.old) item) rose) (type_state state)
+            (noted most (risen_at (walked self.old) item) rose) (known_state known)
             (walked self.old)) }
     {
-        put(&mut self.states, item, state);
+        put(&mut self.states, item, known);
         self.note(item, rose, most)?;
         self.wait(item)
     }
 
-    /// Gives a local of an item's state a slot that is above its own, and lets the item wait.
-    pub fn raise_local(
+    /// Puts a slot at a place of an item's state that is above what stands there, and lets the item
+    /// wait.
+    pub fn raise_slot(
         &mut self,
         alloc: Global,
         item: u32,
-        local: u16,
+        place: Place,
         slot: Slot,
         most: usize,
     ) -> Result<(), NoMemory>
         requires states { item < length (walked self.old).states }
         requires marks { item < length (walked self.old).marks }
         requires risen { item < length (walked self.old).risen }
-        requires local { (s : TypeState) → state_at (walked self.old).states item ≡ Some s
-            → local < length s.locals }
+        requires place { (s : TypeState) → state_at (walked self.old).states item ≡ Some s
+            → HasPlace s place }
         ensures { OnOk result ((s : TypeState) → state_at (walked self.old).states item ≡ Some s
             → walked self.new ≡ with_state item
-            (noted most (risen_at (walked self.old) item) (Some (local ∷ [])))
-            (with_local local slot s) (walked self.old)) }
+            (noted most (risen_at (walked self.old) item) (Some (place ∷ [])))
+            (with_slot place slot s) (walked self.old)) }
     {
         let mut rose = Seq::empty(alloc);
-        rose.push(local)?;
-        put_local(&mut self.states, item, local, slot);
+        rose.push(place)?;
+        put_slot(&mut self.states, item, place, slot);
         self.note(item, Some(rose), most)?;
         self.wait(item)
     }
@@ -207,7 +214,7 @@ impl Walk {
     }
 
     /// What rose at an item since it was gone over; from here on nothing did.
-    pub fn take_risen(&mut self, alloc: Global, item: u32) -> Option<Seq<u16>>
+    pub fn take_risen(&mut self, alloc: Global, item: u32) -> Option<Seq<Place>>
         requires { item < length (walked self.old).risen }
         ensures taken { result ≡ risen_at (walked self.old) item }
         ensures left { walked self.new ≡ with_risen item (Some []) (walked self.old) }
@@ -234,25 +241,27 @@ impl Walk {
         if !is_within(method.code, brought) {
             return Ok(false);
         }
-        let Some(state) = state_of(self.states.as_slice(), item) else {
-            let first = brought.copy(alloc)?;
+        let Some(known) = state_of(self.states.as_slice(), item) else {
+            let first = Known::new(alloc, brought)?;
             self.begin(item, first)?;
             return Ok(true);
         };
-        if state_fits(method.program, brought, state) {
+        let state = known.to_state(alloc)?;
+        if state_fits(method.program, brought, &state) {
             return Ok(true);
         }
         if item == 0 {
             return Ok(false);
         }
-        law_bounded_state(state);
+        law_bounded_state(&state);
         law_few(method.code.max_locals);
         law_few(method.code.max_stack);
-        let Some(joined) = join_state(alloc, method.program, state, brought)? else {
+        let Some(joined) = join_state(alloc, method.program, &state, brought)? else {
             return Ok(false);
         };
-        let rose = risen_locals(alloc, state, &joined)?;
-        self.raise_state(item, joined, rose, usize::from(method.code.max_locals))?;
+        let rose = risen_places(alloc, &state, &joined)?;
+        let raised = Known::new(alloc, &joined)?;
+        self.raise_state(item, raised, rose, most_noted(method.code))?;
         Ok(true)
     }
 }

@@ -7,6 +7,7 @@ use Rattle.fm_check.specs.inner.Walks.{IsLeast, Task, Untypable}
 use Rattle.fm_types.specs.Typings.{states_of}
 use Rattle.fm_types.specs.declared.states.Typing.{Typing}
 
+-- Ok has the least typing; TooWide and NotTyped come for their causes alone
 abbrev pub Judged : Task → Result Typing CheckFail → Type 0
 Judged t (Ok typing) = IsNarrow t.code × IsLeast t (states_of typing)
 Judged t (Err (fail.TooWide count)) = IsTooWide t.code count

@@ -13,28 +13,34 @@ use Rattle.fm_world.specs.Programs.{Outline}
 
 -- ---- slots whose numbers are within their bytes
 
+-- of a base
 abbrev pub IsBoundedBase : Base → Type 0
 IsBoundedBase (base.OfClass class) = class.0 < 2 ^ 32
 IsBoundedBase b = Unit {0}
 
+-- of a slot
 abbrev pub IsBounded : Slot → Type 0
 IsBounded (slot.Ref t) = (t.dims < 256) × IsBoundedBase t.base
 IsBounded (slot.Uninit item) = item < 2 ^ 32
 IsBounded s = Unit {0}
 
+-- of all slots of a state
 pub record IsBoundedState (s : TypeState) : Type 0 where
   pub locals : All IsBounded s.locals
   pub stack : All IsBounded s.stack
 
 -- ---- all of them, as a list
 
+-- the bases of types, with classes of so many numbers
 unfoldable pub bases_below : ℕ → List Base
 bases_below classes =
     (base.Boolean ∷ base.Byte ∷ base.Char ∷ base.Short ∷ base.Int ∷ base.Long ∷ []) ++ map of_class (range_with_len 0 classes)
 
+-- the types of these bases with so many dimensions
 abbrev pub types_with : List Base → ℕ → List Slot
 types_with bases dims = map (λ b. slot.Ref (record { dims = dims; base = b })) bases
 
+-- the slots of less dimensions, with classes and items of so many numbers
 unfoldable pub slots_below : ℕ → ℕ → List Slot
 slots_below dims numbers =
     (slot.Top ∷ slot.Int ∷ slot.Long ∷ slot.Null ∷ slot.UninitThis ∷ [])
@@ -51,9 +57,11 @@ rank o s = count_by (λ other. fits o s other) (slots_below 256 (2 ^ 32))
 unfoldable pub top_rank : ℕ
 top_rank = length (slots_below 256 (2 ^ 32))
 
+-- the ranks of slots, added up
 abbrev pub slots_rank : Outline → List Slot → ℕ
 slots_rank o slots = sum_by (rank o) slots
 
+-- the ranks of all slots of a state, and one where it is built
 abbrev pub state_rank : Outline → TypeState → ℕ
 state_rank o s = slots_rank o s.locals + slots_rank o s.stack + (if s.built then 1 else 0)
 

@@ -10,25 +10,26 @@ use Rattle.fm_code.specs.declared.code_array.Handler.{Handler}
 use Rattle.fm_code.specs.declared.instructions.Insn.{Insn}
 use Rattle.fm_check.specs.declared.method.Method.{Method}
 use Rattle.fm_check.specs.inner.Ranks.{rank_at}
-use Rattle.fm_check.specs.inner.Risen.{IsAlikeBut}
+use Rattle.fm_check.specs.inner.Risen.{IsAlikeBut, known_state, locals_of, slot_at}
+use Rattle.fm_check.specs.declared.known.Known.{Known}
+use Rattle.fm_check.specs.declared.known.Place.{Place}
 use Rattle.fm_check.specs.declared.risen.Rise.{Rise}
 use Rattle.fm_rows.specs.Members.{UsesNameMembers}
 use Rattle.fm_types.specs.Fits.{AreTree, fits}
-use Rattle.fm_types.specs.States.{is_whole, local_at, state_fits, TypeState}
+use Rattle.fm_types.specs.States.{is_whole, state_fits, TypeState}
 use Rattle.fm_types.specs.Typed.{entry_state, FitsAt, FitsHandler, IsTypingOf, MeetsItem, state_at}
-use Rattle.fm_types.specs.Typings.{type_state}
-use Rattle.fm_types.specs.declared.slots.Slot.{Slot}
-use Rattle.fm_types.specs.declared.states.State.{State}
 use Rattle.fm_world.specs.Members.{methods_of}
 use Rattle.fm_world.specs.Programs.{Outline, Program}
 
 -- ---- the method that is walked over
 
+-- a method with its code
 pub record Task : Type 0 where
   pub program : Program
   pub number : ℕ
   pub code : Code
 
+-- the method that the code walks over
 abbrev pub task : Method → Task
 task m = record { program = m.program.now; number = m.number.0; code = m.code.now }
 
@@ -56,33 +57,33 @@ pub record IsForced (t : Task) (j : ℕ) (s : TypeState) : Type 0 where
 abbrev pub is_within : Code → TypeState → Bool
 is_within code s = (length s.locals == code.max_locals) && nat_le (length s.stack) code.max_stack
 
+-- and it is within the counts of the method
 pub record IsKept (t : Task) (j : ℕ) (s : TypeState) : Type 0 where
   pub forced : IsForced t j s
   pub within : is_within t.code s ≡ true
 
 -- ---- the walk
 
--- of each item what rose since it was gone over: these locals, or more than locals
+-- of each item what rose since it was gone over: these places, or more than places
 pub record Walked : Type 0 where
   pub states : List (Option TypeState)
   pub waiting : List ℕ
   pub marks : List Bool
-  pub risen : List (Option (List ℕ))
+  pub risen : List (Option (List Place))
 
-abbrev pub states_seen : List (Option State) → List (Option TypeState)
-states_seen states = map (option_map type_state) states
+-- the states that are kept
+abbrev pub states_seen : List (Option Known) → List (Option TypeState)
+states_seen states = map (option_map known_state) states
 
+-- the walk as definitions speak of it
 abbrev pub walked : Walk → Walked
 walked w = record { states = states_seen w.states.items; waiting = w.waiting.items; marks = w.is_waiting.items; risen = w.risen.items }
-
--- the state with this slot in a local
-abbrev pub with_local : ℕ → Slot → TypeState → TypeState
-with_local k x s = record s { locals = slice_set s.locals k x }
 
 -- no item has a state yet
 abbrev pub not_begun : ℕ → Walked
 not_begun items = record { states = replicate items None; waiting = []; marks = replicate items false; risen = replicate items None }
 
+-- the item is marked as one that waits
 abbrev pub is_marked : Walked → ℕ → Bool
 is_marked w item = slice_index_or w.marks item false
 
@@ -92,15 +93,15 @@ with_waiting item w =
     if is_marked w item then w else record w { waiting = w.waiting ++ item ∷ []; marks = slice_set w.marks item true }
 
 -- what rose at an item
-abbrev pub risen_at : Walked → ℕ → Option (List ℕ)
+abbrev pub risen_at : Walked → ℕ → Option (List Place)
 risen_at w item = slice_index_or w.risen item None
 
 -- this is what rose there
-abbrev pub with_risen : ℕ → Option (List ℕ) → Walked → Walked
+abbrev pub with_risen : ℕ → Option (List Place) → Walked → Walked
 with_risen item rose w = record w { risen = slice_set w.risen item rose }
 
 -- the item has this state, and waits, since this rose
-abbrev pub with_state : ℕ → Option (List ℕ) → TypeState → Walked → Walked
+abbrev pub with_state : ℕ → Option (List Place) → TypeState → Walked → Walked
 with_state item rose s w =
     with_waiting item (record w { states = slice_set w.states item (Some s); risen = slice_set w.risen item rose })
 
@@ -132,14 +133,14 @@ pub record Stands (t : Task) (w : Walked) : Type 0 where
   pub marked : (j : ℕ) → is_marked w j ≡ true → Contains w.waiting j
   pub waiting : (j : ℕ) → Contains w.waiting j → j < length t.code.items
 
--- Where only locals rose at an item, fewer did before, and its state was the same but for those that did.
-pub record IsTracked (old : Walked) (j : ℕ) (locals : List ℕ) (s : TypeState) : Type 0 where
-  pub known : List ℕ
+-- Where something rose at places of an item, it did at fewer before, and its state was the same but for these.
+pub record IsTracked (old : Walked) (j : ℕ) (places : List Place) (s : TypeState) : Type 0 where
+  pub known : List Place
   pub before : TypeState
   pub is_known : risen_at old j ≡ Some known
   pub was : state_at old.states j ≡ Some before
-  pub among : (k : ℕ) → Contains known k → Contains locals k
-  pub alike : IsAlikeBut locals s before
+  pub among : (p : Place) → Contains known p → Contains places p
+  pub alike : IsAlikeBut places s before
 
 -- states only rise, items whose states do wait, and what rose there is noted
 pub record Rises (o : Outline) (old new : Walked) : Type 0 where
@@ -147,8 +148,9 @@ pub record Rises (o : Outline) (old new : Walked) : Type 0 where
   pub changed : (j : ℕ) → ((state_at new.states j ≡ state_at old.states j) × (risen_at new j ≡ risen_at old j)) ⊎ Contains new.waiting j
   pub still : (j : ℕ) → Contains old.waiting j → Contains new.waiting j
   pub tracks :
-      (j : ℕ) (locals : List ℕ) (s : TypeState) → risen_at new j ≡ Some locals → state_at new.states j ≡ Some s → IsTracked old j locals s
+      (j : ℕ) (places : List Place) (s : TypeState) → risen_at new j ≡ Some places → state_at new.states j ≡ Some s → IsTracked old j places s
 
+-- what each step of the walk leaves
 pub record Went (t : Task) (old new : Walked) : Type 0 where
   pub stands : Stands t new
   pub rises : Rises t.program.outline old new
@@ -205,16 +207,17 @@ pub record GoesOver (t : Task) (item : ℕ) (old new : Walked) : Type 0 where
   pub went : Went t old new
   pub met : (s : TypeState) → state_at old.states item ≡ Some s → IsMet t new.states item s
 
--- a state that was the same but for these locals met all that is asked of the item
-pub record IsNearlyMet (t : Task) (states : List (Option TypeState)) (locals : List ℕ) (j : ℕ) (s : TypeState) : Type 0 where
+-- a state below this one, and the same but for these places, met all that is asked of the item
+pub record IsNearlyMet (t : Task) (states : List (Option TypeState)) (places : List Place) (j : ℕ) (s : TypeState) : Type 0 where
   pub before : TypeState
   pub met : IsMet t states j before
-  pub alike : IsAlikeBut locals s before
+  pub alike : IsAlikeBut places s before
+  pub below : state_fits t.program.outline before s ≡ true
 
 -- what is known of an item's state where this rose since the item was gone over
-abbrev pub IsMetBut : Task → List (Option TypeState) → Option (List ℕ) → ℕ → Type 0
+abbrev pub IsMetBut : Task → List (Option TypeState) → Option (List Place) → ℕ → Type 0
 IsMetBut t states rose j =
-    (s : TypeState) (locals : List ℕ) → state_at states j ≡ Some s → rose ≡ Some locals → IsNearlyMet t states locals j s
+    (s : TypeState) (places : List Place) → state_at states j ≡ Some s → rose ≡ Some places → IsNearlyMet t states places j s
 
 -- each item with a state is met but for what rose there, and waits where something did
 pub record Walking (t : Task) (w : Walked) : Type 0 where
@@ -222,39 +225,39 @@ pub record Walking (t : Task) (w : Walked) : Type 0 where
   pub closed : (j : ℕ) → IsMetBut t w.states (risen_at w j) j
   pub quiet : (j : ℕ) (s : TypeState) → state_at w.states j ≡ Some s → (risen_at w j ≡ Some []) ⊎ Contains w.waiting j
 
--- ---- locals that are carried on
+-- ---- slots that are carried on
 
--- the item's state has room for a local that rose
+-- the item's state has room for a slot at its place
 abbrev pub HasRoom : Task → List (Option TypeState) → ℕ → Rise → Type 0
-HasRoom t states j rise = IsSomeAnd (state_at states j) (λ s. fits t.program.outline rise.slot (local_at s.locals rise.local) ≡ true)
+HasRoom t states j rise = IsSomeAnd (state_at states j) (λ s. fits t.program.outline rise.slot (slot_at s rise.place) ≡ true)
 
--- an item has a state, and in each typing one that a state fits which has this local
+-- an item has a state, and in each typing one that a state fits which has this slot at its place
 pub record CanCarryOne (t : Task) (w : Walked) (j : ℕ) (rise : Rise) : Type 0 where
   pub state : TypeState
   pub there : state_at w.states j ≡ Some state
   pub brought : TypeState
   pub forced : IsForced t j brought
-  pub local : local_at brought.locals rise.local ≡ rise.slot
+  pub slot : slot_at brought rise.place ≡ rise.slot
 
--- the same of several locals
+-- the same of several slots
 pub record CanCarry (t : Task) (w : Walked) (j : ℕ) (rises : List Rise) : Type 0 where
   pub state : TypeState
   pub there : state_at w.states j ≡ Some state
   pub brought : TypeState
   pub forced : IsForced t j brought
-  pub locals : All (λ rise. local_at brought.locals rise.local ≡ rise.slot) rises
+  pub slots : All (λ rise. slot_at brought rise.place ≡ rise.slot) rises
 
--- a local was carried to an item
+-- a slot was carried to an item
 pub record CarriesOne (t : Task) (item : ℕ) (rise : Rise) (old new : Walked) : Type 0 where
   pub went : Went t old new
   pub room : HasRoom t new.states item rise
 
--- several locals were carried to an item
+-- several slots were carried to an item
 pub record Carries (t : Task) (item : ℕ) (rises : List Rise) (old new : Walked) : Type 0 where
   pub went : Went t old new
   pub room : All (HasRoom t new.states item) rises
 
--- and to several items
+-- slots were carried to several items
 pub record CarriesAll (t : Task) (items : List ℕ) (rises : List Rise) (old new : Walked) : Type 0 where
   pub went : Went t old new
   pub room : (item : ℕ) → Contains items item → All (HasRoom t new.states item) rises
@@ -263,26 +266,26 @@ pub record CarriesAll (t : Task) (items : List ℕ) (rises : List Rise) (old new
 abbrev pub HandlerHasRoom : Task → List (Option TypeState) → ℕ → List Rise → Handler → Type 0
 HandlerHasRoom t states item rises h = Catches item h.handler h → All (HasRoom t states h.handler) rises
 
--- the locals of an item were carried to the handler of an entry whose range holds the item
+-- slots were carried to the handler of an entry whose range holds the item
 pub record CarriesCaught (t : Task) (item : ℕ) (rises : List Rise) (h : Handler) (old new : Walked) : Type 0 where
   pub went : Went t old new
   pub room : HandlerHasRoom t new.states item rises h
 
--- and to those of several entries
+-- slots were carried to the handlers of several entries
 pub record CarriesHandlers (t : Task) (item : ℕ) (rises : List Rise) (handlers : List Handler) (old new : Walked) : Type 0 where
   pub went : Went t old new
   pub room : AllByRecursion (HandlerHasRoom t new.states item rises) handlers
 
--- the handlers of an item, and the items that follow it, can take its locals
+-- the handlers of an item can take what stands in its locals, and the items that follow it what stands at its places
 pub record IsReady (t : Task) (w : Walked) (item : ℕ) (i : Insn) (rises : List Rise) : Type 0 where
   pub small : item < 65535
-  pub handlers : (h : Handler) → Contains t.code.handlers h → Catches item h.handler h → CanCarry t w h.handler rises
+  pub handlers : (h : Handler) → Contains t.code.handlers h → Catches item h.handler h → CanCarry t w h.handler (locals_of rises)
   pub items : (next : ℕ) → Contains (next_items i item) next → CanCarry t w next rises
 
--- the locals of an item were carried on
+-- what stands at places of an item was carried on
 pub record CarriesOn (t : Task) (item : ℕ) (i : Insn) (rises : List Rise) (old new : Walked) : Type 0 where
   pub went : Went t old new
-  pub handlers : AllByRecursion (HandlerHasRoom t new.states item rises) t.code.handlers
+  pub handlers : AllByRecursion (HandlerHasRoom t new.states item (locals_of rises)) t.code.handlers
   pub items : (next : ℕ) → Contains (next_items i item) next → All (HasRoom t new.states next) rises
 
 -- none waits any longer

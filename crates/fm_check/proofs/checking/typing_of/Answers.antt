@@ -1,7 +1,8 @@
-use Rattle.std.proofs.Common.{◌∙◌, sym, ap, subst, List, None, Option}
+use Rattle.std.proofs.Common.{◌∙◌, sym, ap, subst, List, map, None, Option}
+use Rattle.std.specs.Option.{option_map}
 use Rattle.fm_check.proofs.ItemLemmas.{entry_forced, match_true, settled-is_least, Walking-first}
 use Rattle.fm_check.proofs.WalkLemmas.{too_large}
-use Rattle.fm_check.specs.inner.Walks.{HasSettled, IsForced, IsLeast, not_begun, states_seen, task, Untypable, Walked, walked, Walking, with_state}
+use Rattle.fm_check.specs.inner.Walks.{HasSettled, IsForced, IsLeast, not_begun, task, Untypable, Walked, walked, Walking, with_state}
 use Rattle.fm_types.specs.States.{TypeState}
 use Rattle.fm_types.specs.Typings.{type_state}
 use Rattle.fm_types.specs.declared.states.State.{State}
@@ -18,7 +19,8 @@ pub run-requires-clause-walking : goal.run-requires-clause-walking
 run-requires-clause-walking c =
     let t = task c.args.method.now in
     let s = type_state c.in_ok-first.first in
-    let is = c.in_ok-begin.ensures ∙ ap (λ (w : Walked). with_state 0 None s w) (c.in_ok-walk.ensures ∙ ap not_begun c.len.ensures) in
+    let is = c.in_ok-begin.ensures ∙ ap (λ (x : TypeState). with_state 0 None x (walked c.in_ok-walk.walk)) c.in_ok-new.ensures
+    ∙ ap (λ (w : Walked). with_state 0 None s w) (c.in_ok-walk.ensures ∙ ap not_begun c.len.ensures) in
     let Of : Walked → Type 0 = λ w. Walking t w in
     subst Of (sym is) (Walking-first t s c.requires c.in_ok-first.ensures (sym c.is_within.ensures ∙ c.if-not-is_within.false))
 
@@ -27,5 +29,6 @@ returns c =
     let t = task c.args.method.now in
     let w = walked c.run.new.self in
     let settled = match_true (HasSettled t w) (Untypable t) c.in_ok-run.field-0 c.if-not-branch.false c.in_ok-run.ensures in
-    let Of : List (Option State) → Type 0 = λ xs. IsLeast t (states_seen xs) in
-    subst Of (sym c.new-2.ensures) (settled-is_least t w settled)
+    let Of : List (Option TypeState) → Type 0 = λ xs. IsLeast t xs in
+    subst Of (sym (ap (λ (xs : List (Option State)). map (option_map type_state) xs) c.new-3.ensures ∙ c.in_ok-typed_states.ensures))
+    (settled-is_least t w settled)

@@ -1,7 +1,8 @@
-use Rattle.std.proofs.Common.{◌∙◌, sym, ap, subst, Some, None}
+use Rattle.std.proofs.Common.{◌∙◌, sym, ap, subst, None}
 use Rattle.std.specs.Option.{option_map}
-use Rattle.fm_check.proofs.WalkLemmas.{Brings-first, Brings-fit, Brings-joined, few_locals, few_words, joined_level, no_join, state_seen, too_large}
-use Rattle.fm_check.specs.inner.Walks.{Brings, task, Walked, walked, with_state}
+use Rattle.fm_check.proofs.WalkLemmas.{Brings-first, Brings-fit, Brings-joined, few_locals, few_words, joined_level, no_join, state_copied, state_seen, too_large}
+use Rattle.fm_check.specs.inner.Risen.{known_state, noted}
+use Rattle.fm_check.specs.inner.Walks.{Brings, risen_at, task, Walked, walked, with_state}
 use Rattle.fm_types.specs.States.{TypeState}
 use Rattle.fm_types.specs.Typings.{type_state}
 use Rattle.fm_check.proofs.walk.Walk.bring.Goals as goal
@@ -23,44 +24,48 @@ returns-in_default c =
 
 pub returns-then-state_fits : goal.returns-then-state_fits
 returns-then-state_fits c =
-    let old = type_state c.in-Some.state.now in
-    let is = state_seen c.args.self.now.states.items c.as_slice.result.now c.args.item (Some old) c.as_slice.ensures.value c.in-Some.ensures in
+    let old = type_state c.in_ok-state.state in
+    let is = state_copied c.args.self.now.states.items c.as_slice.result.now c.args.item (known_state c.in-Some.known.now) old c.as_slice.ensures.value
+    c.in-Some.ensures c.in_ok-state.ensures in
     Brings-fit (task c.args.method.now) c.args.item (type_state c.args.brought.now) old (walked c.args.self.now) c.requires.sound c.requires.stands is
     (sym c.state_fits.ensures ∙ c.if-state_fits.true)
 
 pub returns-in_default-2 : goal.returns-in_default-2
 returns-in_default-2 c =
-    let old = type_state c.in-Some.state.now in
-    let is = state_seen c.args.self.now.states.items c.as_slice.result.now c.args.item (Some old) c.as_slice.ensures.value c.in-Some.ensures in
+    let old = type_state c.in_ok-state.state in
+    let is = state_copied c.args.self.now.states.items c.as_slice.result.now c.args.item (known_state c.in-Some.known.now) old c.as_slice.ensures.value
+    c.in-Some.ensures c.in_ok-state.ensures in
     no_join (task c.args.method.now) (walked c.args.self.now) c.args.item (type_state c.args.brought.now) old c.requires.sound c.requires.stands
     c.requires.forced is (sym c.in_ok-joined.ensures ∙ ap (option_map type_state) c.in_default-2.is)
 
-pub risen_locals-requires-clause-locals : goal.risen_locals-requires-clause-locals
-risen_locals-requires-clause-locals c =
+pub risen_places-requires-clause-locals : goal.risen_places-requires-clause-locals
+risen_places-requires-clause-locals c =
     let gives = sym c.in_ok-joined.ensures ∙ ap (option_map type_state) c.in-Some-2.is in
-    (joined_level c.args.method.now.program.now.outline (type_state c.in-Some.state.now) (type_state c.args.brought.now)
+    (joined_level c.args.method.now.program.now.outline (type_state c.in_ok-state.state) (type_state c.args.brought.now)
     (type_state c.in-Some-2.joined) c.requires.sound.tree gives).locals
 
-pub risen_locals-requires-clause-stack : goal.risen_locals-requires-clause-stack
-risen_locals-requires-clause-stack c =
+pub risen_places-requires-clause-stack : goal.risen_places-requires-clause-stack
+risen_places-requires-clause-stack c =
     let gives = sym c.in_ok-joined.ensures ∙ ap (option_map type_state) c.in-Some-2.is in
-    (joined_level c.args.method.now.program.now.outline (type_state c.in-Some.state.now) (type_state c.args.brought.now)
+    (joined_level c.args.method.now.program.now.outline (type_state c.in_ok-state.state) (type_state c.args.brought.now)
     (type_state c.in-Some-2.joined) c.requires.sound.tree gives).stack
 
-pub risen_locals-requires-clause-few_locals : goal.risen_locals-requires-clause-few_locals
-risen_locals-requires-clause-few_locals c =
-    let old = type_state c.in-Some.state.now in
-    let is = state_seen c.args.self.now.states.items c.as_slice.result.now c.args.item (Some old) c.as_slice.ensures.value c.in-Some.ensures in
+pub risen_places-requires-clause-few_locals : goal.risen_places-requires-clause-few_locals
+risen_places-requires-clause-few_locals c =
+    let old = type_state c.in_ok-state.state in
+    let is = state_copied c.args.self.now.states.items c.as_slice.result.now c.args.item (known_state c.in-Some.known.now) old c.as_slice.ensures.value
+    c.in-Some.ensures c.in_ok-state.ensures in
     let gives = sym c.in_ok-joined.ensures ∙ ap (option_map type_state) c.in-Some-2.is in
     let level = joined_level c.args.method.now.program.now.outline old (type_state c.args.brought.now) (type_state c.in-Some-2.joined)
     c.requires.sound.tree gives in
     few_locals (task c.args.method.now).code old (type_state c.in-Some-2.joined) level (c.requires.stands.each c.args.item old is).within
     c.law_few.ensures
 
-pub risen_locals-requires-clause-few_words : goal.risen_locals-requires-clause-few_words
-risen_locals-requires-clause-few_words c =
-    let old = type_state c.in-Some.state.now in
-    let is = state_seen c.args.self.now.states.items c.as_slice.result.now c.args.item (Some old) c.as_slice.ensures.value c.in-Some.ensures in
+pub risen_places-requires-clause-few_words : goal.risen_places-requires-clause-few_words
+risen_places-requires-clause-few_words c =
+    let old = type_state c.in_ok-state.state in
+    let is = state_copied c.args.self.now.states.items c.as_slice.result.now c.args.item (known_state c.in-Some.known.now) old c.as_slice.ensures.value
+    c.in-Some.ensures c.in_ok-state.ensures in
     let gives = sym c.in_ok-joined.ensures ∙ ap (option_map type_state) c.in-Some-2.is in
     let level = joined_level c.args.method.now.program.now.outline old (type_state c.args.brought.now) (type_state c.in-Some-2.joined)
     c.requires.sound.tree gives in
@@ -72,11 +77,14 @@ returns c =
     let t = task c.args.method.now in
     let w = walked c.args.self.now in
     let s = type_state c.args.brought.now in
-    let old = type_state c.in-Some.state.now in
+    let old = type_state c.in_ok-state.state in
     let joined = type_state c.in-Some-2.joined in
-    let is = state_seen c.args.self.now.states.items c.as_slice.result.now c.args.item (Some old) c.as_slice.ensures.value c.in-Some.ensures in
+    let is = state_copied c.args.self.now.states.items c.as_slice.result.now c.args.item (known_state c.in-Some.known.now) old c.as_slice.ensures.value
+    c.in-Some.ensures c.in_ok-state.ensures in
     let gives = sym c.in_ok-joined.ensures ∙ ap (option_map type_state) c.in-Some-2.is in
     let Done : Walked → Type 0 = λ x. Brings t c.args.item s w x in
-    subst Done (sym c.in_ok-raise_state.ensures)
-    (Brings-joined t c.args.item c.from.result c.in_ok-rose.rose s old joined w c.requires.sound c.requires.stands c.requires.forced
+    let raised = c.in_ok-raise_state.ensures
+    ∙ ap (λ (x : TypeState). with_state c.args.item (noted c.most_noted.result (risen_at w c.args.item) c.in_ok-rose.rose) x w) c.in_ok-raised.ensures in
+    subst Done (sym raised)
+    (Brings-joined t c.args.item c.most_noted.result c.in_ok-rose.rose s old joined w c.requires.sound c.requires.stands c.requires.forced
     c.if-item-eq0.false is gives c.law_bounded_state.ensures (sym c.state_fits.ensures ∙ c.if-state_fits.false) c.in_ok-rose.ensures)

@@ -2,6 +2,7 @@ use Rattle.std.proofs.Common.{◌∙◌, sym, ap, subst, List, None, Bool}
 use Rattle.std.specs.List.{slice_index_or}
 use Rattle.fm_check.proofs.ItemLemmas.{GoesOver-item, GoesOver-none, match_true, next_forced, ok_weaker, read_insn, row_unmet_at}
 use Rattle.fm_check.proofs.WalkLemmas.{state_copied, state_seen}
+use Rattle.fm_check.specs.inner.Risen.{known_state}
 use Rattle.fm_check.specs.inner.Walks.{BringsHandlers, BringsOn, GoesOver, task, Untypable, walked}
 use Rattle.fm_code.specs.declared.code_array.Handler.{Handler}
 use Rattle.fm_rows.specs.Outcomes.{outcome}
@@ -16,14 +17,14 @@ returns-in_default c =
 pub bring_to_handlers-requires-clause-forced : goal.bring_to_handlers-requires-clause-forced
 bring_to_handlers-requires-clause-forced c =
     let copy = type_state c.in_ok-state.state in
-    let at = state_copied c.args.self.now.states.items c.as_slice.result.now c.args.item (type_state c.in-Some.own.now) copy c.as_slice.ensures.value
+    let at = state_copied c.args.self.now.states.items c.as_slice.result.now c.args.item (known_state c.in-Some.own.now) copy c.as_slice.ensures.value
     c.in-Some.ensures c.in_ok-state.ensures in
     (c.requires.stands.each c.args.item copy at).forced
 
 pub returns-then-not-branch-2 : goal.returns-then-not-branch-2
 returns-then-not-branch-2 c =
     let copy = type_state c.in_ok-state.state in
-    let at = state_copied c.args.self.now.states.items c.as_slice.result.now c.args.item (type_state c.in-Some.own.now) copy c.as_slice.ensures.value
+    let at = state_copied c.args.self.now.states.items c.as_slice.result.now c.args.item (known_state c.in-Some.own.now) copy c.as_slice.ensures.value
     c.in-Some.ensures c.in_ok-state.ensures in
     row_unmet_at (task c.args.method.now) c.args.item copy c.requires.sound (c.requires.stands.each c.args.item copy at).forced
     (sym c.in_ok-apply.ensures ∙ ap (λ (b : Bool). outcome b c.apply.new.state) c.if-not-branch-2.true)
@@ -31,7 +32,7 @@ returns-then-not-branch-2 c =
 pub bring_on-requires-clause-item : goal.bring_on-requires-clause-item
 bring_on-requires-clause-item c =
     let copy = type_state c.in_ok-state.state in
-    let at = state_copied c.args.self.now.states.items c.as_slice.result.now c.args.item (type_state c.in-Some.own.now) copy c.as_slice.ensures.value
+    let at = state_copied c.args.self.now.states.items c.as_slice.result.now c.args.item (known_state c.in-Some.own.now) copy c.as_slice.ensures.value
     c.in-Some.ensures c.in_ok-state.ensures in
     record {
       reachable = (c.requires.stands.each c.args.item copy at).forced.reachable;
@@ -41,7 +42,7 @@ bring_on-requires-clause-item c =
 pub bring_on-requires-clause-forced : goal.bring_on-requires-clause-forced
 bring_on-requires-clause-forced c = λ next leads inside.
     let copy = type_state c.in_ok-state.state in
-    let at = state_copied c.args.self.now.states.items c.as_slice.result.now c.args.item (type_state c.in-Some.own.now) copy c.as_slice.ensures.value
+    let at = state_copied c.args.self.now.states.items c.as_slice.result.now c.args.item (known_state c.in-Some.own.now) copy c.as_slice.ensures.value
     c.in-Some.ensures c.in_ok-state.ensures in
     let insn = (slice_index_or c.as_slice-2.result.now c.args.item c.index-as_slice-item.result).insn in
     let is = read_insn c.args.method.now.code.now c.as_slice-2.result.now c.args.item c.index-as_slice-item.result c.as_slice-2.ensures c.requires.inside in
@@ -57,7 +58,7 @@ returns c =
     let old = walked c.args.self.now in
     let middle = walked c.bring_to_handlers.new.self in
     let new = walked c.bring_on.new.self in
-    let at = state_copied c.args.self.now.states.items c.as_slice.result.now c.args.item (type_state c.in-Some.own.now) copy c.as_slice.ensures.value
+    let at = state_copied c.args.self.now.states.items c.as_slice.result.now c.args.item (known_state c.in-Some.own.now) copy c.as_slice.ensures.value
     c.in-Some.ensures c.in_ok-state.ensures in
     let insn = (slice_index_or c.as_slice-2.result.now c.args.item c.index-as_slice-item.result).insn in
     let is = read_insn c.args.method.now.code.now c.as_slice-2.result.now c.args.item c.index-as_slice-item.result c.as_slice-2.ensures c.requires.inside in

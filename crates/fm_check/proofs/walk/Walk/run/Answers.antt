@@ -1,6 +1,7 @@
-use Rattle.std.proofs.Common.{◌∙◌, sym, ap, subst, ℕ, List, Option, None}
+use Rattle.std.proofs.Common.{◌∙◌, sym, ap, subst, List, Option, None}
 use Rattle.std.specs.List.{slice_index_or}
 use Rattle.fm_check.proofs.ItemLemmas.{match_true, popped-rise, Stands-taken, taken-inside, taken-met, takes-popped, waiting_marked, Walking-more}
+use Rattle.fm_check.specs.declared.known.Place.{Place}
 use Rattle.fm_check.specs.inner.Walks.{GoesOver, IsMetBut, task, Untypable, walked}
 use Rattle.fm_check.proofs.walk.Walk.run.Goals as goal
 
@@ -33,8 +34,8 @@ go_over-requires-clause-met c =
     let popped = walked c.next.new.self in
     let taken = walked c.take_risen-risen.new.self in
     let takes = takes-popped c.in-Some.item w popped taken c.in-Some.ensures.some c.take_risen-risen.ensures.left in
-    let same = c.take_risen-risen.ensures.taken ∙ ap (λ (risen : List (Option (List ℕ))). slice_index_or risen c.in-Some.item None) c.in-Some.ensures.some.risen in
-    subst (λ (rose : Option (List ℕ)). IsMetBut t taken.states rose c.in-Some.item) (sym same)
+    let same = c.take_risen-risen.ensures.taken ∙ ap (λ (risen : List (Option (List Place))). slice_index_or risen c.in-Some.item None) c.in-Some.ensures.some.risen in
+    subst (λ (rose : Option (List Place)). IsMetBut t taken.states rose c.in-Some.item) (sym same)
     (taken-met t c.in-Some.item w taken c.loop-item.invariant takes)
 
 pub loop-item-preserved : goal.loop-item-preserved
