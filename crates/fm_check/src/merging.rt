@@ -4,9 +4,11 @@ ghost use Rattle.std.specs.Prelude.{◌≡◌, All, IfOk, length};
 ghost use Rattle.std.specs.Option.{option_map};
 ghost use Rattle.fm_check.specs.inner.Merging.{have_same_sizes, join_slots, join_state};
 ghost use Rattle.fm_check.specs.inner.Ranks.{IsBounded, IsBoundedState};
+ghost use Rattle.fm_check.specs.inner.Risen.{known_state};
 ghost use Rattle.fm_types.specs.States.{all_fit, state_fits};
 ghost use Rattle.fm_types.specs.Typings.{type_state};
 
+use crate::known::Known;
 use fm_base::NoMemory;
 use fm_rows::is_whole;
 use fm_types::{Slot, Stack, State, fits, join};
@@ -36,18 +38,26 @@ fn have_same_sizes(a: &State, b: &State) -> bool
     a.locals.len() == b.locals.len() && a.stack.len() == b.stack.len()
 }
 
-/// Whether the first state fits the second.
-pub fn state_fits(program: &Program, a: &State, b: &State) -> bool
-    ensures { result ≡ state_fits program.now.outline (type_state a.now) (type_state b.now) }
+// Whether the state has as many locals and words of the stack as are known.
+fn have_known_sizes(a: &State, known: &Known) -> bool
+    ensures { result ≡ have_same_sizes (type_state a.now) (known_state known.now) }
 {
-    if !have_same_sizes(a, b) {
+    a.locals.len() == known.locals.len() && a.stack.len() == known.words.len()
+}
+
+/// Whether the state fits what is known.
+pub fn state_fits(program: &Program, a: &State, known: &Known) -> bool
+    ensures { result
+        ≡ state_fits program.now.outline (type_state a.now) (known_state known.now) }
+{
+    if !have_known_sizes(a, known) {
         return false;
     }
-    if b.built && !a.built {
+    if known.built && !a.built {
         return false;
     }
-    all_fit(program, a.locals.as_slice(), b.locals.as_slice())
-        && all_fit(program, a.stack.as_slice(), b.stack.as_slice())
+    all_fit(program, a.locals.as_slice(), known.locals.as_slice())
+        && all_fit(program, a.stack.as_slice(), known.words.as_slice())
 }
 
 // The joins of slots at the same places, in lists of one length.

@@ -246,13 +246,13 @@ impl Walk {
             self.begin(item, first)?;
             return Ok(true);
         };
-        let state = known.to_state(alloc)?;
-        if state_fits(method.program, brought, &state) {
+        if state_fits(method.program, brought, known) {
             return Ok(true);
         }
         if item == 0 {
             return Ok(false);
         }
+        let state = known.to_state(alloc)?;
         law_bounded_state(&state);
         law_few(method.code.max_locals);
         law_few(method.code.max_stack);

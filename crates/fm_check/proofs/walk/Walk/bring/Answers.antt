@@ -1,9 +1,9 @@
-use Rattle.std.proofs.Common.{◌∙◌, sym, ap, subst, None}
+use Rattle.std.proofs.Common.{◌≡◌, ◌∙◌, false, sym, ap, subst, None, Some}
 use Rattle.std.specs.Option.{option_map}
 use Rattle.fm_check.proofs.WalkLemmas.{Brings-first, Brings-fit, Brings-joined, few_locals, few_words, joined_level, no_join, state_copied, state_seen, too_large}
 use Rattle.fm_check.specs.inner.Risen.{known_state, noted}
 use Rattle.fm_check.specs.inner.Walks.{Brings, risen_at, task, Walked, walked, with_state}
-use Rattle.fm_types.specs.States.{TypeState}
+use Rattle.fm_types.specs.States.{state_fits, TypeState}
 use Rattle.fm_types.specs.Typings.{type_state}
 use Rattle.fm_check.proofs.walk.Walk.bring.Goals as goal
 
@@ -24,9 +24,8 @@ returns-in_default c =
 
 pub returns-then-state_fits : goal.returns-then-state_fits
 returns-then-state_fits c =
-    let old = type_state c.in_ok-state.state in
-    let is = state_copied c.args.self.now.states.items c.as_slice.result.now c.args.item (known_state c.in-Some.known.now) old c.as_slice.ensures.value
-    c.in-Some.ensures c.in_ok-state.ensures in
+    let old = known_state c.in-Some.known.now in
+    let is = state_seen c.args.self.now.states.items c.as_slice.result.now c.args.item (Some old) c.as_slice.ensures.value c.in-Some.ensures in
     Brings-fit (task c.args.method.now) c.args.item (type_state c.args.brought.now) old (walked c.args.self.now) c.requires.sound c.requires.stands is
     (sym c.state_fits.ensures ∙ c.if-state_fits.true)
 
@@ -82,9 +81,11 @@ returns c =
     let is = state_copied c.args.self.now.states.items c.as_slice.result.now c.args.item (known_state c.in-Some.known.now) old c.as_slice.ensures.value
     c.in-Some.ensures c.in_ok-state.ensures in
     let gives = sym c.in_ok-joined.ensures ∙ ap (option_map type_state) c.in-Some-2.is in
+    let unfit : state_fits t.program.outline s old ≡ false =
+    ap (state_fits t.program.outline s) c.in_ok-state.ensures ∙ sym c.state_fits.ensures ∙ c.if-state_fits.false in
     let Done : Walked → Type 0 = λ x. Brings t c.args.item s w x in
     let raised = c.in_ok-raise_state.ensures
     ∙ ap (λ (x : TypeState). with_state c.args.item (noted c.most_noted.result (risen_at w c.args.item) c.in_ok-rose.rose) x w) c.in_ok-raised.ensures in
     subst Done (sym raised)
     (Brings-joined t c.args.item c.most_noted.result c.in_ok-rose.rose s old joined w c.requires.sound c.requires.stands c.requires.forced
-    c.if-item-eq0.false is gives c.law_bounded_state.ensures (sym c.state_fits.ensures ∙ c.if-state_fits.false) c.in_ok-rose.ensures)
+    c.if-item-eq0.false is gives c.law_bounded_state.ensures unfit c.in_ok-rose.ensures)
