@@ -21,3 +21,5 @@ pub mod SignatureSteps
 pub mod ParentRefusals
 pub mod Inherited
 pub mod StaticLemmas
+pub mod AlikeLemmas
+pub mod OnceEach

@@ -9,3 +9,4 @@ pub mod MemberTables
 pub mod NearestSteps
 pub mod FoundMembers
 pub mod MemberSteps
+pub mod AlikeMembers

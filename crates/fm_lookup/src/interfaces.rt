@@ -4,10 +4,12 @@
 // superinterfaces found in that round, since those of the interfaces that it lists were found before. A
 // class whose chains never end leads into a cycle.
 
-ghost use Rattle.std.specs.Prelude.{◌≡◌, ◌≤◌, ℕ, suc, List, [], ◌∷◌, false, IfOk, OnOk, length, map, replicate};
+ghost use Rattle.std.specs.Prelude.{◌≡◌, ◌≤◌, ℕ, suc, List, [], ◌∷◌, false, IfOk, OnOk, length, map, nat_eq, replicate};
+ghost use Rattle.std.specs.Global.{Vec};
 ghost use Rattle.std.specs.List.{list_any};
-ghost use Rattle.fm_lookup.specs.inner.InterfaceRounds.{above_by, inherited_along, is_set, of_parent, settled_one, settled_to, with_classes, with_inherited, AreFoundTo, Lists};
+ghost use Rattle.fm_lookup.specs.inner.InterfaceRounds.{above_by, inherited_along, is_set, of_parent, settled_one, settled_to, with_classes, with_inherited, AreFoundTo, Lists, ListsOnce};
 ghost use Rattle.fm_lookup.specs.inner.ListTables.{lists};
+ghost use Rattle.fm_world.specs.Chains.{distinct};
 ghost use Rattle.fm_world.specs.declared.declarations.DeclaredClass.{DeclaredClass};
 
 use crate::lists::{empty_lists, list_at, put_list};
@@ -30,6 +32,16 @@ impl Superinterfaces {
         ensures { IfOk result (λ found. (classes : List DeclaredClass) → Lists classes listed.now
             → AreFoundTo classes (length classes) found) }
     {
+        let once = each_once(alloc, listed)?;
+        let found = Superinterfaces::by(alloc, once.as_slice())?;
+        Ok(found)
+    }
+
+    // The same of classes that list no interface twice.
+    fn by(alloc: Global, listed: &[Vec<u32>]) -> Result<Superinterfaces, NoMemory>
+        ensures { IfOk result (λ found. (classes : List DeclaredClass)
+            → ListsOnce classes listed.now → AreFoundTo classes (length classes) found) }
+    {
         let count = listed.len();
         let mut found = Superinterfaces {
             above: empty_lists(alloc, count)?,
@@ -46,10 +58,10 @@ impl Superinterfaces {
     // One round. Whether another one can find more.
     fn go_deeper(&mut self, alloc: Global, listed: &[Vec<u32>]) -> Result<bool, NoMemory>
         ensures deeper { IfOk result (λ goes_on. (classes : List DeclaredClass) (round : ℕ)
-            → Lists classes listed.now → round ≤ length classes
+            → ListsOnce classes listed.now → round ≤ length classes
             → AreFoundTo classes round self.old → AreFoundTo classes (suc round) self.new) }
         ensures ends { IfOk result (λ goes_on. (classes : List DeclaredClass) (round later : ℕ)
-            → Lists classes listed.now → round ≤ length classes
+            → ListsOnce classes listed.now → round ≤ length classes
             → AreFoundTo classes round self.old → goes_on ≡ false → round ≤ later
             → AreFoundTo classes later self.new) }
     {
@@ -65,6 +77,19 @@ impl Superinterfaces {
         self.leads_into_cycle = deeper;
         Ok(goes_on)
     }
+}
+
+// Each list without what stands in it for a second time, so that no interface is looked at twice for one
+// class.
+fn each_once(alloc: Global, listed: &[Vec<u32>]) -> Result<Vec<Vec<u32>>, NoMemory>
+    ensures { IfOk result (λ once. lists once.items
+        ≡ map (λ (list : Vec ℕ). distinct nat_eq list.items) listed.now) }
+{
+    let mut once = Vec::new(alloc);
+    for interfaces in listed {
+        once.push(distinct(alloc, interfaces.as_slice())?)?;
+    }
+    Ok(once)
 }
 
 // For each class whether some interface that it lists goes on.

@@ -2,6 +2,7 @@
 // answer at once what the definitions of `fm_world` look up by name (JVMS 5.4.3, 5.4.5).
 #![tactic(auto)]
 
+mod alike;
 mod chain_tables;
 mod chains;
 mod hierarchy;
@@ -14,6 +15,7 @@ mod members;
 mod once;
 mod parent_tables;
 
+pub use alike::Alike;
 pub use chain_tables::{chains_of, parents_first};
 pub use chains::goes_up;
 pub use hierarchy::{Ancestors, Hierarchy, is_interface_at};

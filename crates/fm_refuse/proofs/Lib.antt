@@ -10,6 +10,5 @@ pub mod Sections
 pub mod CallsOfAbstracts
 pub mod LeftOver
 pub mod Among
-pub mod LeftOverAbove
-pub mod LeftOverSteps
+pub mod LeftOverCounts
 pub mod MainMethods

@@ -146,7 +146,7 @@ section_some : (first : List ℕ) (class a b : ℕ) → slice_get first class �
     ≡ (a, b)
 section_some first class a b start end = rw (start, end) refl
 
-section_none : (first : List ℕ) (class : ℕ) → slice_get first (class + 1) ≡ None → section_of first class ≡ (0, 0)
+pub section_none : (first : List ℕ) (class : ℕ) → slice_get first (class + 1) ≡ None → section_of first class ≡ (0, 0)
 section_none first class end = go (slice_get first class) refl where
   go : (o : Option ℕ) → slice_get first class ≡ o → section_of first class ≡ (0, 0)
   go None start = rw start refl

@@ -1,267 +1,341 @@
-// The abstract methods that are left over in classes, kept by class (JVMS 5.4.5).
+// How many abstract methods are left over in each class, by the class that declares them (JVMS 5.4.5).
 //
-// What is left over in a class was left over in its superclass, or it is one of the class's own abstract
-// methods or of the interfaces that the class adds to those of its superclass. So what stands above a class
-// is looked at once, however many classes are below.
+// A class has the counts of its superclass, but for the abstract methods that have the signature of one
+// of its own methods. So what stands above a class is looked at once, however many classes are below.
 
-ghost use Rattle.std.specs.Prelude.{◌≡◌, ◌++◌, ◌<◌, [], ◌∷◌, IfOk, List, OnOk, false, length, replicate, true, if◌then◌else◌};
-ghost use Rattle.std.specs.List.{flat_map};
-ghost use Rattle.fm_declare.specs.inner.Marks.{marked};
-ghost use Rattle.fm_lookup.specs.inner.InterfaceRounds.{of_parent};
-ghost use Rattle.fm_lookup.specs.inner.ListTables.{list_in, lists};
-ghost use Rattle.fm_lookup.specs.inner.ParentTable.{parent_at};
-ghost use Rattle.fm_refuse.specs.inner.LeftOver.{unmarked_methods, HasAdded, HasOwed, IsLeftOver, KeepsLeftOver};
+ghost use Rattle.std.specs.Prelude.{◌≡◌, ◌&&◌, ◌<◌, ◌≤◌, ◌+◌, ℕ, Bool, false, IfOk, List, OnOk, Some, length, map, nat_eq, not, slice_index, slice_set, true, if◌then◌else◌};
+ghost use Rattle.std.specs.List.{slice_index_or};
+ghost use Rattle.fm_lookup.specs.inner.MemberRows.{no_row};
+ghost use Rattle.fm_refuse.specs.inner.LeftOver.{can_be_met, changed, is_open, is_part_owed, is_owed, is_taken, selected_at, with_signature, HasCounts, IsCounting, IsLeftOver, NoneLeft};
 ghost use Rattle.fm_refuse.specs.inner.Linking.{IsLinking};
-ghost use Rattle.fm_world.specs.Causes.{abstract_methods};
+ghost use Rattle.fm_world.specs.Chains.{is_among};
 ghost use Rattle.fm_world.specs.declared.declarations.DeclaredClass.{DeclaredClass};
+ghost use Rattle.fm_world.specs.inner.Tables.{numbers_below};
 
 use crate::linking::Linking;
-use crate::not_implemented::{is_abstract, is_left_over};
+use crate::not_implemented::is_abstract;
 use fm_base::NoMemory;
-use fm_code::{ACC_ABSTRACT, ACC_INTERFACE, has_flag};
-use fm_declare::at;
-use fm_lookup::{
-    Hierarchy, empty_lists, is_marked, list_at, list_of_parent, mark, mark_all, put_list,
-};
-use fm_world::DeclaredClass;
+use fm_code::{ACC_PRIVATE, has_flag};
+use fm_declare::{at, number_of};
+use fm_lookup::{Alike, empty_lists, is_marked, list_at, put_list, row_at};
 use std::alloc::Global;
 
-/// What is left over in those classes that were asked for.
+/// For each class how many abstract methods of each class are left over in it.
 #[derive(Drop)]
 pub(crate) struct LeftOver {
-    lists: Vec<Vec<u32>>,
-    is_known: Vec<bool>,
+    rows: Vec<Vec<u32>>,
+}
+
+// By what methods are counted: the marks of those that are abstract and aren't private, and which of
+// these are of one signature.
+#[derive(Clone, Copy)]
+struct Counting<'w, 't, 'c> {
+    linking: Linking<'w, 't, 'c>,
+    marks: &'w [bool],
+    alike: &'w Alike,
 }
 
 impl LeftOver {
-    /// What is left over in so many classes, none of which was asked for.
-    pub fn new(alloc: Global, count: usize) -> Result<LeftOver, NoMemory>
-        ensures { IfOk result (λ found. (classes : List DeclaredClass) → count ≡ length classes
-            → IsLeftOver classes found) }
+    /// The counts of all classes.
+    pub fn of(alloc: Global, linking: Linking) -> Result<LeftOver, NoMemory>
+        ensures { IfOk result (λ found. (classes : List DeclaredClass)
+            → IsLinking classes linking.entry
+            → IsLeftOver classes linking.entry.methods.now found) }
     {
-        Ok(LeftOver {
-            lists: empty_lists(alloc, count)?,
-            is_known: vec![in alloc; false; count]?,
-        })
+        let marks = marks_of(alloc, linking)?;
+        let signatures = linking.methods.signatures.of_members.as_slice();
+        let alike = Alike::of(alloc, signatures, marks.as_slice())?;
+        let counting = Counting {
+            linking,
+            marks: marks.as_slice(),
+            alike: &alike,
+        };
+        let found = counted(alloc, counting)?;
+        Ok(found)
     }
 
     /// Whether nothing is left over in a class.
-    pub fn is_clear(
-        &mut self,
+    pub fn is_clear(&self, linking: Linking, class: u32) -> bool
+        ensures { (classes : List DeclaredClass) → IsLinking classes linking.entry
+            → class < length classes → IsLeftOver classes linking.entry.methods.now self.now
+            → result ≡ true → NoneLeft classes linking.entry.methods.now class }
+    {
+        let row = list_at(self.rows.as_slice(), class);
+        if row.len() != linking.hierarchy.classes.len() {
+            return false;
+        }
+        if !are_zero(row, linking.hierarchy.chain(class)) {
+            return false;
+        }
+        are_zero(row, list_at(linking.hierarchy.interfaces.as_slice(), class))
+    }
+
+    // The counts of a superclass; without one all abstract methods are left over.
+    fn row_above(
+        &self,
         alloc: Global,
         linking: Linking,
-        class: u32,
-    ) -> Result<bool, NoMemory>
-        ensures keeps { OnOk result ((classes : List DeclaredClass) → IsLinking classes linking.entry
-            → class < length classes
-            → IsLeftOver classes self.old
-            → IsLeftOver classes self.new) }
-        ensures clear { IfOk result (λ clear. (classes : List DeclaredClass)
-            → IsLinking classes linking.entry → class < length classes
-            → IsLeftOver classes self.old
-            → clear ≡ true → HasOwed classes class []) }
+        parent: Option<u32>,
+    ) -> Result<Vec<u32>, NoMemory>
+        ensures { IfOk result (λ row. (classes : List DeclaredClass)
+            → IsLinking classes linking.entry
+            → ((p : ℕ) → parent ≡ Some p → p < length classes)
+            → IsLeftOver classes linking.entry.methods.now self.now
+            → HasCounts linking.entry.methods.now (length classes)
+            (is_owed classes linking.entry.methods.now (λ signature. is_open classes
+            (selected_at linking.entry.methods.now parent signature))) row.items) }
     {
-        self.find_above(alloc, linking, class)?;
-        self.find(alloc, linking, class)?;
-        Ok(list_at(self.lists.as_slice(), class).is_empty())
-    }
-
-    // Finds what is left over in the superclass of a class.
-    fn find_above(&mut self, alloc: Global, linking: Linking, class: u32) -> Result<(), NoMemory>
-        ensures { OnOk result ((classes : List DeclaredClass) → IsLinking classes linking.entry
-            → class < length classes
-            → IsLeftOver classes self.old
-            → IsLeftOver classes self.new) }
-    {
-        match at(&linking.hierarchy.parents, class) {
-            Some(parent) => self.find(alloc, linking, parent),
-            None => Ok(()),
+        match parent {
+            Some(parent) => Ok(Vec::from_slice(alloc, list_at(self.rows.as_slice(), parent))?),
+            None => all_abstract(alloc, linking),
         }
     }
 
-    // Finds what is left over in a class.
-    fn find(&mut self, alloc: Global, linking: Linking, class: u32) -> Result<(), NoMemory>
-        ensures keeps { OnOk result ((classes : List DeclaredClass) → IsLinking classes linking.entry
+    // The counts of a class, by those of its superclass.
+    fn row_of(&self, alloc: Global, counting: Counting, class: u32) -> Result<Vec<u32>, NoMemory>
+        ensures { IfOk result (λ row. (classes : List DeclaredClass)
+            → IsCounting classes counting.entry
             → class < length classes
-            → IsLeftOver classes self.old
-            → IsLeftOver classes self.new) }
-        ensures found { OnOk result ((classes : List DeclaredClass) → IsLinking classes linking.entry
-            → class < length classes
-            → IsLeftOver classes self.old
-            → HasOwed classes class (list_in self.new.lists.items class)) }
+            → IsLeftOver classes counting.entry.linking.methods.now self.now
+            → HasCounts counting.entry.linking.methods.now (length classes)
+            (is_owed classes counting.entry.linking.methods.now (λ signature. is_open classes
+            (selected_at counting.entry.linking.methods.now (Some class) signature))) row.items) }
     {
-        if is_marked(self.is_known.as_slice(), class) {
-            return Ok(());
+        let parent = at(&counting.linking.hierarchy.parents, class);
+        let mut row = self.row_above(alloc, counting.linking, parent)?;
+        let (start, end) = counting.linking.methods.members.of_class(class);
+        for method in start..end {
+            take_in(counting, &mut row, parent, class, method)?;
         }
-        let owed = self.owed_by(alloc, linking, class)?;
-        let left = left_over_among(alloc, linking, class, owed.as_slice())?;
-        put_list(&mut self.lists, class as usize, left);
-        mark(&mut self.is_known, class);
-        Ok(())
-    }
-
-    // The methods that the classes up to the next one that was asked for add, and what is left over there.
-    fn owed_by(&self, alloc: Global, linking: Linking, class: u32) -> Result<Vec<u32>, NoMemory>
-        ensures { IfOk result (λ owed. (classes : List DeclaredClass) → IsLinking classes linking.entry
-            → class < length classes
-            → IsLeftOver classes self.now
-            → HasOwed classes class owed.items) }
-    {
-        let mut owed = Vec::new(alloc);
-        for above in linking.hierarchy.chain(class) {
-            if is_marked(self.is_known.as_slice(), *above) {
-                owed.extend_from_slice(list_at(self.lists.as_slice(), *above))?;
-                return Ok(owed);
-            }
-            add_owed(alloc, linking, *above, &mut owed)?;
-        }
-        Ok(owed)
+        Ok(row)
     }
 }
 
-/// Looks at the classes that have objects, each after its superclass, up to one in which a method is left
-/// over.
-pub(crate) fn find_all(
-    alloc: Global,
-    linking: Linking,
-    found: &mut LeftOver,
-) -> Result<(), NoMemory>
-    ensures { OnOk result ((classes : List DeclaredClass) → IsLinking classes linking.entry
-        → IsLeftOver classes found.old → IsLeftOver classes found.new) }
+// The counts of all classes, each after its superclass.
+fn counted(alloc: Global, counting: Counting) -> Result<LeftOver, NoMemory>
+    ensures { IfOk result (λ found. (classes : List DeclaredClass)
+        → IsCounting classes counting.entry
+        → IsLeftOver classes counting.entry.linking.methods.now found) }
 {
-    for class in linking.hierarchy.order.as_slice() {
-        if !is_clear_at(alloc, linking, found, *class)? {
-            return Ok(());
-        }
+    let hierarchy = counting.linking.hierarchy;
+    let mut found = LeftOver {
+        rows: empty_lists(alloc, hierarchy.classes.len())?,
+    };
+    for class in hierarchy.order.as_slice() {
+        let row = found.row_of(alloc, counting, *class)?;
+        put_list(&mut found.rows, *class as usize, row);
     }
-    Ok(())
+    Ok(found)
 }
 
-// Whether nothing is left over in a class, or it has no objects.
-fn is_clear_at(
-    alloc: Global,
-    linking: Linking,
-    found: &mut LeftOver,
+// For each method whether it is abstract and isn't private.
+fn marks_of(alloc: Global, linking: Linking) -> Result<Vec<bool>, NoMemory>
+    ensures { IfOk result (λ marks. (classes : List DeclaredClass)
+        → IsLinking classes linking.entry
+        → marks.items ≡ map (can_be_met classes linking.entry.methods.now)
+        (numbers_below linking.entry.methods.now.signatures.count)) }
+{
+    let mut marks = Vec::new(alloc);
+    for method in 0..linking.methods.signatures.count {
+        marks.push(can_be_met(linking, method))?;
+    }
+    Ok(marks)
+}
+
+// Whether a method is abstract and isn't private.
+fn can_be_met(linking: Linking, method: u32) -> bool
+    ensures { (classes : List DeclaredClass) → IsLinking classes linking.entry
+        → result ≡ can_be_met classes linking.entry.methods.now method }
+{
+    is_abstract(linking, method) && !has_flag(linking.methods.flags(method), ACC_PRIVATE)
+}
+
+// How many abstract methods each class has.
+fn all_abstract(alloc: Global, linking: Linking) -> Result<Vec<u32>, NoMemory>
+    ensures { IfOk result (λ row. (classes : List DeclaredClass)
+        → IsLinking classes linking.entry
+        → HasCounts linking.entry.methods.now (length classes)
+        (is_owed classes linking.entry.methods.now (λ signature. true)) row.items) }
+{
+    let mut row = vec![in alloc; 0; linking.hierarchy.classes.len()]?;
+    for method in 0..linking.methods.signatures.count {
+        let class = class_of(linking, method);
+        change_if(is_abstract(linking, method), &mut row, class, true)?;
+    }
+    Ok(row)
+}
+
+// The class of a method; 0 past the end.
+fn class_of(linking: Linking, method: u32) -> u32
+    ensures { result
+        ≡ (slice_index_or linking.entry.methods.now.members.rows.items method no_row).class }
+{
+    row_at(linking.methods.members.rows.as_slice(), method).class
+}
+
+// Changes the counts by one of a class's own methods, where it is the one that is selected.
+fn take_in(
+    counting: Counting,
+    row: &mut Vec<u32>,
+    parent: Option<u32>,
     class: u32,
-) -> Result<bool, NoMemory>
-    ensures { OnOk result ((classes : List DeclaredClass) → IsLinking classes linking.entry
-        → class < length classes → IsLeftOver classes found.old → IsLeftOver classes found.new) }
+    method: u32,
+) -> Result<(), NoMemory>
+    ensures { OnOk result ((classes : List DeclaredClass) (start : ℕ)
+        → IsCounting classes counting.entry
+        → class < length classes → start ≤ method
+        → method < length counting.entry.linking.methods.now.members.rows.items
+        → HasCounts counting.entry.linking.methods.now (length classes)
+        (is_part_owed classes counting.entry.linking.methods.now parent class start method)
+        row.old.items
+        → HasCounts counting.entry.linking.methods.now (length classes)
+        (is_part_owed classes counting.entry.linking.methods.now parent class start (method + 1))
+        row.new.items) }
 {
-    if has_objects(linking.hierarchy.classes, class) {
-        found.is_clear(alloc, linking, class)
-    } else {
-        Ok(true)
+    let linking = counting.linking;
+    let signature = linking.methods.signatures.of_member(method);
+    if !is_number(linking.methods.selectable.get(class, signature), method) {
+        return Ok(());
     }
+    let was_open = is_open(linking, selected_at(linking, parent, signature));
+    let adds = is_abstract(linking, method);
+    if are_same(was_open, adds) {
+        return Ok(());
+    }
+    change_all(counting, row, signature, adds)
 }
 
-// Whether a class has objects: it is neither abstract nor an interface.
-fn has_objects(classes: &[DeclaredClass], class: u32) -> bool {
-    match classes.get(class as usize) {
-        Some(class) => {
-            !has_flag(class.flags, ACC_ABSTRACT) && !has_flag(class.flags, ACC_INTERFACE)
-        }
+// Whether both are true, or neither.
+fn are_same(one: bool, other: bool) -> bool
+    ensures { result ≡ (if one then other else not other) }
+{
+    if one { other } else { !other }
+}
+
+// Whether the number is there.
+fn is_number(found: Option<u32>, number: u32) -> bool
+    ensures { result ≡ is_taken found number }
+{
+    match found {
+        Some(found) => found == number,
         None => false,
     }
 }
 
-// Adds the abstract methods of a class and of the interfaces that it adds to those of its superclass.
-fn add_owed(
-    alloc: Global,
-    linking: Linking,
-    class: u32,
-    owed: &mut Vec<u32>,
-) -> Result<(), NoMemory>
-    ensures { OnOk result ((classes : List DeclaredClass) → IsLinking classes linking.entry
-        → class < length classes → HasAdded classes class owed.old.items owed.new.items) }
+// What is selected of a signature in a class, where there is one.
+fn selected_at(linking: Linking, class: Option<u32>, signature: u32) -> Option<u32>
+    ensures { result ≡ selected_at linking.entry.methods.now class signature }
 {
-    add_abstract(linking, class, owed)?;
-    let inherited = inherited_marks(alloc, linking.hierarchy, class)?;
-    let listed = list_at(linking.hierarchy.above.as_slice(), class);
-    add_unmarked(linking, listed, inherited.as_slice(), owed)
+    linking.methods.selectable.get(class?, signature)
 }
 
-// Adds the abstract methods of a class.
-fn add_abstract(linking: Linking, class: u32, owed: &mut Vec<u32>) -> Result<(), NoMemory>
-    ensures { OnOk result ((classes : List DeclaredClass) → IsLinking classes linking.entry
-        → owed.new.items ≡ owed.old.items ++ abstract_methods classes class) }
+// Whether no method is selected, or an abstract one.
+fn is_open(linking: Linking, selected: Option<u32>) -> bool
+    ensures { (classes : List DeclaredClass) → IsLinking classes linking.entry
+        → result ≡ is_open classes selected }
 {
-    let (start, end) = linking.methods.members.of_class(class);
-    for method in start..end {
-        push_if(is_abstract(linking, method), owed, method)?;
+    match selected {
+        Some(selected) => is_abstract(linking, selected),
+        None => true,
+    }
+}
+
+// Changes the counts by all abstract methods of a signature, which are left over from now on, or aren't
+// any more.
+fn change_all(
+    counting: Counting,
+    row: &mut Vec<u32>,
+    signature: u32,
+    adds: bool,
+) -> Result<(), NoMemory>
+    ensures { OnOk result ((classes : List DeclaredClass) (q : ℕ → Bool)
+        → IsCounting classes counting.entry
+        → signature < length counting.entry.linking.methods.now.members.rows.items
+        → ((k : ℕ) → can_be_met classes counting.entry.linking.methods.now k ≡ true
+        → slice_index counting.entry.linking.methods.now.signatures.of_members.items k ≡ signature
+        → q k ≡ not adds)
+        → HasCounts counting.entry.linking.methods.now (length classes) q row.old.items
+        → HasCounts counting.entry.linking.methods.now (length classes)
+        (with_signature classes counting.entry.linking.methods.now signature adds
+        (length counting.entry.linking.methods.now.members.rows.items) q) row.new.items) }
+{
+    let mut method = counting.alike.first(signature);
+    for _ in 0..counting.linking.methods.signatures.count {
+        if method >= counting.linking.methods.signatures.count {
+            return Ok(());
+        }
+        change_one(counting, row, signature, method, adds)?;
+        method = counting.alike.next(method);
     }
     Ok(())
 }
 
-// Adds a number, where the test holds.
-fn push_if(test: bool, numbers: &mut Vec<u32>, number: u32) -> Result<(), NoMemory>
-    ensures { OnOk result (numbers.new.items
-        ≡ numbers.old.items ++ (if test then number ∷ [] else [])) }
+// Changes the count of a method's class, where it has the signature and is abstract.
+fn change_one(
+    counting: Counting,
+    row: &mut Vec<u32>,
+    signature: u32,
+    method: u32,
+    adds: bool,
+) -> Result<(), NoMemory>
+    ensures { let m = counting.entry.linking.methods.now in
+        let class = (slice_index_or m.members.rows.items method no_row).class in
+        OnOk result (row.new.items
+        ≡ (if nat_eq (slice_index m.signatures.of_members.items method) signature
+        && slice_index_or counting.entry.marks.now method false
+        then slice_set row.old.items class (changed adds (slice_index row.old.items class))
+        else row.old.items)) }
 {
-    if test {
-        numbers.push(number)?;
+    let is_one = counting.linking.methods.signatures.of_member(method) == signature
+        && is_marked(counting.marks, method);
+    change_if(is_one, row, class_of(counting.linking, method), adds)
+}
+
+// Changes the count of a class by one, where the test holds.
+fn change_if(test: bool, row: &mut Vec<u32>, class: u32, adds: bool) -> Result<(), NoMemory>
+    ensures { OnOk result (row.new.items ≡ (if test
+        then slice_set row.old.items class (changed adds (slice_index row.old.items class))
+        else row.old.items)) }
+{
+    let place = class as usize;
+    if test && place < row.len() {
+        row[place] = changed(row[place], adds)?;
     }
     Ok(())
 }
 
-// Adds the abstract methods of those interfaces that have no mark.
-fn add_unmarked(
-    linking: Linking,
-    interfaces: &[u32],
-    marks: &[bool],
-    owed: &mut Vec<u32>,
-) -> Result<(), NoMemory>
-    ensures { OnOk result ((classes : List DeclaredClass) → IsLinking classes linking.entry
-        → owed.new.items
-        ≡ owed.old.items ++ flat_map (unmarked_methods classes marks.now) interfaces.now) }
+// One more, or one less; no count is less than 0.
+fn changed(count: u32, adds: bool) -> Result<u32, NoMemory>
+    ensures { IfOk result (λ other. other ≡ changed adds count) }
 {
-    for interface in interfaces {
-        add_if_unmarked(linking, *interface, marks, owed)?;
+    if !adds {
+        return Ok(count.saturating_sub(1));
     }
-    Ok(())
+    match count.checked_add(1) {
+        Some(more) => Ok(more),
+        None => Err(NoMemory),
+    }
 }
 
-// Adds those of one interface, where it has no mark.
-fn add_if_unmarked(
-    linking: Linking,
-    interface: u32,
-    marks: &[bool],
-    owed: &mut Vec<u32>,
-) -> Result<(), NoMemory>
-    ensures { OnOk result ((classes : List DeclaredClass) → IsLinking classes linking.entry
-        → owed.new.items ≡ owed.old.items ++ unmarked_methods classes marks.now interface) }
+// Whether the counts of all these classes are 0.
+fn are_zero(row: &[u32], classes: &[u32]) -> bool
+    ensures { result ≡ true → (class : ℕ) → is_among class classes.now ≡ true
+        → slice_index row.now class ≡ 0 }
 {
-    if is_marked(marks, interface) {
-        return Ok(());
+    for class in classes {
+        if !is_zero(row, *class) {
+            return false;
+        }
     }
-    add_abstract(linking, interface, owed)
+    true
 }
 
-// The marks of the superinterfaces of a class's superclass.
-fn inherited_marks(alloc: Global, hierarchy: &Hierarchy, class: u32) -> Result<Vec<bool>, NoMemory>
-    ensures { IfOk result (λ marks. marks.items
-        ≡ marked (replicate (length hierarchy.now.classes.now) false) (of_parent
-        (lists hierarchy.now.interfaces.items) (parent_at hierarchy.now.parents.items class))) }
+// Whether a count is 0.
+fn is_zero(row: &[u32], class: u32) -> bool
+    ensures { result ≡ true → slice_index row.now class ≡ 0 }
 {
-    let mut marks = vec![in alloc; false; hierarchy.classes.len()]?;
-    let parent = at(&hierarchy.parents, class);
-    let interfaces = hierarchy.interfaces.as_slice();
-    mark_all(&mut marks, list_of_parent(interfaces, parent));
-    Ok(marks)
-}
-
-// Those of the methods that are left over in a class.
-fn left_over_among(
-    alloc: Global,
-    linking: Linking,
-    class: u32,
-    methods: &[u32],
-) -> Result<Vec<u32>, NoMemory>
-    ensures { IfOk result (λ left. (classes : List DeclaredClass) → IsLinking classes linking.entry
-        → class < length classes → KeepsLeftOver classes class methods.now left.items) }
-{
-    let mut left = Vec::new(alloc);
-    for method in methods {
-        push_if(is_left_over(linking, class, *method), &mut left, *method)?;
+    match row.get(class as usize) {
+        Some(count) => *count == 0,
+        None => false,
     }
-    Ok(left)
 }

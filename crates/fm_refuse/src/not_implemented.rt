@@ -1,7 +1,7 @@
 // Abstract methods that are left over, and special calls of abstract methods (JVMS 5.4.5,
 // 6.5.invokespecial).
 
-ghost use Rattle.std.specs.Prelude.{◌≡◌, ◌+◌, ◌<◌, IfOk, List, OnOk, false, length};
+ghost use Rattle.std.specs.Prelude.{◌≡◌, ◌+◌, ◌<◌, IfOk, List, false, length};
 ghost use Rattle.std.specs.List.{flat_map};
 ghost use Rattle.fm_code.specs.AccessFlags.{is_abstract, is_interface};
 ghost use Rattle.fm_declare.specs.inner.Numbering.{texts_in};
@@ -21,7 +21,7 @@ ghost use Rattle.fm_world.specs.declared.declarations.DeclaredClass.{DeclaredCla
 
 use crate::abstract_calls::refuse_calls;
 use crate::error::{LinkBad, LinkFail};
-use crate::left_over::{LeftOver, find_all};
+use crate::left_over::LeftOver;
 use crate::linking::Linking;
 use fm_base::{Name, NoMemory};
 use fm_code::{ACC_ABSTRACT, ACC_INTERFACE, has_flag};
@@ -41,11 +41,10 @@ pub fn refuse_not_implemented(
     ensures { IsLinking (classes_of (given_in files.now)) linking.entry
         → Refuses (refused_not_implemented (given_in files.now)) result }
 {
-    let mut found = LeftOver::new(alloc, linking.hierarchy.classes.len())?;
-    find_all(alloc, linking, &mut found)?;
+    let found = LeftOver::of(alloc, linking)?;
     for file in files {
         let class = class_of_file(file)?;
-        refuse_in_class(alloc, linking, &mut found, file, class)?;
+        refuse_in_class(alloc, linking, &found, file, class)?;
     }
     Ok(())
 }
@@ -65,16 +64,14 @@ fn class_of_file(file: &GivenFile) -> Result<u32, NoMemory>
 fn refuse_in_class(
     alloc: Global,
     linking: Linking,
-    found: &mut LeftOver,
+    found: &LeftOver,
     file: &GivenFile,
     class: u32,
 ) -> Result<(), LinkFail>
     requires { IsNumbered (texts_in linking.texts.now) file.now }
-    ensures refuses { (classes : List DeclaredClass) → IsLinking classes linking.entry
-        → class < length classes → IsLeftOver classes found.old
+    ensures { (classes : List DeclaredClass) → IsLinking classes linking.entry
+        → class < length classes → IsLeftOver classes linking.entry.methods.now found.now
         → Refuses (not_implemented classes (class_in file.now) class) result }
-    ensures keeps { OnOk result ((classes : List DeclaredClass) → IsLinking classes linking.entry
-        → class < length classes → IsLeftOver classes found.old → IsLeftOver classes found.new) }
 {
     refuse_left_over(alloc, linking, found, file, class)?;
     refuse_calls(alloc, linking, file, class)
@@ -85,15 +82,13 @@ fn refuse_in_class(
 fn refuse_left_over(
     alloc: Global,
     linking: Linking,
-    found: &mut LeftOver,
+    found: &LeftOver,
     file: &GivenFile,
     class: u32,
 ) -> Result<(), LinkFail>
-    ensures refuses { (classes : List DeclaredClass) → IsLinking classes linking.entry
-        → class < length classes → IsLeftOver classes found.old
+    ensures { (classes : List DeclaredClass) → IsLinking classes linking.entry
+        → class < length classes → IsLeftOver classes linking.entry.methods.now found.now
         → Refuses (left_over classes (class_in file.now) class) result }
-    ensures keeps { OnOk result ((classes : List DeclaredClass) → IsLinking classes linking.entry
-        → class < length classes → IsLeftOver classes found.old → IsLeftOver classes found.new) }
 {
     if has_flag(file.class.flags, ACC_ABSTRACT) {
         return Ok(());
@@ -101,7 +96,7 @@ fn refuse_left_over(
     if has_flag(file.class.flags, ACC_INTERFACE) {
         return Ok(());
     }
-    if found.is_clear(alloc, linking, class)? {
+    if found.is_clear(linking, class) {
         return Ok(());
     }
     refuse_first(alloc, linking, file, class)

@@ -55,6 +55,10 @@ with_classes own = map (λ class. class ∷ slice_index_or own class []) (number
 abbrev pub Lists : List DeclaredClass → List (Vec ℕ) → Type 0
 Lists classes listed = lists listed ≡ map (listed_interfaces classes) (numbers_below (length classes))
 
+-- the table has them, each once
+abbrev pub ListsOnce : List DeclaredClass → List (Vec ℕ) → Type 0
+ListsOnce classes listed = lists listed ≡ map (distinct nat_eq) (map (listed_interfaces classes) (numbers_below (length classes)))
+
 -- the table has the superinterfaces of the classes whose chains have fewer members
 pub record IsAboveTo (classes : List DeclaredClass) (round : ℕ) (above : List (List ℕ)) : Type 0 where
   pub one_each : length above ≡ length classes

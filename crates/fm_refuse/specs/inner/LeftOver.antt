@@ -1,58 +1,105 @@
--- What is left over in a class, by what is left over in its superclass.
-use Rattle.std.specs.Prelude.{◌≡◌, ℕ, ◌<◌, Bool, true, false, List, [], ◌++◌, length, Option, Some, None, if◌then◌else◌}
-use Rattle.std.specs.List.{flat_map, slice_index_or}
-use Rattle.fm_lookup.specs.inner.ListTables.{lists}
-use Rattle.fm_world.specs.Causes.{abstract_methods, is_left_over}
-use Rattle.fm_world.specs.Chains.{chain_of, interfaces_of, is_among, parent_of, superinterfaces_of}
-use Rattle.fm_world.specs.Members.{methods_of}
+-- How many abstract methods are left over in a class, by the class that declares them.
+use Rattle.std.specs.Prelude.{◌≡◌, ℕ, zero, suc, ◌+◌, ◌-◌, ◌<◌, ◌≤◌, ◌&&◌, ◌||◌, not, Bool, true, false, List, ◌++◌, length, map, nat_eq, nat_lt, Option, Some, None, slice_index, if◌then◌else◌}
+use Rattle.fm_code.specs.AccessFlags.{is_private}
+use Rattle.fm_lookup.specs.declared.lookups.Methods.{Methods}
+use Rattle.fm_lookup.specs.inner.AlikeMembers.{AreAlike}
+use Rattle.fm_lookup.specs.inner.ListTables.{list_in}
+use Rattle.fm_lookup.specs.inner.MemberRows.{section_of}
+use Rattle.fm_lookup.specs.inner.MemberTables.{flags_of, nearest_in}
+use Rattle.fm_world.specs.Chains.{chain_of, interfaces_of, is_among}
+use Rattle.fm_world.specs.Lookups.{is_abstract_method}
 use Rattle.fm_world.specs.declared.declarations.DeclaredClass.{DeclaredClass}
+use Rattle.fm_world.specs.inner.Tables.{numbers_below}
+use Rattle.fm_refuse.specs.declared.left_over.Counting.{Counting}
 use Rattle.fm_refuse.specs.declared.left_over.LeftOver.{LeftOver}
+use Rattle.fm_refuse.specs.inner.Linking.{IsLinking}
 
--- the abstract methods of a class, of its superclasses and of their superinterfaces
-abbrev pub methods_owed : List DeclaredClass → ℕ → List ℕ
-methods_owed classes class = flat_map (abstract_methods classes) (chain_of classes class ++ interfaces_of classes class)
+-- ---- what is selected
 
--- the superinterfaces of a superclass, where there is one
-abbrev pub interfaces_from : List DeclaredClass → Option ℕ → List ℕ
-interfaces_from classes None = []
-interfaces_from classes (Some class) = interfaces_of classes class
+-- what is selected of a signature in a class, where there is one
+abbrev pub selected_at : Methods → Option ℕ → ℕ → Option ℕ
+selected_at m None signature = None
+selected_at m (Some class) signature = nearest_in m.selectable class signature
 
--- the abstract methods of an interface that has no mark
-abbrev pub unmarked_methods : List DeclaredClass → List Bool → ℕ → List ℕ
-unmarked_methods classes marks interface = if slice_index_or marks interface false then [] else abstract_methods classes interface
+-- no method is selected, or an abstract one
+abbrev pub is_open : List DeclaredClass → Option ℕ → Bool
+is_open classes None = true
+is_open classes (Some found) = is_abstract_method classes found
 
--- wherever the first method is left over, the second one is
-abbrev pub StandsFor : List DeclaredClass → ℕ → ℕ → Type 0
-StandsFor classes method other = (class : ℕ) → is_left_over classes class method ≡ true → is_left_over classes class other ≡ true
+-- the number is there
+abbrev pub is_taken : Option ℕ → ℕ → Bool
+is_taken None number = false
+is_taken (Some found) number = nat_eq found number
 
--- a method of the list stands for this one
-abbrev pub IsStoodFor : List DeclaredClass → List ℕ → ℕ → Type 0
-IsStoodFor classes found method = (other : ℕ) × (is_among other found ≡ true) × (other < length (methods_of classes)) × StandsFor classes method other
+-- a number is there, from the first one up to the second
+abbrev pub is_between : ℕ → ℕ → Option ℕ → Bool
+is_between start end None = false
+is_between start end (Some found) = not (nat_lt found start) && nat_lt found end
 
--- for each method that is left over in the class one of the list stands
-abbrev pub HasOwed : List DeclaredClass → ℕ → List ℕ → Type 0
-HasOwed classes class found =
-    (method : ℕ) → is_among method (methods_owed classes class) ≡ true → is_left_over classes class method ≡ true → IsStoodFor classes found method
+-- ---- which methods are left over
 
--- the list has what it had, and what the class adds to what its superclass owes
-pub record HasAdded (classes : List DeclaredClass) (class : ℕ) (before after : List ℕ) : Type 0 where
-  pub kept : (method : ℕ) → is_among method before ≡ true → is_among method after ≡ true
-  pub own : (method : ℕ) → is_among method (abstract_methods classes class) ≡ true → is_among method after ≡ true
-  pub inherited : (method interface : ℕ) → is_among interface (superinterfaces_of classes class) ≡ true
-      → is_among interface (interfaces_from classes (parent_of classes class)) ≡ false → is_among method (abstract_methods classes interface) ≡ true
-      → is_among method after ≡ true
+-- the method is abstract and isn't private
+abbrev pub can_be_met : List DeclaredClass → Methods → ℕ → Bool
+can_be_met classes m k = is_abstract_method classes k && not (is_private (flags_of m.members.rows.items k))
 
--- the second list has those methods of the first one that are left over
-abbrev pub KeepsLeftOver : List DeclaredClass → ℕ → List ℕ → List ℕ → Type 0
-KeepsLeftOver classes class methods left =
-    (method : ℕ) → method < length (methods_of classes) → is_among method methods ≡ true → is_left_over classes class method ≡ true
-    → is_among method left ≡ true
+-- the method is abstract, and it is private or its signature is open
+abbrev pub is_owed : List DeclaredClass → Methods → (ℕ → Bool) → ℕ → Bool
+is_owed classes m passes k =
+    is_abstract_method classes k && (is_private (flags_of m.members.rows.items k) || passes (slice_index m.signatures.of_members.items k))
 
--- the table has what is left over in the classes that have a mark
-pub record AreLeftOver (classes : List DeclaredClass) (table : List (List ℕ)) (marks : List Bool) : Type 0 where
-  pub one_each : length table ≡ length classes
-  pub found : (class : ℕ) → slice_index_or marks class false ≡ true → HasOwed classes class (slice_index_or table class [])
+-- the signature is open, by a class where one of its own methods from the first up to another is selected, and else by its superclass
+abbrev pub is_part_open : List DeclaredClass → Methods → Option ℕ → ℕ → ℕ → ℕ → ℕ → Bool
+is_part_open classes m parent class start end signature =
+    if is_between start end (selected_at m (Some class) signature) then is_open classes (selected_at m (Some class) signature)
+    else is_open classes (selected_at m parent signature)
 
--- the same of what the code keeps
-abbrev pub IsLeftOver : List DeclaredClass → LeftOver → Type 0
-IsLeftOver classes found = AreLeftOver classes (lists found.lists.items) found.is_known.items
+-- the method is left over, when the class's own methods from the first up to another are counted
+abbrev pub is_part_owed : List DeclaredClass → Methods → Option ℕ → ℕ → ℕ → ℕ → ℕ → Bool
+is_part_owed classes m parent class start end k = is_owed classes m (is_part_open classes m parent class start end) k
+
+-- the abstract methods of a signature below a number are as they are now, and all others as before
+abbrev pub with_signature : List DeclaredClass → Methods → ℕ → Bool → ℕ → (ℕ → Bool) → ℕ → Bool
+with_signature classes m signature adds end q k =
+    if (nat_eq (slice_index m.signatures.of_members.items k) signature && can_be_met classes m k) && nat_lt k end then adds else q k
+
+-- ---- counts
+
+-- how many of so many numbers from one on pass
+abbrev pub counted : (ℕ → Bool) → ℕ → ℕ → ℕ
+counted q zero start = 0
+counted q (suc count) start = if q start then suc (counted q count (suc start)) else counted q count (suc start)
+
+-- one more, or one less
+abbrev pub changed : Bool → ℕ → ℕ
+changed true count = count + 1
+changed false count = count - 1
+
+-- how many of a class's methods pass
+abbrev pub counted_of : Methods → (ℕ → Bool) → ℕ → ℕ
+counted_of m q class =
+    counted q ((section_of m.members.first.items class).1 - (section_of m.members.first.items class).0) (section_of m.members.first.items class).0
+
+-- a row for all classes has at each of them no less than pass of its methods
+abbrev pub HasCounts : Methods → ℕ → (ℕ → Bool) → List ℕ → Type 0
+HasCounts m count q row = length row ≡ count → (class : ℕ) → class < count → counted_of m q class ≤ slice_index row class
+
+-- the rows of all classes have what is left over in them
+abbrev pub IsLeftOver : List DeclaredClass → Methods → LeftOver → Type 0
+IsLeftOver classes m found =
+    (class : ℕ) → class < length classes
+    → HasCounts m (length classes) (is_owed classes m (λ signature. is_open classes (selected_at m (Some class) signature)))
+    (list_in found.rows.items class)
+
+-- ---- by what methods are counted
+
+-- the marks are those of the methods, and no method that has one is passed over
+pub record IsCounting (classes : List DeclaredClass) (c : Counting) : Type 0 where
+  pub linking : IsLinking classes c.linking
+  pub marks : c.marks.now ≡ map (can_be_met classes c.linking.methods.now) (numbers_below c.linking.methods.now.signatures.count)
+  pub alike : AreAlike c.linking.methods.now.signatures.of_members.items c.marks.now c.alike.now
+
+-- no method of a class, of its superclasses and of their superinterfaces is left over in it
+abbrev pub NoneLeft : List DeclaredClass → Methods → ℕ → Type 0
+NoneLeft classes m class =
+    (above : ℕ) → is_among above (chain_of classes class ++ interfaces_of classes class) ≡ true
+    → counted_of m (is_owed classes m (λ signature. is_open classes (selected_at m (Some class) signature))) above ≡ 0

@@ -17,8 +17,6 @@ loop-file-init c =
     let given = given_in c.args.files.now in
     let e : length built_in ≡ length built_in + 0 = omega arith in
     record {
-      found = λ linked.
-          c.in_ok-find_all.ensures (classes_of given) linked (c.in_ok-found.ensures (classes_of given) (ap length linked.hierarchy.classes_are));
       left = λ linked. ap (λ n. each_from n (not_implemented (classes_of given)) given) e;
     }
 
@@ -43,7 +41,7 @@ returns-in_err-refuse_in_class c = λ linked.
     (refused_not_implemented given) first
     c.loop-file-test.true c.file-item.is
     (subst (λ n. IsFirst (not_implemented classes (class_in c.file-item.result) n) first) number
-    (c.in_err-refuse_in_class.ensures.refuses classes linked within (c.loop-file.invariant.found linked)))
+    (c.in_err-refuse_in_class.ensures classes linked within (c.in_ok-found.ensures classes linked)))
     (c.loop-file.invariant.left linked))
 
 pub loop-file-preserved : goal.loop-file-preserved
@@ -55,16 +53,14 @@ loop-file-preserved c =
     let number : c.in_ok-class.class ≡ length built_in + c.loop-file.file-index = c.in_ok-class.ensures
     ∙ ap (λ n. length built_in + n) here.number_is in
     let within = class_within c.args.files.now c.loop-file.file-index c.in_ok-class.class number c.loop-file-test.true in
-    let inv = c.loop-file.invariant in
     record {
-      found = λ linked. c.in_ok-refuse_in_class.ensures.keeps classes linked within (inv.found linked);
       left = λ linked.
           each_none (length built_in) (not_implemented classes) c.args.files.now c.loop-file.file-index c.file-item.result
           (refused_not_implemented given) c.loop-file-test.true
           c.file-item.is
           (subst (λ n. not_implemented classes (class_in c.file-item.result) n ≡ []) number
-          (c.in_ok-refuse_in_class.ensures.refuses classes linked within (inv.found linked)))
-          (inv.left linked);
+          (c.in_ok-refuse_in_class.ensures classes linked within (c.in_ok-found.ensures classes linked)))
+          (c.loop-file.invariant.left linked);
     }
 
 pub returns : goal.returns

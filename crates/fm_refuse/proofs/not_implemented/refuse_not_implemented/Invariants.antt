@@ -1,7 +1,6 @@
 use Rattle.std.proofs.Common.{◌≡◌, length}
 use Rattle.fm_refuse.proofs.LeftOver.{each_left}
 use Rattle.fm_refuse.specs.inner.GivenClasses.{given_in}
-use Rattle.fm_refuse.specs.inner.LeftOver.{IsLeftOver}
 use Rattle.fm_refuse.specs.inner.Linking.{IsLinking}
 use Rattle.fm_world.specs.BuiltIns.{built_in}
 use Rattle.fm_world.specs.Causes.{not_implemented}
@@ -11,7 +10,6 @@ use Rattle.fm_refuse.proofs.not_implemented.refuse_not_implemented.Given as goal
 
 abbrev pub invariant-loop-file : goal.invariant-loop-file
 invariant-loop-file l = record {
-  found : IsLinking (classes_of (given_in l.files)) l.linking → IsLeftOver (classes_of (given_in l.files)) l.found;
   left : IsLinking (classes_of (given_in l.files)) l.linking
       → refused_not_implemented (given_in l.files)
       ≡ each_left (length built_in) (not_implemented (classes_of (given_in l.files))) l.files l.file-index;

@@ -3,9 +3,12 @@ use Rattle.std.specs.Cmp.{booleans_Decides}
 use Rattle.std.specs.List.{list_any}
 use Rattle.std.proofs.lemmas.Bool.{false≢true}
 use Rattle.std.proofs.lemmas.Slice.Eq.{slice_eq-Decides}
-use Rattle.fm_lookup.proofs.InterfaceLemmas.{deeper_stays, IsDeeper, listed_count, round_done}
-use Rattle.fm_lookup.specs.inner.InterfaceRounds.{AreFoundTo, is_set, Lists, settled_to}
+use Rattle.fm_lookup.proofs.InterfaceLemmas.{deeper_stays, IsDeeper, round_done}
+use Rattle.fm_lookup.proofs.OnceEach.{any_once, once_count, settled_once}
+use Rattle.fm_lookup.specs.inner.InterfaceRounds.{AreFoundTo, is_set, ListsOnce, settled_to}
 use Rattle.fm_lookup.specs.inner.ListTables.{lists}
+use Rattle.fm_world.specs.Chains.{listed_interfaces}
+use Rattle.fm_world.specs.inner.Tables.{numbers_below}
 use Rattle.fm_world.specs.declared.declarations.DeclaredClass.{DeclaredClass}
 use Rattle.fm_lookup.proofs.interfaces.Superinterfaces.go_deeper.Goals as goal
 
@@ -14,7 +17,7 @@ before : (classes : List DeclaredClass) (round : ℕ) (c : goal.After-drop-self)
     → IsDeeper classes round c.args.self.now.leads_into_cycle.items (lists c.args.self.now.above.items)
 before classes round c is = record { marks_are = is.goes_on; above_is = is.above }
 
-after : (classes : List DeclaredClass) (round : ℕ) (c : goal.After-drop-self) → Lists classes c.args.listed.now → round ≤ length classes
+after : (classes : List DeclaredClass) (round : ℕ) (c : goal.After-drop-self) → ListsOnce classes c.args.listed.now → round ≤ length classes
     → AreFoundTo classes round c.args.self.now → IsDeeper classes (suc round) c.in_ok-deeper.deeper.items (lists c.settle.new.above.items)
 after classes round c same few is =
     let listed = lists c.args.listed.now in
@@ -22,10 +25,13 @@ after classes round c same few is =
     let marks = c.args.self.now.leads_into_cycle.items in
     let deeper = c.in_ok-deeper.deeper.items in
     let above = lists c.args.self.now.above.items in
-    round_done classes round count listed marks deeper above (lists c.settle.new.above.items) same (listed_count classes c.args.listed.now same) few
-    (before classes round c is) (c.in_ok-deeper.ensures ∙ ap (λ m. map (list_any (is_set m)) listed) c.as_slice.ensures.value)
+    let all = map (listed_interfaces classes) (numbers_below (length classes)) in
+    round_done classes round count all marks deeper above (lists c.settle.new.above.items) refl (once_count classes c.args.listed.now same) few
+    (before classes round c is) (c.in_ok-deeper.ensures ∙ ap (λ m. map (list_any (is_set m)) listed) c.as_slice.ensures.value
+    ∙ ap (map (list_any (is_set marks))) same ∙ any_once (is_set marks) all)
     (c.in_ok-settle.ensures ∙ ap (λ m. settled_to listed m c.as_slice-3.result.now above count) c.as_slice-2.ensures.value
-    ∙ ap (λ m. settled_to listed marks m above count) c.as_slice-3.ensures.value)
+    ∙ ap (λ m. settled_to listed marks m above count) c.as_slice-3.ensures.value
+    ∙ ap (λ ls. settled_to ls marks deeper above count) same ∙ settled_once all marks deeper above count)
 
 pub returns-clause-deeper : goal.returns-clause-deeper
 returns-clause-deeper c classes round same few is =

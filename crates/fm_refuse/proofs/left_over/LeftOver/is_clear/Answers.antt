@@ -1,20 +1,25 @@
-use Rattle.std.proofs.Common.{◌≡◌, refl, sym, ◌∙◌, ap, subst, ℕ, List, [], ◌∷◌, length, arith}
-use Rattle.std.proofs.lemmas.Bool.{eqb-true}
+use Rattle.std.proofs.Common.{◌≡◌, ◌∙◌, sym, ap, subst, length, refl, rules, Some}
+use Rattle.fm_declare.specs.inner.Numbering.{texts_in}
+use Rattle.fm_lookup.proofs.FoundLemmas.{list_in-row}
 use Rattle.fm_lookup.specs.inner.ListTables.{list_in}
-use Rattle.fm_refuse.specs.inner.LeftOver.{HasOwed}
+use Rattle.fm_world.specs.Chains.{chain_of, interfaces_of, is_among}
+use Rattle.fm_refuse.proofs.LeftOverCounts.{none_of_both}
+use Rattle.fm_refuse.specs.inner.LeftOver.{is_open, is_owed, selected_at, HasCounts}
 use Rattle.fm_refuse.proofs.left_over.LeftOver.is_clear.Goals as goal
 
-pub returns-clause-keeps : goal.returns-clause-keeps
-returns-clause-keeps c = λ classes linked within are.
-    c.in_ok-find.ensures.keeps classes linked within (c.in_ok-find_above.ensures classes linked within are)
-
-no_elements : (xs : List ℕ) → length xs ≡ 0 → xs ≡ []
-no_elements [] e = refl
-no_elements (x ∷ xs) e = absurd (omega (arith, e))
-
-pub returns-clause-clear : goal.returns-clause-clear
-returns-clause-clear c = λ classes linked within are clear.
-    let none = no_elements c.list_at.result.now (eqb-true (length c.list_at.result.now) 0 (sym c.is_empty.ensures ∙ clear)) in
-    subst (HasOwed classes c.args.class)
-    (sym (c.list_at.ensures ∙ ap (λ t. list_in t c.args.class) c.as_slice.ensures.value) ∙ none)
-    (c.in_ok-find.ensures.found classes linked within (c.in_ok-find_above.ensures classes linked within are))
+pub returns : goal.returns
+returns c = λ classes linked within are clear.
+    let m = c.args.linking.methods.now in
+    let h = c.args.linking.hierarchy.now in
+    let q = is_owed classes m (λ s. is_open classes (selected_at m (Some c.args.class) s)) in
+    let row = c.list_at-row.result.now in
+    let row_is = c.list_at-row.ensures ∙ ap (λ t. list_in t c.args.class) c.as_slice.ensures.value in
+    let long : length row ≡ length h.classes.now = search rules in
+    let chain = c.chain.ensures ∙ list_in-row (chain_of classes) (length classes) c.args.class h.chains.items linked.hierarchy.chains within in
+    let listed = c.list_at.ensures ∙ ap (λ t. list_in t c.args.class) c.as_slice-2.ensures.value
+    ∙ list_in-row (interfaces_of classes) (length classes) c.args.class h.interfaces.items linked.hierarchy.interfaces within in
+    none_of_both (texts_in c.args.linking.texts.now) classes m q row (chain_of classes c.args.class) (interfaces_of classes c.args.class) linked.methods
+    (long ∙ ap length linked.hierarchy.classes_are)
+    (subst (HasCounts m (length classes) q) (sym row_is) (are c.args.class within))
+    (λ k among. c.if-not-are_zero.ensures refl k (ap (is_among k) chain ∙ among))
+    (λ k among. c.are_zero-2.ensures clear k (ap (is_among k) listed ∙ among))
