@@ -1,0 +1,3 @@
+pub mod ByPlan
+pub mod Conditions
+pub mod Laws
