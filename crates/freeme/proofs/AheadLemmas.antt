@@ -14,7 +14,7 @@ use Rattle.fm_base.proofs.TestFacts.{bytes_eq-other}
 use Rattle.fm_code.specs.declared.class_file.ClassDef.{ClassDef}
 use Rattle.freeme.specs.Ahead.{IsBuilt, IsBuiltAt}
 use Rattle.freeme.specs.Writing.{class_text}
-use Rattle.freeme.proofs.ListLemmas.{take_next}
+use Rattle.fm_given.proofs.ListLemmas.{take_next}
 
 -- one more class is built
 pub built_more : (classes : List ClassDef) (i : ℕ) (c : ClassDef) → slice_get classes i ≡ Some c → IsBuilt classes i c → ((k : ℕ) → k < i → IsBuiltAt classes k) → (k : ℕ) → k < i + 1 → IsBuiltAt classes k

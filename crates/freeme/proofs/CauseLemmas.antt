@@ -2,8 +2,8 @@
 use Rattle.std.proofs.Common.{◌≡◌, ◌≢◌, ◌≤◌, ℕ, ◌⊎◌, inl, inr, ⊎_elim, List, [], ◌∷◌, Contains, Option, Some, None, Ok, Err, IfSome, IsSomeAnd, string_bytes, eqb, false, refl, sym, ap, ◌∙◌, subst, arith}
 use Rattle.std.specs.List.{list_any, slice_get}
 use Rattle.fm_base.proofs.ContainsFacts.{Contains-cons_cases, unlike_elements}
-use Rattle.fm_base.proofs.OptionFacts.{Some-from_is_some, Some-from_some_and, IsSomeAnd-weaker}
-use Rattle.fm_files.specs.Files.{Bytes, Contents, Disk, AreKept}
+use Rattle.fm_base.proofs.OptionFacts.{Some-from_is_some, Some-from_some_and}
+use Rattle.fm_files.specs.Files.{Bytes, Disk, AreKept}
 use Rattle.fm_files.specs.Sink.{Output, with_piece}
 use Rattle.fm_tool.specs.Line.{Tells}
 use Rattle.fm_tool.specs.Outside.{HasNoFault}
@@ -13,28 +13,27 @@ use Rattle.fm_tool.proofs.LineLemmas.{instead_for_file, instead_for_words, told_
 use Rattle.fm_tool.proofs.OutsideLemmas.{no_fault_where_same, known_such}
 use Rattle.fm_tool.specs.declared.status.TheConstants.{DONE, WORDS, READ, MALFORMED, VERSION, LIMIT, UNSUPPORTED, LINK, CHECK, WRITE, OUT_OF_MEMORY, NOT_YET}
 use Rattle.fm_code.specs.declared.class_file.ClassDef.{ClassDef}
-use Rattle.fm_untyped.specs.Untyped.{AreTyped}
 use Rattle.fm_refuse.specs.Refused.{refusal_of}
 use Rattle.fm_world.specs.Causes.{Refusal}
 use Rattle.fm_world.specs.Linking.{refusals}
-use Rattle.fm_world.specs.Programs.{Program}
 use Rattle.freeme.specs.Ahead.{IsBuilt, AreBuilt, IsFirstAhead}
-use Rattle.freeme.specs.ClassRefusal.{class_refusal_status}
-use Rattle.freeme.specs.Checking.{IsFirstUntypedName}
-use Rattle.freeme.specs.Causes.{AskFor, FailsARead, FailsAWrite, IsMissing, HasTooMany, IsKnownLong, IsKnownRefused, IsKnownUnlinked, IsKnownUntyped, IsKnownAhead, IsKnownPassed, SaysWords, SaysRead, SaysRefused, SaysLimit, SaysLink, SaysCheck, SaysNotYet, SaysDone, SaysUnwritten, SaysWrite, SaysMemory, LacksLine, IsForWords, IsForRead, IsForBytes, IsForLimit, IsForLink, IsForCheck, IsForNotYet, IsForDone, IsForWrite, IsForMemory, IsFaultless, KeepsContents, ChangesOnly}
-use Rattle.freeme.specs.LinkRefusal.{cause_line}
-use Rattle.freeme.specs.Request.{Job, Asks, AskNothing, main_name}
-use Rattle.freeme.specs.Taking.{total_bytes, AllTaken, Reaches, IsTooLong, IsRefused}
-use Rattle.freeme.specs.TopCall.{StaysWithin, AreMany, IsUntouched, IsBroken, AreRefused, IsNotLinked, job_program, ComesTo, ComesOfJob, ComesOf, Outcome, outcome_line, outcome_status}
-use Rattle.freeme.specs.declared.refusal.JobRefusal.TheVariants as job_refusal
-use Rattle.freeme.specs.Refusal.{many_line}
-use Rattle.freeme.specs.declared.class_refusal.ClassRefusal.{ClassRefusal}
+use Rattle.fm_given.specs.ClassRefusal.{class_refusal_status}
+use Rattle.fm_given.specs.Given.{AreMany, IsUntouched, AreRefused, IsNotLinked, given_program}
+use Rattle.freeme.specs.Causes.{AskFor, AskForGiven, IsKnownAhead, IsKnownPassed, SaysWords, SaysRead, SaysRefused, SaysLimit, SaysLink, SaysCheck, SaysNotYet, SaysDone, SaysUnwritten, SaysWrite, SaysMemory, LacksLine, IsForWords, IsForRead, IsForBytes, IsForLimit, IsForLink, IsForCheck, IsForNotYet, IsForDone, IsForWrite, IsForMemory, IsFaultless, KeepsContents, ChangesOnly}
+use Rattle.fm_given.specs.Causes.{FailsARead, FailsAWrite, IsMissing, HasTooMany, IsKnownLong, IsKnownRefused, IsKnownUnlinked, IsKnownUntyped}
+use Rattle.fm_given.specs.LinkRefusal.{cause_line}
+use Rattle.freeme.specs.Request.{Job, Asks, AskNothing, given_of, main_name}
+use Rattle.fm_given.specs.Taking.{total_bytes, AllTaken, IsTooLong, IsRefused}
+use Rattle.freeme.specs.TopCall.{StaysWithin, IsBroken, ComesTo, ComesOfJob, ComesOf, Outcome, outcome_line, outcome_status}
+use Rattle.fm_given.specs.declared.refusal.JobRefusal.TheVariants as job_refusal
+use Rattle.fm_given.specs.Refusal.{many_line}
 use Rattle.fm_tool.specs.Refusal.{memory_line}
 use Rattle.freeme.proofs.JobLemmas.{reads_within}
-use Rattle.freeme.proofs.ReadLemmas.{reads_none}
+use Rattle.fm_given.proofs.ReadLemmas.{reads_none}
 use Rattle.freeme.proofs.RequestLemmas.{asks_one}
-use Rattle.freeme.proofs.StatusLemmas.{class_status}
-use Rattle.freeme.proofs.VerdictLemmas.{FailsAs, Verdict, one_verdict}
+use Rattle.fm_given.proofs.KnownLemmas.{all_taken, bytes_stop, long_stops, missing_stops, not_empty, not_typed}
+use Rattle.fm_given.proofs.RefusalLemmas.{class_status}
+use Rattle.fm_given.proofs.VerdictLemmas.{Ends, EndsOnce, Links, links_once, Verdict, one_verdict}
 
 -- ---- what a status says
 
@@ -59,7 +58,7 @@ module _ (words : List Bytes) (old new : Disk) (before after : Output) where
   read_said o j is line = absurd (omega arith)
 
   -- 70
-  cause_said : (o : Outcome) (j : ComesOfJob words old new o) (cause : Option Refusal) → IsNotLinked j.job cause old new → after ≡ with_piece (cause_line cause) before → SaysLink words old new before after
+  cause_said : (o : Outcome) (j : ComesOfJob words old new o) (cause : Option Refusal) → IsNotLinked (given_of j.job) cause old new → after ≡ with_piece (cause_line cause) before → SaysLink words old new before after
   cause_said o j None unlinked line = absurd unlinked.refused
   cause_said o j (Some cause) unlinked line = record { job = j.job; asked = j.asked; cause = cause; unlinked = unlinked; line = line }
 
@@ -86,6 +85,7 @@ module _ (words : List Bytes) (old new : Disk) (before after : Output) where
   bytes_said : (status : ℕ) → 66 ≤ status → status ≤ 69 → status ≢ LIMIT → (o : Outcome) → ComesOfJob words old new o → outcome_status o ≡ status → after ≡ with_piece (outcome_line o) before → SaysRefused status words old new before after
   bytes_said status low high other (Err (job_refusal.TooManyFiles count)) j is line = absurd (other (sym is))
   bytes_said status low high other (Err (job_refusal.TooLong file)) j is line = absurd (other (sym is))
+  bytes_said status low high other (Err (job_refusal.TooManyArguments count)) j is line = absurd j.comes
   bytes_said status low high other (Err (job_refusal.Class file r)) j is line = record { job = j.job; asked = j.asked; file = file.now; refusal = r; status_is = is; refused = j.comes; line = line }
   bytes_said status low high other (Err (job_refusal.Shared refusal.Words)) j is line = absurd (omega arith)
   bytes_said status low high other o j is line = absurd (omega arith)
@@ -93,6 +93,7 @@ module _ (words : List Bytes) (old new : Disk) (before after : Output) where
   -- 68
   limit_said : (o : Outcome) → ComesOfJob words old new o → outcome_status o ≡ LIMIT → after ≡ with_piece (outcome_line o) before → SaysLimit words old new before after
   limit_said (Err (job_refusal.TooManyFiles count)) j is line = let Many : ℕ → Type 0 = λ n. AreMany j.job.files n old new × (after ≡ with_piece (many_line n) before) in let own = subst Many j.comes.count_is (j.comes, line) in inl (record { job = j.job; asked = j.asked; many = own.0; line = own.1 })
+  limit_said (Err (job_refusal.TooManyArguments count)) j is line = absurd j.comes
   limit_said (Err (job_refusal.TooLong file)) j is line = inr (inl (record { job = j.job; asked = j.asked; file = file.now; long = j.comes; line = line }))
   limit_said (Err (job_refusal.Class file r)) j is line = inr (inr (record { job = j.job; asked = j.asked; file = file.now; refusal = r; status_is = is; refused = j.comes; line = line }))
   limit_said (Err (job_refusal.Shared refusal.Words)) j is line = absurd (omega arith)
@@ -127,6 +128,7 @@ FailsSo old new status =
 job_fails : (job : Job) (old new : Disk) (o : Outcome) → ComesTo job old new o → FailsSo old new (outcome_status o)
 job_fails job old new (Ok lines) comes = inl comes.written.faultless
 job_fails job old new (Err (job_refusal.Shared refusal.Words)) comes = absurd comes
+job_fails job old new (Err (job_refusal.TooManyArguments count)) comes = absurd comes
 job_fails job old new (Err (job_refusal.Shared (refusal.Read file))) comes = inr (inl (refl, comes.fault.writes))
 job_fails job old new (Err (job_refusal.Shared (refusal.NotYet file))) comes = inl comes.untouched.faultless
 job_fails job old new (Err (job_refusal.Shared refusal.OutOfMemory)) comes = ⊎_elim (λ untouched. inl untouched.faultless) (λ broken. inl broken.written.faultless) comes
@@ -146,6 +148,7 @@ fails_so words old new o (inr (inr lacking)) = inl (no_fault_where_same old new 
 job_keeps : (job : Job) (old new : Disk) (o : Outcome) → ComesTo job old new o → outcome_status o ≢ DONE → outcome_status o ≢ WRITE → outcome_status o ≢ OUT_OF_MEMORY → new.contents ≡ old.contents
 job_keeps job old new (Ok lines) comes done write memory = absurd (done refl)
 job_keeps job old new (Err (job_refusal.Shared refusal.Words)) comes done write memory = absurd comes
+job_keeps job old new (Err (job_refusal.TooManyArguments count)) comes done write memory = absurd comes
 job_keeps job old new (Err (job_refusal.Shared (refusal.Read file))) comes done write memory = comes.kept
 job_keeps job old new (Err (job_refusal.Shared (refusal.NotYet file))) comes done write memory = comes.untouched.kept
 job_keeps job old new (Err (job_refusal.Shared refusal.OutOfMemory)) comes done write memory = absurd (memory refl)
@@ -170,63 +173,50 @@ not_built classes place first built =
     let P : Option ClassDef → Type 0 = λ x. IfSome x (IsBuilt classes place) in
     found.2 (subst P found.1 (built place))
 
--- not each method is typed where one isn't
-not_typed : (p : Program) (name : Bytes) → IsFirstUntypedName p name → ¬ AreTyped p
-not_typed p name found typed = found.first.untyped.untyped (typed found.method found.first.untyped.coded)
+-- classes of a program are built so far or not
+abbrev Builds : Ends
+Builds classes status = (AreBuilt classes × (status ≡ DONE)) ⊎ ((¬ AreBuilt classes) × (status ≡ NOT_YET))
 
--- a list that has a first refusal isn't empty
-not_empty : (rs : List Refusal) (cause : Refusal) → slice_get rs 0 ≡ Some cause → ¬ (rs ≡ [])
-not_empty rs cause first empty = let P : List Refusal → Type 0 = λ xs. slice_get xs 0 ≡ Some cause in let none = subst P empty first in cc
+builds_once : EndsOnce Builds
+builds_once classes s t (inl a) (inl b) = a.1 ∙ sym b.1
+builds_once classes s t (inl a) (inr b) = absurd (b.0 a.0)
+builds_once classes s t (inr a) (inl b) = absurd (a.0 b.0)
+builds_once classes s t (inr a) (inr b) = a.1 ∙ sym b.1
+
+-- what the files of a job come to
+abbrev JobVerdict : (Bytes → Option Bytes) → Job → ℕ → Type 0
+JobVerdict held job status = Verdict (Links Builds (main_name job)) held job.files status
 
 module _ (job : Job) (old new : Disk) (held : Bytes → Option Bytes) (known : old.contents ≡ Some held) where
-  reached : (file : Bytes) (before : List ClassDef) → Reaches old.contents job.files file before → Reaches (Some held) job.files file before
-  reached file before = let P : Contents → Type 0 = λ c. Reaches c job.files file before in subst P known
-
-  all_taken : (classes : List ClassDef) → AllTaken old.contents job.files classes → AllTaken (Some held) job.files classes
-  all_taken classes = let P : Contents → Type 0 = λ c. AllTaken c job.files classes in subst P known
-
-  -- a file that is too long or refused
-  long_stops : (file : Bytes) (before : List ClassDef) → Reaches (Some held) job.files file before → IsSomeAnd (held file) (IsTooLong (total_bytes before)) → Verdict held job.files (main_name job) LIMIT
-  long_stops file before reaches long = inr (inl (record {
-    file = file;
-    before = before;
-    reaches = reaches;
-    fails = inr (IsSomeAnd-weaker (held file) (IsTooLong (total_bytes before)) (FailsAs LIMIT (total_bytes before)) (λ bytes is. inl (is, refl)) long);
-  }))
-
-  bytes_stop : (status : ℕ) (file : Bytes) (before : List ClassDef) (r : ClassRefusal) → class_refusal_status r ≡ status → Reaches (Some held) job.files file before → IsSomeAnd (held file) (IsRefused r (total_bytes before)) → Verdict held job.files (main_name job) status
-  bytes_stop status file before r is reaches refused = inr (inl (record {
-    file = file;
-    before = before;
-    reaches = reaches;
-    fails = inr (IsSomeAnd-weaker (held file) (IsRefused r (total_bytes before)) (FailsAs status (total_bytes before)) (λ bytes bad. inr (r, bad, sym is)) refused);
-  }))
+  all_known : (classes : List ClassDef) → AllTaken old.contents job.files classes → AllTaken (Some held) job.files classes
+  all_known = all_taken job.files old.contents held known
 
   -- the verdict of an outcome, unless it is for a fault or for memory
   abbrev Comes : ℕ → Type 0
-  Comes status = Verdict held job.files (main_name job) status ⊎ ((status ≡ READ) ⊎ ((status ≡ WRITE) ⊎ (status ≡ OUT_OF_MEMORY)))
+  Comes status = JobVerdict held job status ⊎ ((status ≡ READ) ⊎ ((status ≡ WRITE) ⊎ (status ≡ OUT_OF_MEMORY)))
 
   verdict_of : (o : Outcome) → ComesTo job old new o → Comes (outcome_status o)
-  verdict_of (Ok lines) comes = inl (inr (inr (record { classes = comes.classes; taken = all_taken comes.classes comes.passed.checked.linked.taken; last = inr (comes.passed.checked.linked.linked, inr (comes.passed.checked.typed, inl (comes.passed.built, refl))) })))
+  verdict_of (Ok lines) comes = inl (inr (inr (record { classes = comes.classes; taken = all_known comes.classes comes.passed.checked.linked.taken; last = inr (comes.passed.checked.linked.linked, inr (comes.passed.checked.typed, inl (comes.passed.built, refl))) })))
   verdict_of (Err (job_refusal.Shared refusal.Words)) comes = absurd comes
+  verdict_of (Err (job_refusal.TooManyArguments count)) comes = absurd comes
   verdict_of (Err (job_refusal.Shared (refusal.Read file))) comes = inr (inl refl)
-  verdict_of (Err (job_refusal.Shared (refusal.NotYet file))) comes = inl (inr (inr (record { classes = comes.classes; taken = all_taken comes.classes comes.checked.linked.taken; last = inr (comes.checked.linked.linked, inr (comes.checked.typed, inr (not_built comes.classes comes.place comes.ahead, refl))) })))
+  verdict_of (Err (job_refusal.Shared (refusal.NotYet file))) comes = inl (inr (inr (record { classes = comes.classes; taken = all_known comes.classes comes.checked.linked.taken; last = inr (comes.checked.linked.linked, inr (comes.checked.typed, inr (not_built comes.classes comes.place comes.ahead, refl))) })))
   verdict_of (Err (job_refusal.Shared refusal.OutOfMemory)) comes = inr (inr (inr refl))
   verdict_of (Err (job_refusal.TooManyFiles count)) comes = let count = comes.count_is in let many = comes.many in inl (inl (omega arith, refl))
-  verdict_of (Err (job_refusal.TooLong file)) comes = inl (long_stops file.now comes.before (reached file.now comes.before comes.reaches) (known_such old.contents held file.now (IsTooLong (total_bytes comes.before)) known comes.long))
-  verdict_of (Err (job_refusal.Class file r)) comes = inl (bytes_stop (class_refusal_status r) file.now comes.before r refl (reached file.now comes.before comes.reaches) (known_such old.contents held file.now (IsRefused r (total_bytes comes.before)) known comes.refused))
+  verdict_of (Err (job_refusal.TooLong file)) comes = inl (inr (inl (long_stops job.files old.contents held known file.now comes.before comes.reaches (known_such old.contents held file.now (IsTooLong (total_bytes comes.before)) known comes.long))))
+  verdict_of (Err (job_refusal.Class file r)) comes = inl (inr (inl (bytes_stop job.files old.contents held known (class_refusal_status r) file.now comes.before r refl comes.reaches (known_such old.contents held file.now (IsRefused r (total_bytes comes.before)) known comes.refused))))
   verdict_of (Err (job_refusal.Link fail)) comes =
-      let found = Some-from_some_and (refusal_of fail) (AreRefused job old.contents) comes.refused in
+      let found = Some-from_some_and (refusal_of fail) (AreRefused (given_of job) old.contents) comes.refused in
       let refused = found.2 in
-      inl (inr (inr (record { classes = refused.classes; taken = all_taken refused.classes refused.taken; last = inl (not_empty (refusals refused.classes (main_name job)) found.0 refused.first, refl) })))
-  verdict_of (Err (job_refusal.Check name)) comes = inl (inr (inr (record { classes = comes.classes; taken = all_taken comes.classes comes.linked.taken; last = inr (comes.linked.linked, inl (not_typed (job_program job comes.classes) name comes.untyped, refl)) })))
+      inl (inr (inr (record { classes = refused.classes; taken = all_known refused.classes refused.taken; last = inl (not_empty (refusals refused.classes (main_name job)) found.0 refused.first, refl) })))
+  verdict_of (Err (job_refusal.Check name)) comes = inl (inr (inr (record { classes = comes.classes; taken = all_known comes.classes comes.linked.taken; last = inr (comes.linked.linked, inl (not_typed (given_program (given_of job) comes.classes) name comes.untyped, refl)) })))
   verdict_of (Err (job_refusal.Write name)) comes = inr (inr (inl refl))
 
   -- files of this verdict have its status, unless there was a fault or memory was lacking
-  status_of : (status : ℕ) (o : Outcome) → Verdict held job.files (main_name job) status → ComesTo job old new o → Contains (status ∷ instead_for_file) (outcome_status o)
+  status_of : (status : ℕ) (o : Outcome) → JobVerdict held job status → ComesTo job old new o → Contains (status ∷ instead_for_file) (outcome_status o)
   status_of status o verdict comes = go (verdict_of o comes) where
     go : Comes (outcome_status o) → Contains (status ∷ instead_for_file) (outcome_status o)
-    go (inl own) = (0, omega arith, one_verdict held job.files (main_name job) status (outcome_status o) verdict own)
+    go (inl own) = (0, omega arith, one_verdict (Links Builds (main_name job)) (links_once Builds (main_name job) builds_once) held job.files status (outcome_status o) verdict own)
     go (inr (inl e)) = (1, omega arith, sym e)
     go (inr (inr (inl e))) = (2, omega arith, sym e)
     go (inr (inr (inr e))) = (3, omega arith, sym e)
@@ -234,9 +224,10 @@ module _ (job : Job) (old new : Disk) (held : Bytes → Option Bytes) (known : o
 -- ---- the cause of each status
 
 -- too many files have one status, and memory may be lacking
-many_status : (job : Job) (old new : Disk) → HasTooMany job → (o : Outcome) → ComesTo job old new o → Contains (LIMIT ∷ instead_for_words) (outcome_status o)
+many_status : (job : Job) (old new : Disk) → HasTooMany (given_of job) → (o : Outcome) → ComesTo job old new o → Contains (LIMIT ∷ instead_for_words) (outcome_status o)
 many_status job old new many (Ok lines) comes = absurd (let few = comes.passed.checked.linked.taken.few in omega arith)
 many_status job old new many (Err (job_refusal.Shared refusal.Words)) comes = absurd comes
+many_status job old new many (Err (job_refusal.TooManyArguments count)) comes = absurd comes
 many_status job old new many (Err (job_refusal.Shared (refusal.Read file))) comes = absurd (let few = comes.reaches.few in omega arith)
 many_status job old new many (Err (job_refusal.Shared (refusal.NotYet file))) comes = absurd (let few = comes.checked.linked.taken.few in omega arith)
 many_status job old new many (Err (job_refusal.Shared refusal.OutOfMemory)) comes = (2, omega arith, refl)
@@ -244,7 +235,7 @@ many_status job old new many (Err (job_refusal.TooManyFiles count)) comes = (0, 
 many_status job old new many (Err (job_refusal.TooLong file)) comes = (0, omega arith, refl)
 many_status job old new many (Err (job_refusal.Class file r)) comes = absurd (let few = comes.reaches.few in omega arith)
 many_status job old new many (Err (job_refusal.Link fail)) comes =
-    absurd (let found = Some-from_some_and (refusal_of fail) (AreRefused job old.contents) comes.refused in let few = found.2.taken.few in omega arith)
+    absurd (let found = Some-from_some_and (refusal_of fail) (AreRefused (given_of job) old.contents) comes.refused in let few = found.2.taken.few in omega arith)
 many_status job old new many (Err (job_refusal.Check name)) comes = absurd (let few = comes.linked.taken.few in omega arith)
 many_status job old new many (Err (job_refusal.Write name)) comes = (1, omega arith, refl)
 
@@ -271,60 +262,54 @@ module _ (words : List Bytes) (old new : Disk) (o : Outcome) (comes : ComesOf wo
     go (inr (inr lacking)) = inr (ap outcome_status lacking.refused)
 
   -- a verdict of its files decides the status, unless there was a fault or memory was lacking
-  decided : (status : ℕ) (job : Job) (held : Bytes → Option Bytes) → old.contents ≡ Some held → Asks words job → Verdict held job.files (main_name job) status → Contains (status ∷ instead_for_file) (outcome_status o)
+  decided : (status : ℕ) (job : Job) (held : Bytes → Option Bytes) → old.contents ≡ Some held → Asks words job → JobVerdict held job status → Contains (status ∷ instead_for_file) (outcome_status o)
   decided status job held known asked verdict = ⊎_elim
       (λ (job_comes : ComesTo job old new o). status_of job old new held known status o verdict job_comes)
       (λ (lacking : outcome_status o ≡ OUT_OF_MEMORY). (3, omega arith, sym lacking))
       (of_job job asked)
 
-  missing_decides : AskFor words (IsMissing old) → Contains instead_for_file (outcome_status o)
+  missing_decides : AskForGiven words (IsMissing old) → Contains instead_for_file (outcome_status o)
   missing_decides (job, (asked, cause)) =
       let found = Some-from_some_and old.contents (λ held. held cause.file ≡ None) cause.missing in
       let decides : Contains (READ ∷ instead_for_file) (outcome_status o) =
-      decided READ job found.0 found.1 asked (inr (inl (record {
-        file = cause.file;
-        before = cause.before;
-        reaches = reached job old new found.0 found.1 cause.file cause.before cause.reaches;
-        fails = inl (found.2, refl);
-      }))) in
+      decided READ job found.0 found.1 asked (inr (inl (missing_stops job.files old.contents found.0 found.1 cause.file cause.before cause.reaches found.2))) in
       ⊎_elim (λ (same : outcome_status o ≡ READ). (0, omega arith, sym same)) (λ (one : Contains instead_for_file (outcome_status o)). one) (Contains-cons_cases READ instead_for_file (outcome_status o) decides)
 
-  long_decides : AskFor words (IsKnownLong old) → Contains (LIMIT ∷ instead_for_file) (outcome_status o)
+  long_decides : AskForGiven words (IsKnownLong old) → Contains (LIMIT ∷ instead_for_file) (outcome_status o)
   long_decides (job, (asked, cause)) =
       let found = Some-from_some_and old.contents (λ held. IsSomeAnd (held cause.file) (IsTooLong (total_bytes cause.before))) cause.long in
-      decided LIMIT job found.0 found.1 asked
-      (long_stops job old new found.0 found.1 cause.file cause.before (reached job old new found.0 found.1 cause.file cause.before cause.reaches) found.2)
+      decided LIMIT job found.0 found.1 asked (inr (inl (long_stops job.files old.contents found.0 found.1 cause.file cause.before cause.reaches found.2)))
 
-  bytes_decide : (status : ℕ) → AskFor words (IsKnownRefused status old) → Contains (status ∷ instead_for_file) (outcome_status o)
+  bytes_decide : (status : ℕ) → AskForGiven words (IsKnownRefused status old) → Contains (status ∷ instead_for_file) (outcome_status o)
   bytes_decide status (job, (asked, cause)) =
       let found = Some-from_some_and old.contents (λ held. IsSomeAnd (held cause.file) (IsRefused cause.refusal (total_bytes cause.before))) cause.refused in
       decided status job found.0 found.1 asked
-      (bytes_stop job old new found.0 found.1 status cause.file cause.before cause.refusal cause.status_is (reached job old new found.0 found.1 cause.file cause.before cause.reaches) found.2)
+      (inr (inl (bytes_stop job.files old.contents found.0 found.1 status cause.file cause.before cause.refusal cause.status_is cause.reaches found.2)))
 
   ahead_decides : AskFor words (IsKnownAhead old) → Contains (NOT_YET ∷ instead_for_file) (outcome_status o)
   ahead_decides (job, (asked, cause)) =
       let found = Some-from_is_some old.contents cause.known in
       decided NOT_YET job found.0 found.1 asked (inr (inr (record {
         classes = cause.classes;
-        taken = all_taken job old new found.0 found.1 cause.classes cause.checked.linked.taken;
+        taken = all_taken job.files old.contents found.0 found.1 cause.classes cause.checked.linked.taken;
         last = inr (cause.checked.linked.linked, inr (cause.checked.typed, inr (cause.ahead, refl)));
       })))
 
-  untyped_decides : AskFor words (IsKnownUntyped old) → Contains (CHECK ∷ instead_for_file) (outcome_status o)
+  untyped_decides : AskForGiven words (IsKnownUntyped old) → Contains (CHECK ∷ instead_for_file) (outcome_status o)
   untyped_decides (job, (asked, cause)) =
       let found = Some-from_is_some old.contents cause.known in
       decided CHECK job found.0 found.1 asked (inr (inr (record {
         classes = cause.classes;
-        taken = all_taken job old new found.0 found.1 cause.classes cause.linked.taken;
+        taken = all_taken job.files old.contents found.0 found.1 cause.classes cause.linked.taken;
         last = inr (cause.linked.linked, inl (cause.untyped, refl));
       })))
 
-  unlinked_decides : AskFor words (IsKnownUnlinked old) → Contains (LINK ∷ instead_for_file) (outcome_status o)
+  unlinked_decides : AskForGiven words (IsKnownUnlinked old) → Contains (LINK ∷ instead_for_file) (outcome_status o)
   unlinked_decides (job, (asked, cause)) =
       let found = Some-from_is_some old.contents cause.known in
       decided LINK job found.0 found.1 asked (inr (inr (record {
         classes = cause.classes;
-        taken = all_taken job old new found.0 found.1 cause.classes cause.taken;
+        taken = all_taken job.files old.contents found.0 found.1 cause.classes cause.taken;
         last = inl (cause.refused, refl);
       })))
 
@@ -333,11 +318,11 @@ module _ (words : List Bytes) (old new : Disk) (o : Outcome) (comes : ComesOf wo
       let found = Some-from_is_some old.contents cause.known in
       decided DONE job found.0 found.1 asked (inr (inr (record {
         classes = cause.classes;
-        taken = all_taken job old new found.0 found.1 cause.classes cause.passed.checked.linked.taken;
+        taken = all_taken job.files old.contents found.0 found.1 cause.classes cause.passed.checked.linked.taken;
         last = inr (cause.passed.checked.linked.linked, inr (cause.passed.checked.typed, inl (cause.passed.built, refl)));
       })))
 
-  many_decide : AskFor words HasTooMany → Contains (LIMIT ∷ instead_for_words) (outcome_status o)
+  many_decide : AskForGiven words HasTooMany → Contains (LIMIT ∷ instead_for_words) (outcome_status o)
   many_decide (job, (asked, many)) = ⊎_elim
       (λ (job_comes : ComesTo job old new o). many_status job old new many o job_comes)
       (λ (lacking : outcome_status o ≡ OUT_OF_MEMORY). (2, omega arith, sym lacking))
@@ -386,7 +371,7 @@ module _ {words : List Bytes} {old new : Disk} {before after : Output} {result :
   pub is_for_read : IsForRead words old new before after result
   is_for_read = comes_of_words (outcome_line o) (outcome_status o) before after result tells READ (λ e. omega arith) (λ e. omega arith)
       (of_job_alone READ (λ e. omega arith) (λ e. omega arith) (read_said words old new before after o))
-      (λ cause. ⊎_elim (λ (fault : FailsARead old new). fault_decides words old new o comes fault) (λ (missing : AskFor words (IsMissing old)). missing_decides words old new o comes missing) cause)
+      (λ cause. ⊎_elim (λ (fault : FailsARead old new). fault_decides words old new o comes fault) (λ (missing : AskForGiven words (IsMissing old)). missing_decides words old new o comes missing) cause)
 
   pub is_for_bytes : (status : ℕ) → 66 ≤ status → status ≤ 69 → status ≢ LIMIT → IsForBytes status words old new before after result
   is_for_bytes status low high other =

@@ -8,59 +8,41 @@ use Rattle.fm_base.proofs.ListFacts.{AllByRecursion-weaker}
 use Rattle.fm_base.proofs.OptionFacts.{Some-from_some_and, IsSome-from_some}
 use Rattle.fm_base.proofs.TestFacts.{same_or_other}
 use Rattle.fm_files.specs.Files.{Bytes, Contents, Disk}
-use Rattle.fm_code.specs.ClassBytes.{class_bytes}
 use Rattle.fm_code.specs.ConstantPool.{class_name_at}
 use Rattle.fm_code.specs.Profile.{IsWithinLimits}
-use Rattle.fm_code.specs.Spells.{HasSpelling}
 use Rattle.fm_code.specs.declared.class_file.ClassDef.{ClassDef}
 use Rattle.fm_tool.specs.Outside.{HasWriteFault}
 use Rattle.fm_tool.specs.declared.refusal.Refusal.TheVariants as refusal
 use Rattle.fm_untyped.specs.Untyped.{AreTyped}
 use Rattle.fm_refuse.specs.Refused.{refusal_of}
 use Rattle.fm_world.specs.Causes.{Refusal}
-use Rattle.fm_world.specs.Linking.{refusals}
+use Rattle.fm_world.specs.Linking.{refusals, IsLinked}
+use Rattle.fm_world.specs.Programs.{Program, program_of}
 use Rattle.freeme.specs.Ahead.{IsBuilt, AreBuilt, IsFirstAhead}
-use Rattle.freeme.specs.Checking.{IsFirstUntypedName}
-use Rattle.freeme.specs.Changes.{RisesOnlyAt, ChangesOnlyAt}
-use Rattle.freeme.specs.Request.{Job, job_of, main_name}
-use Rattle.freeme.specs.Taking.{AreTaken}
-use Rattle.freeme.specs.TopCall.{StaysWithin, IsUntouched, IsNotLinked, IsNotTyped, AreChecked, job_program, IsNotYet, ArePassed, IsDone, ComesTo}
+use Rattle.fm_given.specs.Given.{IsFirstUntypedName, IsUntouched, IsNotLinked, IsNotTyped, AreChecked, given_program}
+use Rattle.fm_given.specs.Changes.{RisesOnlyAt, ChangesOnlyAt}
+use Rattle.freeme.specs.Request.{Job, given_of, job_of, main_name}
+use Rattle.fm_given.specs.Taking.{AreTaken, IsSpelled}
+use Rattle.freeme.specs.TopCall.{StaysWithin, IsNotYet, ArePassed, IsDone, ComesTo}
 use Rattle.freeme.specs.Writing.{HasName, class_text, written_name, class_lines, IsClassFileIn, IsFileOf, AreWritten, AllWritten}
-use Rattle.freeme.specs.inner.Checking.{ComesOfProgram}
-use Rattle.freeme.specs.inner.Reading.{ReadsAll, AreRead}
-use Rattle.freeme.specs.inner.Writing.{IsSpelled, AreApart, KeepsReads, ComesOfClasses}
-use Rattle.freeme.specs.declared.refusal.JobRefusal.{JobRefusal}
-use Rattle.freeme.specs.declared.refusal.JobRefusal.TheVariants as job_refusal
-use Rattle.freeme.proofs.ChangesLemmas.{rises_of_kept, rises_then, changes_of_kept, changes_then, faultless_then, write_fault_then}
+use Rattle.fm_given.specs.Judging.{ComesOfProgram}
+use Rattle.fm_given.specs.Reading.{ReadsAll, AreRead}
+use Rattle.freeme.specs.inner.Writing.{AreApart, KeepsReads, ComesOfClasses}
+use Rattle.fm_given.specs.declared.refusal.JobRefusal.{JobRefusal}
+use Rattle.fm_given.specs.declared.refusal.JobRefusal.TheVariants as job_refusal
+use Rattle.fm_given.proofs.ChangesLemmas.{rises_of_kept, rises_then, changes_of_kept, changes_then, faultless_then, write_fault_then}
 use Rattle.freeme.specs.declared.request.Request.{Request}
-use Rattle.freeme.proofs.ListLemmas.{name_at}
-use Rattle.freeme.proofs.ReadLemmas.{same_number}
+use Rattle.fm_given.proofs.ListLemmas.{name_at}
+use Rattle.fm_given.proofs.ReadLemmas.{same_number}
+use Rattle.fm_given.proofs.TakenLemmas.{are_spelled, are_within}
 
 -- ---- classes that are taken
-
--- they are spelled
-pub are_spelled : (contents : Contents) (files : List Bytes) (classes : List ClassDef) → AreTaken contents files classes → AllByRecursion IsSpelled classes
-are_spelled contents [] [] taken = tt
-are_spelled contents (f ∷ files) (c ∷ classes) taken = (taken.0.spelled, are_spelled contents files classes taken.1)
-are_spelled contents [] (c ∷ classes) taken = absurd taken
-are_spelled contents (f ∷ files) [] taken = absurd taken
 
 -- and so they have names
 pub have_names : (classes : List ClassDef) → AllByRecursion IsSpelled classes → AllByRecursion HasName classes
 have_names classes spelled = AllByRecursion-weaker IsSpelled HasName named classes spelled where
   named : (c : ClassDef) → IsSpelled c → HasName c
   named c spells = let found = Some-from_some_and (class_name_at c.pool.entries c.this_class) _ spells.this_class in IsSome-from_some (class_name_at c.pool.entries c.this_class) found.0 found.1
-
--- and so some bytes spell them
-pub have_spellings : (classes : List ClassDef) → AllByRecursion IsSpelled classes → AllByRecursion HasSpelling classes
-have_spellings classes spelled = AllByRecursion-weaker IsSpelled HasSpelling (λ c spells. (class_bytes c, spells)) classes spelled
-
--- their methods' counts are within the limits
-are_within : (contents : Contents) (files : List Bytes) (classes : List ClassDef) → AreTaken contents files classes → AllByRecursion IsWithinLimits classes
-are_within contents [] [] taken = tt
-are_within contents (f ∷ files) (c ∷ classes) taken = (taken.0.profile.limits, are_within contents files classes taken.1)
-are_within contents [] (c ∷ classes) taken = absurd taken
-are_within contents (f ∷ files) [] taken = absurd taken
 
 -- classes that are built have names of their own
 pub are_apart : (classes : List ClassDef) → AreBuilt classes → AreApart classes
@@ -88,12 +70,12 @@ module _ (job : Job) (old new : Disk) (classes : List ClassDef) (read : AreRead 
   read_untouched = record { faultless = read.faultless; kept = all.writes.contents }
 
   -- they make no program
-  pub is_not_linked : (cause : Option Refusal) → IsSomeAnd cause (λ r. slice_get (refusals classes (main_name job)) 0 ≡ Some r) → IsNotLinked job cause old new
+  pub is_not_linked : (cause : Option Refusal) → IsSomeAnd cause (λ r. slice_get (refusals classes (main_name job)) 0 ≡ Some r) → IsNotLinked (given_of job) cause old new
   is_not_linked None first = absurd first
   is_not_linked (Some r) first = record { refused = record { classes = classes; taken = read.taken; first = first }; untouched = read_untouched }
 
   -- they make a program, of which a method isn't typed
-  pub is_not_typed : (name : Bytes) → refusals classes (main_name job) ≡ [] → IsFirstUntypedName (job_program job classes) name → IsNotTyped job name old new
+  pub is_not_typed : (name : Bytes) → refusals classes (main_name job) ≡ [] → IsFirstUntypedName (given_program (given_of job) classes) name → IsNotTyped (given_of job) name old new
   is_not_typed name linked untyped = record {
     classes = classes;
     linked = record { taken = read.taken; linked = linked };
@@ -102,7 +84,7 @@ module _ (job : Job) (old new : Disk) (classes : List ClassDef) (read : AreRead 
   }
 
   -- a class isn't built
-  pub is_not_yet : (place : ℕ) (file : Bytes) → AreChecked job old.contents classes → IsFirstAhead classes place → slice_get job.files place ≡ Some file → IsNotYet job file old new
+  pub is_not_yet : (place : ℕ) (file : Bytes) → AreChecked (given_of job) old.contents classes → IsFirstAhead classes place → slice_get job.files place ≡ Some file → IsNotYet job file old new
   is_not_yet place file checked first there = record {
     classes = classes;
     checked = checked;
@@ -178,7 +160,7 @@ module _ (job : Job) (old between new : Disk) (all : ReadsAll job.files old betw
     contents = let P : Contents → Type 0 = λ c. ChangesOnlyAt (IsClassFileIn job.folder) c new.contents in subst P same_contents writes.contents;
   }
 
-  module _ (classes : List ClassDef) (read : AreRead job.files classes old between) (checked : AreChecked job old.contents classes) (built : AreBuilt classes) where
+  module _ (classes : List ClassDef) (read : AreRead job.files classes old between) (checked : AreChecked (given_of job) old.contents classes) (built : AreBuilt classes) where
     passed : ArePassed job old.contents classes
     passed = record { checked = checked; built = built }
 
@@ -258,8 +240,8 @@ module _ {request : Request} {names : List (Bor Bytes)} {classes : List ClassDef
   ends_refused r now = absurd now
 
   -- they make a program whose methods are typed
-  pub are_checked : (refusals classes (main_name (job_of request)) ≡ []) × AreTyped (job_program (job_of request) classes) → AreChecked (job_of request) old.contents classes
-  are_checked (linked, typed) = record { linked = record { taken = reads.read.taken; linked = linked }; typed = typed }
+  pub are_checked : {program : Program} → IsLinked classes (main_name (job_of request)) (Ok program) × AreTyped (program_of classes (main_name (job_of request))) → AreChecked (given_of (job_of request)) old.contents classes
+  are_checked (linked, typed) = record { linked = record { taken = reads.read.taken; linked = linked.0 }; typed = typed }
 
   -- the name of the first class that isn't built is there
   module _ {ahead : Option ℕ} (place : ℕ) (found : ahead ≡ Some place) (says : MatchOption ahead (AreBuilt classes) (IsFirstAhead classes)) where
@@ -272,7 +254,7 @@ module _ {request : Request} {names : List (Bor Bytes)} {classes : List ClassDef
         let same : length names ≡ length (job_of request).files = sym (length-map names (λ n. n.now)) ∙ ap length reads.files_are in
         omega (arith, within, same)
 
-    pub ends_not_yet : (d : Bor Bytes) → AreChecked (job_of request) old.contents classes → IsNotYet (job_of request) (get_or names place d).now old between
+    pub ends_not_yet : (d : Bor Bytes) → AreChecked (given_of (job_of request)) old.contents classes → IsNotYet (job_of request) (get_or names place d).now old between
     ends_not_yet d checked =
         is_not_yet (job_of request) old between classes reads.read reads.all place (get_or names place d).now checked first
         (sym (ap (λ fs. slice_get fs place) reads.files_are) ∙ name_at names place d has_name)
@@ -282,7 +264,7 @@ module _ {request : Request} {names : List (Bor Bytes)} {classes : List ClassDef
     pub ends_within : (r : Result Unit JobRefusal) → ComesOfClasses request.folder.now classes between new r → StaysWithin (job_of request) old new
     ends_within r comes = writes_within (job_of request) old between new reads.all keeps (writes_in request.folder.now classes between new r comes)
 
-    module _ {ahead : Option ℕ} (checked : AreChecked (job_of request) old.contents classes) (none : ahead ≡ None) (says : MatchOption ahead (AreBuilt classes) (IsFirstAhead classes)) where
+    module _ {ahead : Option ℕ} (checked : AreChecked (given_of (job_of request)) old.contents classes) (none : ahead ≡ None) (says : MatchOption ahead (AreBuilt classes) (IsFirstAhead classes)) where
       built : AreBuilt classes
       built = all_built classes none says
 

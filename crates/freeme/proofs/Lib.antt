@@ -1,13 +1,6 @@
 pub mod AheadLemmas
 pub mod CauseLemmas
-pub mod CheckLemmas
-pub mod ChangesLemmas
 pub mod JobLemmas
-pub mod ListLemmas
-pub mod NameLemmas
-pub mod ReadLemmas
-pub mod RefusalLemmas
 pub mod RequestLemmas
 pub mod StatusLemmas
-pub mod VerdictLemmas
 pub mod WriteLemmas

@@ -1,28 +1,16 @@
 -- The status of a call is that of its outcome, or that of a failed put or of memory.
-use Rattle.std.proofs.Common.{◌≤◌, ℕ, [], ◌∷◌, Ok, Err, refl, arith}
+use Rattle.std.proofs.Common.{ℕ, [], ◌∷◌, Ok, Err, refl, arith}
 use Rattle.fm_files.specs.Sink.{Output}
 use Rattle.fm_tool.specs.Line.{Tells}
 use Rattle.fm_tool.proofs.LineLemmas.{told_among}
 use Rattle.fm_tool.specs.declared.refusal.Refusal.TheVariants as refusal
 use Rattle.fm_tool.specs.declared.status.TheConstants.{DONE, WORDS, READ, MALFORMED, VERSION, LIMIT, UNSUPPORTED, LINK, CHECK, WRITE, OUT_OF_MEMORY, NOT_YET}
 use Rattle.freeme.specs.Causes.{IsStatus}
-use Rattle.freeme.specs.ClassRefusal.{class_refusal_status}
 use Rattle.freeme.specs.TopCall.{Outcome, outcome_line, outcome_status}
-use Rattle.freeme.specs.declared.class_refusal.ClassRefusal.{ClassRefusal}
-use Rattle.freeme.specs.declared.class_refusal.ClassRefusal.TheVariants as refused
-use Rattle.freeme.specs.declared.refusal.JobRefusal.TheVariants as job_refusal
+use Rattle.fm_given.specs.declared.class_refusal.ClassRefusal.TheVariants as refused
+use Rattle.fm_given.specs.declared.refusal.JobRefusal.TheVariants as job_refusal
 
--- a class file is refused with a status from 66 to 69
-pub record IsForClass (status : ℕ) : Type 0 where
-  pub low : 66 ≤ status
-  pub high : status ≤ 69
-
-pub class_status : (r : ClassRefusal) → IsForClass (class_refusal_status r)
-class_status refused.Malformed = record { low = omega arith; high = omega arith }
-class_status (refused.Version major minor) = record { low = omega arith; high = omega arith }
-class_status (refused.Limit kind name count) = record { low = omega arith; high = omega arith }
-class_status (refused.Unsupported name offset) = record { low = omega arith; high = omega arith }
-
+-- the status of an outcome is one of these
 own_status : (o : Outcome) → IsStatus (outcome_status o)
 own_status (Ok lines) = (0, omega arith, refl)
 own_status (Err (job_refusal.Shared refusal.Words)) = (1, omega arith, refl)
@@ -30,6 +18,7 @@ own_status (Err (job_refusal.Shared (refusal.Read file))) = (2, omega arith, ref
 own_status (Err (job_refusal.Shared (refusal.NotYet file))) = (11, omega arith, refl)
 own_status (Err (job_refusal.Shared refusal.OutOfMemory)) = (10, omega arith, refl)
 own_status (Err (job_refusal.TooManyFiles count)) = (5, omega arith, refl)
+own_status (Err (job_refusal.TooManyArguments count)) = (5, omega arith, refl)
 own_status (Err (job_refusal.TooLong file)) = (5, omega arith, refl)
 own_status (Err (job_refusal.Class file refused.Malformed)) = (3, omega arith, refl)
 own_status (Err (job_refusal.Class file (refused.Version major minor))) = (4, omega arith, refl)

@@ -9,14 +9,14 @@ use Rattle.fm_code.specs.ClassBytes.{class_bytes}
 use Rattle.fm_code.specs.declared.class_file.ClassDef.{ClassDef}
 use Rattle.fm_tool.specs.Outside.{HasWriteFault}
 use Rattle.fm_tool.specs.declared.refusal.Refusal.TheVariants as refusal
-use Rattle.freeme.specs.declared.refusal.JobRefusal.{JobRefusal}
-use Rattle.freeme.specs.declared.refusal.JobRefusal.TheVariants as job_refusal
-use Rattle.freeme.specs.Changes.{ChangesOnlyAt}
-use Rattle.freeme.specs.TopCall.{IsUntouched}
+use Rattle.fm_given.specs.declared.refusal.JobRefusal.{JobRefusal}
+use Rattle.fm_given.specs.declared.refusal.JobRefusal.TheVariants as job_refusal
+use Rattle.fm_given.specs.Changes.{ChangesOnlyAt}
+use Rattle.fm_given.specs.Given.{IsUntouched}
 use Rattle.freeme.specs.Writing.{class_text, file_name, written_name, IsFileOf, AllWritten, SomeWritten, FailsToWrite}
 use Rattle.freeme.specs.inner.Writing.{AreApart, IsWritten, IsWriteFailed, ComesOfClass, ComesOfClasses}
-use Rattle.freeme.proofs.ChangesLemmas.{changes_of_kept, changes_then, holds_still, faultless_then, write_fault_then}
-use Rattle.freeme.proofs.ListLemmas.{take_next, AllByRecursion-next}
+use Rattle.fm_given.proofs.ChangesLemmas.{changes_of_kept, changes_then, holds_still, faultless_then, write_fault_then}
+use Rattle.fm_given.proofs.ListLemmas.{take_next, AllByRecursion-next}
 
 -- ---- names
 

@@ -1,24 +1,22 @@
 -- When each status comes, and what a call leaves then. All this follows from what a call does as a whole; a caller reads it one by one.
 use Rattle.std.specs.Prelude.{◌≡◌, ℕ, ◌<◌, ◌⊎◌, List, [], ◌∷◌, Contains, length, IsSome, Some}
-use Rattle.fm_base.specs.declared.limits.TheConstants.{MAX_CLASS_FILES}
 use Rattle.fm_files.specs.Files.{Bytes, Disk}
 use Rattle.fm_files.specs.Sink.{Output, FailsPut, with_piece}
 use Rattle.fm_code.specs.declared.class_file.ClassDef.{ClassDef}
-use Rattle.fm_tool.specs.Outside.{HasNoFault, IsKnownSuch, IsKnownMissing}
+use Rattle.fm_tool.specs.Outside.{HasNoFault}
 use Rattle.fm_tool.specs.Refusal.{words_line, read_line, not_yet_line, memory_line}
 use Rattle.fm_tool.specs.Status.{ComesExactly}
 use Rattle.fm_tool.specs.declared.status.TheConstants.{DONE, WORDS, READ, MALFORMED, VERSION, LIMIT, UNSUPPORTED, LINK, CHECK, WRITE, OUT_OF_MEMORY, NOT_YET}
-use Rattle.fm_untyped.specs.Untyped.{AreTyped}
 use Rattle.fm_world.specs.Causes.{Refusal}
-use Rattle.fm_world.specs.Linking.{refusals}
 use Rattle.freeme.specs.Ahead.{AreBuilt}
-use Rattle.freeme.specs.ClassRefusal.{class_refusal_line, class_refusal_status}
-use Rattle.freeme.specs.LinkRefusal.{link_line}
-use Rattle.freeme.specs.Refusal.{check_line, many_line, long_line, write_line}
-use Rattle.freeme.specs.Request.{Job, Asks, AskNothing, main_name}
-use Rattle.freeme.specs.Taking.{total_bytes, AllTaken, Reaches, IsTooLong, IsRefused}
-use Rattle.freeme.specs.TopCall.{StaysWithin, IsUntouched, ArePassed, IsDone, IsUnwritten, IsBroken, AreMany, IsUnread, IsLong, IsRefusedFile, IsNotLinked, AreLinked, IsNotTyped, AreChecked, job_program, IsNotYet, Outcome, ComesOf, outcome_line}
-use Rattle.freeme.specs.declared.class_refusal.ClassRefusal.{ClassRefusal}
+use Rattle.fm_given.specs.ClassRefusal.{class_refusal_line, class_refusal_status}
+use Rattle.fm_given.specs.LinkRefusal.{link_line}
+use Rattle.fm_given.specs.Refusal.{check_line, many_line, long_line, write_line}
+use Rattle.freeme.specs.Request.{Job, Asks, AskNothing, given_of}
+use Rattle.freeme.specs.TopCall.{StaysWithin, ArePassed, IsDone, IsUnwritten, IsBroken, IsNotYet, Outcome, ComesOf, outcome_line}
+use Rattle.fm_given.specs.Causes.{FailsARead, FailsAWrite, HasTooMany, IsMissing, IsKnownLong, IsKnownRefused, IsKnownUnlinked, IsKnownUntyped}
+use Rattle.fm_given.specs.Given.{Given, IsUntouched, AreMany, IsUnread, IsLong, IsRefusedFile, IsNotLinked, IsNotTyped, AreChecked}
+use Rattle.fm_given.specs.declared.class_refusal.ClassRefusal.{ClassRefusal}
 
 -- there is no other status
 abbrev pub IsStatus : ℕ → Type 0
@@ -28,6 +26,10 @@ IsStatus result =
 -- the words ask for a job such as this
 abbrev pub AskFor : List Bytes → (Job → Type 0) → Type 0
 AskFor words P = (job : Job) × (Asks words job × P job)
+
+-- the words ask for a job with class files and a main class such as these
+abbrev pub AskForGiven : List Bytes → (Given → Type 0) → Type 0
+AskForGiven words P = AskFor words (λ job. P (given_of job))
 
 -- ---- 64
 
@@ -51,21 +53,10 @@ pub record SaysRead (words : List Bytes) (old new : Disk) (before after : Output
   pub unread : IsUnread job.files file old new
   pub line : after ≡ with_piece (read_line file) before
 
--- a read failed in this call
-abbrev pub FailsARead : Disk → Disk → Type 0
-FailsARead old new = (name : Bytes) × (old.read_faults name < new.read_faults name)
-
--- a file of the job is known not to be there, and those before it are taken
-pub record IsMissing (old : Disk) (job : Job) : Type 0 where
-  pub file : Bytes
-  pub before : List ClassDef
-  pub reaches : Reaches old.contents job.files file before
-  pub missing : IsKnownMissing old.contents file
-
 -- exactly there, unless the put fails or memory can't be had
 abbrev pub IsForRead : List Bytes → Disk → Disk → Output → Output → ℕ → Type 0
 IsForRead words old new before after result =
-    ComesExactly READ (WRITE ∷ OUT_OF_MEMORY ∷ []) result (SaysRead words old new before after) (FailsARead old new ⊎ AskFor words (IsMissing old))
+    ComesExactly READ (WRITE ∷ OUT_OF_MEMORY ∷ []) result (SaysRead words old new before after) (FailsARead old new ⊎ AskForGiven words (IsMissing old))
 
 -- ---- 66, 67 and 69
 
@@ -80,19 +71,10 @@ pub record SaysRefused (status : ℕ) (words : List Bytes) (old new : Disk) (bef
   pub refused : IsRefusedFile job.files file refusal old new
   pub line : after ≡ with_piece (class_refusal_line file refusal) before
 
--- a file of the job is known to be refused by its bytes with this status, and those before it are taken
-pub record IsKnownRefused (status : ℕ) (old : Disk) (job : Job) : Type 0 where
-  pub file : Bytes
-  pub refusal : ClassRefusal
-  pub status_is : class_refusal_status refusal ≡ status
-  pub before : List ClassDef
-  pub reaches : Reaches old.contents job.files file before
-  pub refused : IsKnownSuch old.contents file (IsRefused refusal (total_bytes before))
-
 -- exactly there, unless a read or the put fails or memory can't be had
 abbrev pub IsForBytes : ℕ → List Bytes → Disk → Disk → Output → Output → ℕ → Type 0
 IsForBytes status words old new before after result =
-    ComesExactly status (READ ∷ WRITE ∷ OUT_OF_MEMORY ∷ []) result (SaysRefused status words old new before after) (AskFor words (IsKnownRefused status old))
+    ComesExactly status (READ ∷ WRITE ∷ OUT_OF_MEMORY ∷ []) result (SaysRefused status words old new before after) (AskForGiven words (IsKnownRefused status old))
 
 -- ---- 68
 
@@ -117,23 +99,12 @@ abbrev pub SaysLimit : List Bytes → Disk → Disk → Output → Output → Ty
 SaysLimit words old new before after =
     SaysMany words old new before after ⊎ (SaysLong words old new before after ⊎ SaysRefused LIMIT words old new before after)
 
--- there are too many files
-abbrev pub HasTooMany : Job → Type 0
-HasTooMany job = MAX_CLASS_FILES < length job.files
-
--- a file of the job is known to be too long, or those up to it, and those before it are taken
-pub record IsKnownLong (old : Disk) (job : Job) : Type 0 where
-  pub file : Bytes
-  pub before : List ClassDef
-  pub reaches : Reaches old.contents job.files file before
-  pub long : IsKnownSuch old.contents file (IsTooLong (total_bytes before))
-
 -- exactly there, unless a read or the put fails or memory can't be had; of too many files none is read
 pub record IsForLimit (words : List Bytes) (old new : Disk) (before after : Output) (result : ℕ) : Type 0 where
   pub only : result ≡ LIMIT → SaysLimit words old new before after
-  pub many : AskFor words HasTooMany → Contains (LIMIT ∷ WRITE ∷ OUT_OF_MEMORY ∷ []) result
-  pub long : AskFor words (IsKnownLong old) → Contains (LIMIT ∷ READ ∷ WRITE ∷ OUT_OF_MEMORY ∷ []) result
-  pub bytes : AskFor words (IsKnownRefused LIMIT old) → Contains (LIMIT ∷ READ ∷ WRITE ∷ OUT_OF_MEMORY ∷ []) result
+  pub many : AskForGiven words HasTooMany → Contains (LIMIT ∷ WRITE ∷ OUT_OF_MEMORY ∷ []) result
+  pub long : AskForGiven words (IsKnownLong old) → Contains (LIMIT ∷ READ ∷ WRITE ∷ OUT_OF_MEMORY ∷ []) result
+  pub bytes : AskForGiven words (IsKnownRefused LIMIT old) → Contains (LIMIT ∷ READ ∷ WRITE ∷ OUT_OF_MEMORY ∷ []) result
 
 -- ---- 70
 
@@ -142,20 +113,13 @@ pub record SaysLink (words : List Bytes) (old new : Disk) (before after : Output
   pub job : Job
   pub asked : Asks words job
   pub cause : Refusal
-  pub unlinked : IsNotLinked job (Some cause) old new
+  pub unlinked : IsNotLinked (given_of job) (Some cause) old new
   pub line : after ≡ with_piece (link_line cause) before
-
--- contents are known, all files of the job are taken, and their classes make no program
-pub record IsKnownUnlinked (old : Disk) (job : Job) : Type 0 where
-  pub known : IsSome old.contents
-  pub classes : List ClassDef
-  pub taken : AllTaken old.contents job.files classes
-  pub refused : ¬ (refusals classes (main_name job) ≡ [])
 
 -- exactly there, unless a read or the put fails or memory can't be had
 abbrev pub IsForLink : List Bytes → Disk → Disk → Output → Output → ℕ → Type 0
 IsForLink words old new before after result =
-    ComesExactly LINK (READ ∷ WRITE ∷ OUT_OF_MEMORY ∷ []) result (SaysLink words old new before after) (AskFor words (IsKnownUnlinked old))
+    ComesExactly LINK (READ ∷ WRITE ∷ OUT_OF_MEMORY ∷ []) result (SaysLink words old new before after) (AskForGiven words (IsKnownUnlinked old))
 
 -- ---- 71
 
@@ -165,20 +129,13 @@ pub record SaysCheck (words : List Bytes) (old new : Disk) (before after : Outpu
   pub job : Job
   pub asked : Asks words job
   pub name : Bytes
-  pub untyped : IsNotTyped job name old new
+  pub untyped : IsNotTyped (given_of job) name old new
   pub line : after ≡ with_piece (check_line name) before
-
--- contents are known, all files of the job are taken, their classes make a program, and not each method of it with code is typed
-pub record IsKnownUntyped (old : Disk) (job : Job) : Type 0 where
-  pub known : IsSome old.contents
-  pub classes : List ClassDef
-  pub linked : AreLinked job old.contents classes
-  pub untyped : ¬ AreTyped (job_program job classes)
 
 -- exactly there, unless a read or the put fails or memory can't be had
 abbrev pub IsForCheck : List Bytes → Disk → Disk → Output → Output → ℕ → Type 0
 IsForCheck words old new before after result =
-    ComesExactly CHECK (READ ∷ WRITE ∷ OUT_OF_MEMORY ∷ []) result (SaysCheck words old new before after) (AskFor words (IsKnownUntyped old))
+    ComesExactly CHECK (READ ∷ WRITE ∷ OUT_OF_MEMORY ∷ []) result (SaysCheck words old new before after) (AskForGiven words (IsKnownUntyped old))
 
 -- ---- 77
 
@@ -195,7 +152,7 @@ pub record SaysNotYet (words : List Bytes) (old new : Disk) (before after : Outp
 pub record IsKnownAhead (old : Disk) (job : Job) : Type 0 where
   pub known : IsSome old.contents
   pub classes : List ClassDef
-  pub checked : AreChecked job old.contents classes
+  pub checked : AreChecked (given_of job) old.contents classes
   pub ahead : ¬ AreBuilt classes
 
 -- exactly there, unless a read or the put fails or memory can't be had
@@ -244,10 +201,6 @@ pub record SaysUnput (words : List Bytes) (old new : Disk) (before after : Outpu
 -- one of the two
 abbrev pub SaysWrite : List Bytes → Disk → Disk → Output → Output → Type 0
 SaysWrite words old new before after = SaysUnput words old new before after ⊎ SaysUnwritten words old new before after
-
--- a write failed in this call
-abbrev pub FailsAWrite : Disk → Disk → Type 0
-FailsAWrite old new = (name : Bytes) × (old.write_faults name < new.write_faults name)
 
 -- only there; exactly there where a put failed, and where a write failed unless memory for its line can't be had
 pub record IsForWrite (words : List Bytes) (old new : Disk) (before after : Output) (result : ℕ) : Type 0 where

@@ -1,11 +1,5 @@
 pub mod inner
 pub mod Request
-pub mod Changes
-pub mod ClassRefusal
-pub mod LinkRefusal
-pub mod Checking
-pub mod Refusal
-pub mod Taking
 pub mod Ahead
 pub mod Writing
 pub mod TopCall

@@ -6,6 +6,7 @@ use Rattle.clap.specs.Words.{App, Kinds, Row, Rule, all_of, fault_of, first_of, 
 use Rattle.clap.specs.Simple.{Shape, on_top}
 use Rattle.fm_base.specs.declared.limits.TheConstants.{MAX_COMMAND_LINE_VALUE_BYTES}
 use Rattle.fm_tool.specs.Encoding.{modified}
+use Rattle.fm_given.specs.Given.{Given}
 use Rattle.freeme.specs.declared.request.Request.{Request}
 
 -- the folder to write into, the main class, and the files to read in order
@@ -17,6 +18,10 @@ pub record Job : Type 0 where
 -- the main class as class files spell it
 abbrev pub main_name : Job → List ℕ
 main_name job = modified job.main
+
+-- its class files and its main class
+abbrev pub given_of : Job → Given
+given_of job = record { files = job.files; main = main_name job }
 
 -- an option that has to be given, once, with a value, as `--out DIR`
 abbrev pub option_rule : List ℕ → Rule

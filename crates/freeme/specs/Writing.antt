@@ -7,7 +7,7 @@ use Rattle.fm_code.specs.ConstantPool.{class_name_at}
 use Rattle.fm_code.specs.declared.class_file.ClassDef.{ClassDef}
 use Rattle.fm_tool.specs.Outside.{HasNoFault, HasWriteFault}
 use Rattle.fm_tool.specs.Printed.{printed}
-use Rattle.freeme.specs.Changes.{ChangesOnlyAt}
+use Rattle.fm_given.specs.Changes.{ChangesOnlyAt}
 
 -- ---- names
 

@@ -1,4 +1,1 @@
-pub mod Checking
-pub mod Linking
-pub mod Reading
 pub mod Writing

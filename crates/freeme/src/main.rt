@@ -7,13 +7,6 @@
 #![tactic(auto)]
 
 mod ahead;
-mod checking;
-mod class_refusal;
-mod judging;
-mod link_refusal;
-mod linking;
-mod reading;
-mod refusal;
 mod request;
 #[cfg(test)]
 mod tests;

@@ -8,15 +8,13 @@ ghost use Rattle.freeme.specs.Request.{job_of};
 ghost use Rattle.freeme.specs.TopCall.{ComesOf, ComesTo, IsTopCall, StaysWithin, outcome_line, outcome_status};
 
 use crate::ahead::first_ahead;
-use crate::checking::judge_program;
-use crate::reading::read_classes;
-use crate::refusal::JobRefusal;
 use crate::request::{Request, request_of};
 use crate::writing::{class_lines, write_classes};
 use fm_base::NoMemory;
 use fm_base::limits::MAX_CLASS_FILES;
 use fm_code::ClassDef;
 use fm_files::{Files, Sink};
+use fm_given::{JobRefusal, judge_program, read_classes};
 use fm_tool::{Refusal, put_line, status};
 use std::alloc::Global;
 

@@ -2,18 +2,13 @@
 use Rattle.std.specs.Prelude.{◌≡◌, ℕ, List, map, take, Contains, Result, Ok, Err, IfSome, slice_get, string_bytes}
 use Rattle.fm_files.specs.Files.{Bytes, Disk, AreKept, OthersAreKept, Holds}
 use Rattle.fm_code.specs.ClassBytes.{class_bytes}
-use Rattle.fm_code.specs.Spells.{Spells}
 use Rattle.fm_code.specs.declared.class_file.ClassDef.{ClassDef}
 use Rattle.fm_tool.specs.Outside.{HasNoFault, HasWriteFault}
 use Rattle.fm_tool.specs.declared.refusal.Refusal.TheVariants as refusal
-use Rattle.freeme.specs.TopCall.{IsUntouched}
+use Rattle.fm_given.specs.Given.{IsUntouched}
 use Rattle.freeme.specs.Writing.{class_text, written_name, AllWritten, SomeWritten, FailsToWrite}
-use Rattle.freeme.specs.declared.refusal.JobRefusal.{JobRefusal}
-use Rattle.freeme.specs.declared.refusal.JobRefusal.TheVariants as job_refusal
-
--- the bytes of the class spell it
-abbrev pub IsSpelled : ClassDef → Type 0
-IsSpelled c = Spells (class_bytes c) c
+use Rattle.fm_given.specs.declared.refusal.JobRefusal.{JobRefusal}
+use Rattle.fm_given.specs.declared.refusal.JobRefusal.TheVariants as job_refusal
 
 -- no class has the name of an earlier one
 abbrev pub AreApart : List ClassDef → Type 0

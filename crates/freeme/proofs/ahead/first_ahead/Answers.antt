@@ -10,7 +10,7 @@ use Rattle.fm_code.specs.declared.class_file.ClassDef.{ClassDef}
 use Rattle.freeme.specs.Ahead.{IsBuilt, IsBuiltAt}
 use Rattle.freeme.specs.Writing.{class_text}
 use Rattle.freeme.proofs.AheadLemmas.{built_more, name_tested, names_more}
-use Rattle.freeme.proofs.ListLemmas.{item_at}
+use Rattle.fm_given.proofs.ListLemmas.{item_at}
 use Rattle.freeme.proofs.ahead.first_ahead.Goals as goal
 
 -- a name that was seen

@@ -1,3 +1,4 @@
+use Rattle.std.proofs.Common.{arith}
 use Rattle.std.proofs.lemmas.Result.{err_from_is_err_and}
 use Rattle.freeme.proofs.JobLemmas.{reads_of, spelled, within, named, all_built, are_apart, has_name, ends_read, ends_refused, are_checked, ends_not_yet, ends_within, ends_done, ends_unwritten}
 use Rattle.freeme.proofs.top_call.do_job.Goals as goal
@@ -66,3 +67,20 @@ pub returns-clause-comes : goal.returns-clause-comes
 returns-clause-comes g c =
     let reads = reads_of c.args.request c.deref-names.ensures.value c.deref-classes.ensures.value c.read_classes.ensures.within c.in_ok-read.ensures.comes in
     ends_done reads c.write_classes.ensures.keeps (are_checked reads c.in_ok-judge_program.ensures) c.in_default.is c.in_ok-place.ensures _ c.in_ok-lines.ensures c.in_ok-write_classes.ensures.comes
+
+pub returns-in_err-place-clause-within : goal.returns-in_err-place-clause-within
+returns-in_err-place-clause-within g c =
+    ends_read (reads_of c.args.request c.deref-names.ensures.value c.deref-classes.ensures.value c.read_classes.ensures.within c.in_ok-read.ensures.comes)
+
+pub offset_bounds-names-place : goal.offset_bounds-names-place
+offset_bounds-names-place g c =
+    let reads = reads_of c.args.request c.deref-names.ensures.value c.deref-classes.ensures.value c.read_classes.ensures.within c.in_ok-read.ensures.comes in
+    omega (arith, has_name reads c.in-Some.place c.in-Some.is c.in_ok-place.ensures, c.if-names.false)
+
+pub returns-in-Some-clause-within : goal.returns-in-Some-clause-within
+returns-in-Some-clause-within g c =
+    ends_read (reads_of c.args.request c.deref-names.ensures.value c.deref-classes.ensures.value c.read_classes.ensures.within c.in_ok-read.ensures.comes)
+
+pub returns-in_err-lines-clause-within : goal.returns-in_err-lines-clause-within
+returns-in_err-lines-clause-within g c =
+    ends_read (reads_of c.args.request c.deref-names.ensures.value c.deref-classes.ensures.value c.read_classes.ensures.within c.in_ok-read.ensures.comes)

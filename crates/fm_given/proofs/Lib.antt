@@ -1,0 +1,9 @@
+pub mod ChangesLemmas
+pub mod CheckLemmas
+pub mod KnownLemmas
+pub mod ListLemmas
+pub mod NameLemmas
+pub mod ReadLemmas
+pub mod RefusalLemmas
+pub mod TakenLemmas
+pub mod VerdictLemmas

@@ -1,0 +1,10 @@
+pub mod inner
+pub mod Changes
+pub mod ClassRefusal
+pub mod LinkRefusal
+pub mod Refusal
+pub mod Taking
+pub mod Given
+pub mod Reading
+pub mod Judging
+pub mod Causes

@@ -1,0 +1,3 @@
+pub mod Checking
+pub mod Linking
+pub mod Reading
