@@ -6,3 +6,5 @@ pub mod LengthLemmas
 pub mod NarrowLemmas
 pub mod PlanLemmas
 pub mod WeaveLemmas
+pub mod ClassLemmas
+pub mod ClassLawLemmas

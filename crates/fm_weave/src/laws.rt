@@ -1,5 +1,6 @@
 // Laws of the definitions, each as the contract of a function that does nothing.
 
+ghost use Rattle.fm_weave.specs.ClassLaws.{ClassesAreRewritten};
 ghost use Rattle.fm_weave.specs.Laws.{BytesAreCounted, PlansAreInsertions, PlansMayBeWoven};
 
 /// By its plan a method becomes what it becomes by the insertions that the plan tells; and what suits
@@ -12,4 +13,9 @@ pub fn law_plans()
 /// The bytes that are counted from a plan are those of its new items.
 pub fn law_bytes()
     ensures { BytesAreCounted }
+{}
+
+/// A changed class by the plans of its methods is the rewritten one.
+pub fn law_classes()
+    ensures { ClassesAreRewritten }
 {}

@@ -1,11 +1,13 @@
-// Methods with what is inserted into them, by plans that are given.
+// Methods and classes with what is inserted into them, by plans that are given.
 //
 // A plan tells a method's holders and where they are freed. Here it becomes a list of new items, which is
-// laid out. The layer above makes the plans.
+// laid out; and changed classes get the entries of FreeMe.free. The layer above makes the plans.
 #![tactic(auto)]
 
 mod anchors;
+mod classes;
 mod counting;
+mod error;
 mod laws;
 mod pairs;
 mod planned;
@@ -14,6 +16,8 @@ mod targets;
 mod weaving;
 mod woven;
 
-pub use laws::{law_bytes, law_plans};
+pub use classes::{FreePool, woven_class};
+pub use error::WeaveFail;
+pub use laws::{law_bytes, law_classes, law_plans};
 pub use planned::Planned;
 pub use woven::woven_code;
