@@ -1,4 +1,4 @@
-use Rattle.fm_ready.proofs.Standing.{can_step}
+use Rattle.fm_ready.proofs.Premises.{can_step}
 use Rattle.fm_ready.proofs.laws.law_steps.Goals as goal
 
 pub returns : goal.returns
