@@ -40,9 +40,9 @@ fn words_text(alloc: Global, report: &Report) -> Result<String, NoMemory>
     let live = report.live_words;
     let peak = report.peak_words;
     let cells = report.cells_made;
-    Ok(
-        format!(in alloc; "freed words {freed}, live words {live}, peak words {peak}, cells made {cells}")?,
-    )
+    Ok(format!(in alloc;
+        "freed words {freed}, live words {live}, peak words {peak}, cells made {cells}"
+    )?)
 }
 
 // The end in words.
@@ -80,10 +80,7 @@ fn class_text(alloc: Global, program: &Program, class: ClassId) -> Result<String
     requires { class.0 < length program.now.outline.classes }
     ensures { IfOk result (λ text. string_bytes text ≡ class_text program.now class.0) }
 {
-    let name = Name::new(Vec::from_slice(
-        alloc,
-        program.class(class).name.as_slice(),
-    )?);
+    let name = Name::new(Vec::from_slice(alloc, program.class(class).name.as_slice())?);
     printed(alloc, &name)
 }
 
