@@ -82,7 +82,7 @@ one_if b = cond b 1 0
 unmade-more : (cell : ℕ) (literals : List ℕ) → unmade (cell ∷ literals) ≡ one_if (cell == 0) + unmade literals
 unmade-more cell literals = sum_by-cons (λ n. one_if (n == 0)) cell literals
 
-unmade-set : (literals : List ℕ) (text cell : ℕ) → text < length literals → get_or literals text 0 ≡ 0 → 0 < cell
+pub unmade-set : (literals : List ℕ) (text cell : ℕ) → text < length literals → get_or literals text 0 ≡ 0 → 0 < cell
     → unmade (set literals text cell) + 1 ≡ unmade literals
 unmade-set [] text cell inside none some = absurd (omega (arith, inside))
 unmade-set (c ∷ literals) zero cell inside none some =
@@ -119,7 +119,7 @@ content-keeps store cell (e ∷ content) object at same =
 
 -- ---- a literal is made
 
-none-is : (n : ℕ) → nat_lt 0 n ≡ false → n ≡ 0
+pub none-is : (n : ℕ) → nat_lt 0 n ≡ false → n ≡ 0
 none-is n none = by_case (cases_eq n 0) where
   by_case : (n ≡ 0) ⊎ (n ≡ 0 → ⊥) → n ≡ 0
   by_case (inl is) = is

@@ -259,7 +259,7 @@ pub request-is : (o : Outline) (t : TypeRef) (id len pack : ℕ) (fixed : Bool) 
 request-is o t id len pack fixed number is = λ i. request_of (sym number i) len (sym is i) fixed
 
 -- a value that is put makes nothing
-put_kept : (store : Store) (cell place element : ℕ)
+pub put_kept : (store : Store) (cell place element : ℕ)
     → ((put_by store cell place element).births ≡ store.births) × ((put_by store cell place element).budget ≡ store.budget)
 put_kept store cell place element = by_object (object_at store cell) refl where
   put_in : Option Object → Store

@@ -1,12 +1,14 @@
 // The machine: a state of the run over any memory.
 
 ghost use Rattle.std.specs.Prelude.{◌≡◌, slice_get};
+ghost use Rattle.std.specs.Option.{option_map};
 ghost use Rattle.fm_frames.specs.States.{word_at};
 ghost use Rattle.fm_frames.specs.Steps.{locals_of, stack_of};
 ghost use Rattle.fm_frames.specs.inner.Doings.{int_in, long_in};
+ghost use Rattle.fm_frames.specs.inner.Frames.{place, place_of, topmost};
 
 use crate::ends::Ended;
-use crate::frames::Frames;
+use crate::frames::{Cursor, Frames};
 use crate::values::Value;
 use fm_base::Row;
 use fm_cells::{Cell, Memory};
@@ -103,5 +105,20 @@ impl<M: Memory> Machine<M> {
         ensures { result ≡ word_at (locals_of self.now) place }
     {
         self.frames.local(place)
+    }
+
+    /// Where the topmost frame stands: its method, and the item that is next. None where there are no
+    /// frames. Takes no memory.
+    pub fn topmost(&self) -> Option<Cursor>
+        ensures { option_map place result ≡ option_map place_of (topmost self.now.frames) }
+    {
+        self.frames.topmost()
+    }
+
+    /// The steps that were done. Takes no memory.
+    pub fn steps(&self) -> u64
+        ensures { result ≡ self.now.steps }
+    {
+        self.steps
     }
 }

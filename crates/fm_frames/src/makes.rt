@@ -2,6 +2,7 @@
 
 ghost use Rattle.std.specs.Prelude.{◌≡◌, ◌-◌, ◌^◌, ◌<◌, ℕ, [], ◌∷◌, IfOk, IfSome, OnOk, Some, true, false, ◌+◌, ◌≤◌};
 ghost use Rattle.fm_base.specs.declared.kinds.TypeRef as kinds;
+ghost use Rattle.fm_cells.specs.Choices.{IsLawful};
 ghost use Rattle.fm_cells.specs.Objects.{new_object, request_of};
 ghost use Rattle.fm_cells.specs.Sizes as spec;
 ghost use Rattle.fm_cells.specs.Sizes.{packed_words, IsPack};
@@ -73,10 +74,12 @@ impl<M: Memory> Machine<M> {
         }
     }
 
-    /// How many objects were made so far. The store is sound. Takes no memory.
+    /// How many objects were made so far. The store is sound, and each of the memory's choices is one of
+    /// memory that reuses cells in any way. Takes no memory.
     pub fn births(&self) -> u64
         ensures value { result ≡ self.now.areas.store.births }
         ensures sound { IsSound self.now.areas.store }
+        ensures lawful { IsLawful M.choose }
     {
         self.memory.births()
     }

@@ -142,7 +142,7 @@ held-rises facts x =
           (rises-filter (is_captured_site facts x) 0 (range_with_len 0 (length x.code.items)) (rises-range 0 (length x.code.items)))
     ]
 
-held-few : (facts : Facts) (x : TypedMethod) → length (held_sites facts x) ≤ MAX_LOCAL_WORDS - x.code.max_locals
+pub held-few : (facts : Facts) (x : TypedMethod) → length (held_sites facts x) ≤ MAX_LOCAL_WORDS - x.code.max_locals
 held-few facts x =
     elim (nat_lt MAX_HOLDING_STACK_WORDS x.code.max_stack) as
     (λ b. length (cond b [] (take (MAX_LOCAL_WORDS - x.code.max_locals) (captured_sites facts x))) ≤ MAX_LOCAL_WORDS - x.code.max_locals) [
@@ -168,7 +168,7 @@ holder-safe facts x h found = of_site (Contains-from_map made (held_sites facts 
   of_site (j, held, same) =
       subst (IsSafeHolder facts x) same (record { captured = held-captured facts x j held; class = refl; single = refl })
 
-before-is : (facts : Facts) (x : TypedMethod) (j : ℕ) → j < length x.code.items
+pub before-is : (facts : Facts) (x : TypedMethod) (j : ℕ) → j < length x.code.items
     → before_at (all_insertions facts x) j ≡ numbers_of (λ h. is_place facts x h.class j) 0 (all_holders facts x)
 before-is facts x j inside =
     get_or-map-range_with_len (λ i. numbers_of (λ h. is_place facts x h.class i) 0 (all_holders facts x)) 0 (length x.code.items) j j []
@@ -217,7 +217,7 @@ plan-safe facts x some = record {
   count : length (all_holders facts x) ≡ length (held_sites facts x)
   count = length-map (held_sites facts x) made
 
-full-safe : (facts : Facts) (x : TypedMethod) (plan : Insertions) → full_insertions facts x ≡ Some plan → AreSafe facts x plan
+pub full-safe : (facts : Facts) (x : TypedMethod) (plan : Insertions) → full_insertions facts x ≡ Some plan → AreSafe facts x plan
 full-safe facts x plan found = of_sites (held_sites facts x) refl found where
   plan_of : List ℕ → Option Insertions
   plan_of [] = None

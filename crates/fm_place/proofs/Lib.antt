@@ -4,3 +4,7 @@ pub mod FullLemmas
 pub mod WovenLemmas
 pub mod Example
 pub mod SiteLemmas
+pub mod GroupLemmas
+pub mod RowLemmas
+pub mod HolderLemmas
+pub mod PlanLemmas

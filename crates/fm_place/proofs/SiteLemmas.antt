@@ -32,7 +32,7 @@ use Rattle.fm_place.specs.Sites.{captured_before, constructs, Constructs, is_cap
 use Rattle.fm_place.specs.declared.found_sites.Site.{Site}
 use Rattle.fm_place.specs.inner.SiteTests.{has_parameter_in, is_old_end, is_old_entry, is_parameter_in, lists_old}
 
-same_test : (a b : Bool) → (a ≡ true → b ≡ true) → (b ≡ true → a ≡ true) → a ≡ b
+pub same_test : (a b : Bool) → (a ≡ true → b ≡ true) → (b ≡ true → a ≡ true) → a ≡ b
 same_test true b forth back = sym (forth refl)
 same_test false true forth back = back refl
 same_test false false forth back = refl

@@ -1,18 +1,28 @@
 -- What follows of the definitions.
-use Rattle.std.specs.Prelude.{◌≡◌, ◌↔◌, ◌+◌, ◌<◌, ◌≤◌, ℕ, true, false, List, length, Option, Contains}
+use Rattle.std.specs.Prelude.{◌≡◌, ◌↔◌, ◌+◌, ◌<◌, ◌≤◌, ◌==◌, ℕ, true, false, List, length, Option, Some, None, Contains, if◌then◌else◌}
 use Rattle.fm_base.specs.declared.limits.TheConstants.{MAX_LOCAL_WORDS}
 use Rattle.fm_code.specs.Fits.{FitsTwo}
 use Rattle.fm_code.specs.declared.code_array.Code.{Code}
 use Rattle.fm_code.specs.declared.class_file.ClassDef.{ClassDef}
 use Rattle.fm_conn.specs.Facts.{Facts}
-use Rattle.fm_conn.specs.Nodes.{TypedMethod}
+use Rattle.fm_conn.specs.Classes.{class_of}
+use Rattle.fm_conn.specs.Nodes.{Node, TypedMethod}
+use Rattle.fm_conn.specs.Summaries.{is_linked}
+use Rattle.fm_conn.specs.declared.class_numbers.Classes.{Classes}
+use Rattle.fm_conn.specs.declared.ends.End2.{End2}
+use Rattle.fm_conn.specs.declared.summaries.Summaries.{Summaries}
 use Rattle.fm_layout.specs.Conditions.{AreNewItems, AreOldItems}
 use Rattle.fm_layout.specs.Laid.{laid_of}
 use Rattle.fm_layout.specs.Tables.{AreAnchors}
 use Rattle.fm_layout.specs.declared.laying.TheConstants.{MAX_NEW_ITEMS}
-use Rattle.fm_place.specs.Insertions.{before_at, Insertions}
+use Rattle.fm_place.specs.FactsBy.{facts_by}
+use Rattle.fm_place.specs.Insertions.{all_holders, all_insertions, before_at, full_insertions, Insertions}
 use Rattle.fm_place.specs.Places.{ComesFromBusy, is_busy, is_place, IsBusy}
+use Rattle.fm_place.specs.PlansBy.{holders_in, IsPlanOf}
+use Rattle.fm_place.specs.Rewriting.{free_count}
 use Rattle.fm_place.specs.Safe.{Full, Safe}
+use Rattle.fm_place.specs.Sites.{sites_of}
+use Rattle.fm_place.specs.declared.plans.Plan.{Plan}
 use Rattle.fm_place.specs.Woven.{anchors_of, woven}
 
 -- a class is busy where there is a witness, as long as no local past the method's own is live
@@ -49,3 +59,35 @@ WovenIsLaidOut =
 abbrev pub AnchorsAreAnchors : Type 0
 AnchorsAreAnchors =
     (free : ℕ) (code : Code) (plan : Insertions) → AreAnchors code (laid_of code.items (woven free code plan)) (anchors_of plan code.items)
+
+-- ---- sites and plans
+
+-- the holders of a method's sites are all its holders
+abbrev pub HoldersAreAll : Type 0
+HoldersAreAll = (facts : Facts) (x : TypedMethod) → holders_in (sites_of facts x) ≡ all_holders facts x
+
+-- there are no more of them than locals
+abbrev pub HoldersAreFew : Type 0
+HoldersAreFew = (facts : Facts) (x : TypedMethod) → length (holders_in (sites_of facts x)) ≤ MAX_LOCAL_WORDS
+
+-- facts that say what the method's classes and the summaries tell have the sites that these tell
+abbrev pub SitesAreTold : Type 0
+SitesAreTold =
+    (facts : Facts) (x : TypedMethod) (classes : Classes) (summaries : Summaries) → ((node : Node) → facts.class x.number node ≡ class_of classes node)
+    → ((method : ℕ) (a b : End2) → facts.linked method a b ≡ is_linked summaries method a b)
+    → sites_of facts x ≡ sites_of (facts_by classes summaries) x
+
+-- what is inserted into a method suits its code
+abbrev pub FullSuits : Type 0
+FullSuits =
+    (free : ℕ) (facts : Facts) (x : TypedMethod) (plan : Insertions) → FitsTwo free → full_insertions facts x ≡ Some plan → Suits free x.code plan
+
+-- a method without a holder stays as it is
+abbrev pub HoldersTellFull : Type 0
+HoldersTellFull =
+    (facts : Facts) (x : TypedMethod) (plan : Plan) → IsPlanOf (all_insertions facts x) plan
+    → full_insertions facts x ≡ (if plan.holders == 0 then None else Some (all_insertions facts x))
+
+-- the pairs of what is freed are as many as the frees that are counted
+abbrev pub FreesAreCounted : Type 0
+FreesAreCounted = (insertions : Insertions) (plan : Plan) → IsPlanOf insertions plan → length plan.before.items ≡ free_count (Some insertions)

@@ -2,6 +2,7 @@ pub mod Sites
 pub mod FactsBy
 pub mod Places
 pub mod Insertions
+pub mod PlansBy
 pub mod Woven
 pub mod Rewriting
 pub mod Safe

@@ -102,8 +102,8 @@ fn sites_of(alloc: Global, known: &Known<'_>) -> Result<Vec<Site>, NoMemory>
     Ok(found)
 }
 
-// The number of items. No code has so many that a word of 32 bits doesn't count them.
-fn item_count(code: &Code) -> Result<u32, NoMemory>
+/// The number of items. No code has so many that a word of 32 bits doesn't count them.
+pub fn item_count(code: &Code) -> Result<u32, NoMemory>
     ensures { IfOk result (λ count. count ≡ length code.now.items) }
 {
     match u32::try_from(code.items.len()) {

@@ -6,7 +6,7 @@ ghost use Rattle.fm_base.specs.declared.limits.TheConstants.{MAX_STACK_WORDS};
 ghost use Rattle.fm_code.specs.ClassBytes.{class_bytes};
 ghost use Rattle.fm_place.specs.Example.{array_holder, main_number, popping_class, popping_code, popping_facts, popping_main, popping_marks, popping_plan, popping_program, popping_woven, read_bytes, written_bytes};
 ghost use Rattle.fm_place.specs.Insertions.{full_insertions};
-ghost use Rattle.fm_place.specs.Laws.{AnchorsAreAnchors, BusyIsByWitness, FullIsSafe, PlacesAreByEdges, WovenIsLaidOut};
+ghost use Rattle.fm_place.specs.Laws.{AnchorsAreAnchors, BusyIsByWitness, FreesAreCounted, FullIsSafe, FullSuits, HoldersAreAll, HoldersAreFew, HoldersTellFull, PlacesAreByEdges, SitesAreTold, WovenIsLaidOut};
 ghost use Rattle.fm_place.specs.Places.{is_busy, is_place};
 ghost use Rattle.fm_place.specs.Rewriting.{frees_in, marks_with, rewritten, sites_in};
 ghost use Rattle.fm_place.specs.Safe.{full_plans};
@@ -39,6 +39,22 @@ pub fn law_full()
 pub fn law_woven()
     ensures items { WovenIsLaidOut }
     ensures anchors { AnchorsAreAnchors }
+{}
+
+/// The sites of a method by facts of a whole program are those that `sites` finds, and their holders
+/// are all holders.
+pub fn law_holders()
+    ensures told { SitesAreTold }
+    ensures all { HoldersAreAll }
+    ensures few { HoldersAreFew }
+{}
+
+/// What a plan tells of all that is inserted: whether it is anything, that it suits the method's
+/// code, and how many frees there are.
+pub fn law_plans()
+    ensures full { HoldersTellFull }
+    ensures suits { FullSuits }
+    ensures frees { FreesAreCounted }
 {}
 
 /// A main that makes an array and pops it, gone over by hand: which item is a site and what holds its

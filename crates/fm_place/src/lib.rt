@@ -3,9 +3,15 @@
 // The definitions are in specs/; the laws say what follows of them.
 #![tactic(auto)]
 
+mod busy_rows;
 mod found_sites;
+mod groups;
 mod laws;
 pub mod limits;
+mod plans;
 
 pub use found_sites::{Site, sites};
-pub use laws::{law_busy, law_example, law_full, law_places, law_stack, law_woven};
+pub use laws::{
+    law_busy, law_example, law_full, law_holders, law_places, law_plans, law_stack, law_woven,
+};
+pub use plans::{Plan, places};

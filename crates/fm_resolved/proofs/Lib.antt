@@ -23,3 +23,5 @@ pub mod TypeNames
 pub mod MainMethod
 pub mod FewTypes
 pub mod ObjectSizes
+pub mod FewTexts
+pub mod FewStarts

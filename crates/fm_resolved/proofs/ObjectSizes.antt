@@ -1,5 +1,5 @@
 -- Objects are small: a class file has fewer than 2^16 fields (JVMS 4.1), and a chain of superclasses has no more classes than the program.
-use Rattle.std.proofs.Common.{◌≡◌, refl, ℕ, zero, suc, ◌+◌, ◌*◌, ◌^◌, ◌<◌, ◌≤◌, Bool, true, List, [], ◌∷◌, ◌++◌, length, map, get_or, nat_le, Option, Some, None, arith, length-append}
+use Rattle.std.proofs.Common.{◌≡◌, refl, ℕ, zero, suc, ◌+◌, ◌*◌, ◌^◌, ◌<◌, ◌≤◌, ◌&&◌, Bool, true, List, [], ◌∷◌, ◌++◌, length, map, get_or, nat_le, Option, Some, None, arith, length-append}
 use Rattle.std.specs.List.{AllByRecursion, list_all}
 use Rattle.std.proofs.lemmas.Bool.{and_parts, leb-true}
 use Rattle.std.proofs.lemmas.List.{length-map}
@@ -21,11 +21,18 @@ use Rattle.fm_world.specs.declared.declarations.DeclaredField.{DeclaredField}
 
 -- ---- the fields that a class gives
 
-abbrev IsSmall : DeclaredClass → Type 0
-IsSmall c = own_size c ≤ 65536
+-- objects have few of the class, and so has the class itself
+record IsSmall (c : DeclaredClass) : Type 0 where
+  size : own_size c ≤ 65536
+  fields : length c.fields ≤ 65536
 
 abbrev is_small : DeclaredClass → Bool
-is_small c = nat_le (own_size c) 65536
+is_small c = nat_le (own_size c) 65536 && nat_le (length c.fields) 65536
+
+small_by : (c : DeclaredClass) → is_small c ≡ true → IsSmall c
+small_by c is =
+    let two = and_parts (nat_le (own_size c) 65536) (nat_le (length c.fields) 65536) is in
+    record { size = leb-true (own_size c) 65536 two.0; fields = leb-true (length c.fields) 65536 two.1 }
 
 built_in_small : list_all is_small built_in ≡ true
 unfolding built_in
@@ -34,7 +41,7 @@ built_in_small = refl
 each_small : (classes : List DeclaredClass) → list_all is_small classes ≡ true → AllByRecursion IsSmall classes
 each_small [] all = tt
 each_small (c ∷ classes) all =
-    let two = and_parts (is_small c) (list_all is_small classes) all in (leb-true (own_size c) 65536 two.0, each_small classes two.1)
+    let two = and_parts (is_small c) (list_all is_small classes) all in (small_by c two.0, each_small classes two.1)
 
 files_small : (number : ℕ) (given : List ClassDef) → AllByRecursion HasSpelling given → AllByRecursion IsSmall (declared_from number given)
 files_small number [] spelled = tt
@@ -43,17 +50,21 @@ files_small number (c ∷ given) spelled =
     let some = count_by-le-length (λ (f : DeclaredField). is_instance f.flags) fields in
     let long = length-map c.fields (declared_field c.pool.entries) in
     let count = spelled.0.1.fits.fields.count in
-    (omega (arith, some, long, count), files_small (number + 1) given spelled.1)
+    (record { size = omega (arith, some, long, count); fields = omega (arith, long, count) }, files_small (number + 1) given spelled.1)
 
 all_classes_small : (given : List ClassDef) → AllByRecursion HasSpelling given → (class : ℕ) → IsSmall (class_at (classes_of given) class)
 unfolding classes_of
 all_classes_small given spelled class =
     AllByRecursion-get_or IsSmall (built_in ++ declared_from 0 given) no_class
-    (AllByRecursion-append IsSmall built_in (declared_from 0 given) (each_small built_in built_in_small) (files_small 0 given spelled)) (leb-true (own_size no_class) 65536 refl) class
+    (AllByRecursion-append IsSmall built_in (declared_from 0 given) (each_small built_in built_in_small) (files_small 0 given spelled)) (small_by no_class refl) class
+
+-- no class has too many fields
+pub fields_few : (given : List ClassDef) → AllByRecursion HasSpelling given → (class : ℕ) → length (class_at (classes_of given) class).fields ≤ 65536
+fields_few given spelled class = (all_classes_small given spelled class).fields
 
 -- ---- along a chain
 
-upwards_length : (bound : ℕ) (classes : List DeclaredClass) (class : Option ℕ) → length (upwards bound classes class) ≤ bound
+pub upwards_length : (bound : ℕ) (classes : List DeclaredClass) (class : Option ℕ) → length (upwards bound classes class) ≤ bound
 upwards_length zero classes class = omega arith
 upwards_length (suc bound) classes None = omega arith
 upwards_length (suc bound) classes (Some class) = let rest = upwards_length bound classes (parent_of classes class) in omega (arith, rest)
@@ -65,12 +76,12 @@ chain_small classes each class =
     let chain = upwards (suc (length classes)) classes (Some class) in
     let few = upwards_length (suc (length classes)) classes (Some class) in
     let sum = sum_by-le (λ k. own_size (class_at classes k)) 65536 chain
-    (All-from_get_or (λ k. own_size (class_at classes k) ≤ 65536) chain 0 (λ i within. each (get_or chain i 0))) in
+    (All-from_get_or (λ k. own_size (class_at classes k) ≤ 65536) chain 0 (λ i within. (each (get_or chain i 0)).size)) in
     omega (arith, few, sum)
 
 -- ---- within the bounds of the machine
 
-classes_few : (given : List ClassDef) → length given ≤ MAX_CLASS_FILES → length (classes_of given) ≤ 4124
+pub classes_few : (given : List ClassDef) → length given ≤ MAX_CLASS_FILES → length (classes_of given) ≤ 4124
 unfolding classes_of built_in
 classes_few given few =
     let all = length-append built_in (declared_from 0 given) in

@@ -19,6 +19,7 @@ use Rattle.fm_code.specs.declared.instructions.Insn.TheVariants as insn
 use Rattle.fm_frames.specs.NativeRows.{text_kind}
 use Rattle.fm_frames.specs.ObjectRows.{kind_of_field}
 use Rattle.fm_frames.specs.Runnable.{IsUseIn}
+use Rattle.fm_ready.specs.Ready.{CanRun}
 use Rattle.fm_same.specs.Evenness.{IsNumber, IsPlainKind}
 use Rattle.fm_same.specs.Resolved.{IsResolved}
 use Rattle.fm_sound.specs.Going.{ConstructorsGiveNothing}
@@ -131,3 +132,9 @@ abbrev pub MainOfProgramsIsReady : Type 0
 MainOfProgramsIsReady =
     (given : List ClassDef) (main : List ℕ) → AllByRecursion HasSpelling given → AllByRecursion IsSupported given → refusals given main ≡ []
     → MainIsReady (program_of given main)
+
+-- So the machine can run it.
+abbrev pub ProgramsCanRun : Type 0
+ProgramsCanRun =
+    (given : List ClassDef) (main : List ℕ) → AllByRecursion HasSpelling given → AllByRecursion IsSupported given → refusals given main ≡ []
+    → length given ≤ MAX_CLASS_FILES → CanRun (program_of given main)

@@ -6,6 +6,7 @@ ghost use Rattle.fm_resolved.specs.Laws.{
   MainOfProgramsIsReady,
   ProgramsAreLinkedWell,
   ProgramsAreResolved,
+  ProgramsCanRun,
   StepsOfProgramsAreLinked,
   StepsOfProgramsAreResolved,
 };
@@ -69,6 +70,16 @@ pub fn law_makeable()
 pub fn law_main()
     ensures { MainOfProgramsIsReady }
 {}
+
+/// Where nothing is refused of supported files, the program of spelled class files, as many as one call
+/// takes, is one that the machine can run.
+pub fn law_can_run()
+    ensures { ProgramsCanRun }
+{
+    law_sound_steps();
+    law_makeable();
+    law_main();
+}
 
 /// The law of dead regions of linked programs: in each run of the program of accepted class files
 /// against which no cause stands, which is typed and calls no FreeMe, what a captured class led to is dead

@@ -83,7 +83,7 @@ zero_fits kind.Int = omega arith
 zero_fits kind.Long = omega arith
 zero_fits (kind.Ref t) = tt
 
-kept_fits : (k : Kind) (v : Value) → HasKind (field_slot k) v → ElementFits k (kept k v)
+pub kept_fits : (k : Kind) (v : Value) → HasKind (field_slot k) v → ElementFits k (kept k v)
 kept_fits kind.Boolean v h = subst (λ w. kept kind.Boolean w < 2 ^ 1) (sym h.1) (low_bits-lt 1 h.0)
 kept_fits kind.Byte v h = subst (λ w. kept kind.Byte w < 2 ^ 8) (sym h.1) (low_bits-lt 8 h.0)
 kept_fits kind.Char v h = subst (λ w. kept kind.Char w < 2 ^ 16) (sym h.1) (low_bits-lt 16 h.0)

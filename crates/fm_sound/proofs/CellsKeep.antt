@@ -67,7 +67,7 @@ pub number_read : (k : Kind) (n : ℕ) → n < 2 ^ 32 → LeadsWithin (read k n)
 number_read (kind.Ref t) n h = reference_within t n h
 number_read k n h = number_within k n tt
 
-kept_within : (t : TypeRef) (v : Value) → LeadsWithin v → kept (kind.Ref t) v < 2 ^ 32
+pub kept_within : (t : TypeRef) (v : Value) → LeadsWithin v → kept (kind.Ref t) v < 2 ^ 32
 kept_within t value.Top h = omega arith
 kept_within t (value.Int n) h = low_bits-lt 32 n
 kept_within t (value.Long n) h = low_bits-lt 32 n

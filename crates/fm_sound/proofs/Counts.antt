@@ -29,7 +29,7 @@ pub type_pack : (o : Outline) (t : TypeRef) → IsPack (pack_of o t)
 type_pack o t =
     either_pack (t.dims == 1) (pack_of_base t.base) (cond (is_text_type o t) 4 1) (base_pack t.base) (either_pack (is_text_type o t) 4 1 (inr (inr (inl refl))) (inl refl))
 
-length_below : (o : Outline) → ((class : ℕ) → size_of o.classes class < 2 ^ 31) → (is_text : Bool) (class : Option ℕ) (n : ℕ) → HasLengthBy o is_text class n
+pub length_below : (o : Outline) → ((class : ℕ) → size_of o.classes class < 2 ^ 31) → (is_text : Bool) (class : Option ℕ) (n : ℕ) → HasLengthBy o is_text class n
     → n < 2 ^ 31
 length_below o sizes true class n h = h
 length_below o sizes false None n h = h

@@ -68,7 +68,7 @@ pub typing_of : (p : Program) (typings : Typings) → AreTyped p typings → (me
 typing_of p typings typed method code is =
     IsSomeAnd-at_some (code_at p method) (λ other. IsTypingOf p method other (typings method)) code is (typed method code is)
 
-item_within : (code : Code) (j : ℕ) (i : Insn) → insn_of code j ≡ Some i → j < length code.items
+pub item_within : (code : Code) (j : ℕ) (i : Insn) → insn_of code j ≡ Some i → j < length code.items
 item_within code j i is =
     let found = option_map-some (λ (item : Item). item.insn) (slice_get code.items j) i is in slice_get_within code.items j found.0 found.1
 

@@ -56,7 +56,7 @@ field_seen o tree field of h =
 
 -- ---- the classes that bring the field
 
-hidden_kind : (given : List DeclaredClass) → declared_kind (built_in ++ given) (typed 0 (object string_name)) ≡ kind.Ref (type_of_class 1)
+pub hidden_kind : (given : List DeclaredClass) → declared_kind (built_in ++ given) (typed 0 (object string_name)) ≡ kind.Ref (type_of_class 1)
 hidden_kind given = ap (λ n. unwrap_or (option_map (kind_with 0) (option_map of_class n)) kind.Int) (string_number given)
 
 abbrev hidden_kinds : List DeclaredClass → List Kind

@@ -95,7 +95,7 @@ top_kind kind.Long (v ∷ w ∷ values) h = h.1.0
 top_kind (kind.Ref t) [] h = absurd h
 top_kind (kind.Ref t) (v ∷ values) h = h.0
 
-int_kind : (k : Kind) (v : Value) → stack_slots (k ∷ []) ≡ slot.Int ∷ [] → HasKind slot.Int v → HasKind (field_slot k) v
+pub int_kind : (k : Kind) (v : Value) → stack_slots (k ∷ []) ≡ slot.Int ∷ [] → HasKind slot.Int v → HasKind (field_slot k) v
 int_kind kind.Boolean v is h = h
 int_kind kind.Byte v is h = h
 int_kind kind.Char v is h = h
@@ -104,16 +104,16 @@ int_kind kind.Int v is h = h
 int_kind kind.Long v is h = absurd (let many = ap length is in omega (arith, many))
 int_kind (kind.Ref t) v is h = absurd (cc)
 
-long_kind : (k : Kind) (v : Value) → stack_slots (k ∷ []) ≡ slot.Top ∷ slot.Long ∷ [] → HasKind slot.Long v → HasKind (field_slot k) v
+pub long_kind : (k : Kind) (v : Value) → stack_slots (k ∷ []) ≡ slot.Top ∷ slot.Long ∷ [] → HasKind slot.Long v → HasKind (field_slot k) v
 long_kind kind.Long v is h = h
 long_kind k v is h = absurd (let many = ap length is in omega (arith, many))
 
 -- words of a store
-first_int : (values : List Value) → HaveKinds (slot.Int ∷ slot.Int ∷ []) (take 2 values) → HasKind slot.Int (word_at values 0)
+pub first_int : (values : List Value) → HaveKinds (slot.Int ∷ slot.Int ∷ []) (take 2 values) → HasKind slot.Int (word_at values 0)
 first_int [] h = absurd h
 first_int (v ∷ values) h = h.0
 
-second_long : (values : List Value) → HaveKinds (slot.Top ∷ slot.Long ∷ slot.Int ∷ []) (take 3 values) → HasKind slot.Long (word_at values 1)
+pub second_long : (values : List Value) → HaveKinds (slot.Top ∷ slot.Long ∷ slot.Int ∷ []) (take 3 values) → HasKind slot.Long (word_at values 1)
 second_long [] h = absurd h
 second_long (v ∷ []) h = absurd h.1
 second_long (v ∷ w ∷ values) h = h.1.0
@@ -134,6 +134,24 @@ of_letter : (o : Outline) (b : Base) (array : TypeRef) → Some (record { dims =
 of_letter o b array is number =
     let same = same_Some (record { dims = 1; base = b }) array is in
     let P : TypeRef → Type 0 = λ u. 0 < u.dims in (subst (IsNumbered o) same number, subst P same (omega arith))
+
+-- an array of numbers of the letter has a dimension
+letter_deep : (t : TypeRef) (rest : Bool) → ((t.dims == 1) && rest) ≡ true → 0 < t.dims
+letter_deep t rest is = let one : t.dims ≡ 1 = eqb-true t.dims 1 (and_parts (t.dims == 1) rest is).0 in omega (arith, one)
+
+depth_deep : (dims : ℕ) (b : Base) → 0 < depth_with dims b → 0 < dims
+depth_deep dims (base.OfClass class) deep = deep
+depth_deep dims b deep = omega (arith, deep)
+
+-- and so has each array of such elements
+pub elements_deep : (e : Elem) (t : TypeRef) → is_array_of e t ≡ true → 0 < t.dims
+elements_deep elem.Boolean t is = letter_deep t (has_letter elem.Boolean t.base) is
+elements_deep elem.Byte t is = letter_deep t (has_letter elem.Byte t.base) is
+elements_deep elem.Char t is = letter_deep t (has_letter elem.Char t.base) is
+elements_deep elem.Short t is = letter_deep t (has_letter elem.Short t.base) is
+elements_deep elem.Int t is = letter_deep t (has_letter elem.Int t.base) is
+elements_deep elem.Long t is = letter_deep t (has_letter elem.Long t.base) is
+elements_deep elem.Ref t is = depth_deep t.dims t.base (ltb-true 0 (depth_of t) is)
 
 -- ---- counts of arrays
 
@@ -212,12 +230,12 @@ module _ (p : Program) (ready : IsMakeable p) (store : Store) (f : Frame) where
 
   module _ (known : TypeState) (h : FrameHasKinds known f.locals f.stack) (whole : is_whole known.stack ≡ true) (after : TypeState) where
     -- the value on top has the kind of the field
-    value_has : (k : Kind) (rest : List Slot) → taken o (stack_slots (k ∷ [])) known.stack ≡ Some rest
+    pub value_has : (k : Kind) (rest : List Slot) → taken o (stack_slots (k ∷ [])) known.stack ≡ Some rest
         → HasKind (field_slot k) (word_at f.stack (kind_words k - 1))
     value_has k rest is = top_kind k f.stack (taken_words o (stack_slots (k ∷ [])) known.stack rest f.stack (kind_is_whole k) whole is h.in_stack)
 
     -- what is below the words that are taken
-    taken_below : (wanted : List Slot) (given : Slot → Option (List Slot)) → worked_below o wanted given known ≡ Some after
+    pub taken_below : (wanted : List Slot) (given : Slot → Option (List Slot)) → worked_below o wanted given known ≡ Some after
         → (rest : List Slot) × (taken o wanted known.stack ≡ Some rest)
     taken_below wanted given row =
         let found = option_and_then-some (below_of given) (taken o wanted known.stack) after row in (found.0, found.1) where
@@ -294,10 +312,6 @@ module _ (p : Program) (ready : IsMakeable p) (store : Store) (f : Frame) where
     element_put n value it place seen deep has =
         put_fits (n + 1) n place value (element_kind it.type) it seen (array_kind o.classes it.type place deep) has
 
-    -- an array of numbers of the letter, and its dimension
-    letter_deep : (t : TypeRef) (rest : Bool) → ((t.dims == 1) && rest) ≡ true → 0 < t.dims
-    letter_deep t rest is = let one : t.dims ≡ 1 = eqb-true t.dims 1 (and_parts (t.dims == 1) rest is).0 in omega (arith, one)
-
     int_put : (e : Elem) (it : Looks) (place : ℕ) → slice_get s 2 ≡ Some (Thing it) → ((it.type.dims == 1) && has_letter e it.type.base) ≡ true
         → typed.element_words e ≡ slot.Int ∷ [] → HaveKinds (slot.Int ∷ slot.Int ∷ []) (take 2 f.stack) → A (put_element 1 it place)
     int_put e it place seen passes is have =
@@ -314,10 +328,6 @@ module _ (p : Program) (ready : IsMakeable p) (store : Store) (f : Frame) where
               (long_kind (element_kind it.type) (word_at f.stack 1) (number_slots elem.Long it.type.dims it.type.base passes) (second_long f.stack have))).fits;
         }
 
-    depth_deep : (dims : ℕ) (b : Base) → 0 < depth_with dims b → 0 < dims
-    depth_deep dims (base.OfClass class) deep = deep
-    depth_deep dims b deep = omega (arith, deep)
-
     reference_put : (it : Looks) (place : ℕ) → slice_get s 2 ≡ Some (Thing it) → nat_lt 0 (depth_of it.type) ≡ true → IsReference (word_at f.stack 0)
         → A (put_element 1 it place)
     reference_put it place seen passes has =
@@ -327,7 +337,7 @@ module _ (p : Program) (ready : IsMakeable p) (store : Store) (f : Frame) where
               (subst (λ k. HasKind (field_slot k) (word_at f.stack 0)) (sym found.1) has)).fits;
         }
 
-    stored_words : (e : Elem) → is_whole (stored_element o e ++ slot.Int ∷ []) ≡ true → array_store_row o e known ≡ Some after
+    pub stored_words : (e : Elem) → is_whole (stored_element o e ++ slot.Int ∷ []) ≡ true → array_store_row o e known ≡ Some after
         → HaveKinds (stored_element o e ++ slot.Int ∷ []) (take (length (stored_element o e ++ slot.Int ∷ [])) f.stack)
     unfolding array_store_row
     stored_words e whole_words row =
