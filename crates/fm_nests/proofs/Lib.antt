@@ -1,6 +1,12 @@
 pub mod CountSteps
+pub mod CountSums
 pub mod NestActions
 pub mod NestStores
 pub mod NestSteps
 pub mod NestEnds
 pub mod NestRows
+pub mod NestPrices
+pub mod RowMakes
+pub mod CostSteps
+pub mod NestFitting
+pub mod Grown

@@ -31,8 +31,8 @@ pub(crate) fn counts_on<M: Memory>(
     Ok(Some(counts))
 }
 
-// How many elements a count means; none where it is negative.
-fn len_of(count: i32) -> Option<u32>
+/// How many elements a count means; none where it is negative.
+pub(crate) fn len_of(count: i32) -> Option<u32>
     ensures value { result ≡ (if int_lt count (pos 0) then None else Some (unsigned_abs count)) }
     ensures fits { IfSome result (λ len. len < 2 ^ 31) }
 {

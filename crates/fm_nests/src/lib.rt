@@ -2,9 +2,11 @@
 // each of them.
 #![tactic(auto)]
 
+mod costs;
 mod counts;
 mod nests;
 mod rows;
 mod steps;
 
+pub use costs::cost;
 pub use rows::multi_array;

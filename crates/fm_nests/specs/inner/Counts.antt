@@ -1,5 +1,5 @@
 -- The counts of the dimensions, as they lie on the stack.
-use Rattle.std.specs.Prelude.{◌≡◌, ℕ, zero, suc, ◌^◌, ◌<◌, ℤ, pos, int_lt, Bool, true, false, List, [], ◌∷◌, map, Option, Some, None, slice_get, unsigned_abs}
+use Rattle.std.specs.Prelude.{◌≡◌, ℕ, zero, suc, ◌+◌, ◌*◌, ◌^◌, ◌<◌, ℤ, pos, int_lt, Bool, true, false, List, [], ◌∷◌, map, Option, Some, None, slice_get, unsigned_abs, if◌then◌else◌}
 use Rattle.std.specs.List.{AllByRecursion, list_any}
 use Rattle.fm_frames.specs.declared.values.Value.{Value}
 use Rattle.fm_frames.specs.inner.Doings.{int_in}
@@ -22,3 +22,17 @@ any_negative counts = list_any (λ n. int_lt n (pos 0)) counts
 abbrev pub Lens : List ℤ → Option (List ℕ) → Type 0
 Lens counts None = any_negative counts ≡ true
 Lens counts (Some lens) = (any_negative counts ≡ false) × (lens ≡ map unsigned_abs counts) × AllByRecursion (λ len. len < 2 ^ 31) lens
+
+-- one array and as many more for each of its elements
+abbrev pub arrays_with : ℤ → ℕ → Option ℕ
+arrays_with n made = if int_lt n (pos 0) then None else Some (1 + unsigned_abs n * made)
+
+abbrev pub counted : Option ℤ → Option ℕ → Option ℕ
+counted None made = None
+counted (Some n) None = None
+counted (Some n) (Some made) = arrays_with n made
+
+-- how many arrays so many counts make, which lie on top of a stack
+abbrev pub arrays_on : List Value → ℕ → Option ℕ
+arrays_on stack zero = Some 0
+arrays_on stack (suc n) = counted (int_in (slice_get stack n)) (arrays_on stack n)
