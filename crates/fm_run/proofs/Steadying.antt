@@ -1,0 +1,32 @@
+-- The state after a step is sound, and no more objects were made than the step costs.
+use Rattle.std.proofs.Common.{◌≡◌, ℕ, ◌+◌, ◌≤◌, None, refl, sym, ◌∙◌, ap, subst}
+use Rattle.fm_calls.specs.inner.Actions.{unmade}
+use Rattle.fm_cells.specs.Choices.{IsLawful}
+use Rattle.fm_cells.specs.Soundness as cells
+use Rattle.fm_cells.specs.Soundness.{CellsFit}
+use Rattle.fm_files.specs.Sink.{Output}
+use Rattle.fm_frames.specs.Acts.{Choose}
+use Rattle.fm_frames.specs.States.{Moved, State}
+use Rattle.fm_frames.specs.Steps.{cost, step}
+use Rattle.fm_nests.proofs.Grown.{step-makes}
+use Rattle.fm_ready.proofs.Loops.{steady}
+use Rattle.fm_ready.proofs.Standing.{standing}
+use Rattle.fm_ready.specs.Ready.{CanRun, IsGoing}
+use Rattle.fm_run.proofs.Counting.{steps-after}
+use Rattle.fm_run.specs.Stepping.{DoesStep}
+use Rattle.fm_run.specs.inner.Nexts.{Stepped}
+use Rattle.fm_world.specs.Programs.{Program}
+
+pub stepped-is : (p : Program) (choose : Choose) (x y : State) (old new : Output) → CanRun p → IsGoing p x → DoesStep p choose x y old new → IsLawful choose
+    → cells.IsSound y.areas.store → Stepped p x y
+stepped-is p choose x y old new run going does lawful store =
+    let is : (step p choose x).state ≡ y = ap (λ (m : Moved). m.state) does.is in
+    let fit : CellsFit (step p choose x).state.areas.store = subst (λ (z : State). CellsFit z.areas.store) (sym is) store.cells_fit in
+    let steadied = steady p x choose lawful run going.sound going.cells fit in
+    let s = standing p x run going in
+    subst (Stepped p x) is (record {
+      sound = steadied.0;
+      cells = steadied.1;
+      counted = λ goes. steps-after p choose x s.frame s.callers s.frames_is going.goes goes;
+      births = λ goes. step-makes p x choose lawful run.steps run.makes going.sound goes;
+    })

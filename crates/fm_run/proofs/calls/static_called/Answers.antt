@@ -1,0 +1,53 @@
+use Rattle.std.proofs.Common.{refl}
+use Rattle.fm_code.specs.declared.instructions.Insn.TheVariants as insn
+use Rattle.fm_frames.specs.Rows.{effect_of}
+use Rattle.fm_ready.proofs.Constants.{rows, suit}
+use Rattle.fm_ready.proofs.Serving.{serves}
+use Rattle.fm_ready.proofs.Standing.{births}
+use Rattle.fm_run.proofs.CallsNext.{called-fails, called-told}
+use Rattle.fm_run.proofs.Resolving.{is-inside, is-method, is-wanted}
+use Rattle.fm_world.specs.declared.uses.Use.TheVariants as used
+use Rattle.fm_frames.specs.CallRows.{static_effect}
+use Rattle.fm_run.proofs.calls.static_called.Goals as goal
+
+pub method_named-requires-clause-method : goal.method_named-requires-clause-method
+method_named-requires-clause-method g c =
+    is-method c.args.program.now c.args.machine.now c.args.method.0 (insn.Static c.args.index) c.requires.run c.requires.at
+
+pub method_named-requires-clause-wanted : goal.method_named-requires-clause-wanted
+method_named-requires-clause-wanted g c =
+    is-wanted c.args.program.now c.args.machine.now c.args.method.0 (insn.Static c.args.index) c.requires.run c.requires.going c.requires.at
+
+pub static_call-requires-clause-serves : goal.static_call-requires-clause-serves
+static_call-requires-clause-serves g c =
+    serves c.args.program.now c.args.machine.now c.requires.run c.requires.going
+
+pub static_call-requires-clause-rows : goal.static_call-requires-clause-rows
+static_call-requires-clause-rows g c =
+    rows c.args.program.now c.requires.run
+
+pub static_call-requires-clause-method : goal.static_call-requires-clause-method
+static_call-requires-clause-method g c =
+    (is-inside c.args.program.now c.args.machine.now c.args.method.0 (insn.Static c.args.index) (used.OfMethod c.method_named.result.0 c.method_named.result.1) c.requires.run c.requires.at c.method_named.ensures).0
+
+pub static_call-requires-clause-named : goal.static_call-requires-clause-named
+static_call-requires-clause-named g c =
+    (is-inside c.args.program.now c.args.machine.now c.args.method.0 (insn.Static c.args.index) (used.OfMethod c.method_named.result.0 c.method_named.result.1) c.requires.run c.requires.at c.method_named.ensures).1
+
+pub static_call-requires-clause-births : goal.static_call-requires-clause-births
+static_call-requires-clause-births g c =
+    births c.args.program.now c.args.machine.now c.requires.run c.requires.going
+
+pub static_call-requires-clause-suit : goal.static_call-requires-clause-suit
+static_call-requires-clause-suit g c =
+    suit c.args.program.now c.args.machine.now c.requires.run c.requires.going
+
+pub returns-clause-told : goal.returns-clause-told
+unfolding effect_of
+returns-clause-told g c =
+    called-told c.args.program.now g.M.Memory.choose c.args.machine.now c.static_call.new.machine (g.S.Sink.output c.args.out.now) (g.S.Sink.output c.static_call.new.out) c.args.method.0 (insn.Static c.args.index) (used.OfMethod c.method_named.result.0 c.method_named.result.1) (static_effect c.args.program.now.outline (used.OfMethod c.method_named.result.0 c.method_named.result.1)) c.static_call.result c.requires.at c.method_named.ensures refl c.static_call.ensures.told
+
+pub returns-clause-failed : goal.returns-clause-failed
+unfolding effect_of
+returns-clause-failed g c failed =
+    called-fails c.args.program.now g.M.Memory.choose c.args.machine.now (g.S.Sink.output c.args.out.now) (g.S.Sink.output c.static_call.new.out) c.args.method.0 (insn.Static c.args.index) (used.OfMethod c.method_named.result.0 c.method_named.result.1) (static_effect c.args.program.now.outline (used.OfMethod c.method_named.result.0 c.method_named.result.1)) c.requires.at c.method_named.ensures refl (c.static_call.ensures.failed failed)

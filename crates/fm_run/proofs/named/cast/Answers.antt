@@ -1,0 +1,23 @@
+use Rattle.fm_code.specs.declared.instructions.Insn.TheVariants as insn
+use Rattle.fm_frames.specs.Rows.{effect_of}
+use Rattle.fm_run.proofs.Resolving.{is-inside, is-method, is-wanted}
+use Rattle.fm_run.proofs.NextSteps.{named-done}
+use Rattle.fm_world.specs.declared.uses.Use.TheVariants as used
+use Rattle.fm_run.proofs.named.cast.Goals as goal
+
+pub type_named-t-requires-clause-method : goal.type_named-t-requires-clause-method
+type_named-t-requires-clause-method g c =
+    is-method c.args.program.now c.args.machine.now c.args.method.0 (insn.Cast c.args.index) c.requires.run c.requires.at
+
+pub type_named-t-requires-clause-wanted : goal.type_named-t-requires-clause-wanted
+type_named-t-requires-clause-wanted g c =
+    is-wanted c.args.program.now c.args.machine.now c.args.method.0 (insn.Cast c.args.index) c.requires.run c.requires.going c.requires.at
+
+pub cast-requires-clause-inside : goal.cast-requires-clause-inside
+cast-requires-clause-inside g c =
+    is-inside c.args.program.now c.args.machine.now c.args.method.0 (insn.Cast c.args.index) (used.OfType c.type_named-t.result) c.requires.run c.requires.at c.type_named-t.ensures
+
+pub returns : goal.returns
+unfolding effect_of
+returns g c =
+    named-done c.args.program.now g.M.Memory.choose c.args.machine.now c.cast.new.machine c.args.method.0 (insn.Cast c.args.index) (used.OfType c.type_named-t.result) c.cast.result c.requires.at c.type_named-t.ensures c.cast.ensures

@@ -1,0 +1,32 @@
+use Rattle.fm_code.specs.declared.instructions.Insn.TheVariants as insn
+use Rattle.fm_frames.specs.Rows.{effect_of}
+use Rattle.fm_ready.proofs.Heap.{holds_field}
+use Rattle.fm_run.proofs.Resolving.{is-inside, is-method, is-wanted}
+use Rattle.fm_run.proofs.NextSteps.{named-done, next-of}
+use Rattle.fm_world.specs.declared.uses.Use.TheVariants as used
+use Rattle.fm_run.proofs.named.field_got.Goals as goal
+
+pub field_named-requires-clause-method : goal.field_named-requires-clause-method
+field_named-requires-clause-method g c =
+    is-method c.args.program.now c.args.machine.now c.args.method.0 (insn.GetField c.args.index) c.requires.run c.requires.at
+
+pub field_named-requires-clause-wanted : goal.field_named-requires-clause-wanted
+field_named-requires-clause-wanted g c =
+    is-wanted c.args.program.now c.args.machine.now c.args.method.0 (insn.GetField c.args.index) c.requires.run c.requires.going c.requires.at
+
+pub get_field-requires-clause-field : goal.get_field-requires-clause-field
+get_field-requires-clause-field g c =
+    (is-inside c.args.program.now c.args.machine.now c.args.method.0 (insn.GetField c.args.index) (used.OfField c.field_named.result.0 c.field_named.result.1) c.requires.run c.requires.at c.field_named.ensures).0
+
+pub get_field-requires-clause-named : goal.get_field-requires-clause-named
+get_field-requires-clause-named g c =
+    (is-inside c.args.program.now c.args.machine.now c.args.method.0 (insn.GetField c.args.index) (used.OfField c.field_named.result.0 c.field_named.result.1) c.requires.run c.requires.at c.field_named.ensures).1
+
+pub get_field-requires-clause-holds : goal.get_field-requires-clause-holds
+get_field-requires-clause-holds g c =
+    holds_field c.args.program.now c.args.machine.now c.args.index c.field_named.result.0 c.field_named.result.1 c.requires.run c.requires.going (next-of c.args.program.now c.args.machine.now c.args.method.0 (insn.GetField c.args.index) (used.OfField c.field_named.result.0 c.field_named.result.1) c.requires.at c.field_named.ensures)
+
+pub returns : goal.returns
+unfolding effect_of
+returns g c =
+    named-done c.args.program.now g.M.Memory.choose c.args.machine.now c.get_field.new.machine c.args.method.0 (insn.GetField c.args.index) (used.OfField c.field_named.result.0 c.field_named.result.1) c.get_field.result c.requires.at c.field_named.ensures c.get_field.ensures

@@ -1,0 +1,50 @@
+use Rattle.std.proofs.Common.{◌≡◌, ◌<◌, ◌^◌, false, true, Err, ap, sym, ◌∙◌, arith}
+use Rattle.fm_frames.specs.declared.turns.StepFail.TheVariants as fail
+use Rattle.fm_run.proofs.Ranging.{cost-some, ran-breaks, ran-ends, ran-fails, ran-going, ran-less, ran-more, ran-none, same_error}
+use Rattle.fm_run.proofs.runs.run.Goals as goal
+
+pub loop-alloc-init : goal.loop-alloc-init
+loop-alloc-init g c =
+    ran-none c.args.program.now g.M.Memory.choose c.args.steps c.args.machine.now (g.S.Sink.output c.args.out.now) c.requires.going
+
+pub goes-requires-clause-few : goal.goes-requires-clause-few
+goes-requires-clause-few g c = omega (arith, c.requires.going.births)
+
+pub advance-requires-clause-going : goal.advance-requires-clause-going
+advance-requires-clause-going g c =
+    let few : c.args.steps < 2 ^ 64 = omega (arith, c.requires.going.births) in
+    ran-going c.args.program.now g.M.Memory.choose c.args.steps c.args.machine.now c.loop-alloc.machine
+    (g.S.Sink.output c.args.out.now) (g.S.Sink.output c.loop-alloc.out) few c.loop-alloc.invariant (c.goes.ensures.0 c.loop-alloc-test.true)
+
+pub loop-alloc-preserved : goal.loop-alloc-preserved
+loop-alloc-preserved g c =
+    ran-more c.args.program.now g.M.Memory.choose c.args.steps c.args.machine.now c.loop-alloc.machine
+    (g.S.Sink.output c.args.out.now) (g.S.Sink.output c.loop-alloc.out) c.loop-alloc.invariant (c.goes.ensures.0 c.loop-alloc-test.true)
+    c.advance.new.machine (g.S.Sink.output c.advance.new.out) c.in_ok-advance.ensures.does c.in_ok-advance.ensures.stepped
+
+pub loop-alloc-smaller : goal.loop-alloc-smaller
+loop-alloc-smaller g c =
+    ran-less c.args.program.now g.M.Memory.choose c.args.steps c.args.machine.now c.loop-alloc.machine
+    (g.S.Sink.output c.args.out.now) (g.S.Sink.output c.loop-alloc.out) c.loop-alloc.invariant (c.goes.ensures.0 c.loop-alloc-test.true)
+    c.advance.new.machine (g.S.Sink.output c.advance.new.out) c.in_ok-advance.ensures.does c.in_ok-advance.ensures.stepped
+    (cost-some c.args.program.now c.loop-alloc.machine)
+
+pub returns-in_err-advance-clause-failed : goal.returns-in_err-advance-clause-failed
+returns-in_err-advance-clause-failed g c failed =
+    let why = same_error c.from_residual.result c.in_err-advance.field-0.0 fail.SinkFailed c.from_residual.ensures.1 failed in
+    ran-fails c.args.program.now g.M.Memory.choose c.args.steps c.args.machine.now c.loop-alloc.machine
+    (g.S.Sink.output c.args.out.now) (g.S.Sink.output c.loop-alloc.out) c.loop-alloc.invariant (c.goes.ensures.0 c.loop-alloc-test.true)
+    (g.S.Sink.output c.advance.new.out) (c.in_err-advance.ensures.failed (ap Err why))
+
+pub returns-in_err-advance-clause-kept : goal.returns-in_err-advance-clause-kept
+returns-in_err-advance-clause-kept g c wanting =
+    let why = same_error c.from_residual.result c.in_err-advance.field-0.0 fail.NoMemory c.from_residual.ensures.1 wanting in
+    ran-breaks c.args.program.now g.M.Memory.choose c.args.steps c.args.machine.now c.loop-alloc.machine
+    (g.S.Sink.output c.args.out.now) (g.S.Sink.output c.loop-alloc.out) c.loop-alloc.invariant (c.goes.ensures.0 c.loop-alloc-test.true)
+    (g.S.Sink.output c.advance.new.out) (c.in_err-advance.ensures.kept (ap Err why))
+
+pub returns-clause-runs : goal.returns-clause-runs
+returns-clause-runs g c =
+    ran-ends c.args.program.now g.M.Memory.choose c.args.steps c.args.machine.now c.loop-alloc.machine
+    (g.S.Sink.output c.args.out.now) (g.S.Sink.output c.loop-alloc.out) c.loop-alloc.invariant
+    (λ goes. let told : false ≡ true = sym c.loop-alloc-test.false ∙ c.goes.ensures.1 goes in absurd (cc))

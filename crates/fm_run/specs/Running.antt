@@ -1,0 +1,66 @@
+-- What a run comes to, with what it prints: each step's bytes come to the output in one put.
+use Rattle.std.specs.Prelude.{◌≡◌, ◌⊎◌, ℕ, zero, suc, ◌+◌, ◌^◌, ◌<◌, List, [], ◌∷◌, ◌++◌}
+use Rattle.std.specs.List.{concat}
+use Rattle.fm_calls.specs.inner.Actions.{unmade}
+use Rattle.fm_files.specs.Sink.{FailsPut, Output, with_pieces}
+use Rattle.fm_world.specs.Programs.{Program}
+use Rattle.fm_frames.specs.Acts.{Choose}
+use Rattle.fm_frames.specs.Runs.{after, Goes, IsRun}
+use Rattle.fm_frames.specs.States.{State}
+use Rattle.fm_frames.specs.Steps.{step}
+use Rattle.fm_frames.specs.inner.Doings.{silent}
+use Rattle.fm_sound.specs.HeldCells.{HoldsCells}
+use Rattle.fm_sound.specs.Sound.{IsSound}
+
+-- the state after so many steps
+abbrev pub state_after : Program → Choose → ℕ → State → State
+state_after p choose count x = (after p choose count (silent x)).state
+
+-- what the step after so many steps prints
+abbrev pub printed_at : Program → Choose → ℕ → State → List ℕ
+printed_at p choose count x = (step p choose (state_after p choose count x)).printed
+
+-- one more step's bytes are one piece more; where it prints nothing there may be none
+abbrev pub OnePieceMore : List ℕ → (before pieces : List (List ℕ)) → Type 0
+OnePieceMore printed before pieces = (pieces ≡ before ++ printed ∷ []) ⊎ ((printed ≡ []) × (pieces ≡ before))
+
+-- the pieces are what the first steps print, in order
+abbrev pub ArePieces : Program → Choose → State → ℕ → List (List ℕ) → Type 0
+ArePieces p choose x zero pieces = pieces ≡ []
+ArePieces p choose x (suc count) pieces =
+    (before : List (List ℕ)) × ArePieces p choose x count before × OnePieceMore (printed_at p choose count x) before pieces
+
+-- so many steps are within the budget
+abbrev pub GoFirst : Program → Choose → (budget : ℕ) → State → ℕ → Type 0
+GoFirst p choose budget x count = (k : ℕ) → k < count → Goes p budget (state_after p choose k x)
+
+-- the run within the budget leads from one state to the other, and what it printed came to the output, each step's bytes in one put
+pub record RunsTo (p : Program) (choose : Choose) (budget : ℕ) (x y : State) (old new : Output) : Type 0 where
+  pub printed : List ℕ
+  pub run : IsRun p choose budget (silent x) (record { state = y; printed = printed })
+  pub pieces : List (List ℕ)
+  pub are : ArePieces p choose x run.count pieces
+  pub joined : concat pieces ≡ printed
+  pub put : new ≡ with_pieces pieces old
+
+-- the put of what one step prints failed; what the steps before it printed came
+pub record FailsRun (p : Program) (choose : Choose) (budget : ℕ) (x : State) (old new : Output) : Type 0 where
+  pub count : ℕ
+  pub goes : GoFirst p choose budget x (count + 1)
+  pub pieces : List (List ℕ)
+  pub are : ArePieces p choose x count pieces
+  pub fails : FailsPut (printed_at p choose count x) (with_pieces pieces old) new
+
+-- the first steps were done, and what they printed came
+pub record BreaksRun (p : Program) (choose : Choose) (budget : ℕ) (x : State) (old new : Output) : Type 0 where
+  pub count : ℕ
+  pub goes : GoFirst p choose budget x count
+  pub pieces : List (List ℕ)
+  pub are : ArePieces p choose x count pieces
+  pub put : new ≡ with_pieces pieces old
+
+-- what a run asks of the state from which it goes on: it is sound, and as many objects can be numbered as steps may be done and texts have no literal yet
+pub record CanGo (p : Program) (budget : ℕ) (x : State) : Type 0 where
+  pub sound : IsSound p x
+  pub cells : HoldsCells p x
+  pub births : x.areas.store.births + unmade x.areas.literals + budget < 2 ^ 32

@@ -1,0 +1,74 @@
+// Which instructions are done by one function.
+
+ghost use Rattle.std.specs.Prelude.{◌≡◌};
+ghost use Rattle.fm_run.specs.inner.Nexts.{group_of};
+
+use fm_code::Insn;
+
+// The instructions that one function does.
+#[derive(Clone, Copy)]
+pub(crate) enum Group {
+    Words,
+    Numbers,
+    Jumps,
+    Leaves,
+    Moves,
+    Fields,
+    Arrays,
+    Objects,
+    Calls,
+    // What no program has that is run.
+    LeftOut,
+}
+
+// Which function does the instruction.
+pub(crate) fn group_of(insn: &Insn) -> Group
+    ensures { result ≡ group_of insn.now }
+{
+    match insn {
+        Insn::Nop
+        | Insn::Null
+        | Insn::Const(_)
+        | Insn::LongConst(_)
+        | Insn::LoadPool(_)
+        | Insn::Load(_, _)
+        | Insn::Store(_, _)
+        | Insn::Inc(_, _) => Group::Words,
+        Insn::IntOp(_)
+        | Insn::LongOp(_)
+        | Insn::IntNeg
+        | Insn::LongNeg
+        | Insn::IntShift(_)
+        | Insn::LongShift(_)
+        | Insn::Convert(_)
+        | Insn::LongCompare => Group::Numbers,
+        Insn::IfInt(_, _)
+        | Insn::IfPair(_, _)
+        | Insn::IfSame(_, _)
+        | Insn::IfNull(_, _)
+        | Insn::Goto(_)
+        | Insn::Table(_, _, _)
+        | Insn::Lookup(_, _, _) => Group::Jumps,
+        Insn::Return(_) | Insn::Throw => Group::Leaves,
+        Insn::Pop
+        | Insn::Pop2
+        | Insn::Dup
+        | Insn::DupX1
+        | Insn::DupX2
+        | Insn::Dup2
+        | Insn::Dup2X1
+        | Insn::Dup2X2
+        | Insn::Swap => Group::Moves,
+        Insn::GetField(_) | Insn::PutField(_) | Insn::GetStatic(_) | Insn::PutStatic(_) =>
+            Group::Fields,
+        Insn::ArrayLoad(_) | Insn::ArrayStore(_) | Insn::Length => Group::Arrays,
+        Insn::New(_)
+        | Insn::NewArray(_)
+        | Insn::NewRefs(_)
+        | Insn::MultiArray(_, _)
+        | Insn::Cast(_)
+        | Insn::IsA(_) => Group::Objects,
+        Insn::Virtual(_) | Insn::Interface(_) | Insn::Special(_) | Insn::Static(_) => Group::Calls,
+        Insn::LeftOut(_) => Group::LeftOut,
+    }
+}

@@ -1,0 +1,16 @@
+// The step of the machine and its run, over any memory and any sink (JVMS 2.11, 6.5).
+//
+// A step is one match over the next instruction: each instruction is one call of the row that does its
+// whole step.
+#![tactic(auto)]
+
+mod calls;
+mod groups;
+mod named;
+mod names;
+mod plain;
+mod runs;
+mod steps;
+
+pub use runs::run;
+pub use steps::step;
