@@ -1,1 +1,2 @@
 pub mod FreeCallsLemmas
+pub mod PlansLemmas
