@@ -3,7 +3,9 @@
 #![tactic(auto)]
 
 mod free_calls;
+mod laws;
 mod plans;
 
 pub use free_calls::first_free_call;
-pub use plans::full_plan;
+pub use laws::law_old_items;
+pub use plans::{full_plan, planned_code};

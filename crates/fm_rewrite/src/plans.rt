@@ -3,7 +3,7 @@
 ghost use Rattle.std.specs.Prelude.{◌≡◌, IfOk, Some};
 ghost use Rattle.fm_analysis.specs.Analysed.{AreAnalysable};
 ghost use Rattle.fm_conn.specs.Summaries.{AreSummariesOf};
-ghost use Rattle.fm_rewrite.specs.Plans.{IsFullPlan};
+ghost use Rattle.fm_rewrite.specs.Plans.{HasOldItems, IsFullPlan, IsPlannedCode};
 ghost use Rattle.fm_world.specs.Programs.{code_at};
 
 use fm_analysis::Typed;
@@ -12,6 +12,7 @@ use fm_code::Code;
 use fm_conn::{Summaries, classes};
 use fm_flow::live;
 use fm_place::{Plan, places, sites};
+use fm_weave::Planned;
 use fm_world::Program;
 use std::alloc::Global;
 
@@ -51,4 +52,24 @@ pub fn full_plan(
         &classes,
         sites.as_slice(),
     )
+}
+
+/// What is to be done with a method that has this code: it stays as it is where no site is held, and
+/// else it is woven by the plan of all that can be inserted, unless it would be too long already while
+/// no branch is widened. Takes the memory that its plan takes.
+pub fn planned_code(
+    alloc: Global,
+    program: &Program,
+    summaries: &Summaries,
+    method: MethodId,
+    code: &Code,
+) -> Result<Planned, NoMemory>
+    requires analysable { AreAnalysable program.now }
+    requires old { HasOldItems program.now }
+    requires summaries { AreSummariesOf program.now.outline summaries.now }
+    requires code { code_at program.now method.0 ≡ Some code.now }
+    ensures { IfOk result (IsPlannedCode program.now summaries.now method.0 code.now) }
+{
+    let plan = full_plan(alloc, program, summaries, method, code)?;
+    Ok(Planned::of(code, plan))
 }
