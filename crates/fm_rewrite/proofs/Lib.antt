@@ -1,1 +1,5 @@
 pub mod FreeCallsLemmas
+pub mod PlansLemmas
+pub mod FullPlanLemmas
+pub mod OldItemsLemmas
+pub mod PlannedLemmas

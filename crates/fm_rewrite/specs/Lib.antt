@@ -1,1 +1,2 @@
 pub mod FreeCalls
+pub mod Plans

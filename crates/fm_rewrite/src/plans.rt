@@ -1,0 +1,75 @@
+// What can be inserted into the methods of a program.
+
+ghost use Rattle.std.specs.Prelude.{◌≡◌, IfOk, Some};
+ghost use Rattle.fm_analysis.specs.Analysed.{AreAnalysable};
+ghost use Rattle.fm_conn.specs.Summaries.{AreSummariesOf};
+ghost use Rattle.fm_rewrite.specs.Plans.{HasOldItems, IsFullPlan, IsPlannedCode};
+ghost use Rattle.fm_world.specs.Programs.{code_at};
+
+use fm_analysis::Typed;
+use fm_base::{MethodId, NoMemory};
+use fm_code::Code;
+use fm_conn::{Summaries, classes};
+use fm_flow::live;
+use fm_place::{Plan, places, sites};
+use fm_weave::Planned;
+use fm_world::Program;
+use std::alloc::Global;
+
+/// All that can be inserted into a method with this code, as the summaries link the ends of methods: a
+/// holder for each held site, freed at all places of its class. Takes memory for the plan, and for what
+/// the analysis answers of the method.
+pub fn full_plan(
+    alloc: Global,
+    program: &Program,
+    summaries: &Summaries,
+    method: MethodId,
+    code: &Code,
+) -> Result<Plan, NoMemory>
+    requires analysable { AreAnalysable program.now }
+    requires summaries { AreSummariesOf program.now.outline summaries.now }
+    requires code { code_at program.now method.0 ≡ Some code.now }
+    ensures { IfOk result (IsFullPlan program.now summaries.now method.0 code.now) }
+{
+    let typed = Typed::of(alloc, program, method, code)?;
+    let rows = live(alloc, code, &typed.flow)?;
+    let classes = classes(
+        alloc,
+        program,
+        method,
+        &typed.typing,
+        &typed.flow,
+        summaries,
+    )?;
+    let sites = sites(alloc, program, method, &typed.typing, &classes, summaries)?;
+    places(
+        alloc,
+        program,
+        method,
+        &typed.typing,
+        &typed.flow,
+        &rows,
+        &classes,
+        sites.as_slice(),
+    )
+}
+
+/// What is to be done with a method that has this code: it stays as it is where no site is held, and
+/// else it is woven by the plan of all that can be inserted, unless it would be too long already while
+/// no branch is widened. Takes the memory that its plan takes.
+pub fn planned_code(
+    alloc: Global,
+    program: &Program,
+    summaries: &Summaries,
+    method: MethodId,
+    code: &Code,
+) -> Result<Planned, NoMemory>
+    requires analysable { AreAnalysable program.now }
+    requires old { HasOldItems program.now }
+    requires summaries { AreSummariesOf program.now.outline summaries.now }
+    requires code { code_at program.now method.0 ≡ Some code.now }
+    ensures { IfOk result (IsPlannedCode program.now summaries.now method.0 code.now) }
+{
+    let plan = full_plan(alloc, program, summaries, method, code)?;
+    Ok(Planned::of(code, plan))
+}
