@@ -1,0 +1,2 @@
+pub mod SlotsFit
+pub mod StoresKeep

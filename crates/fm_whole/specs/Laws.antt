@@ -1,0 +1,25 @@
+-- The laws that the functions of `laws` prove.
+use Rattle.std.specs.Prelude.{◌≡◌, ℕ, true, Bool, List, Option}
+use Rattle.fm_base.specs.declared.kinds.TypeRef.{TypeRef}
+use Rattle.fm_cells.specs.Stores.{Store}
+use Rattle.fm_types.specs.Fits.{AreTree}
+use Rattle.fm_types.specs.States.{is_whole, state_fits, TypeState}
+use Rattle.fm_world.specs.Programs.{Outline}
+use Rattle.fm_frames.specs.Acts.{cell_of}
+use Rattle.fm_frames.specs.Sights.{sight}
+use Rattle.fm_frames.specs.declared.values.Value.{Value}
+use Rattle.fm_sound.specs.Sound.{IsReference}
+use Rattle.fm_whole.specs.Seen.{SeesA}
+use Rattle.fm_whole.specs.Whole.{FrameFits, LeadsToA}
+
+-- what fits a state fits each state that this one fits, where no long is split: so it goes along each edge of a typing
+abbrev pub FitsKeepsCells : Type 0
+FitsKeepsCells =
+    (o : Outline) → AreTree o.classes → (store : Store) (own : ℕ) (news : ℕ → Option TypeRef) (s other : TypeState)
+    → is_whole s.stack ≡ true → is_whole other.stack ≡ true → state_fits o s other ≡ true
+    → (locals stack : List Value) → FrameFits o store own news s locals stack → FrameFits o store own news other locals stack
+
+-- of a reference that leads to null or to an object of a type that passes a test, just that is seen
+abbrev pub ReferencesAreSeen : Type 0
+ReferencesAreSeen =
+    (o : Outline) (store : Store) (test : TypeRef → Bool) (v : Value) → IsReference v → LeadsToA o store test (cell_of v) → SeesA test (sight o store v)

@@ -1,0 +1,13 @@
+// Laws over definitions alone, each the contract of a function that does nothing.
+
+ghost use Rattle.fm_whole.specs.Laws as law;
+
+/// What fits a state fits each state that this one fits, so cells fit along each edge of a typing.
+pub fn law_cells_fit()
+    ensures { law.FitsKeepsCells }
+{}
+
+/// Of a reference that fits, null is seen or an object of a type that fits, and never a cell that isn't held.
+pub fn law_sights()
+    ensures { law.ReferencesAreSeen }
+{}
