@@ -1,2 +1,3 @@
 pub mod SlotsFit
 pub mod StoresKeep
+pub mod ActsKeep

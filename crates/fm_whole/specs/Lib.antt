@@ -1,3 +1,4 @@
 pub mod Whole
 pub mod Seen
+pub mod Doing
 pub mod Laws

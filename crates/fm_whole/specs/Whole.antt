@@ -1,6 +1,6 @@
 -- What holds of each state to which the run of a typed program comes that calls no FreeMe (JVMS 2.5, 2.6, 4.10): each cell that a frame, a static field, an
 -- object or a literal leads to is null's, or an object lies in it, of a type that fits where it stands. Interfaces count as Object, as where states are checked.
-use Rattle.std.specs.Prelude.{◌≡◌, ℕ, ◌-◌, ◌⊎◌, Bool, true, false, List, length, drop, Option, Some, None}
+use Rattle.std.specs.Prelude.{◌≡◌, ℕ, ◌-◌, ◌⊎◌, Bool, true, false, List, length, drop, Option, Some, None, slice_get}
 use Rattle.std.specs.List.{AllByRecursion, AllZip, slice_index_or}
 use Rattle.fm_base.specs.declared.ids.MethodId.{MethodId}
 use Rattle.fm_base.specs.declared.kinds.Kind.TheVariants as kind
@@ -20,7 +20,7 @@ use Rattle.fm_world.specs.Programs.{class_of_type, code_at, Outline, Program}
 use Rattle.fm_frames.specs.Acts.{cell_of}
 use Rattle.fm_frames.specs.Elements.{is_text_type}
 use Rattle.fm_frames.specs.Sights.{has_hidden_field, type_numbered}
-use Rattle.fm_frames.specs.States.{Areas, Frame, State}
+use Rattle.fm_frames.specs.States.{Areas, Frame, State, word_at}
 use Rattle.fm_frames.specs.declared.ends.Ended.TheVariants as end
 use Rattle.fm_frames.specs.declared.values.Value.{Value}
 use Rattle.fm_sound.specs.Placing.{kind_in}
@@ -94,13 +94,10 @@ pub record ObjectIsWhole (o : Outline) (store : Store) (object : Object) : Type 
   pub hidden : has_hidden_field o (type_numbered o object.class) ≡ true → LeadsToA o store (is_text_type o) (slice_index_or object.elements 0 0)
   pub fixed : object.fixed ≡ true → (place : ℕ) (t : TypeRef) → kind_in o object place ≡ Some (kind.Ref t) → ⊥
 
--- no item makes anything
-abbrev pub no_news : ℕ → Option TypeRef
-no_news item = None
-
 -- static fields fit their kinds, literals are texts, and what is held is whole
 pub record AreasAreWhole (o : Outline) (x : Areas) : Type 0 where
-  pub statics : AllZip (WordFits o x.store 0 no_news) (static_slots o) x.statics
+  pub statics : (field : ℕ) (t : TypeRef) → slice_get (static_slots o) field ≡ Some (slot.Ref t)
+      → LeadsToA o x.store (λ u. fits_type o.classes u t) (cell_of (word_at x.statics field))
   pub literals : (text : ℕ) → LeadsToA o x.store (is_text_type o) (slice_index_or x.literals text 0)
   pub heap : (cell : ℕ) (object : Object) → object_at x.store cell ≡ Some object → ObjectIsWhole o x.store object
 

@@ -11,3 +11,9 @@ pub fn law_cells_fit()
 pub fn law_sights()
     ensures { law.ReferencesAreSeen }
 {}
+
+/// Actions by which each place gets what fits it, and which free nothing, keep whole what the frames share, on
+/// memory that reuses cells in any way.
+pub fn law_whole_areas()
+    ensures { law.ActionsKeepWhole }
+{}
