@@ -1,3 +1,4 @@
 pub mod SlotsFit
 pub mod StoresKeep
 pub mod ActsKeep
+pub mod FramesKeep

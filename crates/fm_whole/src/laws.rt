@@ -17,3 +17,10 @@ pub fn law_sights()
 pub fn law_whole_areas()
     ensures { law.ActionsKeepWhole }
 {}
+
+/// Frames stay whole where the frame on top goes on to the next item or to a target, and where methods start
+/// classes.
+pub fn law_whole_frames()
+    ensures going_on { law.GoingOnKeepsWhole }
+    ensures starting { law.StartingKeepsWhole }
+{}
