@@ -2,3 +2,4 @@ pub mod SlotsFit
 pub mod StoresKeep
 pub mod ActsKeep
 pub mod FramesKeep
+pub mod Operands

@@ -1,18 +1,21 @@
 -- The laws that the functions of `laws` prove.
-use Rattle.std.specs.Prelude.{◌≡◌, ℕ, true, Bool, List, [], ◌++◌, Option}
-use Rattle.std.specs.List.{AllByRecursion}
+use Rattle.std.specs.Prelude.{◌≡◌, ℕ, ℤ, Some, slice_get, true, Bool, List, [], ◌++◌, Option}
+use Rattle.std.specs.List.{AllByRecursion, AllZip}
 use Rattle.fm_base.specs.declared.kinds.TypeRef.{TypeRef}
 use Rattle.fm_cells.specs.Choices.{lawful}
 use Rattle.fm_cells.specs.Stores.{Store}
 use Rattle.fm_code.specs.declared.instructions.Insn.{Insn}
-use Rattle.fm_types.specs.Fits.{AreTree}
+use Rattle.fm_types.specs.Fits.{AreTree, fits, fits_type}
 use Rattle.fm_types.specs.Named.{class_of_method}
 use Rattle.fm_types.specs.States.{is_whole, state_fits, TypeState}
 use Rattle.fm_types.specs.Typed.{made_at}
+use Rattle.fm_types.specs.declared.slots.Slot.{Slot}
+use Rattle.fm_types.specs.declared.slots.Slot.TheVariants as slot
 use Rattle.fm_world.specs.Programs.{Outline, Program}
 use Rattle.fm_frames.specs.Acts.{cell_of, Choose, performed}
 use Rattle.fm_frames.specs.Effects.{Action, Effect}
-use Rattle.fm_frames.specs.Sights.{sight}
+use Rattle.fm_frames.specs.Operands.{on_int, on_long, on_object}
+use Rattle.fm_frames.specs.Sights.{Looks, sight, sights}
 use Rattle.fm_frames.specs.States.{Areas, Frame, State}
 use Rattle.fm_frames.specs.Steps.{continued, stack_after, start_frames, written}
 use Rattle.fm_frames.specs.declared.values.Value.{Value}
@@ -20,8 +23,8 @@ use Rattle.fm_sound.specs.Going.{IsGoingOn, StandsAtRow, StartsClass}
 use Rattle.fm_sound.specs.Leading.{LeadsAs, sources_of}
 use Rattle.fm_sound.specs.Sound.{AreTyped, IsReference, Typings}
 use Rattle.fm_whole.specs.Doing.{ActsLead, LeavesWhole}
-use Rattle.fm_whole.specs.Seen.{SeesA}
-use Rattle.fm_whole.specs.Whole.{AreasAreWhole, FrameFits, FrameIsWhole, LeadsToA}
+use Rattle.fm_whole.specs.Seen.{IsNoFault, SeesA}
+use Rattle.fm_whole.specs.Whole.{AreasAreWhole, FrameFits, FrameIsWhole, LeadsToA, WordFits}
 
 -- what fits a state fits each state that this one fits, where no long is split: so it goes along each edge of a typing
 abbrev pub FitsKeepsCells : Type 0
@@ -34,6 +37,29 @@ FitsKeepsCells =
 abbrev pub ReferencesAreSeen : Type 0
 ReferencesAreSeen =
     (o : Outline) (store : Store) (test : TypeRef → Bool) (v : Value) → IsReference v → LeadsToA o store test (cell_of v) → SeesA test (sight o store v)
+
+-- What a row asks of a word holds where the checker has a slot that fits: it goes on with an object of a type that fits, or throws for null, and neither
+-- an operand of another sort nor a cell in which it can't be is met.
+abbrev pub ObjectsAreAsAsked : Type 0
+ObjectsAreAsAsked =
+    (o : Outline) → AreTree o.classes → (store : Store) (own : ℕ) (news : ℕ → Option TypeRef) (slots : List Slot) (words : List Value)
+    → AllZip (WordFits o store own news) slots words → (n : ℕ) (s : Slot) → slice_get slots n ≡ Some s → (t : TypeRef) → fits o s (slot.Ref t) ≡ true
+    → (follows : Looks → Effect) → ((it : Looks) → fits_type o.classes it.type t ≡ true → IsNoFault (follows it).next)
+    → IsNoFault (on_object o t (sights o store words) n follows).next
+
+-- the same of ints
+abbrev pub IntsAreAsAsked : Type 0
+IntsAreAsAsked =
+    (o : Outline) (store : Store) (own : ℕ) (news : ℕ → Option TypeRef) (slots : List Slot) (words : List Value)
+    → AllZip (WordFits o store own news) slots words → (n : ℕ) (s : Slot) → slice_get slots n ≡ Some s → fits o s slot.Int ≡ true
+    → (follows : ℤ → Effect) → ((i : ℤ) → IsNoFault (follows i).next) → IsNoFault (on_int (sights o store words) n follows).next
+
+-- and of longs
+abbrev pub LongsAreAsAsked : Type 0
+LongsAreAsAsked =
+    (o : Outline) (store : Store) (own : ℕ) (news : ℕ → Option TypeRef) (slots : List Slot) (words : List Value)
+    → AllZip (WordFits o store own news) slots words → (n : ℕ) (s : Slot) → slice_get slots n ≡ Some s → fits o s slot.Long ≡ true
+    → (follows : ℤ → Effect) → ((i : ℤ) → IsNoFault (follows i).next) → IsNoFault (on_long (sights o store words) n follows).next
 
 -- Actions by which each place gets what fits it keep whole what the frames share, at each choice of a memory that reuses cells in any way.
 abbrev pub ActionsKeepWhole : Type 0

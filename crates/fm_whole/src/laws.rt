@@ -12,6 +12,14 @@ pub fn law_sights()
     ensures { law.ReferencesAreSeen }
 {}
 
+/// What rows ask of their operands holds where the checker has slots that fit: an int, a long, or an object
+/// of a type that fits, and null throws; so no fault comes but by what follows.
+pub fn law_operands()
+    ensures objects { law.ObjectsAreAsAsked }
+    ensures ints { law.IntsAreAsAsked }
+    ensures longs { law.LongsAreAsAsked }
+{}
+
 /// Actions by which each place gets what fits it, and which free nothing, keep whole what the frames share, on
 /// memory that reuses cells in any way.
 pub fn law_whole_areas()

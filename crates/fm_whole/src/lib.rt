@@ -3,4 +3,4 @@
 
 mod laws;
 
-pub use laws::{law_cells_fit, law_sights, law_whole_areas, law_whole_frames};
+pub use laws::{law_cells_fit, law_operands, law_sights, law_whole_areas, law_whole_frames};
