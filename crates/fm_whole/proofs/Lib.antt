@@ -3,3 +3,4 @@ pub mod StoresKeep
 pub mod ActsKeep
 pub mod FramesKeep
 pub mod Operands
+pub mod CatchesKeep

@@ -1,12 +1,13 @@
 -- The laws that the functions of `laws` prove.
-use Rattle.std.specs.Prelude.{◌≡◌, ℕ, ℤ, Some, slice_get, true, Bool, List, [], ◌++◌, Option}
+use Rattle.std.specs.Prelude.{◌≡◌, ℕ, ℤ, Some, slice_get, true, Bool, List, [], ◌∷◌, ◌++◌, Option}
 use Rattle.std.specs.List.{AllByRecursion, AllZip}
 use Rattle.fm_base.specs.declared.kinds.TypeRef.{TypeRef}
 use Rattle.fm_cells.specs.Choices.{lawful}
-use Rattle.fm_cells.specs.Stores.{Store}
+use Rattle.fm_cells.specs.Objects.{Object}
+use Rattle.fm_cells.specs.Stores.{object_at, Store}
 use Rattle.fm_code.specs.declared.instructions.Insn.{Insn}
 use Rattle.fm_types.specs.Fits.{AreTree, fits, fits_type}
-use Rattle.fm_types.specs.Named.{class_of_method}
+use Rattle.fm_types.specs.Named.{class_of_method, throwable_type}
 use Rattle.fm_types.specs.States.{is_whole, state_fits, TypeState}
 use Rattle.fm_types.specs.Typed.{made_at}
 use Rattle.fm_types.specs.declared.slots.Slot.{Slot}
@@ -15,13 +16,14 @@ use Rattle.fm_world.specs.Programs.{Outline, Program}
 use Rattle.fm_frames.specs.Acts.{cell_of, Choose, performed}
 use Rattle.fm_frames.specs.Effects.{Action, Effect}
 use Rattle.fm_frames.specs.Operands.{on_int, on_long, on_object}
-use Rattle.fm_frames.specs.Sights.{Looks, sight, sights}
+use Rattle.fm_frames.specs.Sights.{Looks, sight, sights, type_numbered}
 use Rattle.fm_frames.specs.States.{Areas, Frame, State}
-use Rattle.fm_frames.specs.Steps.{continued, stack_after, start_frames, written}
+use Rattle.fm_frames.specs.Steps.{caught, continued, InFrames, stack_after, start_frames, written}
 use Rattle.fm_frames.specs.declared.values.Value.{Value}
 use Rattle.fm_sound.specs.Going.{IsGoingOn, StandsAtRow, StartsClass}
 use Rattle.fm_sound.specs.Leading.{LeadsAs, sources_of}
-use Rattle.fm_sound.specs.Sound.{AreTyped, IsReference, Typings}
+use Rattle.fm_sound.specs.Sound.{AreTyped, IsReference, StandBelow, StandsWithout, Typings}
+use Rattle.fm_whole.specs.Catching.{CatchesFit}
 use Rattle.fm_whole.specs.Doing.{ActsLead, LeavesWhole}
 use Rattle.fm_whole.specs.Seen.{IsNoFault, SeesA}
 use Rattle.fm_whole.specs.Whole.{AreasAreWhole, FrameFits, FrameIsWhole, LeadsToA, WordFits}
@@ -86,3 +88,13 @@ StartingKeepsWhole =
     (p : Program) (typings : Typings) → AreTyped p typings → (store : Store) (methods : List ℕ)
     → AllByRecursion (StartsClass p) methods → (frames : List Frame) → AllByRecursion (FrameIsWhole p typings store) frames
     → AllByRecursion (FrameIsWhole p typings store) (start_frames p methods ++ frames)
+
+-- And the frames after an exception, an object that fits Throwable, which one of them catches.
+abbrev pub CatchingKeepsWhole : Type 0
+CatchingKeepsWhole =
+    (p : Program) → CatchesFit p → (t : TypeRef) → fits_type p.outline.classes t (throwable_type p.outline) ≡ true
+    → (typings : Typings) → AreTree p.outline.classes → AreTyped p typings → (store : Store) (v : Value) → IsReference v
+    → (object : Object) → object_at store (cell_of v) ≡ Some object → type_numbered p.outline object.class ≡ t
+    → (f : Frame) (callers : List Frame) (words : ℕ) → StandsWithout p typings words f → StandBelow p typings f callers
+    → AllByRecursion (FrameIsWhole p typings store) (f ∷ callers) → (frames : List Frame) → caught p t v (f ∷ callers) ≡ InFrames frames
+    → AllByRecursion (FrameIsWhole p typings store) frames
