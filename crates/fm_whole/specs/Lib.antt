@@ -1,0 +1,6 @@
+pub mod Whole
+pub mod Seen
+pub mod Doing
+pub mod Catching
+pub mod NoFault
+pub mod Laws

@@ -1,0 +1,35 @@
+// Laws over definitions alone, each the contract of a function that does nothing.
+
+ghost use Rattle.fm_whole.specs.Laws as law;
+
+/// What fits a state fits each state that this one fits, so cells fit along each edge of a typing.
+pub fn law_cells_fit()
+    ensures { law.FitsKeepsCells }
+{}
+
+/// Of a reference that fits, null is seen or an object of a type that fits, and never a cell that isn't held.
+pub fn law_sights()
+    ensures { law.ReferencesAreSeen }
+{}
+
+/// What rows ask of their operands holds where the checker has slots that fit: an int, a long, or an object
+/// of a type that fits, and null throws; so no fault comes but by what follows.
+pub fn law_operands()
+    ensures objects { law.ObjectsAreAsAsked }
+    ensures ints { law.IntsAreAsAsked }
+    ensures longs { law.LongsAreAsAsked }
+{}
+
+/// Actions by which each place gets what fits it, and which free nothing, keep whole what the frames share, on
+/// memory that reuses cells in any way.
+pub fn law_whole_areas()
+    ensures { law.ActionsKeepWhole }
+{}
+
+/// Frames stay whole where the frame on top goes on to the next item or to a target, where methods start
+/// classes, and where an exception is caught in any of them.
+pub fn law_whole_frames()
+    ensures going_on { law.GoingOnKeepsWhole }
+    ensures starting { law.StartingKeepsWhole }
+    ensures catching { law.CatchingKeepsWhole }
+{}
