@@ -1,0 +1,50 @@
+-- The laws that the functions of `laws` prove.
+use Rattle.std.specs.Prelude.{◌≡◌, ℕ, Bool, false, Some}
+use Rattle.fm_cells.specs.Changes.{made_by, Take, with_element, with_object}
+use Rattle.fm_cells.specs.Choices.{MayReuse}
+use Rattle.fm_cells.specs.Objects.{Object, Request}
+use Rattle.fm_cells.specs.Stores.{object_at, Store}
+use Rattle.fm_world.specs.Programs.{Outline}
+use Rattle.fm_frames.specs.Acts.{cell_of, same_cell}
+use Rattle.fm_frames.specs.Elements.{is_text_type}
+use Rattle.fm_frames.specs.Sights.{type_numbered}
+use Rattle.fm_frames.specs.declared.values.Value.{Value}
+use Rattle.fm_sound.specs.Placing.{kind_in}
+use Rattle.fm_paired.specs.Pairing.{AreAlike, ArePaired, SameCell, SameElement, SameValue}
+
+-- ---- cells
+
+-- cells that stand for each other do so one to one
+abbrev pub CellsAreApart : Type 0
+CellsAreApart =
+    (o : Outline) (one other : Store) → ArePaired o one other → (a b c d : ℕ) → SameCell one other a c → SameCell one other b d
+    → ((a ≡ b) → c ≡ d) × ((c ≡ d) → a ≡ b)
+
+-- ---- values
+
+-- the cells of the same values stand for each other
+abbrev pub CellsOfValues : Type 0
+CellsOfValues = (one other : Store) (v w : Value) → SameValue one other v w → SameCell one other (cell_of v) (cell_of w)
+
+-- two references are the same on one memory where they are on the other
+abbrev pub TestsAgree : Type 0
+TestsAgree =
+    (o : Outline) (one other : Store) → ArePaired o one other → (a b c d : Value) → SameValue one other a c → SameValue one other b d
+    → same_cell c d ≡ same_cell a b
+
+-- ---- stores
+
+-- The same element that is put into an object that is no text and into its twin leaves the stores paired.
+abbrev pub PutsKeepPaired : Type 0
+PutsKeepPaired =
+    (o : Outline) (one other : Store) → ArePaired o one other → (cell twin : ℕ) (object second : Object) → object_at one cell ≡ Some object
+    → object_at other twin ≡ Some second → AreAlike o one other object second → (place element set_element : ℕ)
+    → is_text_type o (type_numbered o object.class) ≡ false → SameElement one other (kind_in o object place) element set_element
+    → ArePaired o (with_object one cell (with_element object place element)) (with_object other twin (with_element second place set_element))
+
+-- The object that is made in each store for one request, in whichever cells that are not held, leaves the stores paired.
+abbrev pub MakesKeepPaired : Type 0
+MakesKeepPaired =
+    (o : Outline) (one other : Store) → ArePaired o one other → (request : Request) (cell twin : ℕ) (grows other_grows : Bool)
+    → MayReuse one request (Take cell grows) → MayReuse other request (Take twin other_grows)
+    → ArePaired o (made_by one request (Take cell grows)) (made_by other request (Take twin other_grows))

@@ -1,0 +1,21 @@
+// Laws over definitions alone, each the contract of a function that does nothing.
+
+ghost use Rattle.fm_paired.specs.Laws as law;
+
+/// Cells that stand for each other do so one to one.
+pub fn law_cells()
+    ensures { law.CellsAreApart }
+{}
+
+/// References are the same on one memory where they are on the other.
+pub fn law_values()
+    ensures cells { law.CellsOfValues }
+    ensures tests { law.TestsAgree }
+{}
+
+/// Stores stay paired where an object is made in each for one request, in whichever cells; and where the
+/// same is put into an object and into its twin.
+pub fn law_stores()
+    ensures made { law.MakesKeepPaired }
+    ensures put { law.PutsKeepPaired }
+{}

@@ -1,0 +1,6 @@
+// One program on two memories: what stays the same whichever cells its objects lie in.
+#![tactic(auto)]
+
+mod laws;
+
+pub use laws::{law_cells, law_stores, law_values};
