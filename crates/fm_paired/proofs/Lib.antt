@@ -1,2 +1,3 @@
 pub mod Twins
 pub mod Stores
+pub mod SightsSame

@@ -1,5 +1,6 @@
 -- The laws that the functions of `laws` prove.
-use Rattle.std.specs.Prelude.{◌≡◌, ℕ, Bool, false, Some}
+use Rattle.std.specs.Prelude.{◌≡◌, ℕ, Bool, false, List, Some}
+use Rattle.std.specs.List.{AllZip}
 use Rattle.fm_cells.specs.Changes.{made_by, Take, with_element, with_object}
 use Rattle.fm_cells.specs.Choices.{MayReuse}
 use Rattle.fm_cells.specs.Objects.{Object, Request}
@@ -7,9 +8,10 @@ use Rattle.fm_cells.specs.Stores.{object_at, Store}
 use Rattle.fm_world.specs.Programs.{Outline}
 use Rattle.fm_frames.specs.Acts.{cell_of, same_cell}
 use Rattle.fm_frames.specs.Elements.{is_text_type}
-use Rattle.fm_frames.specs.Sights.{type_numbered}
+use Rattle.fm_frames.specs.Sights.{sights, type_numbered}
 use Rattle.fm_frames.specs.declared.values.Value.{Value}
 use Rattle.fm_sound.specs.Placing.{kind_in}
+use Rattle.fm_paired.specs.Hidden.{HiddenComesFirst}
 use Rattle.fm_paired.specs.Pairing.{AreAlike, ArePaired, SameCell, SameElement, SameValue}
 
 -- ---- cells
@@ -48,3 +50,11 @@ MakesKeepPaired =
     (o : Outline) (one other : Store) → ArePaired o one other → (request : Request) (cell twin : ℕ) (grows other_grows : Bool)
     → MayReuse one request (Take cell grows) → MayReuse other request (Take twin other_grows)
     → ArePaired o (made_by one request (Take cell grows)) (made_by other request (Take twin other_grows))
+
+-- ---- effects
+
+-- An instruction sees the same of the same words on both memories. So effects, which are data that go by what is seen, are equal on both.
+abbrev pub SightsAgree : Type 0
+SightsAgree =
+    (o : Outline) (one other : Store) → ArePaired o one other → HiddenComesFirst o → (words others : List Value)
+    → AllZip (SameValue one other) words others → sights o other others ≡ sights o one words

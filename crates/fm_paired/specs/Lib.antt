@@ -1,3 +1,4 @@
 pub mod Pairing
+pub mod Hidden
 pub mod Runs
 pub mod Laws

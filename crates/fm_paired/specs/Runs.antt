@@ -12,6 +12,7 @@ use Rattle.fm_same.specs.Resolved.{CallsNoFreeMe}
 use Rattle.fm_sound.specs.Making.{ArgumentsFit, MakesAreResolved}
 use Rattle.fm_sound.specs.Resolved.{MainIsReady, StepsAreResolved}
 use Rattle.fm_sound.specs.Sound.{AreTyped, Typings}
+use Rattle.fm_paired.specs.Hidden.{HiddenComesFirst}
 use Rattle.fm_paired.specs.Pairing.{StatesPaired}
 
 -- what was printed up to now begins with what was printed then
@@ -42,7 +43,7 @@ run_after p choose job store k = after p (lawful choose) k (opening p (lawful ch
 -- reused, and on one that reuses cells in any way. With the same budget of words, and a limit of at least twice as many, both print the same and end alike.
 abbrev pub RunsGoAlike : Type 0
 RunsGoAlike =
-    (p : Program) (typings : Typings) → AreTyped p typings → StepsAreResolved p → MakesAreResolved p → MainIsReady p → CallsNoFreeMe p
+    (p : Program) (typings : Typings) → AreTyped p typings → StepsAreResolved p → MakesAreResolved p → MainIsReady p → CallsNoFreeMe p → HiddenComesFirst p.outline
     → (first second : Choose) (job : Job) → length job.input ≤ MAX_FILE_BYTES → ArgumentsFit job.arguments
     → (budget other : ℕ) (limit : Option ℕ) (free freed : List (List ℕ)) → budget ≤ MAX_LIVE_WORDS → other ≤ MAX_LIVE_WORDS → (k : ℕ)
     → GoAlike p.outline budget other limit (run_after p first job (opened budget None free) k) (run_after p second job (opened other limit freed) k)

@@ -19,3 +19,8 @@ pub fn law_stores()
     ensures made { law.MakesKeepPaired }
     ensures put { law.PutsKeepPaired }
 {}
+
+/// An instruction sees the same of the same words on both memories.
+pub fn law_sights()
+    ensures { law.SightsAgree }
+{}
