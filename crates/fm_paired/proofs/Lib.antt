@@ -1,3 +1,5 @@
 pub mod Twins
 pub mod Stores
 pub mod SightsSame
+pub mod EffectsSame
+pub mod SourcesSame

@@ -1,19 +1,15 @@
 -- What is seen of a value on the one memory is seen of the same value on the other.
-use Rattle.std.proofs.Common.{◌≡◌, ℕ, zero, suc, ◌⊎◌, inl, inr, Bool, true, false, cond, List, [], ◌∷◌, length, map, Option, Some, None, refl, sym, ◌∙◌, ap, subst, slice_index_or}
+use Rattle.std.proofs.Common.{◌≡◌, ℕ, zero, suc, inl, inr, Bool, true, false, cond, List, [], ◌∷◌, Some, refl, sym, ◌∙◌, ap, subst, slice_index_or}
 use Rattle.std.specs.List.{AllZip}
 use Rattle.std.proofs.lemmas.Option.{same_Some}
-use Rattle.fm_base.specs.declared.kinds.Kind.{Kind}
-use Rattle.fm_base.specs.declared.kinds.Kind.TheVariants as kind
-use Rattle.fm_base.specs.declared.kinds.TypeRef.{TypeRef}
 use Rattle.fm_cells.specs.Objects.{Object}
 use Rattle.fm_cells.specs.Soundness.{IsOrderly}
 use Rattle.fm_cells.specs.Stores.{object_at, Store}
 use Rattle.fm_world.specs.Programs.{Outline}
 use Rattle.fm_frames.specs.Elements.{is_text_type}
-use Rattle.fm_frames.specs.Sights.{has_hidden_field, Inner, inner_of, led_to, looks, NoField, Null, Sight, sight, sight_of_cell, sight_of_object, sights, text_in, Text, Lost, Thing, type_numbered, units_of, Word}
+use Rattle.fm_frames.specs.Sights.{has_hidden_field, inner_of, led_to, looks, NoField, sight, sight_of_cell, sight_of_object, sights, text_in, Text, Lost, Thing, type_numbered, units_of}
 use Rattle.fm_frames.specs.declared.values.Value.{Value}
 use Rattle.fm_frames.specs.declared.values.Value.TheVariants as value
-use Rattle.fm_sound.specs.Placing.{kind_in}
 use Rattle.fm_paired.specs.Hidden.{HiddenComesFirst}
 use Rattle.fm_paired.specs.Pairing.{AreAlike, ArePaired, AreTwins, HasTwin, SameCell, SameElement, SameValue}
 use Rattle.fm_paired.proofs.Twins.{not_null}

@@ -5,14 +5,19 @@ use Rattle.fm_cells.specs.Changes.{made_by, Take, with_element, with_object}
 use Rattle.fm_cells.specs.Choices.{MayReuse}
 use Rattle.fm_cells.specs.Objects.{Object, Request}
 use Rattle.fm_cells.specs.Stores.{object_at, Store}
-use Rattle.fm_world.specs.Programs.{Outline}
-use Rattle.fm_frames.specs.Acts.{cell_of, same_cell}
+use Rattle.fm_world.specs.Programs.{Outline, Program}
+use Rattle.fm_frames.specs.Acts.{cell_of, same_cell, value_of}
+use Rattle.fm_frames.specs.Effects.{Source}
 use Rattle.fm_frames.specs.Elements.{is_text_type}
 use Rattle.fm_frames.specs.Sights.{sights, type_numbered}
+use Rattle.fm_frames.specs.States.{Areas, Frame, State}
+use Rattle.fm_frames.specs.Steps.{cost, next_effect}
 use Rattle.fm_frames.specs.declared.values.Value.{Value}
-use Rattle.fm_sound.specs.Placing.{kind_in}
+use Rattle.fm_sound.specs.Leading.{sources_of}
+use Rattle.fm_sound.specs.Placing.{kind_in, ReadAgrees}
 use Rattle.fm_paired.specs.Hidden.{HiddenComesFirst}
-use Rattle.fm_paired.specs.Pairing.{AreAlike, ArePaired, SameCell, SameElement, SameValue}
+use Rattle.fm_paired.specs.Pairing.{AreAlike, ArePaired, AreasPaired, FramesPaired, SameCell, SameElement, SameValue, StatesPaired}
+use Rattle.fm_paired.specs.Reading.{NumberAgrees}
 
 -- ---- cells
 
@@ -51,6 +56,16 @@ MakesKeepPaired =
     → MayReuse one request (Take cell grows) → MayReuse other request (Take twin other_grows)
     → ArePaired o (made_by one request (Take cell grows)) (made_by other request (Take twin other_grows))
 
+-- what is held is held later too, with its birth number
+abbrev pub KeepsBirths : Store → Store → Type 0
+KeepsBirths store later =
+    (cell : ℕ) (object : Object) → object_at store cell ≡ Some object → (now : Object) × (object_at later cell ≡ Some now) × (now.birth ≡ object.birth)
+
+-- what is held earlier and later is of one class
+abbrev pub KeepsClasses : Store → Store → Type 0
+KeepsClasses store later =
+    (cell : ℕ) (object now : Object) → object_at store cell ≡ Some object → object_at later cell ≡ Some now → now.class ≡ object.class
+
 -- ---- effects
 
 -- An instruction sees the same of the same words on both memories. So effects, which are data that go by what is seen, are equal on both.
@@ -58,3 +73,20 @@ abbrev pub SightsAgree : Type 0
 SightsAgree =
     (o : Outline) (one other : Store) → ArePaired o one other → HiddenComesFirst o → (words others : List Value)
     → AllZip (SameValue one other) words others → sights o other others ≡ sights o one words
+
+-- So paired states have one next effect, at one cost.
+abbrev pub EffectsAgree : Type 0
+EffectsAgree =
+    (p : Program) → HiddenComesFirst p.outline → (x y : State) → StatesPaired p.outline x y
+    → (next_effect p y ≡ next_effect p x) × (cost p y ≡ cost p x)
+
+-- ---- sources
+
+-- From a step's beginning on objects stay held, and of their births and classes, so that a source stands for the same value on both memories: also once
+-- some of the step's actions are done, which made these cells.
+abbrev pub SourcesAgree : Type 0
+SourcesAgree =
+    (o : Outline) (one other : Store) (f g : Frame) → FramesPaired one other f g → (x y : Areas) (made others : List ℕ) → AreasPaired o x y
+    → KeepsBirths one x.store → KeepsBirths other y.store → KeepsClasses one x.store → AllZip (SameCell x.store y.store) made others
+    → (s : Source) → ReadAgrees o one f.stack s → NumberAgrees o one f.stack s
+    → SameValue x.store y.store (value_of (sources_of f x made) s) (value_of (sources_of g y others) s)

@@ -24,3 +24,13 @@ pub fn law_stores()
 pub fn law_sights()
     ensures { law.SightsAgree }
 {}
+
+/// Paired states have one next effect, at one cost, as effects go by what is seen.
+pub fn law_effects()
+    ensures { law.EffectsAgree }
+{}
+
+/// A source stands for the same value on both memories.
+pub fn law_sources()
+    ensures { law.SourcesAgree }
+{}
