@@ -3,3 +3,4 @@ pub mod Stores
 pub mod SightsSame
 pub mod EffectsSame
 pub mod SourcesSame
+pub mod NextSame

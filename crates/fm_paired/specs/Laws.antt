@@ -1,23 +1,23 @@
 -- The laws that the functions of `laws` prove.
-use Rattle.std.specs.Prelude.{◌≡◌, ℕ, Bool, false, List, Some}
-use Rattle.std.specs.List.{AllZip}
+use Rattle.std.specs.Prelude.{◌≡◌, ℕ, Bool, false, List, map, Some}
+use Rattle.std.specs.List.{AllByRecursion, AllZip}
 use Rattle.fm_cells.specs.Changes.{made_by, Take, with_element, with_object}
 use Rattle.fm_cells.specs.Choices.{MayReuse}
 use Rattle.fm_cells.specs.Objects.{Object, Request}
 use Rattle.fm_cells.specs.Stores.{object_at, Store}
 use Rattle.fm_world.specs.Programs.{Outline, Program}
-use Rattle.fm_frames.specs.Acts.{cell_of, same_cell, value_of}
-use Rattle.fm_frames.specs.Effects.{Source}
+use Rattle.fm_frames.specs.Acts.{cell_of, same_cell, Sources, value_of}
+use Rattle.fm_frames.specs.Effects.{Effect, Source}
 use Rattle.fm_frames.specs.Elements.{is_text_type}
 use Rattle.fm_frames.specs.Sights.{sights, type_numbered}
 use Rattle.fm_frames.specs.States.{Areas, Frame, State}
-use Rattle.fm_frames.specs.Steps.{cost, next_effect}
+use Rattle.fm_frames.specs.Steps.{continued, cost, next_effect}
 use Rattle.fm_frames.specs.declared.values.Value.{Value}
 use Rattle.fm_sound.specs.Leading.{sources_of}
 use Rattle.fm_sound.specs.Placing.{kind_in, ReadAgrees}
 use Rattle.fm_paired.specs.Hidden.{HiddenComesFirst}
-use Rattle.fm_paired.specs.Pairing.{AreAlike, ArePaired, AreasPaired, FramesPaired, SameCell, SameElement, SameValue, StatesPaired}
-use Rattle.fm_paired.specs.Reading.{NumberAgrees}
+use Rattle.fm_paired.specs.Pairing.{AreAlike, ArePaired, AreasPaired, EndAlike, FramesPaired, SameCell, SameElement, SameValue, StatesPaired}
+use Rattle.fm_paired.specs.Reading.{NumberAgrees, sources_of_next}
 
 -- ---- cells
 
@@ -90,3 +90,23 @@ SourcesAgree =
     → KeepsBirths one x.store → KeepsBirths other y.store → KeepsClasses one x.store → AllZip (SameCell x.store y.store) made others
     → (s : Source) → ReadAgrees o one f.stack s → NumberAgrees o one f.stack s
     → SameValue x.store y.store (value_of (sources_of f x made) s) (value_of (sources_of g y others) s)
+
+-- ---- what comes next
+
+-- the source stands for the same value on both memories
+abbrev pub IsSameFrom : Store → Store → Sources → Sources → Source → Type 0
+IsSameFrom one other from second s = SameValue one other (value_of from s) (value_of second s)
+
+-- Where the sources of an effect stand for the same values on both memories, what comes next after the actions leads paired states to paired ones: to the
+-- next item or to a target, into a method and back, to a handler, to the start of classes, or to ends that are alike.
+abbrev pub NextKeepsPaired : Type 0
+NextKeepsPaired =
+    (p : Program) (from other : Sources) (x y : State) → AreasPaired p.outline x.areas y.areas
+    → AllZip (FramesPaired x.areas.store y.areas.store) x.frames y.frames → y.input ≡ x.input → y.depth ≡ x.depth → y.steps ≡ x.steps
+    → EndAlike x.areas.store y.areas.store x.ended y.ended
+    → (e : Effect) (f g : Frame) (callers others : List Frame) → FramesPaired x.areas.store y.areas.store f g
+    → AllZip (FramesPaired x.areas.store y.areas.store) callers others
+    → AllByRecursion (IsSameFrom x.areas.store y.areas.store from other) (map (λ (w : ℕ × Source). w.1) e.writes)
+    → AllByRecursion (IsSameFrom x.areas.store y.areas.store from other) e.gives
+    → AllByRecursion (IsSameFrom x.areas.store y.areas.store from other) (sources_of_next e.next)
+    → StatesPaired p.outline (continued p from e f callers x) (continued p other e g others y)

@@ -34,3 +34,8 @@ pub fn law_effects()
 pub fn law_sources()
     ensures { law.SourcesAgree }
 {}
+
+/// What comes next after the actions of a step leads paired states to paired states.
+pub fn law_next()
+    ensures { law.NextKeepsPaired }
+{}
