@@ -4,3 +4,4 @@ pub mod SightsSame
 pub mod EffectsSame
 pub mod SourcesSame
 pub mod NextSame
+pub mod ActsSame

@@ -86,7 +86,7 @@ set_both R (a ∷ xs) (b ∷ ys) (suc i) x y zero same new old = old
 set_both R (a ∷ xs) (b ∷ ys) (suc i) x y (suc k) same new old = set_both R xs ys i x y k (omega (arith, same)) (λ is. new (ap suc is)) old
 
 -- an object in place of another one of its birth
-with_stays : (store : Store) (cell : ℕ) (old object : Object) → object_at store cell ≡ Some old → object.birth ≡ old.birth
+pub with_stays : (store : Store) (cell : ℕ) (old object : Object) → object_at store cell ≡ Some old → object.birth ≡ old.birth
     → Stays store (with_object store cell object)
 with_stays store cell old object held born q found at =
     elim (cases_eq q cell) as (λ _. (now : Object) × (object_at (with_object store cell object) q ≡ Some now) × (now.birth ≡ found.birth)) [
@@ -216,7 +216,7 @@ module _ (o : Outline) (one other : Store) (paired : ArePaired o one other) (req
   abbrev made_following : Store
   made_following = made_by other request (Take twin other_grows)
 
-  new_alike : (k : Outline) (first second : Store) → AreAlike k first second new second_new
+  pub new_alike : (k : Outline) (first second : Store) → AreAlike k first second new second_new
   new_alike k first second = record {
     class = refl;
     birth = paired.births;

@@ -1,20 +1,24 @@
 -- The laws that the functions of `laws` prove.
 use Rattle.std.specs.Prelude.{◌≡◌, ℕ, Bool, false, List, map, Some}
 use Rattle.std.specs.List.{AllByRecursion, AllZip}
+use Rattle.fm_base.specs.declared.kinds.Kind.{Kind}
+use Rattle.fm_base.specs.declared.kinds.Kind.TheVariants as kind
+use Rattle.fm_base.specs.declared.kinds.TypeRef.{TypeRef}
 use Rattle.fm_cells.specs.Changes.{made_by, Take, with_element, with_object}
 use Rattle.fm_cells.specs.Choices.{MayReuse}
 use Rattle.fm_cells.specs.Objects.{Object, Request}
 use Rattle.fm_cells.specs.Stores.{object_at, Store}
 use Rattle.fm_world.specs.Programs.{Outline, Program}
-use Rattle.fm_frames.specs.Acts.{cell_of, same_cell, Sources, value_of}
+use Rattle.fm_frames.specs.Acts.{cell_of, put_value, same_cell, set_static, Sources, value_of}
 use Rattle.fm_frames.specs.Effects.{Effect, Source}
-use Rattle.fm_frames.specs.Elements.{is_text_type}
+use Rattle.fm_frames.specs.Elements.{cut, is_text_type, kept}
 use Rattle.fm_frames.specs.Sights.{sights, type_numbered}
 use Rattle.fm_frames.specs.States.{Areas, Frame, State}
 use Rattle.fm_frames.specs.Steps.{continued, cost, next_effect}
 use Rattle.fm_frames.specs.declared.values.Value.{Value}
 use Rattle.fm_sound.specs.Leading.{sources_of}
 use Rattle.fm_sound.specs.Placing.{kind_in, ReadAgrees}
+use Rattle.fm_sound.specs.Sound.{field_slot, HasKind}
 use Rattle.fm_paired.specs.Hidden.{HiddenComesFirst}
 use Rattle.fm_paired.specs.Pairing.{AreAlike, ArePaired, AreasPaired, EndAlike, FramesPaired, SameCell, SameElement, SameValue, StatesPaired}
 use Rattle.fm_paired.specs.Reading.{NumberAgrees, sources_of_next}
@@ -110,3 +114,27 @@ NextKeepsPaired =
     → AllByRecursion (IsSameFrom x.areas.store y.areas.store from other) e.gives
     → AllByRecursion (IsSameFrom x.areas.store y.areas.store from other) (sources_of_next e.next)
     → StatesPaired p.outline (continued p from e f callers x) (continued p other e g others y)
+
+-- ---- actions
+
+-- What is put into an object and into its twin, and into a static field, leaves the areas paired, where the same is kept of it on both memories.
+abbrev pub AreasPutPaired : Type 0
+AreasPutPaired =
+    (o : Outline) (x y : Areas) → AreasPaired o x y → (v w : Value) (place : ℕ) (k : Kind) (object : Object) → object_at x.store (cell_of v) ≡ Some object
+    → kind_in o object place ≡ Some k → is_text_type o (type_numbered o object.class) ≡ false → SameCell x.store y.store (cell_of v) (cell_of w)
+    → (u i : Value) → SameElement x.store y.store (Some k) (kept k u) (kept k i) → AreasPaired o (put_value x v place k u) (put_value y w place k i)
+
+-- and so does what is put into a static field
+abbrev pub StaticsSetPaired : Type 0
+StaticsSetPaired =
+    (o : Outline) (x y : Areas) (slot : ℕ) (k : Kind) (v w : Value) → AreasPaired o x y → SameValue x.store y.store (cut k v) (cut k w)
+    → AreasPaired o (set_static x slot k v) (set_static y slot k w)
+
+-- Of a source that has a kind the same is kept on both memories: where a number is put no reference may be read.
+abbrev pub KeptAgree : Type 0
+KeptAgree =
+    (o : Outline) (one other : Store) (f g : Frame) → FramesPaired one other f g → (x y : Areas) (made others : List ℕ) → AreasPaired o x y
+    → KeepsBirths one x.store → KeepsBirths other y.store → KeepsClasses one x.store → AllZip (SameCell x.store y.store) made others
+    → (k : Kind) (s : Source) → ((t : TypeRef) → k ≡ kind.Ref t → ReadAgrees o one f.stack s) → NumberAgrees o one f.stack s
+    → HasKind (field_slot k) (value_of (sources_of f x made) s)
+    → SameElement x.store y.store (Some k) (kept k (value_of (sources_of f x made) s)) (kept k (value_of (sources_of g y others) s))

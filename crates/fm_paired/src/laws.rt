@@ -39,3 +39,10 @@ pub fn law_sources()
 pub fn law_next()
     ensures { law.NextKeepsPaired }
 {}
+
+/// What is put into objects and static fields leaves what the frames share paired.
+pub fn law_areas()
+    ensures objects { law.AreasPutPaired }
+    ensures statics { law.StaticsSetPaired }
+    ensures kept { law.KeptAgree }
+{}

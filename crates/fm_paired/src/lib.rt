@@ -3,4 +3,6 @@
 
 mod laws;
 
-pub use laws::{law_cells, law_effects, law_next, law_sights, law_sources, law_stores, law_values};
+pub use laws::{
+    law_areas, law_cells, law_effects, law_next, law_sights, law_sources, law_stores, law_values,
+};
