@@ -5,3 +5,4 @@ pub mod EffectsSame
 pub mod SourcesSame
 pub mod NextSame
 pub mod ActsSame
+pub mod MakesSame

@@ -9,13 +9,14 @@ use Rattle.fm_cells.specs.Choices.{MayReuse}
 use Rattle.fm_cells.specs.Objects.{Object, Request}
 use Rattle.fm_cells.specs.Stores.{object_at, Store}
 use Rattle.fm_world.specs.Programs.{Outline, Program}
-use Rattle.fm_frames.specs.Acts.{cell_of, put_value, same_cell, set_static, Sources, value_of}
+use Rattle.fm_frames.specs.Acts.{cell_of, put_value, same_cell, set_static, Sources, value_of, with_content}
 use Rattle.fm_frames.specs.Effects.{Effect, Source}
 use Rattle.fm_frames.specs.Elements.{cut, is_text_type, kept}
 use Rattle.fm_frames.specs.Sights.{sights, type_numbered}
 use Rattle.fm_frames.specs.States.{Areas, Frame, State}
 use Rattle.fm_frames.specs.Steps.{continued, cost, next_effect}
 use Rattle.fm_frames.specs.declared.values.Value.{Value}
+use Rattle.fm_sound.specs.Acting.{ContentFits}
 use Rattle.fm_sound.specs.Leading.{sources_of}
 use Rattle.fm_sound.specs.Placing.{kind_in, ReadAgrees}
 use Rattle.fm_sound.specs.Sound.{field_slot, HasKind}
@@ -69,6 +70,22 @@ KeepsBirths store later =
 abbrev pub KeepsClasses : Store → Store → Type 0
 KeepsClasses store later =
     (cell : ℕ) (object now : Object) → object_at store cell ≡ Some object → object_at later cell ≡ Some now → now.class ≡ object.class
+
+-- The stores after an object was made in each are paired, each keeps what it held, and the new objects stand for each other.
+pub record MadeAlike (o : Outline) (one other next following : Store) (cell twin : ℕ) : Type 0 where
+  pub paired : ArePaired o next following
+  pub stays : KeepsBirths one next
+  pub other_stays : KeepsBirths other following
+  pub twins : SameCell next following cell twin
+
+-- So it is where the object of a request is made in each, in whichever cells that aren't held, with content that fits its type.
+abbrev pub MakesAlike : Type 0
+MakesAlike =
+    (o : Outline) (one other : Store) → ArePaired o one other → (request : Request) (cell twin : ℕ) (grows other_grows : Bool)
+    → MayReuse one request (Take cell grows) → MayReuse other request (Take twin other_grows) → (t : TypeRef) → type_numbered o request.class ≡ t
+    → (content : List ℕ) → ContentFits o t request.len content
+    → MadeAlike o one other (with_content (made_by one request (Take cell grows)) cell content)
+    (with_content (made_by other request (Take twin other_grows)) twin content) cell twin
 
 -- ---- effects
 

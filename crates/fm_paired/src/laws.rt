@@ -46,3 +46,8 @@ pub fn law_areas()
     ensures statics { law.StaticsSetPaired }
     ensures kept { law.KeptAgree }
 {}
+
+/// An object that is made with its content in both stores, in whichever cells, leaves them paired.
+pub fn law_makes()
+    ensures { law.MakesAlike }
+{}
