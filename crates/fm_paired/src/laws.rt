@@ -1,0 +1,53 @@
+// Laws over definitions alone, each the contract of a function that does nothing.
+
+ghost use Rattle.fm_paired.specs.Laws as law;
+
+/// Cells that stand for each other do so one to one.
+pub fn law_cells()
+    ensures { law.CellsAreApart }
+{}
+
+/// References are the same on one memory where they are on the other.
+pub fn law_values()
+    ensures cells { law.CellsOfValues }
+    ensures tests { law.TestsAgree }
+{}
+
+/// Stores stay paired where an object is made in each for one request, in whichever cells; and where the
+/// same is put into an object and into its twin.
+pub fn law_stores()
+    ensures made { law.MakesKeepPaired }
+    ensures put { law.PutsKeepPaired }
+{}
+
+/// An instruction sees the same of the same words on both memories.
+pub fn law_sights()
+    ensures { law.SightsAgree }
+{}
+
+/// Paired states have one next effect, at one cost, as effects go by what is seen.
+pub fn law_effects()
+    ensures { law.EffectsAgree }
+{}
+
+/// A source stands for the same value on both memories.
+pub fn law_sources()
+    ensures { law.SourcesAgree }
+{}
+
+/// What comes next after the actions of a step leads paired states to paired states.
+pub fn law_next()
+    ensures { law.NextKeepsPaired }
+{}
+
+/// What is put into objects and static fields leaves what the frames share paired.
+pub fn law_areas()
+    ensures objects { law.AreasPutPaired }
+    ensures statics { law.StaticsSetPaired }
+    ensures kept { law.KeptAgree }
+{}
+
+/// An object that is made with its content in both stores, in whichever cells, leaves them paired.
+pub fn law_makes()
+    ensures { law.MakesAlike }
+{}

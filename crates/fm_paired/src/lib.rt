@@ -1,0 +1,9 @@
+// One program on two memories: what stays the same whichever cells its objects lie in.
+#![tactic(auto)]
+
+mod laws;
+
+pub use laws::{
+    law_areas, law_cells, law_effects, law_makes, law_next, law_sights, law_sources,
+    law_stores, law_values,
+};
