@@ -3,3 +3,4 @@ pub mod PlansLemmas
 pub mod FullPlanLemmas
 pub mod OldItemsLemmas
 pub mod PlannedLemmas
+pub mod MethodsLemmas

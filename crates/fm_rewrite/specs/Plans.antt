@@ -1,6 +1,6 @@
 -- The plans of all that can be inserted into the methods of a program, each by what the analysis answers of its method.
-use Rattle.std.specs.Prelude.{◌≡◌, ℕ, List, Option, Some, None}
-use Rattle.std.specs.List.{AllByRecursion}
+use Rattle.std.specs.Prelude.{◌≡◌, ◌<◌, ℕ, List, length, Option, Some, None}
+use Rattle.std.specs.List.{AllByRecursion, slice_index_or}
 use Rattle.fm_analysis.specs.Analysed.{AreAnalysable}
 use Rattle.fm_check.specs.Checking.{IsLeastTyping}
 use Rattle.fm_code.specs.Spells.{HasSpelling}
@@ -23,6 +23,7 @@ use Rattle.fm_types.specs.States.{TypeState}
 use Rattle.fm_weave.specs.ByPlan.{planned_by}
 use Rattle.fm_weave.specs.declared.planned.Planned.{Planned}
 use Rattle.fm_weave.specs.declared.planned.Planned.TheVariants as planned
+use Rattle.fm_world.specs.Members.{methods_of}
 use Rattle.fm_world.specs.Programs.{code_at, Program, program_of}
 
 -- ---- codes
@@ -69,3 +70,12 @@ IsPlannedIn p summaries method (Some code) done = IsPlannedCode p summaries meth
 
 abbrev pub IsPlanned : Program → Summaries → ℕ → Planned → Type 0
 IsPlanned p summaries method done = IsPlannedIn p summaries method (code_at p method) done
+
+-- with a method by its number
+abbrev pub planned_at : List Planned → ℕ → Planned
+planned_at done method = slice_index_or done method planned.Same
+
+-- with each method of a program
+pub record ArePlannedBy (p : Program) (summaries : Summaries) (done : List Planned) : Type 0 where
+  pub one_each : length done ≡ length (methods_of p.outline.classes)
+  pub each : (method : ℕ) → method < length done → IsPlanned p summaries method (planned_at done method)
