@@ -4,3 +4,4 @@ pub mod FullPlanLemmas
 pub mod OldItemsLemmas
 pub mod PlannedLemmas
 pub mod MethodsLemmas
+pub mod ProgramPlansLemmas

@@ -7,7 +7,8 @@ use Rattle.fm_code.specs.Spells.{HasSpelling}
 use Rattle.fm_code.specs.declared.class_file.ClassDef.{ClassDef}
 use Rattle.fm_code.specs.declared.code_array.Code.{Code}
 use Rattle.fm_conn.specs.Classes.{AreClassesOf}
-use Rattle.fm_conn.specs.Facts.{Facts}
+use Rattle.fm_conn.specs.Facts.{AreFacts, Facts}
+use Rattle.fm_conn.specs.Links.{typed_method}
 use Rattle.fm_conn.specs.Shapes.{method_with}
 use Rattle.fm_conn.specs.Summaries.{is_linked, linked_by}
 use Rattle.fm_conn.specs.declared.class_numbers.Classes.{Classes}
@@ -79,3 +80,19 @@ planned_at done method = slice_index_or done method planned.Same
 pub record ArePlannedBy (p : Program) (summaries : Summaries) (done : List Planned) : Type 0 where
   pub one_each : length done ≡ length (methods_of p.outline.classes)
   pub each : (method : ℕ) → method < length done → IsPlanned p summaries method (planned_at done method)
+
+-- ---- by the facts of a whole program
+
+-- what is to be done with a method that has this code: by the plan of all that can be inserted
+pub record IsPlannedByFacts (p : Program) (facts : Facts) (method : ℕ) (code : Code) (done : Planned) : Type 0 where
+  pub plan : Plan
+  pub plan_is : IsPlanOf (all_insertions facts (typed_method p facts.typing method code)) plan
+  pub planned_is : done ≡ planned_by code plan
+
+-- with each method of a program, by its facts
+pub record ArePlanned (p : Program) (done : List Planned) : Type 0 where
+  pub facts : Facts
+  pub exact : AreFacts p facts
+  pub one_each : length done ≡ length (methods_of p.outline.classes)
+  pub coded : (method : ℕ) (code : Code) → code_at p method ≡ Some code → IsPlannedByFacts p facts method code (planned_at done method)
+  pub others : (method : ℕ) → code_at p method ≡ None → planned_at done method ≡ planned.Same

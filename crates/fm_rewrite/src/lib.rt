@@ -8,4 +8,4 @@ mod plans;
 
 pub use free_calls::first_free_call;
 pub use laws::law_old_items;
-pub use plans::{full_plan, planned_by, planned_code, planned_method};
+pub use plans::{full_plan, planned_by, planned_code, planned_method, planned_methods};

@@ -3,16 +3,17 @@
 ghost use Rattle.std.specs.Prelude.{◌≡◌, ◌<◌, IfOk, Some, length};
 ghost use Rattle.fm_analysis.specs.Analysed.{AreAnalysable};
 ghost use Rattle.fm_conn.specs.Summaries.{AreSummariesOf};
-ghost use Rattle.fm_rewrite.specs.Plans.{ArePlannedBy, HasOldItems, IsFullPlan, IsPlanned, IsPlannedCode};
+ghost use Rattle.fm_rewrite.specs.Plans.{ArePlanned, ArePlannedBy, HasOldItems, IsFullPlan, IsPlanned, IsPlannedCode};
 ghost use Rattle.fm_world.specs.Members.{methods_of};
 ghost use Rattle.fm_world.specs.Programs.{code_at};
 
-use fm_analysis::Typed;
+use fm_analysis::{Typed, shapes_of};
 use fm_base::{MethodId, NoMemory};
 use fm_code::Code;
 use fm_conn::{Summaries, classes};
 use fm_flow::live;
 use fm_place::{Plan, places, sites};
+use fm_summ::summaries;
 use fm_weave::Planned;
 use fm_world::{Body, Program};
 use std::alloc::Global;
@@ -112,4 +113,16 @@ pub fn planned_by(
         planned.push(made)?;
     }
     Ok(planned)
+}
+
+/// What is to be done with each method of a program, by the facts of the whole program. Takes memory
+/// for the shapes of all methods and the links of their ends, and for the plans.
+pub fn planned_methods(alloc: Global, program: &Program) -> Result<Vec<Planned>, NoMemory>
+    requires analysable { AreAnalysable program.now }
+    requires old { HasOldItems program.now }
+    ensures { IfOk result (λ planned. ArePlanned program.now planned.items) }
+{
+    let shapes = shapes_of(alloc, program)?;
+    let summaries = summaries(alloc, program, shapes.as_slice())?;
+    planned_by(alloc, program, &summaries)
 }
