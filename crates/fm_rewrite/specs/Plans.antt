@@ -2,13 +2,16 @@
 use Rattle.std.specs.Prelude.{◌≡◌, ◌<◌, ℕ, List, length, Option, Some, None}
 use Rattle.std.specs.List.{AllByRecursion, slice_index_or}
 use Rattle.fm_analysis.specs.Analysed.{AreAnalysable}
-use Rattle.fm_check.specs.Checking.{IsLeastTyping}
+use Rattle.fm_check.specs.Checking.{IsLeastTyping, IsNarrow}
+use Rattle.fm_code.specs.Edges.{MeetsCodeRules}
+use Rattle.fm_code.specs.Fits.{FitsTwo}
 use Rattle.fm_code.specs.Spells.{HasSpelling}
 use Rattle.fm_code.specs.declared.class_file.ClassDef.{ClassDef}
 use Rattle.fm_code.specs.declared.code_array.Code.{Code}
 use Rattle.fm_conn.specs.Classes.{AreClassesOf}
 use Rattle.fm_conn.specs.Facts.{AreFacts, Facts}
 use Rattle.fm_conn.specs.Links.{typed_method}
+use Rattle.fm_conn.specs.Nodes.{TypedMethod}
 use Rattle.fm_conn.specs.Shapes.{method_with}
 use Rattle.fm_conn.specs.Summaries.{is_linked, linked_by}
 use Rattle.fm_conn.specs.declared.class_numbers.Classes.{Classes}
@@ -22,6 +25,7 @@ use Rattle.fm_place.specs.PlansBy.{IsPlanOf, IsToldBy}
 use Rattle.fm_place.specs.declared.plans.Plan.{Plan}
 use Rattle.fm_types.specs.States.{TypeState}
 use Rattle.fm_weave.specs.ByPlan.{planned_by}
+use Rattle.fm_weave.specs.Conditions.{MayBeWoven}
 use Rattle.fm_weave.specs.declared.planned.Planned.{Planned}
 use Rattle.fm_weave.specs.declared.planned.Planned.TheVariants as planned
 use Rattle.fm_world.specs.Members.{methods_of}
@@ -55,6 +59,12 @@ pub record IsFullPlan (p : Program) (summaries : Summaries) (method : ℕ) (code
   pub classes_are : AreClassesOf (linked_by summaries) (method_with p method code states) classes
   pub plan_is : (facts : Facts) → IsToldBy facts method classes live → LinkAlike facts summaries
       → IsPlanOf (all_insertions facts (method_with p method code states)) plan
+
+-- where a site is held, the method may be woven by this plan, whatever the index of FreeMe.free is
+abbrev pub FullPlansMayBeWoven : Type 0
+FullPlansMayBeWoven =
+    (free : ℕ) (facts : Facts) (x : TypedMethod) (plan : Plan) → FitsTwo free → AreOldItems x.code.items → MeetsCodeRules x.code → IsNarrow x.code
+    → IsPlanOf (all_insertions facts x) plan → 0 < plan.holders → MayBeWoven free x.code plan
 
 -- ---- what is to be done
 
