@@ -6,6 +6,7 @@ use Rattle.std.proofs.lemmas.Bool.{cases_lt, ltb-false}
 use Rattle.std.proofs.lemmas.List.{get_or_past, length-drop, length-map}
 use Rattle.std.proofs.lemmas.List.FromFn.{length-map-range_with_len}
 use Rattle.std.proofs.lemmas.Option.{slice_get_within}
+use Rattle.fm_rewrite.specs.Plans.{FullPlansMayBeWoven}
 use Rattle.fm_base.specs.declared.limits.TheConstants.{MAX_LOCAL_WORDS}
 use Rattle.fm_code.specs.Edges.{MeetsCodeRules}
 use Rattle.fm_code.specs.declared.code_array.Code.{Code}
@@ -198,3 +199,16 @@ module _ (facts : Facts) (x : TypedMethod) where
         let same : narrow_by x.code plan ≡ narrow_length x.code.items (woven 0 x.code (all_insertions facts x)) =
         narrow-is 0 x.code plan ∙ ap (narrow_length x.code.items) (items-is 0 x.code (all_insertions facts x) plan whole) in
         omega (arith, same, fits)
+
+    -- a word of stack is left where a site is held
+    pub held_stack : 0 < plan.holders → x.code.max_stack ≤ MAX_HOLDING_STACK_WORDS
+    held_stack some = by_stack (nat_lt MAX_HOLDING_STACK_WORDS x.code.max_stack) refl where
+      by_stack : (b : Bool) → nat_lt MAX_HOLDING_STACK_WORDS x.code.max_stack ≡ b → x.code.max_stack ≤ MAX_HOLDING_STACK_WORDS
+      by_stack true high =
+          let holders : plan.holders ≡ length (all_holders facts x) = is.holders in absurd (omega (arith, some, holders, none_held high))
+      by_stack false low = omega (arith, ltb-false MAX_HOLDING_STACK_WORDS x.code.max_stack low)
+
+pub full_may_be_woven : FullPlansMayBeWoven
+full_may_be_woven free facts x plan entry old rules narrow is some =
+    may-be-woven free x.code (all_insertions facts x) plan (whole facts x plan is) old rules (held_stack facts x plan is some)
+    (all_suits facts x free entry narrow.locals) (items_few facts x plan is free (items_counted x.code rules).1)

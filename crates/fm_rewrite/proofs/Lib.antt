@@ -3,3 +3,5 @@ pub mod PlansLemmas
 pub mod FullPlanLemmas
 pub mod OldItemsLemmas
 pub mod PlannedLemmas
+pub mod MethodsLemmas
+pub mod ProgramPlansLemmas

@@ -1,13 +1,17 @@
 -- The plans of all that can be inserted into the methods of a program, each by what the analysis answers of its method.
-use Rattle.std.specs.Prelude.{◌≡◌, ℕ, List, Option, Some, None}
-use Rattle.std.specs.List.{AllByRecursion}
+use Rattle.std.specs.Prelude.{◌≡◌, ◌<◌, ℕ, List, length, Option, Some, None}
+use Rattle.std.specs.List.{AllByRecursion, slice_index_or}
 use Rattle.fm_analysis.specs.Analysed.{AreAnalysable}
-use Rattle.fm_check.specs.Checking.{IsLeastTyping}
+use Rattle.fm_check.specs.Checking.{IsLeastTyping, IsNarrow}
+use Rattle.fm_code.specs.Edges.{MeetsCodeRules}
+use Rattle.fm_code.specs.Fits.{FitsTwo}
 use Rattle.fm_code.specs.Spells.{HasSpelling}
 use Rattle.fm_code.specs.declared.class_file.ClassDef.{ClassDef}
 use Rattle.fm_code.specs.declared.code_array.Code.{Code}
 use Rattle.fm_conn.specs.Classes.{AreClassesOf}
-use Rattle.fm_conn.specs.Facts.{Facts}
+use Rattle.fm_conn.specs.Facts.{AreFacts, Facts}
+use Rattle.fm_conn.specs.Links.{typed_method}
+use Rattle.fm_conn.specs.Nodes.{TypedMethod}
 use Rattle.fm_conn.specs.Shapes.{method_with}
 use Rattle.fm_conn.specs.Summaries.{is_linked, linked_by}
 use Rattle.fm_conn.specs.declared.class_numbers.Classes.{Classes}
@@ -21,8 +25,10 @@ use Rattle.fm_place.specs.PlansBy.{IsPlanOf, IsToldBy}
 use Rattle.fm_place.specs.declared.plans.Plan.{Plan}
 use Rattle.fm_types.specs.States.{TypeState}
 use Rattle.fm_weave.specs.ByPlan.{planned_by}
+use Rattle.fm_weave.specs.Conditions.{MayBeWoven}
 use Rattle.fm_weave.specs.declared.planned.Planned.{Planned}
 use Rattle.fm_weave.specs.declared.planned.Planned.TheVariants as planned
+use Rattle.fm_world.specs.Members.{methods_of}
 use Rattle.fm_world.specs.Programs.{code_at, Program, program_of}
 
 -- ---- codes
@@ -54,6 +60,12 @@ pub record IsFullPlan (p : Program) (summaries : Summaries) (method : ℕ) (code
   pub plan_is : (facts : Facts) → IsToldBy facts method classes live → LinkAlike facts summaries
       → IsPlanOf (all_insertions facts (method_with p method code states)) plan
 
+-- where a site is held, the method may be woven by this plan, whatever the index of FreeMe.free is
+abbrev pub FullPlansMayBeWoven : Type 0
+FullPlansMayBeWoven =
+    (free : ℕ) (facts : Facts) (x : TypedMethod) (plan : Plan) → FitsTwo free → AreOldItems x.code.items → MeetsCodeRules x.code → IsNarrow x.code
+    → IsPlanOf (all_insertions facts x) plan → 0 < plan.holders → MayBeWoven free x.code plan
+
 -- ---- what is to be done
 
 -- with a method that has this code, by its plan
@@ -69,3 +81,28 @@ IsPlannedIn p summaries method (Some code) done = IsPlannedCode p summaries meth
 
 abbrev pub IsPlanned : Program → Summaries → ℕ → Planned → Type 0
 IsPlanned p summaries method done = IsPlannedIn p summaries method (code_at p method) done
+
+-- with a method by its number
+abbrev pub planned_at : List Planned → ℕ → Planned
+planned_at done method = slice_index_or done method planned.Same
+
+-- with each method of a program
+pub record ArePlannedBy (p : Program) (summaries : Summaries) (done : List Planned) : Type 0 where
+  pub one_each : length done ≡ length (methods_of p.outline.classes)
+  pub each : (method : ℕ) → method < length done → IsPlanned p summaries method (planned_at done method)
+
+-- ---- by the facts of a whole program
+
+-- what is to be done with a method that has this code: by the plan of all that can be inserted
+pub record IsPlannedByFacts (p : Program) (facts : Facts) (method : ℕ) (code : Code) (done : Planned) : Type 0 where
+  pub plan : Plan
+  pub plan_is : IsPlanOf (all_insertions facts (typed_method p facts.typing method code)) plan
+  pub planned_is : done ≡ planned_by code plan
+
+-- with each method of a program, by its facts
+pub record ArePlanned (p : Program) (done : List Planned) : Type 0 where
+  pub facts : Facts
+  pub exact : AreFacts p facts
+  pub one_each : length done ≡ length (methods_of p.outline.classes)
+  pub coded : (method : ℕ) (code : Code) → code_at p method ≡ Some code → IsPlannedByFacts p facts method code (planned_at done method)
+  pub others : (method : ℕ) → code_at p method ≡ None → planned_at done method ≡ planned.Same

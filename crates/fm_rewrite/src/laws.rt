@@ -1,9 +1,15 @@
 // Laws of the definitions, each as the contract of a function that does nothing.
 
-ghost use Rattle.fm_rewrite.specs.Plans.{ProgramsHaveOldItems};
+ghost use Rattle.fm_rewrite.specs.Plans.{FullPlansMayBeWoven, ProgramsHaveOldItems};
 
 /// The codes of a program of class files that may be analysed are made of items that can be laid out
 /// again.
 pub fn law_old_items()
     ensures { ProgramsHaveOldItems }
+{}
+
+/// Where a site is held, a method may be woven by the plan of all that can be inserted: there are
+/// locals for its holders and a word of stack, and fewer items come of it than may be laid out.
+pub fn law_full_plans()
+    ensures { FullPlansMayBeWoven }
 {}
