@@ -4,3 +4,4 @@ pub mod ActsKeep
 pub mod FramesKeep
 pub mod Operands
 pub mod CatchesKeep
+pub mod WaitingFrames

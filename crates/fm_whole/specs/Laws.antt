@@ -1,5 +1,5 @@
 -- The laws that the functions of `laws` prove.
-use Rattle.std.specs.Prelude.{◌≡◌, ℕ, ℤ, Some, slice_get, true, Bool, List, [], ◌∷◌, ◌++◌, Option}
+use Rattle.std.specs.Prelude.{◌≡◌, ℕ, ℤ, Some, slice_get, true, Bool, List, [], ◌∷◌, ◌++◌, drop, Option}
 use Rattle.std.specs.List.{AllByRecursion, AllZip}
 use Rattle.fm_base.specs.declared.kinds.TypeRef.{TypeRef}
 use Rattle.fm_cells.specs.Choices.{lawful}
@@ -82,7 +82,13 @@ GoingOnKeepsWhole =
     → AllByRecursion (FrameIsWhole p typings areas.store) callers
     → (x : State) → AllByRecursion (FrameIsWhole p typings areas.store) (continued p (sources_of f areas made) e f callers x).frames
 
--- So are the frames of methods that start classes.
+-- A frame that calls another one stays whole without the words of the call.
+abbrev pub WaitingKeepsWhole : Type 0
+WaitingKeepsWhole =
+    (p : Program) (typings : Typings) (store : Store) (f : Frame) (words : ℕ) → StandsWithout p typings 0 f → FrameIsWhole p typings store f
+    → FrameIsWhole p typings store (record f { stack = drop words f.stack })
+
+-- The frames of methods that start classes are whole.
 abbrev pub StartingKeepsWhole : Type 0
 StartingKeepsWhole =
     (p : Program) (typings : Typings) → AreTyped p typings → (store : Store) (methods : List ℕ)

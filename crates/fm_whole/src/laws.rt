@@ -26,10 +26,11 @@ pub fn law_whole_areas()
     ensures { law.ActionsKeepWhole }
 {}
 
-/// Frames stay whole where the frame on top goes on to the next item or to a target, where methods start
-/// classes, and where an exception is caught in any of them.
+/// Frames stay whole where the frame on top goes on to the next item or to a target, where it waits for one
+/// that it calls, where methods start classes, and where an exception is caught in any of them.
 pub fn law_whole_frames()
     ensures going_on { law.GoingOnKeepsWhole }
+    ensures waiting { law.WaitingKeepsWhole }
     ensures starting { law.StartingKeepsWhole }
     ensures catching { law.CatchingKeepsWhole }
 {}
