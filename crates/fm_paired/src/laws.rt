@@ -1,6 +1,7 @@
 // Laws over definitions alone, each the contract of a function that does nothing.
 
 ghost use Rattle.fm_paired.specs.Laws as law;
+ghost use Rattle.fm_paired.specs.Results.{ActionsKeepPaired};
 
 /// Cells that stand for each other do so one to one.
 pub fn law_cells()
@@ -50,4 +51,9 @@ pub fn law_areas()
 /// An object that is made with its content in both stores, in whichever cells, leaves them paired.
 pub fn law_makes()
     ensures { law.MakesAlike }
+{}
+
+/// Actions that free nothing lead what the frames share to what is paired, or the second store is full.
+pub fn law_actions()
+    ensures { ActionsKeepPaired }
 {}
