@@ -1,12 +1,11 @@
 -- All actions of a step, one after the other, lead paired areas to paired areas, or the second store is full.
-use Rattle.std.proofs.Common.{◌≡◌, ℕ, zero, suc, ◌⊎◌, inl, inr, ◌+◌, ◌^◌, ◌<◌, Bool, true, false, cond, List, [], ◌∷◌, ◌++◌, length, nat_lt, Option, Some, None, refl, sym, ◌∙◌, ap, subst, slice_get, slice_set, slice_index_or, arith}
+use Rattle.std.proofs.Common.{◌≡◌, ℕ, zero, suc, inl, inr, ◌+◌, ◌^◌, ◌<◌, Bool, true, false, cond, List, [], ◌∷◌, ◌++◌, length, nat_lt, Option, Some, None, refl, sym, ◌∙◌, ap, subst, slice_get, slice_set, arith}
 use Rattle.std.specs.List.{AllByRecursion, AllZip}
 use Rattle.std.specs.Option.{option_map, unwrap_or}
 use Rattle.std.proofs.lemmas.Bool.{false≢true, lt-ltb, ltb-true}
 use Rattle.std.proofs.lemmas.List.Elements.{AllZip-push}
 use Rattle.std.proofs.lemmas.Option.{get_or_from_slice_get, same_Some}
 use Rattle.fm_base.specs.declared.kinds.Kind.{Kind}
-use Rattle.fm_base.specs.declared.kinds.Kind.TheVariants as kind
 use Rattle.fm_base.specs.declared.kinds.TypeRef.{TypeRef}
 use Rattle.fm_cells.proofs.Elements.{put_by-none, put_by-some}
 use Rattle.fm_cells.specs.Changes.{Choice, made_by, put_by, RefuseStore, Take, with_element}
@@ -18,10 +17,10 @@ use Rattle.fm_cells.specs.Sizes.{cell_words}
 use Rattle.fm_cells.specs.Stores.{object_at, passes_limit, Store}
 use Rattle.fm_types.proofs.Zips.{zip-implied, zip-set}
 use Rattle.fm_world.specs.Members.{size_of}
-use Rattle.fm_world.specs.Programs.{kind_at, Outline}
-use Rattle.fm_frames.specs.Acts.{cell_of, Choose, Did, FullAt, is_there, literal_made, literal_text, LostAt, made_then, performed, Performed, put_value, requested, set_static, value_of, with_content}
+use Rattle.fm_world.specs.Programs.{Outline}
+use Rattle.fm_frames.specs.Acts.{cell_of, Choose, is_there, literal_made, literal_text, made_then, performed, Performed, put_value, requested, set_static, value_of, with_content}
 use Rattle.fm_frames.specs.Effects.{Action, Free, FreeChain, Make, MakeFixed, MakeLiteral, OfMade, OfOperand, Put, SetChain, SetStatic, Source, Start}
-use Rattle.fm_frames.specs.Elements.{is_text_type, kept}
+use Rattle.fm_frames.specs.Elements.{kept}
 use Rattle.fm_frames.specs.NativeRows.{text_type}
 use Rattle.fm_frames.specs.Sights.{type_numbered}
 use Rattle.fm_frames.specs.States.{Areas, Frame, word_at}
@@ -30,10 +29,10 @@ use Rattle.fm_sound.proofs.ActsKeep.{class_set, content_in, Keeps, keeps_later, 
 use Rattle.fm_sound.proofs.CellsKeep.{SameClasses}
 use Rattle.fm_sound.specs.Acting.{ActsFit, MakeFits, ObjectFits, PlaceFits, ValueFits}
 use Rattle.fm_sound.specs.Leading.{sources_of}
-use Rattle.fm_sound.specs.Placing.{kind_in, PutAgrees, ReadAgrees}
+use Rattle.fm_sound.specs.Placing.{PutAgrees, ReadAgrees}
 use Rattle.fm_sound.specs.Sound.{AreasAreSound, field_slot, static_slots}
 use Rattle.fm_paired.specs.Laws.{MadeAlike}
-use Rattle.fm_paired.specs.Pairing.{AreasPaired, FramesPaired, SameCell, SameElement, SameValue}
+use Rattle.fm_paired.specs.Pairing.{AreasPaired, FramesPaired, SameCell}
 use Rattle.fm_paired.specs.Reading.{ActsAlike, NumberAgrees}
 use Rattle.fm_paired.specs.Results.{IsFilled, ResultsAlike}
 use Rattle.fm_paired.proofs.ActsSame.{areas_later, cut_same, kept_same, put_same, start_same, static_same}

@@ -14,8 +14,8 @@ pub fn law_values()
     ensures tests { law.TestsAgree }
 {}
 
-/// Stores stay paired where an object is made in each for one request, in whichever cells; and where the
-/// same is put into an object and into its twin.
+/// Stores stay paired where an object is made in each for one request, in whichever cells; and where
+/// the same is put into an object and into its twin.
 pub fn law_stores()
     ensures made { law.MakesKeepPaired }
     ensures put { law.PutsKeepPaired }
@@ -53,7 +53,8 @@ pub fn law_makes()
     ensures { law.MakesAlike }
 {}
 
-/// Actions that free nothing lead what the frames share to what is paired, or the second store is full.
+/// Actions that free nothing lead what the frames share to what is paired, or the second store is
+/// full.
 pub fn law_actions()
     ensures { ActionsKeepPaired }
 {}
