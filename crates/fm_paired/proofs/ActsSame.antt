@@ -1,30 +1,24 @@
 -- The actions of a step lead paired areas to paired areas.
-use Rattle.std.proofs.Common.{◌≡◌, ℕ, ◌+◌, ◌<◌, ◌⊎◌, inl, inr, Bool, true, false, cond, List, [], ◌∷◌, ◌++◌, length, nat_lt, Option, Some, None, refl, sym, ◌∙◌, ap, subst, slice_get, slice_set, slice_index_or, arith}
-use Rattle.std.specs.List.{AllByRecursion, AllZip}
-use Rattle.std.specs.Option.{option_map, unwrap_or}
-use Rattle.std.proofs.lemmas.Bool.{false≢true}
-use Rattle.std.proofs.lemmas.List.Elements.{AllZip-push}
+use Rattle.std.proofs.Common.{◌≡◌, ℕ, inl, inr, Bool, true, false, List, Some, refl, sym, ◌∙◌, ap, subst, slice_set}
+use Rattle.std.specs.List.{AllZip}
 use Rattle.std.proofs.lemmas.Option.{same_Some}
 use Rattle.fm_base.specs.declared.kinds.Kind.{Kind}
 use Rattle.fm_base.specs.declared.kinds.Kind.TheVariants as kind
 use Rattle.fm_base.specs.declared.kinds.TypeRef.{TypeRef}
 use Rattle.fm_cells.proofs.Elements.{put_by-some}
-use Rattle.fm_cells.specs.Changes.{Choice, made_by, put_by, RefuseStore, Take, with_element, with_object}
-use Rattle.fm_cells.specs.Choices.{MayReuse}
-use Rattle.fm_cells.specs.Objects.{new_object, Object, object_words, Request, request_words}
-use Rattle.fm_cells.specs.Stores.{object_at, passes_limit, Store}
+use Rattle.fm_cells.specs.Changes.{with_element, with_object}
+use Rattle.fm_cells.specs.Objects.{Object}
+use Rattle.fm_cells.specs.Stores.{object_at, Store}
 use Rattle.fm_types.proofs.Zips.{zip-implied, zip-set}
-use Rattle.fm_world.specs.Programs.{kind_at, Outline}
-use Rattle.fm_frames.specs.Acts.{cell_of, put_value, requested, set_static, value_of, with_content}
+use Rattle.fm_world.specs.Programs.{Outline}
+use Rattle.fm_frames.specs.Acts.{cell_of, put_value, set_static, value_of}
 use Rattle.fm_frames.specs.Effects.{LocalPlus, OfLiteral, OfLocal, OfMade, OfOperand, OfPlace, OfStatic, Plain, SameOperands, Source}
 use Rattle.fm_frames.specs.Elements.{cut, is_text_type, kept, read}
 use Rattle.fm_frames.specs.Sights.{type_numbered}
-use Rattle.fm_frames.specs.States.{Areas, Frame, word_at}
+use Rattle.fm_frames.specs.States.{Areas, Frame}
 use Rattle.fm_frames.specs.declared.values.Value.{Value}
 use Rattle.fm_frames.specs.declared.values.Value.TheVariants as value
-use Rattle.fm_sound.proofs.ActsKeep.{content_in, new_held}
 use Rattle.fm_sound.proofs.CellsKeep.{SameClasses}
-use Rattle.fm_sound.specs.Acting.{ContentFits}
 use Rattle.fm_sound.specs.Leading.{sources_of}
 use Rattle.fm_sound.specs.Placing.{kind_in, ReadAgrees}
 use Rattle.fm_sound.specs.Sound.{field_slot, HasKind, IsReference}
@@ -32,7 +26,7 @@ use Rattle.fm_paired.specs.Pairing.{AreAlike, ArePaired, AreasPaired, AreTwins, 
 use Rattle.fm_paired.specs.Reading.{NumberAgrees}
 use Rattle.fm_paired.proofs.SightsSame.{twins_alike}
 use Rattle.fm_paired.proofs.SourcesSame.{read_same, source_same}
-use Rattle.fm_paired.proofs.Stores.{cell_later, changed_paired, made_paired, new_alike, put_paired, Stays, value_later, with_stays}
+use Rattle.fm_paired.proofs.Stores.{cell_later, put_paired, Stays, value_later, with_stays}
 use Rattle.fm_paired.proofs.Twins.{not_null}
 
 -- ---- values that are kept

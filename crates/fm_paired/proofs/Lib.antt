@@ -6,3 +6,4 @@ pub mod SourcesSame
 pub mod NextSame
 pub mod ActsSame
 pub mod MakesSame
+pub mod StepActs

@@ -1,5 +1,5 @@
 -- An object that is made with its content in both stores leaves them paired, and stands for the other one.
-use Rattle.std.proofs.Common.{◌≡◌, ℕ, Bool, List, [], ◌∷◌, length, Some, None, refl, sym, ◌∙◌, ap, subst, slice_index_or}
+use Rattle.std.proofs.Common.{◌≡◌, ℕ, Bool, List, [], ◌∷◌, Some, refl, sym, ◌∙◌, ap, subst, slice_index_or}
 use Rattle.std.proofs.lemmas.List.{length-replicate}
 use Rattle.fm_base.specs.declared.kinds.TypeRef.{TypeRef}
 use Rattle.fm_cells.specs.Changes.{made_by, Take, with_object}
@@ -12,8 +12,7 @@ use Rattle.fm_frames.specs.Acts.{with_content}
 use Rattle.fm_frames.specs.Sights.{type_numbered}
 use Rattle.fm_sound.proofs.ActsKeep.{content_in, new_held}
 use Rattle.fm_sound.specs.Acting.{ContentFits}
-use Rattle.fm_sound.specs.Placing.{kind_in}
-use Rattle.fm_paired.specs.Laws.{KeepsBirths, MadeAlike}
+use Rattle.fm_paired.specs.Laws.{MadeAlike}
 use Rattle.fm_paired.specs.Pairing.{AreAlike, ArePaired, SameCell, SameElement}
 use Rattle.fm_paired.proofs.Stores.{cell_later, changed_paired, made_paired, made_stays, new_twins, Stays, with_stays}
 

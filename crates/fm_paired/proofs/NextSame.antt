@@ -1,11 +1,11 @@
 -- What comes next after the actions of a step leads paired states to paired states.
-use Rattle.std.proofs.Common.{◌≡◌, ℕ, zero, suc, ◌+◌, ◌-◌, not, ◌⊎◌, inl, inr, Bool, true, false, cond, List, [], ◌∷◌, ◌++◌, length, map, take, drop, reverse, replicate, Option, Some, None, refl, sym, ◌∙◌, ap, subst, slice_set}
+use Rattle.std.proofs.Common.{◌≡◌, ℕ, zero, suc, ◌+◌, ◌-◌, not, inl, inr, Bool, true, false, cond, List, [], ◌∷◌, ◌++◌, length, map, take, reverse, replicate, Option, Some, None, refl, sym, ◌∙◌, ap, subst, slice_set}
 use Rattle.std.specs.List.{AllByRecursion, AllZip}
 use Rattle.std.proofs.lemmas.List.{reverse-append}
 use Rattle.fm_base.specs.declared.kinds.TypeRef.{TypeRef}
 use Rattle.fm_cells.specs.Objects.{Object}
 use Rattle.fm_cells.specs.Stores.{object_at, Store}
-use Rattle.fm_types.proofs.Zips.{zip-append, zip-drop, zip-implied, zip-length, zip-set}
+use Rattle.fm_types.proofs.Zips.{zip-append, zip-drop, zip-length, zip-set}
 use Rattle.fm_types.specs.Named.{class_of_method, throwable_type}
 use Rattle.fm_world.specs.Programs.{Outline, Program}
 use Rattle.fm_frames.specs.Acts.{cell_of, same_cell, Sources, value_of}

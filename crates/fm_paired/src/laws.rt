@@ -1,6 +1,7 @@
 // Laws over definitions alone, each the contract of a function that does nothing.
 
 ghost use Rattle.fm_paired.specs.Laws as law;
+ghost use Rattle.fm_paired.specs.Results.{ActionsKeepPaired};
 
 /// Cells that stand for each other do so one to one.
 pub fn law_cells()
@@ -13,8 +14,8 @@ pub fn law_values()
     ensures tests { law.TestsAgree }
 {}
 
-/// Stores stay paired where an object is made in each for one request, in whichever cells; and where the
-/// same is put into an object and into its twin.
+/// Stores stay paired where an object is made in each for one request, in whichever cells; and where
+/// the same is put into an object and into its twin.
 pub fn law_stores()
     ensures made { law.MakesKeepPaired }
     ensures put { law.PutsKeepPaired }
@@ -50,4 +51,10 @@ pub fn law_areas()
 /// An object that is made with its content in both stores, in whichever cells, leaves them paired.
 pub fn law_makes()
     ensures { law.MakesAlike }
+{}
+
+/// Actions that free nothing lead what the frames share to what is paired, or the second store is
+/// full.
+pub fn law_actions()
+    ensures { ActionsKeepPaired }
 {}
