@@ -99,9 +99,11 @@ module _ (p : Program) (one other : Store) where
 
   in_same : (v w : Value) → S v w → (f g : Frame) (fs gs : List Frame) → F f g → AllZip F fs gs → (found : Option ℕ) (below second : Caught)
       → CaughtSame below second → CaughtSame (caught_in p v f fs found below) (caught_in p w g gs found second)
-  in_same v w same f g fs gs h rest (Some handler) below second later =
-      (record g { item = handler; stack = w ∷ [] } ∷ gs, refl,
-      (record { method = h.method; item = refl; locals = h.locals; stack = (same, tt) }, rest))
+  in_same v w same f g fs gs h rest (Some handler) below second later = (
+    record g { item = handler; stack = w ∷ [] } ∷ gs,
+    refl,
+    (record { method = h.method; item = refl; locals = h.locals; stack = (same, tt) }, rest),
+  )
   in_same v w same f g fs gs h rest None below second later =
       subst (λ fr. CaughtSame (caught_in p v f fs None below) (caught_in p w fr gs None second)) (sym (stands_so f g h))
       (left_same (is_start p.outline f.method) (end.InitFailed (record { 0 = class_of_method p.outline f.method })) refl below second later)
@@ -154,9 +156,11 @@ module _ (p : Program) (from second : Sources) (z w : State) (areas : AreasPaire
   fault_same v u same [] [] h = (cell_of u, refl, cell_same one other v u same)
   fault_same v u same [] (g ∷ gs) h = absurd h
   fault_same v u same (f ∷ fs) [] h = absurd h
-  fault_same v u same (f ∷ fs) (g ∷ gs) h =
-      (cell_of u, ap (λ (fr : Frame). end.Fault (record { 0 = fr.method }) (offset_at p fr) (cell_of u)) (stands_so p one other f g h.0),
-      cell_same one other v u same)
+  fault_same v u same (f ∷ fs) (g ∷ gs) h = (
+    cell_of u,
+    ap (λ (fr : Frame). end.Fault (record { 0 = fr.method }) (offset_at p fr) (cell_of u)) (stands_so p one other f g h.0),
+    cell_same one other v u same,
+  )
 
   either_same : (b : Bool) (a c : State) (d e : State) → StatesPaired o a d → StatesPaired o c e → StatesPaired o (cond b a c) (cond b d e)
   either_same true a c d e first later = first
@@ -179,12 +183,15 @@ module _ (p : Program) (from second : Sources) (z w : State) (areas : AreasPaire
         (zip-set (SameValue one other) it.0 (value_of from it.1) (value_of second it.1) vs us (fits it.1 all.0) h)
 
     went_same : (item there : ℕ) → there ≡ item → AllZip (FramesPaired one other) (went from e f item ∷ callers) (went second e g there ∷ others)
-    went_same item there is = (record {
-      method = frame.method;
-      item = is;
-      locals = written_same e.writes writes f.locals g.locals frame.locals;
-      stack = zip-append (SameValue one other) _ _ _ _ (gives_same e.gives gives) (zip-drop (SameValue one other) e.takes f.stack g.stack frame.stack);
-    }, below)
+    went_same item there is = (
+      record {
+        method = frame.method;
+        item = is;
+        locals = written_same e.writes writes f.locals g.locals frame.locals;
+        stack = zip-append (SameValue one other) _ _ _ _ (gives_same e.gives gives) (zip-drop (SameValue one other) e.takes f.stack g.stack frame.stack);
+      },
+      below,
+    )
 
     tests_same : same_cell (word_at g.stack 0) (word_at g.stack 1) ≡ same_cell (word_at f.stack 0) (word_at f.stack 1)
     tests_same =
@@ -201,13 +208,15 @@ module _ (p : Program) (from second : Sources) (z w : State) (areas : AreasPaire
         (sym frame.method)
         (either_same (is_start o f.method) _ _ _ _ (with_frames (c ∷ fs) (d ∷ gs) h)
         (with_frames (record c { item = c.item + 1; stack = take n f.stack ++ c.stack } ∷ fs)
-        (record d { item = d.item + 1; stack = take n g.stack ++ d.stack } ∷ gs)
-        (record {
-          method = h.0.method;
-          item = ap (λ m. m + 1) h.0.item;
-          locals = h.0.locals;
-          stack = zip-append (SameValue one other) _ _ _ _ (zip_take (SameValue one other) n f.stack g.stack frame.stack) h.0.stack;
-        }, h.1)))
+        (record d { item = d.item + 1; stack = take n g.stack ++ d.stack } ∷ gs) (
+          record {
+            method = h.0.method;
+            item = ap (λ m. m + 1) h.0.item;
+            locals = h.0.locals;
+            stack = zip-append (SameValue one other) _ _ _ _ (zip_take (SameValue one other) n f.stack g.stack frame.stack) h.0.stack;
+          },
+          h.1,
+        )))
 
     pub next_same : (next : Next) → AllByRecursion P (sources_of_next next) → StatesPaired o (followed p from e f callers z next) (followed p second e g others w next)
     next_same Falls thrown = with_frames _ _ (went_same (f.item + 1) (g.item + 1) (ap (λ n. n + 1) frame.item))
@@ -220,9 +229,10 @@ module _ (p : Program) (from second : Sources) (z w : State) (areas : AreasPaire
           is_same : Bool
           is_same = same_cell (word_at f.stack 0) (word_at f.stack 1)
     next_same (Calls m) thrown =
-        with_frames _ _
-        (new_same p one other m _ _ (zip_reverse (SameValue one other) _ _ (zip_take (SameValue one other) e.takes f.stack g.stack frame.stack)),
-        (record { method = frame.method; item = frame.item; locals = frame.locals; stack = zip-drop (SameValue one other) e.takes f.stack g.stack frame.stack }, below))
+        with_frames _ _ (
+          new_same p one other m _ _ (zip_reverse (SameValue one other) _ _ (zip_take (SameValue one other) e.takes f.stack g.stack frame.stack)),
+          (record { method = frame.method; item = frame.item; locals = frame.locals; stack = zip-drop (SameValue one other) e.takes f.stack g.stack frame.stack }, below),
+        )
     next_same (Returns n) thrown = returned_same n callers others below
     next_same (Throws source) thrown =
         let v = value_of from source in

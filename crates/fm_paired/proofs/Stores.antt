@@ -90,9 +90,11 @@ pub with_stays : (store : Store) (cell : ℕ) (old object : Object) → object_a
     → Stays store (with_object store cell object)
 with_stays store cell old object held born q found at =
     elim (cases_eq q cell) as (λ _. (now : Object) × (object_at (with_object store cell object) q ≡ Some now) × (now.birth ≡ found.birth)) [
-      | inl here ↦
-          (object, object_at-with_object store cell object q ∙ ap (λ b. cond b (Some object) (object_at store q)) (eq-eqb q cell here),
-          born ∙ ap (λ (x : Object). x.birth) (same_Some old found (sym held ∙ sym (ap (object_at store) here) ∙ at)))
+      | inl here ↦ (
+        object,
+        object_at-with_object store cell object q ∙ ap (λ b. cond b (Some object) (object_at store q)) (eq-eqb q cell here),
+        born ∙ ap (λ (x : Object). x.birth) (same_Some old found (sym held ∙ sym (ap (object_at store) here) ∙ at)),
+      )
       | inr there ↦
           (found, object_at-with_object store cell object q ∙ ap (λ b. cond b (Some object) (object_at store q)) (ne_eqb q cell there) ∙ at, refl)
     ]
@@ -192,9 +194,12 @@ pub made_stays : (store : Store) (request : Request) (cell : ℕ) (grows : Bool)
 made_stays store request cell grows free q found at =
     elim (cases_eq q cell) as (λ _. (now : Object) × (object_at (made_by store request (Take cell grows)) q ≡ Some now) × (now.birth ≡ found.birth)) [
       | inl here ↦ let no : None ≡ Some found = sym free ∙ sym (ap (object_at store) here) ∙ at in absurd (cc)
-      | inr there ↦
-          (found, object_at-made_by store request cell grows q
-          ∙ ap (λ b. cond b (Some (new_object store.births request)) (object_at store q)) (ne_eqb q cell there) ∙ at, refl)
+      | inr there ↦ (
+        found,
+        object_at-made_by store request cell grows q
+            ∙ ap (λ b. cond b (Some (new_object store.births request)) (object_at store q)) (ne_eqb q cell there) ∙ at,
+        refl,
+      )
     ]
 
 -- the words of the cells that were made

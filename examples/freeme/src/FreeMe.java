@@ -1,0 +1,18 @@
+/** Stands in for the built-in class where the written files run on another Java virtual machine: nothing is freed by hand there. */
+public final class FreeMe {
+    private FreeMe() {
+    }
+
+    /** Does nothing: a collector frees the object when nothing leads to it any more. */
+    public static void free(Object object) {
+    }
+
+    /** Answers the object that was to be put before the others of its chain. */
+    public static Object link(Object next, Object object) {
+        return object;
+    }
+
+    /** Does nothing, as {@link #free} does. */
+    public static void freeChain(Object object) {
+    }
+}
