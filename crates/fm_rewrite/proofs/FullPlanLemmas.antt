@@ -1,5 +1,5 @@
 -- What the plan of all that can be inserted into a method asks for: locals that there are, and fewer items than may be laid out.
-use Rattle.std.proofs.Common.{◌≡◌, ℕ, zero, suc, ◌+◌, ◌-◌, ◌*◌, ◌<◌, ◌≤◌, ◌^◌, Bool, true, false, cond, List, [], ◌∷◌, length, map, take, drop, Option, Some, None, Contains, refl, ap, sym, ◌∙◌, subst, ⊎_elim, arith, length-append}
+use Rattle.std.proofs.Common.{◌≡◌, ℕ, zero, suc, ◌+◌, ◌-◌, ◌*◌, ◌<◌, ◌≤◌, ◌^◌, Bool, true, false, cond, List, [], ◌∷◌, length, take, Option, Some, None, Contains, refl, ap, sym, ◌∙◌, subst, ⊎_elim, arith, length-append}
 use Rattle.std.specs.Prelude.{nat_lt}
 use Rattle.std.specs.List.{filter_map, flat_map, range_with_len}
 use Rattle.std.proofs.lemmas.Bool.{cases_lt, ltb-false}
@@ -9,7 +9,6 @@ use Rattle.std.proofs.lemmas.Option.{slice_get_within}
 use Rattle.fm_rewrite.specs.Plans.{FullPlansMayBeWoven}
 use Rattle.fm_base.specs.declared.limits.TheConstants.{MAX_LOCAL_WORDS}
 use Rattle.fm_code.specs.Edges.{MeetsCodeRules}
-use Rattle.fm_code.specs.declared.code_array.Code.{Code}
 use Rattle.fm_code.specs.declared.code_array.Item.{Item}
 use Rattle.fm_conn.proofs.ListLemmas.{Contains-none}
 use Rattle.fm_conn.specs.Facts.{Facts}
@@ -22,7 +21,7 @@ use Rattle.fm_layout.specs.declared.laying.TheConstants.{MAX_NEW_ITEMS}
 use Rattle.fm_place.proofs.FullLemmas.{before-is, held-few, numbers-found}
 use Rattle.fm_place.proofs.HolderLemmas.{holders_are, pairs_are}
 use Rattle.fm_place.proofs.WovenLemmas.{woven_is_laid_out}
-use Rattle.fm_place.specs.Insertions.{after_at, all_holders, all_insertions, before_at, Holder, Insertions, numbers_of}
+use Rattle.fm_place.specs.Insertions.{after_at, all_holders, all_insertions, before_at, Holder, numbers_of}
 use Rattle.fm_place.specs.Laws.{Suits}
 use Rattle.fm_place.specs.Places.{is_place}
 use Rattle.fm_place.specs.PlansBy.{holders_in, IsPlanOf, paired}
@@ -36,7 +35,7 @@ use Rattle.fm_weave.proofs.LengthLemmas.{number_by-is}
 use Rattle.fm_weave.proofs.NarrowLemmas.{narrow-is}
 use Rattle.fm_weave.proofs.PairLemmas.{leading_within}
 use Rattle.fm_weave.proofs.PlanLemmas.{items-is, may-be-woven}
-use Rattle.fm_weave.specs.ByPlan.{count_by, items_by, later, leading, narrow_by, number_after, number_by}
+use Rattle.fm_weave.specs.ByPlan.{count_by, later, leading, narrow_by, number_after, number_by}
 use Rattle.fm_weave.specs.Conditions.{AreLocals, HasRoom}
 use Rattle.fm_weave.specs.Laws.{IsWholePlan}
 

@@ -5,3 +5,4 @@ pub mod OldItemsLemmas
 pub mod PlannedLemmas
 pub mod MethodsLemmas
 pub mod ProgramPlansLemmas
+pub mod AlikeLemmas

@@ -1,8 +1,7 @@
 -- The codes of a program of class files are made of bytes, and so are what is laid out again.
-use Rattle.std.proofs.Common.{◌≡◌, ℕ, List, [], ◌∷◌, refl, map, Option, Some, None, IfSome, arith}
+use Rattle.std.proofs.Common.{◌≡◌, List, [], ◌∷◌, refl, map, Option, Some, None, IfSome, arith}
 use Rattle.std.specs.List.{AllByRecursion, flat_map}
 use Rattle.fm_analysis.proofs.ShapesLemmas.{code_facts}
-use Rattle.fm_analysis.specs.Analysed.{AreAnalysable}
 use Rattle.fm_base.proofs.ListFacts.{AllByRecursion-append}
 use Rattle.fm_code.specs.ClassBytes.{item_bytes}
 use Rattle.fm_code.specs.Edges.{HasNoLeftOut, MeetsCodeRules}

@@ -1,5 +1,5 @@
 -- What is to be done with all methods is so by the facts of the whole program.
-use Rattle.std.proofs.Common.{◌≡◌, ◌⊎◌, refl, sym, ◌∙◌, subst, ℕ, zero, suc, ◌+◌, ◌<◌, ◌≤◌, ⊎_elim, inl, inr, List, [], length, false, Option, Some, None, arith}
+use Rattle.std.proofs.Common.{◌≡◌, ◌⊎◌, refl, sym, ◌∙◌, subst, ℕ, zero, suc, ◌<◌, ◌≤◌, ⊎_elim, inl, inr, List, [], length, false, Option, Some, None, arith}
 use Rattle.std.proofs.lemmas.Bool.{cases_lt}
 use Rattle.std.proofs.lemmas.List.{get_or_past}
 use Rattle.std.proofs.lemmas.Option.{none-some}
@@ -10,8 +10,8 @@ use Rattle.fm_base.proofs.OptionFacts.{IsSomeAnd-at_some}
 use Rattle.fm_check.specs.Checking.{IsLeastTyping}
 use Rattle.fm_code.specs.declared.code_array.Code.{Code}
 use Rattle.fm_conn.specs.Classes.{AreClassesOf}
-use Rattle.fm_conn.specs.Facts.{AreFacts, Facts}
-use Rattle.fm_conn.specs.Links.{typed_method, Typings}
+use Rattle.fm_conn.specs.Facts.{Facts}
+use Rattle.fm_conn.specs.Links.{Typings}
 use Rattle.fm_conn.specs.Shapes.{method_with}
 use Rattle.fm_conn.specs.Summaries.{is_linked, linked_by}
 use Rattle.fm_conn.specs.declared.class_numbers.Classes.{Classes}
@@ -29,7 +29,6 @@ use Rattle.fm_types.specs.States.{TypeState}
 use Rattle.fm_types.specs.Typed.{IsTypingOf}
 use Rattle.fm_weave.specs.declared.planned.Planned.{Planned}
 use Rattle.fm_weave.specs.declared.planned.Planned.TheVariants as planned
-use Rattle.fm_world.specs.Members.{methods_of}
 use Rattle.fm_world.specs.Programs.{code_at, Program}
 
 module _ (p : Program) (s : Summaries) where

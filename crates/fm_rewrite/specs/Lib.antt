@@ -1,2 +1,3 @@
 pub mod FreeCalls
 pub mod Plans
+pub mod Alike

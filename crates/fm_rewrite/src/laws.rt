@@ -1,5 +1,6 @@
 // Laws of the definitions, each as the contract of a function that does nothing.
 
+ghost use Rattle.fm_rewrite.specs.Alike.{CodesArePlannedAlike};
 ghost use Rattle.fm_rewrite.specs.Plans.{FullPlansMayBeWoven, ProgramsHaveOldItems};
 
 /// The codes of a program of class files that may be analysed are made of items that can be laid out
@@ -12,4 +13,10 @@ pub fn law_old_items()
 /// locals for its holders and a word of stack, and fewer items come of it than may be laid out.
 pub fn law_full_plans()
     ensures { FullPlansMayBeWoven }
+{}
+
+/// What is planned for a method that has code by the facts of its program is what the definitions
+/// insert by them, unless it is too long already while no branch is widened.
+pub fn law_alike()
+    ensures { CodesArePlannedAlike }
 {}

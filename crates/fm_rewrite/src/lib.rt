@@ -7,5 +7,5 @@ mod laws;
 mod plans;
 
 pub use free_calls::first_free_call;
-pub use laws::{law_full_plans, law_old_items};
+pub use laws::{law_alike, law_full_plans, law_old_items};
 pub use plans::{full_plan, planned_by, planned_code, planned_method, planned_methods};

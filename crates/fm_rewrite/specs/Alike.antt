@@ -1,0 +1,31 @@
+-- What is planned by the facts of a program is what the definitions insert by them.
+use Rattle.std.specs.Prelude.{◌≡◌, ℕ, Some}
+use Rattle.std.specs.List.{AllByRecursion}
+use Rattle.fm_code.specs.declared.class_file.Member.{Member}
+use Rattle.fm_code.specs.declared.class_file.MemberAttr.{MemberAttr}
+use Rattle.fm_code.specs.declared.class_file.MemberAttr.TheVariants as attribute
+use Rattle.fm_code.specs.declared.code_array.Code.{Code}
+use Rattle.fm_conn.specs.Facts.{Facts}
+use Rattle.fm_place.specs.Safe.{full_plans}
+use Rattle.fm_rewrite.specs.Plans.{IsPlannedByFacts}
+use Rattle.fm_weave.specs.ClassLaws.{IsAlike}
+use Rattle.fm_weave.specs.declared.planned.Planned.{Planned}
+use Rattle.fm_weave.specs.declared.planned.Planned.TheVariants as planned
+use Rattle.fm_world.specs.Programs.{code_at, Program}
+
+-- an attribute that is code is this one
+abbrev pub IsOwnCode : Code → MemberAttr → Type 0
+IsOwnCode code (attribute.Coded name own) = own ≡ code
+IsOwnCode code a = Unit {0}
+
+-- what is planned isn't that the method is too long
+abbrev pub IsShortEnough : Planned → Type 0
+IsShortEnough (planned.TooLong bytes) = ⊥
+IsShortEnough done = Unit {0}
+
+-- a method that has code, and that isn't too long already while no branch is widened, is planned as the definitions say
+abbrev pub CodesArePlannedAlike : Type 0
+CodesArePlannedAlike =
+    (p : Program) (facts : Facts) (method : ℕ) (code : Code) (done : Planned) (m : Member) → code_at p method ≡ Some code
+    → AllByRecursion (IsOwnCode code) m.attributes → IsPlannedByFacts p facts method code done → IsShortEnough done
+    → IsAlike (full_plans p facts method) done m
