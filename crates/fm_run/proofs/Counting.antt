@@ -7,7 +7,6 @@ use Rattle.fm_frames.specs.States.{Areas, Frame, Moved, State}
 use Rattle.fm_frames.specs.Steps.{attempted, Caught, InFrames, Leaves, caught, continued, cost, done_by, finished, halted, input_after, is_deep, is_done, is_over, is_start, locals_of, next_effect, objects_made, returned, stack_of, step, stopped, thrown_by, type_at, words_made}
 use Rattle.fm_frames.specs.declared.ends.Ended.{Ended}
 use Rattle.fm_frames.specs.declared.ends.Ended.TheVariants as end
-use Rattle.fm_frames.specs.declared.values.Value.{Value}
 use Rattle.fm_files.specs.Sink.{FailsPut, Output}
 use Rattle.fm_frames.specs.declared.turns.Turn.{Turn}
 use Rattle.fm_frames.specs.declared.turns.Turn.TheVariants as turn

@@ -1,5 +1,5 @@
 -- A run that goes on step by step.
-use Rattle.std.proofs.Common.{◌≡◌, ◌⊎◌, inl, inr, ℕ, zero, suc, ◌+◌, ◌-◌, ◌^◌, ◌<◌, ◌≤◌, List, [], ◌∷◌, ◌++◌, Option, Some, None, refl, sym, ◌∙◌, ap, subst, arith, add-one, below_more, Result, Ok, Err, IsErrAnd, max, min, false, IsTrue, ◌↔◌}
+use Rattle.std.proofs.Common.{◌≡◌, inl, inr, ℕ, zero, suc, ◌+◌, ◌-◌, ◌^◌, ◌<◌, ◌≤◌, List, [], ◌∷◌, ◌++◌, Option, Some, None, refl, sym, ◌∙◌, ap, subst, arith, add-one, below_more, Result, Ok, Err, IsErrAnd, min, false, IsTrue, ◌↔◌}
 use Rattle.std.proofs.lemmas.List.{append-nil}
 use Rattle.std.proofs.lemmas.Option.{none-some}
 use Rattle.fm_ready.proofs.Standing.{costs_some}
@@ -10,7 +10,7 @@ use Rattle.fm_files.proofs.SinkLemmas.{with_piece-is, with_pieces-append, with_p
 use Rattle.fm_files.specs.Sink.{FailsPut, Output, with_piece, with_pieces}
 use Rattle.fm_frames.specs.Acts.{Choose}
 use Rattle.fm_frames.specs.Runs.{after, Goes}
-use Rattle.fm_frames.specs.States.{Frame, Moved, State}
+use Rattle.fm_frames.specs.States.{Moved, State}
 use Rattle.fm_frames.specs.Steps.{cost, step}
 use Rattle.fm_frames.specs.declared.ends.Ended.{Ended}
 use Rattle.fm_frames.specs.inner.Doings.{silent}

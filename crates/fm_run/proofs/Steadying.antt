@@ -1,13 +1,12 @@
 -- The state after a step is sound, and no more objects were made than the step costs.
-use Rattle.std.proofs.Common.{◌≡◌, ℕ, ◌+◌, ◌≤◌, None, refl, sym, ◌∙◌, ap, subst}
-use Rattle.fm_calls.specs.inner.Actions.{unmade}
+use Rattle.std.proofs.Common.{◌≡◌, sym, ap, subst}
 use Rattle.fm_cells.specs.Choices.{IsLawful}
 use Rattle.fm_cells.specs.Soundness as cells
 use Rattle.fm_cells.specs.Soundness.{CellsFit}
 use Rattle.fm_files.specs.Sink.{Output}
 use Rattle.fm_frames.specs.Acts.{Choose}
 use Rattle.fm_frames.specs.States.{Moved, State}
-use Rattle.fm_frames.specs.Steps.{cost, step}
+use Rattle.fm_frames.specs.Steps.{step}
 use Rattle.fm_nests.proofs.Grown.{step-makes}
 use Rattle.fm_ready.proofs.Loops.{steady}
 use Rattle.fm_ready.proofs.Standing.{standing}
