@@ -1,10 +1,12 @@
 -- What is planned by the facts of a program is what the definitions insert by them.
-use Rattle.std.specs.Prelude.{◌≡◌, ℕ, Some}
+use Rattle.std.specs.Prelude.{◌≡◌, ℕ, Bool, List, Some, None}
 use Rattle.std.specs.List.{AllByRecursion}
+use Rattle.fm_code.specs.Members.{code_of, MethodIsValid}
 use Rattle.fm_code.specs.declared.class_file.Member.{Member}
 use Rattle.fm_code.specs.declared.class_file.MemberAttr.{MemberAttr}
 use Rattle.fm_code.specs.declared.class_file.MemberAttr.TheVariants as attribute
 use Rattle.fm_code.specs.declared.code_array.Code.{Code}
+use Rattle.fm_code.specs.declared.constant_pool.Entry.{Entry}
 use Rattle.fm_conn.specs.Facts.{Facts}
 use Rattle.fm_place.specs.Safe.{full_plans}
 use Rattle.fm_rewrite.specs.Plans.{IsPlannedByFacts}
@@ -29,3 +31,10 @@ CodesArePlannedAlike =
     (p : Program) (facts : Facts) (method : ℕ) (code : Code) (done : Planned) (m : Member) → code_at p method ≡ Some code
     → AllByRecursion (IsOwnCode code) m.attributes → IsPlannedByFacts p facts method code done → IsShortEnough done
     → IsAlike (full_plans p facts method) done m
+
+-- the same of a method of a class file, with code or without
+abbrev pub MembersArePlannedAlike : Type 0
+MembersArePlannedAlike =
+    (in_interface : Bool) (entries : List Entry) (p : Program) (facts : Facts) (method : ℕ) (done : Planned) (m : Member) → MethodIsValid in_interface entries m
+    → code_at p method ≡ code_of m → ((code : Code) → code_at p method ≡ Some code → IsPlannedByFacts p facts method code done)
+    → (code_at p method ≡ None → done ≡ planned.Same) → IsShortEnough done → IsAlike (full_plans p facts method) done m
