@@ -1,5 +1,5 @@
 -- What is planned by the facts of a program is what the definitions insert by them.
-use Rattle.std.proofs.Common.{refl, ℕ, Option, ◌≤◌, ◌||◌, arith, ◌≡◌, sym, ◌∙◌, ap, subst, Bool, true, false, cond, List, [], ◌∷◌, Some, None}
+use Rattle.std.proofs.Common.{◌+◌, refl, ℕ, Option, ◌≤◌, ◌||◌, arith, ◌≡◌, sym, ◌∙◌, ap, subst, Bool, true, false, cond, List, [], ◌∷◌, Some, None}
 use Rattle.std.specs.Prelude.{nat_eq, nat_lt, option_and_then, option_map}
 use Rattle.std.specs.List.{AllByRecursion, count_by}
 use Rattle.std.proofs.lemmas.List.Sums.{sum_by-cons}
@@ -17,7 +17,7 @@ use Rattle.fm_place.specs.Insertions.{all_insertions, full_insertions, Insertion
 use Rattle.fm_place.specs.Safe.{full_plans}
 use Rattle.fm_place.specs.declared.plans.Plan.{Plan}
 use Rattle.fm_rewrite.proofs.FullPlanLemmas.{whole}
-use Rattle.fm_rewrite.specs.Alike.{CodesArePlannedAlike, MembersArePlannedAlike, IsOwnCode, IsShortEnough}
+use Rattle.fm_rewrite.specs.Alike.{ClassesArePlannedAlike, CodesArePlannedAlike, MembersArePlannedAlike, IsOwnCode, IsShortEnough}
 use Rattle.fm_weave.specs.ByPlan.{narrow_by}
 use Rattle.fm_weave.specs.ClassLaws.{IsAlike, IsPlanIn}
 use Rattle.fm_weave.specs.Laws.{IsWholePlan}
@@ -94,3 +94,12 @@ members_planned_alike in_interface entries p facts method done m valid coded by 
       codes_planned_alike p facts method code done m is
       (own_codes m code m.attributes (at_most_one (is_abstract m.flags || is_native m.flags) (count_by is_coded m.attributes) valid.coded) (sym coded ∙ is))
       (by code is) short
+
+pub classes_planned_alike : ClassesArePlannedAlike
+classes_planned_alike in_interface entries p facts first [] [] valid are = tt
+classes_planned_alike in_interface entries p facts first (d ∷ done) (m ∷ methods) valid are = (
+  members_planned_alike in_interface entries p facts first d m valid.0 are.0.coded are.0.by are.0.others are.0.short,
+  classes_planned_alike in_interface entries p facts (first + 1) done methods valid.1 are.1,
+)
+classes_planned_alike in_interface entries p facts first [] (m ∷ methods) valid are = absurd are
+classes_planned_alike in_interface entries p facts first (d ∷ done) [] valid are = absurd are

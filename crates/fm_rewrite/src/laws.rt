@@ -1,6 +1,6 @@
 // Laws of the definitions, each as the contract of a function that does nothing.
 
-ghost use Rattle.fm_rewrite.specs.Alike.{CodesArePlannedAlike, MembersArePlannedAlike};
+ghost use Rattle.fm_rewrite.specs.Alike.{ClassesArePlannedAlike, CodesArePlannedAlike, MembersArePlannedAlike};
 ghost use Rattle.fm_rewrite.specs.Plans.{FullPlansMayBeWoven, ProgramsHaveOldItems};
 
 /// The codes of a program of class files that may be analysed are made of items that can be laid out
@@ -20,4 +20,5 @@ pub fn law_full_plans()
 pub fn law_alike()
     ensures codes { CodesArePlannedAlike }
     ensures members { MembersArePlannedAlike }
+    ensures classes { ClassesArePlannedAlike }
 {}
