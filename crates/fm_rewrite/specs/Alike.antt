@@ -1,14 +1,16 @@
 -- What is planned by the facts of a program is what the definitions insert by them.
-use Rattle.std.specs.Prelude.{◌≡◌, ℕ, Some}
+use Rattle.std.specs.Prelude.{[], ◌∷◌, ◌+◌, ◌≡◌, ℕ, Bool, List, Some, None}
 use Rattle.std.specs.List.{AllByRecursion}
+use Rattle.fm_code.specs.Members.{code_of, MethodIsValid}
 use Rattle.fm_code.specs.declared.class_file.Member.{Member}
 use Rattle.fm_code.specs.declared.class_file.MemberAttr.{MemberAttr}
 use Rattle.fm_code.specs.declared.class_file.MemberAttr.TheVariants as attribute
 use Rattle.fm_code.specs.declared.code_array.Code.{Code}
+use Rattle.fm_code.specs.declared.constant_pool.Entry.{Entry}
 use Rattle.fm_conn.specs.Facts.{Facts}
 use Rattle.fm_place.specs.Safe.{full_plans}
 use Rattle.fm_rewrite.specs.Plans.{IsPlannedByFacts}
-use Rattle.fm_weave.specs.ClassLaws.{IsAlike}
+use Rattle.fm_weave.specs.ClassLaws.{AreAlike, IsAlike}
 use Rattle.fm_weave.specs.declared.planned.Planned.{Planned}
 use Rattle.fm_weave.specs.declared.planned.Planned.TheVariants as planned
 use Rattle.fm_world.specs.Programs.{code_at, Program}
@@ -29,3 +31,30 @@ CodesArePlannedAlike =
     (p : Program) (facts : Facts) (method : ℕ) (code : Code) (done : Planned) (m : Member) → code_at p method ≡ Some code
     → AllByRecursion (IsOwnCode code) m.attributes → IsPlannedByFacts p facts method code done → IsShortEnough done
     → IsAlike (full_plans p facts method) done m
+
+-- the same of a method of a class file, with code or without
+abbrev pub MembersArePlannedAlike : Type 0
+MembersArePlannedAlike =
+    (in_interface : Bool) (entries : List Entry) (p : Program) (facts : Facts) (method : ℕ) (done : Planned) (m : Member) → MethodIsValid in_interface entries m
+    → code_at p method ≡ code_of m → ((code : Code) → code_at p method ≡ Some code → IsPlannedByFacts p facts method code done)
+    → (code_at p method ≡ None → done ≡ planned.Same) → IsShortEnough done → IsAlike (full_plans p facts method) done m
+
+-- a method of a class file has this number in the program, and is planned by its facts
+pub record IsPlannedAt (p : Program) (facts : Facts) (method : ℕ) (done : Planned) (m : Member) : Type 0 where
+  pub coded : code_at p method ≡ code_of m
+  pub by : (code : Code) → code_at p method ≡ Some code → IsPlannedByFacts p facts method code done
+  pub others : code_at p method ≡ None → done ≡ planned.Same
+  pub short : IsShortEnough done
+
+-- the same of the methods of a class, from a number on
+abbrev pub ArePlannedFrom : Program → Facts → ℕ → List Planned → List Member → Type 0
+ArePlannedFrom p facts first [] [] = Unit {0}
+ArePlannedFrom p facts first (d ∷ done) (m ∷ methods) = IsPlannedAt p facts first d m × ArePlannedFrom p facts (first + 1) done methods
+ArePlannedFrom p facts first done methods = ⊥
+
+-- all methods of a class are planned as the definitions say
+abbrev pub ClassesArePlannedAlike : Type 0
+ClassesArePlannedAlike =
+    (in_interface : Bool) (entries : List Entry) (p : Program) (facts : Facts) (first : ℕ) (done : List Planned) (methods : List Member)
+    → AllByRecursion (MethodIsValid in_interface entries) methods → ArePlannedFrom p facts first done methods
+    → AreAlike (full_plans p facts) first done methods
