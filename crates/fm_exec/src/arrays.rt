@@ -15,8 +15,8 @@ use fm_code::Elem;
 use fm_frames::{Machine, NEGATIVE_ARRAY_SIZE_EXCEPTION, Value};
 use fm_world::Program;
 
-// How many elements a count means; none where it is negative.
-fn len_of(count: i32) -> Option<u32>
+/// How many elements a count means; none where it is negative.
+pub fn len_of(count: i32) -> Option<u32>
     ensures value { result ≡ (if int_lt count (pos 0) then None else Some (unsigned_abs count)) }
     ensures fits { IfSome result (λ len. len < 2 ^ 31) }
 {

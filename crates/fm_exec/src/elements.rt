@@ -167,8 +167,8 @@ pub fn array_store<M: Memory>(
     Ok(())
 }
 
-// The type of an array's elements.
-fn element_type(t: TypeRef) -> TypeRef
+/// The type of an array's elements.
+pub fn element_type(t: TypeRef) -> TypeRef
     ensures { result ≡ element_type t }
 {
     TypeRef {

@@ -36,4 +36,12 @@ impl<M: Memory> Machine<M> {
     {
         self.steps += 1;
     }
+
+    /// Counts so many steps. Takes no memory.
+    pub fn count_steps(&mut self, steps: u64)
+        requires { self.old.steps + steps < 2 ^ 64 }
+        ensures { self.new ≡ record self.old { steps = self.old.steps + steps } }
+    {
+        self.steps += steps;
+    }
 }

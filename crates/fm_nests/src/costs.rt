@@ -12,10 +12,10 @@ ghost use Rattle.fm_nests.specs.inner.Counts.{arrays_on};
 ghost use Rattle.fm_types.specs.Typed.{use_in};
 ghost use Rattle.fm_world.specs.Members.{methods_of};
 
-use crate::counts::len_of;
 use fm_base::MethodId;
 use fm_cells::Memory;
 use fm_code::Insn;
+use fm_exec::len_of;
 use fm_frames::{Machine, code_of};
 use fm_world::{Program, Use};
 

@@ -1,12 +1,13 @@
 // The counts of the dimensions, which lie on the stack with the innermost on top.
 
-ghost use Rattle.std.specs.Prelude.{◌≡◌, ◌<◌, ◌^◌, pos, int_lt, unsigned_abs, if◌then◌else◌, None, Some, IfOk, IfSome};
+ghost use Rattle.std.specs.Prelude.{◌≡◌, IfOk};
 ghost use Rattle.std.specs.Option.{option_map};
 ghost use Rattle.fm_frames.specs.Steps.{stack_of};
 ghost use Rattle.fm_nests.specs.inner.Counts.{ints_on, Lens};
 
 use fm_base::NoMemory;
 use fm_cells::Memory;
+use fm_exec::len_of;
 use fm_frames::Machine;
 use std::alloc::Global;
 
@@ -29,18 +30,6 @@ pub(crate) fn counts_on<M: Memory>(
         counts.push(count)?;
     }
     Ok(Some(counts))
-}
-
-/// How many elements a count means; none where it is negative.
-pub(crate) fn len_of(count: i32) -> Option<u32>
-    ensures value { result ≡ (if int_lt count (pos 0) then None else Some (unsigned_abs count)) }
-    ensures fits { IfSome result (λ len. len < 2 ^ 31) }
-{
-    if count < 0 {
-        None
-    } else {
-        Some(count.unsigned_abs())
-    }
 }
 
 /// The lengths that counts mean; none where one is negative.

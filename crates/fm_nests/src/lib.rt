@@ -6,7 +6,6 @@ mod costs;
 mod counts;
 mod nests;
 mod rows;
-mod steps;
 
 pub use costs::cost;
 pub use rows::multi_array;

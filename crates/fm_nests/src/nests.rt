@@ -2,25 +2,15 @@
 
 ghost use Rattle.std.specs.Prelude.{◌≡◌, ◌<◌, ◌^◌, min, IfOk};
 ghost use Rattle.std.specs.List.{AllByRecursion};
-ghost use Rattle.fm_frames.specs.ArrayRows.{element_type};
 ghost use Rattle.fm_frames.specs.Runnable.{IsRunnable};
 ghost use Rattle.fm_frames.specs.Steps.{most_words};
 ghost use Rattle.fm_nests.specs.inner.Nests.{CanNest, Nests, nest_words};
 
 use fm_base::{Kind, NoMemory, TypeRef};
 use fm_cells::{Cell, Memory};
+use fm_exec::element_type;
 use fm_frames::{Machine, Value, object_words, pack_of, type_id};
 use fm_world::Program;
-
-// The type of an array's elements.
-fn element_type(t: TypeRef) -> TypeRef
-    ensures { result ≡ element_type t }
-{
-    TypeRef {
-        dims: t.dims.saturating_sub(1),
-        base: t.base,
-    }
-}
 
 /// The words of arrays of arrays of these lengths, at most the greatest 64-bit number.
 pub(crate) fn nest_words(program: &Program, t: TypeRef, lens: &[u32]) -> u64

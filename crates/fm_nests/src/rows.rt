@@ -10,7 +10,6 @@ ghost use Rattle.fm_world.specs.declared.uses.Use.TheVariants as used;
 
 use crate::counts::{counts_on, lens_of};
 use crate::nests::{make_nest, nest_words};
-use crate::steps::count_steps;
 use fm_base::{NoMemory, TypeId, TypeRef};
 use fm_cells::Memory;
 use fm_frames::{Machine, NEGATIVE_ARRAY_SIZE_EXCEPTION, Value};
@@ -40,7 +39,7 @@ fn give_nest<M: Memory>(
         return Ok(());
     };
     let made = machine.births() - before;
-    count_steps(machine, made - 1);
+    machine.count_steps(made - 1);
     machine.give(takes, Value::Ref(array))
 }
 

@@ -55,7 +55,7 @@ give-requires g c =
     let begun : Underway p g.M.Memory.choose x b e [] e.actions =
     c.if-not-reserve.ensures.told p g.M.Memory.choose e refl (nest-made p.outline x.areas c.args.takes t lens ∙ sym c.nest_words-words.ensures) in
     let nest : IsNest p g.M.Memory.choose b y t lens c.in-Some.array.0 = subst (Nests p g.M.Memory.choose b y t lens) c.in-Some.is c.in_ok-array.ensures in
-    nest-ready p g.M.Memory.choose x y c.count_steps.new.machine e (c.in-Some.array.0 ∷ nest.others) [] t lens (c.births.result - c.births-before.result)
+    nest-ready p g.M.Memory.choose x y c.count_steps.new.self e (c.in-Some.array.0 ∷ nest.others) [] t lens (c.births.result - c.births-before.result)
     c.requires.can.ready.next_fits c.requires.fits
     (nest-done p g.M.Memory.choose x b y c.args.takes t lens c.in-Some.array.0 begun nest)
     (nest-count p g.M.Memory.choose b y t lens c.in-Some.array.0 c.births-before.result c.births.result nest c.births-before.ensures.value c.births.ensures.value)
@@ -74,7 +74,7 @@ returns g c =
     c.if-not-reserve.ensures.told p g.M.Memory.choose e refl (nest-made p.outline x.areas c.args.takes t lens ∙ sym c.nest_words-words.ensures) in
     let nest : IsNest p g.M.Memory.choose b y t lens c.in-Some.array.0 = subst (Nests p g.M.Memory.choose b y t lens) c.in-Some.is c.in_ok-array.ensures in
     told-ok c.give.result _ _
-    (λ given. nest-whole p g.M.Memory.choose x y c.count_steps.new.machine c.give.new.self c.args.takes t lens c.in-Some.array.0 nest.others
+    (λ given. nest-whole p g.M.Memory.choose x y c.count_steps.new.self c.give.new.self c.args.takes t lens c.in-Some.array.0 nest.others
     (c.births.result - c.births-before.result) c.requires.can.ready.next_fits c.requires.fits.are.some
     (nest-done p g.M.Memory.choose x b y c.args.takes t lens c.in-Some.array.0 begun nest)
     (nest-count p g.M.Memory.choose b y t lens c.in-Some.array.0 c.births-before.result c.births.result nest c.births-before.ensures.value c.births.ensures.value)
