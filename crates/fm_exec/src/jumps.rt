@@ -17,6 +17,7 @@ use fm_frames::{Look, Machine};
 use fm_world::Program;
 
 // Whether the test holds of two ints.
+#[inline]
 fn holds(test: Test, a: i32, b: i32) -> bool
     ensures { result ≡ holds test a b }
 {
@@ -31,6 +32,7 @@ fn holds(test: Test, a: i32, b: i32) -> bool
 }
 
 // Takes so many words, and goes on at the instruction's one target or at the next item.
+#[inline]
 fn branch<M: Memory>(machine: &mut Machine<M>, takes: usize, taken: bool, target: u32)
     requires { IsReady machine.old }
     ensures { (p : world.Program) (choose : Choose) → IsTarget p machine.old 0 target
@@ -44,6 +46,7 @@ fn branch<M: Memory>(machine: &mut Machine<M>, takes: usize, taken: bool, target
 }
 
 /// ifeq and its like: an int and 0.
+#[inline]
 pub fn if_int<M: Memory>(machine: &mut Machine<M>, program: &Program, test: Test, target: u32)
     requires can { CanStep program.now machine.old }
     requires at { IsAt program.now machine.old (insn.IfInt test target) }
@@ -58,6 +61,7 @@ pub fn if_int<M: Memory>(machine: &mut Machine<M>, program: &Program, test: Test
 }
 
 /// if_icmpeq and its like: two ints.
+#[inline]
 pub fn if_pair<M: Memory>(machine: &mut Machine<M>, program: &Program, test: Test, target: u32)
     requires can { CanStep program.now machine.old }
     requires at { IsAt program.now machine.old (insn.IfPair test target) }
@@ -76,6 +80,7 @@ pub fn if_pair<M: Memory>(machine: &mut Machine<M>, program: &Program, test: Tes
 }
 
 /// if_acmpeq, and with `false` if_acmpne.
+#[inline]
 pub fn if_same<M: Memory>(machine: &mut Machine<M>, program: &Program, same: bool, target: u32)
     requires can { CanStep program.now machine.old }
     requires at { IsAt program.now machine.old (insn.IfSame same target) }
@@ -86,6 +91,7 @@ pub fn if_same<M: Memory>(machine: &mut Machine<M>, program: &Program, same: boo
 }
 
 /// ifnull, and with `false` ifnonnull.
+#[inline]
 pub fn if_null<M: Memory>(machine: &mut Machine<M>, program: &Program, null: bool, target: u32)
     requires can { CanStep program.now machine.old }
     requires at { IsAt program.now machine.old (insn.IfNull null target) }
@@ -102,6 +108,7 @@ pub fn if_null<M: Memory>(machine: &mut Machine<M>, program: &Program, null: boo
 }
 
 /// goto.
+#[inline]
 pub fn go_to<M: Memory>(machine: &mut Machine<M>, program: &Program, target: u32)
     requires can { CanStep program.now machine.old }
     requires at { IsAt program.now machine.old (insn.Goto target) }
@@ -112,6 +119,7 @@ pub fn go_to<M: Memory>(machine: &mut Machine<M>, program: &Program, target: u32
 }
 
 // The item of a key: of the keys from the least one on in order, and of all others.
+#[inline]
 fn table_item(low: i32, others: u32, targets: &[u32], key: i32) -> u32
     ensures { slice_get (others ∷ targets.now) (table_target low (length targets.now) key) ≡ Some result }
 {
@@ -126,6 +134,7 @@ fn table_item(low: i32, others: u32, targets: &[u32], key: i32) -> u32
 }
 
 /// tableswitch.
+#[inline]
 pub fn table_switch<M: Memory>(
     machine: &mut Machine<M>,
     program: &Program,
@@ -147,6 +156,7 @@ pub fn table_switch<M: Memory>(
 }
 
 // The place of the first of the keys that is this one.
+#[inline]
 fn key_place(keys: &[i32], key: i32) -> Option<usize>
     ensures { result ≡ position (int_eq key) keys.now }
 {
@@ -154,6 +164,7 @@ fn key_place(keys: &[i32], key: i32) -> Option<usize>
 }
 
 // The item of a key, which is looked for among as many of the first keys as there are targets.
+#[inline]
 fn key_item(others: u32, keys: &[i32], targets: &[u32], key: i32) -> u32
     ensures { slice_get (others ∷ targets.now)
         (key_target (position (int_eq key) (take (length targets.now) keys.now))) ≡ Some result }
@@ -166,6 +177,7 @@ fn key_item(others: u32, keys: &[i32], targets: &[u32], key: i32) -> u32
 }
 
 /// lookupswitch.
+#[inline]
 pub fn lookup_switch<M: Memory>(
     machine: &mut Machine<M>,
     program: &Program,

@@ -15,6 +15,7 @@ use fm_frames::{ARITHMETIC_EXCEPTION, Machine, Value};
 use fm_world::Program;
 
 /// iadd, isub, imul, idiv, irem, iand, ior and ixor.
+#[inline]
 pub fn int_op<M: Memory>(
     machine: &mut Machine<M>,
     program: &Program,
@@ -39,6 +40,7 @@ pub fn int_op<M: Memory>(
 }
 
 /// ladd, lsub, lmul, ldiv, lrem, land, lor and lxor.
+#[inline]
 pub fn long_op<M: Memory>(
     machine: &mut Machine<M>,
     program: &Program,
@@ -63,6 +65,7 @@ pub fn long_op<M: Memory>(
 }
 
 // An int with its sign turned; the least one is its own.
+#[inline]
 fn negated_int(a: i32) -> i32
     ensures { result ≡ signed 32 (pos 0 -ℤ a) }
 {
@@ -70,6 +73,7 @@ fn negated_int(a: i32) -> i32
 }
 
 /// ineg.
+#[inline]
 pub fn int_negate<M: Memory>(machine: &mut Machine<M>, program: &Program) -> Result<(), NoMemory>
     requires { CanStep program.now machine.old }
     ensures { OnOk result (Steps program.now M.choose machine.old machine.new
@@ -83,6 +87,7 @@ pub fn int_negate<M: Memory>(machine: &mut Machine<M>, program: &Program) -> Res
 }
 
 // A long with its sign turned; the least one is its own.
+#[inline]
 fn negated_long(a: i64) -> i64
     ensures { result ≡ signed 64 (pos 0 -ℤ a) }
 {
@@ -90,6 +95,7 @@ fn negated_long(a: i64) -> i64
 }
 
 /// lneg.
+#[inline]
 pub fn long_negate<M: Memory>(machine: &mut Machine<M>, program: &Program) -> Result<(), NoMemory>
     requires { CanStep program.now machine.old }
     ensures { OnOk result (Steps program.now M.choose machine.old machine.new
@@ -103,6 +109,7 @@ pub fn long_negate<M: Memory>(machine: &mut Machine<M>, program: &Program) -> Re
 }
 
 /// ishl, ishr and iushr: the count is on top.
+#[inline]
 pub fn int_shift<M: Memory>(
     machine: &mut Machine<M>,
     program: &Program,
@@ -124,6 +131,7 @@ pub fn int_shift<M: Memory>(
 }
 
 /// lshl, lshr and lushr: the count is on top.
+#[inline]
 pub fn long_shift<M: Memory>(
     machine: &mut Machine<M>,
     program: &Program,
@@ -145,6 +153,7 @@ pub fn long_shift<M: Memory>(
 }
 
 /// lcmp.
+#[inline]
 pub fn long_compare<M: Memory>(machine: &mut Machine<M>, program: &Program) -> Result<(), NoMemory>
     requires { CanStep program.now machine.old }
     ensures { OnOk result (Steps program.now M.choose machine.old machine.new
@@ -162,6 +171,7 @@ pub fn long_compare<M: Memory>(machine: &mut Machine<M>, program: &Program) -> R
 }
 
 // i2b, i2c and i2s, whose results are ints.
+#[inline]
 fn convert_int<M: Memory>(
     machine: &mut Machine<M>,
     program: &Program,
@@ -181,6 +191,7 @@ fn convert_int<M: Memory>(
 }
 
 // i2l.
+#[inline]
 fn widen<M: Memory>(machine: &mut Machine<M>, program: &Program) -> Result<(), NoMemory>
     requires { CanStep program.now machine.old }
     ensures { OnOk result (Steps program.now M.choose machine.old machine.new
@@ -194,6 +205,7 @@ fn widen<M: Memory>(machine: &mut Machine<M>, program: &Program) -> Result<(), N
 }
 
 // l2i.
+#[inline]
 fn narrow<M: Memory>(machine: &mut Machine<M>, program: &Program) -> Result<(), NoMemory>
     requires { CanStep program.now machine.old }
     ensures { OnOk result (Steps program.now M.choose machine.old machine.new
@@ -208,6 +220,7 @@ fn narrow<M: Memory>(machine: &mut Machine<M>, program: &Program) -> Result<(), 
 }
 
 /// i2l, l2i, i2b, i2c and i2s.
+#[inline]
 pub fn convert<M: Memory>(
     machine: &mut Machine<M>,
     program: &Program,

@@ -12,6 +12,7 @@ use fm_frames::Machine;
 use fm_world::Program;
 
 /// pop. Takes no memory.
+#[inline]
 pub fn pop<M: Memory>(machine: &mut Machine<M>, program: &Program)
     requires { CanStep program.now machine.old }
     ensures { Steps program.now M.choose machine.old machine.new (move_effect insn.Pop) }
@@ -21,6 +22,7 @@ pub fn pop<M: Memory>(machine: &mut Machine<M>, program: &Program)
 }
 
 /// pop2. Takes no memory.
+#[inline]
 pub fn pop2<M: Memory>(machine: &mut Machine<M>, program: &Program)
     requires { CanStep program.now machine.old }
     ensures { Steps program.now M.choose machine.old machine.new (move_effect insn.Pop2) }
@@ -30,6 +32,7 @@ pub fn pop2<M: Memory>(machine: &mut Machine<M>, program: &Program)
 }
 
 /// dup.
+#[inline]
 pub fn dup<M: Memory>(machine: &mut Machine<M>, program: &Program) -> Result<(), NoMemory>
     requires { CanStep program.now machine.old }
     ensures { OnOk result (Steps program.now M.choose machine.old machine.new (move_effect insn.Dup)) }
@@ -40,6 +43,7 @@ pub fn dup<M: Memory>(machine: &mut Machine<M>, program: &Program) -> Result<(),
 }
 
 /// dup_x1.
+#[inline]
 pub fn dup_x1<M: Memory>(machine: &mut Machine<M>, program: &Program) -> Result<(), NoMemory>
     requires { CanStep program.now machine.old }
     ensures { OnOk result (Steps program.now M.choose machine.old machine.new (move_effect insn.DupX1)) }
@@ -51,6 +55,7 @@ pub fn dup_x1<M: Memory>(machine: &mut Machine<M>, program: &Program) -> Result<
 }
 
 /// dup_x2.
+#[inline]
 pub fn dup_x2<M: Memory>(machine: &mut Machine<M>, program: &Program) -> Result<(), NoMemory>
     requires { CanStep program.now machine.old }
     ensures { OnOk result (Steps program.now M.choose machine.old machine.new (move_effect insn.DupX2)) }
@@ -63,6 +68,7 @@ pub fn dup_x2<M: Memory>(machine: &mut Machine<M>, program: &Program) -> Result<
 }
 
 /// dup2.
+#[inline]
 pub fn dup2<M: Memory>(machine: &mut Machine<M>, program: &Program) -> Result<(), NoMemory>
     requires { CanStep program.now machine.old }
     ensures { OnOk result (Steps program.now M.choose machine.old machine.new (move_effect insn.Dup2)) }
@@ -74,6 +80,7 @@ pub fn dup2<M: Memory>(machine: &mut Machine<M>, program: &Program) -> Result<()
 }
 
 /// dup2_x1.
+#[inline]
 pub fn dup2_x1<M: Memory>(machine: &mut Machine<M>, program: &Program) -> Result<(), NoMemory>
     requires { CanStep program.now machine.old }
     ensures { OnOk result (Steps program.now M.choose machine.old machine.new (move_effect insn.Dup2X1)) }
@@ -86,6 +93,7 @@ pub fn dup2_x1<M: Memory>(machine: &mut Machine<M>, program: &Program) -> Result
 }
 
 /// dup2_x2.
+#[inline]
 pub fn dup2_x2<M: Memory>(machine: &mut Machine<M>, program: &Program) -> Result<(), NoMemory>
     requires { CanStep program.now machine.old }
     ensures { OnOk result (Steps program.now M.choose machine.old machine.new (move_effect insn.Dup2X2)) }
@@ -99,6 +107,7 @@ pub fn dup2_x2<M: Memory>(machine: &mut Machine<M>, program: &Program) -> Result
 }
 
 /// swap.
+#[inline]
 pub fn swap<M: Memory>(machine: &mut Machine<M>, program: &Program) -> Result<(), NoMemory>
     requires { CanStep program.now machine.old }
     ensures { OnOk result (Steps program.now M.choose machine.old machine.new (move_effect insn.Swap)) }

@@ -85,6 +85,7 @@ impl Frames {
     }
 
     /// The operand at this place, counted from the top; none where there are fewer.
+    #[inline]
     pub fn operand(&self, place: usize) -> Option<Value>
         ensures { result ≡ slice_get (stack_in self.now) place }
     {
@@ -98,6 +99,7 @@ impl Frames {
     }
 
     /// The local at this place; no value where there is none.
+    #[inline]
     pub fn local(&self, place: usize) -> Value
         ensures { result ≡ word_at (locals_in self.now) place }
     {
@@ -112,6 +114,7 @@ impl Frames {
     }
 
     /// Puts a word on top of the stack.
+    #[inline]
     pub fn push(&mut self, value: Value) -> Result<(), NoMemory>
         ensures { OnOk result (self.new ≡ on_top (λ f. record f { stack = value ∷ f.stack }) self.old) }
     {
@@ -120,6 +123,7 @@ impl Frames {
     }
 
     /// Takes words off the stack.
+    #[inline]
     pub fn drop_words(&mut self, count: usize)
         ensures { self.new ≡ on_top (λ f. record f { stack = drop count f.stack }) self.old }
     {
@@ -131,6 +135,7 @@ impl Frames {
     }
 
     /// Gives a local this value, if there is that local.
+    #[inline]
     pub fn set_local(&mut self, place: usize, value: Value)
         ensures { self.new ≡ on_top (λ f. record f { locals = slice_set f.locals place value }) self.old }
     {
@@ -143,6 +148,7 @@ impl Frames {
     }
 
     /// Makes this item the next one.
+    #[inline]
     pub fn go_to(&mut self, item: usize)
         ensures { self.new ≡ on_top (λ f. record f { item = item }) self.old }
     {
@@ -152,6 +158,7 @@ impl Frames {
     }
 
     /// Makes the item after this one the next.
+    #[inline]
     pub fn advance(&mut self)
         requires { NextFits self.old }
         ensures { self.new ≡ on_top (λ f. record f { item = f.item + 1 }) self.old }
@@ -165,6 +172,7 @@ impl Frames {
     }
 
     /// The cursor of the topmost frame; none where there are no frames.
+    #[inline]
     pub fn topmost(&self) -> Option<Cursor>
         ensures { option_map place result ≡ option_map place_of (spec.topmost self.now) }
     {
@@ -173,6 +181,7 @@ impl Frames {
     }
 
     /// How many frames there are.
+    #[inline]
     pub fn count(&self) -> usize
         ensures { result ≡ length self.now }
     {

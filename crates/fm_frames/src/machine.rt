@@ -1,6 +1,6 @@
 // The machine: a state of the run over any memory.
 
-ghost use Rattle.std.specs.Prelude.{◌≡◌, slice_get};
+ghost use Rattle.std.specs.Prelude.{◌≡◌, [], slice_get};
 ghost use Rattle.std.specs.Option.{option_map};
 ghost use Rattle.fm_frames.specs.States.{word_at};
 ghost use Rattle.fm_frames.specs.Steps.{locals_of, stack_of};
@@ -12,7 +12,9 @@ use crate::frames::{Cursor, Frames};
 use crate::values::Value;
 use fm_base::Row;
 use fm_cells::{Cell, Memory};
+use std::alloc::Global;
 use std::marker::Model;
+use std::mem::replace;
 
 /// A machine: its frames, what they share, and how far the run has come. Contracts see its state.
 #[derive(Drop)]
@@ -64,6 +66,7 @@ impl<M: Memory> Model for Machine<M> {
 
 impl<M: Memory> Machine<M> {
     /// The operand at this place, counted from the top; none where there are fewer. Takes no memory.
+    #[inline]
     pub fn operand(&self, place: usize) -> Option<Value>
         ensures { result ≡ slice_get (stack_of self.now) place }
     {
@@ -71,6 +74,7 @@ impl<M: Memory> Machine<M> {
     }
 
     /// The word at this place of the stack; no value where there is none. Takes no memory.
+    #[inline]
     pub fn word(&self, place: usize) -> Value
         ensures { result ≡ word_at (stack_of self.now) place }
     {
@@ -81,6 +85,7 @@ impl<M: Memory> Machine<M> {
     }
 
     /// The int at this place of the stack; none where there is no int. Takes no memory.
+    #[inline]
     pub fn int_operand(&self, place: usize) -> Option<i32>
         ensures { result ≡ int_in (slice_get (stack_of self.now) place) }
     {
@@ -91,6 +96,7 @@ impl<M: Memory> Machine<M> {
     }
 
     /// The long at this place of the stack; none where there is no long. Takes no memory.
+    #[inline]
     pub fn long_operand(&self, place: usize) -> Option<i64>
         ensures { result ≡ long_in (slice_get (stack_of self.now) place) }
     {
@@ -101,6 +107,7 @@ impl<M: Memory> Machine<M> {
     }
 
     /// The local at this place; no value where there is none. Takes no memory.
+    #[inline]
     pub fn local(&self, place: usize) -> Value
         ensures { result ≡ word_at (locals_of self.now) place }
     {
@@ -109,6 +116,7 @@ impl<M: Memory> Machine<M> {
 
     /// Where the topmost frame stands: its method, and the item that is next. None where there are no
     /// frames. Takes no memory.
+    #[inline]
     pub fn topmost(&self) -> Option<Cursor>
         ensures { option_map place result ≡ option_map place_of (topmost self.now.frames) }
     {
@@ -116,9 +124,27 @@ impl<M: Memory> Machine<M> {
     }
 
     /// The steps that were done. Takes no memory.
+    #[inline]
     pub fn steps(&self) -> u64
         ensures { result ≡ self.now.steps }
     {
         self.steps
+    }
+
+    /// Takes the frames out, to be worked on by themselves; the machine has none till they are put in
+    /// again.
+    pub fn take_frames(&mut self, alloc: Global) -> Frames
+        ensures frames { result ≡ self.old.frames }
+        ensures rest { self.new ≡ record self.old { frames = [] } }
+    {
+        replace(&mut self.frames, Frames::new(alloc))
+    }
+
+    /// Puts frames in, with which so many steps are done in all.
+    pub fn put_frames(&mut self, frames: Frames, steps: u64)
+        ensures { self.new ≡ record self.old { frames = frames; steps = steps } }
+    {
+        self.frames = frames;
+        self.steps = steps;
     }
 }
