@@ -5,6 +5,7 @@ use Rattle.fm_base.specs.declared.limits.TheConstants.{MAX_CLASS_FILES}
 use Rattle.fm_code.specs.Profile.{IsSupported}
 use Rattle.fm_code.specs.Spells.{HasSpelling}
 use Rattle.fm_code.specs.declared.class_file.ClassDef.{ClassDef}
+use Rattle.fm_paired.specs.Reuses.{DoesTheSameOnMemories, RunsTheSameOnMemories}
 use Rattle.fm_paired.specs.Runs.{EndsAlikeOnMemories, GoesAlikeOnMemories, IsTheSameOnMemories, IsWithoutFrees}
 use Rattle.fm_same.specs.Resolved.{CallsNoFreeMe}
 use Rattle.fm_sound.specs.Sound.{AreTyped, Typings}
@@ -26,3 +27,10 @@ LinkedGoesAlike =
     (given : List ClassDef) (main : List ℕ) → AllByRecursion HasSpelling given → AllByRecursion IsSupported given → refusals given main ≡ []
     → length given ≤ MAX_CLASS_FILES → (typings : Typings) → AreTyped (program_of given main) typings → CallsNoFreeMe (program_of given main)
     → GoesAlikeOnMemories (program_of given main) × IsTheSameOnMemories (program_of given main) × EndsAlikeOnMemories (program_of given main)
+
+-- And on two memories that both have limits on their stores, with the same budget of words and room for twice as many, it prints the same and ends alike.
+abbrev pub LinkedDoesTheSame : Type 0
+LinkedDoesTheSame =
+    (given : List ClassDef) (main : List ℕ) → AllByRecursion HasSpelling given → AllByRecursion IsSupported given → refusals given main ≡ []
+    → length given ≤ MAX_CLASS_FILES → (typings : Typings) → AreTyped (program_of given main) typings → CallsNoFreeMe (program_of given main)
+    → DoesTheSameOnMemories (program_of given main) × RunsTheSameOnMemories (program_of given main)

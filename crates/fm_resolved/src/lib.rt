@@ -14,9 +14,13 @@ ghost use Rattle.fm_resolved.specs.Makes.{
   MakesOfProgramsAreLinked,
   MakesOfProgramsAreResolved,
 };
-ghost use Rattle.fm_resolved.specs.TwoMemories.{LinkedGoesAlike, LinkedIsWithoutFrees};
+ghost use Rattle.fm_resolved.specs.TwoMemories.{
+  LinkedDoesTheSame,
+  LinkedGoesAlike,
+  LinkedIsWithoutFrees,
+};
 
-use fm_paired::{law_hidden, law_runs};
+use fm_paired::{law_hidden, law_memories, law_runs};
 use fm_same::{law_dead_regions, law_targets};
 use fm_world::law_class_types;
 
@@ -112,8 +116,10 @@ pub fn law_without_frees()
 /// The law of one program on two memories: such a program prints the same and ends alike on memory
 /// that is never reused and on memory that reuses cells in any way.
 pub fn law_two_memories()
-    ensures { LinkedGoesAlike }
+    ensures alike { LinkedGoesAlike }
+    ensures limited { LinkedDoesTheSame }
 {
     law_without_frees();
     law_runs();
+    law_memories();
 }
