@@ -1,5 +1,5 @@
 -- Two memories with limits are compared by a third one without: what is the same on it as on each of them is the same on both.
-use Rattle.std.proofs.Common.{◌≡◌, ℕ, Option, None, Some, refl, sym, ◌∙◌, ap, subst}
+use Rattle.std.proofs.Common.{ℕ, Option, None, Some, refl, sym, ◌∙◌, ap, subst}
 use Rattle.fm_cells.specs.Choices.{lawful}
 use Rattle.fm_cells.specs.Stores.{opened, Store}
 use Rattle.fm_world.specs.Programs.{Outline}
