@@ -89,7 +89,7 @@ module _ (p : Program) (ready : CellsAreResolved p) (store : Store) (f : Frame) 
 
   content_leads : (t : TypeRef) (content : List ℕ) → (content ≡ []) ⊎ (t ≡ text_type o) → (content ≡ []) ⊎ HoldsNoCell o t
   content_leads t content (inl none) = inl none
-  content_leads t content (inr text) = inr (subst (HoldsNoCell o) (sym text) ready.text_plain)
+  content_leads t content (inr text) = inr (subst (HoldsNoCell o) (sym text) ready.built_in.text_plain)
 
   -- ---- puts
 
@@ -103,9 +103,9 @@ module _ (p : Program) (ready : CellsAreResolved p) (store : Store) (f : Frame) 
   place_takes types t place k v fits suits = record {
     reference = λ u is. reference_leads types k u v (same_Some k (kind.Ref u) (sym fits.kind ∙ is)) suits;
     text = λ first has.
-        let text : k ≡ text_kind o = same_Some k (text_kind o) (sym fits.kind ∙ ap (λ n. kind_of n) first ∙ ready.hidden t has) in
+        let text : k ≡ text_kind o = same_Some k (text_kind o) (sym fits.kind ∙ ap (λ n. kind_of n) first ∙ ready.places.hidden t has) in
         let leads = reference_leads types k (text_type o) v text suits in
-        (leads.0, source_weaker types (λ w. fits_type o.classes w (text_type o)) (is_text_type o) ready.texts v leads.1);
+        (leads.0, source_weaker types (λ w. fits_type o.classes w (text_type o)) (is_text_type o) ready.places.texts v leads.1);
   } where
     kind_of : ℕ → Option Kind
     kind_of n = kind_at o.classes t n
@@ -132,7 +132,7 @@ module _ (p : Program) (ready : CellsAreResolved p) (store : Store) (f : Frame) 
       (numbered t len content fit.0, content_leads t content suit.0, acts_lead more (types ++ t ∷ []) fit.1 suit.1)
   acts_lead (MakeFixed t ∷ more) types fit suit = (numbered t 0 [] fit.0, suit.0, acts_lead more (types ++ t ∷ []) fit.1 suit.1)
   acts_lead (MakeLiteral text ∷ more) types fit suit =
-      (numbered (text_type o) _ (literal_text o text) fit.0, ready.text_plain, acts_lead more types fit.1 suit)
+      (numbered (text_type o) _ (literal_text o text) fit.0, ready.built_in.text_plain, acts_lead more types fit.1 suit)
   acts_lead (Put object place k v ∷ more) types fit suit =
       (put_leads types object place k v fit.0 suit.0, acts_lead more types fit.2 suit.1)
   acts_lead (SetStatic field k v ∷ more) types fit suit = (static_takes types field k v fit.0 suit.0, acts_lead more types fit.1 suit.1)

@@ -133,7 +133,7 @@ module _ (r : Row) where
       wanted_int o r.areas.store r.own r.news r.steps.tree (Whole r) wanted r.before.stack (b.below ∷ b.rest) b.taken_is r.frame.stack r.stack index int_at _
       (λ n. by_if (Whole r) (int_lt n (pos 0) || not (int_lt n (pos it.len))) (thrown o (codes "java/lang/ArrayIndexOutOfBoundsException"))
       (follows it (unsigned_abs n))
-      (λ outside. thrown_whole r (codes "java/lang/ArrayIndexOutOfBoundsException") r.cells.thrown.1.1.1.0)
+      (λ outside. thrown_whole r (codes "java/lang/ArrayIndexOutOfBoundsException") r.cells.built_in.thrown.1.1.1.0)
       (λ inside. each it found passes (unsigned_abs n))))
 
   -- ---- loading
@@ -273,8 +273,8 @@ module _ (r : Row) where
       (λ v seen_v fits_v. by_if (Whole r) (is_sub o.classes v.type (element_type it.type)) (put_element 1 it place)
       (thrown o (codes "java/lang/ArrayStoreException"))
       (λ stores. put_whole elem.Ref b refl it place (subst Takes (sym kind_is)
-      (leads.0, inr (seen_holds r 0 v (λ u. fits_type o.classes u (element_type it.type)) seen_v (r.cells.subtypes v.type (element_type it.type) stores)))))
-      (λ fails. thrown_whole r (codes "java/lang/ArrayStoreException") r.cells.thrown.1.1.1.1.0))
+      (leads.0, inr (seen_holds r 0 v (λ u. fits_type o.classes u (element_type it.type)) seen_v (r.cells.places.subtypes v.type (element_type it.type) stores)))))
+      (λ fails. thrown_whole r (codes "java/lang/ArrayStoreException") r.cells.built_in.thrown.1.1.1.1.0))
 
   store_by : (e : Elem) (b : StoreOf e) → Whole r (array_store_effect o e seen)
   unfolding array_store_effect
@@ -321,7 +321,7 @@ module _ (r : Row) where
   -- ---- new arrays
 
   pub negative_whole : Whole r (thrown_negative o)
-  negative_whole = thrown_whole r (codes "java/lang/NegativeArraySizeException") r.cells.thrown.1.1.1.1.1.0
+  negative_whole = thrown_whole r (codes "java/lang/NegativeArraySizeException") r.cells.built_in.thrown.1.1.1.1.1.0
 
   array_whole : (t : TypeRef) → worked o (slot.Int ∷ []) (slot.Ref t ∷ []) r.before ≡ Some r.after → Whole r (array_made o (Some t) seen)
   array_whole t row =

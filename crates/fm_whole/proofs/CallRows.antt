@@ -81,7 +81,7 @@ use Rattle.fm_whole.proofs.Wanted.{slot_reference, wanted_held, wanted_leads, wa
 -- ---- classes and those above them
 
 -- the superclass is among those above a class
-parent_among : (classes : List DeclaredClass) → 0 < length classes → (own above : ℕ) → parent_of classes own ≡ Some above
+pub parent_among : (classes : List DeclaredClass) → 0 < length classes → (own above : ℕ) → parent_of classes own ≡ Some above
     → is_among above (chain_of classes own) ≡ true
 unfolding chain_of
 parent_among classes some own above is =
@@ -93,7 +93,7 @@ parent_among classes some own above is =
           or_left (nat_eq above above) (is_among above (upwards bound classes (parent_of classes above))) (eq-eqb above above refl)
 
 -- a type with a class is the type of that class
-class_type : (t : TypeRef) (class : ℕ) → class_of_type t ≡ Some class → t ≡ type_of_class class
+pub class_type : (t : TypeRef) (class : ℕ) → class_of_type t ≡ Some class → t ≡ type_of_class class
 class_type t class is = by_type t.dims t.base (t.dims == 0) refl is where
   of_base : Base → Option ℕ
   of_base (base.OfClass c) = Some c.0
@@ -263,7 +263,7 @@ module _ (p : Program) (typings : Typings) (typed_all : AreTyped p typings) (ste
   thrown_owed name is = record { owes = λ leads. thrown_whole r name is }
 
   null_owed : Owed (thrown_null o)
-  null_owed = thrown_owed (codes "java/lang/NullPointerException") cells.thrown.0
+  null_owed = thrown_owed (codes "java/lang/NullPointerException") cells.built_in.thrown.0
 
   -- a class is started first
   unstarted : (class : ℕ) (e : Effect) (next : Next) → CallLeads p f i after (starting class e) next → CallLeads p f i after e next
@@ -371,7 +371,7 @@ module _ (p : Program) (typings : Typings) (typed_all : AreTyped p typings) (ste
 
     module _ (row : Native) (native : native_of o target ≡ Some row) where
       asked : TakesAsAsked o target row
-      asked = cells.built_ins target row native
+      asked = cells.built_in.methods target row native
 
       same_arguments : argument_words o named ≡ arguments_asked o row
       same_arguments = ap (λ kinds. stack_slots kinds) same_parameters ∙ asked.arguments
@@ -533,7 +533,7 @@ module _ (p : Program) (typings : Typings) (typed_all : AreTyped p typings) (ste
         (thrown o (codes "java/lang/IncompatibleClassChangeError"))
         (λ sub. selected_owed m n t is found.1 found.2 found.0 it there
         (selects m n t it.type is at (seen_made (words_of_arguments o m.0) it there) sub))
-        (λ fails. thrown_owed (codes "java/lang/IncompatibleClassChangeError") cells.thrown.1.1.1.1.1.1.0)))
+        (λ fails. thrown_owed (codes "java/lang/IncompatibleClassChangeError") cells.built_in.thrown.1.1.1.1.1.1.0)))
 
     -- ---- invokespecial
 
@@ -632,7 +632,7 @@ module _ (p : Program) (typings : Typings) (typed_all : AreTyped p typings) (ste
 
       special_by : (b : Bool) → is_constructor o m.0 ≡ b
           → (is_constructor o m.0 ≡ true → class_of_type t ≡ Some (class_of_method o target))
-          → (is_constructor o m.0 ≡ false → fits_type o.classes (type_of_class r.own) (type_of_class (class_of_method o target)) ≡ true)
+          → (is_constructor o m.0 ≡ false → names_own_or_above o r.own t ≡ true → fits_type o.classes (type_of_class r.own) (type_of_class (class_of_method o target)) ≡ true)
           → cond b (constructor_called o f.method r.news m.0 t r.before) (cond (is_initializer o m.0) None
           (cond (names_own_or_above o r.own t)
           (worked o (argument_words o m.0 ++ slot.Ref (type_of_class r.own) ∷ []) (result_words o m.0) r.before) None)) ≡ Some after
@@ -645,12 +645,12 @@ module _ (p : Program) (typings : Typings) (typed_all : AreTyped p typings) (ste
           let first = cond-some_else (is_initializer o m.0) (cond (names_own_or_above o r.own t) (worked o wanted (result_words o m.0) r.before) None) after row in
           let second = cond-some_then (names_own_or_above o r.own t) (worked o wanted (result_words o m.0) r.before) after first.1 in
           let found = option_map-some (λ stack. record r.before { stack = result_words o m.0 ++ stack }) (taken o wanted r.before.stack) after second.1 in
-          ordinary_owed named (ordinary named) found.0 found.1
+          ordinary_owed named (ordinary named second.0) found.0 found.1
 
     special_owed : ((m : MethodId) (n : TypeId) (t : TypeRef) → u ≡ resolved.OfMethod m n → slice_get o.types n.0 ≡ Some t → is_constructor o m.0 ≡ true
         → class_of_type t ≡ Some (class_of_method o (special_of p f.method m t)))
         → ((m : MethodId) (n : TypeId) (t : TypeRef) → u ≡ resolved.OfMethod m n → slice_get o.types n.0 ≡ Some t → is_constructor o m.0 ≡ false
-        → fits_type o.classes (type_of_class r.own) (type_of_class (class_of_method o (special_of p f.method m t))) ≡ true)
+        → names_own_or_above o r.own t ≡ true → fits_type o.classes (type_of_class r.own) (type_of_class (class_of_method o (special_of p f.method m t))) ≡ true)
         → special_call_row o f.method r.news u r.before ≡ Some after → Owed (special_effect o f.method u byte seen)
     unfolding special_call_row special_effect
     special_owed constructs ordinary row =
@@ -693,22 +693,22 @@ call_whole p typings typed_all steps cells free x sound areas f (insn.Virtual in
     (virtual_owed p typings typed_all steps cells free x sound areas f (insn.Virtual index) after h stands whole byte refl (λ m. refl)
     (λ m n is. steps.calls.calls f.method (insn.Virtual index) m n false
     (named_at p typings typed_all steps cells free x sound areas f (insn.Virtual index) after h stands whole byte m n is) refl)
-    (λ m n t of is at made fits_it. cells.virtual f.method index m n t of
+    (λ m n t of is at made fits_it. cells.calls.virtual f.method index m n t of
     (named_at p typings typed_all steps cells free x sound areas f (insn.Virtual index) after h stands whole byte m n is) at made fits_it) h.row).owes leads
 call_whole p typings typed_all steps cells free x sound areas f (insn.Interface index) after h stands whole byte call leads =
     (interface_owed p typings typed_all steps cells free x sound areas f (insn.Interface index) after h stands whole byte refl (λ m. refl)
     (λ m n is. steps.calls.calls f.method (insn.Interface index) m n false
     (named_at p typings typed_all steps cells free x sound areas f (insn.Interface index) after h stands whole byte m n is) refl)
-    (λ m n t of is at made sub. cells.interface f.method index m n t of
+    (λ m n t of is at made sub. cells.calls.interface f.method index m n t of
     (named_at p typings typed_all steps cells free x sound areas f (insn.Interface index) after h stands whole byte m n is) at made sub) h.row).owes leads
 call_whole p typings typed_all steps cells free x sound areas f (insn.Special index) after h stands whole byte call leads =
     (special_owed p typings typed_all steps cells free x sound areas f (insn.Special index) after h stands whole byte refl (λ m. refl)
     (λ m n is. steps.calls.calls f.method (insn.Special index) m n false
     (named_at p typings typed_all steps cells free x sound areas f (insn.Special index) after h stands whole byte m n is) refl)
-    (λ m n t is at constructor. cells.constructors f.method index m n t
+    (λ m n t is at constructor. cells.calls.constructors f.method index m n t
     (named_at p typings typed_all steps cells free x sound areas f (insn.Special index) after h stands whole byte m n is) at constructor)
-    (λ m n t is at ordinary. cells.special f.method index m n t
-    (named_at p typings typed_all steps cells free x sound areas f (insn.Special index) after h stands whole byte m n is) at ordinary) h.row).owes leads
+    (λ m n t is at ordinary above. cells.calls.special f.method index m n t
+    (named_at p typings typed_all steps cells free x sound areas f (insn.Special index) after h stands whole byte m n is) at ordinary above) h.row).owes leads
 call_whole p typings typed_all steps cells free x sound areas f (insn.Static index) after h stands whole byte call leads =
     (static_owed p typings typed_all steps cells free x sound areas f (insn.Static index) after h stands whole byte refl (λ m. refl)
     (λ m n is. steps.calls.calls f.method (insn.Static index) m n true

@@ -28,3 +28,5 @@ pub mod RunsWhole
 pub mod NativeRows
 pub mod CallRows
 pub mod AllRows
+pub mod LinkedTypes
+pub mod LinkedMethods

@@ -87,10 +87,10 @@ module _ (r : Row) (t : TypeRef) where
   thrown_native row name is = record { acts = (inl refl, tt); next = (built_in_type o name, refl, is) }
 
   null_native : (row : Native) → N row (thrown o (codes "java/lang/NullPointerException"))
-  null_native row = thrown_native row (codes "java/lang/NullPointerException") r.cells.thrown.0
+  null_native row = thrown_native row (codes "java/lang/NullPointerException") r.cells.built_in.thrown.0
 
   outside_native : (row : Native) → N row (thrown_outside o)
-  outside_native row = thrown_native row (codes "java/lang/StringIndexOutOfBoundsException") r.cells.thrown.1.1.1.1.1.1.1.0
+  outside_native row = thrown_native row (codes "java/lang/StringIndexOutOfBoundsException") r.cells.built_in.thrown.1.1.1.1.1.1.1.0
 
   -- ---- operands
 
@@ -307,7 +307,7 @@ module _ (r : Row) (t : TypeRef) where
       → ((u : TypeRef) → suits_row o row u ≡ true → is_built o u ≡ true) → (k : List ℕ → Effect) → ((units : List ℕ) → N row (k units))
       → N row (on_built o seen n k)
   ask_built row h has n same along k each =
-      ask_builder row h has n same along _ (λ it found built. ask_inner row n it found (r.cells.builders it.type built) _ (λ units. each _))
+      ask_builder row h has n same along _ (λ it found built. ask_inner row n it found (r.cells.built_in.builders it.type built) _ (λ units. each _))
 
   builder_init_whole : HasOperands r BuilderInit t → N BuilderInit (builder_native o BuilderInit seen)
   unfolding builder_native
@@ -420,7 +420,7 @@ module _ (r : Row) (t : TypeRef) where
           refl,
           refl,
           λ y made went. (
-            place_leads r 0 it found 0 (text_kind o) (r.cells.hidden it.type (r.cells.throwables it.type fits_it)) [] y made went (text_type o) refl,
+            place_leads r 0 it found 0 (text_kind o) (r.cells.places.hidden it.type (r.cells.built_in.throwables it.type fits_it)) [] y made went (text_type o) refl,
             tt,
           ),
         );
@@ -430,7 +430,7 @@ module _ (r : Row) (t : TypeRef) where
   unfolding throwable_native
   throwable_shown_whole h =
       ask_throwable ThrowableToString h refl 0 refl (λ u is. is) _ (λ it found fits_it.
-      ask_inner ThrowableToString 0 it found (r.cells.throwables it.type fits_it) _
+      ask_inner ThrowableToString 0 it found (r.cells.built_in.throwables it.type fits_it) _
       (λ message. record { acts = (inr refl, tt); next = (refl, refl, text_given) }))
 
   -- ---- all together

@@ -43,7 +43,7 @@ module _ (r : Row) where
       asked_int r two_ints one_int row 0 refl _ (λ b.
       asked_int r two_ints one_int row 1 refl _ (λ a.
       by_thrown (Whole r) o (result_of_op op 32 a b) _
-      (thrown_whole r (codes "java/lang/ArithmeticException") r.cells.thrown.1.0)
+      (thrown_whole r (codes "java/lang/ArithmeticException") r.cells.built_in.thrown.1.0)
       (λ n. int_given r two_ints n row)))
 
   pub long_op_whole : (op : Op) → worked o two_longs one_long r.before ≡ Some r.after → Whole r (long_op_effect o op seen)
@@ -52,7 +52,7 @@ module _ (r : Row) where
       asked_long r two_longs one_long row 1 refl _ (λ b.
       asked_long r two_longs one_long row 3 refl _ (λ a.
       by_thrown (Whole r) o (result_of_op op 64 a b) _
-      (thrown_whole r (codes "java/lang/ArithmeticException") r.cells.thrown.1.0)
+      (thrown_whole r (codes "java/lang/ArithmeticException") r.cells.built_in.thrown.1.0)
       (λ n. long_given r two_longs n row)))
 
   pub int_negate_whole : worked o one_int one_int r.before ≡ Some r.after → Whole r (int_negate_effect seen)

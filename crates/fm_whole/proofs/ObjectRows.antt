@@ -339,9 +339,9 @@ module _ (r : Row) where
       (λ it found passes. by_if (Whole r) (is_sub o.classes it.type t) (words 0 []) (thrown o (codes "java/lang/ClassCastException"))
       (λ casts. record {
         acts = tt;
-        next = cast_leaves t worked_is (inr (seen_holds r 0 it (λ u. fits_type o.classes u t) found (r.cells.subtypes it.type t casts)));
+        next = cast_leaves t worked_is (inr (seen_holds r 0 it (λ u. fits_type o.classes u t) found (r.cells.places.subtypes it.type t casts)));
       })
-      (λ fails. thrown_whole r (codes "java/lang/ClassCastException") r.cells.thrown.1.1.0)))
+      (λ fails. thrown_whole r (codes "java/lang/ClassCastException") r.cells.built_in.thrown.1.1.0)))
 
   pub is_a_whole : (u : Use) → is_a_row o u r.before ≡ Some r.after → Whole r (is_a_effect o u seen)
   unfolding is_a_row is_a_effect

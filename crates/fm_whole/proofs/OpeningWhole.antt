@@ -198,9 +198,9 @@ module _ (p : Program) (cells : CellsAreResolved p) (tree : AreTree p.outline.cl
   opening_suits : (job : Job) → ActsSuit out store [] [] (opening_actions out job)
   unfolding opening_actions
   opening_suits job = (
-    cells.output_plain,
+    cells.built_in.output_plain,
     (
-      cells.input_plain,
+      cells.built_in.input_plain,
       (inl refl, arguments_suit 0 job.arguments (output_type out ∷ input_type out ∷ arguments_type out ∷ []) refl),
     ),
   )
@@ -238,12 +238,12 @@ module _ (p : Program) (cells : CellsAreResolved p) (tree : AreTree p.outline.cl
     statics = λ field t is. ⊎_elim
         (λ here. subst (λ w. LeadsToA out areas.store (λ u. fits_type out.classes u t) (cell_of w)) (sym here.1)
         (stream_leads areas 1 (slice_index_or made 1 0) (input_type out) t (went.made 1 (input_type out) (first_types job).1)
-        (same_type 1 field (input_type out) t here.0 cells.input is)))
+        (same_type 1 field (input_type out) t here.0 cells.built_in.input is)))
         (λ there. subst (λ w. LeadsToA out areas.store (λ u. fits_type out.classes u t) (cell_of w)) (sym there)
         (⊎_elim
         (λ here. subst (λ w. LeadsToA out areas.store (λ u. fits_type out.classes u t) (cell_of w)) (sym here.1)
         (stream_leads areas 0 (slice_index_or made 0 0) (output_type out) t (went.made 0 (output_type out) (first_types job).0)
-        (same_type 0 field (output_type out) t here.0 cells.output is)))
+        (same_type 0 field (output_type out) t here.0 cells.built_in.output is)))
         (λ before. subst (λ w. LeadsToA out areas.store (λ u. fits_type out.classes u t) (cell_of w)) (sym before) (went.areas.statics field t is))
         (set_at areas.statics 0 (ref (slice_index_or made 0 0)) field value.Top)))
         (set_at (slice_set areas.statics 0 (ref (slice_index_or made 0 0))) 1 (ref (slice_index_or made 1 0)) field value.Top);
@@ -265,7 +265,7 @@ module _ (p : Program) (typings : Typings) (typed : AreTyped p typings) (steps :
   main_whole areas arguments is =
       let Fits = WordFits oo areas.store (class_of_method oo oo.main) (made_at p oo.main main.code) in
       new_whole p typings typed areas.store oo.main main.code (ref arguments ∷ []) main.code_is
-      (subst (λ slots. AllZip Fits slots (ref arguments ∷ [])) (sym cells.main) (
+      (subst (λ slots. AllZip Fits slots (ref arguments ∷ [])) (sym cells.places.main) (
         record {
           kind = tt;
           cell = inr (record {

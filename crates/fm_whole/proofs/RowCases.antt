@@ -64,7 +64,7 @@ module _ (r : Row) where
   thrown_whole name is = record { acts = (inl refl, tt); next = (built_in_type o name, refl, is) }
 
   pub null_whole : Whole r (thrown_null o)
-  null_whole = thrown_whole (codes "java/lang/NullPointerException") r.cells.thrown.0
+  null_whole = thrown_whole (codes "java/lang/NullPointerException") r.cells.built_in.thrown.0
 
   -- ---- where slots are taken
 

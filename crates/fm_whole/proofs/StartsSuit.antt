@@ -78,7 +78,7 @@ module _ (p : Program) (cells : CellsAreResolved p) (tree : AreTree p.outline.cl
       (plain_suits (kind_of_field o field) _ (numbers field (subst IsNumber (sym is) tt)), tt)
   constant_suits field (Some (constant.Long n)) is =
       (plain_suits (kind_of_field o field) _ (numbers field (subst IsNumber (sym is) tt)), tt)
-  constant_suits field (Some (constant.Text text)) is = text_suits field (cells.constants field text is) (text_number o.texts (units text))
+  constant_suits field (Some (constant.Text text)) is = text_suits field (cells.places.constants field text is) (text_number o.texts (units text))
 
   all_flat : {X : Type 0} (f : X → List Action) → ((x : X) → AllByRecursion StartSuits (f x)) → (xs : List X) → AllByRecursion StartSuits (flat_map f xs)
   all_flat f each [] = tt

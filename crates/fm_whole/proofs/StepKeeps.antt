@@ -252,7 +252,7 @@ module _ (p : Program) (typings : Typings) (steps : StepsAreResolved p) (cells :
         let holds : HoldsA o y.areas.store throwable (cell_of v) = source_holds throwable s suits in
         let type_is : type_numbered o holds.object.class ≡ t = caught_type v holds.object holds.held in
         thrown_kept p typings y running areas t v (f ∷ callers) (caught p t v (f ∷ callers)) refl sound all
-        (λ others is. all_caught p (λ u caught fits_it sub. cells.subtypes u caught sub) t (subst (λ u. throwable u ≡ true) type_is holds.passes)
+        (λ others is. all_caught p (λ u caught fits_it sub. cells.places.subtypes u caught sub) t (subst (λ u. throwable u ≡ true) type_is holds.passes)
         typings steps.tree typed y.areas.store v (leads y.areas made) holds.object holds.held type_is f callers 0 stands below here others is)
     next_kept callers below here (Enters methods) leads suits sound =
         kept_with p typings y running areas _ sound (started_whole p typings typed y.areas.store methods leads (f ∷ callers) here)

@@ -6,7 +6,7 @@ use Rattle.fm_base.specs.declared.ids.TypeId.{TypeId}
 use Rattle.fm_base.specs.declared.kinds.TypeRef.{TypeRef}
 use Rattle.fm_code.specs.AccessFlags.{is_static}
 use Rattle.fm_code.specs.declared.instructions.Insn.TheVariants as insn
-use Rattle.fm_types.specs.CallRows.{is_constructor}
+use Rattle.fm_types.specs.CallRows.{is_constructor, names_own_or_above}
 use Rattle.fm_types.specs.Fits.{fits_type, object_of}
 use Rattle.fm_types.specs.Named.{argument_words, built_in_type, class_of_method, object_slot, result_words, throwable_type}
 use Rattle.fm_types.specs.Typed.{entry_slots}
@@ -154,41 +154,59 @@ pub record TakesAsAsked (o : Outline) (method : ℕ) (row : Native) : Type 0 whe
   pub receiver : is_static (method_at o.classes method).method.flags ≡ false
       → (t : TypeRef) → fits_type o.classes t (type_of_class (class_of_method o method)) ≡ true → suits_row o row t ≡ true
 
--- ---- all together
+-- ---- built-in classes
 
-pub record CellsAreResolved (p : Program) : Type 0 where
-  pub subtypes : SubtypesFit p.outline
-  -- no class is below String
-  pub texts : (t : TypeRef) → fits_type p.outline.classes t (text_type p.outline) ≡ true → is_text_type p.outline t ≡ true
+-- what built-in classes and methods are in each program that can be run
+pub record BuiltInsFit (p : Program) : Type 0 where
   -- objects that live for ever have no place for references
   pub text_plain : HoldsNoCell p.outline (text_type p.outline)
   pub output_plain : HoldsNoCell p.outline (output_type p.outline)
   pub input_plain : HoldsNoCell p.outline (input_type p.outline)
-  -- a hidden field is the first place of its object, and one for texts; what builds texts has it, and so has what is thrown
-  pub hidden : (t : TypeRef) → has_hidden_field p.outline t ≡ true → kind_at p.outline.classes t 0 ≡ Some (text_kind p.outline)
+  -- what builds texts has a hidden field, and so has what is thrown
   pub builders : (t : TypeRef) → is_built p.outline t ≡ true → has_hidden_field p.outline t ≡ true
   pub throwables : (t : TypeRef) → fits_type p.outline.classes t (throwable_type p.outline) ≡ true → has_hidden_field p.outline t ≡ true
   -- what the machine throws can be thrown
   pub thrown : AllByRecursion (λ name. fits_type p.outline.classes (built_in_type p.outline name) (throwable_type p.outline) ≡ true) thrown_names
-  -- main takes the array of the arguments (JVMS 5.2)
-  pub main : entry_slots p.outline p.outline.main ≡ slot.Ref (arguments_type p.outline) ∷ []
   -- the first two static fields are those of System
   pub output : slice_get (static_slots p.outline) 0 ≡ Some (slot.Ref (output_type p.outline))
   pub input : slice_get (static_slots p.outline) 1 ≡ Some (slot.Ref (input_type p.outline))
+  -- built-in methods take what their rows look at
+  pub methods : (method : ℕ) (row : Native) → native_of p.outline method ≡ Some row → TakesAsAsked p.outline method row
+
+-- ---- all together
+
+-- what linking makes sure of where references are put
+pub record PlacesFit (p : Program) : Type 0 where
+  pub subtypes : SubtypesFit p.outline
+  -- no class is below String
+  pub texts : (t : TypeRef) → fits_type p.outline.classes t (text_type p.outline) ≡ true → is_text_type p.outline t ≡ true
+  -- a hidden field is the first place of its object, and one for texts
+  pub hidden : (t : TypeRef) → has_hidden_field p.outline t ≡ true → kind_at p.outline.classes t 0 ≡ Some (text_kind p.outline)
+  -- main takes the array of the arguments (JVMS 5.2)
+  pub main : entry_slots p.outline p.outline.main ≡ slot.Ref (arguments_type p.outline) ∷ []
   -- a text is the constant of a field of texts (JVMS 4.7.2)
   pub constants : (field : ℕ) (text : List ℕ) → (field_at p.outline.classes field).field.value ≡ Some (constant.Text text)
       → kind_of_field p.outline field ≡ text_kind p.outline
+
+-- what it makes sure of where methods are called
+pub record CallsFit (p : Program) : Type 0 where
   -- a method is selected for each object that invokevirtual or invokeinterface may meet (JVMS 5.4.6)
   pub virtual : (method index : ℕ) (m : MethodId) (t : TypeId) (named of : TypeRef) → IsNamed p method (insn.Virtual index) (resolved.OfMethod m t)
       → slice_get p.outline.types t.0 ≡ Some named → HasObjects p.outline of → fits_type p.outline.classes of named ≡ true → Selects p of m.0
   pub interface : (method index : ℕ) (m : MethodId) (t : TypeId) (named of : TypeRef) → IsNamed p method (insn.Interface index) (resolved.OfMethod m t)
       → slice_get p.outline.types t.0 ≡ Some named → HasObjects p.outline of → is_sub p.outline.classes of named ≡ true → Selects p of m.0
-  -- invokespecial leads to a method of the own class or of one above it; and a constructor is of exactly the class that is named (JVMS 6.5.invokespecial)
+  -- where it names the own class or one above it, invokespecial leads to a method of such a class; and a constructor is of exactly the class that is named
+  -- (JVMS 6.5.invokespecial)
   pub special : (method index : ℕ) (m : MethodId) (t : TypeId) (named : TypeRef) → IsNamed p method (insn.Special index) (resolved.OfMethod m t)
       → slice_get p.outline.types t.0 ≡ Some named → is_constructor p.outline m.0 ≡ false
+      → names_own_or_above p.outline (class_of_method p.outline method) named ≡ true
       → fits_type p.outline.classes (type_of_class (class_of_method p.outline method)) (type_of_class (class_of_method p.outline (special_of p method m named))) ≡ true
   pub constructors : (method index : ℕ) (m : MethodId) (t : TypeId) (named : TypeRef) → IsNamed p method (insn.Special index) (resolved.OfMethod m t)
       → slice_get p.outline.types t.0 ≡ Some named → is_constructor p.outline m.0 ≡ true
       → class_of_type named ≡ Some (class_of_method p.outline (special_of p method m named))
-  -- built-in methods take what their rows look at
-  pub built_ins : (method : ℕ) (row : Native) → native_of p.outline method ≡ Some row → TakesAsAsked p.outline method row
+
+-- all that is asked of a program so that each cell fits where it stands
+pub record CellsAreResolved (p : Program) : Type 0 where
+  pub built_in : BuiltInsFit p
+  pub places : PlacesFit p
+  pub calls : CallsFit p

@@ -28,7 +28,7 @@ use Rattle.fm_sound.specs.Making.{MakesAreResolved}
 use Rattle.fm_sound.specs.Resolved.{MainIsReady, StepsAreResolved}
 use Rattle.fm_sound.specs.Sound.{AreasAreSound, AreTyped, IsReference, StandBelow, StandsWithout, Typings}
 use Rattle.fm_whole.specs.Catching.{CatchesFit}
-use Rattle.fm_whole.specs.CellsResolved.{CellsAreResolved}
+use Rattle.fm_whole.specs.CellsResolved.{BuiltInsFit, CellsAreResolved}
 use Rattle.fm_whole.specs.Doing.{ActsLead, LeavesWhole}
 use Rattle.fm_whole.specs.NoFault.{NeverFaults}
 use Rattle.fm_whole.specs.Seen.{IsNoFault, SeesA}
@@ -74,6 +74,12 @@ abbrev pub ActionsKeepWhole : Type 0
 ActionsKeepWhole =
     (o : Outline) (choose : Choose) (locals stack : List Value) (x : Areas) (actions : List Action) → AreasAreWhole o x
     → ActsLead o x.store stack [] actions → LeavesWhole o (performed o (lawful choose) locals stack actions x [])
+
+-- ---- built-in classes
+
+-- Built-in classes and methods are what is asked of them, in each linked program.
+abbrev pub BuiltInsAreAsAsked : Type 0
+BuiltInsAreAsAsked = (p : Program) → IsResolved p → BuiltInsFit p
 
 -- ---- rows
 

@@ -35,6 +35,12 @@ pub fn law_whole_frames()
     ensures catching { law.CatchingKeepsWhole }
 {}
 
+/// In each linked program what the machine throws can be thrown, what lives for ever has no place for references,
+/// System has its two streams, and each built-in method takes and gives what its row looks at.
+pub fn law_built_ins()
+    ensures { law.BuiltInsAreAsAsked }
+{}
+
 /// No instruction but a call meets an operand of another sort than its own, or a cell in which it can't be, where
 /// the checker's row is met.
 pub fn law_plain_rows()
