@@ -23,7 +23,7 @@ use Rattle.fm_sound.specs.Leading.{sources_of}
 use Rattle.fm_sound.specs.Placing.{kind_in, ReadAgrees}
 use Rattle.fm_sound.specs.Sound.{field_slot, HasKind, IsReference}
 use Rattle.fm_paired.specs.Pairing.{AreAlike, ArePaired, AreasPaired, AreTwins, FramesPaired, SameCell, SameElement, SameValue}
-use Rattle.fm_paired.specs.Reading.{NumberAgrees}
+use Rattle.fm_paired.specs.Reading.{IsNumeric, IsOfKind, NumberAgrees}
 use Rattle.fm_paired.proofs.SightsSame.{twins_alike}
 use Rattle.fm_paired.proofs.SourcesSame.{read_same, source_same}
 use Rattle.fm_paired.proofs.Stores.{cell_later, put_paired, Stays, value_later, with_stays}
@@ -31,27 +31,18 @@ use Rattle.fm_paired.proofs.Twins.{not_null}
 
 -- ---- values that are kept
 
-abbrev IsNumber : Value → Type 0
-IsNumber value.Top = ⊥
-IsNumber (value.Int n) = Unit {0}
-IsNumber (value.Long n) = Unit {0}
-IsNumber (value.Ref cell) = ⊥
-
-abbrev IsOfNumbers : Kind → Type 0
-IsOfNumbers (kind.Ref t) = ⊥
-IsOfNumbers k = Unit {0}
-
-number_of : (k : Kind) (v : Value) → IsOfNumbers k → HasKind (field_slot k) v → IsNumber v
-number_of kind.Boolean v h has = subst IsNumber (sym has.1) tt
-number_of kind.Byte v h has = subst IsNumber (sym has.1) tt
-number_of kind.Char v h has = subst IsNumber (sym has.1) tt
-number_of kind.Short v h has = subst IsNumber (sym has.1) tt
-number_of kind.Int v h has = subst IsNumber (sym has.1) tt
-number_of kind.Long v h has = subst IsNumber (sym has.1) tt
-number_of (kind.Ref t) v h has = absurd h
+-- a value that has the kind of a field is of its kind
+pub of_kind : (k : Kind) (v : Value) → HasKind (field_slot k) v → IsOfKind k v
+of_kind kind.Boolean v has = subst IsNumeric (sym has.1) tt
+of_kind kind.Byte v has = subst IsNumeric (sym has.1) tt
+of_kind kind.Char v has = subst IsNumeric (sym has.1) tt
+of_kind kind.Short v has = subst IsNumeric (sym has.1) tt
+of_kind kind.Int v has = subst IsNumeric (sym has.1) tt
+of_kind kind.Long v has = subst IsNumeric (sym has.1) tt
+of_kind (kind.Ref t) v has = has
 
 module _ (one other : Store) where
-  kept_number : (k : Kind) (v w : Value) → SameValue one other v w → IsNumber v → kept k w ≡ kept k v
+  kept_number : (k : Kind) (v w : Value) → SameValue one other v w → IsNumeric v → kept k w ≡ kept k v
   kept_number k value.Top w h number = absurd number
   kept_number k (value.Int n) w h number = ap (kept k) h
   kept_number k (value.Long n) w h number = ap (kept k) h
@@ -63,13 +54,13 @@ module _ (one other : Store) where
   kept_reference t (value.Long n) w h reference = absurd reference
   kept_reference t (value.Ref cell) w h reference = subst (λ u. SameCell one other cell.0 (kept (kind.Ref t) u)) (sym h.1) h.2
 
-  plain_number : (v : Value) → IsNumber v → SameValue one other v v
+  plain_number : (v : Value) → IsNumeric v → SameValue one other v v
   plain_number value.Top h = absurd h
   plain_number (value.Int n) h = refl
   plain_number (value.Long n) h = refl
   plain_number (value.Ref cell) h = absurd h
 
-no_number : (t : TypeRef) (n : ℕ) → IsNumber (read (kind.Ref t) n) → ⊥
+no_number : (t : TypeRef) (n : ℕ) → IsNumeric (read (kind.Ref t) n) → ⊥
 unfolding read
 no_number t n h = h
 
@@ -84,7 +75,7 @@ module _ (o : Outline) (one other : Store) (f g : Frame) (frame : FramesPaired o
   same = source_same o one other f g frame x y made others paired stays other_stays classes cells
 
   -- a source that gives a number needs no reference to be read
-  number_same_from : (s : Source) → NumberAgrees o one f.stack s → IsNumber (first s) → SameValue x.store y.store (first s) (second s)
+  number_same_from : (s : Source) → NumberAgrees o one f.stack s → IsNumeric (first s) → SameValue x.store y.store (first s) (second s)
   number_same_from (Plain v) numbers h = plain_number x.store y.store v h
   number_same_from (OfOperand n) numbers h = same (OfOperand n) tt numbers
   number_same_from (OfLocal k) numbers h = same (OfLocal k) tt numbers
@@ -98,14 +89,12 @@ module _ (o : Outline) (one other : Store) (f g : Frame) (frame : FramesPaired o
 
   -- what is kept of a value of the kind
   pub kept_same : (k : Kind) (s : Source) → ((t : TypeRef) → k ≡ kind.Ref t → ReadAgrees o one f.stack s) → NumberAgrees o one f.stack s
-      → HasKind (field_slot k) (first s) → SameElement x.store y.store (Some k) (kept k (first s)) (kept k (second s))
+      → IsOfKind k (first s) → SameElement x.store y.store (Some k) (kept k (first s)) (kept k (second s))
   kept_same (kind.Ref t) s reads numbers has = kept_reference x.store y.store t (first s) (second s) (same s (reads t refl) numbers) has
-  kept_same k s reads numbers has =
-      let number : IsNumber (first s) = number_of k (first s) tt has in
-      kept_number x.store y.store k (first s) (second s) (number_same_from s numbers number) number
+  kept_same k s reads numbers has = kept_number x.store y.store k (first s) (second s) (number_same_from s numbers has) has
 
   pub cut_same : (k : Kind) (s : Source) → ((t : TypeRef) → k ≡ kind.Ref t → ReadAgrees o one f.stack s) → NumberAgrees o one f.stack s
-      → HasKind (field_slot k) (first s) → SameValue x.store y.store (cut k (first s)) (cut k (second s))
+      → IsOfKind k (first s) → SameValue x.store y.store (cut k (first s)) (cut k (second s))
   cut_same k s reads numbers has = read_same x.store y.store k (kept k (first s)) (kept k (second s)) (kept_same k s reads numbers has)
 
 -- ---- areas

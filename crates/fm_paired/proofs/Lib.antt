@@ -3,6 +3,16 @@ pub mod Stores
 pub mod SightsSame
 pub mod EffectsSame
 pub mod SourcesSame
+pub mod WordsSame
+pub mod Limits
+pub mod RowsAlike
+pub mod NextAlike
+pub mod StepSame
+pub mod RunsSame
+pub mod OpeningSame
+pub mod TwoMemories
+pub mod EndsSame
+pub mod HiddenFirst
 pub mod NextSame
 pub mod ActsSame
 pub mod MakesSame

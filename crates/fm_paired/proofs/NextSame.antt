@@ -56,7 +56,7 @@ module _ (p : Program) (one other : Store) where
   abbrev F : Frame → Frame → Type 0
   F f g = FramesPaired one other f g
 
-  new_same : (method : ℕ) (vs ws : List Value) → AllZip S vs ws → F (new_frame p method vs) (new_frame p method ws)
+  pub new_same : (method : ℕ) (vs ws : List Value) → AllZip S vs ws → F (new_frame p method vs) (new_frame p method ws)
   new_same method vs ws h = record {
     method = refl;
     item = refl;

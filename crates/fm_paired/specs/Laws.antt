@@ -19,10 +19,9 @@ use Rattle.fm_frames.specs.declared.values.Value.{Value}
 use Rattle.fm_sound.specs.Acting.{ContentFits}
 use Rattle.fm_sound.specs.Leading.{sources_of}
 use Rattle.fm_sound.specs.Placing.{kind_in, ReadAgrees}
-use Rattle.fm_sound.specs.Sound.{field_slot, HasKind}
 use Rattle.fm_paired.specs.Hidden.{HiddenComesFirst}
 use Rattle.fm_paired.specs.Pairing.{AreAlike, ArePaired, AreasPaired, EndAlike, FramesPaired, SameCell, SameElement, SameValue, StatesPaired}
-use Rattle.fm_paired.specs.Reading.{NumberAgrees, sources_of_next}
+use Rattle.fm_paired.specs.Reading.{IsOfKind, NumberAgrees, sources_of_next}
 
 -- ---- cells
 
@@ -153,5 +152,5 @@ KeptAgree =
     (o : Outline) (one other : Store) (f g : Frame) → FramesPaired one other f g → (x y : Areas) (made others : List ℕ) → AreasPaired o x y
     → KeepsBirths one x.store → KeepsBirths other y.store → KeepsClasses one x.store → AllZip (SameCell x.store y.store) made others
     → (k : Kind) (s : Source) → ((t : TypeRef) → k ≡ kind.Ref t → ReadAgrees o one f.stack s) → NumberAgrees o one f.stack s
-    → HasKind (field_slot k) (value_of (sources_of f x made) s)
+    → IsOfKind k (value_of (sources_of f x made) s)
     → SameElement x.store y.store (Some k) (kept k (value_of (sources_of f x made) s)) (kept k (value_of (sources_of g y others) s))

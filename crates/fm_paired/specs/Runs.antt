@@ -5,13 +5,14 @@ use Rattle.fm_cells.specs.Choices.{lawful}
 use Rattle.fm_cells.specs.Stores.{opened, Store}
 use Rattle.fm_world.specs.Programs.{Outline, Program}
 use Rattle.fm_frames.specs.Acts.{Choose}
-use Rattle.fm_frames.specs.Runs.{after, Job, opening}
+use Rattle.fm_frames.specs.Runs.{after, IsRun, Job, opening}
 use Rattle.fm_frames.specs.States.{Moved, State}
 use Rattle.fm_frames.specs.declared.ends.Ended.TheVariants as end
 use Rattle.fm_same.specs.Resolved.{CallsNoFreeMe}
 use Rattle.fm_sound.specs.Making.{ArgumentsFit, MakesAreResolved}
 use Rattle.fm_sound.specs.Resolved.{MainIsReady, StepsAreResolved}
 use Rattle.fm_sound.specs.Sound.{AreTyped, Typings}
+use Rattle.fm_paired.specs.Constants.{ConstantsFit}
 use Rattle.fm_paired.specs.Hidden.{HiddenComesFirst}
 use Rattle.fm_paired.specs.Pairing.{StatesPaired}
 
@@ -39,11 +40,55 @@ pub data GoAlike (o : Outline) (budget other : ℕ) (limit : Option ℕ) (x y : 
 abbrev pub run_after : Program → Choose → Job → Store → ℕ → Moved
 run_after p choose job store k = after p (lawful choose) k (opening p (lawful choose) job store)
 
--- A typed and linked program that calls no FreeMe goes alike on two memories, step for step: on one without a limit on its store, such as one that is never
--- reused, and on one that reuses cells in any way. With the same budget of words, and a limit of at least twice as many, both print the same and end alike.
-abbrev pub RunsGoAlike : Type 0
-RunsGoAlike =
-    (p : Program) (typings : Typings) → AreTyped p typings → StepsAreResolved p → MakesAreResolved p → MainIsReady p → CallsNoFreeMe p → HiddenComesFirst p.outline
-    → (first second : Choose) (job : Job) → length job.input ≤ MAX_FILE_BYTES → ArgumentsFit job.arguments
-    → (budget other : ℕ) (limit : Option ℕ) (free freed : List (List ℕ)) → budget ≤ MAX_LIVE_WORDS → other ≤ MAX_LIVE_WORDS → (k : ℕ)
+-- the program is typed and linked, and calls no FreeMe
+pub record IsWithoutFrees (p : Program) (typings : Typings) : Type 0 where
+  pub typed : AreTyped p typings
+  pub steps : StepsAreResolved p
+  pub makes : MakesAreResolved p
+  pub main : MainIsReady p
+  pub no_free : CallsNoFreeMe p
+  pub hidden : HiddenComesFirst p.outline
+  pub constants : ConstantsFit p.outline
+
+-- On two memories the program goes alike, step for step: on one without a limit on its store, such as one that is never reused, and on one that reuses
+-- cells in any way.
+abbrev pub GoesAlikeOnMemories : Program → Type 0
+GoesAlikeOnMemories p =
+    (first second : Choose) (job : Job) → length job.input ≤ MAX_FILE_BYTES → ArgumentsFit job.arguments → (budget other : ℕ) (limit : Option ℕ)
+    (free freed : List (List ℕ)) → budget ≤ MAX_LIVE_WORDS → other ≤ MAX_LIVE_WORDS → (k : ℕ)
     → GoAlike p.outline budget other limit (run_after p first job (opened budget None free) k) (run_after p second job (opened other limit freed) k)
+
+-- the store has no limit, or one of at least twice the words that may live
+abbrev pub IsRoomy : Option ℕ → ℕ → Type 0
+IsRoomy limit budget = (words : ℕ) → limit ≡ Some words → 2 * budget ≤ words
+
+-- the same was printed, and the states are the same, whichever cells their objects lie in; so both ended alike, if they did
+abbrev pub AreTheSame : Outline → Moved → Moved → Type 0
+AreTheSame o x y = StatesPaired o x.state y.state × (y.printed ≡ x.printed)
+
+-- With the same budget of words on both memories, and room for twice as many, the program prints the same and ends alike.
+abbrev pub IsTheSameOnMemories : Program → Type 0
+IsTheSameOnMemories p =
+    (first second : Choose) (job : Job) → length job.input ≤ MAX_FILE_BYTES → ArgumentsFit job.arguments → (budget : ℕ) (limit : Option ℕ)
+    (free freed : List (List ℕ)) → budget ≤ MAX_LIVE_WORDS → IsRoomy limit budget → (k : ℕ)
+    → AreTheSame p.outline (run_after p first job (opened budget None free) k) (run_after p second job (opened budget limit freed) k)
+
+-- So do two whole runs that one budget of steps allows.
+abbrev pub EndsAlikeOnMemories : Program → Type 0
+EndsAlikeOnMemories p =
+    (first second : Choose) (job : Job) → length job.input ≤ MAX_FILE_BYTES → ArgumentsFit job.arguments → (budget : ℕ) (limit : Option ℕ)
+    (free freed : List (List ℕ)) → budget ≤ MAX_LIVE_WORDS → IsRoomy limit budget → (steps : ℕ) (x y : Moved)
+    → IsRun p (lawful first) steps (opening p (lawful first) job (opened budget None free)) x
+    → IsRun p (lawful second) steps (opening p (lawful second) job (opened budget limit freed)) y → AreTheSame p.outline x y
+
+-- So it is of each program that is typed and linked, and calls no FreeMe.
+abbrev pub RunsGoAlike : Type 0
+RunsGoAlike = (p : Program) (typings : Typings) → IsWithoutFrees p typings → GoesAlikeOnMemories p
+
+-- with equal budgets too
+abbrev pub RunsAreTheSame : Type 0
+RunsAreTheSame = (p : Program) (typings : Typings) → IsWithoutFrees p typings → IsTheSameOnMemories p
+
+-- and at the ends of whole runs
+abbrev pub RunsEndAlike : Type 0
+RunsEndAlike = (p : Program) (typings : Typings) → IsWithoutFrees p typings → EndsAlikeOnMemories p

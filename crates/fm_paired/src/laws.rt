@@ -1,7 +1,10 @@
 // Laws over definitions alone, each the contract of a function that does nothing.
 
 ghost use Rattle.fm_paired.specs.Laws as law;
+ghost use Rattle.fm_paired.specs.Hidden.{HiddenFieldsComeFirst};
 ghost use Rattle.fm_paired.specs.Results.{ActionsKeepPaired};
+ghost use Rattle.fm_paired.specs.Runs.{RunsAreTheSame, RunsEndAlike, RunsGoAlike};
+ghost use Rattle.fm_paired.specs.Whole.{NextEffectsAreAlike, StepsKeepAlike};
 
 /// Cells that stand for each other do so one to one.
 pub fn law_cells()
@@ -54,7 +57,30 @@ pub fn law_makes()
 {}
 
 /// Actions that free nothing lead what the frames share to what is paired, or the second store is
-/// full.
+/// full, as it has less than twice the words that may live.
 pub fn law_actions()
     ensures { ActionsKeepPaired }
+{}
+
+/// At a sound state of a program that calls no FreeMe the next effect does the same on both
+/// memories.
+pub fn law_rows()
+    ensures { NextEffectsAreAlike }
+{}
+
+/// Objects that have a hidden field have it first, and it is a reference.
+pub fn law_hidden()
+    ensures { HiddenFieldsComeFirst }
+{}
+
+/// A step leads paired states to paired ones, or one of the memories lacks words.
+pub fn law_step()
+    ensures { StepsKeepAlike }
+{}
+
+/// A typed and linked program that calls no FreeMe goes alike on two memories, step for step.
+pub fn law_runs()
+    ensures alike { RunsGoAlike }
+    ensures same { RunsAreTheSame }
+    ensures ends { RunsEndAlike }
 {}
