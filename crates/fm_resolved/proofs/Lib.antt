@@ -25,3 +25,4 @@ pub mod FewTypes
 pub mod ObjectSizes
 pub mod FewTexts
 pub mod FewStarts
+pub mod OwnClasses

@@ -14,7 +14,9 @@ ghost use Rattle.fm_resolved.specs.Makes.{
   MakesOfProgramsAreLinked,
   MakesOfProgramsAreResolved,
 };
+ghost use Rattle.fm_resolved.specs.TwoMemories.{LinkedGoesAlike, LinkedIsWithoutFrees};
 
+use fm_paired::{law_hidden, law_runs};
 use fm_same::{law_dead_regions, law_targets};
 use fm_world::law_class_types;
 
@@ -93,4 +95,25 @@ pub fn law_linked_regions()
     law_main();
     law_targets();
     law_dead_regions();
+}
+
+/// The program of accepted class files against which no cause stands, as many as one call takes, which is
+/// typed and calls no FreeMe, is linked as the law of two memories asks.
+pub fn law_without_frees()
+    ensures { LinkedIsWithoutFrees }
+{
+    law_resolved();
+    law_sound_steps();
+    law_makeable();
+    law_main();
+    law_hidden();
+}
+
+/// The law of one program on two memories: such a program prints the same and ends alike on memory
+/// that is never reused and on memory that reuses cells in any way.
+pub fn law_two_memories()
+    ensures { LinkedGoesAlike }
+{
+    law_without_frees();
+    law_runs();
 }
