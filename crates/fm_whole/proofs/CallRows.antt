@@ -4,7 +4,7 @@ use Rattle.std.specs.List.{AllByRecursion, AllZip, flat_map}
 use Rattle.std.specs.Str.{bytes_eq}
 use Rattle.std.proofs.lemmas.Bool.{eq-eqb, eqb-true, false≢true, or_cases, or_left, or_right}
 use Rattle.std.proofs.lemmas.List.{reverse-append, reverse-reverse}
-use Rattle.std.proofs.lemmas.Option.{same_Some}
+use Rattle.std.proofs.lemmas.Option.{same_Some, slice_get-get_or}
 use Rattle.std.proofs.lemmas.Slice.Zip.{AllZip-long}
 use Rattle.fm_base.proofs.ListFacts.{AllByRecursion-append}
 use Rattle.fm_base.proofs.OptionFacts.{cond-some_else, cond-some_then, option_and_then-some, option_map-some}
@@ -49,7 +49,7 @@ use Rattle.fm_frames.specs.Natives.{FreeMeFree, FreeMeFreeChain, FreeMeLink, Nat
 use Rattle.fm_frames.specs.ObjectRows.{starting}
 use Rattle.fm_frames.specs.Operands.{on_reference, thrown, thrown_null}
 use Rattle.fm_frames.specs.Rows.{effect_of}
-use Rattle.fm_frames.specs.Sights.{Looks, Sight, sights, Thing}
+use Rattle.fm_frames.specs.Sights.{Looks, Sight, sights, Thing, type_numbered}
 use Rattle.fm_frames.specs.States.{Areas, Frame, word_at}
 use Rattle.fm_frames.specs.Steps.{written}
 use Rattle.fm_frames.specs.Uses.{by_type, on_method}
@@ -64,7 +64,7 @@ use Rattle.fm_sound.proofs.Cases.{by_if}
 use Rattle.fm_sound.proofs.FoundMethods.{IsAlike, select_alike, special_alike}
 use Rattle.fm_sound.proofs.ReturnsStand.{arguments_count, method_in, taken_drop}
 use Rattle.fm_sound.proofs.SeenObjects.{IsSeen, seen_at}
-use Rattle.fm_whole.specs.CellsResolved.{arguments_asked, CellsAreResolved, has_receiver, result_given, Selects, special_of, TakesAsAsked}
+use Rattle.fm_whole.specs.CellsResolved.{arguments_asked, CellsAreResolved, has_receiver, IsMet, result_given, Selects, special_of, TakesAsAsked}
 use Rattle.fm_whole.specs.Whole.{AreasAreWhole, FrameIsWhole, HoldsA, is_below, LeadsToA, WordFits}
 use Rattle.fm_whole.proofs.ActsSuits.{holds_weaker, leads_weaker}
 use Rattle.fm_whole.proofs.CellsLeave.{stack_left}
@@ -447,10 +447,13 @@ module _ (p : Program) (typings : Typings) (typed_all : AreTyped p typings) (ste
   named_at m n is = record { code = h.code; code_is = h.code_is; item = f.item; insn_is = h.insn_is; use_is = is }
 
   -- objects are made of the type that is seen
-  seen_made : (n : ℕ) (it : Looks) → slice_get seen n ≡ Some (Thing it) → HasObjects o it.type
+  seen_made : (n : ℕ) (it : Looks) → slice_get seen n ≡ Some (Thing it) → IsMet o it.type
   seen_made n it found =
       let saw : IsSeen o x.store (cell_of (word_at f.stack n)) it = seen_at o x.store f.stack n it found in
-      subst (HasObjects o) (sym saw.type_is) (sound.heap (cell_of (word_at f.stack n)) saw.object saw.held).of_type.made
+      let lies = sound.heap (cell_of (word_at f.stack n)) saw.object saw.held in
+      let inside = steps.calls.runnable.types saw.object.class (type_numbered o saw.object.class)
+      (slice_get-get_or o.types saw.object.class (type_of_class 0) lies.numbered) in
+      subst (IsMet o) (sym saw.type_is) (inside, lies.of_type.made)
 
   receiver_place : (m : ℕ) (t : TypeRef) → slice_get (argument_words o m ++ slot.Ref t ∷ []) (words_of_arguments o m) ≡ Some (slot.Ref t)
   receiver_place m t =
@@ -509,8 +512,13 @@ module _ (p : Program) (typings : Typings) (typed_all : AreTyped p typings) (ste
         after parts.1 in
         (no_constructor m parts.0, found.0, found.1)
 
-    virtual_owed : ((m : MethodId) (n : TypeId) (t of : TypeRef) → u ≡ resolved.OfMethod m n → slice_get o.types n.0 ≡ Some t → HasObjects o of
-        → fits_type o.classes of t ≡ true → Selects p of m.0) → instance_call_row o u r.before ≡ Some after → Owed (virtual_effect o u byte seen)
+    named_plain : (m : ℕ) (t : TypeRef) → cond (is_initializer o m) None (worked o (argument_words o m ++ slot.Ref t ∷ []) (result_words o m) r.before) ≡ Some after
+        → is_initializer o m ≡ false
+    named_plain m t row =
+        (cond-some_else (is_initializer o m) (worked o (argument_words o m ++ slot.Ref t ∷ []) (result_words o m) r.before) after row).0
+
+    virtual_owed : ((m : MethodId) (n : TypeId) (t of : TypeRef) → u ≡ resolved.OfMethod m n → slice_get o.types n.0 ≡ Some t
+        → is_initializer o m.0 ≡ false → IsMet o of → fits_type o.classes of t ≡ true → Selects p of m.0) → instance_call_row o u r.before ≡ Some after → Owed (virtual_effect o u byte seen)
     unfolding instance_call_row virtual_effect
     virtual_owed selects row =
         by_row_method Owed o u _ after row _ (λ m n t is at called.
@@ -518,10 +526,10 @@ module _ (p : Program) (typings : Typings) (typed_all : AreTyped p typings) (ste
         wanted_object o x.store r.own r.news steps.tree Owed (argument_words o m.0 ++ slot.Ref t ∷ []) r.before.stack found.1 found.2 f.stack r.stack
         (words_of_arguments o m.0) t (receiver_place m.0 t) _ null_owed
         (λ it there fits_it. selected_owed m n t is found.1 found.2 found.0 it there
-        (selects m n t it.type is at (seen_made (words_of_arguments o m.0) it there) fits_it)))
+        (selects m n t it.type is at (named_plain m.0 t called) (seen_made (words_of_arguments o m.0) it there) fits_it)))
 
-    interface_owed : ((m : MethodId) (n : TypeId) (t of : TypeRef) → u ≡ resolved.OfMethod m n → slice_get o.types n.0 ≡ Some t → HasObjects o of
-        → is_sub o.classes of t ≡ true → Selects p of m.0) → instance_call_row o u r.before ≡ Some after → Owed (interface_effect o u byte seen)
+    interface_owed : ((m : MethodId) (n : TypeId) (t of : TypeRef) → u ≡ resolved.OfMethod m n → slice_get o.types n.0 ≡ Some t
+        → is_initializer o m.0 ≡ false → IsMet o of → is_sub o.classes of t ≡ true → Selects p of m.0) → instance_call_row o u r.before ≡ Some after → Owed (interface_effect o u byte seen)
     unfolding instance_call_row interface_effect
     interface_owed selects row =
         by_row_method Owed o u _ after row _ (λ m n t is at called.
@@ -532,7 +540,7 @@ module _ (p : Program) (typings : Typings) (typed_all : AreTyped p typings) (ste
         (entered o (words_of_arguments o m.0 + 1) (select o.classes (receiver_class o it) m.0) byte seen)
         (thrown o (codes "java/lang/IncompatibleClassChangeError"))
         (λ sub. selected_owed m n t is found.1 found.2 found.0 it there
-        (selects m n t it.type is at (seen_made (words_of_arguments o m.0) it there) sub))
+        (selects m n t it.type is at (named_plain m.0 t called) (seen_made (words_of_arguments o m.0) it there) sub))
         (λ fails. thrown_owed (codes "java/lang/IncompatibleClassChangeError") cells.built_in.thrown.1.1.1.1.1.1.0)))
 
     -- ---- invokespecial
@@ -693,14 +701,14 @@ call_whole p typings typed_all steps cells free x sound areas f (insn.Virtual in
     (virtual_owed p typings typed_all steps cells free x sound areas f (insn.Virtual index) after h stands whole byte refl (λ m. refl)
     (λ m n is. steps.calls.calls f.method (insn.Virtual index) m n false
     (named_at p typings typed_all steps cells free x sound areas f (insn.Virtual index) after h stands whole byte m n is) refl)
-    (λ m n t of is at made fits_it. cells.calls.virtual f.method index m n t of
-    (named_at p typings typed_all steps cells free x sound areas f (insn.Virtual index) after h stands whole byte m n is) at made fits_it) h.row).owes leads
+    (λ m n t of is at plain made fits_it. cells.calls.virtual f.method index m n t of
+    (named_at p typings typed_all steps cells free x sound areas f (insn.Virtual index) after h stands whole byte m n is) at plain made fits_it) h.row).owes leads
 call_whole p typings typed_all steps cells free x sound areas f (insn.Interface index) after h stands whole byte call leads =
     (interface_owed p typings typed_all steps cells free x sound areas f (insn.Interface index) after h stands whole byte refl (λ m. refl)
     (λ m n is. steps.calls.calls f.method (insn.Interface index) m n false
     (named_at p typings typed_all steps cells free x sound areas f (insn.Interface index) after h stands whole byte m n is) refl)
-    (λ m n t of is at made sub. cells.calls.interface f.method index m n t of
-    (named_at p typings typed_all steps cells free x sound areas f (insn.Interface index) after h stands whole byte m n is) at made sub) h.row).owes leads
+    (λ m n t of is at plain made sub. cells.calls.interface f.method index m n t of
+    (named_at p typings typed_all steps cells free x sound areas f (insn.Interface index) after h stands whole byte m n is) at plain made sub) h.row).owes leads
 call_whole p typings typed_all steps cells free x sound areas f (insn.Special index) after h stands whole byte call leads =
     (special_owed p typings typed_all steps cells free x sound areas f (insn.Special index) after h stands whole byte refl (λ m. refl)
     (λ m n is. steps.calls.calls f.method (insn.Special index) m n false

@@ -6,7 +6,7 @@ use Rattle.fm_base.specs.declared.ids.TypeId.{TypeId}
 use Rattle.fm_base.specs.declared.kinds.TypeRef.{TypeRef}
 use Rattle.fm_code.specs.AccessFlags.{is_static}
 use Rattle.fm_code.specs.declared.instructions.Insn.TheVariants as insn
-use Rattle.fm_types.specs.CallRows.{is_constructor, names_own_or_above}
+use Rattle.fm_types.specs.CallRows.{is_constructor, is_initializer, names_own_or_above}
 use Rattle.fm_types.specs.Fits.{fits_type, object_of}
 use Rattle.fm_types.specs.Named.{argument_words, built_in_type, class_of_method, object_slot, result_words, throwable_type}
 use Rattle.fm_types.specs.Typed.{entry_slots}
@@ -16,7 +16,7 @@ use Rattle.fm_world.specs.Chains.{is_sub}
 use Rattle.fm_world.specs.Lookups.{select, special_target}
 use Rattle.fm_world.specs.Members.{field_at, method_at}
 use Rattle.fm_world.specs.Numbers.{type_of_class}
-use Rattle.fm_world.specs.Programs.{class_of_type, kind_at, Outline, Program}
+use Rattle.fm_world.specs.Programs.{class_of_type, IsTypeIn, kind_at, Outline, Program}
 use Rattle.fm_world.specs.declared.declarations.Constant.TheVariants as constant
 use Rattle.fm_world.specs.declared.uses.Use.TheVariants as resolved
 use Rattle.fm_frames.specs.CallRows.{native_of}
@@ -53,6 +53,10 @@ abbrev pub input_type : Outline → TypeRef
 input_type o = built_in_type o (codes "java/io/InputStream")
 
 -- ---- calls
+
+-- objects of the type are made, and its class is there
+abbrev pub IsMet : Outline → TypeRef → Type 0
+IsMet o t = IsTypeIn o.classes t × HasObjects o t
 
 -- a method is selected for objects of the type, of a class that the type fits
 pub record Selects (p : Program) (of : TypeRef) (method : ℕ) : Type 0 where
@@ -192,9 +196,9 @@ pub record PlacesFit (p : Program) : Type 0 where
 pub record CallsFit (p : Program) : Type 0 where
   -- a method is selected for each object that invokevirtual or invokeinterface may meet (JVMS 5.4.6)
   pub virtual : (method index : ℕ) (m : MethodId) (t : TypeId) (named of : TypeRef) → IsNamed p method (insn.Virtual index) (resolved.OfMethod m t)
-      → slice_get p.outline.types t.0 ≡ Some named → HasObjects p.outline of → fits_type p.outline.classes of named ≡ true → Selects p of m.0
+      → slice_get p.outline.types t.0 ≡ Some named → is_initializer p.outline m.0 ≡ false → IsMet p.outline of → fits_type p.outline.classes of named ≡ true → Selects p of m.0
   pub interface : (method index : ℕ) (m : MethodId) (t : TypeId) (named of : TypeRef) → IsNamed p method (insn.Interface index) (resolved.OfMethod m t)
-      → slice_get p.outline.types t.0 ≡ Some named → HasObjects p.outline of → is_sub p.outline.classes of named ≡ true → Selects p of m.0
+      → slice_get p.outline.types t.0 ≡ Some named → is_initializer p.outline m.0 ≡ false → IsMet p.outline of → is_sub p.outline.classes of named ≡ true → Selects p of m.0
   -- where it names the own class or one above it, invokespecial leads to a method of such a class; and a constructor is of exactly the class that is named
   -- (JVMS 6.5.invokespecial)
   pub special : (method index : ℕ) (m : MethodId) (t : TypeId) (named : TypeRef) → IsNamed p method (insn.Special index) (resolved.OfMethod m t)
