@@ -126,7 +126,7 @@ module _ (entries more : List Entry) (free : ℕ) (named : IsSome (method_at (en
   different_kept m n k l texts others k_name k_descriptor l_name l_descriptor different (names, descriptors) =
       different (
         sym (text_same entries more m.name texts.0) ∙ sym (ap (utf8_at (entries ++ more)) k_name) ∙ names ∙ ap (utf8_at (entries ++ more)) l_name ∙ text_same entries more n.name others.0,
-        sym (text_same entries more m.descriptor texts.1) ∙ sym (ap (utf8_at (entries ++ more)) k_descriptor) ∙ descriptors ∙ ap (utf8_at (entries ++ more)) l_descriptor ∙ text_same entries more n.descriptor others.1
+        sym (text_same entries more m.descriptor texts.1) ∙ sym (ap (utf8_at (entries ++ more)) k_descriptor) ∙ descriptors ∙ ap (utf8_at (entries ++ more)) l_descriptor ∙ text_same entries more n.descriptor others.1,
       )
 
   others_differ : (plans : Plans) (first : ℕ) (m k : Member) (methods : List Member) → HasTexts m → k.name ≡ m.name → k.descriptor ≡ m.descriptor → AllByRecursion HasTexts methods
@@ -207,32 +207,34 @@ changed_spelled plans first c (bytes, spells) short few can =
     let entries = c.pool.entries in
     let more = (sought_free entries).missing in
     let named = IsSome-from_some (method_at (with_free entries) (free_index c)) free_method (free_named entries (with_free entries) more (free_index c) refl refl) in
-    let codes_are = codes_short MAX_FILE_BYTES c short in
-    (class_bytes (changed plans first c), record {
-      bytes_are = refl;
-      fits = record {
-        minor = omega arith;
-        major = omega arith;
-        flags = spells.fits.flags;
-        this_class = spells.fits.this_class;
-        super_class = spells.fits.super_class;
-        interfaces = spells.fits.interfaces;
-        fields = spells.fits.fields;
-        methods = record {
-          count = let same = count_same entries more (free_index c) named plans first c.methods in let was = spells.fits.methods.count in omega (arith, same, was);
-          each = methods_fit entries more (free_index c) named (is_interface c.flags) plans first c.methods can spells.methods codes_are spells.fits.methods.each;
+    let codes_are = codes_short MAX_FILE_BYTES c short in (
+      class_bytes (changed plans first c),
+      record {
+        bytes_are = refl;
+        fits = record {
+          minor = omega arith;
+          major = omega arith;
+          flags = spells.fits.flags;
+          this_class = spells.fits.this_class;
+          super_class = spells.fits.super_class;
+          interfaces = spells.fits.interfaces;
+          fields = spells.fits.fields;
+          methods = record {
+            count = let same = count_same entries more (free_index c) named plans first c.methods in let was = spells.fits.methods.count in omega (arith, same, was);
+            each = methods_fit entries more (free_index c) named (is_interface c.flags) plans first c.methods can spells.methods codes_are spells.fits.methods.each;
+          };
+          attributes = spells.fits.attributes;
         };
-        attributes = spells.fits.attributes;
-      };
-      pool = free_spelled c.pool (record { entries = with_free entries }) more (free_index c) spells.pool (omega (arith, few)) refl refl;
-      this_class = still_such (class_name_at entries c.this_class) (class_name_at (with_free entries) c.this_class) _ (class_kept entries more c.this_class) spells.this_class;
-      super_class = super_kept entries more c.super_class spells.super_class;
-      interfaces = AllByRecursion-weaker (λ (index : ℕ). IsSome (class_name_at entries index)) (λ (index : ℕ). IsSome (class_name_at (with_free entries) index))
-          (λ index there. still_some (class_name_at entries index) (class_name_at (with_free entries) index) (class_kept entries more index) there) c.interfaces spells.interfaces;
-      fields = AllByRecursion-weaker (FieldIsValid (is_interface c.flags) entries) (FieldIsValid (is_interface c.flags) (with_free entries)) (field_valid_kept entries more (is_interface c.flags)) c.fields spells.fields;
-      distinct_fields = fields_distinct entries more (free_index c) named c.fields (field_texts (is_interface c.flags) entries c.fields spells.fields) spells.distinct_fields;
-      methods = methods_valid entries more (free_index c) named (is_interface c.flags) plans first c.methods can spells.methods;
-      distinct_methods = methods_distinct entries more (free_index c) named plans first c.methods (method_texts (is_interface c.flags) entries c.methods spells.methods) spells.distinct_methods;
-      attributes = AllByRecursion-weaker (λ (raw : Raw). IsSome (utf8_at entries raw.name)) (λ (raw : Raw). IsSome (utf8_at (with_free entries) raw.name))
-          (λ raw there. still_some (utf8_at entries raw.name) (utf8_at (with_free entries) raw.name) (text_kept entries more raw.name) there) c.attributes spells.attributes;
-    })
+        pool = free_spelled c.pool (record { entries = with_free entries }) more (free_index c) spells.pool (omega (arith, few)) refl refl;
+        this_class = still_such (class_name_at entries c.this_class) (class_name_at (with_free entries) c.this_class) _ (class_kept entries more c.this_class) spells.this_class;
+        super_class = super_kept entries more c.super_class spells.super_class;
+        interfaces = AllByRecursion-weaker (λ (index : ℕ). IsSome (class_name_at entries index)) (λ (index : ℕ). IsSome (class_name_at (with_free entries) index))
+            (λ index there. still_some (class_name_at entries index) (class_name_at (with_free entries) index) (class_kept entries more index) there) c.interfaces spells.interfaces;
+        fields = AllByRecursion-weaker (FieldIsValid (is_interface c.flags) entries) (FieldIsValid (is_interface c.flags) (with_free entries)) (field_valid_kept entries more (is_interface c.flags)) c.fields spells.fields;
+        distinct_fields = fields_distinct entries more (free_index c) named c.fields (field_texts (is_interface c.flags) entries c.fields spells.fields) spells.distinct_fields;
+        methods = methods_valid entries more (free_index c) named (is_interface c.flags) plans first c.methods can spells.methods;
+        distinct_methods = methods_distinct entries more (free_index c) named plans first c.methods (method_texts (is_interface c.flags) entries c.methods spells.methods) spells.distinct_methods;
+        attributes = AllByRecursion-weaker (λ (raw : Raw). IsSome (utf8_at entries raw.name)) (λ (raw : Raw). IsSome (utf8_at (with_free entries) raw.name))
+            (λ raw there. still_some (utf8_at entries raw.name) (utf8_at (with_free entries) raw.name) (text_kept entries more raw.name) there) c.attributes spells.attributes;
+      },
+    )

@@ -94,7 +94,7 @@ four_twos a b c d =
       length-two a,
       length-two b,
       length-two c,
-      length-two d
+      length-two d,
     )
 
 handlers_size : (code : Code) (handlers : List Handler) → length (flat_map (handler_bytes code) handlers) ≡ 8 * length handlers
@@ -188,7 +188,7 @@ code_size code =
       length-two code.max_locals,
       length-four code.length,
       length-two (length code.handlers),
-      length-two (length code.attributes)
+      length-two (length code.attributes),
     )
 
 -- a code whose tables are moved ones has no more bytes than the old one and its own code array
