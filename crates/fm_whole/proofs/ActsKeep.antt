@@ -34,7 +34,7 @@ use Rattle.fm_whole.proofs.StoresKeep.{leads-later}
 -- ---- lists
 
 -- what stands in a list after one place of it was set
-set_at : {X : Type 0} (xs : List X) (i : ℕ) (x : X) (k : ℕ) (d : X)
+pub set_at : {X : Type 0} (xs : List X) (i : ℕ) (x : X) (k : ℕ) (d : X)
     → ((i ≡ k) × (slice_index_or (slice_set xs i x) k d ≡ x)) ⊎ (slice_index_or (slice_set xs i x) k d ≡ slice_index_or xs k d)
 set_at [] i x k d = inr refl
 set_at (y ∷ xs) zero x zero d = inl (refl, refl)
@@ -68,7 +68,7 @@ pub record IsAn (o : Outline) (store : Store) (t : TypeRef) (cell : ℕ) : Type 
   pub held : object_at store cell ≡ Some object
   pub type_is : type_numbered o object.class ≡ t
 
-an-later : (o : Outline) (store later : Store) (t : TypeRef) (cell : ℕ) → Extends store later → IsAn o store t cell → IsAn o later t cell
+pub an-later : (o : Outline) (store later : Store) (t : TypeRef) (cell : ℕ) → Extends store later → IsAn o store t cell → IsAn o later t cell
 an-later o store later t cell more h =
     let kept : IsKept later cell h.object = more.kept cell h.object h.held in
     record { object = kept.now; held = kept.is; type_is = ap (λ c. type_numbered o c) kept.class ∙ h.type_is }
@@ -110,7 +110,7 @@ types_after types (action ∷ more) = types_after types more
 abbrev pub WentTo : Outline → Store → List TypeRef → Performed → Type 0
 WentTo o store types (Did x made) = Went o store types x made
 WentTo o store types (FullAt x needed) = AreasAreWhole o x × Extends store x.store
-WentTo o store types (LostAt v) = Unit {0}
+WentTo o store types (LostAt v) = ⊥
 
 -- the areas with another store, which goes on from the one before
 went_stored : (o : Outline) (store : Store) (types : List TypeRef) (x : Areas) (made : List ℕ) (later : Store) → Went o store types x made
@@ -395,7 +395,7 @@ went_first o x areas = record { areas = areas; extends = extends-refl x.store; l
 leaves : (o : Outline) (store : Store) (types : List TypeRef) (result : Performed) → WentTo o store types result → LeavesWhole o result
 leaves o store types (Did x made) went = went.areas
 leaves o store types (FullAt x needed) went = went.0
-leaves o store types (LostAt v) went = tt
+leaves o store types (LostAt v) went = absurd went
 
 pub acts_keep : (o : Outline) (choose : Choose) (locals stack : List Value) (x : Areas) (actions : List Action) → AreasAreWhole o x
     → ActsLead o x.store stack [] actions → LeavesWhole o (performed o (lawful choose) locals stack actions x [])

@@ -94,14 +94,14 @@ going_whole p typings tree typed f callers i after h e going leads areas made fi
 
 -- ---- the first item of a method
 
-zip_appended : {A B : Type 0} (P : A → B → Type 0) (xs others : List A) (words more : List B) → AllZip P xs words → AllZip P others more
+pub zip_appended : {A B : Type 0} (P : A → B → Type 0) (xs others : List A) (words more : List B) → AllZip P xs words → AllZip P others more
     → AllZip P (xs ++ others) (words ++ more)
 zip_appended P [] others [] more h rest = rest
 zip_appended P [] others (v ∷ words) more h rest = absurd h
 zip_appended P (x ∷ xs) others [] more h rest = absurd h
 zip_appended P (x ∷ xs) others (v ∷ words) more h rest = (h.0, zip_appended P xs others words more h.1 rest)
 
-abbrev max_locals_in : Option Code → ℕ
+abbrev pub max_locals_in : Option Code → ℕ
 max_locals_in None = 0
 max_locals_in (Some code) = code.max_locals
 

@@ -59,18 +59,18 @@ module _ (o : Outline) (store : Store) (own : ℕ) (news : ℕ → Option TypeRe
   word_seen (x ∷ xs) (v ∷ words) zero s h at = (v, refl, subst (λ t. WordFits o store own news t v) (same_Some x s at) h.0)
   word_seen (x ∷ xs) (v ∷ words) (suc n) s h at = word_seen xs words n s h.1 at
 
-  reference_kind : (s : Slot) (t : TypeRef) (v : Value) → fits o s (slot.Ref t) ≡ true → HasKind s v → IsReference v
+  pub reference_kind : (s : Slot) (t : TypeRef) (v : Value) → fits o s (slot.Ref t) ≡ true → HasKind s v → IsReference v
   unfolding fits
   reference_kind slot.Null t v f h = h
   reference_kind (slot.Ref a) t v f h = h
   reference_kind s t v f h = absurd (false≢true f)
 
-  int_kind : (s : Slot) (v : Value) → fits o s slot.Int ≡ true → HasKind s v → (n : ℤ) × (v ≡ value.Int n)
+  pub int_kind : (s : Slot) (v : Value) → fits o s slot.Int ≡ true → HasKind s v → (n : ℤ) × (v ≡ value.Int n)
   unfolding fits
   int_kind slot.Int v f h = h
   int_kind s v f h = absurd (false≢true f)
 
-  long_kind : (s : Slot) (v : Value) → fits o s slot.Long ≡ true → HasKind s v → (n : ℤ) × (v ≡ value.Long n)
+  pub long_kind : (s : Slot) (v : Value) → fits o s slot.Long ≡ true → HasKind s v → (n : ℤ) × (v ≡ value.Long n)
   unfolding fits
   long_kind slot.Long v f h = h
   long_kind s v f h = absurd (false≢true f)

@@ -34,7 +34,7 @@ zip_along R P Q each (x ∷ xs) (y ∷ ys) (v ∷ words) level h = (each x y v l
 -- ---- along the order of slots
 
 module _ (o : Outline) (tree : AreTree o.classes) (store : Store) (own : ℕ) (news : ℕ → Option TypeRef) where
-  leads_along : (a b : TypeRef) (cell : ℕ) → fits_type o.classes a b ≡ true → LeadsToA o store (λ u. fits_type o.classes u a) cell
+  pub leads_along : (a b : TypeRef) (cell : ℕ) → fits_type o.classes a b ≡ true → LeadsToA o store (λ u. fits_type o.classes u a) cell
       → LeadsToA o store (λ u. fits_type o.classes u b) cell
   leads_along a b cell f (inl e) = inl e
   leads_along a b cell f (inr h) = inr (record {

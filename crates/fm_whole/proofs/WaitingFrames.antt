@@ -18,11 +18,11 @@ drop_short zero xs = omega arith
 drop_short (suc n) [] = omega arith
 drop_short (suc n) (x ∷ xs) = let less = drop_short n xs in omega (arith, less)
 
-lowest_all : (xs : List Slot) (n : ℕ) → length xs ≡ n → lowest n xs ≡ xs
+pub lowest_all : (xs : List Slot) (n : ℕ) → length xs ≡ n → lowest n xs ≡ xs
 lowest_all xs n same = let none : length xs - n ≡ 0 = omega (arith, same) in ap (λ k. drop k xs) none
 
 -- so many slots as are left from some on are these
-lowest_drop : (n : ℕ) (xs : List Slot) → lowest (length (drop n xs)) xs ≡ drop n xs
+pub lowest_drop : (n : ℕ) (xs : List Slot) → lowest (length (drop n xs)) xs ≡ drop n xs
 lowest_drop zero xs = lowest_all xs (length xs) refl
 lowest_drop (suc n) [] = refl
 lowest_drop (suc n) (x ∷ xs) =
@@ -30,7 +30,7 @@ lowest_drop (suc n) (x ∷ xs) =
     let one_more : suc (length xs) - length (drop n xs) ≡ suc (length xs - length (drop n xs)) = omega (arith, less) in
     ap (λ k. drop k (x ∷ xs)) one_more ∙ lowest_drop n xs
 
-zip_dropped : {A B : Type 0} (P : A → B → Type 0) (n : ℕ) (xs : List A) (words : List B) → AllZip P xs words → AllZip P (drop n xs) (drop n words)
+pub zip_dropped : {A B : Type 0} (P : A → B → Type 0) (n : ℕ) (xs : List A) (words : List B) → AllZip P xs words → AllZip P (drop n xs) (drop n words)
 zip_dropped P zero xs words h = h
 zip_dropped P (suc n) [] [] h = tt
 zip_dropped P (suc n) [] (v ∷ words) h = absurd h

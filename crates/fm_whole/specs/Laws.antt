@@ -1,5 +1,5 @@
 -- The laws that the functions of `laws` prove.
-use Rattle.std.specs.Prelude.{◌≡◌, ℕ, ℤ, Some, slice_get, true, Bool, List, [], ◌∷◌, ◌++◌, drop, Option}
+use Rattle.std.specs.Prelude.{◌≡◌, ℕ, ℤ, Some, slice_get, true, false, Bool, List, [], ◌∷◌, ◌++◌, drop, Option}
 use Rattle.std.specs.List.{AllByRecursion, AllZip}
 use Rattle.fm_base.specs.declared.kinds.TypeRef.{TypeRef}
 use Rattle.fm_cells.specs.Choices.{lawful}
@@ -9,24 +9,30 @@ use Rattle.fm_code.specs.declared.instructions.Insn.{Insn}
 use Rattle.fm_types.specs.Fits.{AreTree, fits, fits_type}
 use Rattle.fm_types.specs.Named.{class_of_method, throwable_type}
 use Rattle.fm_types.specs.States.{is_whole, state_fits, TypeState}
-use Rattle.fm_types.specs.Typed.{made_at}
+use Rattle.fm_types.specs.Typed.{made_at, use_by}
 use Rattle.fm_types.specs.declared.slots.Slot.{Slot}
 use Rattle.fm_types.specs.declared.slots.Slot.TheVariants as slot
 use Rattle.fm_world.specs.Programs.{Outline, Program}
 use Rattle.fm_frames.specs.Acts.{cell_of, Choose, performed}
 use Rattle.fm_frames.specs.Effects.{Action, Effect}
 use Rattle.fm_frames.specs.Operands.{on_int, on_long, on_object}
+use Rattle.fm_frames.specs.Rows.{effect_of}
 use Rattle.fm_frames.specs.Sights.{Looks, sight, sights, type_numbered}
 use Rattle.fm_frames.specs.States.{Areas, Frame, State}
-use Rattle.fm_frames.specs.Steps.{caught, continued, InFrames, stack_after, start_frames, written}
+use Rattle.fm_frames.specs.Steps.{caught, continued, InFrames, stack_after, start_frames, step, written}
 use Rattle.fm_frames.specs.declared.values.Value.{Value}
 use Rattle.fm_sound.specs.Going.{IsGoingOn, StandsAtRow, StartsClass}
-use Rattle.fm_sound.specs.Leading.{LeadsAs, sources_of}
-use Rattle.fm_sound.specs.Sound.{AreTyped, IsReference, StandBelow, StandsWithout, Typings}
+use Rattle.fm_sound.specs.Leading.{is_call, LeadsAs, sources_of}
+use Rattle.fm_same.specs.Resolved.{CallsNoFreeMe, IsResolved}
+use Rattle.fm_sound.specs.Making.{MakesAreResolved}
+use Rattle.fm_sound.specs.Resolved.{MainIsReady, StepsAreResolved}
+use Rattle.fm_sound.specs.Sound.{AreasAreSound, AreTyped, IsReference, StandBelow, StandsWithout, Typings}
 use Rattle.fm_whole.specs.Catching.{CatchesFit}
+use Rattle.fm_whole.specs.CellsResolved.{BuiltInsFit, CellsAreResolved}
 use Rattle.fm_whole.specs.Doing.{ActsLead, LeavesWhole}
+use Rattle.fm_whole.specs.NoFault.{NeverFaults}
 use Rattle.fm_whole.specs.Seen.{IsNoFault, SeesA}
-use Rattle.fm_whole.specs.Whole.{AreasAreWhole, FrameFits, FrameIsWhole, LeadsToA, WordFits}
+use Rattle.fm_whole.specs.Whole.{AreasAreWhole, FrameFits, FrameIsWhole, HasNoFault, IsWholeBy, LeadsToA, WordFits}
 
 -- what fits a state fits each state that this one fits, where no long is split: so it goes along each edge of a typing
 abbrev pub FitsKeepsCells : Type 0
@@ -69,6 +75,30 @@ ActionsKeepWhole =
     (o : Outline) (choose : Choose) (locals stack : List Value) (x : Areas) (actions : List Action) → AreasAreWhole o x
     → ActsLead o x.store stack [] actions → LeavesWhole o (performed o (lawful choose) locals stack actions x [])
 
+-- ---- built-in classes
+
+-- Built-in classes and methods are what is asked of them, in each linked program.
+abbrev pub BuiltInsAreAsAsked : Type 0
+BuiltInsAreAsAsked = (p : Program) → IsResolved p → BuiltInsFit p
+
+-- ---- rows
+
+-- No instruction but a call is a fault where the checker's row is met: it never meets an operand of another sort, or a cell in which it can't be.
+abbrev pub PlainRowsAreNoFaults : Type 0
+PlainRowsAreNoFaults =
+    (p : Program) (typings : Typings) → AreTyped p typings → StepsAreResolved p → CellsAreResolved p
+    → (x : Areas) → AreasAreSound p.outline x → AreasAreWhole p.outline x → (f : Frame) (i : Insn) (after : TypeState) → StandsAtRow p typings f i after
+    → StandsWithout p typings 0 f → FrameIsWhole p typings x.store f → is_call i ≡ false → (byte : Option ℕ)
+    → IsNoFault (effect_of p.outline f.method (use_by p f.method i) i byte (sights p.outline x.store f.stack)).next
+
+-- Nor is a call, where the program calls no method of FreeMe: so no instruction is a fault.
+abbrev pub RowsAreNoFaults : Type 0
+RowsAreNoFaults =
+    (p : Program) (typings : Typings) → AreTyped p typings → StepsAreResolved p → CellsAreResolved p → CallsNoFreeMe p
+    → (x : Areas) → AreasAreSound p.outline x → AreasAreWhole p.outline x → (f : Frame) (i : Insn) (after : TypeState) → StandsAtRow p typings f i after
+    → StandsWithout p typings 0 f → FrameIsWhole p typings x.store f → (byte : Option ℕ)
+    → IsNoFault (effect_of p.outline f.method (use_by p f.method i) i byte (sights p.outline x.store f.stack)).next
+
 -- ---- frames
 
 -- A frame that goes on to the next item or to a target with what fits the state after its row is whole there, and the frames below it stay as they are.
@@ -104,3 +134,17 @@ CatchingKeepsWhole =
     → (f : Frame) (callers : List Frame) (words : ℕ) → StandsWithout p typings words f → StandBelow p typings f callers
     → AllByRecursion (FrameIsWhole p typings store) (f ∷ callers) → (frames : List Frame) → caught p t v (f ∷ callers) ≡ InFrames frames
     → AllByRecursion (FrameIsWhole p typings store) frames
+
+-- ---- steps and runs
+
+-- A step of a typed and linked program that calls no FreeMe leads from a whole state to a whole one, and never to a fault, at each choice of a memory that
+-- reuses cells in any way.
+abbrev pub StepsKeepWhole : Type 0
+StepsKeepWhole =
+    (p : Program) (typings : Typings) → IsResolved p → StepsAreResolved p → MakesAreResolved p → CellsAreResolved p → CallsNoFreeMe p → (choose : Choose) (x : State)
+    → IsWholeBy p typings x → HasNoFault x → IsWholeBy p typings (step p (lawful choose) x).state × HasNoFault (step p (lawful choose) x).state
+
+-- So each state of each of its runs is whole, from the opening on, and none ends in a fault.
+abbrev pub RunsNeverFault : Type 0
+RunsNeverFault =
+    (p : Program) (typings : Typings) → IsResolved p → StepsAreResolved p → MakesAreResolved p → CellsAreResolved p → MainIsReady p → NeverFaults p typings

@@ -34,3 +34,27 @@ pub fn law_whole_frames()
     ensures starting { law.StartingKeepsWhole }
     ensures catching { law.CatchingKeepsWhole }
 {}
+
+/// In each linked program what the machine throws can be thrown, what lives for ever has no place for references,
+/// System has its two streams, and each built-in method takes and gives what its row looks at.
+pub fn law_built_ins()
+    ensures { law.BuiltInsAreAsAsked }
+{}
+
+/// No instruction but a call meets an operand of another sort than its own, or a cell in which it can't be, where
+/// the checker's row is met.
+pub fn law_plain_rows()
+    ensures { law.PlainRowsAreNoFaults }
+{}
+
+/// No instruction is a fault, calls and built-in methods included, where the program calls no method of FreeMe.
+pub fn law_rows()
+    ensures { law.RowsAreNoFaults }
+{}
+
+/// Each state of each run of a typed and linked program that calls no FreeMe is whole, and none ends in a fault,
+/// whatever the memory chooses.
+pub fn law_no_fault()
+    ensures steps { law.StepsKeepWhole }
+    ensures runs { law.RunsNeverFault }
+{}

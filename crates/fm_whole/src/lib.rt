@@ -3,4 +3,7 @@
 
 mod laws;
 
-pub use laws::{law_cells_fit, law_operands, law_sights, law_whole_areas, law_whole_frames};
+pub use laws::{
+    law_built_ins, law_cells_fit, law_no_fault, law_operands, law_plain_rows, law_rows, law_sights,
+    law_whole_areas, law_whole_frames,
+};

@@ -1,0 +1,4 @@
+pub mod ArgumentLemmas
+pub mod MatchLemmas
+pub mod CommandLemmas
+pub mod RequestLemmas

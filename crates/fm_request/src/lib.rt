@@ -1,0 +1,13 @@
+// What words of the command line ask for: the values that both programs take, and the request of fmrun.
+//
+// The layers above use that a request is what clap's own model of the command matches, and that the
+// arguments of main are the pieces of a text between its spaces.
+#![tactic(auto)]
+
+mod arguments;
+mod request;
+mod values;
+
+pub use arguments::arguments_of;
+pub use request::{Request, request_of};
+pub use values::{are_values, command, files, is_value};
