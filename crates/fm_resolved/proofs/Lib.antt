@@ -25,3 +25,6 @@ pub mod FewTypes
 pub mod ObjectSizes
 pub mod FewTexts
 pub mod FewStarts
+pub mod CellTypes
+pub mod InterfaceSets
+pub mod MethodOwners

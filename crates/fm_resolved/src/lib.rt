@@ -1,6 +1,7 @@
 // What linking makes sure of, of the program of class files against which no cause stands (JVMS 5.3.5, 5.4.3).
 #![tactic(auto)]
 
+ghost use Rattle.fm_resolved.specs.Cells.{PlacesOfProgramsFit};
 ghost use Rattle.fm_resolved.specs.DeadRegions.{LinkedRegionsDie};
 ghost use Rattle.fm_resolved.specs.Laws.{
   MainOfProgramsIsReady,
@@ -16,6 +17,7 @@ ghost use Rattle.fm_resolved.specs.Makes.{
 };
 
 use fm_same::{law_dead_regions, law_targets};
+use fm_whole::law_built_ins;
 use fm_world::law_class_types;
 
 /// Where nothing is refused, the program of spelled class files has what linking makes sure of.
@@ -79,6 +81,15 @@ pub fn law_can_run()
     law_sound_steps();
     law_makeable();
     law_main();
+}
+
+/// Where nothing is refused, built-in classes and the places of references are as the program of spelled
+/// class files, as many as one call takes, needs them so that each cell fits where it stands.
+pub fn law_cell_places()
+    ensures { PlacesOfProgramsFit }
+{
+    law_resolved();
+    law_built_ins();
 }
 
 /// The law of dead regions of linked programs: in each run of the program of accepted class files
