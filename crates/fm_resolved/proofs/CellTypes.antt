@@ -109,7 +109,7 @@ super_there name is =
     (or_cases (bytes_eq name cloneable_name) (bytes_eq name serializable_name || false) rest))
     (or_cases (bytes_eq name object_name) (bytes_eq name cloneable_name || (bytes_eq name serializable_name || false)) is)
 
-above_built_in : (given : List ClassDef) → refused_built_ins given ≡ [] → (class : ℕ) → is_above_arrays (classes_of given) class ≡ true → class < 28
+pub above_built_in : (given : List ClassDef) → refused_built_ins given ≡ [] → (class : ℕ) → is_above_arrays (classes_of given) class ≡ true → class < 28
 unfolding refused_built_ins
 above_built_in given none class =
     by_class given (λ c. list_any (bytes_eq c.name) array_supers ≡ true → class < 28) class (λ within is. within)
@@ -123,7 +123,7 @@ one_of true true none is = refl
 one_of true false none is = absurd (false≢true (sym none))
 one_of false b none is = absurd (false≢true is)
 
-above_seen : (given : List ClassDef) → refused_built_ins given ≡ [] → AreTree (classes_of given) → object_of (classes_of given) ≡ 0 → (class : ℕ)
+pub above_seen : (given : List ClassDef) → refused_built_ins given ≡ [] → AreTree (classes_of given) → object_of (classes_of given) ≡ 0 → (class : ℕ)
     → is_above_arrays (classes_of given) class ≡ true → is_seen_as_object (classes_of given) class ≡ true
 above_seen given none tree first class is =
     let within = above_built_in given none class is in

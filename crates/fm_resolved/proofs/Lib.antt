@@ -28,3 +28,4 @@ pub mod FewStarts
 pub mod CellTypes
 pub mod InterfaceSets
 pub mod MethodOwners
+pub mod CellCalls

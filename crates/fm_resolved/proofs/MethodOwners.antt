@@ -237,31 +237,37 @@ module _ (given : List ClassDef) (main : List ℕ) (spelled : AllByRecursion Has
   path_by b n =
       cond b (n ∷ (superinterfaces_of classes n ++ option_to_list (object_number classes))) (chain_of classes n ++ interfaces_of classes n)
 
-  by_interface : (class n owner : ℕ) → class < length classes → Reached given class n
-      → ((y : ℕ) → is_among y (superinterfaces_of classes n) ≡ true → Reached given class y)
-      → is_among owner (path_by true n) ≡ true → Reached given class owner
-  by_interface class n owner within here higher among =
-      ⊎_elim (λ same. subst (Reached given class) (sym (eqb-true owner n same)) here)
-      (λ later. ⊎_elim (λ there. higher owner there)
-      (λ top. inl (ap (λ k. is_among k (chain_of classes class))
-      (among_one owner 0 (sym (ap (λ x. is_among owner (option_to_list x)) (tree_object given)) ∙ top)) ∙ object_top class within))
+  -- of an interface: in it, in its superinterfaces or in Object
+  pub path_cases : (n owner : ℕ) → is_interface_at (classes_of given) n ≡ true → is_among owner (method_path (classes_of given) n) ≡ true → (X : Type 0)
+      → (owner ≡ n → X) → (is_among owner (superinterfaces_of (classes_of given) n) ≡ true → X) → (owner ≡ 0 → X) → X
+  path_cases n owner is among X itself higher object =
+      ⊎_elim (λ same. itself (eqb-true owner n same))
+      (λ later. ⊎_elim higher
+      (λ top. object (among_one owner 0 (sym (ap (λ x. is_among owner (option_to_list x)) (tree_object given)) ∙ top)))
       (append_cases owner (superinterfaces_of classes n) (option_to_list (object_number classes)) later))
-      (either (nat_eq owner n) (is_among owner (superinterfaces_of classes n ++ option_to_list (object_number classes))) among)
+      (either (nat_eq owner n) (is_among owner (superinterfaces_of classes n ++ option_to_list (object_number classes)))
+      (sym (ap (λ b. is_among owner (path_by b n)) is) ∙ among))
+
+  top_reached : (class owner : ℕ) → class < length classes → owner ≡ 0 → Reached given class owner
+  top_reached class owner within object = inl (ap (λ k. is_among k (chain_of classes class)) object ∙ object_top class within)
 
   pub up_reached : (class n owner : ℕ) → class < length (classes_of given) → is_among n (chain_of (classes_of given) class) ≡ true
       → is_among owner (method_path (classes_of given) n) ≡ true → Reached given class owner
-  up_reached class n owner within up among = by_sort (is_interface_at classes n) among where
-    by_sort : (b : Bool) → is_among owner (path_by b n) ≡ true → Reached given class owner
-    by_sort true h = by_interface class n owner within (inl up) (λ y there. inr (in_interfaces classes sound class n y up there)) h
-    by_sort false h =
+  up_reached class n owner within up among = by_sort (is_interface_at classes n) refl among where
+    by_sort : (b : Bool) → is_interface_at classes n ≡ b → is_among owner (path_by b n) ≡ true → Reached given class owner
+    by_sort true is h =
+        path_cases n owner is among (Reached given class owner) (λ same. inl (ap (λ k. is_among k (chain_of classes class)) same ∙ up))
+        (λ higher. inr (in_interfaces classes sound class n owner up higher)) (λ object. top_reached class owner within object)
+    by_sort false is h =
         ⊎_elim (λ here. inl (among-trans classes tree class n owner up here)) (λ there. inr (interfaces_up classes sound tree class n owner up there))
         (append_cases owner (chain_of classes n) (interfaces_of classes n) h)
 
   pub implemented_reached : (class n owner : ℕ) → class < length (classes_of given) → is_among n (interfaces_of (classes_of given) class) ≡ true
       → is_among owner (method_path (classes_of given) n) ≡ true → Reached given class owner
   implemented_reached class n owner within there among =
-      by_interface class n owner within (inr there) (λ y h. inr (interfaces_above classes sound class n y there h))
-      (sym (ap (λ b. is_among owner (path_by b n)) (interfaces_only classes sound class n there)) ∙ among)
+      path_cases n owner (interfaces_only classes sound class n there) among (Reached given class owner)
+      (λ same. inr (ap (λ k. is_among k (interfaces_of classes class)) same ∙ there)) (λ higher. inr (interfaces_above classes sound class n owner there higher))
+      (λ object. top_reached class owner within object)
 
   -- ---- the types of receivers
 

@@ -4,7 +4,7 @@ use Rattle.std.specs.List.{AllByRecursion}
 use Rattle.fm_base.specs.declared.limits.TheConstants.{MAX_CLASS_FILES}
 use Rattle.fm_code.specs.Spells.{HasSpelling}
 use Rattle.fm_code.specs.declared.class_file.ClassDef.{ClassDef}
-use Rattle.fm_whole.specs.CellsResolved.{BuiltInsFit, PlacesFit}
+use Rattle.fm_whole.specs.CellsResolved.{BuiltInsFit, CellsAreResolved, PlacesFit}
 use Rattle.fm_world.specs.Linking.{refusals}
 use Rattle.fm_world.specs.Programs.{program_of}
 
@@ -14,3 +14,9 @@ abbrev pub PlacesOfProgramsFit : Type 0
 PlacesOfProgramsFit =
     (given : List ClassDef) (main : List ℕ) → AllByRecursion HasSpelling given → refusals given main ≡ [] → length given ≤ MAX_CLASS_FILES
     → BuiltInsFit (program_of given main) × PlacesFit (program_of given main)
+
+-- So are the methods that are called: it is all that is asked of a program so that each cell fits where it stands.
+abbrev pub CellsOfProgramsAreResolved : Type 0
+CellsOfProgramsAreResolved =
+    (given : List ClassDef) (main : List ℕ) → AllByRecursion HasSpelling given → refusals given main ≡ [] → length given ≤ MAX_CLASS_FILES
+    → CellsAreResolved (program_of given main)
