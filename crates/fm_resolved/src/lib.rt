@@ -1,6 +1,7 @@
 // What linking makes sure of, of the program of class files against which no cause stands (JVMS 5.3.5, 5.4.3).
 #![tactic(auto)]
 
+ghost use Rattle.fm_resolved.specs.Cells.{CellsOfProgramsAreResolved, PlacesOfProgramsFit};
 ghost use Rattle.fm_resolved.specs.DeadRegions.{LinkedRegionsDie};
 ghost use Rattle.fm_resolved.specs.Laws.{
   MainOfProgramsIsReady,
@@ -19,9 +20,11 @@ ghost use Rattle.fm_resolved.specs.TwoMemories.{
   LinkedGoesAlike,
   LinkedIsWithoutFrees,
 };
+ghost use Rattle.fm_whole.specs.NoFault.{LinkedProgramsNeverFault};
 
 use fm_paired::{law_hidden, law_memories, law_runs};
 use fm_same::{law_dead_regions, law_targets};
+use fm_whole::{law_built_ins, law_no_fault};
 use fm_world::law_class_types;
 
 /// Where nothing is refused, the program of spelled class files has what linking makes sure of.
@@ -85,6 +88,37 @@ pub fn law_can_run()
     law_sound_steps();
     law_makeable();
     law_main();
+}
+
+/// Where nothing is refused, built-in classes and the places of references are as the program of spelled
+/// class files, as many as one call takes, needs them so that each cell fits where it stands.
+pub fn law_cell_places()
+    ensures { PlacesOfProgramsFit }
+{
+    law_resolved();
+    law_built_ins();
+}
+
+/// And a method is selected for each object that a call meets, invokespecial leads to methods of the own class
+/// and above, and constructors are of exactly the class that is named: so each cell fits where it stands.
+pub fn law_cells()
+    ensures { CellsOfProgramsAreResolved }
+{
+    law_cell_places();
+}
+
+/// No accepted program without FreeMe ever ends in a fault: each state of each run of the program of accepted
+/// class files against which no cause stands, which is typed and calls no FreeMe, is whole, whatever the memory
+/// chooses.
+pub fn law_linked_no_fault()
+    ensures { LinkedProgramsNeverFault }
+{
+    law_resolved();
+    law_sound_steps();
+    law_makeable();
+    law_main();
+    law_cells();
+    law_no_fault();
 }
 
 /// The law of dead regions of linked programs: in each run of the program of accepted class files
