@@ -17,6 +17,7 @@ ghost use Rattle.fm_resolved.specs.Makes.{
 };
 ghost use Rattle.fm_resolved.specs.TwoMemories.{
   LinkedDoesTheSame,
+  LinkedEndsTheSame,
   LinkedGoesAlike,
   LinkedIsWithoutFrees,
 };
@@ -156,4 +157,13 @@ pub fn law_two_memories()
     law_without_frees();
     law_runs();
     law_memories();
+}
+
+/// So on two memories both runs print the same and end in the very same way, as neither ever ends in a
+/// fault.
+pub fn law_same_ends()
+    ensures { LinkedEndsTheSame }
+{
+    law_two_memories();
+    law_linked_no_fault();
 }
