@@ -19,13 +19,13 @@ module _ (p : Program) (hidden : HiddenComesFirst p.outline) (steps : ℕ) (x y 
   same_cost = (effects_same p hidden x y paired).1
 
   -- the next step of the one is within the budget where that of the other is
-  goes_forth : Goes p steps x → Goes p steps y
+  pub goes_forth : Goes p steps x → Goes p steps y
   goes_forth goes = record {
     not_ended = subst (λ ended. EndAlike x.areas.store y.areas.store ended y.ended) goes.not_ended paired.ended;
     within = subst (λ n. n + cost p y ≤ steps) (sym paired.steps) (subst (λ n. x.steps + n ≤ steps) (sym same_cost) goes.within);
   }
 
-  goes_back : Goes p steps y → Goes p steps x
+  pub goes_back : Goes p steps y → Goes p steps x
   goes_back goes = by_end x.ended refl where
     by_end : (ended : Option Ended) → x.ended ≡ ended → Goes p steps x
     by_end None is = record {

@@ -12,6 +12,7 @@ pub mod RunsSame
 pub mod OpeningSame
 pub mod TwoMemories
 pub mod EndsSame
+pub mod ReusesSame
 pub mod HiddenFirst
 pub mod NextSame
 pub mod ActsSame

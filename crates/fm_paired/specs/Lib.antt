@@ -4,5 +4,6 @@ pub mod Constants
 pub mod Reading
 pub mod Results
 pub mod Runs
+pub mod Reuses
 pub mod Whole
 pub mod Laws

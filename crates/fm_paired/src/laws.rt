@@ -3,6 +3,7 @@
 ghost use Rattle.fm_paired.specs.Laws as law;
 ghost use Rattle.fm_paired.specs.Hidden.{HiddenFieldsComeFirst};
 ghost use Rattle.fm_paired.specs.Results.{ActionsKeepPaired};
+ghost use Rattle.fm_paired.specs.Reuses.{MemoriesServeAlike, WholeRunsServeAlike};
 ghost use Rattle.fm_paired.specs.Runs.{RunsAreTheSame, RunsEndAlike, RunsGoAlike};
 ghost use Rattle.fm_paired.specs.Whole.{NextEffectsAreAlike, StepsKeepAlike};
 
@@ -83,4 +84,11 @@ pub fn law_runs()
     ensures alike { RunsGoAlike }
     ensures same { RunsAreTheSame }
     ensures ends { RunsEndAlike }
+{}
+
+/// On two memories with one budget of words, each with room for twice as many, such a program prints
+/// the same and ends alike, step for step and in whole runs.
+pub fn law_memories()
+    ensures states { MemoriesServeAlike }
+    ensures runs { WholeRunsServeAlike }
 {}

@@ -131,26 +131,26 @@ plain_constants given spelled =
 
 -- ---- texts
 
--- a field with a text for its constant declares references
+-- a field with a text for its constant declares texts
 abbrev TellsText : Option Constant → Kind → Type 0
-TellsText value k = (text : List ℕ) → value ≡ Some (constant.Text text) → (t : TypeRef) × (k ≡ kind.Ref t)
+TellsText value k = (text : List ℕ) → value ≡ Some (constant.Text text) → k ≡ kind.Ref (type_of_class 1)
 
-text_kind : (given : List ClassDef) → (t : TypeRef) × (declared_kind (classes_of given) (field_type (codes "Ljava/lang/String;")) ≡ kind.Ref t)
+text_kind : (given : List ClassDef) → declared_kind (classes_of given) (field_type (codes "Ljava/lang/String;")) ≡ kind.Ref (type_of_class 1)
 unfolding classes_of
-text_kind given = (type_of_class 1, hidden_kind (declared_from 0 given))
+text_kind given = hidden_kind (declared_from 0 given)
 
 text_entry : (given : List ClassDef) (entries : List Entry) (descriptor : List ℕ) (e : Entry) → Contains (suited_descriptors e) descriptor
     → TellsText (constant_by entries e) (declared_kind (classes_of given) (field_type descriptor))
 text_entry given entries descriptor (entry.Text units) suits text is =
-    each_one (λ d. (t : TypeRef) × (declared_kind (classes_of given) (field_type d) ≡ kind.Ref t)) (suited_descriptors (entry.Text units)) descriptor
+    each_one (λ d. declared_kind (classes_of given) (field_type d) ≡ kind.Ref (type_of_class 1)) (suited_descriptors (entry.Text units)) descriptor
     (text_kind given, tt) suits
 text_entry given entries descriptor (entry.Integer value) suits text is = absurd (cc)
 text_entry given entries descriptor (entry.Long value) suits text is = absurd (cc)
 text_entry given entries descriptor e suits text is = absurd (cc)
 
--- a text is the constant of a field of references
+-- a text is the constant of a field of texts, whose class has the number 1
 pub text_constants : (given : List ClassDef) → AllByRecursion HasSpelling given → (field : ℕ) (text : List ℕ)
     → (field_at (classes_of given) field).field.value ≡ Some (constant.Text text)
-    → (t : TypeRef) × (field_kind (classes_of given) (field_at (classes_of given) field).field ≡ kind.Ref t)
+    → field_kind (classes_of given) (field_at (classes_of given) field).field ≡ kind.Ref (type_of_class 1)
 text_constants given spelled =
     told_constants given spelled TellsText (record { none = λ k text is. absurd (cc); entry = text_entry given })

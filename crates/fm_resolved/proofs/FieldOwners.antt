@@ -52,7 +52,7 @@ found_among find (x ∷ path) n is = by_first (find x) refl is (found_among find
       let rest = later (rw here at e) in (rest.0, (or_true (nat_eq rest.0 x) (is_among rest.0 path) rest.1.0, rest.1.1))
   by_first (Some j) here e later = (x, (among_head x path, here ∙ (rw here at e)))
 
-append_cases : (x : ℕ) (xs ys : List ℕ) → is_among x (xs ++ ys) ≡ true → (is_among x xs ≡ true) ⊎ (is_among x ys ≡ true)
+pub append_cases : (x : ℕ) (xs ys : List ℕ) → is_among x (xs ++ ys) ≡ true → (is_among x xs ≡ true) ⊎ (is_among x ys ≡ true)
 append_cases x [] ys among = inr among
 append_cases x (z ∷ xs) ys among = by_first (append_cases x xs ys) (either (nat_eq x z) (is_among x (xs ++ ys)) among) where
   by_first : (is_among x (xs ++ ys) ≡ true → (is_among x xs ≡ true) ⊎ (is_among x ys ≡ true)) → (nat_eq x z ≡ true) ⊎ (is_among x (xs ++ ys) ≡ true)
@@ -63,7 +63,7 @@ append_cases x (z ∷ xs) ys among = by_first (append_cases x xs ys) (either (na
     by_rest (inl there) = inl (or_true (nat_eq x z) (is_among x xs) there)
     by_rest (inr there) = inr there
 
-among_each : (f : ℕ → List ℕ) (xs : List ℕ) (x : ℕ) → is_among x (flat_map f xs) ≡ true
+pub among_each : (f : ℕ → List ℕ) (xs : List ℕ) (x : ℕ) → is_among x (flat_map f xs) ≡ true
     → (a : ℕ) × ((is_among a xs ≡ true) × (is_among x (f a) ≡ true))
 among_each f [] x among = absurd (false≢true among)
 among_each f (z ∷ xs) x among = by_first (among_each f xs x) (append_cases x (f z) (flat_map f xs) among) where
@@ -73,7 +73,7 @@ among_each f (z ∷ xs) x among = by_first (among_each f xs x) (append_cases x (
   by_first later (inl here) = (z, (among_head z xs, here))
   by_first later (inr rest) = let found = later rest in (found.0, (or_true (nat_eq found.0 z) (is_among found.0 xs) found.1.0, found.1.1))
 
-all_inside : {X : Type 0} (P : X → Type 0) (xs : List X) (k : ℕ) (d : X) → AllByRecursion P xs → k < length xs → P (get_or xs k d)
+pub all_inside : {X : Type 0} (P : X → Type 0) (xs : List X) (k : ℕ) (d : X) → AllByRecursion P xs → k < length xs → P (get_or xs k d)
 all_inside P [] k d all within = absurd (omega (arith, within))
 all_inside P (x ∷ xs) zero d all within = all.0
 all_inside P (x ∷ xs) (suc k) d all within = all_inside P xs k d all.1 (omega (arith, within))

@@ -59,6 +59,22 @@ class_of_file given j c at =
 
 -- ---- each kind of refusals is empty
 
+pub no_built_in_refused : (given : List ClassDef) (main : List ℕ) → refusals given main ≡ [] → refused_built_ins given ≡ []
+unfolding refusals
+no_built_in_refused given main none =
+    let to_built_ins = refused_duplicates given ++ refused_built_ins given in
+    let to_classes = to_built_ins ++ refused_missing_classes given in
+    let to_parents = to_classes ++ refused_parents given in
+    let to_fields = to_parents ++ refused_fields given in
+    let to_methods = to_fields ++ refused_methods given in
+    nil_right (refused_duplicates given) (refused_built_ins given)
+    (nil_left to_built_ins (refused_missing_classes given)
+    (nil_left to_classes (refused_parents given)
+    (nil_left to_parents (refused_fields given)
+    (nil_left to_fields (refused_methods given)
+    (nil_left to_methods (refused_not_implemented given)
+    (nil_left (to_methods ++ refused_not_implemented given) (refused_main given main) none))))))
+
 pub none_missing : (given : List ClassDef) (main : List ℕ) → refusals given main ≡ [] → refused_missing_classes given ≡ []
 unfolding refusals
 none_missing given main none =

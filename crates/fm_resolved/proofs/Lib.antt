@@ -26,3 +26,7 @@ pub mod ObjectSizes
 pub mod FewTexts
 pub mod FewStarts
 pub mod OwnClasses
+pub mod CellTypes
+pub mod InterfaceSets
+pub mod MethodOwners
+pub mod CellCalls

@@ -13,8 +13,9 @@ use Rattle.fm_code.specs.AccessFlags.{is_static}
 use Rattle.fm_code.specs.Profile.{IsSupported}
 use Rattle.fm_code.specs.Spells.{HasSpelling}
 use Rattle.fm_code.specs.declared.class_file.ClassDef.{ClassDef}
-use Rattle.fm_frames.proofs.Programs.{string_number}
+use Rattle.fm_frames.proofs.Programs.{string-is, string_number}
 use Rattle.fm_frames.specs.Natives.{native_of_row}
+use Rattle.fm_frames.specs.Runs.{arguments_type}
 use Rattle.fm_resolved.proofs.ConcreteCodes.{concrete_coded}
 use Rattle.fm_lookup.proofs.ParentRefusals.{nil_right}
 use Rattle.fm_resolved.proofs.Rows.{all_methods, row_past}
@@ -117,6 +118,18 @@ main_takes o given method classes static descriptor =
     (ap (λ all. class_number all string_name) classes ∙ string_number given)
 
 -- ---- main of linked programs
+
+-- main takes the array of the arguments alone
+pub main_slots : (given : List ClassDef) (main : List ℕ) → refusals given main ≡ []
+    → entry_slots (outline_of given main) (outline_of given main).main ≡ slot.Ref (arguments_type (outline_of given main)) ∷ []
+unfolding outline_of classes_of arguments_array
+main_slots given main none =
+    let o = outline_of given main in
+    let found = main_found (classes_of given) main (no_main_refused given main none) in
+    let is = (main_is (classes_of given) found.0 o.main found.1).1 in
+    let text = string-is o (declared_from 0 given) refl in
+    main_takes o (declared_from 0 given) o.main refl is.flags is.descriptor_is
+    ∙ ap (λ (t : TypeRef). slot.Ref (record { dims = 1; base = t.base }) ∷ []) (sym text)
 
 pub main_ready : (given : List ClassDef) (main : List ℕ) → AllByRecursion HasSpelling given → AllByRecursion IsSupported given → refusals given main ≡ []
     → MainIsReady (program_of given main)

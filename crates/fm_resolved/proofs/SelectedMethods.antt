@@ -44,13 +44,13 @@ use Rattle.fm_world.specs.declared.declarations.DeclaredMethod.{DeclaredMethod}
 
 -- ---- a method by its number
 
-abbrev owned : ℕ → DeclaredMethod → OwnedMethod
+abbrev pub owned : ℕ → DeclaredMethod → OwnedMethod
 owned class m = record { class = class; method = m }
 
-abbrev none : OwnedMethod
+abbrev pub none : OwnedMethod
 none = record { class = 0; method = no_method }
 
-methods_at : (number : ℕ) (classes : List DeclaredClass) (class j : ℕ) → j < length (class_at classes class).methods
+pub methods_at : (number : ℕ) (classes : List DeclaredClass) (class j : ℕ) → j < length (class_at classes class).methods
     → get_or (methods_from number classes) (first_method classes class + j) none ≡ owned (number + class) (get_or (class_at classes class).methods j no_method)
 methods_at number [] class j inside = absurd (omega (arith, inside))
 methods_at number (c ∷ classes) zero j inside =
@@ -83,7 +83,7 @@ abstract_there number (m ∷ methods) (suc k) within is =
     among_right (number + suc k) (cond (is_abstract m.flags) (number ∷ []) []) (abstract_from (number + 1) methods)
     (ap (λ n. is_among n (abstract_from (number + 1) methods)) same ∙ abstract_there (number + 1) methods k (omega (arith, within)) is)
 
-own_abstract : (classes : List DeclaredClass) (passes : ℕ → Bool) (name descriptor : List ℕ) (class target : ℕ)
+pub own_abstract : (classes : List DeclaredClass) (passes : ℕ → Bool) (name descriptor : List ℕ) (class target : ℕ)
     → own_method classes passes name descriptor class ≡ Some target
     → is_abstract_method classes target ≡ true
     → is_among target (abstract_methods classes class) ≡ true
@@ -160,7 +160,7 @@ within_count classes n step (suc bound) (Some k) below above among =
       by_first later (inr rest) = later rest
 
 -- above a built-in class are built-in classes alone
-built_in_chain : (given : List ClassDef) (class above : ℕ) → class < length built_in → is_among above (chain_of (classes_of given) class) ≡ true
+pub built_in_chain : (given : List ClassDef) (class above : ℕ) → class < length built_in → is_among above (chain_of (classes_of given) class) ≡ true
     → above < length built_in
 unfolding chain_of classes_of
 built_in_chain given class above within among =
@@ -168,7 +168,7 @@ built_in_chain given class above within among =
 
 -- ---- methods of files
 
-files_counted : (given : List ClassDef) → length (classes_of given) ≡ length built_in + length given
+pub files_counted : (given : List ClassDef) → length (classes_of given) ≡ length built_in + length given
 unfolding classes_of
 files_counted given =
     let all = length-append built_in (declared_from 0 given) in let declared = length-declared 0 given in omega (arith, all, declared)
@@ -276,7 +276,7 @@ selected_concrete given spelled none_refused class method target objects is = by
       found_concrete given none_refused m.name m.descriptor class path.0 target objects path.1.0 path.1.1 found
 
 -- what is asked of the class of a type, if it has one
-abbrev OfClass : List DeclaredClass → Option ℕ → Type 0
+abbrev pub OfClass : List DeclaredClass → Option ℕ → Type 0
 OfClass classes None = Unit {0}
 OfClass classes (Some class) = ClassHasObjects classes class
 

@@ -58,7 +58,7 @@ file_implemented given j c none at = none_each (not_implemented (classes_of give
 -- ---- the class that is named
 
 -- the class of a member that an entry names is what the entry names
-member_class : (entries : List Entry) (index : ℕ) (m : MemberName) → named_member entries index ≡ Some m → named_class entries index ≡ Some m.class
+pub member_class : (entries : List Entry) (index : ℕ) (m : MemberName) → named_member entries index ≡ Some m → named_class entries index ≡ Some m.class
 member_class entries index m named = by_entry (entry_at entries index) refl named where
   by_entry : (e : Entry) → entry_at entries index ≡ e → named_member entries index ≡ Some m → named_class entries index ≡ Some m.class
   by_entry (entry.Class name) is found = absurd (none-some m (rw is at found))

@@ -2,3 +2,4 @@ pub mod Laws
 pub mod Makes
 pub mod DeadRegions
 pub mod TwoMemories
+pub mod Cells

@@ -1,6 +1,7 @@
 // What linking makes sure of, of the program of class files against which no cause stands (JVMS 5.3.5, 5.4.3).
 #![tactic(auto)]
 
+ghost use Rattle.fm_resolved.specs.Cells.{CellsOfProgramsAreResolved, PlacesOfProgramsFit};
 ghost use Rattle.fm_resolved.specs.DeadRegions.{LinkedRegionsDie};
 ghost use Rattle.fm_resolved.specs.Laws.{
   MainOfProgramsIsReady,
@@ -14,10 +15,17 @@ ghost use Rattle.fm_resolved.specs.Makes.{
   MakesOfProgramsAreLinked,
   MakesOfProgramsAreResolved,
 };
-ghost use Rattle.fm_resolved.specs.TwoMemories.{LinkedGoesAlike, LinkedIsWithoutFrees};
+ghost use Rattle.fm_resolved.specs.TwoMemories.{
+  LinkedDoesTheSame,
+  LinkedEndsTheSame,
+  LinkedGoesAlike,
+  LinkedIsWithoutFrees,
+};
+ghost use Rattle.fm_whole.specs.NoFault.{LinkedProgramsNeverFault};
 
-use fm_paired::{law_hidden, law_runs};
+use fm_paired::{law_hidden, law_memories, law_runs};
 use fm_same::{law_dead_regions, law_targets};
+use fm_whole::{law_built_ins, law_no_fault};
 use fm_world::law_class_types;
 
 /// Where nothing is refused, the program of spelled class files has what linking makes sure of.
@@ -83,6 +91,37 @@ pub fn law_can_run()
     law_main();
 }
 
+/// Where nothing is refused, built-in classes and the places of references are as the program of spelled
+/// class files, as many as one call takes, needs them so that each cell fits where it stands.
+pub fn law_cell_places()
+    ensures { PlacesOfProgramsFit }
+{
+    law_resolved();
+    law_built_ins();
+}
+
+/// And a method is selected for each object that a call meets, invokespecial leads to methods of the own class
+/// and above, and constructors are of exactly the class that is named: so each cell fits where it stands.
+pub fn law_cells()
+    ensures { CellsOfProgramsAreResolved }
+{
+    law_cell_places();
+}
+
+/// No accepted program without FreeMe ever ends in a fault: each state of each run of the program of accepted
+/// class files against which no cause stands, which is typed and calls no FreeMe, is whole, whatever the memory
+/// chooses.
+pub fn law_linked_no_fault()
+    ensures { LinkedProgramsNeverFault }
+{
+    law_resolved();
+    law_sound_steps();
+    law_makeable();
+    law_main();
+    law_cells();
+    law_no_fault();
+}
+
 /// The law of dead regions of linked programs: in each run of the program of accepted class files
 /// against which no cause stands, which is typed and calls no FreeMe, what a captured class led to is dead
 /// once the class isn't busy or its activation is gone.
@@ -112,8 +151,19 @@ pub fn law_without_frees()
 /// The law of one program on two memories: such a program prints the same and ends alike on memory
 /// that is never reused and on memory that reuses cells in any way.
 pub fn law_two_memories()
-    ensures { LinkedGoesAlike }
+    ensures alike { LinkedGoesAlike }
+    ensures limited { LinkedDoesTheSame }
 {
     law_without_frees();
     law_runs();
+    law_memories();
+}
+
+/// So on two memories both runs print the same and end in the very same way, as neither ever ends in a
+/// fault.
+pub fn law_same_ends()
+    ensures { LinkedEndsTheSame }
+{
+    law_two_memories();
+    law_linked_no_fault();
 }

@@ -7,11 +7,12 @@ use Rattle.fm_resolved.proofs.Constants.{text_constants}
 use Rattle.fm_resolved.proofs.FewStarts.{few_starts, main_there}
 use Rattle.fm_resolved.proofs.FewTexts.{few_texts}
 use Rattle.fm_resolved.proofs.law_can_run.Goals as goal
+use Rattle.fm_world.specs.Numbers.{type_of_class}
 use Rattle.fm_world.specs.Programs.{outline_of, program_of}
 
 text_fields : (given : List ClassDef) (main : List ℕ) → AllByRecursion HasSpelling given → TextsAreReferences (outline_of given main)
 unfolding outline_of
-text_fields given main spelled = text_constants given spelled
+text_fields given main spelled field text is = (type_of_class 1, text_constants given spelled field text is)
 
 pub returns : goal.returns
 unfolding program_of

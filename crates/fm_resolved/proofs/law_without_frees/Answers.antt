@@ -2,6 +2,7 @@ use Rattle.std.proofs.Common.{ℕ, List}
 use Rattle.std.specs.List.{AllByRecursion}
 use Rattle.fm_code.specs.Spells.{HasSpelling}
 use Rattle.fm_code.specs.declared.class_file.ClassDef.{ClassDef}
+use Rattle.fm_world.specs.Numbers.{type_of_class}
 use Rattle.fm_world.specs.Programs.{outline_of, program_of}
 use Rattle.fm_paired.specs.Constants.{ConstantsFit}
 use Rattle.fm_paired.specs.Hidden.{OwnHideNothing}
@@ -17,7 +18,7 @@ own_hide given main = own_hide_nothing given
 constants_fit : (given : List ClassDef) (main : List ℕ) → AllByRecursion HasSpelling given → IsResolved (program_of given main)
     → ConstantsFit (program_of given main).outline
 unfolding program_of outline_of
-constants_fit given main spelled resolved = record { numbers = resolved.constants; texts = text_constants given spelled }
+constants_fit given main spelled resolved = record { numbers = resolved.constants; texts = λ field text is. (type_of_class 1, text_constants given spelled field text is) }
 
 pub returns : goal.returns
 returns c given main spelled supported none few typings typed no_free =
