@@ -12,13 +12,14 @@ import sys
 from hostile_shapes import Pool, class_file, code, member, u2
 
 LONGEST = 65_535
+ENTRIES = 1_024
 PUBLIC_STATIC = 0x0009
 NOP, NULL, ZERO, POP, RETURN = b"\0", b"\x01", b"\x03", b"\x57", b"\xb1"
 LOAD_ARGUMENTS, CAST, IF_NULL, GO_TO, STORE_INT, STORE = b"\x2a", b"\xc0", b"\xc6", b"\xa7", b"\x36", b"\x3a"
 WIDE_LOAD, WIDE_STORE = b"\xc4\x19", b"\xc4\x3a"
 
 
-def program(max_locals, array, chain=0, max_stack=1):
+def program(max_locals, array, chain=0, max_stack=1, handlers=b"\0\0"):
     """M with a main of this code, and a chain of classes, the lowest one first, of which class c is entry 9 + 2c of M's pool."""
     names = [b"C%d" % place for place in range(chain)]
     files = [(b"M", b"java/lang/Object")] + list(zip(names, names[1:] + [b"java/lang/Object"]))
@@ -30,7 +31,7 @@ def program(max_locals, array, chain=0, max_stack=1):
             main, arguments, code_name = pool.text(b"main"), pool.text(b"([Ljava/lang/String;)V"), pool.text(b"Code")
             for other in names:
                 pool.class_named(other)
-            methods = [member(PUBLIC_STATIC, main, arguments, code(code_name, array, max_stack, max_locals))]
+            methods = [member(PUBLIC_STATIC, main, arguments, code(code_name, array, max_stack, max_locals, handlers))]
         yield name, class_file(pool, this_class, above, methods)
 
 
@@ -84,7 +85,26 @@ def refilling():
     return moved(400, 20, True)
 
 
-PROGRAMS = [straight, nops, wide, forgetting, shifting, refilling]
+def guarded(items, locals_count, span_of):
+    """So many nops with so many locals, under 1,024 entries of the exception table with handlers of their own, each over its span."""
+    entries = b""
+    for place in range(ENTRIES):
+        start, end = span_of(place)
+        entries += u2(start) + u2(end) + u2(items + 1 + 2 * place) + u2(0)
+    return program(locals_count, NOP * items + RETURN + (POP + RETURN) * ENTRIES, handlers=u2(ENTRIES) + entries)
+
+
+def covered():
+    """60,000 items with 200 locals, all of them under each of 1,024 entries."""
+    return guarded(60_000, 200, lambda place: (0, 60_000))
+
+
+def nested():
+    """The same with 1,024 entries inside one another."""
+    return guarded(60_000, 200, lambda place: (place * 29, 60_000 - place * 29))
+
+
+PROGRAMS = [straight, nops, wide, forgetting, shifting, refilling, covered, nested]
 
 
 def main():

@@ -218,17 +218,7 @@ uncaught t j h s forced listed after before is states typing =
     let fits = each_handler (FitsHandler t.program t.number states j found.state) t.code.handlers h listed meets.handlers catches in
     subst (λ (c : Option TypeRef). IsSomeAnd c (λ c. FitsAt t.program states h.handler (handler_state c found.state))) is fits
 
--- an entry whose range doesn't hold the item
-pub BringsCaught-not : (t : Task) (j : ℕ) (s : TypeState) (h : Handler) (w : Walked) → IsSound t → Stands t w → (Catches j h.handler h → ⊥)
-    → BringsCaught t j s h w w
-BringsCaught-not t j s h w sound stands outside = record { went = Went-none t w sound stands; fits = λ catches. absurd (outside catches) }
-
-pub BringsCaught-before : (t : Task) (j : ℕ) (s : TypeState) (h : Handler) (w : Walked) → IsSound t → Stands t w → j < h.start → BringsCaught t j s h w w
-BringsCaught-before t j s h w sound stands before = BringsCaught-not t j s h w sound stands (λ catches. let after = catches.after_start in omega arith)
-
-pub BringsCaught-behind : (t : Task) (j : ℕ) (s : TypeState) (h : Handler) (w : Walked) → IsSound t → Stands t w → h.end ≤ j → BringsCaught t j s h w w
-BringsCaught-behind t j s h w sound stands behind = BringsCaught-not t j s h w sound stands (λ catches. let before = catches.before_end in omega arith)
-
+-- its state is brought to the handler
 pub BringsCaught-brings : (t : Task) (j : ℕ) (s : TypeState) (h : Handler) (caught : TypeRef) (old new : Walked)
     → caught_type t.program t.number h ≡ Some caught → Brings t h.handler (handler_state caught s) old new → BringsCaught t j s h old new
 BringsCaught-brings t j s h caught old new is brings = record {

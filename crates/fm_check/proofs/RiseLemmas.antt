@@ -4,9 +4,8 @@ use Rattle.std.specs.Prelude.{IsSomeAnd}
 use Rattle.std.specs.List.{AllByRecursion, AllZip, filter}
 use Rattle.std.proofs.lemmas.Bool.{cases_eq, eqb-true, false≢true}
 use Rattle.std.proofs.lemmas.List.{get_or-set_same, length-reverse, take_more}
-use Rattle.std.proofs.lemmas.List.Elements.{All-contains, All-more, Contains-get_or}
+use Rattle.std.proofs.lemmas.List.Elements.{All-contains, All-more, Contains-get_or, Contains-push_cases, recursion_from_All}
 use Rattle.fm_base.proofs.ContainsFacts.{Contains-cons_cases}
-use Rattle.fm_base.proofs.ListFacts.{AllByRecursion-append, AllByRecursion-weaker}
 use Rattle.fm_base.proofs.OptionFacts.{IsSomeAnd-at_some, IsSomeAnd-from_some, same_value, Some-from_some_and}
 use Rattle.fm_base.specs.declared.kinds.TypeRef.{TypeRef}
 use Rattle.fm_check.proofs.ItemLemmas.{after-row, blank, caught_forced, each_handler, item_small, kept-locals, kept-stack, leads_from, leads_to, met_later, next_forced, next_inside}
@@ -19,7 +18,9 @@ use Rattle.fm_check.specs.declared.known.Place.TheVariants as place
 use Rattle.fm_check.specs.declared.risen.Rise.{Rise}
 use Rattle.fm_check.specs.inner.Ranks.{IsBounded, state_rank, rank_at}
 use Rattle.fm_check.specs.inner.Risen.{HasPlace, is_local, is_lost, IsAlikeBut, IsCarried, IsLeftAlone, leaves_alone, locals_of, noted, rise_of, slot_at, with_slot, words_taken}
-use Rattle.fm_check.specs.inner.Walks.{CanCarry, CanCarryOne, Carries, CarriesAll, CarriesCaught, CarriesHandlers, CarriesOn, CarriesOne, falls_off, GoesOver, HandlerHasRoom, HasRoom, is_marked, IsForced, IsKept, IsMet, IsNearlyMet, IsReady, IsSound, next_items, risen_at, Rises, Stands, Task, Untypable, Walked, Went, with_state}
+use Rattle.fm_check.specs.declared.runs.Level.{Level}
+use Rattle.fm_check.specs.inner.Runs.{GivesAll, has_room}
+use Rattle.fm_check.specs.inner.Walks.{CanCarry, CanCarryOne, Carries, CarriesAll, CarriesHandlers, CarriesOn, CarriesOne, falls_off, GoesOver, HandlerHasRoom, HasRoom, is_marked, IsForced, IsKept, IsMet, IsNearlyMet, IsReady, IsSound, next_items, risen_at, Rises, Stands, Task, Untypable, Walked, Went, with_state}
 use Rattle.fm_code.proofs.EdgesLemmas.{Contains-filter, Contains-from_filter, Contains-from_map, Contains-later, Contains-map}
 use Rattle.fm_code.specs.Edges.{Catches, falls_through, insn_of, IsNormalEdge, LeadsTo}
 use Rattle.fm_code.specs.declared.code_array.Handler.{Handler}
@@ -107,7 +108,7 @@ carried_lost t item rise state w sound stands can is unfit lost states typing =
     (ap (is_lost rise.place) (sym same) ∙ lost) above.below kept.forced.whole (typing.items item above.state above.is).whole above.room)
 
 -- the state with the join of both is below those of all typings
-raised_forced : (t : Task) (item : ℕ) (p : Place) (own brought : TypeState) (x : Slot) → IsSound t → IsForced t item own → IsForced t item brought
+pub raised_forced : (t : Task) (item : ℕ) (p : Place) (own brought : TypeState) (x : Slot) → IsSound t → IsForced t item own → IsForced t item brought
     → slot_at brought p ≡ x → is_lost p (join t.program.outline (slot_at own p) x) ≡ false
     → IsForced t item (with_slot p (join t.program.outline (slot_at own p) x) own)
 raised_forced t item p own brought x sound first second is kept = record {
@@ -203,7 +204,7 @@ room_later t a b j rise sound rises h =
     (fits-trans o sound.tree rise.slot (slot_at before.0 rise.place) (slot_at after.state rise.place) before.2
     (slot-fits o before.0 after.state rise.place after.fits))
 
-all_room_later : (t : Task) (a b : Walked) (j : ℕ) (rises : List Rise) → IsSound t → Rises t.program.outline a b → All (HasRoom t a.states j) rises
+pub all_room_later : (t : Task) (a b : Walked) (j : ℕ) (rises : List Rise) → IsSound t → Rises t.program.outline a b → All (HasRoom t a.states j) rises
     → All (HasRoom t b.states j) rises
 all_room_later t a b j rises sound rising h = λ k d below. room_later t a b j (get_or rises k d) sound rising (h k d below)
 
@@ -234,36 +235,20 @@ Carries-more t item rises k d a b c sound inside so_far one = record {
   room = All-more (HasRoom t c.states item) rises k d inside (all_room_later t b c item (take k rises) sound one.went.rises so_far.room) one.room;
 }
 
-pub CarriesCaught-not : (t : Task) (item : ℕ) (rises : List Rise) (h : Handler) (w : Walked) → IsSound t → Stands t w → (Catches item h.handler h → ⊥)
-    → CarriesCaught t item rises h w w
-CarriesCaught-not t item rises h w sound stands outside =
-    record { went = Went-none t w sound stands; room = λ catches. absurd (outside catches) }
+pub CarriesHandlers-none : (t : Task) (rises : List Rise) (w : Walked) → IsSound t → Stands t w → CarriesHandlers t rises [] w w
+CarriesHandlers-none t rises w sound stands =
+    record { went = Went-none t w sound stands; room = λ h found. absurd (let inside = found.1 in omega arith) }
 
-pub CarriesCaught-carries : (t : Task) (item : ℕ) (rises : List Rise) (h : Handler) (old new : Walked) → Carries t h.handler rises old new
-    → CarriesCaught t item rises h old new
-CarriesCaught-carries t item rises h old new carries = record { went = carries.went; room = λ catches. carries.room }
-
-handler_room_later : (t : Task) (a b : Walked) (item : ℕ) (rises : List Rise) (h : Handler) → IsSound t → Rises t.program.outline a b
-    → HandlerHasRoom t a.states item rises h → HandlerHasRoom t b.states item rises h
-handler_room_later t a b item rises h sound rising room catches = all_room_later t a b h.handler rises sound rising (room catches)
-
-handlers_room_later : (t : Task) (a b : Walked) (item : ℕ) (rises : List Rise) (handlers : List Handler) → IsSound t → Rises t.program.outline a b
-    → AllByRecursion (HandlerHasRoom t a.states item rises) handlers → AllByRecursion (HandlerHasRoom t b.states item rises) handlers
-handlers_room_later t a b item rises handlers sound rising all =
-    AllByRecursion-weaker (HandlerHasRoom t a.states item rises) (HandlerHasRoom t b.states item rises)
-    (λ h room. handler_room_later t a b item rises h sound rising room) handlers all
-
-pub CarriesHandlers-none : (t : Task) (item : ℕ) (rises : List Rise) (w : Walked) → IsSound t → Stands t w → CarriesHandlers t item rises [] w w
-CarriesHandlers-none t item rises w sound stands = record { went = Went-none t w sound stands; room = tt }
-
-pub CarriesHandlers-more : (t : Task) (item : ℕ) (rises : List Rise) (handlers : List Handler) (k : ℕ) (a b c : Walked) → IsSound t → k < length handlers
-    → CarriesHandlers t item rises (take k handlers) a b → CarriesCaught t item rises (get_or handlers k blank) b c
-    → CarriesHandlers t item rises (take (k + 1) handlers) a c
-CarriesHandlers-more t item rises handlers k a b c sound inside so_far one = record {
+pub CarriesHandlers-more : (t : Task) (rises : List Rise) (handlers : List Handler) (k : ℕ) (a b c : Walked) → IsSound t → k < length handlers
+    → CarriesHandlers t rises (take k handlers) a b → Carries t (get_or handlers k blank).handler rises b c
+    → CarriesHandlers t rises (take (k + 1) handlers) a c
+CarriesHandlers-more t rises handlers k a b c sound inside so_far one = record {
   went = Went-then t a b c sound so_far.went one.went;
-  room = subst (λ (hs : List Handler). AllByRecursion (HandlerHasRoom t c.states item rises) hs) (sym (take_more handlers k blank inside))
-      (AllByRecursion-append (HandlerHasRoom t c.states item rises) (take k handlers) (get_or handlers k blank ∷ [])
-      (handlers_room_later t b c item rises (take k handlers) sound one.went.rises so_far.room) (one.room, tt));
+  room = λ h found.
+      ⊎_elim (λ (early : Contains (take k handlers) h). all_room_later t b c h.handler rises sound one.went.rises (so_far.room h early))
+      (λ (same : get_or handlers k blank ≡ h). subst (λ (x : Handler). All (HasRoom t c.states x.handler) rises) same one.room)
+      (Contains-push_cases (take k handlers) (get_or handlers k blank) h
+      (subst (λ (hs : List Handler). Contains hs h) (take_more handlers k blank inside) found));
 }
 
 pub CarriesAll-none : (t : Task) (rises : List Rise) (w : Walked) → IsSound t → Stands t w → CarriesAll t [] rises w w
@@ -283,11 +268,15 @@ CarriesAll-more t items rises k a b c sound inside so_far one = record {
 pub can_carry_later : (t : Task) (a b : Walked) (j : ℕ) (rises : List Rise) → Went t a b → CanCarry t a j rises → CanCarry t b j rises
 can_carry_later t a b j rises went can = can_later t a b j rises went.rises can
 
-pub CarriesOn-both : (t : Task) (item : ℕ) (i : Insn) (rises : List Rise) (a b c : Walked) → IsSound t → CarriesHandlers t item (locals_of rises) t.code.handlers a b
-    → CarriesAll t (next_items i item) rises b c → CarriesOn t item i rises a c
-CarriesOn-both t item i rises a b c sound caught all = record {
+pub CarriesOn-both : (t : Task) (item : ℕ) (i : Insn) (rises : List Rise) (given : List Level) (a b c : Walked) → IsSound t
+    → GivesAll (has_room t (locals_of rises)) t item given a b → CarriesAll t (next_items i item) rises b c → CarriesOn t item i rises a c
+CarriesOn-both t item i rises given a b c sound caught all = record {
   went = Went-then t a b c sound caught.went all.went;
-  handlers = handlers_room_later t b c item (locals_of rises) t.code.handlers sound all.went.rises caught.room;
+  handlers = recursion_from_All (HandlerHasRoom t c.states item (locals_of rises)) t.code.handlers (λ n d below.
+      let h = get_or t.code.handlers n d in
+      λ (catches : Catches item h.handler h).
+      all_room_later t b c h.handler (locals_of rises) sound all.went.rises
+      (caught.done h (record { listed = Contains-get_or t.code.handlers n d below; after_start = catches.after_start; before_end = catches.before_end })));
   items = all.room;
 }
 
@@ -345,7 +334,7 @@ slot_carried : (P : Place → Type 0) (v : Place → Slot) (s other : TypeState)
 slot_carried P v s other (place.Local k) h within = h.locals.among k within
 slot_carried P v s other (place.Word k) h within = h.words.among k within
 
-all_held : (s brought : TypeState) (places : List Place) → ((p : Place) → Contains places p → slot_at brought p ≡ slot_at s p)
+pub all_held : (s brought : TypeState) (places : List Place) → ((p : Place) → Contains places p → slot_at brought p ≡ slot_at s p)
     → All (λ rise. slot_at brought rise.place ≡ rise.slot) (map (rise_of s) places)
 all_held s brought places holds = λ n d below.
     let found = Contains-from_map (rise_of s) places (get_or (map (rise_of s) places) n d) (Contains-get_or (map (rise_of s) places) n d below) in
@@ -361,6 +350,10 @@ locals_held s caught rises all = λ n d below.
       by_place : (x : Slot) (p : Place) → slot_at s p ≡ x → is_local p ≡ true → slot_at (handler_state caught s) p ≡ x
       by_place x (place.Local k) held local = held
       by_place x (place.Word k) held local = absurd (false≢true local)
+
+-- those of locals are
+pub rises_local : (rises : List Rise) (rise : Rise) → Contains (locals_of rises) rise → is_local rise.place ≡ true
+rises_local rises rise found = (Contains-from_filter (λ (r : Rise). is_local r.place) rises rise found).1
 
 same_place : (p q : Place) → (p ≡ q) ⊎ (p ≢ q)
 same_place (place.Local j) (place.Local k) =
@@ -413,11 +406,11 @@ carried_fits o places v a known u carried fitting room =
 -- ---- an item of which some places are carried on
 
 -- those of the places that are locals
-abbrev locals_in : List Place → List Place
+abbrev pub locals_in : List Place → List Place
 locals_in places = filter is_local places
 
 -- what handlers get of states that are alike
-caught_alike : (places : List Place) (s before : TypeState) (caught : TypeRef) → IsAlikeBut places s before
+pub caught_alike : (places : List Place) (s before : TypeState) (caught : TypeRef) → IsAlikeBut places s before
     → IsCarried (λ p. Contains (locals_in places) p) (slot_at s) (handler_state caught s) (handler_state caught before)
 caught_alike places s before caught alike = record {
   locals = record {

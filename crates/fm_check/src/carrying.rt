@@ -2,17 +2,17 @@
 // costs is told by the number of these places, and not by that of all locals and words.
 
 ghost use Rattle.std.specs.Prelude.{ℕ, Contains, IfOk, MatchBool};
-ghost use Rattle.fm_check.specs.inner.Walks.{CanCarry, CanCarryOne, Carries, CarriesAll, CarriesCaught, CarriesHandlers, CarriesOn, CarriesOne, IsReady, IsSound, Stands, Untypable, task, walked};
-ghost use Rattle.fm_code.specs.Edges.{Catches};
-ghost use Rattle.fm_code.specs.declared.code_array.Handler.{Handler as HandlerSpec};
+ghost use Rattle.fm_check.specs.inner.Runs.{CarriesOnGuarded, IsGuarded};
+ghost use Rattle.fm_check.specs.inner.Walks.{CanCarry, CanCarryOne, Carries, CarriesAll, CarriesOne, IsReady, IsSound, Stands, Untypable, task, walked};
 
 use crate::merging::law_bounded;
 use crate::method::Method;
 use crate::risen::{Rise, is_lost, locals_of};
+use crate::runs::Level;
 use crate::steps::next_items;
 use crate::walk::{Walk, most_noted, state_of};
 use fm_base::NoMemory;
-use fm_code::{Handler, Insn};
+use fm_code::Insn;
 use fm_types::{fits, join};
 use std::alloc::Global;
 
@@ -51,8 +51,8 @@ impl Walk {
         Ok(true)
     }
 
-    // Carries slots to places of an item.
-    fn carry_all(
+    /// Carries slots to places of an item; false where no typing has room for them.
+    pub fn carry_all(
         &mut self,
         alloc: Global,
         method: &Method<'_>,
@@ -68,59 +68,6 @@ impl Walk {
     {
         for rise in rises {
             if !self.carry(alloc, method, item, *rise)? {
-                return Ok(false);
-            }
-        }
-        Ok(true)
-    }
-
-    // Carries slots to the handler of an entry whose range holds the item.
-    fn carry_caught(
-        &mut self,
-        alloc: Global,
-        method: &Method<'_>,
-        item: u32,
-        handler: &Handler,
-        rises: &[Rise],
-    ) -> Result<bool, NoMemory>
-        requires sound { IsSound (task method.now) }
-        requires stands { Stands (task method.now) (walked self.old) }
-        requires carried { Catches item handler.now.handler handler.now
-            → CanCarry (task method.now) (walked self.old) handler.now.handler rises.now }
-        ensures { IfOk result (λ fits. MatchBool fits
-            (CarriesCaught (task method.now) item rises.now handler.now
-            (walked self.old) (walked self.new))
-            (Untypable (task method.now))) }
-    {
-        if item < handler.start {
-            return Ok(true);
-        }
-        if handler.end <= item {
-            return Ok(true);
-        }
-        self.carry_all(alloc, method, handler.handler, rises)
-    }
-
-    // The same for all entries of the list.
-    fn carry_to_handlers(
-        &mut self,
-        alloc: Global,
-        method: &Method<'_>,
-        item: u32,
-        handlers: &[Handler],
-        rises: &[Rise],
-    ) -> Result<bool, NoMemory>
-        requires sound { IsSound (task method.now) }
-        requires stands { Stands (task method.now) (walked self.old) }
-        requires carried { (h : HandlerSpec) → Contains handlers.now h → Catches item h.handler h
-            → CanCarry (task method.now) (walked self.old) h.handler rises.now }
-        ensures { IfOk result (λ fits. MatchBool fits
-            (CarriesHandlers (task method.now) item rises.now handlers.now
-            (walked self.old) (walked self.new))
-            (Untypable (task method.now))) }
-    {
-        for handler in handlers {
-            if !self.carry_caught(alloc, method, item, handler, rises)? {
                 return Ok(false);
             }
         }
@@ -157,21 +104,22 @@ impl Walk {
         &mut self,
         alloc: Global,
         method: &Method<'_>,
+        levels: &mut Vec<Level>,
         item: u32,
         insn: &Insn,
         rises: &[Rise],
     ) -> Result<bool, NoMemory>
         requires sound { IsSound (task method.now) }
         requires stands { Stands (task method.now) (walked self.old) }
+        requires guarded { IsGuarded (task method.now) (walked self.old).states levels.old.items }
         requires ready { IsReady (task method.now) (walked self.old) item insn.now rises.now }
         ensures { IfOk result (λ fits. MatchBool fits
-            (CarriesOn (task method.now) item insn.now rises.now (walked self.old)
-            (walked self.new))
+            (CarriesOnGuarded (task method.now) item insn.now rises.now levels.new.items
+            (walked self.old) (walked self.new))
             (Untypable (task method.now))) }
     {
-        let handlers = method.code.handlers.as_slice();
         let locals = locals_of(alloc, rises)?;
-        if !self.carry_to_handlers(alloc, method, item, handlers, locals.as_slice())? {
+        if !self.carry_to_levels(alloc, method, levels, item, locals.as_slice())? {
             return Ok(false);
         }
         let items = next_items(alloc, insn, item)?;

@@ -30,7 +30,8 @@ use std::alloc::Global;
 
 /// The least typing of a method with code: a state for each item that can be reached, which fits the
 /// state of that item in every typing. `TooWide` comes exactly where a count is above its limit, and
-/// else `NotTyped` exactly where no typing exists. Takes memory for a state of each reachable item.
+/// else `NotTyped` exactly where no typing exists. Takes memory for a state of each reachable item, and
+/// for the locals of at most 34 states for each entry of the exception table.
 pub fn check(alloc: Global, program: &Program, method: MethodId) -> Result<Typing, CheckFail>
     requires linked { IsCheckable program.now }
     requires code { IsSomeAnd (code_at program.now method.0) (HasCode program.now method.0) }

@@ -1,7 +1,7 @@
 // What is known at an item, kept so that each slot of it can be raised alone.
 
 ghost use Rattle.std.specs.Prelude.{◌≡◌, IfOk};
-ghost use Rattle.fm_check.specs.inner.Risen.{HasPlace, known_state, slot_at, with_slot};
+ghost use Rattle.fm_check.specs.inner.Risen.{HasPlace, known_state, slot_at, with_slot, without_words};
 ghost use Rattle.fm_types.specs.States.{local_at};
 ghost use Rattle.fm_types.specs.Typings.{type_state};
 
@@ -29,8 +29,8 @@ pub struct Known {
     pub built: bool,
 }
 
-// The slot of this number; `Top` past the last one.
-fn slot_in(slots: &[Slot], number: u16) -> Slot
+/// The slot of this number; `Top` past the last one.
+pub fn slot_in(slots: &[Slot], number: u16) -> Slot
     ensures { result ≡ local_at slots.now number }
 {
     match slots.get(usize::from(number)) {
@@ -47,6 +47,17 @@ impl Known {
         Ok(Known {
             locals: Vec::from_slice(alloc, state.locals.as_slice())?,
             words: Vec::from_slice(alloc, state.stack.as_slice())?,
+            built: state.built,
+        })
+    }
+
+    /// What the state tells, but for the words of its stack.
+    pub fn without_words(alloc: Global, state: &State) -> Result<Known, NoMemory>
+        ensures { IfOk result (λ known. known_state known ≡ without_words (type_state state.now)) }
+    {
+        Ok(Known {
+            locals: Vec::from_slice(alloc, state.locals.as_slice())?,
+            words: Vec::new(alloc),
             built: state.built,
         })
     }

@@ -3,6 +3,7 @@
 #![tactic(auto)]
 
 mod carrying;
+mod catching;
 mod checking;
 mod error;
 mod frames;
@@ -10,6 +11,7 @@ mod known;
 mod merging;
 mod method;
 mod risen;
+mod runs;
 mod steps;
 mod walk;
 

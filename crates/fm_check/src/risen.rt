@@ -1,11 +1,11 @@
 // What rose at an item: some places, or more.
 
 ghost use Rattle.std.specs.Prelude.{◌≡◌, ◌≤◌, IfOk, OnOk, length, map};
-ghost use Rattle.fm_check.specs.inner.Risen.{DifferIn, IsPlaced, IsRisenIn, is_local, is_lost, known_state, locals_of, noted, rise_of};
+ghost use Rattle.fm_check.specs.inner.Risen.{DifferIn, IsPlaced, IsRisenIn, is_local, is_lost, known_state, local_rises, locals_of, noted, rise_of};
 ghost use Rattle.fm_check.specs.declared.known.Place.TheVariants as place;
 ghost use Rattle.fm_types.specs.Typings.{type_state};
 
-use crate::known::{Known, Place};
+use crate::known::{Known, Place, slot_in};
 use fm_base::{NoMemory, Seq};
 use fm_types::{Slot, State};
 use std::alloc::Global;
@@ -29,6 +29,20 @@ pub fn rises_of(alloc: Global, known: &Known, places: &[Place]) -> Result<Vec<Ri
         rises.push(Rise {
             place: *place,
             slot: known.slot_at(*place),
+        })?;
+    }
+    Ok(rises)
+}
+
+/// What stands in each of so many locals, in their order.
+pub fn local_rises(alloc: Global, state: &State, count: u16) -> Result<Vec<Rise>, NoMemory>
+    ensures { IfOk result (λ rises. rises.items ≡ local_rises count (type_state state.now)) }
+{
+    let mut rises = Vec::with_capacity(alloc, usize::from(count))?;
+    for local in 0..count {
+        rises.push(Rise {
+            place: Place::Local(local),
+            slot: slot_in(state.locals.as_slice(), local),
         })?;
     }
     Ok(rises)

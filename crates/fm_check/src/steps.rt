@@ -1,24 +1,23 @@
-// Going over items that wait: what an item brings to the handlers whose ranges hold it, and to the items
-// that follow it.
+// Going over items that wait: what an item brings to the items that follow it, and to handlers.
 
 ghost use Rattle.std.specs.Prelude.{◌≡◌, ℕ, ◌+◌, ◌<◌, ◌∷◌, ◌++◌, [], Contains, IfOk, MatchBool, Some, if◌then◌else◌, length};
-ghost use Rattle.fm_check.specs.inner.Walks.{BringsAll, BringsCaught, BringsHandlers, BringsOn, GoesOver, IsForced, HasSettled, IsItem, IsMetBut, IsSound, Stands, Untypable, Walking, falls_off, next_items, task, walked};
+ghost use Rattle.fm_check.specs.inner.Runs.{GoesOverGuarded, IsGuarded};
+ghost use Rattle.fm_check.specs.inner.Walks.{BringsAll, BringsOn, GoesOver, IsForced, HasSettled, IsItem, IsMetBut, IsSound, Stands, Untypable, Walking, falls_off, next_items, task, walked};
 ghost use Rattle.fm_code.specs.Edges.{falls_through, insn_of, LeadsTo};
 ghost use Rattle.fm_code.specs.SpellsCode.{targets_of};
 ghost use Rattle.fm_rows.specs.Members.{UsesNameMembers};
-ghost use Rattle.fm_types.specs.Typed.{caught_type, handler_state};
 ghost use Rattle.fm_types.specs.Typings.{type_state};
-ghost use Rattle.fm_world.specs.Members.{methods_of};
 
 use crate::frames::{all_left_alone, words_taken};
 use crate::known::Place;
 use crate::method::Method;
 use crate::risen::rises_of;
+use crate::runs::{Level, levels_of};
 use crate::walk::{Walk, state_of};
-use fm_base::{NoMemory, Seq, TypeRef};
-use fm_code::{Code, Handler, Insn};
-use fm_rows::{apply, built_in_type, type_of_use, use_in};
-use fm_types::{Slot, Stack, State, fits_type};
+use fm_base::{NoMemory, Seq};
+use fm_code::{Code, Insn};
+use fm_rows::apply;
+use fm_types::State;
 use std::alloc::Global;
 
 // Whether control can go on to the item after the instruction.
@@ -73,99 +72,7 @@ pub fn next_items(alloc: Global, insn: &Insn, item: u32) -> Result<Vec<u32>, NoM
     Ok(items)
 }
 
-// The class that an entry of the exception table catches, where it is one of those that can be thrown.
-#[tactic(auto, unfolding(fm_types::specs::Typed::caught_type))]
-fn caught_type(method: &Method<'_>, handler: &Handler) -> Option<TypeRef>
-    requires { method.now.number.0 < length (methods_of method.now.program.now.outline.classes) }
-    ensures { result
-        ≡ caught_type method.now.program.now method.now.number.0 handler.now }
-{
-    let throwable = built_in_type(method.program, b"java/lang/Throwable");
-    if handler.catch_class == 0 {
-        return Some(throwable);
-    }
-    let resolved = use_in(method.program, method.number, handler.catch_class);
-    let caught = type_of_use(method.program, resolved)?;
-    if fits_type(method.program, caught, throwable) {
-        Some(caught)
-    } else {
-        None
-    }
-}
-
-// The state that an item brings to a handler, where its own is this one.
-fn handler_state(alloc: Global, state: &State, caught: TypeRef) -> Result<State, NoMemory>
-    ensures { IfOk result (λ brought. type_state brought
-        ≡ handler_state caught (type_state state.now)) }
-{
-    let mut stack = Stack::new(Vec::new(alloc));
-    stack.push(Slot::Ref(caught))?;
-    Ok(State {
-        locals: Vec::from_slice(alloc, state.locals.as_slice())?,
-        stack,
-        built: state.built,
-    })
-}
-
 impl Walk {
-    // Brings an item's state to the handler of an entry whose range holds the item; false where no
-    // typing has room for it.
-    fn bring_caught(
-        &mut self,
-        alloc: Global,
-        method: &Method<'_>,
-        item: u32,
-        handler: &Handler,
-        state: &State,
-    ) -> Result<bool, NoMemory>
-        requires sound { IsSound (task method.now) }
-        requires stands { Stands (task method.now) (walked self.old) }
-        requires forced { IsForced (task method.now) item (type_state state.now) }
-        requires listed { Contains (task method.now).code.handlers handler.now }
-        ensures { IfOk result (λ fits. MatchBool fits
-            (BringsCaught (task method.now) item (type_state state.now) handler.now
-            (walked self.old) (walked self.new))
-            (Untypable (task method.now))) }
-    {
-        if item < handler.start {
-            return Ok(true);
-        }
-        if handler.end <= item {
-            return Ok(true);
-        }
-        let Some(caught) = caught_type(method, handler) else {
-            return Ok(false);
-        };
-        let brought = handler_state(alloc, state, caught)?;
-        self.bring(alloc, method, handler.handler, &brought)
-    }
-
-    // The same for all entries of the list.
-    fn bring_to_handlers(
-        &mut self,
-        alloc: Global,
-        method: &Method<'_>,
-        item: u32,
-        handlers: &[Handler],
-        state: &State,
-    ) -> Result<bool, NoMemory>
-        requires sound { IsSound (task method.now) }
-        requires stands { Stands (task method.now) (walked self.old) }
-        requires forced { IsForced (task method.now) item (type_state state.now) }
-        requires listed { handlers.now ≡ (task method.now).code.handlers }
-        ensures { IfOk result (λ fits. MatchBool fits
-            (BringsHandlers (task method.now) item (type_state state.now) handlers.now
-            (walked self.old) (walked self.new))
-            (Untypable (task method.now))) }
-    {
-        for handler in handlers {
-            if !self.bring_caught(alloc, method, item, handler, state)? {
-                return Ok(false);
-            }
-        }
-        Ok(true)
-    }
-
     // Brings a state to each item of the list; false where no typing has room for it.
     fn bring_to_all(
         &mut self,
@@ -224,21 +131,23 @@ impl Walk {
         &mut self,
         alloc: Global,
         method: &Method<'_>,
+        levels: &mut Vec<Level>,
         item: u32,
     ) -> Result<bool, NoMemory>
         requires sound { IsSound (task method.now) }
         requires stands { Stands (task method.now) (walked self.old) }
+        requires guarded { IsGuarded (task method.now) (walked self.old).states levels.old.items }
         requires inside { item < length (task method.now).code.items }
         ensures { IfOk result (λ typed. MatchBool typed
-            (GoesOver (task method.now) item (walked self.old) (walked self.new))
+            (GoesOverGuarded (task method.now) item levels.new.items (walked self.old)
+            (walked self.new))
             (Untypable (task method.now))) }
     {
         let Some(own) = state_of(self.states.as_slice(), item) else {
             return Ok(true);
         };
         let mut state = own.to_state(alloc)?;
-        let handlers = method.code.handlers.as_slice();
-        if !self.bring_to_handlers(alloc, method, item, handlers, &state)? {
+        if !self.bring_to_runs(alloc, method, levels, item, &state)? {
             return Ok(false);
         }
         if !apply(
@@ -262,15 +171,18 @@ impl Walk {
         &mut self,
         alloc: Global,
         method: &Method<'_>,
+        levels: &mut Vec<Level>,
         item: u32,
         risen: Option<Seq<Place>>,
     ) -> Result<bool, NoMemory>
         requires sound { IsSound (task method.now) }
         requires stands { Stands (task method.now) (walked self.old) }
+        requires guarded { IsGuarded (task method.now) (walked self.old).states levels.old.items }
         requires inside { item < length (task method.now).code.items }
         requires met { IsMetBut (task method.now) (walked self.old).states risen item }
         ensures { IfOk result (λ typed. MatchBool typed
-            (GoesOver (task method.now) item (walked self.old) (walked self.new))
+            (GoesOverGuarded (task method.now) item levels.new.items (walked self.old)
+            (walked self.new))
             (Untypable (task method.now))) }
     {
         let Some(own) = state_of(self.states.as_slice(), item) else {
@@ -284,10 +196,10 @@ impl Walk {
                 .len()
                 .saturating_sub(words_taken(alloc, method, insn)?);
             if all_left_alone(insn, below, rises.as_slice()) {
-                return self.carry_on(alloc, method, item, insn, rises.as_slice());
+                return self.carry_on(alloc, method, levels, item, insn, rises.as_slice());
             }
         }
-        self.go_over_whole(alloc, method, item)
+        self.go_over_whole(alloc, method, levels, item)
     }
 
     /// Goes over all items that wait, until none does; false where the method isn't typed.
@@ -298,9 +210,10 @@ impl Walk {
             (HasSettled (task method.now) (walked self.new))
             (Untypable (task method.now))) }
     {
+        let mut levels = levels_of(alloc, method.code.handlers.as_slice())?;
         while let Some(item) = self.next() {
             let risen = self.take_risen(alloc, item);
-            if !self.go_over(alloc, method, item, risen)? {
+            if !self.go_over(alloc, method, &mut levels, item, risen)? {
                 return Ok(false);
             }
         }

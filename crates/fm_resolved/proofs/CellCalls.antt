@@ -1,17 +1,16 @@
 -- Calls of linked programs meet objects for which a method is selected, invokespecial leads to methods of the own class and above, and constructors are of exactly
 -- the class that is named (JVMS 5.4.6, 6.5.invokespecial).
-use Rattle.std.proofs.Common.{◌≡◌, refl, sym, ◌∙◌, ap, subst, ℕ, zero, suc, ◌<◌, ◌⊎◌, inl, inr, ◌==◌, ◌||◌, ◌&&◌, not, cond, Bool, true, false, List, [], ◌∷◌, ◌++◌, length, drop, nat_lt, nat_eq, slice_get, codes, Option, Some, None, option_and_then, option_map, option_to_list, unwrap_or, arith, ⊎_elim}
+use Rattle.std.proofs.Common.{◌≡◌, refl, sym, ◌∙◌, ap, subst, ℕ, ◌<◌, ◌⊎◌, inl, inr, ◌==◌, ◌||◌, ◌&&◌, not, cond, Bool, true, false, List, [], ◌∷◌, ◌++◌, length, drop, nat_lt, nat_eq, slice_get, Option, Some, None, option_and_then, option_map, option_to_list, unwrap_or, arith, ⊎_elim}
 use Rattle.std.specs.List.{AllByRecursion}
 use Rattle.std.specs.Str.{bytes_eq}
 use Rattle.std.proofs.lemmas.Bool.{and_parts, eqb-true, false≢true, ltb-true, or_cases}
-use Rattle.std.proofs.lemmas.Option.{none-some, same_Some}
+use Rattle.std.proofs.lemmas.Option.{same_Some}
 use Rattle.fm_base.specs.declared.ids.MethodId.{MethodId}
 use Rattle.fm_base.specs.declared.ids.TypeId.{TypeId}
 use Rattle.fm_base.specs.declared.kinds.Base.{Base}
 use Rattle.fm_base.specs.declared.kinds.Base.TheVariants as base
 use Rattle.fm_base.specs.declared.kinds.TypeRef.{TypeRef}
-use Rattle.fm_code.specs.AccessFlags.{has_flag, is_static}
-use Rattle.fm_code.specs.ConstantPool.{MemberName}
+use Rattle.fm_code.specs.AccessFlags.{has_flag}
 use Rattle.fm_code.specs.Spells.{HasSpelling}
 use Rattle.fm_code.specs.declared.class_file.ClassDef.{ClassDef}
 use Rattle.fm_code.specs.declared.code_array.Code.{Code}
@@ -28,28 +27,25 @@ use Rattle.fm_resolved.proofs.GivenFiles.{no_built_in_refused, no_method_refused
 use Rattle.fm_resolved.proofs.InterfaceCalls.{binary_type, class_of_name, type_named}
 use Rattle.fm_resolved.proofs.InterfaceSets.{low_interfaces, low_supers, marker_bare}
 use Rattle.fm_resolved.proofs.Messages.{below_of}
-use Rattle.fm_resolved.proofs.MethodOwners.{class_fits, first, implemented_reached, IsMethodOf, IsNamedMethod, IsReceiver, method_of, named_method, no_bad, object_top, path_cases, Reached, receiver, selects, sound, tree, up_reached}
+use Rattle.fm_resolved.proofs.MethodOwners.{class_fits, first, implemented_reached, IsMethodOf, IsNamedMethod, IsReceiver, method_of, named_method, object_top, path_cases, Reached, receiver, selects, sound, tree, up_reached}
 use Rattle.fm_resolved.proofs.NamedMethods.{virtual_of_class}
 use Rattle.fm_resolved.proofs.Numbers.{owner_there}
-use Rattle.fm_resolved.proofs.SelectedMethods.{OfClass}
 use Rattle.fm_resolved.proofs.SpecialCalls.{member_class}
 use Rattle.fm_sound.proofs.FoundMethods.{own_method_found}
 use Rattle.fm_sound.specs.Resolved.{IsNamed}
-use Rattle.fm_sound.specs.Sound.{HasObjects}
 use Rattle.fm_types.proofs.ClassTree.{among_own, object-within}
 use Rattle.fm_types.specs.CallRows.{is_constructor, is_initializer, names_own_or_above}
 use Rattle.fm_types.specs.Fits.{fits_type, is_seen_as_object, object_of}
 use Rattle.fm_types.specs.Named.{class_of_method}
-use Rattle.fm_whole.proofs.CallRows.{class_type as type_of_its_class}
-use Rattle.fm_whole.specs.CellsResolved.{CallsFit, IsMet, Selects, special_of}
+use Rattle.fm_whole.specs.CellsResolved.{CallsFit, IsMet, Selects}
 use Rattle.fm_world.specs.BuiltIns.{built_in}
-use Rattle.fm_world.specs.Chains.{chain_of, class_at, first_found, interfaces_of, is_above_arrays, is_among, is_base_above_arrays, is_sub, is_sub_base, superclasses_of, superinterfaces_of}
+use Rattle.fm_world.specs.Chains.{chain_of, class_at, first_found, interfaces_of, is_above_arrays, is_among, is_sub, is_sub_base, superclasses_of, superinterfaces_of}
 use Rattle.fm_world.specs.Descriptors.{class_number, class_type, of_class, type_in, type_with}
 use Rattle.fm_world.specs.Linking.{refusals}
 use Rattle.fm_world.specs.Lookups.{any_flags, constructor_name, is_interface_at, method_path, object_number, own_instance, searches_above, select, special_target}
-use Rattle.fm_world.specs.Members.{is_instance, method_at, own_method, OwnedMethod}
+use Rattle.fm_world.specs.Members.{is_instance, method_at, OwnedMethod}
 use Rattle.fm_world.specs.Numbers.{type_of_class}
-use Rattle.fm_world.specs.Programs.{class_of_type, classes_of, IsTypeIn, Outline, outline_of, program_of}
+use Rattle.fm_world.specs.Programs.{class_of_type, classes_of, Outline, outline_of, program_of}
 use Rattle.fm_world.specs.declared.TheConstants.{ACC_SUPER}
 use Rattle.fm_world.specs.declared.declarations.DeclaredClass.{DeclaredClass}
 use Rattle.fm_world.specs.declared.uses.Use.TheVariants as resolved

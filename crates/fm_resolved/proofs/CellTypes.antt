@@ -3,7 +3,7 @@
 use Rattle.std.proofs.Common.{◌≡◌, ℕ, zero, suc, ◌+◌, ◌-◌, ◌<◌, ◌≤◌, ◌==◌, ◌&&◌, ◌||◌, ◌⊎◌, inl, inr, not, cond, Bool, true, false, List, [], ◌∷◌, ◌++◌, length, codes, map, nat_eq, nat_lt, replicate, slice_get, get_or, Option, Some, None, is_some, option_and_then, unwrap_or, zero-add, refl, sym, ◌∙◌, ap, subst, arith, ⊎_elim}
 use Rattle.std.specs.List.{AllByRecursion, list_any}
 use Rattle.std.specs.Str.{bytes_eq}
-use Rattle.std.proofs.lemmas.Bool.{and_parts, cases_lt, eqb-true, false≢true, lt-ltb, ltb-true, or_cases, or_left, or_right}
+use Rattle.std.proofs.lemmas.Bool.{and_parts, cases_lt, eqb-true, false≢true, ltb-true, or_cases, or_left, or_right}
 use Rattle.std.proofs.lemmas.List.{get_or-replicate, get_or_append_left, get_or_past, length-append}
 use Rattle.std.proofs.lemmas.List.FromFn.{get_or-map-range_with_len}
 use Rattle.std.proofs.lemmas.List.Quantifiers.{position-Some}
@@ -34,11 +34,11 @@ use Rattle.fm_resolved.proofs.MainMethod.{main_slots}
 use Rattle.fm_sound.proofs.HiddenFields.{text_first}
 use Rattle.fm_types.proofs.LeastJoins.{same_type-refl}
 use Rattle.fm_types.proofs.Order.{below_objects-fits, level-fits}
-use Rattle.fm_types.specs.Fits.{AreTree, depth_of, depth_with, fits_base, fits_type, is_object_base, is_seen_as_object, object_of}
+use Rattle.fm_types.specs.Fits.{AreTree, depth_with, fits_type, is_object_base, is_seen_as_object, object_of}
 use Rattle.fm_types.specs.Named.{built_in_type}
 use Rattle.fm_world.specs.BuiltIns.{built_in, cloneable_name, object_name, sealed_names, serializable_name, string_name}
 use Rattle.fm_world.specs.Causes.{bad_parent_at, bad_parents, bad_superclass, BuiltIn, built_in_named, is_bad_superclass, own_name, refused}
-use Rattle.fm_world.specs.Chains.{array_supers, chain_of, class_at, interfaces_of, is_above_arrays, is_among, is_base_above_arrays, is_sub, is_sub_base, is_subclass, parent_of, same_base, upwards}
+use Rattle.fm_world.specs.Chains.{array_supers, chain_of, class_at, interfaces_of, is_above_arrays, is_among, is_base_above_arrays, is_sub, is_sub_base, parent_of, upwards}
 use Rattle.fm_world.specs.Declarations.{declared_from, declared_of, name_at, no_class}
 use Rattle.fm_world.specs.Descriptors.{class_number}
 use Rattle.fm_linked.proofs.Trees.{no_parent_refused, tree_of}

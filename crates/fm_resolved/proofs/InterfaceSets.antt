@@ -1,10 +1,9 @@
 -- Superinterfaces of classes: those of a superclass and of a superinterface are ones of the class itself, and built-in classes have built-in ones alone, which
 -- declare no method.
-use Rattle.std.proofs.Common.{◌≡◌, refl, sym, ◌∙◌, ap, subst, ℕ, zero, suc, ◌<◌, ◌≤◌, ◌⊎◌, inl, inr, ◌||◌, ◌&&◌, Bool, true, false, List, [], ◌∷◌, ◌++◌, length, map, replicate, nat_eq, nat_lt, get_or, Option, Some, None, is_none, zero-add, arith, ⊎_elim}
+use Rattle.std.proofs.Common.{◌≡◌, refl, sym, ◌∙◌, ap, ℕ, zero, suc, ◌<◌, ◌≤◌, ◌⊎◌, inl, inr, ◌&&◌, Bool, true, false, List, [], ◌∷◌, ◌++◌, length, map, replicate, nat_eq, nat_lt, Option, Some, None, is_none, arith, ⊎_elim}
 use Rattle.std.specs.List.{cons_option, filter_map, flat_map, list_any}
 use Rattle.std.proofs.lemmas.Bool.{cases_lt, eqb-true, false≢true, lt-ltb}
-use Rattle.std.proofs.lemmas.List.{get_or-replicate, get_or_append_left}
-use Rattle.std.proofs.lemmas.List.FromFn.{get_or-map-range_with_len}
+use Rattle.std.proofs.lemmas.List.{get_or_append_left}
 use Rattle.fm_code.specs.AccessFlags.{is_interface}
 use Rattle.fm_code.specs.declared.class_file.ClassDef.{ClassDef}
 use Rattle.fm_lookup.proofs.BuiltInParents.{count_is, number_first}

@@ -1,15 +1,15 @@
 -- The class that declares a method that is found: above the class whose objects are called, or one of its interfaces. So a method is selected for each of these
 -- objects, of a class that their type fits (JVMS 5.4.5, 5.4.6).
-use Rattle.std.proofs.Common.{◌≡◌, refl, sym, ◌∙◌, ap, subst, ℕ, zero, suc, ◌+◌, ◌-◌, ◌<◌, ◌≤◌, ◌⊎◌, inl, inr, ◌==◌, ◌||◌, ◌&&◌, not, cond, Bool, true, false, List, [], ◌∷◌, ◌++◌, length, map, nat_eq, get_or, slice_get, position, codes, Option, Some, None, is_some, option_and_then, option_map, option_to_list, unwrap_or, zero-add, arith, ⊎_elim}
+use Rattle.std.proofs.Common.{◌≡◌, refl, sym, ◌∙◌, ap, subst, ℕ, zero, suc, ◌+◌, ◌-◌, ◌<◌, ◌≤◌, ◌⊎◌, inl, inr, ◌==◌, ◌&&◌, not, cond, Bool, true, false, List, [], ◌∷◌, ◌++◌, length, map, nat_eq, get_or, slice_get, position, codes, Option, Some, None, is_some, option_and_then, option_map, option_to_list, unwrap_or, zero-add, arith, ⊎_elim}
 use Rattle.std.specs.List.{AllByRecursion, flat_map, list_any}
 use Rattle.std.specs.Str.{bytes_eq}
-use Rattle.std.proofs.lemmas.Bool.{and_parts, cases_lt, eqb-true, false≢true, or_left}
+use Rattle.std.proofs.lemmas.Bool.{cases_lt, eqb-true, false≢true, or_left}
 use Rattle.std.proofs.lemmas.List.Quantifiers.{position-Some}
 use Rattle.std.proofs.lemmas.Option.{none-some, same_Some}
 use Rattle.std.proofs.lemmas.Slice.Eq.{bytes_eq-Decides}
 use Rattle.fm_base.specs.declared.kinds.TypeRef.{TypeRef}
 use Rattle.fm_code.specs.AccessFlags.{is_abstract, is_interface, is_private, is_static}
-use Rattle.fm_code.specs.ConstantPool.{MemberName, utf8_at}
+use Rattle.fm_code.specs.ConstantPool.{MemberName}
 use Rattle.fm_code.specs.Members.{MethodIsValid}
 use Rattle.fm_code.specs.Names.{FieldType}
 use Rattle.fm_code.specs.Spells.{HasSpelling}
@@ -19,7 +19,7 @@ use Rattle.fm_code.specs.declared.constant_pool.Entry.{Entry}
 use Rattle.fm_linked.proofs.Trees.{no_parent_refused, tree_of}
 use Rattle.fm_lookup.proofs.BuiltInParents.{count_is}
 use Rattle.fm_lookup.proofs.Downwards.{among_head, among_left, either, or_true}
-use Rattle.fm_lookup.proofs.HierarchyLemmas.{interfaces_only, superinterfaces_only}
+use Rattle.fm_lookup.proofs.HierarchyLemmas.{interfaces_only}
 use Rattle.fm_lookup.proofs.ParentRefusals.{are_sound, first_true, spelled_at, nil_left, nil_right, none_at, past_none, refused_not, tree_object}
 use Rattle.fm_lookup.specs.inner.Hierarchy.{AreSound}
 use Rattle.fm_refuse.proofs.LeftOver.{abstract_or_none, left_over_parts}
@@ -27,19 +27,19 @@ use Rattle.fm_refuse.proofs.Positions.{is_some-position}
 use Rattle.fm_refuse.specs.inner.Abstracts.{left_over_by, left_over_of}
 use Rattle.fm_resolved.proofs.ClassChains.{below_object}
 use Rattle.fm_resolved.proofs.FieldOwners.{all_inside, append_cases, binary_found, found_among}
-use Rattle.fm_resolved.proofs.GivenFiles.{class_of_file, no_method_refused, none_implemented, none_missing}
+use Rattle.fm_resolved.proofs.GivenFiles.{class_of_file, none_implemented, none_missing}
 use Rattle.fm_resolved.proofs.InterfaceCalls.{binary_type}
 use Rattle.fm_resolved.proofs.InterfaceSets.{in_interfaces, interfaces_above, interfaces_up, low_interfaces, marker_bare}
 use Rattle.fm_resolved.proofs.SelectedMethods.{ClassHasObjects, files_counted, methods_at, none, OfClass, own_abstract, owned}
 use Rattle.fm_resolved.proofs.SpecialCalls.{file_implemented}
-use Rattle.fm_sound.proofs.FoundMethods.{IsFound, own_method_found}
+use Rattle.fm_sound.proofs.FoundMethods.{own_method_found}
 use Rattle.fm_types.proofs.ClassTree.{among_one, among_own, among-trans, interface-within, object-within, seen_above, seen-object}
 use Rattle.fm_types.proofs.Order.{below_objects-fits, level-fits}
-use Rattle.fm_types.specs.Fits.{AreTree, depth_of, fits_type, is_seen_as_object, object_of}
+use Rattle.fm_types.specs.Fits.{AreTree, fits_type, object_of}
 use Rattle.fm_world.specs.BuiltIns.{built_in}
 use Rattle.fm_world.specs.Causes.{abstract_call, abstract_methods, declared_name, is_left_over, left_over, method_text, NotImplemented, refused}
 use Rattle.fm_world.specs.Chains.{chain_of, class_at, first_found, interfaces_of, is_among, superinterfaces_of}
-use Rattle.fm_world.specs.Declarations.{declared_method, declared_of, no_class, no_method}
+use Rattle.fm_world.specs.Declarations.{declared_method, declared_of, no_method}
 use Rattle.fm_world.specs.Descriptors.{class_number, class_type}
 use Rattle.fm_world.specs.Linking.{refusals, refused_parents}
 use Rattle.fm_world.specs.Lookups.{any_flags, class_searched, constructor_name, is_abstract_method, is_interface_at, is_selectable, method_path, object_number, resolved_method, select}

@@ -1,21 +1,15 @@
 -- All rows together, and what follows for steps and runs.
-use Rattle.std.proofs.Common.{◌≡◌, ℕ, Bool, true, false, Option, refl}
-use Rattle.fm_code.specs.declared.code_array.Code.{Code}
-use Rattle.fm_code.specs.declared.instructions.Insn.{Insn}
-use Rattle.fm_types.specs.States.{TypeState}
-use Rattle.fm_types.specs.Typed.{made_at, use_by}
+use Rattle.std.proofs.Common.{◌≡◌, Bool, true, false, refl}
+use Rattle.fm_types.specs.Typed.{use_by}
 use Rattle.fm_world.specs.Programs.{Program}
 use Rattle.fm_frames.specs.Rows.{effect_of}
 use Rattle.fm_frames.specs.Sights.{sights}
-use Rattle.fm_frames.specs.States.{Areas, Frame}
 use Rattle.fm_same.specs.Resolved.{CallsNoFreeMe}
-use Rattle.fm_sound.specs.Going.{StandsAtRow}
 use Rattle.fm_sound.specs.Leading.{is_call}
 use Rattle.fm_sound.specs.Resolved.{StepsAreResolved}
-use Rattle.fm_sound.specs.Sound.{AreasAreSound, AreTyped, StandsWithout, Typings}
+use Rattle.fm_sound.specs.Sound.{AreTyped, Typings}
 use Rattle.fm_sound.proofs.CallsLead.{calls_lead}
 use Rattle.fm_whole.specs.CellsResolved.{CellsAreResolved}
-use Rattle.fm_whole.specs.Whole.{AreasAreWhole, FrameIsWhole}
 use Rattle.fm_whole.proofs.CallRows.{call_whole}
 use Rattle.fm_whole.proofs.FrameRows.{plain_row, row_here}
 use Rattle.fm_whole.proofs.RowCases.{kinds, Whole}

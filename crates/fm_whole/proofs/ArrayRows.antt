@@ -1,5 +1,5 @@
 -- The rows of arrays: what is loaded fits the elements of the array's type, and what is stored fits those of the array that is met.
-use Rattle.std.proofs.Common.{◌≡◌, ℕ, ℤ, ◌+◌, ◌-◌, ◌<◌, ◌==◌, ◌&&◌, ◌||◌, not, int_lt, pos, unsigned_abs, Bool, true, false, List, [], ◌∷◌, ◌++◌, length, map, cond, codes, nat_lt, Option, Some, None, refl, sym, ◌∙◌, ap, subst, inl, inr, slice_get, arith}
+use Rattle.std.proofs.Common.{◌≡◌, ℕ, ◌+◌, ◌-◌, ◌<◌, ◌==◌, ◌&&◌, ◌||◌, not, int_lt, pos, unsigned_abs, Bool, true, false, List, [], ◌∷◌, ◌++◌, length, map, codes, nat_lt, Option, Some, refl, sym, ◌∙◌, ap, subst, inl, inr, slice_get, arith}
 use Rattle.std.specs.List.{AllZip}
 use Rattle.std.proofs.lemmas.Bool.{and_parts, eqb-true, false≢true, ltb-true}
 use Rattle.std.proofs.lemmas.Option.{same_Some}
@@ -14,22 +14,21 @@ use Rattle.fm_code.specs.declared.operations.Elem.TheVariants as elem
 use Rattle.fm_types.specs.ArrayRows as typed
 use Rattle.fm_types.specs.ArrayRows.{array_load_row, array_store_row, has_letter, is_array_of, length_row, new_array_row, new_references_row, null_element, on_array, stored_element}
 use Rattle.fm_types.specs.Fits.{depth_with, fits_type}
-use Rattle.fm_types.specs.States.{stack_slots, taken, TypeState, worked}
+use Rattle.fm_types.specs.States.{stack_slots, worked}
 use Rattle.fm_types.specs.declared.slots.Slot.{Slot}
 use Rattle.fm_types.specs.declared.slots.Slot.TheVariants as slot
 use Rattle.fm_types.proofs.Order.{type-refl, type-trans}
 use Rattle.fm_world.specs.Chains.{is_sub}
-use Rattle.fm_world.specs.Programs.{kind_at, Outline}
+use Rattle.fm_world.specs.Programs.{Outline}
 use Rattle.fm_world.specs.Uses.{array_of}
 use Rattle.fm_world.specs.declared.uses.Use.{Use}
 use Rattle.fm_frames.specs.Acts.{cell_of, value_of}
 use Rattle.fm_frames.specs.ArrayRows.{array_load_effect, array_made, array_store_effect, element_kind, element_type, element_words, length_effect, new_array_effect, new_references_effect, on_element, put_element, put_reference, thrown_negative}
-use Rattle.fm_frames.specs.Effects.{Effect, int_word, loaded, Make, making, OfMade, OfOperand, OfPlace, Source, words}
+use Rattle.fm_frames.specs.Effects.{Effect, int_word, loaded, Make, making, OfOperand, OfPlace, Source, words}
 use Rattle.fm_frames.specs.Operands.{thrown}
 use Rattle.fm_frames.specs.Sights.{Looks, sight, Sight, sights, Thing}
 use Rattle.fm_frames.specs.States.{Areas, word_at}
 use Rattle.fm_frames.specs.declared.values.Value.{Value}
-use Rattle.fm_frames.specs.declared.values.Value.TheVariants as value
 use Rattle.fm_sound.specs.Leading.{sources_of}
 use Rattle.fm_sound.specs.Sound.{IsReference}
 use Rattle.fm_sound.proofs.ArrayRows.{by_array, number_slots}
@@ -43,7 +42,7 @@ use Rattle.fm_whole.proofs.ArrayTypes.{array_fits, dimensions_fit, element_fits,
 use Rattle.fm_whole.proofs.CellsLeave.{Below, below_found, worked_below_cells}
 use Rattle.fm_whole.proofs.ObjectRows.{by_row_type, loaded_cells, made_is, place_leads}
 use Rattle.fm_whole.proofs.Owing.{Cell, Suits}
-use Rattle.fm_whole.proofs.RowCases.{asked_int, Leaves, null_cell, null_whole, Row, seen_holds, thrown_whole, Whole, worked_leaves}
+use Rattle.fm_whole.proofs.RowCases.{asked_int, null_cell, null_whole, Row, seen_holds, thrown_whole, Whole, worked_leaves}
 use Rattle.fm_whole.proofs.StoresKeep.{sees}
 use Rattle.fm_whole.proofs.Wanted.{slot_held, slot_passing, wanted_at, wanted_int, wanted_leads, word_fits_at, word_there}
 

@@ -1,5 +1,5 @@
 -- The rows of calls: a method that is called gets arguments and a receiver that fit its first locals, and a built-in one gets what its row looks at.
-use Rattle.std.proofs.Common.{◌≡◌, ℕ, zero, suc, ◌+◌, ◌<◌, ◌==◌, ◌||◌, not, cond, Bool, true, false, List, [], ◌∷◌, ◌++◌, codes, drop, length, map, reverse, take, Option, Some, None, option_and_then, option_to_list, refl, sym, ◌∙◌, ap, subst, inl, inr, slice_get, nat_eq, arith, ⊎_elim}
+use Rattle.std.proofs.Common.{◌≡◌, ℕ, zero, suc, ◌+◌, ◌<◌, ◌==◌, ◌||◌, not, cond, Bool, true, false, List, [], ◌∷◌, ◌++◌, codes, drop, length, map, reverse, take, Option, Some, None, option_to_list, refl, sym, ◌∙◌, ap, subst, inr, slice_get, nat_eq, arith, ⊎_elim}
 use Rattle.std.specs.List.{AllByRecursion, AllZip, flat_map}
 use Rattle.std.specs.Str.{bytes_eq}
 use Rattle.std.proofs.lemmas.Bool.{eq-eqb, eqb-true, false≢true, or_cases, or_left, or_right}
@@ -22,7 +22,7 @@ use Rattle.fm_code.specs.declared.instructions.Insn.{Insn}
 use Rattle.fm_code.specs.declared.instructions.Insn.TheVariants as insn
 use Rattle.fm_types.proofs.ClassTree.{among_own, among-trans, object-within}
 use Rattle.fm_types.proofs.LeastJoins.{same_type-eq}
-use Rattle.fm_types.proofs.Order.{type-refl, type-trans}
+use Rattle.fm_types.proofs.Order.{type-trans}
 use Rattle.fm_types.specs.CallRows.{constructed, constructor_called, instance_call_row, is_class, is_constructor, is_initializer, is_type, names_own_or_above, names_own_or_parent, special_call_row, static_call_row}
 use Rattle.fm_types.specs.Fits.{AreTree, fits, fits_type}
 use Rattle.fm_types.specs.Named as typed
@@ -37,13 +37,13 @@ use Rattle.fm_world.specs.Descriptors.{parameter_kinds, result_kind}
 use Rattle.fm_world.specs.Lookups.{constructor_name, select}
 use Rattle.fm_world.specs.Members.{method_at}
 use Rattle.fm_world.specs.Numbers.{type_of_class}
-use Rattle.fm_world.specs.Programs.{class_of_type, code_at, Outline, Program}
+use Rattle.fm_world.specs.Programs.{class_of_type, Outline, Program}
 use Rattle.fm_world.specs.declared.declarations.DeclaredClass.{DeclaredClass}
 use Rattle.fm_world.specs.declared.uses.Use.{Use}
 use Rattle.fm_world.specs.declared.uses.Use.TheVariants as resolved
 use Rattle.fm_frames.specs.Acts.{cell_of, value_of}
 use Rattle.fm_frames.specs.CallRows.{entered, entered_as, interface_effect, native_of, receiver_class, special_effect, static_effect, virtual_effect, words_of_arguments}
-use Rattle.fm_frames.specs.Effects.{Calls, Effect, Enters, Exits, Falls, Faults, going, Jumps, JumpsIfSame, Next, Returns, Throws}
+use Rattle.fm_frames.specs.Effects.{Calls, Effect, Enters, Exits, Falls, Faults, Jumps, JumpsIfSame, Next, Returns, Throws}
 use Rattle.fm_frames.specs.NativeRows.{native_effect}
 use Rattle.fm_frames.specs.Natives.{FreeMeFree, FreeMeFreeChain, FreeMeLink, Native}
 use Rattle.fm_frames.specs.ObjectRows.{starting}
@@ -59,7 +59,7 @@ use Rattle.fm_same.specs.Resolved.{CallsNoFreeMe}
 use Rattle.fm_sound.specs.Going.{CallLeads, is_static_call, StandsAtRow}
 use Rattle.fm_sound.specs.Leading.{is_call, sources_of}
 use Rattle.fm_sound.specs.Resolved.{IsNamed, StepsAreResolved}
-use Rattle.fm_sound.specs.Sound.{AreasAreSound, AreTyped, HasObjects, IsReference, StandsWithout, Typings, words_of_call}
+use Rattle.fm_sound.specs.Sound.{AreasAreSound, AreTyped, IsReference, StandsWithout, Typings, words_of_call}
 use Rattle.fm_sound.proofs.Cases.{by_if}
 use Rattle.fm_sound.proofs.FoundMethods.{IsAlike, select_alike, special_alike}
 use Rattle.fm_sound.proofs.ReturnsStand.{arguments_count, method_in, taken_drop}

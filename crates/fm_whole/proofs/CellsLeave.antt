@@ -1,5 +1,5 @@
 -- The cells of the frame that an effect leaves fit the state that the row of the checker gives: one lemma for each way in which rows are made.
-use Rattle.std.proofs.Common.{◌≡◌, ℕ, zero, suc, ◌+◌, Bool, true, false, List, [], ◌∷◌, ◌++◌, length, drop, map, cond, nat_lt, Option, Some, None, option_and_then, refl, sym, ◌∙◌, ap, subst, slice_get}
+use Rattle.std.proofs.Common.{◌≡◌, ℕ, zero, suc, ◌+◌, List, [], ◌∷◌, ◌++◌, length, drop, map, cond, nat_lt, Option, Some, None, option_and_then, refl, sym, ◌∙◌, ap, subst, slice_get}
 use Rattle.std.specs.List.{AllZip}
 use Rattle.std.specs.Option.{option_map}
 use Rattle.std.proofs.lemmas.Option.{same_Some}
@@ -9,10 +9,9 @@ use Rattle.fm_cells.specs.Stores.{Store}
 use Rattle.fm_types.specs.Moves.{moved, Moves, words_at}
 use Rattle.fm_types.specs.States.{is_whole, taken, TypeState, worked, worked_below}
 use Rattle.fm_types.specs.declared.slots.Slot.{Slot}
-use Rattle.fm_types.specs.declared.slots.Slot.TheVariants as slot
 use Rattle.fm_world.specs.Programs.{Outline}
 use Rattle.fm_frames.specs.Acts.{cell_of, value_of}
-use Rattle.fm_frames.specs.Effects.{Effect, OfOperand, Source, words}
+use Rattle.fm_frames.specs.Effects.{Effect, OfOperand, words}
 use Rattle.fm_frames.specs.States.{Areas, Frame, word_at}
 use Rattle.fm_frames.specs.Steps as steps
 use Rattle.fm_frames.specs.declared.values.Value.{Value}

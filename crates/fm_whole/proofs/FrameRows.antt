@@ -1,5 +1,5 @@
 -- The row at which a frame of a whole state stands: its effect is no fault.
-use Rattle.std.proofs.Common.{◌≡◌, ℕ, false, List, [], ◌∷◌, length, drop, Option, Some, None, option_and_then, refl, sym, ◌∙◌, ap, subst, slice_get}
+use Rattle.std.proofs.Common.{◌≡◌, ℕ, false, length, Option, Some, None, option_and_then, refl, sym, ◌∙◌, ap, subst}
 use Rattle.std.specs.List.{AllZip}
 use Rattle.std.proofs.lemmas.Option.{same_Some}
 use Rattle.std.proofs.lemmas.Slice.Zip.{AllZip-long}
@@ -23,8 +23,8 @@ use Rattle.fm_sound.specs.Sound.{AreasAreSound, AreTyped, HasKind, StandsWithout
 use Rattle.fm_sound.proofs.FramesStand.{typing_of}
 use Rattle.fm_whole.specs.CellsResolved.{CellsAreResolved}
 use Rattle.fm_whole.specs.Seen.{IsNoFault}
-use Rattle.fm_whole.specs.Whole.{AreasAreWhole, FrameFits, FrameIsWhole, lowest, WordFits}
-use Rattle.fm_whole.proofs.Owing.{NextSuits, RowIsWhole}
+use Rattle.fm_whole.specs.Whole.{AreasAreWhole, FrameFits, FrameIsWhole, WordFits}
+use Rattle.fm_whole.proofs.Owing.{NextSuits}
 use Rattle.fm_whole.proofs.PlainRows.{MakesNamed, plain_whole}
 use Rattle.fm_whole.proofs.RowCases.{Row, Whole}
 use Rattle.fm_whole.proofs.WaitingFrames.{lowest_all}

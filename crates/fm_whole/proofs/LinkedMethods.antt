@@ -11,7 +11,7 @@ use Rattle.fm_base.specs.declared.kinds.TypeRef.{TypeRef}
 use Rattle.fm_code.specs.AccessFlags.{is_static}
 use Rattle.fm_types.proofs.Order.{type-trans}
 use Rattle.fm_types.specs.Fits.{AreTree, fits_type}
-use Rattle.fm_types.specs.Named.{built_in_type, class_of_method, object_slot, throwable_type}
+use Rattle.fm_types.specs.Named.{built_in_type, throwable_type}
 use Rattle.fm_types.specs.States.{stack_slots}
 use Rattle.fm_types.specs.declared.slots.Slot.{Slot}
 use Rattle.fm_types.specs.declared.slots.Slot.TheVariants as slot
@@ -23,7 +23,7 @@ use Rattle.fm_world.specs.Members.{method_at, methods_of, OwnedMethod}
 use Rattle.fm_world.specs.Numbers.{type_of_class}
 use Rattle.fm_world.specs.Programs.{Outline, Program}
 use Rattle.fm_world.specs.declared.declarations.DeclaredClass.{DeclaredClass}
-use Rattle.fm_frames.proofs.BuiltInTypes.{buffer_there, builder_there, named_class, object_first, object_there, throwable_there}
+use Rattle.fm_frames.proofs.BuiltInTypes.{buffer_there, builder_there, named_class, object_there, throwable_there}
 use Rattle.fm_frames.proofs.Programs.{string_number}
 use Rattle.fm_frames.specs.CallRows.{native_of}
 use Rattle.fm_frames.specs.NativeRows.{text_type}

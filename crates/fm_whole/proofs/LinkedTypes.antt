@@ -1,14 +1,12 @@
 -- What holds of the built-in classes in each linked program: what the machine throws can be thrown, texts and streams have no place for references, what builds
 -- texts and what can be thrown has a hidden field, and System has its streams.
-use Rattle.std.proofs.Common.{◌≡◌, ℕ, ◌+◌, ◌<◌, ◌==◌, ◌||◌, ◌⊎◌, inl, inr, cond, Bool, true, false, List, [], ◌∷◌, ◌++◌, length, codes, nat_eq, Option, Some, None, option_and_then, unwrap_or, refl, sym, ◌∙◌, ap, subst, slice_get, arith, ⊎_elim}
+use Rattle.std.proofs.Common.{◌≡◌, ℕ, ◌<◌, ◌==◌, Bool, true, false, List, [], ◌∷◌, ◌++◌, length, codes, nat_eq, Some, unwrap_or, refl, sym, ◌∙◌, ap, subst, slice_get, arith, ⊎_elim}
 use Rattle.std.specs.List.{AllByRecursion, list_any}
 use Rattle.std.specs.Option.{option_map}
 use Rattle.std.specs.Str.{bytes_eq}
 use Rattle.std.proofs.lemmas.Bool.{eqb-true, false≢true, or_cases, or_left, or_right}
 use Rattle.std.proofs.lemmas.Iterator.Adapters.{position_from-zero}
-use Rattle.std.proofs.lemmas.List.{length-append}
 use Rattle.std.proofs.lemmas.Option.{none-some}
-use Rattle.fm_base.specs.declared.kinds.Kind.{Kind}
 use Rattle.fm_base.specs.declared.kinds.Kind.TheVariants as kind
 use Rattle.fm_base.specs.declared.kinds.TypeRef.{TypeRef}
 use Rattle.fm_code.specs.AccessFlags.{is_static}
@@ -17,13 +15,13 @@ use Rattle.fm_types.proofs.Order.{level-fits}
 use Rattle.fm_types.specs.Fits.{AreTree, fits_type}
 use Rattle.fm_types.specs.Named.{built_in_type, throwable_type}
 use Rattle.fm_types.specs.declared.slots.Slot.TheVariants as slot
-use Rattle.fm_world.specs.BuiltIns.{built_in, object_name}
+use Rattle.fm_world.specs.BuiltIns.{built_in}
 use Rattle.fm_world.specs.Chains.{chain_of, class_at, is_among, parent_of}
 use Rattle.fm_world.specs.Descriptors.{class_number, kind_with, of_class}
 use Rattle.fm_world.specs.Lookups.{is_interface_at}
 use Rattle.fm_world.specs.Members.{field_at, field_kind, fields_of, kinds_of, slot_of}
 use Rattle.fm_world.specs.Numbers.{type_of_class}
-use Rattle.fm_world.specs.Programs.{class_of_type, kind_at, Outline, Program}
+use Rattle.fm_world.specs.Programs.{kind_at, Outline, Program}
 use Rattle.fm_world.specs.declared.declarations.DeclaredClass.{DeclaredClass}
 use Rattle.fm_frames.proofs.BuiltInTypes.{below_named, buffer_there, builder_there, named_class, no_interfaces, object_there, throwable_there}
 use Rattle.fm_frames.proofs.Programs.{string-is}

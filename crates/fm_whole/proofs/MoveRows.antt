@@ -1,5 +1,5 @@
 -- The rows of constants, locals and moves of the stack: what is moved goes on fitting, and a text is given once its object is there.
-use Rattle.std.proofs.Common.{◌≡◌, ℕ, ℤ, zero, suc, ◌+◌, Bool, true, false, List, [], ◌∷◌, length, drop, map, cond, Option, Some, None, nat_lt, option_and_then, refl, sym, ap, subst, inl, inr, slice_get, slice_set, arith}
+use Rattle.std.proofs.Common.{◌≡◌, ℕ, ℤ, zero, suc, ◌+◌, Bool, true, false, List, [], ◌∷◌, length, drop, map, cond, Option, Some, None, nat_lt, option_and_then, refl, subst, slice_get, slice_set, arith}
 use Rattle.std.specs.List.{AllZip}
 use Rattle.std.proofs.lemmas.Bool.{false≢true}
 use Rattle.std.proofs.lemmas.Option.{same_Some}

@@ -1,29 +1,25 @@
 -- The rows of the built-in methods, but for those of FreeMe: where the words of a call fit what they ask, none is a fault, and what they put and give fits.
-use Rattle.std.proofs.Common.{◌≡◌, ℕ, zero, suc, ℤ, ◌+◌, ◌⊎◌, ◌||◌, cond, int_lt, not, pos, Bool, true, false, List, [], ◌∷◌, ◌++◌, length, map, codes, Option, Some, None, refl, sym, ◌∙◌, ap, subst, inl, inr, slice_get, slice_index_or}
-use Rattle.std.specs.List.{AllZip}
+use Rattle.std.proofs.Common.{◌≡◌, ℕ, zero, suc, ℤ, ◌+◌, ◌⊎◌, ◌||◌, cond, int_lt, not, pos, Bool, true, false, List, [], ◌∷◌, ◌++◌, length, codes, Option, Some, None, refl, sym, ◌∙◌, ap, subst, inl, inr, slice_get, slice_index_or}
 use Rattle.std.proofs.lemmas.Bool.{false≢true}
-use Rattle.fm_base.specs.declared.kinds.Kind.TheVariants as kind
 use Rattle.fm_base.specs.declared.kinds.TypeRef.{TypeRef}
 use Rattle.fm_cells.specs.Objects.{Object}
-use Rattle.fm_cells.specs.Stores.{object_at, Store}
+use Rattle.fm_cells.specs.Stores.{object_at}
 use Rattle.fm_types.specs.Fits.{fits_type}
-use Rattle.fm_types.specs.Named.{built_in_type, object_slot, throwable_type}
+use Rattle.fm_types.specs.Named.{built_in_type, throwable_type}
 use Rattle.fm_types.specs.States.{taken}
 use Rattle.fm_types.specs.declared.slots.Slot.{Slot}
 use Rattle.fm_types.specs.declared.slots.Slot.TheVariants as slot
 use Rattle.fm_types.proofs.Order.{type-refl}
-use Rattle.fm_world.specs.BuiltIns.{string_name}
-use Rattle.fm_world.specs.Programs.{kind_at, Outline}
-use Rattle.fm_frames.specs.Acts.{cell_of, value_of}
+use Rattle.fm_world.specs.Programs.{Outline}
+use Rattle.fm_frames.specs.Acts.{cell_of}
 use Rattle.fm_frames.specs.Effects.{acting, Effect, Exits, Falls, faulty, int_word, making, Next, OfMade, OfOperand, Source, Throws, words}
 use Rattle.fm_frames.specs.Elements.{is_text_type}
 use Rattle.fm_frames.specs.NativeRows.{builder_native, has_text, native_effect, object_native, on_builder, on_built, on_shown, shown_words, stream_native, string_native, text_kind, text_made, text_type, throwable_native, thrown_outside}
 use Rattle.fm_frames.specs.Natives.{Append, BufferInitOf, BuilderInit, BuilderLength, BuilderToString, CharAt, CompareTo, Exit, FreeMeFree, FreeMeFreeChain, FreeMeLink, GetMessage, Native, ObjectEquals, ObjectHashCode, ObjectInit, ObjectToString, Print, Println, PrintlnNothing, Read, Shown, ShownBoolean, ShownChar, ShownInt, ShownLong, ShownText, StringEquals, StringHashCode, StringLength, StringToString, Substring, ThrowableInit, ThrowableInitOf, ThrowableToString, ValueOf}
 use Rattle.fm_frames.specs.Operands.{on_any, on_inner, on_inner_of, on_int, on_object, on_passing, on_text, on_text_or_null, thrown}
-use Rattle.fm_frames.specs.Sights.{has_hidden_field, inner_of, Inner, led_to, Looks, looks, Lost, Missing, NoField, sight, Sight, sights, Text, text_in, Thing, type_numbered}
-use Rattle.fm_frames.specs.States.{Areas, null, word_at}
+use Rattle.fm_frames.specs.Sights.{has_hidden_field, inner_of, Inner, led_to, Looks, looks, Lost, Missing, NoField, Sight, sights, Text, text_in, Thing, type_numbered}
+use Rattle.fm_frames.specs.States.{Areas, word_at}
 use Rattle.fm_same.specs.Covering.{is_free_me}
-use Rattle.fm_sound.specs.Leading.{sources_of}
 use Rattle.fm_sound.specs.Making.{is_built}
 use Rattle.fm_sound.specs.Sound.{IsReference}
 use Rattle.fm_sound.proofs.Cases.{by_if}

@@ -1,16 +1,14 @@
 -- The row of multianewarray: each array of arrays is made before it is put where it stands in the one that was made before, and is of that one's element type.
-use Rattle.std.proofs.Common.{◌≡◌, ℕ, zero, suc, ℤ, ◌+◌, ◌*◌, ◌<◌, ◌≤◌, ◌&&◌, int_lt, pos, unsigned_abs, Bool, true, false, List, [], ◌∷◌, ◌++◌, length, map, replicate, reverse, cond, nat_lt, nat_le, Option, Some, None, refl, sym, ◌∙◌, ap, subst, inl, inr, slice_get, append_assoc, arith}
+use Rattle.std.proofs.Common.{◌≡◌, ℕ, zero, suc, ℤ, ◌+◌, ◌*◌, ◌<◌, ◌≤◌, ◌&&◌, int_lt, pos, unsigned_abs, List, [], ◌∷◌, ◌++◌, length, replicate, reverse, nat_lt, nat_le, Option, Some, None, refl, sym, ◌∙◌, ap, subst, inl, inr, slice_get, append_assoc, arith}
 use Rattle.std.specs.List.{AllByRecursion, flat_map, list_any, range_with_len}
 use Rattle.std.proofs.Math.Nat.{suc-mul}
 use Rattle.std.proofs.lemmas.Bool.{and_parts, leb-true, lt-ltb, ltb-true}
 use Rattle.std.proofs.lemmas.List.{append-nil, length-append, length-replicate, length-reverse, reverse-append}
 use Rattle.std.proofs.lemmas.List.FromFn.{length-range_with_len}
-use Rattle.std.proofs.lemmas.Option.{same_Some}
 use Rattle.fm_base.proofs.ListFacts.{AllByRecursion-append}
 use Rattle.fm_base.proofs.OptionFacts.{cond-some_then, option_map-some}
 use Rattle.fm_base.specs.declared.kinds.Base.{Base}
 use Rattle.fm_base.specs.declared.kinds.Base.TheVariants as base
-use Rattle.fm_base.specs.declared.kinds.Kind.{Kind}
 use Rattle.fm_base.specs.declared.kinds.Kind.TheVariants as kind
 use Rattle.fm_base.specs.declared.kinds.TypeRef.{TypeRef}
 use Rattle.fm_types.specs.ArrayRows.{multi_array_row}

@@ -1,24 +1,21 @@
 -- The frame of a method that is called is whole, where the cells of its arguments fit its first locals.
-use Rattle.std.proofs.Common.{◌≡◌, ℕ, zero, suc, ◌-◌, List, [], ◌∷◌, ◌++◌, length, drop, replicate, Option, Some, refl, sym, ◌∙◌, ap, subst}
+use Rattle.std.proofs.Common.{◌≡◌, ℕ, zero, suc, ◌-◌, List, [], length, replicate, Option, sym, ◌∙◌, ap, subst}
 use Rattle.std.specs.List.{AllZip}
 use Rattle.std.proofs.lemmas.Option.{same_Some}
 use Rattle.std.proofs.lemmas.Slice.Zip.{AllZip-long}
 use Rattle.fm_base.specs.declared.kinds.TypeRef.{TypeRef}
 use Rattle.fm_cells.specs.Stores.{Store}
-use Rattle.fm_code.specs.declared.code_array.Code.{Code}
 use Rattle.fm_types.specs.Named.{class_of_method}
-use Rattle.fm_types.specs.States.{TypeState}
 use Rattle.fm_types.specs.Typed.{entry_slots, entry_state, made_at}
 use Rattle.fm_types.specs.declared.slots.Slot.{Slot}
 use Rattle.fm_types.specs.declared.slots.Slot.TheVariants as slot
-use Rattle.fm_world.specs.Programs.{code_at, Outline, Program}
-use Rattle.fm_frames.specs.States.{Frame}
+use Rattle.fm_world.specs.Programs.{Outline, Program}
 use Rattle.fm_frames.specs.Steps.{max_locals_of, new_frame}
 use Rattle.fm_frames.specs.declared.values.Value.{Value}
 use Rattle.fm_frames.specs.declared.values.Value.TheVariants as value
 use Rattle.fm_sound.specs.Sound.{AreTyped, FrameHasKinds, StandsWithout, Typings}
 use Rattle.fm_sound.proofs.FramesStand.{typing_of}
-use Rattle.fm_whole.specs.Whole.{FrameFits, FrameIsWhole}
+use Rattle.fm_whole.specs.Whole.{FrameIsWhole}
 use Rattle.fm_whole.proofs.FramesKeep.{max_locals_in, zip_appended}
 use Rattle.fm_whole.proofs.Owing.{ArgumentsSuit, Cell, CellsFit}
 use Rattle.fm_whole.proofs.ReturnsKeep.{fits_by}

@@ -1,5 +1,5 @@
 -- The rows of objects, fields and casts: what is read of a place or of a static field fits it, and what is put there does.
-use Rattle.std.proofs.Common.{◌≡◌, ℕ, zero, suc, ◌+◌, ◌-◌, ◌<◌, ◌==◌, ◌&&◌, not, Bool, true, false, List, [], ◌∷◌, ◌++◌, length, drop, map, cond, codes, Option, Some, None, unwrap_or, option_and_then, option_map, refl, sym, ◌∙◌, ap, subst, inl, inr, slice_get, slice_index_or, pos}
+use Rattle.std.proofs.Common.{◌≡◌, ℕ, ◌+◌, ◌-◌, ◌==◌, ◌&&◌, not, Bool, true, false, List, [], ◌∷◌, ◌++◌, map, cond, codes, Option, Some, None, unwrap_or, option_map, refl, sym, ◌∙◌, ap, subst, inl, inr, slice_get, slice_index_or, pos}
 use Rattle.std.specs.List.{AllZip, list_any}
 use Rattle.std.specs.Prelude.{if◌then◌else◌}
 use Rattle.std.proofs.lemmas.Bool.{and_parts, eqb-true, false≢true}
@@ -13,14 +13,14 @@ use Rattle.fm_base.specs.declared.kinds.Kind.{Kind}
 use Rattle.fm_base.specs.declared.kinds.Kind.TheVariants as kind
 use Rattle.fm_base.specs.declared.kinds.TypeRef.{TypeRef}
 use Rattle.fm_cells.specs.Objects.{Object}
-use Rattle.fm_cells.specs.Stores.{elements_at, object_at, Store}
+use Rattle.fm_cells.specs.Stores.{elements_at, Store}
 use Rattle.fm_code.specs.declared.instructions.Insn.TheVariants as insn
 use Rattle.fm_types.specs.CallRows.{is_type}
 use Rattle.fm_types.specs.Fits.{fits, fits_type}
 use Rattle.fm_types.specs.Named as typed
 use Rattle.fm_types.specs.Named.{class_of_method, field_words, object_slot}
 use Rattle.fm_types.specs.ObjectRows.{cast_row, get_field_row, get_static_row, has_objects, is_a_row, new_row, put_field_row, put_static_row, takes_field}
-use Rattle.fm_types.specs.States.{is_uninit, replaced, stack_slots, taken, TypeState, worked, worked_below}
+use Rattle.fm_types.specs.States.{is_uninit, replaced, stack_slots, taken, TypeState, worked}
 use Rattle.fm_types.specs.Typed.{type_of_use}
 use Rattle.fm_types.specs.declared.slots.Slot.{Slot}
 use Rattle.fm_types.specs.declared.slots.Slot.TheVariants as slot
@@ -34,33 +34,32 @@ use Rattle.fm_world.specs.Programs.{class_of_type, kind_at, Outline}
 use Rattle.fm_world.specs.declared.uses.Use.{Use}
 use Rattle.fm_world.specs.declared.uses.Use.TheVariants as resolved
 use Rattle.fm_frames.specs.Acts.{cell_of, value_of}
-use Rattle.fm_frames.specs.Effects.{acting, Effect, int_word, loaded, Make, making, OfMade, OfOperand, OfPlace, OfStatic, Put, SetStatic, Source, words}
+use Rattle.fm_frames.specs.Effects.{acting, Effect, int_word, loaded, OfMade, OfOperand, OfPlace, OfStatic, Put, SetStatic, Source, words}
 use Rattle.fm_frames.specs.Elements.{read}
 use Rattle.fm_frames.specs.ObjectRows.{cast_effect, class_of_field, get_field_effect, get_static_effect, is_a_effect, kind_of_field, made_of, new_effect, put_field_effect, put_static_effect, starting}
 use Rattle.fm_frames.specs.Operands.{on_object, thrown}
-use Rattle.fm_frames.specs.Sights.{Looks, Null, sight, Sight, sights, Thing, type_numbered}
+use Rattle.fm_frames.specs.Sights.{Looks, Sight, sights, Thing, type_numbered}
 use Rattle.fm_frames.specs.States.{Areas, ref, word_at}
 use Rattle.fm_frames.specs.Uses.{by_type, on_field, on_type}
 use Rattle.fm_frames.specs.declared.values.Value.{Value}
-use Rattle.fm_frames.specs.declared.values.Value.TheVariants as value
-use Rattle.fm_same.proofs.StoreChanges.{Extends, IsKept}
+use Rattle.fm_same.proofs.StoreChanges.{IsKept}
 use Rattle.fm_sound.specs.Leading.{NamesField, sources_of}
 use Rattle.fm_sound.specs.Resolved.{IsNamed}
-use Rattle.fm_sound.specs.Sound.{field_slot, IsReference, static_slots}
+use Rattle.fm_sound.specs.Sound.{field_slot, IsReference}
 use Rattle.fm_sound.proofs.Cases.{by_if}
 use Rattle.fm_sound.proofs.Leaving.{kind_slots}
 use Rattle.fm_sound.proofs.ObjectRows.{static_slot_at}
 use Rattle.fm_sound.proofs.SeenObjects.{IsSeen, seen_at}
-use Rattle.fm_whole.specs.Whole.{CellFits, HoldsA, is_below, LeadsToA, ObjectIsWhole, WordFits}
-use Rattle.fm_whole.proofs.ActsKeep.{IsAn, types_after, Went}
+use Rattle.fm_whole.specs.Whole.{HoldsA, is_below, LeadsToA, ObjectIsWhole, WordFits}
+use Rattle.fm_whole.proofs.ActsKeep.{IsAn, Went}
 use Rattle.fm_whole.proofs.ActsSuits.{holds_weaker}
 use Rattle.fm_whole.proofs.CellsLeave.{Below, below_found, leaves_cells, worked_below_cells}
 use Rattle.fm_whole.proofs.Operands.{reference_kind}
-use Rattle.fm_whole.proofs.Owing.{Cell, CellsFit, CellsLeave, Suits}
+use Rattle.fm_whole.proofs.Owing.{Cell, CellsFit, Suits}
 use Rattle.fm_whole.proofs.RowCases.{asked_held, asked_object, int_given, Leaves, locals_later, null_cell, null_whole, pushed_leaves, Row, seen_holds, thrown_whole, Whole, words_later, worked_leaves}
 use Rattle.fm_whole.proofs.SlotsFit.{cell_along}
 use Rattle.fm_whole.proofs.StoresKeep.{leads-later}
-use Rattle.fm_whole.proofs.Wanted.{slot_passing, wanted_leads, word_fits_at, word_there}
+use Rattle.fm_whole.proofs.Wanted.{slot_passing, wanted_leads, word_fits_at}
 
 -- ---- locals that lose what they knew
 

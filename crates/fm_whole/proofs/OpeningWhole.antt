@@ -1,19 +1,17 @@
 -- The opening of a run leaves a whole state that is no fault.
-use Rattle.std.proofs.Common.{◌≡◌, ℕ, zero, suc, ◌+◌, ◌≤◌, cond, Bool, true, false, List, [], ◌∷◌, ◌++◌, length, map, nat_lt, Option, Some, None, refl, sym, ◌∙◌, ap, subst, inl, inr, slice_get, slice_set, slice_index_or, arith, ⊎_elim}
+use Rattle.std.proofs.Common.{◌≡◌, ℕ, zero, suc, ◌+◌, cond, Bool, true, false, List, [], ◌∷◌, ◌++◌, length, map, nat_lt, Option, Some, refl, sym, ◌∙◌, ap, subst, inl, inr, slice_get, slice_set, slice_index_or, arith, ⊎_elim}
 use Rattle.std.specs.List.{AllByRecursion, AllZip, flat_map}
 use Rattle.std.specs.FinMap.{gets}
 use Rattle.std.proofs.lemmas.Bool.Decides.{nat_tests}
 use Rattle.std.proofs.lemmas.List.{length-append}
-use Rattle.std.proofs.lemmas.Option.{none-some, same_Some}
+use Rattle.std.proofs.lemmas.Option.{same_Some}
 use Rattle.fm_base.specs.declared.ids.MethodId.{MethodId}
 use Rattle.fm_base.specs.declared.kinds.Kind.{Kind}
 use Rattle.fm_base.specs.declared.kinds.Kind.TheVariants as kind
 use Rattle.fm_base.specs.declared.kinds.TypeRef.{TypeRef}
-use Rattle.fm_base.specs.declared.limits.TheConstants.{MAX_FILE_BYTES, MAX_LIVE_WORDS}
 use Rattle.fm_cells.proofs.Choices.{lawful_choice-may}
 use Rattle.fm_cells.specs.Choices.{lawful, MayReuse}
 use Rattle.fm_cells.specs.Objects.{Object, Request}
-use Rattle.fm_cells.specs.Sizes.{cell_words}
 use Rattle.fm_cells.specs.Stores.{live_words, object_at, opened, Store}
 use Rattle.fm_code.specs.AccessFlags.{is_static}
 use Rattle.fm_types.specs.Fits.{AreTree, fits_type}
@@ -36,13 +34,11 @@ use Rattle.fm_frames.specs.declared.ends.Ended.TheVariants as end
 use Rattle.fm_frames.specs.declared.values.Value.{Value}
 use Rattle.fm_frames.specs.declared.values.Value.TheVariants as value
 use Rattle.fm_same.proofs.StoreChanges.{extends-refl}
-use Rattle.fm_sound.specs.Acting.{ActsFit}
 use Rattle.fm_sound.specs.Laws.{no_frame}
 use Rattle.fm_sound.specs.Making.{ArgumentsFit, MakesAreResolved}
 use Rattle.fm_sound.specs.Resolved.{MainIsReady, StepsAreResolved}
 use Rattle.fm_sound.specs.Sound.{AreTyped, static_slots, Typings}
 use Rattle.fm_sound.proofs.ClassStarts.{starts_are_methods}
-use Rattle.fm_sound.proofs.FieldPlaces.{still}
 use Rattle.fm_sound.proofs.Opening.{fit_later, start_made}
 use Rattle.fm_sound.proofs.OpeningActs.{opening_fits}
 use Rattle.fm_sound.proofs.StartActs.{start_alone}

@@ -1,5 +1,5 @@
 -- All rows but those of calls: the effect of each leads on to cells that fit, and none is a fault.
-use Rattle.std.proofs.Common.{◌≡◌, ℕ, true, false, List, [], ◌∷◌, length, Option, Some, sym}
+use Rattle.std.proofs.Common.{◌≡◌, ℕ, false, List, length, Option, Some, sym}
 use Rattle.std.proofs.lemmas.Bool.{false≢true}
 use Rattle.fm_code.specs.declared.instructions.Insn.{Insn}
 use Rattle.fm_code.specs.declared.instructions.Insn.TheVariants as insn

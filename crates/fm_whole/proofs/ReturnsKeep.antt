@@ -1,5 +1,5 @@
 -- A frame that called another one goes on after its call with the words of the result, and is whole there.
-use Rattle.std.proofs.Common.{◌≡◌, ℕ, ◌+◌, ◌==◌, Bool, true, false, cond, List, [], ◌∷◌, ◌++◌, length, drop, take, Option, Some, None, option_and_then, option_to_list, refl, sym, ◌∙◌, ap, subst, inr, ⊎_elim, arith}
+use Rattle.std.proofs.Common.{◌≡◌, ℕ, ◌+◌, Bool, true, false, cond, List, [], ◌∷◌, ◌++◌, length, drop, take, Option, Some, None, option_and_then, option_to_list, refl, sym, ◌∙◌, ap, subst, inr, ⊎_elim, arith}
 use Rattle.std.specs.List.{AllByRecursion, AllZip}
 use Rattle.std.proofs.lemmas.Bool.{false≢true}
 use Rattle.std.proofs.lemmas.Bool.Decides.{nat_tests}
@@ -17,7 +17,7 @@ use Rattle.fm_code.specs.declared.code_array.Code.{Code}
 use Rattle.fm_code.specs.declared.instructions.Insn.{Insn}
 use Rattle.fm_code.specs.declared.instructions.Insn.TheVariants as insn
 use Rattle.fm_types.specs.CallRows.{constructed, constructor_called, initialised, instance_call_row, is_constructor, is_initializer, is_type, names_own_or_above, names_own_or_parent, special_call_row, static_call_row}
-use Rattle.fm_types.specs.Fits.{AreTree, fits, fits_type}
+use Rattle.fm_types.specs.Fits.{AreTree, fits_type}
 use Rattle.fm_types.specs.Named.{argument_words, class_of_method, result_of, result_words}
 use Rattle.fm_types.specs.Rows.{row_after}
 use Rattle.fm_types.specs.States.{is_uninit, is_uninit_this, replaced, stack_slots, taken, TypeState, worked}
@@ -36,11 +36,11 @@ use Rattle.fm_frames.specs.States.{Frame, State}
 use Rattle.fm_frames.specs.Steps.{is_start, returned}
 use Rattle.fm_frames.specs.declared.values.Value.{Value}
 use Rattle.fm_sound.specs.Going.{ConstructorsGiveNothing, StandsAtRow}
-use Rattle.fm_sound.specs.Sound.{AreTyped, Calling, FrameHasKinds, HasKind, HaveKinds, LocalHasKind, LocalsHaveKinds, StandBelow, Starting, Typings, words_of_call}
+use Rattle.fm_sound.specs.Sound.{AreTyped, Calling, FrameHasKinds, HasKind, HaveKinds, LocalHasKind, StandBelow, Starting, Typings, words_of_call}
 use Rattle.fm_sound.proofs.FramesStand.{after_whole, edge_fits, next_edge, typing_of}
 use Rattle.fm_sound.proofs.Leaving.{dropped}
 use Rattle.fm_sound.proofs.ReturnsStand.{arguments_count, call_falls, call_kinds, method_in, row_of_method, taken_drop}
-use Rattle.fm_whole.specs.Whole.{CellFits, FrameFits, FrameIsWhole, is_below, LocalFits, lowest, WordFits}
+use Rattle.fm_whole.specs.Whole.{FrameFits, FrameIsWhole, is_below, LocalFits, lowest, WordFits}
 use Rattle.fm_whole.proofs.ActsSuits.{holds_weaker}
 use Rattle.fm_whole.proofs.CellsLeave.{local_cells, stack_cells}
 use Rattle.fm_whole.proofs.FramesKeep.{brought_whole, zip_appended}

@@ -1,5 +1,5 @@
 -- Each state of a run is whole, from its opening on, and none is a fault.
-use Rattle.std.proofs.Common.{◌≡◌, ℕ, zero, suc, ◌≤◌, List, length, Option}
+use Rattle.std.proofs.Common.{ℕ, zero, suc, ◌≤◌, List, length, Option}
 use Rattle.fm_base.specs.declared.limits.TheConstants.{MAX_FILE_BYTES, MAX_LIVE_WORDS}
 use Rattle.fm_cells.specs.Choices.{lawful}
 use Rattle.fm_cells.specs.Stores.{opened}
@@ -11,7 +11,6 @@ use Rattle.fm_sound.specs.Laws.{no_frame}
 use Rattle.fm_sound.specs.Making.{ArgumentsFit, MakesAreResolved}
 use Rattle.fm_sound.specs.Resolved.{MainIsReady, StepsAreResolved}
 use Rattle.fm_sound.specs.Sound.{AreTyped, IsSoundBy, Typings}
-use Rattle.fm_sound.proofs.NextActs.{next_acts_fit}
 use Rattle.fm_sound.proofs.Opening.{opening_sound}
 use Rattle.fm_sound.proofs.OpeningActs.{opening_fits}
 use Rattle.fm_sound.proofs.StartActs.{start_alone}

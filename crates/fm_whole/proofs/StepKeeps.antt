@@ -1,5 +1,5 @@
 -- A step from a whole state leads to a whole state, and never to a fault.
-use Rattle.std.proofs.Common.{◌≡◌, ℕ, ◌+◌, ◌<◌, ◌≤◌, cond, Bool, true, false, List, [], ◌∷◌, ◌++◌, drop, length, max, reverse, take, Option, Some, None, option_and_then, refl, sym, ◌∙◌, ap, subst, slice_get, inl, inr, arith}
+use Rattle.std.proofs.Common.{◌≡◌, ℕ, ◌+◌, cond, Bool, true, false, List, [], ◌∷◌, ◌++◌, max, reverse, take, Option, Some, None, option_and_then, refl, sym, ◌∙◌, ap, subst, slice_get, arith}
 use Rattle.std.specs.List.{AllByRecursion, AllZip}
 use Rattle.std.proofs.lemmas.Option.{none-some, same_Some}
 use Rattle.fm_base.proofs.OptionFacts.{option_and_then-some, Some-from_some_and}
@@ -13,40 +13,36 @@ use Rattle.fm_cells.specs.Stores.{object_at, Store}
 use Rattle.fm_code.specs.Edges.{insn_of, IsNormalEdge}
 use Rattle.fm_code.specs.declared.code_array.Code.{Code}
 use Rattle.fm_code.specs.declared.instructions.Insn.{Insn}
-use Rattle.fm_types.specs.Fits.{AreTree, fits_type}
+use Rattle.fm_types.specs.Fits.{fits_type}
 use Rattle.fm_types.specs.Named.{class_of_method, result_words, throwable_type}
 use Rattle.fm_types.specs.Rows.{row_after}
 use Rattle.fm_types.specs.States.{TypeState}
 use Rattle.fm_types.specs.Typed.{after_item, FitsAt, IsTypingOf, made_at, MeetsItem, use_by}
-use Rattle.fm_types.specs.declared.slots.Slot.{Slot}
-use Rattle.fm_types.specs.declared.slots.Slot.TheVariants as slot
-use Rattle.fm_world.specs.Programs.{code_at, Outline, Program}
+use Rattle.fm_world.specs.Programs.{Outline, Program}
 use Rattle.fm_frames.specs.Acts.{cell_of, Choose, Did, FullAt, LostAt, performed, Performed, value_of}
-use Rattle.fm_frames.specs.Effects.{Action, Calls, Effect, Enters, Exits, Falls, Faults, Jumps, JumpsIfSame, Next, nothing, OfLiteral, OfLocal, OfMade, OfOperand, OfPlace, OfStatic, LocalPlus, Plain, Returns, SameOperands, Source, Throws}
+use Rattle.fm_frames.specs.Effects.{Action, Calls, Effect, Enters, Exits, Falls, Faults, Jumps, JumpsIfSame, Next, nothing, OfMade, OfOperand, Returns, Source, Throws}
 use Rattle.fm_frames.specs.Rows.{effect_of}
 use Rattle.fm_frames.specs.Sights.{sights, type_numbered}
 use Rattle.fm_frames.specs.Starts.{start_actions, start_methods, started_by, to_start, with_start}
 use Rattle.fm_frames.specs.States.{Areas, Frame, Moved, State, word_at}
-use Rattle.fm_frames.specs.Steps.{attempted, Caught, caught, caught_in, continued, effect_by, finished, handler_of, InFrames, insn_at, is_deep, is_over, is_start, Leaves, new_frame, next_effect, objects_made, returned, stack_after, start_frames, step, stopped, thrown_by, type_at, written}
+use Rattle.fm_frames.specs.Steps.{attempted, Caught, caught, caught_in, continued, effect_by, finished, handler_of, InFrames, insn_at, is_deep, is_over, is_start, Leaves, next_effect, objects_made, returned, stack_after, step, stopped, thrown_by, type_at, written}
 use Rattle.fm_frames.specs.declared.ends.Ended.{Ended}
 use Rattle.fm_frames.specs.declared.ends.Ended.TheVariants as end
 use Rattle.fm_frames.specs.declared.values.Value.{Value}
-use Rattle.fm_same.proofs.StoreChanges.{Extends, IsKept}
 use Rattle.fm_sound.specs.Acting.{ActsFit}
 use Rattle.fm_sound.specs.Going.{CallLeads, StandsAtRow, StartsClass}
 use Rattle.fm_sound.specs.Leading.{is_call, LeadsAs, LeavesAs, sources_of}
 use Rattle.fm_sound.specs.Making.{MakesAreResolved}
-use Rattle.fm_sound.specs.Resolved.{IsNamed, StepsAreResolved}
-use Rattle.fm_sound.specs.Sound.{AreasAreSound, AreTyped, FrameHasKinds, HaveKinds, IsReference, IsSoundBy, Stand, StandBelow, StandsWithout, static_slots, Typings}
+use Rattle.fm_sound.specs.Resolved.{StepsAreResolved}
+use Rattle.fm_sound.specs.Sound.{AreasAreSound, AreTyped, FrameHasKinds, HaveKinds, IsSoundBy, StandBelow, StandsWithout, static_slots, Typings}
 use Rattle.fm_sound.proofs.CallsLead.{calls_lead}
 use Rattle.fm_sound.proofs.ClassStarts.{starts_are_methods}
 use Rattle.fm_sound.proofs.FramesStand.{typing_of}
 use Rattle.fm_sound.proofs.NextActs.{next_acts_fit}
 use Rattle.fm_sound.proofs.Rows.{effect_leads}
 use Rattle.fm_sound.proofs.StepsSound.{moved_by, step_sound}
-use Rattle.fm_whole.specs.Catching.{CatchesFit}
 use Rattle.fm_whole.specs.CellsResolved.{CellsAreResolved}
-use Rattle.fm_whole.specs.Whole.{AreasAreWhole, FrameFits, FrameIsWhole, HasNoFault, HoldsA, IsWholeBy, LocalFits, WordFits}
+use Rattle.fm_whole.specs.Whole.{AreasAreWhole, FrameFits, FrameIsWhole, HasNoFault, HoldsA, IsWholeBy}
 use Rattle.fm_whole.proofs.ActsKeep.{acts_go, IsAn, types_after, Went, went_first, WentTo}
 use Rattle.fm_whole.proofs.ActsSuits.{acts_lead}
 use Rattle.fm_whole.proofs.CatchesKeep.{all_caught}
@@ -56,7 +52,7 @@ use Rattle.fm_whole.proofs.FramesKeep.{going_whole, started_whole}
 use Rattle.fm_whole.proofs.NewFrames.{new_frame_whole}
 use Rattle.fm_whole.proofs.Owing.{Cell, CellsFit, NextSuits, RowIsWhole, SourceIsA}
 use Rattle.fm_whole.proofs.ReturnsKeep.{fits_by, returned_whole}
-use Rattle.fm_whole.proofs.RowCases.{Row, Whole}
+use Rattle.fm_whole.proofs.RowCases.{Whole}
 use Rattle.fm_whole.proofs.StartsSuit.{NumbersAreConstants, start_owes}
 use Rattle.fm_whole.proofs.StoresKeep.{frames-later, holds-later}
 use Rattle.fm_whole.proofs.WaitingFrames.{waiting_whole}

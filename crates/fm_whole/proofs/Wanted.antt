@@ -1,6 +1,6 @@
 -- What holds of each effect that a row can come to holds of the row, where the words of the stack fit what the checker's row takes of it: an operand is of the
 -- sort that is asked, and a reference leads to null or to an object that fits.
-use Rattle.std.proofs.Common.{◌≡◌, ℕ, zero, suc, ℤ, Bool, true, false, cond, List, [], ◌∷◌, Option, Some, None, sym, ◌∙◌, ap, subst, refl, slice_get, inl}
+use Rattle.std.proofs.Common.{◌≡◌, ℕ, zero, suc, ℤ, Bool, true, false, cond, List, [], ◌∷◌, Option, Some, sym, ◌∙◌, ap, subst, refl, slice_get}
 use Rattle.std.specs.List.{AllZip}
 use Rattle.std.proofs.lemmas.Option.{same_Some}
 use Rattle.fm_base.proofs.OptionFacts.{cond-some_then}
@@ -17,8 +17,7 @@ use Rattle.fm_frames.specs.Operands.{on_held, on_held_of, on_int, on_int_of, on_
 use Rattle.fm_frames.specs.Sights.{Gone, Looks, Null, sight, Sight, sights, Thing, Word}
 use Rattle.fm_frames.specs.States.{word_at}
 use Rattle.fm_frames.specs.declared.values.Value.{Value}
-use Rattle.fm_frames.specs.declared.values.Value.TheVariants as value
-use Rattle.fm_sound.specs.Sound.{HasKind, IsReference}
+use Rattle.fm_sound.specs.Sound.{IsReference}
 use Rattle.fm_whole.specs.Seen.{SeesA}
 use Rattle.fm_whole.specs.Whole.{LeadsToA, WordFits}
 use Rattle.fm_whole.proofs.Operands.{int_kind, long_kind, reference_kind}

@@ -1,5 +1,5 @@
 -- What linking makes sure of, so that each cell fits where it stands and no instruction meets a cell in which it can't be (JVMS 5.3.5, 5.4.3, 5.4.5, 6.5).
-use Rattle.std.specs.Prelude.{◌≡◌, ℕ, not, Bool, true, false, List, [], ◌∷◌, codes, Option, Some, None, slice_get, unwrap_or}
+use Rattle.std.specs.Prelude.{◌≡◌, ℕ, not, Bool, true, false, List, [], ◌∷◌, codes, Some, slice_get, unwrap_or}
 use Rattle.std.specs.List.{AllByRecursion}
 use Rattle.fm_base.specs.declared.ids.MethodId.{MethodId}
 use Rattle.fm_base.specs.declared.ids.TypeId.{TypeId}

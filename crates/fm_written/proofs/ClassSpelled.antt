@@ -1,5 +1,5 @@
 -- A changed class has a spelling: its pool, its members and its codes meet the rules of a class file.
-use Rattle.std.proofs.Common.{◌≡◌, ◌≢◌, ℕ, zero, suc, ◌+◌, ◌<◌, ◌≤◌, ◌^◌, ◌⊎◌, inl, inr, ⊎_elim, Bool, List, [], ◌∷◌, ◌++◌, length, map, cond, codes, Option, Some, None, IsSome, IsSomeAnd, refl, sym, ap, subst, ◌∙◌, arith}
+use Rattle.std.proofs.Common.{◌≡◌, ℕ, suc, ◌+◌, inl, inr, ⊎_elim, Bool, List, [], ◌∷◌, ◌++◌, length, map, cond, codes, Option, Some, None, IsSome, refl, sym, ap, ◌∙◌, arith}
 use Rattle.std.specs.Prelude.{count_by}
 use Rattle.std.specs.List.{AllByRecursion}
 use Rattle.std.proofs.lemmas.List.{length-map}
@@ -8,15 +8,13 @@ use Rattle.fm_base.proofs.ListFacts.{AllByRecursion-weaker}
 use Rattle.fm_base.proofs.OptionFacts.{IsSome-from_some}
 use Rattle.fm_base.specs.declared.limits.TheConstants.{MAX_FILE_BYTES}
 use Rattle.fm_code.specs.AccessFlags.{is_interface}
-use Rattle.fm_code.specs.ClassBytes.{class_bytes, pool_bytes}
+use Rattle.fm_code.specs.ClassBytes.{class_bytes}
 use Rattle.fm_code.specs.CodeRules.{CodeAttrIsValid, CodeIsValid, HandlerIsValid}
 use Rattle.fm_code.specs.ConstantPool.{class_name_at, method_at, utf8_at}
-use Rattle.fm_code.specs.Fits.{ClassFits, CountedFits, MemberAttrFits, MemberFits}
+use Rattle.fm_code.specs.Fits.{MemberAttrFits, MemberFits}
 use Rattle.fm_code.specs.FreeEntries.{free_method, sought_free, with_free}
-use Rattle.fm_code.specs.Members.{AreDifferent, AreDistinct, FieldIsValid, is_coded, IsConstructor, MethodAttrIsValid, MethodIsValid, ReturnsNothing}
+use Rattle.fm_code.specs.Members.{AreDifferent, AreDistinct, FieldIsValid, is_coded, MethodAttrIsValid, MethodIsValid}
 use Rattle.fm_code.specs.Operands.{OperandIsValid}
-use Rattle.fm_code.specs.Spells.{HasSpelling, Spells}
-use Rattle.fm_code.specs.declared.class_file.ClassDef.{ClassDef}
 use Rattle.fm_code.specs.declared.class_file.Member.{Member}
 use Rattle.fm_code.specs.declared.class_file.MemberAttr.{MemberAttr}
 use Rattle.fm_code.specs.declared.class_file.MemberAttr.TheVariants as attribute
@@ -24,8 +22,7 @@ use Rattle.fm_code.specs.declared.class_file.Raw.{Raw}
 use Rattle.fm_code.specs.declared.code_array.Code.{Code}
 use Rattle.fm_code.specs.declared.constant_pool.Entry.{Entry}
 use Rattle.fm_place.specs.Insertions.{Insertions}
-use Rattle.fm_place.specs.Rewriting.{free_index, Plans, rewritten_attribute, rewritten_major, rewritten_method, rewritten_methods}
-use Rattle.fm_place.specs.Woven.{woven_code}
+use Rattle.fm_place.specs.Rewriting.{free_index, Plans, rewritten_attribute, rewritten_method, rewritten_methods}
 use Rattle.fm_pool.proofs.FreeEntriesAdded.{free_named, free_spelled}
 use Rattle.fm_pool.proofs.GrownPool.{class_kept, text_kept}
 use Rattle.fm_written.proofs.CodeSpelled.{code_fits, code_valid}

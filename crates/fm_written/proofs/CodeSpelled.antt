@@ -1,15 +1,15 @@
 -- A woven code meets the rules of a Code attribute, and its numbers and lengths fit their bytes.
-use Rattle.std.proofs.Common.{◌≡◌, ℕ, zero, suc, ◌+◌, ◌<◌, ◌≤◌, ◌^◌, List, [], ◌∷◌, ◌++◌, length, map, Option, Some, None, IsSome, refl, sym, ap, subst, ◌∙◌, arith, length-append}
+use Rattle.std.proofs.Common.{◌≡◌, ℕ, zero, suc, ◌+◌, ◌<◌, ◌≤◌, List, [], ◌∷◌, ◌++◌, length, map, Option, IsSome, refl, ap, ◌∙◌, arith, length-append}
 use Rattle.std.specs.List.{AllByRecursion, filter_map, flat_map, range_with_len}
 use Rattle.std.proofs.lemmas.List.{length-map}
 use Rattle.fm_base.proofs.ListFacts.{AllByRecursion-both, AllByRecursion-weaker}
-use Rattle.fm_base.specs.declared.limits.TheConstants.{MAX_FILE_BYTES, MAX_LOCAL_WORDS}
+use Rattle.fm_base.specs.declared.limits.TheConstants.{MAX_FILE_BYTES}
 use Rattle.fm_code.proofs.CodeItems.{HasBytes}
 use Rattle.fm_code.proofs.InsnPrefixes.{insn_at_not_empty}
 use Rattle.fm_code.specs.ClassBytes.{code_bytes, item_bytes, offset_in}
 use Rattle.fm_code.specs.CodeRules.{CodeAttrIsValid, CodeIsValid, HandlerIsValid}
 use Rattle.fm_code.specs.ConstantPool.{method_at}
-use Rattle.fm_code.specs.Fits.{CodeAttrFits, CodeFits, CountedFits, FitsTwo, VarFits}
+use Rattle.fm_code.specs.Fits.{CodeAttrFits, CodeFits, FitsTwo, VarFits}
 use Rattle.fm_code.specs.Operands.{OperandIsValid}
 use Rattle.fm_code.specs.SpellsCode.{IsSpelled, LocalFits, LocalsFit, SpellsCode, with_targets}
 use Rattle.fm_code.specs.declared.code_array.Code.{Code}
@@ -18,7 +18,6 @@ use Rattle.fm_code.specs.declared.code_array.CodeAttr.TheVariants as code_attrib
 use Rattle.fm_code.specs.declared.code_array.Handler.{Handler}
 use Rattle.fm_code.specs.declared.code_array.Item.{Item}
 use Rattle.fm_code.specs.declared.code_array.Line.{Line}
-use Rattle.fm_code.specs.declared.code_array.TheConstants.{MAX_CODE_BYTES}
 use Rattle.fm_code.specs.declared.code_array.Var.{Var}
 use Rattle.fm_code.specs.declared.constant_pool.Entry.{Entry}
 use Rattle.fm_code.specs.declared.instructions.Insn.{Insn}
@@ -28,7 +27,6 @@ use Rattle.fm_code.specs.declared.operations.Reg.TheVariants as reg
 use Rattle.fm_layout.proofs.LawLemmas.{laid_is_code}
 use Rattle.fm_layout.proofs.MarksLemmas.{marks_in_order, marks_one_each}
 use Rattle.fm_layout.proofs.TablesLemmas.{tables_valid}
-use Rattle.fm_layout.specs.Conditions.{AreNewItems, AreOldItems, HasOrigin}
 use Rattle.fm_layout.specs.Laid.{firsts_from, IsCode, laid_length, laid_of, marks_of}
 use Rattle.fm_layout.specs.Rooms.{rooms_of, starts_from, widened_rooms}
 use Rattle.fm_layout.specs.Tables.{AreValid, moved_attribute, moved_handler, moved_line, moved_tables, moved_var}
@@ -36,10 +34,8 @@ use Rattle.fm_layout.specs.declared.laying.Laid.{Laid}
 use Rattle.fm_layout.specs.declared.new_items.NewItem.{NewItem}
 use Rattle.fm_place.proofs.WovenLemmas.{anchors_are_anchors}
 use Rattle.fm_place.specs.Insertions.{Insertions}
-use Rattle.fm_place.specs.Laws.{Suits}
 use Rattle.fm_place.specs.Woven.{anchors_of, woven, woven_code}
-use Rattle.fm_place.specs.declared.limits.TheConstants.{MAX_HOLDING_STACK_WORDS}
-use Rattle.fm_written.proofs.InsertedFits.{NewFits, woven_fits}
+use Rattle.fm_written.proofs.InsertedFits.{woven_fits}
 use Rattle.fm_written.proofs.KeptNames.{code_attribute_kept, handler_kept, operand_kept}
 use Rattle.fm_written.proofs.LaidFits.{ItemFits, laid_fits}
 use Rattle.fm_written.proofs.WrittenSizes.{woven_size}

@@ -1,18 +1,15 @@
 -- What a class names in its constant pool stays there where more entries follow.
-use Rattle.std.proofs.Common.{◌≡◌, ◌≢◌, ℕ, ◌<◌, ◌==◌, ◌⊎◌, inl, inr, ⊎_elim, Bool, true, false, List, [], ◌∷◌, ◌++◌, length, codes, Option, Some, None, IsSome, IsSomeAnd, Contains, refl, sym, ap, subst, ◌∙◌}
-use Rattle.std.specs.Prelude.{count_by}
+use Rattle.std.proofs.Common.{◌≡◌, ℕ, ◌==◌, ◌⊎◌, inl, inr, Bool, true, false, List, [], ◌∷◌, ◌++◌, codes, Option, Some, None, IsSome, IsSomeAnd, Contains, refl, sym, ap, subst, ◌∙◌}
 use Rattle.std.specs.List.{AllByRecursion}
 use Rattle.fm_base.proofs.ListFacts.{AllByRecursion-weaker}
 use Rattle.fm_base.proofs.OptionFacts.{IsSome-from_some, IsSomeAnd-from_some, Some-from_is_some, Some-from_some_and, same_value}
-use Rattle.fm_code.specs.AccessFlags.{is_abstract, is_static}
 use Rattle.fm_code.specs.CodeRules.{CodeAttrIsValid, HandlerIsValid, VarIsValid}
 use Rattle.fm_code.specs.ConstantPool.{class_name_at, entry_at, field_at, interface_method_at, member_named, MemberName, method_at, named_and_typed_at, utf8_at}
-use Rattle.fm_code.specs.Members.{AreDifferent, AreDistinct, FieldAttrIsValid, FieldIsValid, IsConstructor, IsValue, Suits, suited_descriptors, ValueSuits}
-use Rattle.fm_code.specs.Operands.{count_of, IsConstant, opcode_of, OperandIsValid, TakesWords}
+use Rattle.fm_code.specs.Members.{FieldAttrIsValid, FieldIsValid, IsValue, Suits, suited_descriptors}
+use Rattle.fm_code.specs.Operands.{IsConstant, opcode_of, OperandIsValid}
 use Rattle.fm_code.specs.declared.class_file.Member.{Member}
 use Rattle.fm_code.specs.declared.class_file.MemberAttr.{MemberAttr}
 use Rattle.fm_code.specs.declared.class_file.MemberAttr.TheVariants as attribute
-use Rattle.fm_code.specs.declared.class_file.Raw.{Raw}
 use Rattle.fm_code.specs.declared.code_array.CodeAttr.{CodeAttr}
 use Rattle.fm_code.specs.declared.code_array.CodeAttr.TheVariants as code_attribute
 use Rattle.fm_code.specs.declared.code_array.Handler.{Handler}

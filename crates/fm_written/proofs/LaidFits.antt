@@ -1,5 +1,5 @@
--- Each laid-out item has its locals, and what it names in the pool is there.
-use Rattle.std.proofs.Common.{◌≡◌, ℕ, zero, suc, ◌+◌, ◌<◌, Bool, true, false, List, [], ◌∷◌, ◌++◌, length, Option, Some, None, IsSome, IsSomeAnd, refl, sym, ap, subst, ◌∙◌, option_and_then}
+-- What holds of branches and of moved items holds of all laid-out items; so each has its locals, and what it names in the pool is there.
+use Rattle.std.proofs.Common.{◌≡◌, ℕ, ◌+◌, Bool, true, false, List, [], ◌∷◌, length, Option, Some, None, IsSome, IsSomeAnd, refl, sym, subst, ◌∙◌, option_and_then}
 use Rattle.std.specs.Prelude.{nat_lt, slice_get, slice_index}
 use Rattle.std.specs.List.{AllByRecursion}
 use Rattle.fm_base.proofs.ListFacts.{AllByRecursion-append}
@@ -25,28 +25,59 @@ use Rattle.fm_layout.specs.declared.rooms.Room.{Room}
 use Rattle.fm_layout.specs.declared.rooms.Room.TheVariants as room
 use Rattle.fm_written.proofs.InsertedFits.{FitsAs, InsertedFits, NewFits}
 
+-- ---- any fact of laid items
+
+-- the fact holds of an item with targets, whatever they and its bytes are
+abbrev pub HoldsOfTargets : (Item → Type 0) → Type 0
+HoldsOfTargets P = (offset : ℕ) (bytes : List ℕ) (f : ℕ → ℕ) (i : Insn) → names_target i ≡ true → P (record { offset = offset; bytes = bytes; insn = with_targets f i })
+
+module _ (P : Item → Type 0) (targeted : HoldsOfTargets P) where
+  branch_holds : (start to target : ℕ) (taken : Option Condition) → P (short_item start taken to target)
+  branch_holds start to target None = targeted start (short_item start None to target).bytes (λ t. t) (insn.Goto target) refl
+  branch_holds start to target (Some (condition.Int t)) = targeted start (short_item start (Some (condition.Int t)) to target).bytes (λ t. t) (insn.IfInt t target) refl
+  branch_holds start to target (Some (condition.Pair t)) = targeted start (short_item start (Some (condition.Pair t)) to target).bytes (λ t. t) (insn.IfPair t target) refl
+  branch_holds start to target (Some (condition.Same same)) = targeted start (short_item start (Some (condition.Same same)) to target).bytes (λ t. t) (insn.IfSame same target) refl
+  branch_holds start to target (Some (condition.Null null)) = targeted start (short_item start (Some (condition.Null null)) to target).bytes (λ t. t) (insn.IfNull null target) refl
+
+  wide_holds : (start first : ℕ) (follows : Bool) (taken : Option Condition) (to target : ℕ) → AllByRecursion P (wide_items start first follows taken to target)
+  wide_holds start first follows None to target = (targeted start (goto_w_item start to target).bytes (λ t. t) (insn.Goto target) refl, tt)
+  wide_holds start first true (Some taken) to target =
+      (branch_holds start (start + 8) (first + 2) (Some (opposite taken)), (targeted (start + 3) (goto_w_item (start + 3) to target).bytes (λ t. t) (insn.Goto target) refl, tt))
+  wide_holds start first false (Some taken) to target =
+      (branch_holds start (start + 3) (first + 1) (Some (opposite taken)), (targeted (start + 3) (goto_w_item (start + 3) to target).bytes (λ t. t) (insn.Goto target) refl, tt))
+
+  module _ (free locals : ℕ) (old : List Item)
+      (kept : (starts firsts : List ℕ) (start : ℕ) (item : Item) (i : Insn) → IsSameButTargets i item.insn → P item → P (moved_item starts firsts start (Some item) i))
+      (inserted : (starts firsts : List ℕ) (start : ℕ) (i : Insn) → InsertedFits free locals i → P (moved_item starts firsts start None i)) (known : AllByRecursion P old) where
+    moved_holds : (starts firsts : List ℕ) (start : ℕ) (i : Insn) (origin : Option ℕ) → IsOrigin old i origin → FitsAs free locals i origin
+        → P (moved_item starts firsts start (option_and_then (λ k. slice_get old k) origin) i)
+    moved_holds starts firsts start i None is fits = inserted starts firsts start i fits
+    moved_holds starts firsts start i (Some k) is fits = go (slice_get old k) refl is where
+      go : (o : Option Item) → slice_get old k ≡ o → IsSomeAnd o (λ item. IsSameButTargets i item.insn) → P (moved_item starts firsts start o i)
+      go None found same = absurd same
+      go (Some item) found same = kept starts firsts start item i same (at_index P old k item known found)
+
+    one_holds : (starts firsts : List ℕ) (start first : ℕ) (follows : Bool) (new : NewItem) (r : Room) → HasOrigin old new → NewFits free locals new
+        → AllByRecursion P (laid_items starts firsts start first follows (kept_item old new) new.insn r)
+    one_holds starts firsts start first follows new (room.Plain n) origin fits = (moved_holds starts firsts start new.insn new.kept origin fits, tt)
+    one_holds starts firsts start first follows new (room.Switch n) origin fits = (moved_holds starts firsts start new.insn new.kept origin fits, tt)
+    one_holds starts firsts start first follows new (room.Narrow b) origin fits = (branch_holds start (slice_index starts b.target) (slice_index firsts b.target) b.condition, tt)
+    one_holds starts firsts start first follows new (room.Wide b) origin fits = wide_holds start first follows b.condition (slice_index starts b.target) (slice_index firsts b.target)
+
+    pub laid_hold : (starts firsts : List ℕ) (start first : ℕ) (items : List NewItem) (rooms : List Room) → AllByRecursion (HasOrigin old) items
+        → AllByRecursion (NewFits free locals) items → AllByRecursion P (laid_from old starts firsts start first items rooms)
+    laid_hold starts firsts start first [] rooms origins fit = tt
+    laid_hold starts firsts start first (new ∷ items) [] origins fit = tt
+    laid_hold starts firsts start first (new ∷ items) (r ∷ rooms) origins fit =
+        AllByRecursion-append P _ (laid_from old starts firsts (start + size_at start r) (first + item_count r) items rooms)
+        (one_holds starts firsts start first (nat_lt 0 (length items)) new r origins.0 fit.0)
+        (laid_hold starts firsts (start + size_at start r) (first + item_count r) items rooms origins.1 fit.1)
+
+-- ---- locals and operands
+
 -- an item's locals are among so many, and its operand is in the pool
 abbrev pub ItemFits : (locals : ℕ) → List Entry → Item → Type 0
 ItemFits locals entries item = LocalsFit locals item.insn × OperandIsValid entries item
-
--- ---- branches
-
-conditional_fits : (locals : ℕ) (entries : List Entry) (start to target : ℕ) (taken : Option Condition) → ItemFits locals entries (short_item start taken to target)
-conditional_fits locals entries start to target None = (tt, tt)
-conditional_fits locals entries start to target (Some (condition.Int t)) = (tt, tt)
-conditional_fits locals entries start to target (Some (condition.Pair t)) = (tt, tt)
-conditional_fits locals entries start to target (Some (condition.Same same)) = (tt, tt)
-conditional_fits locals entries start to target (Some (condition.Null null)) = (tt, tt)
-
-wide_fits : (locals : ℕ) (entries : List Entry) (start first : ℕ) (follows : Bool) (taken : Option Condition) (to target : ℕ)
-    → AllByRecursion (ItemFits locals entries) (wide_items start first follows taken to target)
-wide_fits locals entries start first follows None to target = ((tt, tt), tt)
-wide_fits locals entries start first true (Some taken) to target =
-    (conditional_fits locals entries start (start + 8) (first + 2) (Some (opposite taken)), ((tt, tt), tt))
-wide_fits locals entries start first false (Some taken) to target =
-    (conditional_fits locals entries start (start + 3) (first + 1) (Some (opposite taken)), ((tt, tt), tt))
-
--- ---- items that are moved
 
 -- an instruction with targets asks for nothing
 targeted_fits : (locals : ℕ) (entries : List Entry) (offset : ℕ) (bytes : List ℕ) (f : ℕ → ℕ) (i : Insn) → names_target i ≡ true
@@ -98,29 +129,8 @@ inserted_fits free locals entries named starts firsts start i fits = absurd fits
 
 -- ---- all items
 
-module _ (free locals : ℕ) (entries : List Entry) (named : IsSome (method_at entries free)) (old : List Item) (known : AllByRecursion (ItemFits locals entries) old) where
-  moved_fits : (starts firsts : List ℕ) (start : ℕ) (i : Insn) (kept : Option ℕ) → IsOrigin old i kept → FitsAs free locals i kept
-      → ItemFits locals entries (moved_item starts firsts start (option_and_then (λ k. slice_get old k) kept) i)
-  moved_fits starts firsts start i None origin fits = inserted_fits free locals entries named starts firsts start i fits
-  moved_fits starts firsts start i (Some k) origin fits = go (slice_get old k) refl origin where
-    go : (o : Option Item) → slice_get old k ≡ o → IsSomeAnd o (λ item. IsSameButTargets i item.insn) → ItemFits locals entries (moved_item starts firsts start o i)
-    go None found same = absurd same
-    go (Some item) found same = kept_fits locals entries starts firsts start item i same (at_index (ItemFits locals entries) old k item known found)
-
-  one_fits : (starts firsts : List ℕ) (start first : ℕ) (follows : Bool) (new : NewItem) (r : Room) → HasOrigin old new → NewFits free locals new
-      → AllByRecursion (ItemFits locals entries) (laid_items starts firsts start first follows (kept_item old new) new.insn r)
-  one_fits starts firsts start first follows new (room.Plain n) origin fits = (moved_fits starts firsts start new.insn new.kept origin fits, tt)
-  one_fits starts firsts start first follows new (room.Switch n) origin fits = (moved_fits starts firsts start new.insn new.kept origin fits, tt)
-  one_fits starts firsts start first follows new (room.Narrow b) origin fits =
-      (conditional_fits locals entries start (slice_index starts b.target) (slice_index firsts b.target) b.condition, tt)
-  one_fits starts firsts start first follows new (room.Wide b) origin fits =
-      wide_fits locals entries start first follows b.condition (slice_index starts b.target) (slice_index firsts b.target)
-
-  pub laid_fits : (starts firsts : List ℕ) (start first : ℕ) (items : List NewItem) (rooms : List Room) → AllByRecursion (HasOrigin old) items
-      → AllByRecursion (NewFits free locals) items → AllByRecursion (ItemFits locals entries) (laid_from old starts firsts start first items rooms)
-  laid_fits starts firsts start first [] rooms origins fit = tt
-  laid_fits starts firsts start first (new ∷ items) [] origins fit = tt
-  laid_fits starts firsts start first (new ∷ items) (r ∷ rooms) origins fit =
-      AllByRecursion-append (ItemFits locals entries) _ (laid_from old starts firsts (start + size_at start r) (first + item_count r) items rooms)
-      (one_fits starts firsts start first (nat_lt 0 (length items)) new r origins.0 fit.0)
-      (laid_fits starts firsts (start + size_at start r) (first + item_count r) items rooms origins.1 fit.1)
+pub laid_fits : (free locals : ℕ) (entries : List Entry) → IsSome (method_at entries free) → (old : List Item) → AllByRecursion (ItemFits locals entries) old
+    → (starts firsts : List ℕ) (start first : ℕ) (items : List NewItem) (rooms : List Room) → AllByRecursion (HasOrigin old) items
+    → AllByRecursion (NewFits free locals) items → AllByRecursion (ItemFits locals entries) (laid_from old starts firsts start first items rooms)
+laid_fits free locals entries named old known =
+    laid_hold (ItemFits locals entries) (targeted_fits locals entries) free locals old (kept_fits locals entries) (inserted_fits free locals entries named) known

@@ -5,3 +5,4 @@ pub mod KeptNames
 pub mod WrittenSizes
 pub mod CodeSpelled
 pub mod ClassSpelled
+pub mod SupportedLemmas

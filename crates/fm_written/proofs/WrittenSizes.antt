@@ -1,5 +1,5 @@
 -- How many bytes a woven code has in its class file: no more than the old one with its code array.
-use Rattle.std.proofs.Common.{◌≡◌, ℕ, zero, suc, ◌+◌, ◌-◌, ◌*◌, ◌<◌, ◌≤◌, Bool, List, [], ◌∷◌, ◌++◌, length, map, Option, Some, None, refl, sym, ap, ◌∙◌, arith, length-append}
+use Rattle.std.proofs.Common.{◌≡◌, ℕ, ◌+◌, ◌-◌, ◌*◌, ◌≤◌, List, [], ◌∷◌, ◌++◌, length, map, ap, ◌∙◌, arith, length-append}
 use Rattle.std.specs.List.{AllByRecursion, concat, filter_map, flat_map}
 use Rattle.std.proofs.lemmas.List.{length-map}
 use Rattle.fm_code.proofs.Bytes.{length-four, length-two}

@@ -4,6 +4,7 @@ use Rattle.std.specs.List.{AllByRecursion}
 use Rattle.fm_base.specs.declared.limits.TheConstants.{MAX_FILE_BYTES}
 use Rattle.fm_code.specs.ClassBytes.{class_bytes}
 use Rattle.fm_code.specs.FreeEntries.{with_free}
+use Rattle.fm_code.specs.Profile.{Profile}
 use Rattle.fm_code.specs.Spells.{HasSpelling}
 use Rattle.fm_code.specs.declared.class_file.ClassDef.{ClassDef}
 use Rattle.fm_code.specs.declared.class_file.Member.{Member}
@@ -48,7 +49,7 @@ MethodsCan plans free first (m ∷ methods) = MethodCan free (plans first) m × 
 abbrev pub IsShort : ClassDef → Type 0
 IsShort c = length (class_bytes c) ≤ MAX_FILE_BYTES
 
--- ---- the law
+-- ---- the laws
 
 -- the class with what is inserted into its methods, and with the entries of FreeMe.free
 abbrev pub changed : Plans → (first : ℕ) → ClassDef → ClassDef
@@ -64,3 +65,8 @@ abbrev pub ChangedHaveSpellings : Type 0
 ChangedHaveSpellings =
     (plans : Plans) (first : ℕ) (c : ClassDef) → HasSpelling c → IsShort c → length (with_free c.pool.entries) ≤ 65535
     → MethodsCan plans (free_index c) first c.methods → HasSpelling (changed plans first c)
+
+-- and it is accepted where the class is: its version is 49.0, its counts are within their limits, and all of it is supported
+abbrev pub ChangedAreAccepted : Type 0
+ChangedAreAccepted =
+    (plans : Plans) (first : ℕ) (c : ClassDef) → HasSpelling c → Profile c → MethodsCan plans (free_index c) first c.methods → Profile (changed plans first c)

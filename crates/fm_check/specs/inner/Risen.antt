@@ -1,6 +1,6 @@
 -- What rose at an item, place by place: which places the item's row leaves alone, and states that differ in such places only.
-use Rattle.std.specs.Prelude.{◌≡◌, ℕ, ◌+◌, ◌<◌, ◌++◌, ◌&&◌, ◌||◌, not, nat_le, nat_lt, Bool, true, false, List, length, reverse, Option, Some, None, Contains, slice_set, if◌then◌else◌}
-use Rattle.std.specs.List.{filter, flat_map}
+use Rattle.std.specs.Prelude.{◌≡◌, ℕ, ◌+◌, ◌<◌, ◌++◌, ◌&&◌, ◌||◌, not, nat_le, nat_lt, Bool, true, false, List, [], length, map, reverse, Option, Some, None, Contains, slice_set, if◌then◌else◌}
+use Rattle.std.specs.List.{filter, flat_map, range_with_len}
 use Rattle.fm_check.specs.declared.known.Known.{Known}
 use Rattle.fm_check.specs.declared.known.Place.{Place}
 use Rattle.fm_check.specs.declared.known.Place.TheVariants as place
@@ -22,6 +22,10 @@ use Rattle.fm_world.specs.declared.uses.Use.TheVariants as resolved
 -- what is kept of an item, as a state: its words stand with the top last
 abbrev pub known_state : Known → TypeState
 known_state k = record { locals = k.locals.items; stack = reverse k.words.items; built = k.built }
+
+-- the state with no words on its stack
+abbrev pub without_words : TypeState → TypeState
+without_words s = record s { stack = [] }
 
 -- the word of this number, counted from the bottom of a stack; Top past its top
 abbrev pub word_at : List Slot → ℕ → Slot
@@ -150,6 +154,10 @@ leaves_alone i below (place.Word h) s = nat_lt h below && leaves_word i s
 -- what stands at a place of the state
 abbrev pub rise_of : TypeState → Place → Rise
 rise_of s p = record { place = p; slot = slot_at s p }
+
+-- what stands in each of so many locals
+abbrev pub local_rises : ℕ → TypeState → List Rise
+local_rises count s = map (λ k. rise_of s (place.Local k)) (range_with_len 0 count)
 
 -- the same of a place at which something rose
 abbrev pub IsLeftAlone : Insn → ℕ → Rise → Type 0

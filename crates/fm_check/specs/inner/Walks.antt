@@ -266,15 +266,10 @@ pub record CarriesAll (t : Task) (items : List ℕ) (rises : List Rise) (old new
 abbrev pub HandlerHasRoom : Task → List (Option TypeState) → ℕ → List Rise → Handler → Type 0
 HandlerHasRoom t states item rises h = Catches item h.handler h → All (HasRoom t states h.handler) rises
 
--- slots were carried to the handler of an entry whose range holds the item
-pub record CarriesCaught (t : Task) (item : ℕ) (rises : List Rise) (h : Handler) (old new : Walked) : Type 0 where
-  pub went : Went t old new
-  pub room : HandlerHasRoom t new.states item rises h
-
 -- slots were carried to the handlers of several entries
-pub record CarriesHandlers (t : Task) (item : ℕ) (rises : List Rise) (handlers : List Handler) (old new : Walked) : Type 0 where
+pub record CarriesHandlers (t : Task) (rises : List Rise) (handlers : List Handler) (old new : Walked) : Type 0 where
   pub went : Went t old new
-  pub room : AllByRecursion (HandlerHasRoom t new.states item rises) handlers
+  pub room : (h : Handler) → Contains handlers h → All (HasRoom t new.states h.handler) rises
 
 -- the handlers of an item can take what stands in its locals, and the items that follow it what stands at its places
 pub record IsReady (t : Task) (w : Walked) (item : ℕ) (i : Insn) (rises : List Rise) : Type 0 where

@@ -1,24 +1,14 @@
 use Rattle.std.proofs.Common.{◌∙◌, sym, subst}
 use Rattle.fm_types.specs.States.{TypeState}
 use Rattle.fm_types.specs.Typings.{type_state}
-use Rattle.fm_check.proofs.ItemLemmas.{BringsCaught-before, BringsCaught-behind, BringsCaught-brings, caught_forced, ok_weaker, uncaught}
+use Rattle.fm_check.proofs.ItemLemmas.{BringsCaught-brings, caught_forced, ok_weaker, uncaught}
 use Rattle.fm_check.specs.inner.Walks.{Brings, BringsCaught, IsForced, task, Untypable, walked}
 use Rattle.fm_check.proofs.walk.Walk.bring_caught.Goals as goal
 
-pub returns-then-item-handler : goal.returns-then-item-handler
-returns-then-item-handler c =
-    BringsCaught-before (task c.args.method.now) c.args.item (type_state c.args.state.now) c.args.handler.now (walked c.args.self.now) c.requires.sound
-    c.requires.stands c.if-item-handler.true
-
-pub returns-then-handler-item : goal.returns-then-handler-item
-returns-then-handler-item c =
-    BringsCaught-behind (task c.args.method.now) c.args.item (type_state c.args.state.now) c.args.handler.now (walked c.args.self.now) c.requires.sound
-    c.requires.stands c.if-handler-item.true
-
 pub returns-in_default : goal.returns-in_default
 returns-in_default c =
-    uncaught (task c.args.method.now) c.args.item c.args.handler.now (type_state c.args.state.now) c.requires.forced c.requires.listed
-    c.if-item-handler.false c.if-handler-item.false (sym c.caught_type.ensures ∙ c.in_default.is)
+    uncaught (task c.args.method.now) c.args.item c.args.handler.now (type_state c.args.state.now) c.requires.forced c.requires.holds.listed
+    c.requires.holds.after_start c.requires.holds.before_end (sym c.caught_type.ensures ∙ c.in_default.is)
 
 pub bring-requires-clause-forced : goal.bring-requires-clause-forced
 bring-requires-clause-forced c =
@@ -26,8 +16,8 @@ bring-requires-clause-forced c =
     let h = c.args.handler.now in
     let At : TypeState → Type 0 = λ x. IsForced t h.handler x in
     subst At (sym c.in_ok-brought.ensures)
-    (caught_forced t c.args.item h c.in-Some.caught (type_state c.args.state.now) c.requires.sound c.requires.forced c.requires.listed
-    c.if-item-handler.false c.if-handler-item.false (sym c.caught_type.ensures ∙ c.in-Some.is))
+    (caught_forced t c.args.item h c.in-Some.caught (type_state c.args.state.now) c.requires.sound c.requires.forced c.requires.holds.listed
+    c.requires.holds.after_start c.requires.holds.before_end (sym c.caught_type.ensures ∙ c.in-Some.is))
 
 pub returns : goal.returns
 returns c =

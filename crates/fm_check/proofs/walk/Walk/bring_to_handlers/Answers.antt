@@ -1,5 +1,6 @@
 use Rattle.std.proofs.Common.{subst, List, get_or}
 use Rattle.std.proofs.lemmas.List.{take_all}
+use Rattle.std.proofs.lemmas.List.Elements.{Contains-get_or}
 use Rattle.fm_types.specs.Typings.{type_state}
 use Rattle.fm_check.proofs.ItemLemmas.{blank, BringsHandlers-more, BringsHandlers-none, match_true}
 use Rattle.fm_check.specs.inner.Walks.{BringsCaught, BringsHandlers, task, Untypable, walked}
@@ -12,6 +13,11 @@ loop-handler-init c =
 
 pub bring_caught-requires-clause-stands : goal.bring_caught-requires-clause-stands
 bring_caught-requires-clause-stands c = c.loop-handler.invariant.went.stands
+
+pub bring_caught-requires-clause-holds : goal.bring_caught-requires-clause-holds
+bring_caught-requires-clause-holds c =
+    c.requires.holds (get_or c.args.handlers.now c.loop-handler.handler-index blank)
+    (Contains-get_or c.args.handlers.now c.loop-handler.handler-index blank c.loop-handler-test.true)
 
 pub loop-handler-preserved : goal.loop-handler-preserved
 loop-handler-preserved c =

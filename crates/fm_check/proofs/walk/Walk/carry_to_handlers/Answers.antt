@@ -1,38 +1,43 @@
-use Rattle.std.proofs.Common.{subst, List, get_or}
+use Rattle.std.proofs.Common.{rules, ◌≡◌, length, subst, List, get_or}
 use Rattle.std.proofs.lemmas.List.{take_all}
 use Rattle.std.proofs.lemmas.List.Elements.{Contains-get_or}
+use Rattle.fm_check.proofs.GivingLemmas.{CarriesHandlers-nothing}
 use Rattle.fm_check.proofs.ItemLemmas.{blank, match_true}
 use Rattle.fm_check.proofs.RiseLemmas.{can_carry_later, CarriesHandlers-more, CarriesHandlers-none}
-use Rattle.fm_check.specs.inner.Walks.{CarriesCaught, CarriesHandlers, task, Untypable, walked}
+use Rattle.fm_check.specs.inner.Walks.{Carries, CarriesHandlers, task, Untypable, walked}
 use Rattle.fm_code.specs.declared.code_array.Handler.{Handler}
 use Rattle.fm_check.proofs.walk.Walk.carry_to_handlers.Goals as goal
 
+pub returns-then-is_empty : goal.returns-then-is_empty
+returns-then-is_empty c =
+    let none : length c.args.rises.now ≡ 0 = search rules in
+    CarriesHandlers-nothing (task c.args.method.now) c.args.rises.now c.args.handlers.now (walked c.args.self.now) c.requires.sound c.requires.stands none
+
 pub loop-handler-init : goal.loop-handler-init
-loop-handler-init c =
-    CarriesHandlers-none (task c.args.method.now) c.args.item c.args.rises.now (walked c.args.self.now) c.requires.sound c.requires.stands
+loop-handler-init c = CarriesHandlers-none (task c.args.method.now) c.args.rises.now (walked c.args.self.now) c.requires.sound c.requires.stands
 
-pub carry_caught-requires-clause-stands : goal.carry_caught-requires-clause-stands
-carry_caught-requires-clause-stands c = c.loop-handler.invariant.went.stands
+pub carry_all-requires-clause-stands : goal.carry_all-requires-clause-stands
+carry_all-requires-clause-stands c = c.loop-handler.invariant.went.stands
 
-pub carry_caught-requires-clause-carried : goal.carry_caught-requires-clause-carried
-carry_caught-requires-clause-carried c = λ catches.
+pub carry_all-requires-clause-carried : goal.carry_all-requires-clause-carried
+carry_all-requires-clause-carried c =
     let h = get_or c.args.handlers.now c.loop-handler.handler-index blank in
     can_carry_later (task c.args.method.now) (walked c.args.self.now) (walked c.loop-handler.self) h.handler c.args.rises.now
     c.loop-handler.invariant.went
-    (c.requires.carried h (Contains-get_or c.args.handlers.now c.loop-handler.handler-index blank c.loop-handler-test.true) catches)
+    (c.requires.carried h (Contains-get_or c.args.handlers.now c.loop-handler.handler-index blank c.loop-handler-test.true))
 
 pub loop-handler-preserved : goal.loop-handler-preserved
 loop-handler-preserved c =
-    CarriesHandlers-more (task c.args.method.now) c.args.item c.args.rises.now c.args.handlers.now c.loop-handler.handler-index
-    (walked c.args.self.now) (walked c.loop-handler.self) (walked c.carry_caught.new.self) c.requires.sound c.loop-handler-test.true
+    CarriesHandlers-more (task c.args.method.now) c.args.rises.now c.args.handlers.now c.loop-handler.handler-index
+    (walked c.args.self.now) (walked c.loop-handler.self) (walked c.carry_all.new.self) c.requires.sound c.loop-handler-test.true
     c.loop-handler.invariant
     (match_true
-    (CarriesCaught (task c.args.method.now) c.args.item c.args.rises.now (get_or c.args.handlers.now c.loop-handler.handler-index blank)
-    (walked c.loop-handler.self) (walked c.carry_caught.new.self))
-    (Untypable (task c.args.method.now)) c.in_ok-carry_caught.field-0 c.if-not-branch.false c.in_ok-carry_caught.ensures)
+    (Carries (task c.args.method.now) (get_or c.args.handlers.now c.loop-handler.handler-index blank).handler c.args.rises.now
+    (walked c.loop-handler.self) (walked c.carry_all.new.self))
+    (Untypable (task c.args.method.now)) c.in_ok-carry_all.field-0 c.if-not-branch.false c.in_ok-carry_all.ensures)
 
 pub returns : goal.returns
 returns c =
     let Done : List Handler → Type 0 =
-    λ handlers. CarriesHandlers (task c.args.method.now) c.args.item c.args.rises.now handlers (walked c.args.self.now) (walked c.loop-handler.self) in
+    λ handlers. CarriesHandlers (task c.args.method.now) c.args.rises.now handlers (walked c.args.self.now) (walked c.loop-handler.self) in
     subst Done (take_all c.loop-handler.handler-index c.args.handlers.now c.loop-handler-test.false) c.loop-handler.invariant

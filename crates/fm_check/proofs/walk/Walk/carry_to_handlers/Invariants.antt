@@ -4,4 +4,4 @@ use Rattle.fm_check.proofs.walk.Walk.carry_to_handlers.Given as goal
 
 abbrev pub invariant-loop-handler : goal.invariant-loop-handler
 invariant-loop-handler l =
-    CarriesHandlers (task l.method) l.item l.rises (take l.handler-index l.handlers) (walked l.initial.self) (walked l.self)
+    CarriesHandlers (task l.method) l.rises (take l.handler-index l.handlers) (walked l.initial.self) (walked l.self)

@@ -7,14 +7,17 @@ use Rattle.fm_check.proofs.WalkLemmas.{state_seen}
 use Rattle.fm_check.specs.declared.risen.Rise.{Rise}
 use Rattle.fm_check.specs.declared.known.Place.{Place}
 use Rattle.fm_check.specs.inner.Risen.{known_state, rise_of, words_taken}
-use Rattle.fm_check.specs.inner.Walks.{CarriesOn, GoesOver, IsReady, task, Untypable, walked}
+use Rattle.fm_check.specs.inner.Runs.{CarriesOnGuarded, GoesOverGuarded}
+use Rattle.fm_check.specs.inner.Walks.{IsReady, task, Untypable, walked}
 use Rattle.fm_types.specs.Typed.{use_by}
 use Rattle.fm_check.proofs.walk.Walk.go_over.Goals as goal
 
 pub returns-in_default : goal.returns-in_default
-returns-in_default c =
-    GoesOver-none (task c.args.method.now) c.args.item (walked c.args.self.now) c.requires.sound c.requires.stands
-    (state_seen c.args.self.now.states.items c.as_slice.result.now c.args.item None c.as_slice.ensures.value c.in_default.ensures)
+returns-in_default c = record {
+  goes = GoesOver-none (task c.args.method.now) c.args.item (walked c.args.self.now) c.requires.sound c.requires.stands
+      (state_seen c.args.self.now.states.items c.as_slice.result.now c.args.item None c.as_slice.ensures.value c.in_default.ensures);
+  guarded = c.requires.guarded;
+}
 
 pub carry_on-requires-clause-ready : goal.carry_on-requires-clause-ready
 carry_on-requires-clause-ready c =
@@ -59,9 +62,13 @@ returns-then-all_left_alone c =
     c.as_slice-in-Some-risen-2.result.now c.as_slice-in-Some-risen-2.ensures.value c.in_ok-rises.ensures c.as_slice-in-Some-risen.ensures enough
     (c.all_left_alone.ensures c.if-all_left_alone.true) in
     let carried = c.in_ok-rises.ensures ∙ ap (λ (xs : List Place). map (rise_of own) xs) c.as_slice-in-Some-risen.ensures in
-    let On : List Rise → Type 0 = λ rises. CarriesOn t c.args.item i rises old new in
-    ok_weaker (On c.as_slice-then-all_left_alone.result.now) (GoesOver t c.args.item old new) (Untypable t) c.carry_on.result
-    (λ on. GoesOver-carried t c.args.item i own known old new c.requires.sound c.requires.stands at is
-    (c.requires.met own known at c.in-Some-risen.is) alone
-    (subst On (c.as_slice-then-all_left_alone.ensures.value ∙ carried) on))
+    let levels = c.carry_on.new.levels.items in
+    let On : List Rise → Type 0 = λ rises. CarriesOnGuarded t c.args.item i rises levels old new in
+    ok_weaker (On c.as_slice-then-all_left_alone.result.now) (GoesOverGuarded t c.args.item levels old new) (Untypable t) c.carry_on.result
+    (λ on. record {
+      goes = GoesOver-carried t c.args.item i own known old new c.requires.sound c.requires.stands at is
+          (c.requires.met own known at c.in-Some-risen.is) alone
+          (subst On (c.as_slice-then-all_left_alone.ensures.value ∙ carried) on).carries;
+      guarded = on.guarded;
+    })
     c.carry_on.ensures

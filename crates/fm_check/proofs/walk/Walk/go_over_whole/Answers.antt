@@ -1,25 +1,35 @@
-use Rattle.std.proofs.Common.{◌∙◌, sym, ap, subst, List, None, Bool}
+use Rattle.std.proofs.Common.{◌∙◌, sym, ap, None, Bool}
 use Rattle.std.specs.List.{slice_index_or}
+use Rattle.fm_check.proofs.GivingLemmas.{all_brought, guarded-later}
 use Rattle.fm_check.proofs.ItemLemmas.{GoesOver-item, GoesOver-none, match_true, next_forced, ok_weaker, read_insn, row_unmet_at}
 use Rattle.fm_check.proofs.WalkLemmas.{state_copied, state_seen}
 use Rattle.fm_check.specs.inner.Risen.{known_state}
-use Rattle.fm_check.specs.inner.Walks.{BringsHandlers, BringsOn, GoesOver, task, Untypable, walked}
-use Rattle.fm_code.specs.declared.code_array.Handler.{Handler}
+use Rattle.fm_check.specs.inner.Runs.{GivesAll, GoesOverGuarded, is_brought}
+use Rattle.fm_check.specs.inner.Walks.{BringsOn, task, Untypable, walked}
 use Rattle.fm_rows.specs.Outcomes.{outcome}
 use Rattle.fm_types.specs.Typings.{type_state}
 use Rattle.fm_check.proofs.walk.Walk.go_over_whole.Goals as goal
 
 pub returns-in_default : goal.returns-in_default
-returns-in_default c =
-    GoesOver-none (task c.args.method.now) c.args.item (walked c.args.self.now) c.requires.sound c.requires.stands
-    (state_seen c.args.self.now.states.items c.as_slice.result.now c.args.item None c.as_slice.ensures.value c.in_default.ensures)
+returns-in_default c = record {
+  goes = GoesOver-none (task c.args.method.now) c.args.item (walked c.args.self.now) c.requires.sound c.requires.stands
+      (state_seen c.args.self.now.states.items c.as_slice.result.now c.args.item None c.as_slice.ensures.value c.in_default.ensures);
+  guarded = c.requires.guarded;
+}
 
-pub bring_to_handlers-requires-clause-forced : goal.bring_to_handlers-requires-clause-forced
-bring_to_handlers-requires-clause-forced c =
+pub bring_to_runs-requires-clause-forced : goal.bring_to_runs-requires-clause-forced
+bring_to_runs-requires-clause-forced c =
     let copy = type_state c.in_ok-state.state in
     let at = state_copied c.args.self.now.states.items c.as_slice.result.now c.args.item (known_state c.in-Some.own.now) copy c.as_slice.ensures.value
     c.in-Some.ensures c.in_ok-state.ensures in
     (c.requires.stands.each c.args.item copy at).forced
+
+pub bring_to_runs-requires-clause-within : goal.bring_to_runs-requires-clause-within
+bring_to_runs-requires-clause-within c =
+    let copy = type_state c.in_ok-state.state in
+    let at = state_copied c.args.self.now.states.items c.as_slice.result.now c.args.item (known_state c.in-Some.own.now) copy c.as_slice.ensures.value
+    c.in-Some.ensures c.in_ok-state.ensures in
+    (c.requires.stands.each c.args.item copy at).within
 
 pub returns-then-not-branch-2 : goal.returns-then-not-branch-2
 returns-then-not-branch-2 c =
@@ -56,16 +66,20 @@ returns c =
     let copy = type_state c.in_ok-state.state in
     let after = type_state c.apply.new.state in
     let old = walked c.args.self.now in
-    let middle = walked c.bring_to_handlers.new.self in
+    let middle = walked c.bring_to_runs.new.self in
     let new = walked c.bring_on.new.self in
     let at = state_copied c.args.self.now.states.items c.as_slice.result.now c.args.item (known_state c.in-Some.own.now) copy c.as_slice.ensures.value
     c.in-Some.ensures c.in_ok-state.ensures in
     let insn = (slice_index_or c.as_slice-2.result.now c.args.item c.index-as_slice-item.result).insn in
     let is = read_insn c.args.method.now.code.now c.as_slice-2.result.now c.args.item c.index-as_slice-item.result c.as_slice-2.ensures c.requires.inside in
-    let gives = sym c.in_ok-apply.ensures ∙ ap (λ (b : Bool). outcome b c.apply.new.state) c.if-not-branch-2.false in
-    let Of : List Handler → Type 0 = λ handlers. BringsHandlers t c.args.item copy handlers old middle in
-    let caught = subst Of c.as_slice-handlers.ensures
-    (match_true (Of c.as_slice-handlers.result.now) (Untypable t) c.in_ok-bring_to_handlers.field-0 c.if-not-branch.false c.in_ok-bring_to_handlers.ensures) in
-    ok_weaker (BringsOn t c.args.item insn after middle new) (GoesOver t c.args.item old new) (Untypable t) c.bring_on.result
-    (λ on. GoesOver-item t c.args.item copy after insn old middle new c.requires.sound c.requires.stands at is gives caught on)
+    let row = sym c.in_ok-apply.ensures ∙ ap (λ (b : Bool). outcome b c.apply.new.state) c.if-not-branch-2.false in
+    let levels = c.bring_to_runs.new.levels.items in
+    let gives = match_true (GivesAll (is_brought t c.args.item copy) t c.args.item levels old middle) (Untypable t) c.in_ok-bring_to_runs.field-0
+    c.if-not-branch.false c.in_ok-bring_to_runs.ensures in
+    ok_weaker (BringsOn t c.args.item insn after middle new) (GoesOverGuarded t c.args.item levels old new) (Untypable t) c.bring_on.result
+    (λ on. record {
+      goes = GoesOver-item t c.args.item copy after insn old middle new c.requires.sound c.requires.stands at is row
+          (all_brought t c.args.item copy levels old middle gives) on;
+      guarded = guarded-later t middle new levels c.requires.sound on.went.rises gives.guarded;
+    })
     c.bring_on.ensures

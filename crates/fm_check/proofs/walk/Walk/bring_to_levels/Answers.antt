@@ -1,0 +1,81 @@
+use Rattle.std.proofs.Common.{◌<◌, ◌≤◌, ◌∙◌, refl, sym, ap, subst, length, Contains, ℕ, arith, ◌/◌}
+use Rattle.fm_check.proofs.GivingLemmas.{GivesAll-all, GivesLevels-more, GivesLevels-none, halved-more, level_given, place_read, same_length, stays-brought}
+use Rattle.fm_check.proofs.ItemLemmas.{match_true}
+use Rattle.fm_check.specs.inner.Runs.{entries_in, GivesLevel, is_brought}
+use Rattle.fm_check.specs.inner.Walks.{task, Untypable, walked}
+use Rattle.fm_types.specs.Typings.{type_state}
+use Rattle.fm_check.proofs.walk.Walk.bring_to_levels.Goals as goal
+
+pub loop-index-init : goal.loop-index-init
+loop-index-init c =
+    let t = task c.args.method.now in (
+      GivesLevels-none (is_brought t c.args.item (type_state c.args.state.now)) t c.args.item c.args.levels.now.items (walked c.args.self.now) c.requires.sound c.requires.stands
+          c.requires.guarded,
+      refl,
+    )
+
+pub index_mut-level-requires : goal.index_mut-level-requires
+index_mut-level-requires c =
+    let long = c.len-index-end.ensures in
+    let ok = c.args.levels.now.ok.0 in
+    let same = same_length c.args.levels.now.items c.loop-index.levels.items c.loop-index.invariant.0.same in
+    let now = c.loop-index.levels.ok.0 in
+    let test = c.loop-index-test.true in
+    omega (arith, long, ok, same, now, test)
+
+pub bring_to_level-requires-clause-stands : goal.bring_to_level-requires-clause-stands
+bring_to_level-requires-clause-stands c = c.loop-index.invariant.0.went.stands
+
+pub bring_to_level-requires-clause-given : goal.bring_to_level-requires-clause-given
+bring_to_level-requires-clause-given c =
+    let long = c.len-index-end.ensures in
+    let ok = c.args.levels.now.ok.0 in
+    let same = same_length c.args.levels.now.items c.loop-index.levels.items c.loop-index.invariant.0.same in
+    let test = c.loop-index-test.true in
+    let inside : c.loop-index.index < length c.loop-index.levels.items = omega (arith, long, ok, same, test) in
+    level_given (task c.args.method.now) (walked c.loop-index.self).states c.loop-index.levels.items c.loop-index.index c.index_mut-level.result.now
+    c.index_mut-level.result.now inside c.index_mut-level.ensures.value c.loop-index.invariant.0.guarded
+
+pub bring_to_level-requires-clause-holds : goal.bring_to_level-requires-clause-holds
+bring_to_level-requires-clause-holds c = λ h found.
+    let read = c.index_mut-level.result.now in
+    let long = c.len-index-end.ensures in
+    let ok = c.args.levels.now.ok.0 in
+    let same = same_length c.args.levels.now.items c.loop-index.levels.items c.loop-index.invariant.0.same in
+    let test = c.loop-index-test.true in
+    let inside : c.loop-index.index < length c.loop-index.levels.items = omega (arith, long, ok, same, test) in
+    c.requires.guarded.covered.holds c.loop-index.index c.args.item h
+    (place_read c.args.levels.now.items c.loop-index.levels.items c.args.item c.loop-index.index read read h inside c.index_mut-level.ensures.value
+    c.loop-index.invariant.0.same (subst (λ (n : ℕ). Contains (entries_in read.runs.items n) h) c.loop-index.invariant.1 found))
+
+pub loop-index-preserved : goal.loop-index-preserved
+loop-index-preserved c =
+    let t = task c.args.method.now in
+    let W = is_brought t c.args.item (type_state c.args.state.now) in
+    let index = c.loop-index.index in
+    let read = c.index_mut-level.result.now in
+    let next = c.bring_to_level.new.level in
+    let old = walked c.loop-index.self in
+    let new = walked c.bring_to_level.new.self in
+    let long = c.len-index-end.ensures in
+    let ok = c.args.levels.now.ok.0 in
+    let same = same_length c.args.levels.now.items c.loop-index.levels.items c.loop-index.invariant.0.same in
+    let test = c.loop-index-test.true in
+    let inside : index < length c.loop-index.levels.items = omega (arith, long, ok, same, test) in
+    let one = match_true (GivesLevel W t c.loop-index.place read.runs.items next.runs.items old new) (Untypable t) c.in_ok-bring_to_level.field-0
+    c.if-not-branch.false c.in_ok-bring_to_level.ensures in (
+      GivesLevels-more W t c.args.item index c.args.levels.now.items c.loop-index.levels.items read next read (walked c.args.self.now) old new
+          c.requires.sound (stays-brought t c.args.item (type_state c.args.state.now) c.requires.sound) inside c.index_mut-level.ensures.value c.loop-index.invariant.0
+          (subst (λ (n : ℕ). GivesLevel W t n read.runs.items next.runs.items old new) c.loop-index.invariant.1 one),
+      ap (λ (n : ℕ). n / 2) c.loop-index.invariant.1 ∙ sym (halved-more index c.args.item),
+    )
+
+pub returns : goal.returns
+returns c =
+    let t = task c.args.method.now in
+    let long = c.len-index-end.ensures in
+    let ok = c.args.levels.now.ok.0 in
+    let test = c.loop-index-test.false in
+    let all : length c.args.levels.now.items ≤ c.loop-index.index = omega (arith, long, ok, test) in
+    GivesAll-all (is_brought t c.args.item (type_state c.args.state.now)) t c.args.item c.loop-index.index c.args.levels.now.items c.loop-index.levels.items (walked c.args.self.now)
+    (walked c.loop-index.self) all c.loop-index.invariant.0

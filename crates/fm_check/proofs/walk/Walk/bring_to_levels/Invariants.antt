@@ -1,0 +1,11 @@
+use Rattle.std.proofs.Common.{◌≡◌}
+use Rattle.fm_check.specs.inner.Runs.{GivesLevels, halved, is_brought}
+use Rattle.fm_check.specs.inner.Walks.{task, walked}
+use Rattle.fm_types.specs.Typings.{type_state}
+use Rattle.fm_check.proofs.walk.Walk.bring_to_levels.Given as goal
+
+abbrev pub invariant-loop-index : goal.invariant-loop-index
+invariant-loop-index l =
+    GivesLevels (is_brought (task l.method) l.item (type_state l.state)) (task l.method) l.item l.index l.initial.levels.items l.levels.items
+    (walked l.initial.self) (walked l.self)
+    × (l.place ≡ halved l.index l.item)

@@ -1,0 +1,18 @@
+use Rattle.std.proofs.Common.{rules, ◌≡◌, ◌∙◌, length, arith}
+use Rattle.fm_check.proofs.GivingLemmas.{GivesAll-all, GivesLevels-none}
+use Rattle.fm_check.specs.inner.Runs.{is_brought}
+use Rattle.fm_check.specs.inner.Walks.{task, walked}
+use Rattle.fm_types.specs.Typings.{type_state}
+use Rattle.fm_check.proofs.walk.Walk.bring_to_runs.Goals as goal
+
+pub returns-then-is_empty : goal.returns-then-is_empty
+returns-then-is_empty c =
+    let t = task c.args.method.now in
+    let W = is_brought t c.args.item (type_state c.args.state.now) in
+    let levels = c.args.levels.now.items in
+    let w = walked c.args.self.now in
+    let none : length levels ≡ 0 = search rules in
+    GivesAll-all W t c.args.item 0 levels levels w w (omega (arith, none)) (GivesLevels-none W t c.args.item levels w c.requires.sound c.requires.stands c.requires.guarded)
+
+pub bring_to_levels-requires-clause-locals : goal.bring_to_levels-requires-clause-locals
+bring_to_levels-requires-clause-locals c = c.as_slice.ensures.value ∙ c.in_ok-locals.ensures

@@ -1,0 +1,9 @@
+use Rattle.std.proofs.Common.{◌≡◌}
+use Rattle.fm_check.specs.inner.Runs.{GivesLevels, halved, has_room}
+use Rattle.fm_check.specs.inner.Walks.{task, walked}
+use Rattle.fm_check.proofs.walk.Walk.carry_to_levels.Given as goal
+
+abbrev pub invariant-loop-index : goal.invariant-loop-index
+invariant-loop-index l =
+    GivesLevels (has_room (task l.method) l.rises) (task l.method) l.item l.index l.initial.levels.items l.levels.items (walked l.initial.self) (walked l.self)
+    × (l.place ≡ halved l.index l.item)
