@@ -15,22 +15,21 @@ use Rattle.fm_code.specs.Spells.{HasSpelling}
 use Rattle.fm_code.specs.declared.class_file.ClassDef.{ClassDef}
 use Rattle.fm_code.specs.declared.code_array.Code.{Code}
 use Rattle.fm_code.specs.declared.instructions.Insn.TheVariants as insn
-use Rattle.fm_declare.proofs.SpelledNames.{named_class-is}
 use Rattle.fm_lookup.proofs.BuiltInParents.{count_is}
 use Rattle.fm_lookup.proofs.Downwards.{or_true}
 use Rattle.fm_lookup.proofs.HierarchyLemmas.{interfaces_only, superinterfaces_only}
-use Rattle.fm_lookup.proofs.ParentRefusals.{fails, spelled_at, tree_object_is_class}
+use Rattle.fm_lookup.proofs.ParentRefusals.{fails, tree_object_is_class}
 use Rattle.fm_resolved.proofs.Calls.{call_there, IsCall}
 use Rattle.fm_resolved.proofs.CellTypes.{above_built_in, above_seen}
 use Rattle.fm_resolved.proofs.FieldOwners.{append_cases, binary_found, found_among}
 use Rattle.fm_resolved.proofs.GivenFiles.{no_built_in_refused, no_method_refused}
-use Rattle.fm_resolved.proofs.InterfaceCalls.{binary_type, class_of_name, type_named}
+use Rattle.fm_resolved.proofs.InterfaceCalls.{binary_type, type_named}
 use Rattle.fm_resolved.proofs.InterfaceSets.{low_interfaces, low_supers, marker_bare}
 use Rattle.fm_resolved.proofs.Messages.{below_of}
 use Rattle.fm_resolved.proofs.MethodOwners.{class_fits, first, implemented_reached, IsMethodOf, IsNamedMethod, IsReceiver, method_of, named_method, object_top, path_cases, Reached, receiver, selects, sound, tree, up_reached}
 use Rattle.fm_resolved.proofs.NamedMethods.{virtual_of_class}
 use Rattle.fm_resolved.proofs.Numbers.{owner_there}
-use Rattle.fm_resolved.proofs.SpecialCalls.{member_class}
+use Rattle.fm_resolved.proofs.SpecialCalls.{member_class, number_named}
 use Rattle.fm_sound.proofs.FoundMethods.{own_method_found}
 use Rattle.fm_sound.specs.Resolved.{IsNamed}
 use Rattle.fm_types.proofs.ClassTree.{among_own, object-within}
@@ -82,14 +81,7 @@ module _ (given : List ClassDef) (main : List ℕ) (spelled : AllByRecursion Has
     -- and the class of the type is the one that is named
     number_is : (class : ℕ) → class_of_type named ≡ Some class → class_number (classes_of given) call.at.member.class ≡ Some class
     unfolding outline_of
-    number_is class is =
-        let entries = call.file.pool.entries in
-        let of_type = type_named (outline_of given main) entries index type named call.at.type_is at in
-        let same : of_type.name ≡ call.at.member.class =
-        same_Some of_type.name call.at.member.class (sym of_type.named ∙ member_class entries index call.at.member call.at.named) in
-        let own = spelled_at given call.place call.file spelled call.file_is in
-        sym (ap (class_number (classes_of given)) same)
-        ∙ class_of_name (classes_of given) of_type.name named class (named_class-is call.file own index of_type.name of_type.named) of_type.type_is is
+    number_is = number_named given spelled (outline_of given main) code caller index method type wanted call named at
 
     where_named : IsNamedMethod given call.at.member method
     unfolding outline_of

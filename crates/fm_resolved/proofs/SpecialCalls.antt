@@ -1,5 +1,5 @@
 -- No abstract method is called by invokespecial: nothing is refused of the methods that its entries name (JVMS 6.5.invokespecial).
-use Rattle.std.proofs.Common.{◌≡◌, refl, sym, ◌∙◌, ap, ℕ, zero, suc, ◌+◌, ◌||◌, false, List, [], ◌∷◌, length, slice_get, Contains, Option, Some, None, option_map, arith}
+use Rattle.std.proofs.Common.{◌≡◌, refl, sym, ◌∙◌, ap, ℕ, zero, suc, ◌+◌, ◌||◌, Bool, false, List, [], ◌∷◌, length, slice_get, Contains, Option, Some, None, option_map, arith}
 use Rattle.std.specs.List.{AllByRecursion, flat_map}
 use Rattle.std.proofs.lemmas.Option.{none-some, same_Some}
 use Rattle.fm_base.specs.declared.ids.MethodId.{MethodId}
@@ -8,6 +8,7 @@ use Rattle.fm_base.specs.declared.kinds.TypeRef.{TypeRef}
 use Rattle.fm_code.specs.ConstantPool.{entry_at, MemberName}
 use Rattle.fm_code.specs.Spells.{HasSpelling}
 use Rattle.fm_code.specs.declared.class_file.ClassDef.{ClassDef}
+use Rattle.fm_code.specs.declared.code_array.Code.{Code}
 use Rattle.fm_code.specs.declared.code_array.Item.{Item}
 use Rattle.fm_code.specs.declared.constant_pool.Entry.{Entry}
 use Rattle.fm_code.specs.declared.constant_pool.Entry.TheVariants as entry
@@ -25,7 +26,7 @@ use Rattle.fm_world.specs.Causes.{abstract_call, calls_abstract, each_from, left
 use Rattle.fm_world.specs.Descriptors.{class_number}
 use Rattle.fm_world.specs.Linking.{refused_methods, refused_not_implemented}
 use Rattle.fm_world.specs.Lookups.{is_abstract_method, special_target}
-use Rattle.fm_world.specs.Programs.{class_of_type, classes_of, outline_of, program_of}
+use Rattle.fm_world.specs.Programs.{class_of_type, classes_of, Outline, outline_of, program_of}
 use Rattle.fm_world.specs.Uses.{class_items, named_class, named_member}
 use Rattle.fm_world.specs.declared.declarations.DeclaredClass.{DeclaredClass}
 use Rattle.fm_world.specs.declared.uses.Use.TheVariants as resolved
@@ -63,6 +64,19 @@ member_class entries index m named = by_entry (entry_at entries index) refl name
   by_entry : (e : Entry) → entry_at entries index ≡ e → named_member entries index ≡ Some m → named_class entries index ≡ Some m.class
   by_entry (entry.Class name) is found = absurd (none-some m (rw is at found))
   by_entry e is found = ap (named_by entries index) is ∙ ap (option_map (λ (n : MemberName). n.class)) found
+
+-- the class of the type that a call names is the one that its entry names
+pub number_named : (given : List ClassDef) → AllByRecursion HasSpelling given → (o : Outline) (code : Code) (caller index method type : ℕ) (wanted : Bool)
+    (call : IsCall given o code caller index method type wanted) (named : TypeRef) → slice_get o.types type ≡ Some named → (class : ℕ)
+    → class_of_type named ≡ Some class → class_number o.classes call.at.member.class ≡ Some class
+number_named given spelled o code caller index method type wanted call named at class is =
+    let entries = call.file.pool.entries in
+    let of_type = type_named o entries index type named call.at.type_is at in
+    let same : of_type.name ≡ call.at.member.class =
+    same_Some of_type.name call.at.member.class (sym of_type.named ∙ member_class entries index call.at.member call.at.named) in
+    let own = spelled_at given call.place call.file spelled call.file_is in
+    sym (ap (class_number o.classes) same)
+    ∙ class_of_name o.classes of_type.name named class (named_class-is call.file own index of_type.name of_type.named) of_type.type_is is
 
 -- ---- the method that is called
 
@@ -116,14 +130,7 @@ special_there given main spelled none_missing none method index m t named x at =
       found.insn_is call.at.named (sym (calls_some classes caller call.at.member m.0 call.at.found))
 
   number : (class : ℕ) → class_of_type named ≡ Some class → class_number classes call.at.member.class ≡ Some class
-  number class is =
-      let entries = call.file.pool.entries in
-      let of_type = type_named (outline_of given main) entries index t.0 named call.at.type_is at in
-      let same : of_type.name ≡ call.at.member.class =
-      same_Some of_type.name call.at.member.class (sym of_type.named ∙ member_class entries index call.at.member call.at.named) in
-      let own = spelled_at given call.place call.file spelled call.file_is in
-      sym (ap (class_number classes) same)
-      ∙ class_of_name classes of_type.name named class (named_class-is call.file own index of_type.name of_type.named) of_type.type_is is
+  number = number_named given spelled (outline_of given main) x.code caller index m.0 t.0 false call named at
 
   by_class : (o : Option ℕ) → class_of_type named ≡ o
       → is_abstract_method classes (special_target classes caller (class_of_type named) m.0) ≡ false
