@@ -51,7 +51,7 @@ pub record AreParts (given : List ClassDef) (p : Program) (done : List Planned) 
   pub may : MayDoEach (drop first_given done) given
   pub counts : HaveCounts (drop first_given done) given
 
-classes_counted : (given : List ClassDef) (main : List ℕ) → length (program_of given main).outline.classes ≡ length built_in + length given
+pub classes_counted : (given : List ClassDef) (main : List ℕ) → length (program_of given main).outline.classes ≡ length built_in + length given
 unfolding program_of outline_of classes_of
 classes_counted given main =
     length-append built_in (declared_from 0 given) ∙ ap (λ n. length built_in + n) (length-declared 0 given)

@@ -83,7 +83,7 @@ methods_counted given main =
     length-replicate (length (methods_of built_in)) None in
     sym count ∙ both ∙ (λ k. none k + codes_counted given k)
 
-code_given : (given : List ClassDef) (main : List ℕ) (i : ℕ)
+pub code_given : (given : List ClassDef) (main : List ℕ) (i : ℕ)
     → code_at (program_of given main) (first_given + i) ≡ get_or (flat_map (λ (c : ClassDef). map code_of c.methods) given) i None
 unfolding program_of codes_of
 code_given given main i =
