@@ -50,7 +50,7 @@ numbers_few test n (h ∷ holders) = by_test (test h) (numbers_few test (n + 1) 
   by_test false rest = omega (arith, rest)
 
 -- so many items with a few numbers each
-pairs_few : (f : ℕ → List ℕ) (a n : ℕ) → ((j : ℕ) → length (f j) ≤ MAX_LOCAL_WORDS)
+pub pairs_few : (f : ℕ → List ℕ) (a n : ℕ) → ((j : ℕ) → length (f j) ≤ MAX_LOCAL_WORDS)
     → length (flat_map (paired f) (range_with_len a n)) ≤ MAX_LOCAL_WORDS * n
 pairs_few f a zero each = omega arith
 pairs_few f a (suc n) each =
@@ -70,7 +70,7 @@ pairs_none f a (suc n) each =
     omega (arith, both, here, one, rest)
 
 -- a pair for each holder
-pairs_counted : (sites : List Site) → length (filter_map pair_of sites) ≡ length (holders_in sites)
+pub pairs_counted : (sites : List Site) → length (filter_map pair_of sites) ≡ length (holders_in sites)
 pairs_counted [] = refl
 pairs_counted (s ∷ sites) = by_holder s.holder (pairs_counted sites) where
   by_holder : (o : Option ℕ) → length (filter_map pair_of sites) ≡ length (holders_in sites)
@@ -97,19 +97,19 @@ number_few number j before after (item ∷ items) =
 -- ---- all that can be inserted
 
 module _ (facts : Facts) (x : TypedMethod) where
-  one_each : length (all_insertions facts x).before ≡ length x.code.items
+  pub one_each : length (all_insertions facts x).before ≡ length x.code.items
   one_each = length-map-range_with_len (λ j. numbers_of (λ h. is_place facts x h.class j) 0 (all_holders facts x)) 0 (length x.code.items)
 
   abbrev made : ℕ → Holder
   made j = record { site = j; class = site_class facts x j; looped = false }
 
-  holders_counted : length (all_holders facts x) ≡ length (held_sites facts x)
+  pub holders_counted : length (all_holders facts x) ≡ length (held_sites facts x)
   holders_counted = length-map (held_sites facts x) made
 
   none_past : (j : ℕ) → length x.code.items ≤ j → before_at (all_insertions facts x) j ≡ []
   none_past j past = get_or_past (all_insertions facts x).before j [] (omega (arith, past, one_each))
 
-  before_few : (j : ℕ) → length (before_at (all_insertions facts x) j) ≤ length (all_holders facts x)
+  pub before_few : (j : ℕ) → length (before_at (all_insertions facts x) j) ≤ length (all_holders facts x)
   before_few j = ⊎_elim
       (λ (inside : j < length x.code.items).
       subst (λ (numbers : List ℕ). length numbers ≤ length (all_holders facts x)) (sym (before-is facts x j inside))

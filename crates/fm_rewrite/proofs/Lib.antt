@@ -6,3 +6,14 @@ pub mod PlannedLemmas
 pub mod MethodsLemmas
 pub mod ProgramPlansLemmas
 pub mod AlikeLemmas
+pub mod MeantLemmas
+pub mod ClassMeantLemmas
+pub mod ProgramMeantLemmas
+pub mod ProgramByLemmas
+pub mod MayDoLemmas
+pub mod CallOffsetLemmas
+pub mod OutcomeLemmas
+pub mod JudgedLemmas
+pub mod StepLemmas
+pub mod Borrowed
+pub mod WovenLemmas

@@ -120,6 +120,7 @@ module _ (p : Program) (s : Summaries) where
           classes = classes_are_in others method (code_at p method) (planned_at done method) (all method) code is;
         };
       });
+      least = λ method code is. least_in method (code_at p method) (planned_at done method) (all method) code is;
       one_each = are.one_each;
       coded = λ method code is.
           done_in other others (facts_of (answers_with other others)) (λ m a b. refl) method (code_at p method) (planned_at done method) (all method) refl
@@ -138,6 +139,7 @@ module _ (p : Program) (s : Summaries) where
         );
         methods = λ method code is. absurd (none-some code (sym (none method) ∙ is));
       };
+      least = λ method code is. absurd (none-some code (sym (none method) ∙ is));
       one_each = are.one_each;
       coded = λ method code is. absurd (none-some code (sym (none method) ∙ is));
       others = λ method without. same_in method (code_at p method) (planned_at done method) (all method) without;

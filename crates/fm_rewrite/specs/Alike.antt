@@ -25,26 +25,11 @@ abbrev pub IsShortEnough : Planned → Type 0
 IsShortEnough (planned.TooLong bytes) = ⊥
 IsShortEnough done = Unit {0}
 
--- a method that has code, and that isn't too long already while no branch is widened, is planned as the definitions say
-abbrev pub CodesArePlannedAlike : Type 0
-CodesArePlannedAlike =
-    (p : Program) (facts : Facts) (method : ℕ) (code : Code) (done : Planned) (m : Member) → code_at p method ≡ Some code
-    → AllByRecursion (IsOwnCode code) m.attributes → IsPlannedByFacts p facts method code done → IsShortEnough done
-    → IsAlike (full_plans p facts method) done m
-
--- the same of a method of a class file, with code or without
-abbrev pub MembersArePlannedAlike : Type 0
-MembersArePlannedAlike =
-    (in_interface : Bool) (entries : List Entry) (p : Program) (facts : Facts) (method : ℕ) (done : Planned) (m : Member) → MethodIsValid in_interface entries m
-    → code_at p method ≡ code_of m → ((code : Code) → code_at p method ≡ Some code → IsPlannedByFacts p facts method code done)
-    → (code_at p method ≡ None → done ≡ planned.Same) → IsShortEnough done → IsAlike (full_plans p facts method) done m
-
 -- a method of a class file has this number in the program, and is planned by its facts
 pub record IsPlannedAt (p : Program) (facts : Facts) (method : ℕ) (done : Planned) (m : Member) : Type 0 where
   pub coded : code_at p method ≡ code_of m
   pub by : (code : Code) → code_at p method ≡ Some code → IsPlannedByFacts p facts method code done
   pub others : code_at p method ≡ None → done ≡ planned.Same
-  pub short : IsShortEnough done
 
 -- the same of the methods of a class, from a number on
 abbrev pub ArePlannedFrom : Program → Facts → ℕ → List Planned → List Member → Type 0
@@ -52,9 +37,15 @@ ArePlannedFrom p facts first [] [] = Unit {0}
 ArePlannedFrom p facts first (d ∷ done) (m ∷ methods) = IsPlannedAt p facts first d m × ArePlannedFrom p facts (first + 1) done methods
 ArePlannedFrom p facts first done methods = ⊥
 
--- all methods of a class are planned as the definitions say
+-- a method of a class file, with code or without, that isn't too long already while no branch is widened, is planned as the definitions say
+abbrev pub MembersArePlannedAlike : Type 0
+MembersArePlannedAlike =
+    (in_interface : Bool) (entries : List Entry) (p : Program) (facts : Facts) (method : ℕ) (done : Planned) (m : Member) → MethodIsValid in_interface entries m
+    → IsPlannedAt p facts method done m → IsShortEnough done → IsAlike (full_plans p facts method) done m
+
+-- all methods of a class are
 abbrev pub ClassesArePlannedAlike : Type 0
 ClassesArePlannedAlike =
     (in_interface : Bool) (entries : List Entry) (p : Program) (facts : Facts) (first : ℕ) (done : List Planned) (methods : List Member)
-    → AllByRecursion (MethodIsValid in_interface entries) methods → ArePlannedFrom p facts first done methods
+    → AllByRecursion (MethodIsValid in_interface entries) methods → ArePlannedFrom p facts first done methods → AllByRecursion IsShortEnough done
     → AreAlike (full_plans p facts) first done methods

@@ -1,3 +1,5 @@
 pub mod FreeCalls
 pub mod Plans
 pub mod Alike
+pub mod Rewritten
+pub mod inner

@@ -1,7 +1,7 @@
 -- The plans of all that can be inserted into the methods of a program, each by what the analysis answers of its method.
 use Rattle.std.specs.Prelude.{◌≡◌, ◌<◌, ℕ, List, length, Option, Some, None}
 use Rattle.std.specs.List.{AllByRecursion, slice_index_or}
-use Rattle.fm_analysis.specs.Analysed.{AreAnalysable}
+use Rattle.fm_analysis.specs.Analysed.{AreAnalysable, AreLeastTypings}
 use Rattle.fm_check.specs.Checking.{IsLeastTyping, IsNarrow}
 use Rattle.fm_code.specs.Edges.{MeetsCodeRules}
 use Rattle.fm_code.specs.Fits.{FitsTwo}
@@ -99,10 +99,11 @@ pub record IsPlannedByFacts (p : Program) (facts : Facts) (method : ℕ) (code :
   pub plan_is : IsPlanOf (all_insertions facts (typed_method p facts.typing method code)) plan
   pub planned_is : done ≡ planned_by code plan
 
--- with each method of a program, by its facts
+-- with each method of a program, by its facts, whose typings are least ones
 pub record ArePlanned (p : Program) (done : List Planned) : Type 0 where
   pub facts : Facts
   pub exact : AreFacts p facts
+  pub least : AreLeastTypings p facts.typing
   pub one_each : length done ≡ length (methods_of p.outline.classes)
   pub coded : (method : ℕ) (code : Code) → code_at p method ≡ Some code → IsPlannedByFacts p facts method code (planned_at done method)
   pub others : (method : ℕ) → code_at p method ≡ None → planned_at done method ≡ planned.Same

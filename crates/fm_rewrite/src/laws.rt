@@ -1,6 +1,6 @@
 // Laws of the definitions, each as the contract of a function that does nothing.
 
-ghost use Rattle.fm_rewrite.specs.Alike.{ClassesArePlannedAlike, CodesArePlannedAlike, MembersArePlannedAlike};
+ghost use Rattle.fm_rewrite.specs.Alike.{ClassesArePlannedAlike, MembersArePlannedAlike};
 ghost use Rattle.fm_rewrite.specs.Plans.{FullPlansMayBeWoven, ProgramsHaveOldItems};
 
 /// The codes of a program of class files that may be analysed are made of items that can be laid out
@@ -15,10 +15,9 @@ pub fn law_full_plans()
     ensures { FullPlansMayBeWoven }
 {}
 
-/// What is planned for a method that has code by the facts of its program is what the definitions
-/// insert by them, unless it is too long already while no branch is widened.
+/// What is planned for the methods of class files by the facts of their program is what the definitions
+/// insert by them, unless one is too long already while no branch is widened.
 pub fn law_alike()
-    ensures codes { CodesArePlannedAlike }
     ensures members { MembersArePlannedAlike }
     ensures classes { ClassesArePlannedAlike }
 {}
