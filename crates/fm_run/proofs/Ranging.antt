@@ -1,26 +1,27 @@
 -- A run that goes on step by step.
-use Rattle.std.proofs.Common.{◌≡◌, inl, inr, ℕ, zero, suc, ◌+◌, ◌-◌, ◌^◌, ◌<◌, ◌≤◌, List, [], ◌∷◌, ◌++◌, Option, Some, None, refl, sym, ◌∙◌, ap, subst, arith, add-one, below_more, Result, Ok, Err, IsErrAnd, min, false, IsTrue, ◌↔◌}
+use Rattle.std.proofs.Common.{◌≡◌, inl, inr, ℕ, zero, suc, ◌+◌, ◌-◌, ◌^◌, ◌<◌, ◌≤◌, List, [], ◌∷◌, ◌++◌, Option, Some, None, refl, sym, ◌∙◌, ap, subst, arith, Bool, true, if◌then◌else◌, add-one, below_more, Result, Ok, Err, IsErrAnd, OnOk, min, false, IsTrue, ◌↔◌}
 use Rattle.std.proofs.lemmas.List.{append-nil}
 use Rattle.std.proofs.lemmas.Option.{none-some}
 use Rattle.fm_ready.proofs.Standing.{costs_some}
 use Rattle.std.proofs.lemmas.List.Folds.{concat-append}
 use Rattle.std.specs.List.{concat}
-use Rattle.fm_calls.specs.inner.Actions.{unmade}
 use Rattle.fm_files.proofs.SinkLemmas.{with_piece-is, with_pieces-append, with_pieces-nil}
 use Rattle.fm_files.specs.Sink.{FailsPut, Output, with_piece, with_pieces}
 use Rattle.fm_frames.specs.Acts.{Choose}
 use Rattle.fm_frames.specs.Runs.{after, Goes}
 use Rattle.fm_frames.specs.States.{Moved, State}
-use Rattle.fm_frames.specs.Steps.{cost, step}
+use Rattle.fm_frames.specs.Steps.{cost, next_effect, step}
 use Rattle.fm_frames.specs.declared.ends.Ended.{Ended}
 use Rattle.fm_frames.specs.inner.Doings.{silent}
-use Rattle.fm_native.specs.Doing.{PutsOnce}
+use Rattle.fm_base.specs.declared.error.NoMemory.{NoMemory}
+use Rattle.fm_native.specs.Doing.{PutsOnce, quiet}
 use Rattle.fm_ready.specs.Ready.{IsGoing}
 use Rattle.fm_run.specs.Running.{ArePieces, BreaksRun, CanGo, FailsRun, GoFirst, OnePieceMore, printed_at, RunsTo, state_after}
 use Rattle.fm_run.specs.Stepping.{DoesStep, FailsStep}
+use Rattle.fm_native.proofs.Prints.{quiet-does}
+use Rattle.fm_run.proofs.Counting.{step-does}
+use Rattle.fm_run.specs.inner.Going.{DidSimple, Keeps, Leads, left_of, Ran}
 use Rattle.fm_run.specs.inner.Nexts.{Stepped}
-use Rattle.fm_sound.specs.HeldCells.{HoldsCells}
-use Rattle.fm_sound.specs.Sound.{IsSound}
 use Rattle.fm_world.specs.Programs.{Program}
 
 -- ---- states and pieces
@@ -66,26 +67,6 @@ put-more pieces printed first old new put more =
 
 -- ---- what holds of a run that has come so far
 
--- what is left of the steps; nothing once the run has ended
-abbrev left_by : (budget steps : ℕ) → Option Ended → ℕ
-left_by budget steps None = suc (budget - steps)
-left_by budget steps (Some e) = 0
-
-abbrev pub left_of : (budget : ℕ) → State → ℕ
-left_of budget x = left_by budget x.steps x.ended
-
--- the first steps were done, what they printed came, and the state is sound and can go on
-pub record Ran (p : Program) (choose : Choose) (budget : ℕ) (first x : State) (old new : Output) : Type 0 where
-  pub count : ℕ
-  pub goes : GoFirst p choose budget first count
-  pub state : x ≡ state_after p choose count first
-  pub pieces : List (List ℕ)
-  pub are : ArePieces p choose first count pieces
-  pub put : new ≡ with_pieces pieces old
-  pub sound : IsSound p x
-  pub cells : HoldsCells p x
-  pub births : x.ended ≡ None → x.areas.store.births + unmade x.areas.literals + (budget - x.steps) < 2 ^ 32
-
 pub ran-none : (p : Program) (choose : Choose) (budget : ℕ) (x : State) (out : Output) → CanGo p budget x → Ran p choose budget x x out out
 ran-none p choose budget x out can = record {
   count = zero;
@@ -94,20 +75,43 @@ ran-none p choose budget x out can = record {
   pieces = [];
   are = refl;
   put = sym (with_pieces-nil out);
-  sound = can.sound;
-  cells = can.cells;
-  births = λ goes. omega (arith, can.births);
+  keeps = record { sound = can.sound; cells = can.cells; births = λ goes. omega (arith, can.births) };
 }
 
-pub ran-going : (p : Program) (choose : Choose) (budget : ℕ) (first x : State) (old new : Output) → budget < 2 ^ 64 → Ran p choose budget first x old new
-    → Goes p budget x → IsGoing p x
-ran-going p choose budget first x old new few ran goes = record {
-  sound = ran.sound;
-  cells = ran.cells;
+pub keeps-going : (p : Program) (budget : ℕ) (x : State) → budget < 2 ^ 64 → Keeps p budget x → Goes p budget x → IsGoing p x
+keeps-going p budget x few keeps goes = record {
+  sound = keeps.sound;
+  cells = keeps.cells;
   goes = goes.not_ended;
-  births = let few_births = ran.births goes.not_ended in let within = goes.within in omega arith;
+  births = let few_births = keeps.births goes.not_ended in let within = goes.within in omega arith;
   steps = let within = goes.within in omega arith;
 }
+
+pub keeps-more : (p : Program) (budget : ℕ) (x y : State) → Keeps p budget x → Goes p budget x → Stepped p x y → Keeps p budget y
+keeps-more p budget x y keeps goes stepped = record {
+  sound = stepped.sound;
+  cells = stepped.cells;
+  births =
+      λ h.
+      let few = keeps.births goes.not_ended in
+      let within = goes.within in
+      let counted = stepped.counted h in
+      let grown = stepped.births h in
+      omega arith;
+}
+
+pub cost-some : (p : Program) (x : State) → 0 < cost p x
+cost-some p x = let some = costs_some p x in omega arith
+
+-- fewer steps are left
+pub left-less : (p : Program) (budget : ℕ) (x y : State) → Goes p budget x → Stepped p x y → 0 < cost p x → left_of budget y < left_of budget x
+left-less p budget x y goes stepped some = by_end y.ended refl where
+  before : left_of budget x ≡ suc (budget - x.steps)
+  before = ap (λ ended. left_of budget (record x { ended = ended })) goes.not_ended
+
+  by_end : (e : Option Ended) → y.ended ≡ e → left_of budget (record y { ended = e }) < left_of budget x
+  by_end (Some e) is = omega (arith, before)
+  by_end None is = let counted = stepped.counted is in let within = goes.within in omega (arith, before)
 
 goes-more : (p : Program) (choose : Choose) (budget count : ℕ) (first x : State) → x ≡ state_after p choose count first → Goes p budget x
     → GoFirst p choose budget first count → GoFirst p choose budget first (count + 1)
@@ -129,14 +133,6 @@ module _ (p : Program) (choose : Choose) (budget : ℕ) (first x : State) (old m
     told : does.printed ≡ printed_at p choose ran.count first
     told = sym (ap (λ (m : Moved). m.printed) does.is) ∙ printed-is
 
-    births-more : y.ended ≡ None → y.areas.store.births + unmade y.areas.literals + (budget - y.steps) < 2 ^ 32
-    births-more h =
-        let few = ran.births goes.not_ended in
-        let within = goes.within in
-        let counted = stepped.counted h in
-        let grown = stepped.births h in
-        omega arith
-
     with_pieces-now : (pieces : List (List ℕ)) → OnePieceMore (printed_at p choose ran.count first) ran.pieces pieces → new ≡ with_pieces pieces old
         → Ran p choose budget first y old new
     with_pieces-now pieces more put = record {
@@ -146,9 +142,7 @@ module _ (p : Program) (choose : Choose) (budget : ℕ) (first x : State) (old m
       pieces = pieces;
       are = (ran.pieces, ran.are, more);
       put = put;
-      sound = stepped.sound;
-      cells = stepped.cells;
-      births = births-more;
+      keeps = keeps-more p budget x y ran.keeps goes stepped;
     }
 
     by_put : PutsOnce does.printed mid new → Ran p choose budget first y old new
@@ -161,16 +155,6 @@ module _ (p : Program) (choose : Choose) (budget : ℕ) (first x : State) (old m
     pub ran-more : Ran p choose budget first y old new
     ran-more = by_put does.put
 
-    -- fewer steps are left
-    pub ran-less : 0 < cost p x → left_of budget y < left_of budget x
-    ran-less some = by_end y.ended refl where
-      before : left_of budget x ≡ suc (budget - x.steps)
-      before = ap (left_by budget x.steps) goes.not_ended
-
-      by_end : (e : Option Ended) → y.ended ≡ e → left_by budget y.steps e < left_of budget x
-      by_end (Some e) is = omega (arith, before)
-      by_end None is = let counted = stepped.counted is in let within = goes.within in omega (arith, before)
-
   pub ran-fails : (new : Output) → FailsStep p choose x mid new → FailsRun p choose budget first old new
   ran-fails new fails = record {
     count = ran.count;
@@ -180,8 +164,10 @@ module _ (p : Program) (choose : Choose) (budget : ℕ) (first x : State) (old m
     fails = subst (λ bytes. FailsPut bytes (with_pieces ran.pieces old) new) printed-is (subst (λ out. FailsPut next out new) ran.put fails);
   }
 
-  pub ran-breaks : (new : Output) → new ≡ mid → BreaksRun p choose budget first old new
-  ran-breaks new same = record { count = ran.count; goes = ran.goes; pieces = ran.pieces; are = ran.are; put = same ∙ ran.put }
+pub ran-breaks : (p : Program) (choose : Choose) (budget : ℕ) (first x : State) (old mid new : Output) → Ran p choose budget first x old mid → new ≡ mid
+    → BreaksRun p choose budget first old new
+ran-breaks p choose budget first x old mid new ran same =
+    record { count = ran.count; goes = ran.goes; pieces = ran.pieces; are = ran.are; put = same ∙ ran.put }
 
 pub ran-ends : (p : Program) (choose : Choose) (budget : ℕ) (first x : State) (old new : Output) → Ran p choose budget first x old new → ¬ Goes p budget x
     → RunsTo p choose budget first x old new
@@ -199,6 +185,36 @@ ran-ends p choose budget first x old new ran stops = record {
   put = ran.put;
 }
 
+-- ---- steps that print nothing
+
+pub leads-none : (p : Program) (choose : Choose) (budget : ℕ) (x : State) → Leads p choose budget x x
+leads-none p choose budget x = record { ran = λ first old new ran. ran; left = omega arith }
+
+pub leads-more : (p : Program) (choose : Choose) (budget : ℕ) (x y z : State) → Leads p choose budget x y → DidSimple p choose budget y z → Leads p choose budget x z
+leads-more p choose budget x y z leads did = record {
+  ran = λ first old new ran.
+      ran-more p choose budget first y old new (leads.ran first old new ran) did.goes z new
+      (step-does p choose y z new new did.goes.not_ended (quiet-does p choose y z new (next_effect p y) did.does)) did.stepped;
+  left = let less = left-less p budget y z did.goes did.stepped (cost-some p y) in let before = leads.left in omega arith;
+}
+
+-- a step that was done, or none
+pub went : (p : Program) (choose : Choose) (budget : ℕ) (first x y : State) (did : Bool) → (did ≡ true → DidSimple p choose budget x y) → (did ≡ false → y ≡ x)
+    → Leads p choose budget first x → Keeps p budget x → Leads p choose budget first y × Keeps p budget y
+went p choose budget first x y true done same leads keeps =
+    let did = done refl in
+    (leads-more p choose budget first x y leads did, keeps-more p budget x y keeps did.goes did.stepped)
+went p choose budget first x y false done same leads keeps =
+    (subst (Leads p choose budget first) (sym (same refl)) leads, subst (Keeps p budget) (sym (same refl)) keeps)
+
+pub went-less : (p : Program) (choose : Choose) (budget : ℕ) (x y : State) (did : Bool) → (did ≡ true → DidSimple p choose budget x y) → (did ≡ false → y ≡ x)
+    → left_of budget y + (if did then 1 else 0) < left_of budget x + 1
+went-less p choose budget x y true done same =
+    let did = done refl in
+    let less = left-less p budget x y did.goes did.stepped (cost-some p x) in
+    omega (arith, less)
+went-less p choose budget x y false done same = let is : left_of budget y ≡ left_of budget x = ap (left_of budget) (same refl) in omega (arith, is)
+
 -- ---- whether the run goes on
 
 pub ended-stops : (p : Program) (budget : ℕ) (x : State) (e : Ended) → x.ended ≡ Some e → IsTrue false ↔ Goes p budget x
@@ -212,10 +228,12 @@ pub within-goes : (p : Program) (budget price left : ℕ) (x : State) → budget
     → Goes p budget x → price ≤ left
 within-goes p budget price left x few price_is left_is goes = let within = goes.within in omega arith
 
-pub cost-some : (p : Program) (x : State) → 0 < cost p x
-cost-some p x = let some = costs_some p x in omega arith
-
 -- the error that a `?` hands on is the one that it met
 pub same_error : {T E : Type 0} (r : Result T E) (met wanted : E) → IsErrAnd r (λ e. e ≡ met) → r ≡ Err wanted → met ≡ wanted
 same_error (Ok x) met wanted handed is = absurd handed
 same_error (Err e) met wanted handed is = let same : e ≡ wanted = cc in sym handed ∙ same
+
+-- what is told of a call that prints nothing, once it has ended well
+pub quiet-ok : {T : Type 0} (P : Type 0) (done : Result T NoMemory) (u : T) → Ok u ≡ quiet done → OnOk done P → P
+quiet-ok P (Ok v) u is h = h
+quiet-ok P (Err e) u is h = absurd (cc)

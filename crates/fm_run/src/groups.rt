@@ -8,11 +8,9 @@ use fm_code::Insn;
 // The instructions that one function does.
 #[derive(Clone, Copy)]
 pub(crate) enum Group {
-    Words,
-    Numbers,
-    Jumps,
+    Simple,
+    Rarer,
     Leaves,
-    Moves,
     Fields,
     Arrays,
     Objects,
@@ -22,43 +20,44 @@ pub(crate) enum Group {
 }
 
 // Which function does the instruction.
+#[inline]
 pub(crate) fn group_of(insn: &Insn) -> Group
     ensures { result ≡ group_of insn.now }
 {
     match insn {
-        Insn::Nop
-        | Insn::Null
-        | Insn::Const(_)
-        | Insn::LongConst(_)
-        | Insn::LoadPool(_)
-        | Insn::Load(_, _)
+        Insn::Load(_, _)
         | Insn::Store(_, _)
-        | Insn::Inc(_, _) => Group::Words,
-        Insn::IntOp(_)
-        | Insn::LongOp(_)
-        | Insn::IntNeg
-        | Insn::LongNeg
+        | Insn::Inc(_, _)
+        | Insn::Const(_)
+        | Insn::Null
+        | Insn::IntOp(_)
         | Insn::IntShift(_)
-        | Insn::LongShift(_)
+        | Insn::LongOp(_)
         | Insn::Convert(_)
-        | Insn::LongCompare => Group::Numbers,
-        Insn::IfInt(_, _)
+        | Insn::IfInt(_, _)
         | Insn::IfPair(_, _)
         | Insn::IfSame(_, _)
         | Insn::IfNull(_, _)
         | Insn::Goto(_)
-        | Insn::Table(_, _, _)
-        | Insn::Lookup(_, _, _) => Group::Jumps,
-        Insn::Return(_) | Insn::Throw => Group::Leaves,
-        Insn::Pop
-        | Insn::Pop2
         | Insn::Dup
+        | Insn::Pop => Group::Simple,
+        Insn::Nop
+        | Insn::LongConst(_)
+        | Insn::LoadPool(_)
+        | Insn::IntNeg
+        | Insn::LongNeg
+        | Insn::LongShift(_)
+        | Insn::LongCompare
+        | Insn::Table(_, _, _)
+        | Insn::Lookup(_, _, _)
+        | Insn::Pop2
         | Insn::DupX1
         | Insn::DupX2
         | Insn::Dup2
         | Insn::Dup2X1
         | Insn::Dup2X2
-        | Insn::Swap => Group::Moves,
+        | Insn::Swap => Group::Rarer,
+        Insn::Return(_) | Insn::Throw => Group::Leaves,
         Insn::GetField(_) | Insn::PutField(_) | Insn::GetStatic(_) | Insn::PutStatic(_) =>
             Group::Fields,
         Insn::ArrayLoad(_) | Insn::ArrayStore(_) | Insn::Length => Group::Arrays,

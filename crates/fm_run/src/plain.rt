@@ -19,8 +19,42 @@ use fm_frames::Machine;
 use fm_world::Program;
 use std::alloc::Global;
 
-// Constants and locals.
-pub(crate) fn words<M: Memory>(
+// The simple instructions, of which most steps are.
+#[inline(always)]
+pub(crate) fn simple<M: Memory>(
+    machine: &mut Machine<M>,
+    program: &Program,
+    insn: &Insn,
+) -> Result<(), NoMemory>
+    requires can { CanStep program.now machine.old }
+    requires at { StandsAt program.now machine.old insn.now }
+    requires group { group_of insn.now ≡ group.Simple }
+    ensures { OnOk result (DoesNext program.now M.choose machine.old machine.new) }
+{
+    match insn {
+        Insn::Load(kind, place) => rows::load(machine, program, *kind, *place)?,
+        Insn::Store(kind, place) => rows::store(machine, program, *kind, *place),
+        Insn::Inc(place, by) => rows::increment(machine, program, *place, *by),
+        Insn::Const(n) => rows::int_constant(machine, program, *n)?,
+        Insn::Null => rows::null(machine, program)?,
+        Insn::IntOp(op) => rows::int_op(machine, program, *op)?,
+        Insn::IntShift(shift) => rows::int_shift(machine, program, *shift)?,
+        Insn::LongOp(op) => rows::long_op(machine, program, *op)?,
+        Insn::Convert(to) => rows::convert(machine, program, *to)?,
+        Insn::IfInt(test, target) => rows::if_int(machine, program, *test, *target),
+        Insn::IfPair(test, target) => rows::if_pair(machine, program, *test, *target),
+        Insn::IfSame(same, target) => rows::if_same(machine, program, *same, *target),
+        Insn::IfNull(null, target) => rows::if_null(machine, program, *null, *target),
+        Insn::Goto(target) => rows::go_to(machine, program, *target),
+        Insn::Dup => rows::dup(machine, program)?,
+        Insn::Pop => rows::pop(machine, program),
+        _ => unreachable!(),
+    }
+    Ok(())
+}
+
+// The other instructions of numbers, the stack and switches.
+pub(crate) fn rarer<M: Memory>(
     machine: &mut Machine<M>,
     program: &Program,
     method: MethodId,
@@ -30,77 +64,34 @@ pub(crate) fn words<M: Memory>(
     requires going { IsGoing program.now machine.old }
     requires can { CanStep program.now machine.old }
     requires at { StandsIn program.now machine.old method.0 insn.now }
-    requires group { group_of insn.now ≡ group.Words }
+    requires group { group_of insn.now ≡ group.Rarer }
     ensures { OnOk result (DoesNext program.now M.choose machine.old machine.new) }
 {
     match insn {
-        Insn::Load(kind, place) => rows::load(machine, program, *kind, *place),
-        Insn::Store(kind, place) => {
-            rows::store(machine, program, *kind, *place);
-            Ok(())
-        }
-        Insn::Inc(place, by) => {
-            rows::increment(machine, program, *place, *by);
-            Ok(())
-        }
-        Insn::Const(n) => rows::int_constant(machine, program, *n),
-        Insn::LongConst(n) => rows::long_constant(machine, program, *n),
-        Insn::LoadPool(index) => constant(machine, program, method, *index),
-        Insn::Null => rows::null(machine, program),
-        Insn::Nop => {
-            rows::nop(machine, program);
-            Ok(())
-        }
-        _ => unreachable!(),
-    }
-}
-
-// Numbers.
-pub(crate) fn numbers<M: Memory>(
-    machine: &mut Machine<M>,
-    program: &Program,
-    insn: &Insn,
-) -> Result<(), NoMemory>
-    requires can { CanStep program.now machine.old }
-    requires at { StandsAt program.now machine.old insn.now }
-    requires group { group_of insn.now ≡ group.Numbers }
-    ensures { OnOk result (DoesNext program.now M.choose machine.old machine.new) }
-{
-    match insn {
-        Insn::IntOp(op) => rows::int_op(machine, program, *op),
-        Insn::LongOp(op) => rows::long_op(machine, program, *op),
-        Insn::IntNeg => rows::int_negate(machine, program),
-        Insn::LongNeg => rows::long_negate(machine, program),
-        Insn::IntShift(shift) => rows::int_shift(machine, program, *shift),
-        Insn::LongShift(shift) => rows::long_shift(machine, program, *shift),
-        Insn::Convert(to) => rows::convert(machine, program, *to),
-        Insn::LongCompare => rows::long_compare(machine, program),
-        _ => unreachable!(),
-    }
-}
-
-// Jumps and switches.
-pub(crate) fn jumps<M: Memory>(machine: &mut Machine<M>, program: &Program, insn: &Insn)
-    requires can { CanStep program.now machine.old }
-    requires at { StandsAt program.now machine.old insn.now }
-    requires group { group_of insn.now ≡ group.Jumps }
-    ensures { DoesNext program.now M.choose machine.old machine.new }
-{
-    match insn {
-        Insn::IfInt(test, target) => rows::if_int(machine, program, *test, *target),
-        Insn::IfPair(test, target) => rows::if_pair(machine, program, *test, *target),
-        Insn::IfSame(same, target) => rows::if_same(machine, program, *same, *target),
-        Insn::IfNull(null, target) => rows::if_null(machine, program, *null, *target),
-        Insn::Goto(target) => rows::go_to(machine, program, *target),
+        Insn::Nop => rows::nop(machine, program),
+        Insn::LongConst(n) => rows::long_constant(machine, program, *n)?,
+        Insn::LoadPool(index) => constant(machine, program, method, *index)?,
+        Insn::IntNeg => rows::int_negate(machine, program)?,
+        Insn::LongNeg => rows::long_negate(machine, program)?,
+        Insn::LongShift(shift) => rows::long_shift(machine, program, *shift)?,
+        Insn::LongCompare => rows::long_compare(machine, program)?,
         Insn::Table(low, others, targets) => {
-            rows::table_switch(machine, program, *low, *others, targets.as_slice())
+            rows::table_switch(machine, program, *low, *others, targets.as_slice());
         }
         Insn::Lookup(others, keys, targets) => {
             let keys = keys.as_slice();
-            rows::lookup_switch(machine, program, *others, keys, targets.as_slice())
+            rows::lookup_switch(machine, program, *others, keys, targets.as_slice());
         }
+        Insn::Pop2 => rows::pop2(machine, program),
+        Insn::DupX1 => rows::dup_x1(machine, program)?,
+        Insn::DupX2 => rows::dup_x2(machine, program)?,
+        Insn::Dup2 => rows::dup2(machine, program)?,
+        Insn::Dup2X1 => rows::dup2_x1(machine, program)?,
+        Insn::Dup2X2 => rows::dup2_x2(machine, program)?,
+        Insn::Swap => rows::swap(machine, program)?,
         _ => unreachable!(),
     }
+    Ok(())
 }
 
 // Returns and athrow.
@@ -117,37 +108,6 @@ pub(crate) fn leaves<M: Memory>(
     match insn {
         Insn::Return(value) => rows::leave(machine, program, *value),
         Insn::Throw => rows::throw(machine, program),
-        _ => unreachable!(),
-    }
-}
-
-// Moves of the stack.
-pub(crate) fn moves<M: Memory>(
-    machine: &mut Machine<M>,
-    program: &Program,
-    insn: &Insn,
-) -> Result<(), NoMemory>
-    requires can { CanStep program.now machine.old }
-    requires at { StandsAt program.now machine.old insn.now }
-    requires group { group_of insn.now ≡ group.Moves }
-    ensures { OnOk result (DoesNext program.now M.choose machine.old machine.new) }
-{
-    match insn {
-        Insn::Dup => rows::dup(machine, program),
-        Insn::DupX1 => rows::dup_x1(machine, program),
-        Insn::DupX2 => rows::dup_x2(machine, program),
-        Insn::Dup2 => rows::dup2(machine, program),
-        Insn::Dup2X1 => rows::dup2_x1(machine, program),
-        Insn::Dup2X2 => rows::dup2_x2(machine, program),
-        Insn::Swap => rows::swap(machine, program),
-        Insn::Pop => {
-            rows::pop(machine, program);
-            Ok(())
-        }
-        Insn::Pop2 => {
-            rows::pop2(machine, program);
-            Ok(())
-        }
         _ => unreachable!(),
     }
 }

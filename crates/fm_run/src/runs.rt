@@ -1,16 +1,22 @@
 // The run: steps, one after the other, as far as the budget of steps allows.
 
-ghost use Rattle.std.specs.Prelude.{◌≡◌, ◌^◌, ◌<◌, ◌↔◌, IfOk, IsErrOf, IsTrue, OnOk};
+ghost use Rattle.std.specs.Prelude.{◌≡◌, ◌^◌, ◌<◌, ◌↔◌, true, false, Some, IfOk, IfSome, IsErrOf, IsTrue, OnOk};
 ghost use Rattle.fm_frames.specs.Reports.{report_of};
 ghost use Rattle.fm_frames.specs.Runs.{Goes};
 ghost use Rattle.fm_frames.specs.declared.turns.StepFail.TheVariants as StepFail;
 ghost use Rattle.fm_ready.specs.Ready.{CanRun};
 ghost use Rattle.fm_run.specs.Running.{BreaksRun, CanGo, FailsRun, RunsTo};
+ghost use Rattle.fm_run.specs.inner.Going.{DidSimple, IsSimpleNext, Keeps, Leads};
+ghost use Rattle.fm_world.specs.Programs.{code_at};
 
-use crate::steps::advance;
+use crate::groups::{Group, group_of};
+use crate::plain::simple;
+use crate::steps::{advance, quiet};
+use fm_base::{MethodId, NoMemory};
 use fm_cells::Memory;
+use fm_code::{Code, Insn};
 use fm_files::Sink;
-use fm_frames::{Machine, Report, StepFail};
+use fm_frames::{Machine, Report, StepFail, code_of};
 use fm_nests::cost;
 use fm_world::Program;
 use std::alloc::Global;
@@ -25,6 +31,89 @@ fn goes<M: Memory>(machine: &Machine<M>, program: &Program, steps: u64) -> bool
         Some(_) => false,
         None => cost(machine, program) <= steps.saturating_sub(machine.steps()),
     }
+}
+
+// The next instruction, if it is a simple one of this method's code, and the run goes on within the budget.
+#[inline(always)]
+fn simple_next<'a, M: Memory>(
+    machine: &Machine<M>,
+    program: &Program,
+    method: MethodId,
+    code: &'a Code,
+    steps: u64,
+) -> Option<&'a Insn>
+    requires run { CanRun program.now }
+    requires code { code_at program.now method.0 ≡ Some code.now }
+    requires few { steps < 2 ^ 64 }
+    requires keeps { Keeps program.now steps machine.now }
+    ensures { IfSome result (λ insn. IsSimpleNext program.now steps machine.now insn.now) }
+{
+    if machine.end().is_some() || machine.steps() >= steps {
+        return None;
+    }
+    let Some(place) = machine.topmost() else {
+        return None;
+    };
+    if place.method != method {
+        return None;
+    }
+    let Some(item) = code.items.get(place.item) else {
+        return None;
+    };
+    match group_of(&item.insn) {
+        Group::Simple => Some(&item.insn),
+        _ => None,
+    }
+}
+
+// Does the next instruction, if it is such a simple one; tells whether it was done.
+#[inline(always)]
+fn do_simple<M: Memory>(
+    machine: &mut Machine<M>,
+    program: &Program,
+    method: MethodId,
+    code: &Code,
+    steps: u64,
+) -> Result<bool, NoMemory>
+    requires run { CanRun program.now }
+    requires code { code_at program.now method.0 ≡ Some code.now }
+    requires few { steps < 2 ^ 64 }
+    requires keeps { Keeps program.now steps machine.old }
+    ensures did { IfOk result (λ did. did ≡ true
+        → DidSimple program.now M.choose steps machine.old machine.new) }
+    ensures same { IfOk result (λ did. did ≡ false → machine.new ≡ machine.old) }
+{
+    let Some(insn) = simple_next(machine, program, method, code, steps) else {
+        return Ok(false);
+    };
+    simple(machine, program, insn)?;
+    let _births = machine.births();
+    Ok(true)
+}
+
+// Does the simple instructions that come next in the topmost frame's method, as far as the budget of steps
+// allows.
+fn do_simple_ones<M: Memory>(
+    machine: &mut Machine<M>,
+    program: &Program,
+    steps: u64,
+) -> Result<(), NoMemory>
+    requires run { CanRun program.now }
+    requires few { steps < 2 ^ 64 }
+    requires keeps { Keeps program.now steps machine.old }
+    ensures { OnOk result (Leads program.now M.choose steps machine.old machine.new) }
+{
+    let Some(place) = machine.topmost() else {
+        return Ok(());
+    };
+    let Some(code) = code_of(program, place.method) else {
+        return Ok(());
+    };
+    let mut goes = true;
+    while goes {
+        goes = do_simple(machine, program, place.method, code, steps)?;
+    }
+    Ok(())
 }
 
 /// Runs the machine from its state on, as far as the budget of steps allows, with which all steps of the
@@ -49,6 +138,7 @@ pub fn run<M: Memory, S: Sink>(
 {
     while goes(machine, program, steps) {
         advance(alloc, machine, program, out)?;
+        quiet(do_simple_ones(machine, program, steps))?;
     }
     Ok(machine.report())
 }

@@ -12,7 +12,7 @@ ghost use Rattle.fm_run.specs.inner.Nexts.{StandsIn, Stepped};
 use crate::calls::calls;
 use crate::groups::{Group, group_of};
 use crate::names::{code_in, insn_in, next_place};
-use crate::plain::{arrays, fields, jumps, leaves, moves, numbers, objects, words};
+use crate::plain::{arrays, fields, leaves, objects, rarer, simple};
 use fm_base::{MethodId, NoMemory};
 use fm_cells::Memory;
 use fm_code::Insn;
@@ -22,7 +22,7 @@ use fm_world::Program;
 use std::alloc::Global;
 
 // What comes of an instruction that prints nothing.
-fn quiet(done: Result<(), NoMemory>) -> Result<(), StepFail>
+pub(crate) fn quiet(done: Result<(), NoMemory>) -> Result<(), StepFail>
     ensures { result ≡ quiet done }
 {
     match done {
@@ -51,14 +51,9 @@ fn do_insn<M: Memory, S: Sink>(
     ensures kept { IsErrOf result StepFail.NoMemory → S.output out.new ≡ S.output out.old }
 {
     match group_of(insn) {
-        Group::Words => quiet(words(machine, program, method, insn)),
-        Group::Numbers => quiet(numbers(machine, program, insn)),
-        Group::Jumps => {
-            jumps(machine, program, insn);
-            Ok(())
-        }
+        Group::Simple => quiet(simple(machine, program, insn)),
+        Group::Rarer => quiet(rarer(machine, program, method, insn)),
         Group::Leaves => quiet(leaves(machine, program, insn)),
-        Group::Moves => quiet(moves(machine, program, insn)),
         Group::Fields => quiet(fields(alloc, machine, program, method, insn)),
         Group::Arrays => quiet(arrays(machine, program, insn)),
         Group::Objects => quiet(objects(alloc, machine, program, method, insn)),

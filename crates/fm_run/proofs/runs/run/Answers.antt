@@ -1,7 +1,8 @@
-use Rattle.std.proofs.Common.{◌≡◌, ◌<◌, ◌^◌, false, true, Err, ap, sym, ◌∙◌, arith}
+use Rattle.std.proofs.Common.{◌≡◌, ◌<◌, ◌^◌, false, true, Err, ap, refl, sym, ◌∙◌, arith}
 use Rattle.fm_frames.specs.declared.turns.StepFail.TheVariants as fail
-use Rattle.fm_run.proofs.Ranging.{cost-some, ran-breaks, ran-ends, ran-fails, ran-going, ran-less, ran-more, ran-none, same_error}
+use Rattle.fm_run.proofs.Ranging.{cost-some, keeps-going, left-less, quiet-ok, ran-breaks, ran-ends, ran-fails, ran-more, ran-none, same_error}
 use Rattle.fm_run.proofs.runs.run.Goals as goal
+use Rattle.fm_run.specs.inner.Going.{Leads}
 
 pub loop-alloc-init : goal.loop-alloc-init
 loop-alloc-init g c =
@@ -13,21 +14,42 @@ goes-requires-clause-few g c = omega (arith, c.requires.going.births)
 pub advance-requires-clause-going : goal.advance-requires-clause-going
 advance-requires-clause-going g c =
     let few : c.args.steps < 2 ^ 64 = omega (arith, c.requires.going.births) in
-    ran-going c.args.program.now g.M.Memory.choose c.args.steps c.args.machine.now c.loop-alloc.machine
-    (g.S.Sink.output c.args.out.now) (g.S.Sink.output c.loop-alloc.out) few c.loop-alloc.invariant (c.goes.ensures.0 c.loop-alloc-test.true)
+    keeps-going c.args.program.now c.args.steps c.loop-alloc.machine few c.loop-alloc.invariant.keeps (c.goes.ensures.0 c.loop-alloc-test.true)
+
+pub do_simple_ones-requires-clause-few : goal.do_simple_ones-requires-clause-few
+do_simple_ones-requires-clause-few g c = omega (arith, c.requires.going.births)
+
+pub do_simple_ones-requires-clause-keeps : goal.do_simple_ones-requires-clause-keeps
+do_simple_ones-requires-clause-keeps g c =
+    (ran-more c.args.program.now g.M.Memory.choose c.args.steps c.args.machine.now c.loop-alloc.machine
+    (g.S.Sink.output c.args.out.now) (g.S.Sink.output c.loop-alloc.out) c.loop-alloc.invariant (c.goes.ensures.0 c.loop-alloc-test.true)
+    c.advance.new.machine (g.S.Sink.output c.advance.new.out) c.in_ok-advance.ensures.does c.in_ok-advance.ensures.stepped).keeps
 
 pub loop-alloc-preserved : goal.loop-alloc-preserved
 loop-alloc-preserved g c =
-    ran-more c.args.program.now g.M.Memory.choose c.args.steps c.args.machine.now c.loop-alloc.machine
+    let leads = quiet-ok (Leads c.args.program.now g.M.Memory.choose c.args.steps c.advance.new.machine c.do_simple_ones.new.machine) c.do_simple_ones.result _ c.in_ok-quiet.ensures
+    c.do_simple_ones.ensures in
+    leads.ran c.args.machine.now (g.S.Sink.output c.args.out.now) (g.S.Sink.output c.advance.new.out)
+    (ran-more c.args.program.now g.M.Memory.choose c.args.steps c.args.machine.now c.loop-alloc.machine
     (g.S.Sink.output c.args.out.now) (g.S.Sink.output c.loop-alloc.out) c.loop-alloc.invariant (c.goes.ensures.0 c.loop-alloc-test.true)
-    c.advance.new.machine (g.S.Sink.output c.advance.new.out) c.in_ok-advance.ensures.does c.in_ok-advance.ensures.stepped
+    c.advance.new.machine (g.S.Sink.output c.advance.new.out) c.in_ok-advance.ensures.does c.in_ok-advance.ensures.stepped)
 
 pub loop-alloc-smaller : goal.loop-alloc-smaller
 loop-alloc-smaller g c =
-    ran-less c.args.program.now g.M.Memory.choose c.args.steps c.args.machine.now c.loop-alloc.machine
+    let leads = quiet-ok (Leads c.args.program.now g.M.Memory.choose c.args.steps c.advance.new.machine c.do_simple_ones.new.machine) c.do_simple_ones.result _ c.in_ok-quiet.ensures
+    c.do_simple_ones.ensures in
+    let fewer = leads.left in
+    let less = left-less c.args.program.now c.args.steps c.loop-alloc.machine c.advance.new.machine (c.goes.ensures.0 c.loop-alloc-test.true)
+    c.in_ok-advance.ensures.stepped (cost-some c.args.program.now c.loop-alloc.machine) in
+    omega (arith, fewer, less)
+
+pub returns-in_err-quiet-clause-kept : goal.returns-in_err-quiet-clause-kept
+returns-in_err-quiet-clause-kept g c wanting =
+    ran-breaks c.args.program.now g.M.Memory.choose c.args.steps c.args.machine.now c.advance.new.machine
+    (g.S.Sink.output c.args.out.now) (g.S.Sink.output c.advance.new.out) (g.S.Sink.output c.advance.new.out)
+    (ran-more c.args.program.now g.M.Memory.choose c.args.steps c.args.machine.now c.loop-alloc.machine
     (g.S.Sink.output c.args.out.now) (g.S.Sink.output c.loop-alloc.out) c.loop-alloc.invariant (c.goes.ensures.0 c.loop-alloc-test.true)
-    c.advance.new.machine (g.S.Sink.output c.advance.new.out) c.in_ok-advance.ensures.does c.in_ok-advance.ensures.stepped
-    (cost-some c.args.program.now c.loop-alloc.machine)
+    c.advance.new.machine (g.S.Sink.output c.advance.new.out) c.in_ok-advance.ensures.does c.in_ok-advance.ensures.stepped) refl
 
 pub returns-in_err-advance-clause-failed : goal.returns-in_err-advance-clause-failed
 returns-in_err-advance-clause-failed g c failed =
@@ -40,8 +62,8 @@ pub returns-in_err-advance-clause-kept : goal.returns-in_err-advance-clause-kept
 returns-in_err-advance-clause-kept g c wanting =
     let why = same_error c.from_residual.result c.in_err-advance.field-0.0 fail.NoMemory c.from_residual.ensures.1 wanting in
     ran-breaks c.args.program.now g.M.Memory.choose c.args.steps c.args.machine.now c.loop-alloc.machine
-    (g.S.Sink.output c.args.out.now) (g.S.Sink.output c.loop-alloc.out) c.loop-alloc.invariant (c.goes.ensures.0 c.loop-alloc-test.true)
-    (g.S.Sink.output c.advance.new.out) (c.in_err-advance.ensures.kept (ap Err why))
+    (g.S.Sink.output c.args.out.now) (g.S.Sink.output c.loop-alloc.out) (g.S.Sink.output c.advance.new.out) c.loop-alloc.invariant
+    (c.in_err-advance.ensures.kept (ap Err why))
 
 pub returns-clause-runs : goal.returns-clause-runs
 returns-clause-runs g c =

@@ -1,4 +1,4 @@
-use Rattle.fm_run.proofs.Ranging.{left_of, Ran}
+use Rattle.fm_run.specs.inner.Going.{left_of, Ran}
 use Rattle.fm_run.proofs.runs.run.Given as goal
 
 abbrev pub invariant-loop-alloc : goal.invariant-loop-alloc

@@ -8,47 +8,36 @@ use Rattle.fm_run.specs.inner.Nexts.{DoesNext}
 use Rattle.fm_frames.specs.Steps.{next_effect}
 use Rattle.fm_types.specs.Typed.{use_by}
 
-pub words-requires-clause-group : goal.words-requires-clause-group
-words-requires-clause-group g c = sym c.group_of.ensures ∙ c.in-Words.is
+pub simple-requires-clause-group : goal.simple-requires-clause-group
+simple-requires-clause-group g c = sym c.group_of.ensures ∙ c.in-Simple.is
 
-pub returns-in-Words-clause-told : goal.returns-in-Words-clause-told
-returns-in-Words-clause-told g c =
+pub simple-requires-clause-at : goal.simple-requires-clause-at
+simple-requires-clause-at g c = c.requires.at.at
+
+pub returns-in-Simple-clause-told : goal.returns-in-Simple-clause-told
+returns-in-Simple-clause-told g c =
     let p = c.args.program.now in
     let x = c.args.machine.now in
     let out = g.S.Sink.output c.args.out.now in
-    quiet-told (DoesNext p g.M.Memory.choose x c.words.new.machine) (StepsTo p g.M.Memory.choose x c.words.new.machine out out (next_effect p x)) c.words.result c.quiet.result
-    c.quiet.ensures (quiet-does p g.M.Memory.choose x c.words.new.machine out (next_effect p x)) c.words.ensures
+    quiet-told (DoesNext p g.M.Memory.choose x c.simple.new.machine) (StepsTo p g.M.Memory.choose x c.simple.new.machine out out (next_effect p x)) c.simple.result c.quiet.result
+    c.quiet.ensures (quiet-does p g.M.Memory.choose x c.simple.new.machine out (next_effect p x)) c.simple.ensures
 
-pub returns-in-Words-clause-failed : goal.returns-in-Words-clause-failed
-returns-in-Words-clause-failed g c failed = absurd (quiet-fails c.words.result c.quiet.result c.quiet.ensures failed)
+pub returns-in-Simple-clause-failed : goal.returns-in-Simple-clause-failed
+returns-in-Simple-clause-failed g c failed = absurd (quiet-fails c.simple.result c.quiet.result c.quiet.ensures failed)
 
-pub numbers-requires-clause-group : goal.numbers-requires-clause-group
-numbers-requires-clause-group g c = sym c.group_of.ensures ∙ c.in-Numbers.is
+pub rarer-requires-clause-group : goal.rarer-requires-clause-group
+rarer-requires-clause-group g c = sym c.group_of.ensures ∙ c.in-Rarer.is
 
-pub numbers-requires-clause-at : goal.numbers-requires-clause-at
-numbers-requires-clause-at g c = c.requires.at.at
-
-pub returns-in-Numbers-clause-told : goal.returns-in-Numbers-clause-told
-returns-in-Numbers-clause-told g c =
+pub returns-in-Rarer-clause-told : goal.returns-in-Rarer-clause-told
+returns-in-Rarer-clause-told g c =
     let p = c.args.program.now in
     let x = c.args.machine.now in
     let out = g.S.Sink.output c.args.out.now in
-    quiet-told (DoesNext p g.M.Memory.choose x c.numbers.new.machine) (StepsTo p g.M.Memory.choose x c.numbers.new.machine out out (next_effect p x)) c.numbers.result c.quiet-in-Numbers.result
-    c.quiet-in-Numbers.ensures (quiet-does p g.M.Memory.choose x c.numbers.new.machine out (next_effect p x)) c.numbers.ensures
+    quiet-told (DoesNext p g.M.Memory.choose x c.rarer.new.machine) (StepsTo p g.M.Memory.choose x c.rarer.new.machine out out (next_effect p x)) c.rarer.result c.quiet-in-Rarer.result
+    c.quiet-in-Rarer.ensures (quiet-does p g.M.Memory.choose x c.rarer.new.machine out (next_effect p x)) c.rarer.ensures
 
-pub returns-in-Numbers-clause-failed : goal.returns-in-Numbers-clause-failed
-returns-in-Numbers-clause-failed g c failed = absurd (quiet-fails c.numbers.result c.quiet-in-Numbers.result c.quiet-in-Numbers.ensures failed)
-
-pub jumps-requires-clause-group : goal.jumps-requires-clause-group
-jumps-requires-clause-group g c = sym c.group_of.ensures ∙ c.in-Jumps.is
-
-pub jumps-requires-clause-at : goal.jumps-requires-clause-at
-jumps-requires-clause-at g c = c.requires.at.at
-
-pub returns-in-Jumps-clause-told : goal.returns-in-Jumps-clause-told
-returns-in-Jumps-clause-told g c =
-    let p = c.args.program.now in
-    quiet-does p g.M.Memory.choose c.args.machine.now c.jumps.new.machine (g.S.Sink.output c.args.out.now) (next_effect p c.args.machine.now) c.jumps.ensures
+pub returns-in-Rarer-clause-failed : goal.returns-in-Rarer-clause-failed
+returns-in-Rarer-clause-failed g c failed = absurd (quiet-fails c.rarer.result c.quiet-in-Rarer.result c.quiet-in-Rarer.ensures failed)
 
 pub leaves-requires-clause-group : goal.leaves-requires-clause-group
 leaves-requires-clause-group g c = sym c.group_of.ensures ∙ c.in-Leaves.is
@@ -66,23 +55,6 @@ returns-in-Leaves-clause-told g c =
 
 pub returns-in-Leaves-clause-failed : goal.returns-in-Leaves-clause-failed
 returns-in-Leaves-clause-failed g c failed = absurd (quiet-fails c.leaves.result c.quiet-in-Leaves.result c.quiet-in-Leaves.ensures failed)
-
-pub moves-requires-clause-group : goal.moves-requires-clause-group
-moves-requires-clause-group g c = sym c.group_of.ensures ∙ c.in-Moves.is
-
-pub moves-requires-clause-at : goal.moves-requires-clause-at
-moves-requires-clause-at g c = c.requires.at.at
-
-pub returns-in-Moves-clause-told : goal.returns-in-Moves-clause-told
-returns-in-Moves-clause-told g c =
-    let p = c.args.program.now in
-    let x = c.args.machine.now in
-    let out = g.S.Sink.output c.args.out.now in
-    quiet-told (DoesNext p g.M.Memory.choose x c.moves.new.machine) (StepsTo p g.M.Memory.choose x c.moves.new.machine out out (next_effect p x)) c.moves.result c.quiet-in-Moves.result
-    c.quiet-in-Moves.ensures (quiet-does p g.M.Memory.choose x c.moves.new.machine out (next_effect p x)) c.moves.ensures
-
-pub returns-in-Moves-clause-failed : goal.returns-in-Moves-clause-failed
-returns-in-Moves-clause-failed g c failed = absurd (quiet-fails c.moves.result c.quiet-in-Moves.result c.quiet-in-Moves.ensures failed)
 
 pub fields-requires-clause-group : goal.fields-requires-clause-group
 fields-requires-clause-group g c = sym c.group_of.ensures ∙ c.in-Fields.is
