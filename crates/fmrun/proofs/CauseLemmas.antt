@@ -1,191 +1,377 @@
--- When each status comes, and what each leaves, from what a call does.
-use Rattle.std.proofs.Common.{◌≡◌, ◌≢◌, ◌<◌, ◌≤◌, ℕ, List, [], ◌∷◌, Some, None, Contains, sym, ap, ◌∙◌, subst, refl, inl, inr, arith}
+-- What each status says and when it comes, by what a call does as a whole.
+use Rattle.std.proofs.Common.{◌≡◌, ◌≢◌, ◌<◌, ◌≤◌, ◌⊎◌, ℕ, inl, inr, ⊎_elim, List, [], ◌∷◌, Contains, Option, Some, None, IsSomeAnd, Ok, Err, length, string_bytes, refl, sym, ap, ◌∙◌, subst, arith}
+use Rattle.std.proofs.lemmas.List.Elements.{Contains-append_right}
+use Rattle.fm_base.proofs.ContainsFacts.{Contains-cons_cases, unlike_elements}
+use Rattle.fm_base.proofs.OptionFacts.{Some-from_is_some, Some-from_some_and}
+use Rattle.fm_base.specs.declared.limits.TheConstants.{MAX_ARGUMENTS, MAX_CLASS_FILES, MAX_FILE_BYTES}
 use Rattle.fm_files.specs.Files.{Bytes, Disk}
-use Rattle.fm_files.specs.Sink.{Output}
-use Rattle.fm_tool.specs.Outside.{IsKnownSuch}
-use Rattle.fm_tool.proofs.LineLemmas.{instead_for_file, told_among, comes_of_file}
-use Rattle.fm_tool.proofs.OutsideLemmas.{HoldsSuch-weaker, such_and_known}
-use Rattle.fm_tool.specs.Refusal.{refusal_status}
-use Rattle.fm_tool.specs.declared.refusal.Refusal.{Refusal}
+use Rattle.fm_files.specs.Sink.{Output, with_piece}
+use Rattle.fm_given.proofs.KnownLemmas.{bytes_stop, long_stops, missing_stops}
+use Rattle.fm_given.proofs.RefusalLemmas.{class_status}
+use Rattle.fm_given.proofs.VerdictLemmas.{Links}
+use Rattle.fm_given.specs.Causes.{FailsARead, HasTooMany, IsMissing, IsKnownLong, IsKnownRefused, IsKnownUnlinked, IsKnownUntyped}
+use Rattle.fm_given.specs.Given.{AreMany, AreRefused, IsNotLinked}
+use Rattle.fm_given.specs.LinkRefusal.{cause_line}
+use Rattle.fm_given.specs.Refusal.{many_arguments_line, many_line, refusal_status}
+use Rattle.fm_given.specs.Taking.{total_bytes, IsTooLong, IsRefused}
+use Rattle.fm_given.specs.declared.refusal.JobRefusal.{JobRefusal}
+use Rattle.fm_given.specs.declared.refusal.JobRefusal.TheVariants as job_refusal
+use Rattle.fm_refuse.specs.Refused.{refusal_of}
+use Rattle.fm_request.proofs.RequestLemmas.{asks_one}
+use Rattle.fm_request.specs.Request.{Job, Asks, AskNothing}
+use Rattle.fm_tool.proofs.LineLemmas.{instead_for_file, instead_for_words}
+use Rattle.fm_tool.specs.Encoding.{modified}
+use Rattle.fm_tool.specs.Status.{ComesExactly}
 use Rattle.fm_tool.specs.declared.refusal.Refusal.TheVariants as refusal
-use Rattle.fm_tool.specs.declared.status.TheConstants.{DONE, WORDS, READ, WRITE, OUT_OF_MEMORY, NOT_YET, RUNNING, TOO_DEEP}
-use Rattle.fm_code.specs.declared.class_file.ClassDef.{ClassDef}
-use Rattle.fm_code.proofs.ClassLaw.{one_record}
-use Rattle.fmrun.specs.declared.ends.End.{End}
-use Rattle.fmrun.specs.declared.ends.End.TheVariants as ends
-use Rattle.fmrun.specs.declared.ends.Ended.{Ended}
-use Rattle.fmrun.specs.declared.outcome.Outcome.{Outcome}
-use Rattle.fmrun.specs.declared.outcome.Outcome.TheVariants as outcome
-use Rattle.fmrun.specs.Request.{Job, IsAccepted}
-use Rattle.fmrun.specs.Run.{ended_of}
-use Rattle.fmrun.specs.Ends.{end_status}
-use Rattle.fmrun.specs.Outcome.{outcome_line, outcome_status}
-use Rattle.fmrun.specs.TopCall.{run_of, AreRefused, ComesTo, ComesOf, IsTopCall}
-use Rattle.fmrun.specs.Causes.{IsStatus, IsOfJob, IsKnownOfJob, IsForFile, IsNotYet, EndsWith}
-use Rattle.fmrun.proofs.RequestLemmas.{one_job}
+use Rattle.fm_tool.specs.declared.status.TheConstants.{DONE, WORDS, READ, LIMIT, LINK, CHECK, WRITE, OUT_OF_MEMORY}
+use Rattle.fm_world.specs.Causes.{Refusal}
+use Rattle.fmrun.proofs.EndStatuses.{among_refusals, job_of_told, kind_of, not_for_words, own_among, refusal_among, run_apart}
+use Rattle.fmrun.proofs.ToldLemmas.{FailsSo, IsLinePut, fails_so, is_among, is_line_put, told_of_file, told_of_words}
+use Rattle.fmrun.proofs.Verdicts.{JobVerdict, Runs, input_long, input_missing, one_end, passes, passes_input, ready_passes, status_of}
+use Rattle.fmrun.specs.Causes.{AskFor, AskToRead, HasLongInput, HasManyArguments, IsForBytes, IsForCheck, IsForLimit, IsForLink, IsForRead, IsForRun, IsForWords, IsKnownReady, IsKnownRun, LacksInput, MissesFile, SaysCheck, SaysLimit, SaysLink, SaysRead, SaysRefused, SaysRun, SaysWords, refusals}
+use Rattle.fmrun.specs.Jobs.{given_of, job_arguments}
+use Rattle.fmrun.specs.TopCall.{AreManyArguments, ComesOf, ComesOfJob, ComesTo, HasInput, HasRun, IsTold, Outcome, outcome_status}
+use Rattle.fmrun.specs.declared.outcome.JobFail.TheVariants as fail
 
--- ---- statuses as numbers
+-- ---- what a status says
 
--- the statuses of refusals lie from 64 to 79, and so do those of puts and of memory
-refusal_range : (r : Refusal) → (64 ≤ refusal_status r) × (refusal_status r < 80)
-refusal_range refusal.Words = (omega arith, omega arith)
-refusal_range (refusal.Read file) = (omega arith, omega arith)
-refusal_range (refusal.NotYet file) = (omega arith, omega arith)
-refusal_range refusal.OutOfMemory = (omega arith, omega arith)
+module _ (words : List Bytes) (old new : Disk) (before after report report' : Output) where
+  -- a job that comes out so
+  abbrev OfJob : Outcome → Type 0
+  OfJob o = ComesOfJob words old new before after o
 
--- a status of another kind
-abbrev IsEndStatus : ℕ → Type 0
-IsEndStatus s = 64 ≤ s → s < 80 → ⊥
+  -- 65
+  read_said : (o : Outcome) → OfJob o → outcome_status o ≡ READ → IsLinePut o report report' → SaysRead words old new before after report report'
+  read_said (Ok told) j is line = absurd (run_apart j.comes READ (omega arith) (omega arith) is)
+  read_said (Err (fail.Refused (job_refusal.Shared (refusal.Read file)))) j is line = record {
+    job = j.job;
+    asked = j.asked;
+    file = file.now;
+    unread = j.comes.0.1;
+    refused = record { silent = j.comes.1; told = line };
+  }
+  read_said (Err (fail.Refused (job_refusal.Class file r))) j is line = absurd (let c = class_status r in let low = c.low in let high = c.high in omega arith)
+  read_said o j is line = absurd (omega arith)
 
-pub end_is_apart : (e : End) → IsEndStatus (end_status e)
-end_is_apart ends.Returned = λ low high. absurd (omega arith)
-end_is_apart ends.Running = λ low high. absurd (omega arith)
-end_is_apart (ends.TooDeep frames) = λ low high. absurd (omega arith)
+  -- 70
+  cause_said : (job : Job) (cause : Option Refusal) → Asks words job → HasInput job old.contents → IsNotLinked (given_of job) cause old new → after ≡ before → report' ≡ with_piece (cause_line cause) report → SaysLink words old new before after report report'
+  cause_said job None asked input unlinked silent line = absurd unlinked.refused
+  cause_said job (Some cause) asked input unlinked silent line = record {
+    job = job;
+    asked = asked;
+    cause = cause;
+    input = input;
+    unlinked = unlinked;
+    refused = record { silent = silent; told = line };
+  }
 
-pub returned_is_apart : IsEndStatus DONE
-returned_is_apart = end_is_apart ends.Returned
+  link_said : (o : Outcome) → OfJob o → outcome_status o ≡ LINK → IsLinePut o report report' → SaysLink words old new before after report report'
+  link_said (Ok told) j is line = absurd (run_apart j.comes LINK (omega arith) (omega arith) is)
+  link_said (Err (fail.Refused (job_refusal.Link link))) j is line = cause_said j.job (refusal_of link) j.asked j.comes.0.1.0 j.comes.0.1.1 j.comes.1 line
+  link_said (Err (fail.Refused (job_refusal.Class file r))) j is line = absurd (let c = class_status r in let low = c.low in let high = c.high in omega arith)
+  link_said (Err (fail.Refused (job_refusal.Shared refusal.Words))) j is line = absurd (omega arith)
+  link_said o j is line = absurd (omega arith)
 
-pub running_is_apart : IsEndStatus RUNNING
-running_is_apart = end_is_apart ends.Running
+  -- 71
+  check_said : (o : Outcome) → OfJob o → outcome_status o ≡ CHECK → IsLinePut o report report' → SaysCheck words old new before after report report'
+  check_said (Ok told) j is line = absurd (run_apart j.comes CHECK (omega arith) (omega arith) is)
+  check_said (Err (fail.Refused (job_refusal.Check name))) j is line = record {
+    job = j.job;
+    asked = j.asked;
+    name = name;
+    input = j.comes.0.1.0;
+    untyped = j.comes.0.1.1;
+    refused = record { silent = j.comes.1; told = line };
+  }
+  check_said (Err (fail.Refused (job_refusal.Class file r))) j is line = absurd (let c = class_status r in let low = c.low in let high = c.high in omega arith)
+  check_said (Err (fail.Refused (job_refusal.Shared refusal.Words))) j is line = absurd (omega arith)
+  check_said o j is line = absurd (omega arith)
 
-pub too_deep_is_apart : IsEndStatus TOO_DEEP
-too_deep_is_apart = end_is_apart (ends.TooDeep 0)
+  -- 66, 67 and 69
+  bytes_said : (status : ℕ) → 66 ≤ status → status ≤ 69 → status ≢ LIMIT → (o : Outcome) → OfJob o → outcome_status o ≡ status → IsLinePut o report report' → SaysRefused status words old new before after report report'
+  bytes_said status low high other (Ok told) j is line = absurd (run_apart j.comes status (omega arith) (omega arith) is)
+  bytes_said status low high other (Err (fail.Refused (job_refusal.TooManyFiles count))) j is line = absurd (other (sym is))
+  bytes_said status low high other (Err (fail.Refused (job_refusal.TooManyArguments count))) j is line = absurd (other (sym is))
+  bytes_said status low high other (Err (fail.Refused (job_refusal.TooLong file))) j is line = absurd (other (sym is))
+  bytes_said status low high other (Err (fail.Refused (job_refusal.Class file r))) j is line = record {
+    job = j.job;
+    asked = j.asked;
+    file = file.now;
+    refusal = r;
+    status_is = is;
+    unaccepted = j.comes.0.1;
+    refused = record { silent = j.comes.1; told = line };
+  }
+  bytes_said status low high other (Err (fail.Refused (job_refusal.Shared refusal.Words))) j is line = absurd (omega arith)
+  bytes_said status low high other o j is line = absurd (omega arith)
 
-not_refused : (r : Refusal) (s : ℕ) → IsEndStatus s → s ≡ refusal_status r → ⊥
-not_refused r s apart same = let range = refusal_range r in apart (omega arith) (omega arith)
+  -- 68
+  limit_said : (o : Outcome) → OfJob o → outcome_status o ≡ LIMIT → IsLinePut o report report' → SaysLimit words old new before after report report'
+  limit_said (Ok told) j is line = absurd (run_apart j.comes LIMIT (omega arith) (omega arith) is)
+  limit_said (Err (fail.Refused (job_refusal.TooManyFiles count))) j is line =
+      let Many : ℕ → Type 0 = λ n. AreMany j.job.files n old new × (report' ≡ with_piece (many_line n) report) in
+      let own = subst Many j.comes.0.count_is (j.comes.0, line) in
+      inl (record { job = j.job; asked = j.asked; many = own.0; refused = record { silent = j.comes.1; told = own.1 } })
+  limit_said (Err (fail.Refused (job_refusal.TooManyArguments count))) j is line =
+      let Many : ℕ → Type 0 = λ n. AreManyArguments j.job n old new × (report' ≡ with_piece (many_arguments_line n) report) in
+      let own = subst Many j.comes.0.count_is (j.comes.0, line) in
+      inr (inl (record { job = j.job; asked = j.asked; many = own.0; refused = record { silent = j.comes.1; told = own.1 } }))
+  limit_said (Err (fail.Refused (job_refusal.TooLong file))) j is line = inr (inr (inl (record {
+    job = j.job;
+    asked = j.asked;
+    file = file.now;
+    long = j.comes.0.1;
+    refused = record { silent = j.comes.1; told = line };
+  })))
+  limit_said (Err (fail.Refused (job_refusal.Class file r))) j is line = inr (inr (inr (record {
+    job = j.job;
+    asked = j.asked;
+    file = file.now;
+    refusal = r;
+    status_is = is;
+    unaccepted = j.comes.0.1;
+    refused = record { silent = j.comes.1; told = line };
+  })))
+  limit_said (Err (fail.Refused (job_refusal.Shared refusal.Words))) j is line = absurd (omega arith)
+  limit_said o j is line = absurd (omega arith)
 
-not_write : (s : ℕ) → IsEndStatus s → s ≡ WRITE → ⊥
-not_write s apart same = let e : s ≡ 75 = same in apart (omega arith) (omega arith)
+-- ---- the cause of each status
 
-not_memory : (s : ℕ) → IsEndStatus s → s ≡ OUT_OF_MEMORY → ⊥
-not_memory s apart same = let e : s ≡ 76 = same in apart (omega arith) (omega arith)
+-- too many files or arguments have one status, and memory may be lacking
+many_status : (job : Job) (old new : Disk) (before after : Output) → HasTooMany (given_of job) ⊎ HasManyArguments job → (o : Outcome) → ComesTo job old new before after o → Contains (LIMIT ∷ instead_for_words) (outcome_status o)
+many_status job old new before after many o comes = go many o comes where
+  both : {X : Type 0} → HasTooMany (given_of job) ⊎ HasManyArguments job → length (job_arguments job) ≤ MAX_ARGUMENTS → length job.files ≤ MAX_CLASS_FILES → X
+  both (inl files) few_arguments few = absurd (omega arith)
+  both (inr arguments) few_arguments few = absurd (let many = arguments.1 in omega arith)
 
--- ---- what a file holds
+  go : HasTooMany (given_of job) ⊎ HasManyArguments job → (o : Outcome) → ComesTo job old new before after o → Contains (LIMIT ∷ instead_for_words) (outcome_status o)
+  go m (Ok told) c = both m c.ready.few c.ready.checked.linked.taken.few
+  go m (Err fail.Output) c = both m c.ready.few c.ready.checked.linked.taken.few
+  go m (Err (fail.Refused (job_refusal.Shared refusal.Words))) c = absurd c.0.1
+  go m (Err (fail.Refused (job_refusal.Shared (refusal.Read file)))) ((few, inl unread), same) = both m few unread.reaches.few
+  go m (Err (fail.Refused (job_refusal.Shared (refusal.Read file)))) ((few, inr unread), same) = both m few unread.taken.few
+  go m (Err (fail.Refused (job_refusal.Shared (refusal.NotYet file)))) c = absurd c.0.1
+  go m (Err (fail.Refused (job_refusal.Shared refusal.OutOfMemory))) c = (2, omega arith, refl)
+  go m (Err (fail.Refused (job_refusal.TooManyFiles count))) c = (0, omega arith, refl)
+  go m (Err (fail.Refused (job_refusal.TooManyArguments count))) c = (0, omega arith, refl)
+  go m (Err (fail.Refused (job_refusal.TooLong file))) c = (0, omega arith, refl)
+  go m (Err (fail.Refused (job_refusal.Class file r))) c = both m c.0.0 c.0.1.reaches.few
+  go m (Err (fail.Refused (job_refusal.Link link))) c =
+      let found = Some-from_some_and (refusal_of link) (AreRefused (given_of job) old.contents) c.0.1.1.refused in both m c.0.0 found.2.taken.few
+  go m (Err (fail.Refused (job_refusal.Check name))) c = both m c.0.0 c.0.1.1.linked.taken.few
+  go m (Err (fail.Refused (job_refusal.Write name))) c = absurd c.0.1
 
--- bytes are accepted as one class
-one_class : (job : Job) (bytes : Bytes) (c d : ClassDef) → IsAccepted job bytes c → IsAccepted job bytes d → c ≡ d
-one_class job bytes c d accepted other = one_record bytes c d accepted.1.spells other.1.spells
+module _ {words : List Bytes} {old new : Disk} {before after : Output} (o : Outcome) (comes : ComesOf words old new before after o) where
+  -- the job that was asked for comes out so, or memory was lacking before
+  of_job : (job : Job) → Asks words job → ComesTo job old new before after o ⊎ (outcome_status o ≡ OUT_OF_MEMORY)
+  of_job job asked = go comes where
+    go : ComesOf words old new before after o → ComesTo job old new before after o ⊎ (outcome_status o ≡ OUT_OF_MEMORY)
+    go (inl j) = let P : Job → Type 0 = λ k. ComesTo k old new before after o in inl (subst P (asks_one words j.job job j.asked asked) j.comes)
+    go (inr (inl nothing)) = absurd (nothing.unasked job asked)
+    go (inr (inr lacking)) = inr (ap outcome_status lacking.refused)
 
--- the words ask for nothing, which has the status of words
-words_status : (o : Outcome) → o ≡ outcome.Refused refusal.Words → outcome_status o ≡ WORDS
-words_status o same = ap outcome_status same
+  -- a verdict of its files decides the kind of outcome, unless there was a fault or memory was lacking
+  decided : (status : ℕ) (job : Job) (held : Bytes → Option Bytes) → old.contents ≡ Some held → Asks words job → length (job_arguments job) ≤ MAX_ARGUMENTS → JobVerdict held job status
+      → Contains (status ∷ instead_for_file) (kind_of o) ⊎ (outcome_status o ≡ OUT_OF_MEMORY)
+  decided status job held known asked few verdict = ⊎_elim
+      (λ (job_comes : ComesTo job old new before after o). inl (status_of job old held known new before after few status o verdict job_comes))
+      (λ (lacking : outcome_status o ≡ OUT_OF_MEMORY). inr lacking)
+      (of_job job asked)
 
--- ---- the form of the file
+  -- and its status, where that isn't for what is done
+  settled : (status : ℕ) → status ≢ DONE → Contains (status ∷ instead_for_file) (kind_of o) ⊎ (outcome_status o ≡ OUT_OF_MEMORY) → Contains (status ∷ instead_for_file) (outcome_status o)
+  settled status other (inl among) = own_among o status other among
+  settled status other (inr lacking) = (3, omega arith, sym lacking)
 
-not_yet_only : (words : List Bytes) (old new : Disk) (before after : Output) (o : Outcome) → ComesOf words old new before after o → outcome_status o ≡ NOT_YET → IsOfJob words old.contents IsNotYet
-not_yet_only words old new before after o (inl nothing) same = let e : outcome_status o ≡ 64 = words_status o nothing.refused in absurd (omega arith)
-not_yet_only words old new before after o (inr j) same = of_job o j.comes same where
-  of_job : (o : Outcome) → ComesTo j.job old new before after o → outcome_status o ≡ NOT_YET → IsOfJob words old.contents IsNotYet
-  of_job (outcome.Ran ended) comes same = let e : end_status ended.end ≡ 77 = same in absurd (end_is_apart ended.end (omega arith) (omega arith))
-  of_job (outcome.Refused (refusal.Read file)) comes same = let e : 65 ≡ 77 = same in absurd (omega arith)
-  of_job (outcome.Refused (refusal.NotYet file)) (inl comes) same =
-      (j.job, (j.asked, HoldsSuch-weaker old.contents j.job.file (AreRefused j.job) (IsNotYet j.job) (λ bytes refused. inl refused) comes.1.refused))
-  of_job (outcome.Refused (refusal.NotYet file)) (inr comes) same =
-      (j.job, (j.asked, HoldsSuch-weaker old.contents j.job.file (λ bytes. IsAccepted j.job bytes comes.class) (IsNotYet j.job) (λ bytes accepted. inr (comes.class, (accepted, comes.comes.1.stuck))) comes.accepted))
-  of_job (outcome.Refused refusal.OutOfMemory) comes same = let e : 76 ≡ 77 = same in absurd (omega arith)
-  of_job (outcome.Refused refusal.Words) comes same = absurd comes
+  missing_decides : AskToRead words (λ job. IsMissing old (given_of job) ⊎ LacksInput old job) → Contains instead_for_file (outcome_status o)
+  missing_decides (job, (asked, (few, cause))) = once (go cause) where
+    once : Contains (READ ∷ instead_for_file) (outcome_status o) → Contains instead_for_file (outcome_status o)
+    once among = ⊎_elim (λ (same : outcome_status o ≡ READ). (0, omega arith, sym same)) (λ (one : Contains instead_for_file (outcome_status o)). one) (Contains-cons_cases READ instead_for_file (outcome_status o) among)
 
--- a class that ends isn't refused, and neither gets stuck
-not_yet_apart : (job : Job) (bytes : Bytes) (c : ClassDef) (ended : Ended) → IsAccepted job bytes c → ended_of (run_of c job.steps) ≡ Some ended → IsNotYet job bytes → ⊥
-not_yet_apart job bytes c ended accepted ends (inl refused) = refused c accepted
-not_yet_apart job bytes c ended accepted ends (inr (d, (other, stuck))) =
-    let same = one_class job bytes c d accepted other in
-    let both : Some ended ≡ None = sym ends ∙ ap (λ k. ended_of (run_of k job.steps)) same ∙ stuck in cc
+    go : IsMissing old (given_of job) ⊎ LacksInput old job → Contains (READ ∷ instead_for_file) (outcome_status o)
+    go (inl lacks) =
+        let found = Some-from_some_and old.contents (λ held. held lacks.file ≡ None) lacks.missing in
+        settled READ (λ e. omega arith) (decided READ job found.0 found.1 asked few (inr (inl (missing_stops job.files old.contents found.0 found.1 lacks.file lacks.before lacks.reaches found.2))))
+    go (inr lacks) =
+        let found = Some-from_some_and old.contents (λ held. held lacks.file ≡ None) lacks.missing in
+        settled READ (λ e. omega arith) (decided READ job found.0 found.1 asked few (passes job old found.0 found.1 lacks.classes READ lacks.taken
+        (input_missing (Links Runs (modified job.main)) found.0 job.input lacks.classes lacks.file lacks.named found.2)))
 
-not_yet_there : (job : Job) (old new : Disk) (out out' : Output) (o : Outcome) → ComesTo job old new out out' o → IsKnownSuch old.contents job.file (IsNotYet job)
-    → Contains (NOT_YET ∷ instead_for_file) (outcome_status o)
-not_yet_there job old new out out' (outcome.Ran ended) comes known =
-    let met = such_and_known old.contents job.file (λ bytes. IsAccepted job bytes comes.class) (IsNotYet job) comes.accepted known in
-    absurd (not_yet_apart job met.0 comes.class ended met.1.0 comes.comes.ended_is met.1.1)
-not_yet_there job old new out out' (outcome.Refused (refusal.Read file)) comes known = (1, omega arith, refl)
-not_yet_there job old new out out' (outcome.Refused (refusal.NotYet file)) comes known = (0, omega arith, refl)
-not_yet_there job old new out out' (outcome.Refused refusal.OutOfMemory) comes known = (3, omega arith, refl)
-not_yet_there job old new out out' (outcome.Refused refusal.Words) comes known = absurd comes
+  long_decides : AskToRead words (λ job. IsKnownLong old (given_of job) ⊎ HasLongInput old job) → Contains (LIMIT ∷ instead_for_file) (outcome_status o)
+  long_decides (job, (asked, (few, cause))) = go cause where
+    go : IsKnownLong old (given_of job) ⊎ HasLongInput old job → Contains (LIMIT ∷ instead_for_file) (outcome_status o)
+    go (inl is) =
+        let found = Some-from_some_and old.contents (λ held. IsSomeAnd (held is.file) (IsTooLong (total_bytes is.before))) is.long in
+        settled LIMIT (λ e. omega arith) (decided LIMIT job found.0 found.1 asked few (inr (inl (long_stops job.files old.contents found.0 found.1 is.file is.before is.reaches found.2))))
+    go (inr is) =
+        let found = Some-from_some_and old.contents (λ held. IsSomeAnd (held is.file) (λ bytes. MAX_FILE_BYTES < length bytes)) is.long in
+        settled LIMIT (λ e. omega arith) (decided LIMIT job found.0 found.1 asked few (passes job old found.0 found.1 is.classes LIMIT is.taken
+        (input_long (Links Runs (modified job.main)) found.0 job.input is.classes is.file is.named found.2)))
 
--- ---- the end of the run
+  bytes_decide : (status : ℕ) → status ≢ DONE → AskToRead words (λ job. IsKnownRefused status old (given_of job)) → Contains (status ∷ instead_for_file) (outcome_status o)
+  bytes_decide status other (job, (asked, (few, cause))) =
+      let found = Some-from_some_and old.contents (λ held. IsSomeAnd (held cause.file) (IsRefused cause.refusal (total_bytes cause.before))) cause.refused in
+      settled status other (decided status job found.0 found.1 asked few
+      (inr (inl (bytes_stop job.files old.contents found.0 found.1 status cause.file cause.before cause.refusal cause.status_is cause.reaches found.2))))
 
--- a run that ended with this status
-ends_only : (s : ℕ) → IsEndStatus s → (words : List Bytes) (old new : Disk) (before after : Output) (o : Outcome) → ComesOf words old new before after o → outcome_status o ≡ s → IsOfJob words old.contents (EndsWith s)
-ends_only s apart words old new before after o (inl nothing) same = let e : s ≡ 64 = sym same ∙ words_status o nothing.refused in absurd (apart (omega arith) (omega arith))
-ends_only s apart words old new before after o (inr j) same = of_job o j.comes same where
-  of_job : (o : Outcome) → ComesTo j.job old new before after o → outcome_status o ≡ s → IsOfJob words old.contents (EndsWith s)
-  of_job (outcome.Ran ended) comes same = (
-    j.job,
-    (
-      j.asked,
-      HoldsSuch-weaker old.contents j.job.file (λ bytes. IsAccepted j.job bytes comes.class) (EndsWith s j.job)
-          (λ bytes accepted. (comes.class, (accepted, (ended, (comes.comes.ended_is, same))))) comes.accepted,
-    ),
-  )
-  of_job (outcome.Refused r) comes same = absurd (not_refused r s apart (sym same))
+  unlinked_decides : AskToRead words (λ job. IsKnownUnlinked old (given_of job) × HasInput job old.contents) → Contains (LINK ∷ instead_for_file) (outcome_status o)
+  unlinked_decides (job, (asked, (few, (cause, input)))) =
+      let found = Some-from_is_some old.contents cause.known in
+      settled LINK (λ e. omega arith) (decided LINK job found.0 found.1 asked few (passes_input job old found.0 found.1 cause.classes LINK cause.taken input (inl (cause.refused, refl))))
 
-ended_there : (s : ℕ) (job : Job) (bytes : Bytes) (c : ClassDef) (ended : Ended) → IsAccepted job bytes c → ended_of (run_of c job.steps) ≡ Some ended → EndsWith s job bytes → end_status ended.end ≡ s
-ended_there s job bytes c ended accepted ends (d, (other, (also, (is, status)))) =
-    let same = one_class job bytes c d accepted other in
-    let both : Some ended ≡ Some also = sym ends ∙ ap (λ k. ended_of (run_of k job.steps)) same ∙ is in
-    let ended_same : ended ≡ also = cc in ap (λ (e : Ended). end_status e.end) ended_same ∙ status
+  untyped_decides : AskToRead words (λ job. IsKnownUntyped old (given_of job) × HasInput job old.contents) → Contains (CHECK ∷ instead_for_file) (outcome_status o)
+  untyped_decides (job, (asked, (few, (cause, input)))) =
+      let found = Some-from_is_some old.contents cause.known in
+      settled CHECK (λ e. omega arith) (decided CHECK job found.0 found.1 asked few
+      (passes_input job old found.0 found.1 cause.classes CHECK cause.linked.taken input (inr (cause.linked.linked, inl (cause.untyped, refl)))))
 
--- bytes whose run ends are no others
-ends_apart : (s : ℕ) (job : Job) (bytes : Bytes) → EndsWith s job bytes → IsNotYet job bytes → ⊥
-ends_apart s job bytes (d, (accepted, (also, (is, status)))) other = not_yet_apart job bytes d also accepted is other
+  many_decide : AskFor words (λ job. HasTooMany (given_of job) ⊎ HasManyArguments job) → Contains (LIMIT ∷ instead_for_words) (outcome_status o)
+  many_decide (job, (asked, many)) = ⊎_elim
+      (λ (job_comes : ComesTo job old new before after o). many_status job old new before after many o job_comes)
+      (λ (lacking : outcome_status o ≡ OUT_OF_MEMORY). (2, omega arith, sym lacking))
+      (of_job job asked)
 
-ends_there : (s : ℕ) (job : Job) (old new : Disk) (out out' : Output) (o : Outcome) → ComesTo job old new out out' o → IsKnownSuch old.contents job.file (EndsWith s job)
-    → Contains (s ∷ instead_for_file) (outcome_status o)
-ends_there s job old new out out' (outcome.Ran ended) comes known =
-    let met = such_and_known old.contents job.file (λ bytes. IsAccepted job bytes comes.class) (EndsWith s job) comes.accepted known in
-    (0, omega arith, sym (ended_there s job met.0 comes.class ended met.1.0 comes.comes.ended_is met.1.1))
-ends_there s job old new out out' (outcome.Refused (refusal.Read file)) comes known = (1, omega arith, refl)
-ends_there s job old new out out' (outcome.Refused (refusal.NotYet file)) (inl comes) known =
-    let met = such_and_known old.contents job.file (AreRefused job) (EndsWith s job) comes.1.refused known in absurd (ends_apart s job met.0 met.1.1 (inl met.1.0))
-ends_there s job old new out out' (outcome.Refused (refusal.NotYet file)) (inr comes) known =
-    let met = such_and_known old.contents job.file (λ bytes. IsAccepted job bytes comes.class) (EndsWith s job) comes.accepted known in
-    absurd (ends_apart s job met.0 met.1.1 (inr (comes.class, (met.1.0, comes.comes.1.stuck))))
-ends_there s job old new out out' (outcome.Refused refusal.OutOfMemory) comes known = (3, omega arith, refl)
-ends_there s job old new out out' (outcome.Refused refusal.Words) comes known = absurd comes
+  fault_decides : FailsARead old new → Contains instead_for_file (outcome_status o)
+  fault_decides (name, rose) = go (fails_so words old new before after o comes) where
+    go : FailsSo old new (outcome_status o) → Contains instead_for_file (outcome_status o)
+    go (inl none) = absurd (let same = none.reads name in omega arith)
+    go (inr read) = (0, omega arith, sym read)
+
+  -- a job that is ready is run, unless there was a fault or memory was lacking
+  ready_decides : AskFor words (IsKnownReady old) → (kind_of o ≡ DONE) ⊎ Contains instead_for_file (outcome_status o)
+  ready_decides (job, (asked, is)) =
+      let found = Some-from_is_some old.contents is.known in
+      go (decided DONE job found.0 found.1 asked is.ready.few (ready_passes job old found.0 found.1 is.classes is.input is.ready)) where
+        late : (x : Outcome) → Contains instead_for_file (kind_of x) → Contains instead_for_file (outcome_status x)
+        late (Ok told) among = absurd (unlike_elements DONE instead_for_file refl DONE among refl)
+        late (Err e) among = among
+
+        go : Contains (DONE ∷ instead_for_file) (kind_of o) ⊎ (outcome_status o ≡ OUT_OF_MEMORY) → (kind_of o ≡ DONE) ⊎ Contains instead_for_file (outcome_status o)
+        go (inl among) = ⊎_elim (λ (same : kind_of o ≡ DONE). inl same) (λ (one : Contains instead_for_file (kind_of o)). inr (late o one)) (Contains-cons_cases DONE instead_for_file (kind_of o) among)
+        go (inr lacking) = inr (2, omega arith, sym lacking)
+
+-- a failure isn't told as what is done
+not_done : {words : List Bytes} {old new : Disk} {before after : Output} (r : JobRefusal) → ComesOf words old new before after (Err (fail.Refused r)) → refusal_status r ≡ DONE → ⊥
+not_done r comes is = let bounds = among_refusals (refusal_status r) (refusal_among r comes) in let low = bounds.low in omega arith
 
 -- ---- the clauses
 
-module _ (words : List Bytes) (old new : Disk) (out out' report report' : Output) (result : ℕ) where
-  -- a status says this of the job's file, and comes where this is known of it, if what the words come to has it so
-  for_file : (s : ℕ) (P : Job → Bytes → Type 0) → s ≢ WRITE → s ≢ OUT_OF_MEMORY
-      → ((o : Outcome) → ComesOf words old new out out' o → outcome_status o ≡ s → IsOfJob words old.contents P)
-      → ((job : Job) (o : Outcome) → ComesTo job old new out out' o → IsKnownSuch old.contents job.file (P job) → Contains (s ∷ instead_for_file) (outcome_status o))
-      → IsTopCall words old new out out' report report' result → IsForFile s P words old.contents result
-  for_file s P write memory says known (inr unreported) = record {
-    only = λ is. absurd (write (sym is ∙ unreported.status));
-    there = λ cause. (2, omega arith, sym unreported.status);
+module _ {words : List Bytes} {old new : Disk} {before after : Output} (report report' : Output) (result : ℕ) (o : Outcome) (comes : ComesOf words old new before after o) (tells : IsTold o report report' result) where
+  -- the words asked for a job, where the status is neither that of words nor that of memory
+  of_job_alone : {Said : Type 0} (status : ℕ) → status ≢ WORDS → status ≢ WRITE → status ≢ OUT_OF_MEMORY → (ComesOfJob words old new before after o → outcome_status o ≡ status → IsLinePut o report report' → Said) → result ≡ status → Said
+  of_job_alone {Said} status unlike_words write memory said is = go comes (is_line_put report report' result o tells status write memory is) where
+    go : ComesOf words old new before after o → (outcome_status o ≡ status) × IsLinePut o report report' → Said
+    go (inl j) put = said j put.0 put.1
+    go (inr (inl nothing)) put = absurd (unlike_words (sym put.0 ∙ ap outcome_status nothing.refused))
+    go (inr (inr lacking)) put = absurd (memory (sym put.0 ∙ ap outcome_status lacking.refused))
+
+  -- a status of the job's files comes exactly with what it says
+  of_files : {Said Cause : Type 0} (status : ℕ) → status ≢ WORDS → status ≢ WRITE → status ≢ OUT_OF_MEMORY → (ComesOfJob words old new before after o → outcome_status o ≡ status → IsLinePut o report report' → Said)
+      → (Cause → Contains (status ∷ instead_for_file) (outcome_status o)) → ComesExactly status instead_for_file result Said Cause
+  of_files status unlike_words write memory said decides = record {
+    only = of_job_alone status unlike_words write memory said;
+    there = λ cause. told_of_file report report' result o tells status (decides cause);
   }
-  for_file s P write memory says known (inl reported) =
-      comes_of_file (outcome_line reported.outcome) (outcome_status reported.outcome) report report' result reported.tells s write memory
-      (λ is line. says reported.outcome reported.comes is) (λ cause. decides cause reported.comes) where
-        decides : IsKnownOfJob words old.contents P → ComesOf words old new out out' reported.outcome → Contains (s ∷ instead_for_file) (outcome_status reported.outcome)
-        decides (job, (asked, such)) (inl nothing) = absurd (nothing.unasked job asked)
-        decides (job, (asked, such)) (inr j) =
-            let Known : Job → Type 0 = λ k. IsKnownSuch old.contents k.file (P k) in
-            known j.job reported.outcome j.comes (subst Known (one_job words job j.job asked j.asked) such)
 
-  pub for_form : IsTopCall words old new out out' report report' result → IsForFile NOT_YET IsNotYet words old.contents result
-  for_form = for_file NOT_YET IsNotYet (λ e. omega arith) (λ e. omega arith) (not_yet_only words old new out out') (λ job o. not_yet_there job old new out out' o)
+  pub is_for_words : IsForWords words old new before after report report' result
+  is_for_words = record {
+    only = λ is. let put = is_line_put report report' result o tells WORDS (λ e. omega arith) (λ e. omega arith) is in words_said comes put.0 put.1;
+    there = λ unasked. told_of_words report report' result o tells WORDS (nothing_decides unasked comes);
+  } where
+    words_said : ComesOf words old new before after o → outcome_status o ≡ WORDS → IsLinePut o report report' → SaysWords words old new before after report report'
+    words_said (inl j) is line = absurd (not_for_words j.job old new before after o j.comes is)
+    words_said (inr (inl nothing)) is line = record {
+      unasked = nothing.unasked;
+      kept = nothing.kept;
+      refused = record { silent = nothing.silent; told = let P : Outcome → Type 0 = λ x. IsLinePut x report report' in subst P nothing.refused line };
+    }
+    words_said (inr (inr lacking)) is line = absurd (let other = sym is ∙ ap outcome_status lacking.refused in omega arith)
 
-  pub for_end : (s : ℕ) → IsEndStatus s → IsTopCall words old new out out' report report' result → IsForFile s (EndsWith s) words old.contents result
-  for_end s apart = for_file s (EndsWith s) (not_write s apart) (not_memory s apart) (ends_only s apart words old new out out') (λ job o. ends_there s job old new out out' o)
+    nothing_decides : AskNothing words → ComesOf words old new before after o → Contains (WORDS ∷ instead_for_words) (outcome_status o)
+    nothing_decides unasked (inl j) = absurd (unasked j.job j.asked)
+    nothing_decides unasked (inr (inl nothing)) = (0, omega arith, sym (ap outcome_status nothing.refused))
+    nothing_decides unasked (inr (inr lacking)) = (2, omega arith, sym (ap outcome_status lacking.refused))
 
--- ---- all statuses
+  pub is_for_read : IsForRead words old new before after report report' result
+  is_for_read = record {
+    only = of_job_alone READ (λ e. omega arith) (λ e. omega arith) (λ e. omega arith) (read_said words old new before after report report' o);
+    there = λ cause. is_among report report' result o tells instead_for_file (decides cause) (1, omega arith, refl) (2, omega arith, refl);
+  } where
+    decides : MissesFile words old new → Contains instead_for_file (outcome_status o)
+    decides (inl fault) = fault_decides o comes fault
+    decides (inr missing) = missing_decides o comes missing
 
-end_among : (e : End) → IsStatus (end_status e)
-end_among ends.Returned = (0, omega arith, refl)
-end_among ends.Running = (6, omega arith, refl)
-end_among (ends.TooDeep frames) = (7, omega arith, refl)
+  pub is_for_bytes : (status : ℕ) → 66 ≤ status → status ≤ 69 → status ≢ LIMIT → IsForBytes status words old new before after report report' result
+  is_for_bytes status low high other =
+      of_files status (λ e. omega arith) (λ e. omega arith) (λ e. omega arith) (bytes_said words old new before after report report' status low high other o) (bytes_decide o comes status (λ e. omega arith))
 
-outcome_among : (o : Outcome) → IsStatus (outcome_status o)
-outcome_among (outcome.Ran ended) = end_among ended.end
-outcome_among (outcome.Refused refusal.Words) = (1, omega arith, refl)
-outcome_among (outcome.Refused (refusal.Read file)) = (2, omega arith, refl)
-outcome_among (outcome.Refused refusal.OutOfMemory) = (4, omega arith, refl)
-outcome_among (outcome.Refused (refusal.NotYet file)) = (5, omega arith, refl)
+  pub is_for_limit : IsForLimit words old new before after report report' result
+  is_for_limit = record {
+    only = of_job_alone LIMIT (λ e. omega arith) (λ e. omega arith) (λ e. omega arith) (limit_said words old new before after report report' o);
+    many = λ cause. told_of_words report report' result o tells LIMIT (many_decide o comes cause);
+    long = λ cause. told_of_file report report' result o tells LIMIT (long_decides o comes cause);
+    bytes = λ cause. told_of_file report report' result o tells LIMIT (bytes_decide o comes LIMIT (λ e. omega arith) cause);
+  }
 
-pub is_status : (words : List Bytes) (old new : Disk) (out out' report report' : Output) (result : ℕ) → IsTopCall words old new out out' report report' result → IsStatus result
-is_status words old new out out' report report' result (inr unreported) = (3, omega arith, sym unreported.status)
-is_status words old new out out' report report' result (inl reported) =
-    told_among (outcome_line reported.outcome) (outcome_status reported.outcome) report report' result reported.tells
-    (DONE ∷ WORDS ∷ READ ∷ WRITE ∷ OUT_OF_MEMORY ∷ NOT_YET ∷ RUNNING ∷ TOO_DEEP ∷ []) (outcome_among reported.outcome) (3, omega arith, refl) (4, omega arith, refl)
+  pub is_for_link : IsForLink words old new before after report report' result
+  is_for_link = of_files LINK (λ e. omega arith) (λ e. omega arith) (λ e. omega arith) (link_said words old new before after report report' o) (unlinked_decides o comes)
+
+  pub is_for_check : IsForCheck words old new before after report report' result
+  is_for_check = of_files CHECK (λ e. omega arith) (λ e. omega arith) (λ e. omega arith) (check_said words old new before after report report' o) (untyped_decides o comes)
+
+-- ---- the run
+
+module _ {words : List Bytes} {old new : Disk} {before after : Output} (report report' : Output) (result : ℕ) where
+  -- the line of the run is put
+  run_put : (o : Outcome) (comes : ComesOf words old new before after o) → ¬ Contains refusals (outcome_status o) → IsLinePut o report report' → result ≡ outcome_status o → SaysRun words old new before after report report' result
+  run_put (Ok told) comes none line is =
+      let j = job_of_told told comes in
+      let P : ℕ → Type 0 = λ s. HasRun j.job (string_bytes told.line) s old new before after in
+      record { job = j.job; asked = j.asked; line = string_bytes told.line; ran = subst P (sym is) j.comes; told = line }
+  run_put (Err (fail.Refused r)) comes none line is = absurd (none (refusal_among r comes))
+  run_put (Err fail.Output) comes none line is = absurd (none (8, omega arith, refl))
+
+  run_only : (o : Outcome) → ComesOf words old new before after o → IsTold o report report' result → ¬ Contains refusals result → SaysRun words old new before after report report' result
+  run_only o comes tells none =
+      let put = is_line_put report report' result o tells result (λ e. none (8, omega arith, sym e)) (λ e. none (9, omega arith, sym e)) refl in
+      let P : ℕ → Type 0 = λ s. ¬ Contains refusals s in
+      run_put o comes (subst P (sym put.0) none) put.1 (sym put.0)
+
+  -- a run that is told, or isn't
+  run_told : (o : Outcome) → ComesOf words old new before after o → IsTold o report report' result → kind_of o ≡ DONE → SaysRun words old new before after report report' result ⊎ Contains instead_for_file result
+  run_told (Ok told) comes (inl put) is =
+      let j = job_of_told told comes in
+      let P : ℕ → Type 0 = λ s. HasRun j.job (string_bytes told.line) s old new before after in
+      inl (record { job = j.job; asked = j.asked; line = string_bytes told.line; ran = subst P (sym put.0) j.comes; told = put.1 })
+  run_told (Ok told) comes (inr (inl failed)) is = inr (1, omega arith, sym failed.0)
+  run_told (Ok told) comes (inr (inr lacking)) is = inr (2, omega arith, sym lacking.0)
+  run_told (Err (fail.Refused r)) comes tells is = absurd (not_done r comes is)
+  run_told (Err fail.Output) comes tells is = absurd (omega arith)
+
+  -- it has the status of the definitions' run
+  end_told : (o : Outcome) → ComesOf words old new before after o → (status : ℕ) (job : Job) → Asks words job → IsKnownRun status old job → kind_of o ≡ DONE → outcome_status o ≡ status
+  end_told (Ok told) comes status job asked known is =
+      let j = job_of_told told comes in
+      let found = Some-from_is_some old.contents known.known in
+      let P : Job → Type 0 = λ k. HasRun k (string_bytes told.line) told.status old new before after in
+      one_end job old new before after found.0 found.1 (string_bytes told.line) told.status status (subst P (asks_one words j.job job j.asked asked) j.comes)
+      known.classes known.input known.ready known.last known.printed known.run known.status_is
+  end_told (Err (fail.Refused r)) comes status job asked known is = absurd (not_done r comes is)
+  end_told (Err fail.Output) comes status job asked known is = absurd (omega arith)
+
+  pub is_for_run : (o : Outcome) → ComesOf words old new before after o → IsTold o report report' result → IsForRun words old new before after report report' result
+  is_for_run o comes tells = record { only = run_only o comes tells; ready = λ asks. is_ready (ready_decides o comes asks); ends = is_end } where
+    late : Contains instead_for_file (outcome_status o) → Contains instead_for_file result
+    late own = is_among report report' result o tells instead_for_file own (1, omega arith, refl) (2, omega arith, refl)
+
+    is_ready : (kind_of o ≡ DONE) ⊎ Contains instead_for_file (outcome_status o) → SaysRun words old new before after report report' result ⊎ Contains instead_for_file result
+    is_ready (inl is) = run_told o comes tells is
+    is_ready (inr own) = inr (late own)
+
+    is_end : (status : ℕ) → AskFor words (IsKnownRun status old) → Contains (status ∷ instead_for_file) result
+    is_end status (job, (asked, known)) =
+        let own : Contains (status ∷ instead_for_file) (outcome_status o) = ⊎_elim
+        (λ (is : kind_of o ≡ DONE). (0, omega arith, sym (end_told o comes status job asked known is)))
+        (λ (later : Contains instead_for_file (outcome_status o)). Contains-append_right (status ∷ []) instead_for_file (outcome_status o) later)
+        (ready_decides o comes (job, (asked, record { known = known.known; classes = known.classes; input = known.input; ready = known.ready }))) in
+        told_of_file report report' result o tells status own

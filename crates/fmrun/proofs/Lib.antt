@@ -1,6 +1,8 @@
-pub mod FramesLemmas
-pub mod PrintingLemmas
-pub mod RunLemmas
-pub mod RequestLemmas
-pub mod TopCallLemmas
 pub mod CauseLemmas
+pub mod ChangeLemmas
+pub mod EndStatuses
+pub mod JobLemmas
+pub mod RequestLimits
+pub mod RunningLemmas
+pub mod ToldLemmas
+pub mod Verdicts

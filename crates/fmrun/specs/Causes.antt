@@ -1,131 +1,290 @@
--- When each status comes, and what each leaves. All of this follows from what a call does; a caller reads it one by one.
-use Rattle.std.specs.Prelude.{◌≡◌, ◌≢◌, ℕ, ◌<◌, ◌⊎◌, List, [], ◌∷◌, Contains, Some, None}
-use Rattle.fm_files.specs.Files.{Bytes, Contents, Disk, AreKept}
-use Rattle.fm_files.specs.Sink.{Output, FailsPut, with_piece}
-use Rattle.fm_tool.specs.Outside.{HoldsSuch, IsKnownSuch, IsKnownMissing, ReadsAlone}
-use Rattle.fm_tool.specs.Refusal.{memory_line}
-use Rattle.fm_tool.specs.Status.{ComesExactly}
-use Rattle.fm_tool.specs.declared.status.TheConstants.{DONE, WORDS, READ, WRITE, OUT_OF_MEMORY, NOT_YET, RUNNING, TOO_DEEP}
+-- When each status comes, and what a call leaves then. All this follows from what a call does as a whole; a caller reads it one by one.
+use Rattle.std.specs.Prelude.{◌≡◌, ℕ, ◌<◌, ◌≤◌, ◌⊎◌, List, [], ◌∷◌, Contains, length, IsSome, Some}
+use Rattle.fm_base.specs.declared.limits.TheConstants.{MAX_ARGUMENTS, MAX_CLASS_FILES, MAX_FILE_BYTES}
 use Rattle.fm_code.specs.declared.class_file.ClassDef.{ClassDef}
-use Rattle.fmrun.specs.Request.{Job, Asks, AskNothing, IsAccepted}
-use Rattle.fmrun.specs.Run.{ended_of}
-use Rattle.fmrun.specs.Ends.{report_line, end_status}
-use Rattle.fmrun.specs.Outcome.{outcome_line, outcome_status}
-use Rattle.fmrun.specs.TopCall.{run_of, AreRefused, AcceptsAs, RunsTo, ComesOf, OutputFailsOf}
-use Rattle.fmrun.specs.declared.ends.Ended.{Ended}
-use Rattle.fmrun.specs.declared.outcome.Outcome.{Outcome}
+use Rattle.fm_files.specs.Files.{Bytes, Disk}
+use Rattle.fm_files.specs.Sink.{Output, FailsPut, with_piece}
+use Rattle.fm_frames.specs.Reports.{report_of}
+use Rattle.fm_frames.specs.Runs.{IsRun}
+use Rattle.fm_frames.specs.States.{State}
+use Rattle.fm_frames.specs.declared.ends.Ended.{Ended}
+use Rattle.fm_frames.specs.inner.Doings.{silent}
+use Rattle.fm_given.specs.Causes.{FailsARead, HasTooMany, IsMissing, IsKnownLong, IsKnownRefused, IsKnownUnlinked, IsKnownUntyped}
+use Rattle.fm_given.specs.ClassRefusal.{class_refusal_line, class_refusal_status}
+use Rattle.fm_given.specs.Given.{AreMany, IsLong, IsNotLinked, IsNotTyped, IsRefusedFile, IsUnread, IsUntouched}
+use Rattle.fm_given.specs.LinkRefusal.{link_line}
+use Rattle.fm_given.specs.Refusal.{check_line, long_line, many_arguments_line, many_line}
+use Rattle.fm_given.specs.Taking.{AllTaken}
+use Rattle.fm_given.specs.declared.class_refusal.ClassRefusal.{ClassRefusal}
+use Rattle.fm_report.specs.Reports.{end_status}
+use Rattle.fm_request.specs.Request.{Job, Asks, AskNothing}
+use Rattle.fm_runner.specs.Runs.{choice}
+use Rattle.fm_tool.specs.Outside.{HasNoFault, IsKnownMissing, IsKnownSuch}
+use Rattle.fm_tool.specs.Refusal.{memory_line, read_line, words_line}
+use Rattle.fm_tool.specs.Status.{ComesExactly}
+use Rattle.fm_tool.specs.declared.status.TheConstants.{WORDS, READ, MALFORMED, VERSION, LIMIT, UNSUPPORTED, LINK, CHECK, WRITE, OUT_OF_MEMORY}
+use Rattle.fm_world.specs.Causes.{Refusal}
+use Rattle.fmrun.specs.Jobs.{given_of, job_arguments, job_program, opened_job, IsReady}
+use Rattle.fmrun.specs.TopCall.{AreManyArguments, ComesOf, HasBroken, HasFailed, HasInput, HasRun, IsInputLong, IsInputUnread, Outcome, StaysWithin, outcome_line}
 
--- returned, the words, the read, a put, memory, the form or a step, running, too deep
+-- ---- all statuses
+
+-- the statuses of refusals that come before the run
+abbrev pub before_run : List ℕ
+before_run = WORDS ∷ READ ∷ MALFORMED ∷ VERSION ∷ LIMIT ∷ UNSUPPORTED ∷ LINK ∷ CHECK ∷ []
+
+-- and of all refusals
+abbrev pub refusals : List ℕ
+refusals = WORDS ∷ READ ∷ MALFORMED ∷ VERSION ∷ LIMIT ∷ UNSUPPORTED ∷ LINK ∷ CHECK ∷ WRITE ∷ OUT_OF_MEMORY ∷ []
+
+-- there is no status but these and those of ends
 abbrev pub IsStatus : ℕ → Type 0
-IsStatus result = Contains (DONE ∷ WORDS ∷ READ ∷ WRITE ∷ OUT_OF_MEMORY ∷ NOT_YET ∷ RUNNING ∷ TOO_DEEP ∷ []) result
+IsStatus result = Contains refusals result ⊎ ((e : Ended) × (result ≡ end_status e))
 
--- ---- words
+-- ---- what words ask for
 
--- 64 comes exactly where the words ask for nothing, but for 75 and 76
-abbrev pub IsForWords : List Bytes → ℕ → Type 0
-IsForWords words result = ComesExactly WORDS (WRITE ∷ OUT_OF_MEMORY ∷ []) result (AskNothing words) (AskNothing words)
+-- the words ask for a job such as this
+abbrev pub AskFor : List Bytes → (Job → Type 0) → Type 0
+AskFor words P = (job : Job) × (Asks words job × P job)
 
--- ---- the read
+-- for one that has no more arguments than may be, so that its files are read
+abbrev pub AskToRead : List Bytes → (Job → Type 0) → Type 0
+AskToRead words P = AskFor words (λ job. (length (job_arguments job) ≤ MAX_ARGUMENTS) × P job)
 
--- a read of the file that the words ask for failed
-abbrev pub IsReadOfJob : List Bytes → Disk → Disk → Type 0
-IsReadOfJob words old new = (job : Job) × (Asks words job × (old.read_faults job.file < new.read_faults job.file))
+-- nothing was printed, and the line of a refusal is the one piece that the report got
+pub record IsRefusedBy (line : List ℕ) (before after report report' : Output) : Type 0 where
+  pub silent : after ≡ before
+  pub told : report' ≡ with_piece line report
 
--- a read of some file failed
-abbrev pub IsReadOfSome : Disk → Disk → Type 0
-IsReadOfSome old new = (name : Bytes) × (old.read_faults name < new.read_faults name)
+-- ---- 64
 
--- contents are known, and the file that the words ask for isn't there
-abbrev pub LacksFile : List Bytes → Contents → Type 0
-LacksFile words contents = (job : Job) × (Asks words job × IsKnownMissing contents job.file)
+-- the words ask for nothing, and the files are as they were
+pub record SaysWords (words : List Bytes) (old new : Disk) (before after report report' : Output) : Type 0 where
+  pub unasked : AskNothing words
+  pub kept : new ≡ old
+  pub refused : IsRefusedBy words_line before after report report'
 
--- 65 comes exactly where a read of the file failed in this call, as it does where the file isn't there, and no read of another file
--- fails; but for 75 and 76
-abbrev pub IsForRead : List Bytes → Disk → Disk → ℕ → Type 0
-IsForRead words old new result =
-    ComesExactly READ (WRITE ∷ OUT_OF_MEMORY ∷ []) result (IsReadOfJob words old new) (IsReadOfSome old new ⊎ LacksFile words old.contents)
+-- exactly where the words ask for nothing, unless the put fails or memory can't be had
+abbrev pub IsForWords : List Bytes → Disk → Disk → Output → Output → Output → Output → ℕ → Type 0
+IsForWords words old new before after report report' result =
+    ComesExactly WORDS (WRITE ∷ OUT_OF_MEMORY ∷ []) result (SaysWords words old new before after report report') (AskNothing words)
 
--- ---- what the file holds
+-- ---- 65
 
--- the words ask for a job, and where contents are known, its file is there and this holds of its bytes; the same where contents are known
-abbrev pub IsOfJob : List Bytes → Contents → (Job → Bytes → Type 0) → Type 0
-IsOfJob words contents P = (job : Job) × (Asks words job × HoldsSuch contents job.file (P job))
-
-abbrev pub IsKnownOfJob : List Bytes → Contents → (Job → Bytes → Type 0) → Type 0
-IsKnownOfJob words contents P = (job : Job) × (Asks words job × IsKnownSuch contents job.file (P job))
-
--- the status comes exactly where this holds of the file's bytes, but for 65, 75 and 76
-abbrev pub IsForFile : ℕ → (Job → Bytes → Type 0) → List Bytes → Contents → ℕ → Type 0
-IsForFile status P words contents result =
-    ComesExactly status (READ ∷ WRITE ∷ OUT_OF_MEMORY ∷ []) result (IsOfJob words contents P) (IsKnownOfJob words contents P)
-
--- the bytes are no class that is taken, or one whose run comes to a step that can't be done
-abbrev pub IsNotYet : Job → Bytes → Type 0
-IsNotYet job bytes = AreRefused job bytes ⊎ ((c : ClassDef) × (IsAccepted job bytes c × (ended_of (run_of c job.steps) ≡ None)))
-
--- the bytes are a class whose run comes to an end with this status
-abbrev pub EndsWith : ℕ → Job → Bytes → Type 0
-EndsWith status job bytes =
-    (c : ClassDef) × (IsAccepted job bytes c × ((ended : Ended) × ((ended_of (run_of c job.steps) ≡ Some ended) × (end_status ended.end ≡ status))))
-
--- ---- a run that ended
-
--- the words ask for a job, whose file is accepted as a class; the status, what the output got and what the report got are those of its run
-pub record IsForRun (words : List Bytes) (contents : Contents) (out out' report report' : Output) (result : ℕ) : Type 0 where
+-- the read of a class file failed, and those before it are taken; or that of the file of the input, and all class files are taken
+pub record SaysRead (words : List Bytes) (old new : Disk) (before after report report' : Output) : Type 0 where
   pub job : Job
   pub asked : Asks words job
-  pub class : ClassDef
-  pub accepted : AcceptsAs job contents class
-  pub ended : Ended
-  pub run : RunsTo class job.steps out out' ended
-  pub status : result ≡ end_status ended.end
-  pub line : report' ≡ with_piece (report_line ended) report
+  pub file : Bytes
+  pub unread : IsUnread job.files file old new ⊎ IsInputUnread job file old new
+  pub refused : IsRefusedBy (read_line file) before after report report'
 
--- ---- what is reported
+-- all class files are taken, and the file of the input is known not to be there
+pub record LacksInput (old : Disk) (job : Job) : Type 0 where
+  pub file : Bytes
+  pub named : job.input ≡ Some file
+  pub classes : List ClassDef
+  pub taken : AllTaken old.contents job.files classes
+  pub missing : IsKnownMissing old.contents file
 
--- at every status but 75 and 76 the report got one piece, the line of the status, and the files and the output are as this tells
-pub record SaysLine (words : List Bytes) (old new : Disk) (out out' report report' : Output) (result : ℕ) : Type 0 where
+-- a read failed, or a file is known not to be there where the call comes to it
+abbrev pub MissesFile : List Bytes → Disk → Disk → Type 0
+MissesFile words old new = FailsARead old new ⊎ AskToRead words (λ job. IsMissing old (given_of job) ⊎ LacksInput old job)
+
+-- exactly there, unless the put fails or memory can't be had
+abbrev pub IsForRead : List Bytes → Disk → Disk → Output → Output → Output → Output → ℕ → Type 0
+IsForRead words old new before after report report' result =
+    ComesExactly READ (WRITE ∷ OUT_OF_MEMORY ∷ []) result (SaysRead words old new before after report report') (MissesFile words old new)
+
+-- ---- 66, 67 and 69
+
+-- a class file is refused by its bytes with this status, where contents are known, and those before it are taken
+pub record SaysRefused (status : ℕ) (words : List Bytes) (old new : Disk) (before after report report' : Output) : Type 0 where
+  pub job : Job
+  pub asked : Asks words job
+  pub file : Bytes
+  pub refusal : ClassRefusal
+  pub status_is : class_refusal_status refusal ≡ status
+  pub unaccepted : IsRefusedFile job.files file refusal old new
+  pub refused : IsRefusedBy (class_refusal_line file refusal) before after report report'
+
+-- exactly where one is known to be so, unless a read or the put fails or memory can't be had
+abbrev pub IsForBytes : ℕ → List Bytes → Disk → Disk → Output → Output → Output → Output → ℕ → Type 0
+IsForBytes status words old new before after report report' result =
+    ComesExactly status (READ ∷ WRITE ∷ OUT_OF_MEMORY ∷ []) result (SaysRefused status words old new before after report report')
+    (AskToRead words (λ job. IsKnownRefused status old (given_of job)))
+
+-- ---- 68
+
+-- there are too many class files,
+pub record SaysMany (words : List Bytes) (old new : Disk) (before after report report' : Output) : Type 0 where
+  pub job : Job
+  pub asked : Asks words job
+  pub many : AreMany job.files (length job.files) old new
+  pub refused : IsRefusedBy (many_line (length job.files)) before after report report'
+
+-- or too many arguments,
+pub record SaysManyArguments (words : List Bytes) (old new : Disk) (before after report report' : Output) : Type 0 where
+  pub job : Job
+  pub asked : Asks words job
+  pub many : AreManyArguments job (length (job_arguments job)) old new
+  pub refused : IsRefusedBy (many_arguments_line (length (job_arguments job))) before after report report'
+
+-- or a file is too long, or the class files up to it are, where contents are known; so much was seen of them
+pub record SaysLong (words : List Bytes) (old new : Disk) (before after report report' : Output) : Type 0 where
+  pub job : Job
+  pub asked : Asks words job
+  pub file : Bytes
+  pub long : IsLong job.files file old new ⊎ IsInputLong job file old new
+  pub refused : IsRefusedBy (long_line file) before after report report'
+
+-- or a count of a method is above its limit
+abbrev pub SaysLimit : List Bytes → Disk → Disk → Output → Output → Output → Output → Type 0
+SaysLimit words old new before after report report' =
+    SaysMany words old new before after report report'
+    ⊎ (SaysManyArguments words old new before after report report'
+    ⊎ (SaysLong words old new before after report report' ⊎ SaysRefused LIMIT words old new before after report report'))
+
+-- there are too many arguments, though not too many class files
+abbrev pub HasManyArguments : Job → Type 0
+HasManyArguments job = (length job.files ≤ MAX_CLASS_FILES) × (MAX_ARGUMENTS < length (job_arguments job))
+
+-- all class files are taken, and the file of the input is known to be too long
+pub record HasLongInput (old : Disk) (job : Job) : Type 0 where
+  pub file : Bytes
+  pub named : job.input ≡ Some file
+  pub classes : List ClassDef
+  pub taken : AllTaken old.contents job.files classes
+  pub long : IsKnownSuch old.contents file (λ bytes. MAX_FILE_BYTES < length bytes)
+
+-- exactly there, unless a read or the put fails or memory can't be had; of too many files or arguments no file is read
+pub record IsForLimit (words : List Bytes) (old new : Disk) (before after report report' : Output) (result : ℕ) : Type 0 where
+  pub only : result ≡ LIMIT → SaysLimit words old new before after report report'
+  pub many : AskFor words (λ job. HasTooMany (given_of job) ⊎ HasManyArguments job) → Contains (LIMIT ∷ WRITE ∷ OUT_OF_MEMORY ∷ []) result
+  pub long : AskToRead words (λ job. IsKnownLong old (given_of job) ⊎ HasLongInput old job) → Contains (LIMIT ∷ READ ∷ WRITE ∷ OUT_OF_MEMORY ∷ []) result
+  pub bytes : AskToRead words (λ job. IsKnownRefused LIMIT old (given_of job)) → Contains (LIMIT ∷ READ ∷ WRITE ∷ OUT_OF_MEMORY ∷ []) result
+
+-- ---- 70
+
+-- all files are taken, and the classes make no program; the line tells the first cause
+pub record SaysLink (words : List Bytes) (old new : Disk) (before after report report' : Output) : Type 0 where
+  pub job : Job
+  pub asked : Asks words job
+  pub cause : Refusal
+  pub input : HasInput job old.contents
+  pub unlinked : IsNotLinked (given_of job) (Some cause) old new
+  pub refused : IsRefusedBy (link_line cause) before after report report'
+
+-- exactly where this is known, unless a read or the put fails or memory can't be had
+abbrev pub IsForLink : List Bytes → Disk → Disk → Output → Output → Output → Output → ℕ → Type 0
+IsForLink words old new before after report report' result =
+    ComesExactly LINK (READ ∷ WRITE ∷ OUT_OF_MEMORY ∷ []) result (SaysLink words old new before after report report')
+    (AskToRead words (λ job. IsKnownUnlinked old (given_of job) × HasInput job old.contents))
+
+-- ---- 71
+
+-- they make one, and a method of it isn't typed; the line tells the first
+pub record SaysCheck (words : List Bytes) (old new : Disk) (before after report report' : Output) : Type 0 where
+  pub job : Job
+  pub asked : Asks words job
+  pub name : Bytes
+  pub input : HasInput job old.contents
+  pub untyped : IsNotTyped (given_of job) name old new
+  pub refused : IsRefusedBy (check_line name) before after report report'
+
+-- exactly where this is known, unless a read or the put fails or memory can't be had
+abbrev pub IsForCheck : List Bytes → Disk → Disk → Output → Output → Output → Output → ℕ → Type 0
+IsForCheck words old new before after report report' result =
+    ComesExactly CHECK (READ ∷ WRITE ∷ OUT_OF_MEMORY ∷ []) result (SaysCheck words old new before after report report')
+    (AskToRead words (λ job. IsKnownUntyped old (given_of job) × HasInput job old.contents))
+
+-- ---- the ends of runs
+
+-- the run came to its end: the status, what the output got and the one line of the report are those of it
+pub record SaysRun (words : List Bytes) (old new : Disk) (before after report report' : Output) (result : ℕ) : Type 0 where
+  pub job : Job
+  pub asked : Asks words job
+  pub line : List ℕ
+  pub ran : HasRun job line result old new before after
+  pub told : report' ≡ with_piece line report
+
+-- contents are known, all class files are taken, their classes make a program of typed methods, and the input is read
+pub record IsKnownReady (old : Disk) (job : Job) : Type 0 where
+  pub known : IsSome old.contents
+  pub classes : List ClassDef
+  pub input : Bytes
+  pub ready : IsReady job old.contents classes input
+
+-- and the run comes to an end of this status
+pub record IsKnownRun (status : ℕ) (old : Disk) (job : Job) : Type 0 where
+  pub known : IsSome old.contents
+  pub classes : List ClassDef
+  pub input : Bytes
+  pub ready : IsReady job old.contents classes input
+  pub last : State
+  pub printed : List ℕ
+  pub run : IsRun (job_program job classes) choice job.steps (silent (opened_job job classes input)) (record { state = last; printed = printed })
+  pub status_is : status ≡ end_status (report_of last).end
+
+-- each status that isn't of a refusal comes of the run alone; where a job is ready, none comes but that of its run, unless a read or a put fails or
+-- memory can't be had
+pub record IsForRun (words : List Bytes) (old new : Disk) (before after report report' : Output) (result : ℕ) : Type 0 where
+  pub only : ¬ Contains refusals result → SaysRun words old new before after report report' result
+  pub ready : AskFor words (IsKnownReady old) → SaysRun words old new before after report report' result ⊎ Contains (READ ∷ WRITE ∷ OUT_OF_MEMORY ∷ []) result
+  pub ends : (status : ℕ) → AskFor words (IsKnownRun status old) → Contains (status ∷ READ ∷ WRITE ∷ OUT_OF_MEMORY ∷ []) result
+
+-- ---- 75
+
+-- the put of what the run prints failed, and the report got nothing
+pub record SaysUnprinted (words : List Bytes) (old new : Disk) (before after report report' : Output) : Type 0 where
+  pub job : Job
+  pub asked : Asks words job
+  pub failed : HasFailed job old new before after
+  pub silent : report' ≡ report
+
+-- or what the words ask for came out in some way, and the put of the line that tells it failed
+pub record SaysUntold (words : List Bytes) (old new : Disk) (before after report report' : Output) : Type 0 where
   pub outcome : Outcome
-  pub comes : ComesOf words old new out out' outcome
-  pub status : result ≡ outcome_status outcome
-  pub line : report' ≡ with_piece (outcome_line outcome) report
+  pub comes : ComesOf words old new before after outcome
+  pub line : List ℕ
+  pub line_is : outcome_line outcome ≡ Some line
+  pub fails : FailsPut line report report'
 
-abbrev pub IsLineFor : List Bytes → Disk → Disk → Output → Output → Output → Output → ℕ → Type 0
-IsLineFor words old new out out' report report' result = result ≢ WRITE → result ≢ OUT_OF_MEMORY → SaysLine words old new out out' report report' result
+-- only there, and exactly where a sink's faults rose
+pub record IsForWrite (words : List Bytes) (old new : Disk) (before after report report' : Output) (result : ℕ) : Type 0 where
+  pub only : result ≡ WRITE → SaysUnprinted words old new before after report report' ⊎ SaysUntold words old new before after report report'
+  pub there : (before.faults < after.faults) ⊎ (report.faults < report'.faults) → result ≡ WRITE
 
--- at 76 the report got the line of memory, or nothing
-abbrev pub IsForMemory : Output → Output → ℕ → Type 0
-IsForMemory report report' result = result ≡ OUT_OF_MEMORY → (report' ≡ with_piece memory_line report) ⊎ (report' ≡ report)
+-- ---- 76
 
--- ---- puts that fail
+-- the line of memory is put, before anything was printed or after some of what the run prints was
+pub record SaysMemory (words : List Bytes) (old new : Disk) (before after report report' : Output) : Type 0 where
+  pub stopped : (IsUntouched old new × (after ≡ before)) ⊎ AskFor words (λ job. HasBroken job old new before after)
+  pub told : report' ≡ with_piece memory_line report
 
--- a put to the output failed, or one to the report
-abbrev pub IsPutOfSome : Output → Output → Output → Output → Type 0
-IsPutOfSome out out' report report' = (out.faults < out'.faults) ⊎ (report.faults < report'.faults)
-
--- the put of the one line failed; the output got what the words came to
-pub record LineFails (words : List Bytes) (old new : Disk) (out out' report report' : Output) : Type 0 where
+-- or memory couldn't be had for a line, and the report is as it was
+pub record LacksLine (words : List Bytes) (old new : Disk) (before after report report' : Output) : Type 0 where
   pub outcome : Outcome
-  pub comes : ComesOf words old new out out' outcome
-  pub fails : FailsPut (outcome_line outcome) report report'
+  pub comes : ComesOf words old new before after outcome
+  pub silent : report' ≡ report
 
--- 75 comes exactly where a put failed: one of the run's prints, and then nothing is reported, or the one line
-abbrev pub IsForPut : List Bytes → Disk → Disk → Output → Output → Output → Output → ℕ → Type 0
-IsForPut words old new out out' report report' result =
-    ComesExactly WRITE [] result ((OutputFailsOf words old new out out' × (report' ≡ report)) ⊎ LineFails words old new out out' report report') (IsPutOfSome out out' report report')
+-- only there
+abbrev pub IsForMemory : List Bytes → Disk → Disk → Output → Output → Output → Output → ℕ → Type 0
+IsForMemory words old new before after report report' result =
+    result ≡ OUT_OF_MEMORY → SaysMemory words old new before after report report' ⊎ LacksLine words old new before after report report'
 
--- no put failed
-abbrev pub HasNoPutFault : Output → Output → Output → Output → Type 0
-HasNoPutFault out out' report report' = (out'.faults ≡ out.faults) × (report'.faults ≡ report.faults)
+-- ---- what fails and what changes
 
--- at a status that isn't for a fault no read failed; at 76, where memory for the line of a failed read can't be had, nothing is reported
-abbrev pub IsReadFaultless : Disk → Disk → Output → Output → ℕ → Type 0
-IsReadFaultless old new report report' result =
-    result ≢ READ → result ≢ WRITE → AreKept old.read_faults new.read_faults ⊎ ((result ≡ OUT_OF_MEMORY) × (report' ≡ report))
+-- at a status that isn't for a read, a put or memory no count of faults rose in this call
+abbrev pub IsFaultless : Disk → Disk → Output → Output → Output → Output → ℕ → Type 0
+IsFaultless old new before after report report' result =
+    ¬ Contains (READ ∷ WRITE ∷ OUT_OF_MEMORY ∷ []) result → HasNoFault old new × (after.faults ≡ before.faults) × (report'.faults ≡ report.faults)
 
--- ---- files that are read
+-- nothing is printed before the run: a refusal leaves the output as it was
+abbrev pub IsSilent : Output → Output → ℕ → Type 0
+IsSilent before after result = Contains before_run result → after ≡ before
 
--- the file that the words ask for is read alone; no file is read where they ask for nothing
-pub record ReadsOnly (words : List Bytes) (old new : Disk) : Type 0 where
-  pub asked : (job : Job) → Asks words job → ReadsAlone job.file old new
+-- a job reads its files alone, and words that ask for nothing leave the files as they were; no contents change and no write fails
+pub record OnlyReads (words : List Bytes) (old new : Disk) : Type 0 where
+  pub asked : (job : Job) → Asks words job → StaysWithin job old new
   pub unasked : AskNothing words → new ≡ old

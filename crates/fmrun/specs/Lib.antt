@@ -1,11 +1,4 @@
-pub mod Programs
-pub mod Frames
-pub mod Instructions
-pub mod Step
-pub mod Run
-pub mod Ends
-pub mod Request
-pub mod Outcome
+pub mod inner
+pub mod Jobs
 pub mod TopCall
 pub mod Causes
-pub mod inner

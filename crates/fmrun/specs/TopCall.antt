@@ -1,144 +1,174 @@
 -- What one call of the program does to the files, to its output and to the sink of its report.
-use Rattle.std.specs.Prelude.{◌≡◌, ℕ, ◌⊎◌, List, Some, None}
-use Rattle.fm_files.specs.Files.{Bytes, Contents, Disk, AreKept}
-use Rattle.fm_files.specs.Sink.{Output, PutsPrefix, FailsAmong, with_pieces}
+use Rattle.std.specs.Prelude.{◌≡◌, ℕ, ◌<◌, ◌≤◌, ◌⊎◌, List, length, MatchOption, None, Option, Some, Result, Ok, Err, string_bytes}
+use Rattle.fm_base.specs.declared.limits.TheConstants.{MAX_ARGUMENTS, MAX_CLASS_FILES, MAX_FILE_BYTES}
+use Rattle.fm_code.specs.declared.class_file.ClassDef.{ClassDef}
+use Rattle.fm_files.specs.Files.{Bytes, Contents, Disk}
+use Rattle.fm_files.specs.Sink.{Output}
+use Rattle.fm_frames.specs.Reports.{report_of}
+use Rattle.fm_frames.specs.States.{State}
+use Rattle.fm_given.specs.Given.{AreMany, IsUntouched, IsUnread, IsLong, IsRefusedFile, IsNotLinked, IsNotTyped}
+use Rattle.fm_given.specs.Reading.{ReadsAll}
+use Rattle.fm_given.specs.Refusal.{refusal_line, refusal_status}
+use Rattle.fm_given.specs.Taking.{AllTaken}
+use Rattle.fm_given.specs.declared.refusal.JobRefusal.{JobRefusal}
+use Rattle.fm_given.specs.declared.refusal.JobRefusal.TheVariants as job_refusal
+use Rattle.fm_input.specs.Reading.{IsInputOf}
+use Rattle.fm_refuse.specs.Refused.{refusal_of}
+use Rattle.fm_report.specs.Reports.{report_line, end_status}
+use Rattle.fm_request.specs.Request.{Job, Asks, AskNothing}
+use Rattle.fm_run.specs.Running.{BreaksRun, FailsRun, RunsTo}
+use Rattle.fm_runner.specs.Runs.{choice}
+use Rattle.fm_runner.specs.declared.runs.Told.{Told}
 use Rattle.fm_tool.specs.Line.{Tells}
-use Rattle.fm_tool.specs.Outside.{HasNoFault, HasReadFault, ReadsAlone, HoldsSuch}
+use Rattle.fm_tool.specs.Outside.{HasReadFault, HoldsSuch}
 use Rattle.fm_tool.specs.declared.refusal.Refusal.TheVariants as refusal
 use Rattle.fm_tool.specs.declared.status.TheConstants.{WRITE}
-use Rattle.fm_code.specs.declared.class_file.ClassDef.{ClassDef}
-use Rattle.fmrun.specs.Request.{Job, Asks, AskNothing, IsAccepted}
-use Rattle.fmrun.specs.Programs.{program_of}
-use Rattle.fmrun.specs.Run.{RunResult, run, ended_of}
-use Rattle.fmrun.specs.Outcome.{outcome_line, outcome_status}
-use Rattle.fmrun.specs.declared.ends.Ended.{Ended}
-use Rattle.fmrun.specs.declared.outcome.Outcome.{Outcome}
-use Rattle.fmrun.specs.declared.outcome.Outcome.TheVariants as outcome
+use Rattle.fmrun.specs.Jobs.{given_of, job_arguments, job_files, job_program, opened_job, IsReady}
+use Rattle.fmrun.specs.declared.outcome.JobFail.{JobFail}
+use Rattle.fmrun.specs.declared.outcome.JobFail.TheVariants as fail
 
--- the run of a class within a budget of steps, from main on
-abbrev pub run_of : ClassDef → ℕ → RunResult
-run_of c budget = run (program_of c) budget
+-- ---- what a job does whatever comes of it
 
--- no record makes these bytes the job's class
-abbrev pub AreRefused : Job → Bytes → Type 0
-AreRefused job bytes = (c : ClassDef) → ¬ IsAccepted job bytes c
+-- it reads its files alone, and no write fails and no contents change
+abbrev pub StaysWithin : Job → Disk → Disk → Type 0
+StaysWithin job = ReadsAll (job_files job)
 
--- where contents are known, the file is there and is accepted as this class
-abbrev pub AcceptsAs : Job → Contents → ClassDef → Type 0
-AcceptsAs job contents c = HoldsSuch contents job.file (λ bytes. IsAccepted job bytes c)
+-- ---- why a job isn't run, though its class files are as they should be
 
--- ---- the files
+-- there are too many arguments, though not too many files, and nothing is touched
+pub record AreManyArguments (job : Job) (count : ℕ) (old new : Disk) : Type 0 where
+  pub few_files : length job.files ≤ MAX_CLASS_FILES
+  pub count_is : count ≡ length (job_arguments job)
+  pub many : MAX_ARGUMENTS < count
+  pub kept : new ≡ old
 
--- a job reads its file alone, and no write fails and no contents change
-pub record ReadsFile (job : Job) (old new : Disk) : Type 0 where
-  pub reads : ReadsAlone job.file old new
-  pub writes : AreKept old.write_faults new.write_faults
+-- all class files are taken, and the read of the file of the input failed, and nothing else, and no contents changed
+pub record IsInputUnread (job : Job) (file : Bytes) (old new : Disk) : Type 0 where
+  pub named : job.input ≡ Some file
+  pub classes : List ClassDef
+  pub taken : AllTaken old.contents job.files classes
+  pub fault : HasReadFault file old new
   pub kept : new.contents ≡ old.contents
 
--- ---- a class
+-- all class files are taken, and the file of the input is too long, which was seen
+pub record IsInputLong (job : Job) (file : Bytes) (old new : Disk) : Type 0 where
+  pub named : job.input ≡ Some file
+  pub classes : List ClassDef
+  pub taken : AllTaken old.contents job.files classes
+  pub long : HoldsSuch old.contents file (λ bytes. MAX_FILE_BYTES < length bytes)
+  pub seen : MAX_FILE_BYTES < new.widest_read file
+  pub untouched : IsUntouched old new
 
--- the run of the class came to this end, and each of its prints was put
-pub record RunsTo (c : ClassDef) (budget : ℕ) (before after : Output) (ended : Ended) : Type 0 where
-  pub ended_is : ended_of (run_of c budget) ≡ Some ended
-  pub prints : after ≡ with_pieces (run_of c budget).prints before
+-- the input is read
+pub record HasInput (job : Job) (contents : Contents) : Type 0 where
+  pub input : Bytes
+  pub input_is : IsInputOf job.input contents input
 
--- the run of the class came to a step that can't be done, and each of its prints was put
-pub record GetsStuck (c : ClassDef) (budget : ℕ) (before after : Output) : Type 0 where
-  pub stuck : ended_of (run_of c budget) ≡ None
-  pub prints : after ≡ with_pieces (run_of c budget).prints before
+-- ---- how a job is run
 
--- what an accepted class comes to
-abbrev pub ClassComesTo : ClassDef → Job → Output → Output → Outcome → Type 0
-ClassComesTo c job before after (outcome.Ran ended) = RunsTo c job.steps before after ended
-ClassComesTo c job before after (outcome.Refused (refusal.NotYet file)) = (file.now ≡ job.file) × GetsStuck c job.steps before after
-ClassComesTo c job before after (outcome.Refused refusal.OutOfMemory) = PutsPrefix (run_of c job.steps).prints before after
-ClassComesTo c job before after (outcome.Refused refusal.Words) = ⊥
-ClassComesTo c job before after (outcome.Refused (refusal.Read file)) = ⊥
+-- the run was opened with these classes and this input, and came to its end: what it printed came to the output, each step's bytes in one put, and
+-- this is its line and its status
+pub record HasRun (job : Job) (line : List ℕ) (status : ℕ) (old new : Disk) (before after : Output) : Type 0 where
+  pub classes : List ClassDef
+  pub input : Bytes
+  pub ready : IsReady job old.contents classes input
+  pub last : State
+  pub runs : RunsTo (job_program job classes) choice job.steps (opened_job job classes input) last before after
+  pub line_is : line ≡ report_line (job_program job classes) (report_of last)
+  pub status_is : status ≡ end_status (report_of last).end
+  pub untouched : IsUntouched old new
 
--- ---- a job
+-- the put of what one of its steps prints failed, after what the steps before it printed came
+pub record HasFailed (job : Job) (old new : Disk) (before after : Output) : Type 0 where
+  pub classes : List ClassDef
+  pub input : Bytes
+  pub ready : IsReady job old.contents classes input
+  pub fails : FailsRun (job_program job classes) choice job.steps (opened_job job classes input) before after
+  pub untouched : IsUntouched old new
 
--- the file is accepted as a class, no read failed, and the class comes to this
-pub record ComesOfClass (job : Job) (old new : Disk) (before after : Output) (o : Outcome) : Type 0 where
-  pub class : ClassDef
-  pub accepted : AcceptsAs job old.contents class
-  pub faultless : HasNoFault old new
-  pub comes : ClassComesTo class job before after o
+-- memory couldn't be had after some of its first steps, and what they printed came
+pub record HasBroken (job : Job) (old new : Disk) (before after : Output) : Type 0 where
+  pub classes : List ClassDef
+  pub input : Bytes
+  pub ready : IsReady job old.contents classes input
+  pub breaks : BreaksRun (job_program job classes) choice job.steps (opened_job job classes input) before after
+  pub untouched : IsUntouched old new
 
--- the read of the file failed, and nothing is printed
-pub record IsUnread (job : Job) (old new : Disk) (before after : Output) : Type 0 where
-  pub fault : HasReadFault job.file old new
-  pub silent : after ≡ before
+-- ---- how a job comes out
 
--- the file isn't accepted, no read failed, and nothing is printed
-pub record IsRefused (job : Job) (old new : Disk) (before after : Output) : Type 0 where
-  pub refused : HoldsSuch old.contents job.file (AreRefused job)
-  pub faultless : HasNoFault old new
-  pub silent : after ≡ before
+-- with what is told of the run, or with why it isn't done
+abbrev pub Outcome : Type 0
+Outcome = Result Told JobFail
 
--- no read failed, and nothing is printed
-pub record IsUntouched (old new : Disk) (before after : Output) : Type 0 where
-  pub faultless : HasNoFault old new
-  pub silent : after ≡ before
+-- what a refusal tells of the files of a job that has not too many arguments
+abbrev pub IsRefusedByFiles : Job → Disk → Disk → JobRefusal → Type 0
+IsRefusedByFiles job old new (job_refusal.TooLong file) = IsLong job.files file.now old new ⊎ IsInputLong job file.now old new
+IsRefusedByFiles job old new (job_refusal.Class file refusal) = IsRefusedFile job.files file.now refusal old new
+IsRefusedByFiles job old new (job_refusal.Shared (refusal.Read file)) = IsUnread job.files file.now old new ⊎ IsInputUnread job file.now old new
+IsRefusedByFiles job old new (job_refusal.Link fail) = HasInput job old.contents × IsNotLinked (given_of job) (refusal_of fail) old new
+IsRefusedByFiles job old new (job_refusal.Check name) = HasInput job old.contents × IsNotTyped (given_of job) name old new
+IsRefusedByFiles job old new r = ⊥
 
--- what a job comes to
+-- what a refusal tells of a job
+abbrev pub IsRefusedAs : Job → Disk → Disk → JobRefusal → Type 0
+IsRefusedAs job old new (job_refusal.TooManyFiles count) = AreMany job.files count old new
+IsRefusedAs job old new (job_refusal.TooManyArguments count) = AreManyArguments job count old new
+IsRefusedAs job old new r = (length (job_arguments job) ≤ MAX_ARGUMENTS) × IsRefusedByFiles job old new r
+
+-- what a job that comes out so does to the files and to the output
 abbrev pub ComesTo : Job → Disk → Disk → Output → Output → Outcome → Type 0
-ComesTo job old new before after (outcome.Ran ended) = ComesOfClass job old new before after (outcome.Ran ended)
-ComesTo job old new before after (outcome.Refused (refusal.Read file)) = (file.now ≡ job.file) × IsUnread job old new before after
-ComesTo job old new before after (outcome.Refused (refusal.NotYet file)) =
-    ((file.now ≡ job.file) × IsRefused job old new before after) ⊎ ComesOfClass job old new before after (outcome.Refused (refusal.NotYet file))
-ComesTo job old new before after (outcome.Refused refusal.OutOfMemory) =
-    IsUntouched old new before after ⊎ ComesOfClass job old new before after (outcome.Refused refusal.OutOfMemory)
-ComesTo job old new before after (outcome.Refused refusal.Words) = ⊥
-
--- the file is accepted as a class, no read failed, and the put of one of the run's prints did, after those before it were put
-pub record OutputFails (job : Job) (old new : Disk) (before after : Output) : Type 0 where
-  pub class : ClassDef
-  pub accepted : AcceptsAs job old.contents class
-  pub faultless : HasNoFault old new
-  pub fails : FailsAmong (run_of class job.steps).prints before after
-
--- ---- words
-
--- the words ask for a job, which comes to this
-pub record ComesOfJob (words : List Bytes) (old new : Disk) (before after : Output) (o : Outcome) : Type 0 where
-  pub job : Job
-  pub asked : Asks words job
-  pub reads : ReadsFile job old new
-  pub comes : ComesTo job old new before after o
-
--- the words ask for nothing, which is refused: no file is read, and nothing is printed
-pub record ComesOfNothing (words : List Bytes) (old new : Disk) (before after : Output) (o : Outcome) : Type 0 where
-  pub unasked : AskNothing words
-  pub refused : o ≡ outcome.Refused refusal.Words
-  pub untouched : new ≡ old
-  pub silent : after ≡ before
-
--- what words come to
-abbrev pub ComesOf : List Bytes → Disk → Disk → Output → Output → Outcome → Type 0
-ComesOf words old new before after o = ComesOfNothing words old new before after o ⊎ ComesOfJob words old new before after o
-
--- the words ask for a job, whose output can't be written
-pub record OutputFailsOf (words : List Bytes) (old new : Disk) (before after : Output) : Type 0 where
-  pub job : Job
-  pub asked : Asks words job
-  pub reads : ReadsFile job old new
-  pub fails : OutputFails job old new before after
+ComesTo job old new before after (Ok told) = HasRun job (string_bytes told.line) told.status old new before after
+ComesTo job old new before after (Err fail.Output) = HasFailed job old new before after
+ComesTo job old new before after (Err (fail.Refused (job_refusal.Shared refusal.OutOfMemory))) =
+    (IsUntouched old new × (after ≡ before)) ⊎ HasBroken job old new before after
+ComesTo job old new before after (Err (fail.Refused r)) = IsRefusedAs job old new r × (after ≡ before)
 
 -- ---- a call
 
--- what the words ask for comes to this outcome, and its line is put, or the put fails, or memory for it can't be had
-pub record IsReported (words : List Bytes) (old new : Disk) (before after report report' : Output) (result : ℕ) : Type 0 where
+-- the words ask for a job, which comes out so
+pub record ComesOfJob (words : List Bytes) (old new : Disk) (before after : Output) (outcome : Outcome) : Type 0 where
+  pub job : Job
+  pub asked : Asks words job
+  pub within : StaysWithin job old new
+  pub comes : ComesTo job old new before after outcome
+
+-- the words ask for nothing, which is refused, and leaves the files and the output as they were
+pub record ComesOfNothing (words : List Bytes) (old new : Disk) (before after : Output) (outcome : Outcome) : Type 0 where
+  pub unasked : AskNothing words
+  pub refused : outcome ≡ Err (fail.Refused (job_refusal.Shared refusal.Words))
+  pub kept : new ≡ old
+  pub silent : after ≡ before
+
+-- memory to read the words can't be had, and the files and the output are as they were
+pub record LacksRequest (old new : Disk) (before after : Output) (outcome : Outcome) : Type 0 where
+  pub refused : outcome ≡ Err (fail.Refused (job_refusal.Shared refusal.OutOfMemory))
+  pub kept : new ≡ old
+  pub silent : after ≡ before
+
+-- what words that come out so do to the files and to the output
+abbrev pub ComesOf : List Bytes → Disk → Disk → Output → Output → Outcome → Type 0
+ComesOf words old new before after outcome =
+    ComesOfJob words old new before after outcome ⊎ (ComesOfNothing words old new before after outcome ⊎ LacksRequest old new before after outcome)
+
+-- the line of an outcome: that of the run, or of a refusal; none where the output failed
+abbrev pub outcome_line : Outcome → Option (List ℕ)
+outcome_line (Ok told) = Some (string_bytes told.line)
+outcome_line (Err (fail.Refused r)) = Some (refusal_line r)
+outcome_line (Err fail.Output) = None
+
+-- its status
+abbrev pub outcome_status : Outcome → ℕ
+outcome_status (Ok told) = told.status
+outcome_status (Err (fail.Refused r)) = refusal_status r
+outcome_status (Err fail.Output) = WRITE
+
+-- the line, if there is one, is put as one piece, and the result is its status, or that of the put
+abbrev pub IsTold : Outcome → Output → Output → ℕ → Type 0
+IsTold outcome old new result =
+    MatchOption (outcome_line outcome) ((result ≡ outcome_status outcome) × (new ≡ old)) (λ line. Tells line (outcome_status outcome) old new result)
+
+-- what a call does: what the words ask for comes out in some way, and that is told
+pub record IsTopCall (words : List Bytes) (old new : Disk) (before after report report' : Output) (result : ℕ) : Type 0 where
   pub outcome : Outcome
   pub comes : ComesOf words old new before after outcome
-  pub tells : Tells (outcome_line outcome) (outcome_status outcome) report report' result
-
--- the output can't be written, and nothing is reported
-pub record IsUnreported (words : List Bytes) (old new : Disk) (before after report report' : Output) (result : ℕ) : Type 0 where
-  pub fails : OutputFailsOf words old new before after
-  pub status : result ≡ WRITE
-  pub silent : report' ≡ report
-
--- what a call does: one of the two
-abbrev pub IsTopCall : List Bytes → Disk → Disk → Output → Output → Output → Output → ℕ → Type 0
-IsTopCall words old new before after report report' result =
-    IsReported words old new before after report report' result ⊎ IsUnreported words old new before after report report' result
+  pub tells : IsTold outcome report report' result

@@ -1,3 +1,2 @@
--- What only the clauses of private functions cite.
-pub mod Progress
-pub mod Request
+pub mod Fails
+pub mod Running

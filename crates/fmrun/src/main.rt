@@ -1,29 +1,12 @@
-// fmrun: runs a class file.
+// fmrun: runs the class files of a program.
 //
-// So far it takes one class file of the first form, and runs it on a machine over ints and longs.
 // `fmrun_run` is the program over files and sinks of any kind, and carries its theorem; `main` hands it
-// the words of the command line, the files of the system, standard output and standard error. The
-// definitions of specs/ say what a state, a step and a run are, in the words of the instruction
-// chapter; each step of the code is proved to be theirs.
+// the words of the command line, the files of the system, standard output and standard error.
 #![tactic(auto)]
 
-mod ends;
-mod execution;
-mod frames;
-mod instructions;
-mod linking;
 mod outcome;
-mod pool_texts;
-mod printing;
-mod programs;
-mod request;
-mod resolved;
-mod run;
-mod step;
-#[cfg(test)]
-mod tests;
+mod running;
 mod top_call;
-mod values;
 
 use crate::top_call::fmrun_run;
 use fm_files::{FolderFiles, StdSink};

@@ -1,44 +1,47 @@
-// How a call can come out, and the line and the status that tell it.
+// How a job comes out.
 
-ghost use Rattle.std.specs.Prelude.{◌≡◌, IfOk, string_bytes};
-ghost use Rattle.fmrun.specs.Outcome.{outcome_line, outcome_status};
+ghost use Rattle.std.specs.Prelude.{◌≡◌};
+ghost use Rattle.fm_given.specs.declared.refusal.JobRefusal.TheVariants as job_refusal;
+ghost use Rattle.fm_tool.specs.declared.refusal.Refusal.TheVariants as refusal;
+ghost use Rattle.fmrun.specs.declared.outcome.JobFail.TheVariants as fail;
+ghost use Rattle.fmrun.specs.inner.Fails.{IsOfStep};
 
-use crate::ends::Ended;
 use fm_base::NoMemory;
-use fm_tool::Refusal;
-use std::alloc::Global;
+use fm_frames::StepFail;
+use fm_given::JobRefusal;
 
-/// What became of a call whose program could print all that was due.
-#[derive(Clone, Copy)]
-pub enum Outcome<'a> {
-    /// The program ran to an end.
-    Ran(Ended),
-    /// The words, the file or a step was refused, or memory couldn't be had.
-    Refused(Refusal<'a>),
+/// Why nothing is told of a run.
+#[derive(Debug, Drop)]
+pub enum JobFail<'a> {
+    /// The job is refused.
+    Refused(JobRefusal<'a>),
+    /// What the run prints couldn't be written.
+    Output,
 }
 
-/// A put of what the program prints failed, so that nothing is reported.
-#[derive(Clone, Copy)]
-pub struct OutputFailed;
+impl<'a> From<JobRefusal<'a>> for JobFail<'a> {
+    ghost from_gives = { λ refusal e. e ≡ fail.Refused refusal };
 
-impl Outcome<'_> {
-    /// The line that tells it, with its line end.
-    pub fn line(self, alloc: Global) -> Result<String, NoMemory>
-        ensures { IfOk result (λ text. string_bytes text ≡ outcome_line self.entry) }
-    {
-        match self {
-            Outcome::Ran(ended) => ended.line(alloc),
-            Outcome::Refused(refusal) => refusal.line(alloc),
-        }
+    fn from(refusal: JobRefusal<'a>) -> Self {
+        JobFail::Refused(refusal)
     }
+}
 
-    /// The status that tells it.
-    pub fn status(self) -> u8
-        ensures { result ≡ outcome_status self.entry }
-    {
-        match self {
-            Outcome::Ran(ended) => ended.status(),
-            Outcome::Refused(refusal) => refusal.status(),
+impl From<NoMemory> for JobFail<'_> {
+    ghost from_gives = { λ _ e. e ≡ fail.Refused (job_refusal.Shared refusal.OutOfMemory) };
+
+    fn from(error: NoMemory) -> Self {
+        JobFail::Refused(JobRefusal::from(error))
+    }
+}
+
+impl From<StepFail> for JobFail<'_> {
+    ghost from_gives = { IsOfStep };
+
+    fn from(error: StepFail) -> Self {
+        match error {
+            StepFail::SinkFailed => JobFail::Output,
+            StepFail::NoMemory => JobFail::from(NoMemory),
         }
     }
 }

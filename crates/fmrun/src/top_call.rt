@@ -1,31 +1,31 @@
-// One call of the program: the run of a class file, and the line that reports it.
+// One call of the program: what it reads, what its run prints, and the line that reports it.
 
-ghost use Rattle.std.specs.Prelude.{◌≡◌, ◌≢◌, ◌∷◌, [], Contains, MatchResult};
-ghost use Rattle.fm_files.specs.Files.{AreKept};
-ghost use Rattle.fm_files.specs.Sink.{FailsAmong};
-ghost use Rattle.fm_tool.specs.Line.{Tells};
+ghost use Rattle.std.specs.List.{AllByRecursion};
+ghost use Rattle.std.specs.Prelude.{◌≡◌, ◌^◌, ◌<◌, ◌≤◌, IfOk, IfSome, length, option_map};
+ghost use Rattle.fm_base.specs.declared.limits.TheConstants.{MAX_COMMAND_LINE_VALUE_BYTES};
+ghost use Rattle.fm_request.specs.Request.{job_of};
+ghost use Rattle.fm_sound.specs.Making.{AreUnits};
 ghost use Rattle.fm_tool.specs.Words.{texts};
-ghost use Rattle.fm_tool.specs.declared.status.TheConstants.{DONE, WRITE, NOT_YET, RUNNING, TOO_DEEP};
-ghost use Rattle.fmrun.specs.Causes.{IsStatus, IsForWords, IsForRead, IsForFile, IsNotYet, EndsWith, IsForRun, IsLineFor, IsForMemory, IsForPut, HasNoPutFault, IsReadFaultless, ReadsOnly};
-ghost use Rattle.fmrun.specs.Outcome.{outcome_line, outcome_status};
-ghost use Rattle.fmrun.specs.Request.{job_of};
-ghost use Rattle.fmrun.specs.TopCall.{run_of, ReadsFile, ClassComesTo, ComesTo, OutputFails, ComesOf, OutputFailsOf, IsTopCall};
+ghost use Rattle.fm_tool.specs.declared.status.TheConstants.{MALFORMED, UNSUPPORTED, VERSION};
+ghost use Rattle.fmrun.specs.Causes.{IsFaultless, IsForBytes, IsForCheck, IsForLimit, IsForLink, IsForMemory, IsForRead, IsForRun, IsForWords, IsForWrite, IsSilent, IsStatus, OnlyReads};
+ghost use Rattle.fmrun.specs.Jobs.{IsWithinLimits, text_arguments};
+ghost use Rattle.fmrun.specs.TopCall.{ComesOf, ComesTo, IsTold, IsTopCall, StaysWithin};
 
-use crate::linking::link;
-use crate::outcome::{Outcome, OutputFailed};
-use crate::request::{Request, request_of};
-use crate::run::run_program;
-use fm_base::NoMemory;
-use fm_base::limits::MAX_FILE_BYTES;
+use crate::outcome::JobFail;
+use crate::running::run_classes;
+use fm_base::limits::{MAX_ARGUMENTS, MAX_CLASS_FILES};
+use fm_base::{NoMemory, Units};
 use fm_code::ClassDef;
-use fm_files::{FileFail, Files, PutFail, Sink};
-use fm_first::{FirstFail, read_main_class};
+use fm_files::{Files, Sink};
+use fm_given::{JobRefusal, read_classes};
+use fm_input::read_input;
+use fm_request::{Request, arguments_of, request_of};
+use fm_runner::{Budgets, Told};
 use fm_tool::{Refusal, put_line, status};
 use std::alloc::Global;
 
-/// Runs the class file that the words of the command line name, passes on what it prints to `out`, and
-/// puts the line that reports its end to `report`. Answers the status: that of the run's end, or of a
-/// refusal, or of a failed put.
+/// Does what the words of the command line ask for, puts the line that reports it, and answers the
+/// status.
 pub fn fmrun_run<F: Files, O: Sink, R: Sink>(
     alloc: Global,
     words: &[String],
@@ -33,59 +33,68 @@ pub fn fmrun_run<F: Files, O: Sink, R: Sink>(
     out: &mut O,
     report: &mut R,
 ) -> u8
-    // The whole: what the words ask for, what becomes of it, what is printed, and the one line that is put.
-    ensures whole { IsTopCall (texts words.now) (F.disk files.old) (F.disk files.new)
-        (O.output out.old) (O.output out.new) (R.output report.old) (R.output report.new) result }
-
-    // Each status, with what it says and the cause from which it comes. 76 is for memory.
-    ensures status { IsStatus result }
-    ensures words { IsForWords (texts words.now) result }
-    ensures read { IsForRead (texts words.now) (F.disk files.old) (F.disk files.new) result }
-    ensures form { IsForFile NOT_YET IsNotYet (texts words.now) (F.disk files.old).contents result }
-    ensures returned { IsForFile DONE (EndsWith DONE)
-        (texts words.now) (F.disk files.old).contents result }
-    ensures running { IsForFile RUNNING (EndsWith RUNNING)
-        (texts words.now) (F.disk files.old).contents result }
-    ensures too_deep { IsForFile TOO_DEEP (EndsWith TOO_DEEP)
-        (texts words.now) (F.disk files.old).contents result }
-    ensures put { IsForPut (texts words.now) (F.disk files.old) (F.disk files.new)
-        (O.output out.old) (O.output out.new) (R.output report.old) (R.output report.new) result }
-
-    // What is printed and reported.
-    ensures reported { IsLineFor (texts words.now) (F.disk files.old) (F.disk files.new)
-        (O.output out.old) (O.output out.new) (R.output report.old) (R.output report.new) result }
-    ensures memory { IsForMemory (R.output report.old) (R.output report.new) result }
-    ensures ran { Contains (DONE ∷ RUNNING ∷ TOO_DEEP ∷ []) result
-        → IsForRun (texts words.now) (F.disk files.old).contents
-        (O.output out.old) (O.output out.new) (R.output report.old) (R.output report.new) result }
-
-    // What is read, and what stays.
-    ensures reads { ReadsOnly (texts words.now) (F.disk files.old) (F.disk files.new) }
-    ensures kept { (F.disk files.new).contents ≡ (F.disk files.old).contents }
-    ensures no_write_fault { AreKept (F.disk files.old).write_faults (F.disk files.new).write_faults }
-    ensures no_read_fault { IsReadFaultless (F.disk files.old) (F.disk files.new)
+    // The whole: what the words ask for, what becomes of it, and the line that is put.
+    ensures whole { IsTopCall (texts words.now)
+        (F.disk files.old) (F.disk files.new) (O.output out.old) (O.output out.new)
         (R.output report.old) (R.output report.new) result }
-    ensures no_put_fault { result ≢ WRITE
-        → HasNoPutFault
-        (O.output out.old) (O.output out.new) (R.output report.old) (R.output report.new) }
+
+    // Each status: when it comes, and what it says. There is no other.
+    ensures status { IsStatus result }
+    ensures run { IsForRun (texts words.now)
+        (F.disk files.old) (F.disk files.new) (O.output out.old) (O.output out.new)
+        (R.output report.old) (R.output report.new) result }
+    ensures words { IsForWords (texts words.now)
+        (F.disk files.old) (F.disk files.new) (O.output out.old) (O.output out.new)
+        (R.output report.old) (R.output report.new) result }
+    ensures read { IsForRead (texts words.now)
+        (F.disk files.old) (F.disk files.new) (O.output out.old) (O.output out.new)
+        (R.output report.old) (R.output report.new) result }
+    ensures malformed { IsForBytes MALFORMED (texts words.now)
+        (F.disk files.old) (F.disk files.new) (O.output out.old) (O.output out.new)
+        (R.output report.old) (R.output report.new) result }
+    ensures version { IsForBytes VERSION (texts words.now)
+        (F.disk files.old) (F.disk files.new) (O.output out.old) (O.output out.new)
+        (R.output report.old) (R.output report.new) result }
+    ensures limit { IsForLimit (texts words.now)
+        (F.disk files.old) (F.disk files.new) (O.output out.old) (O.output out.new)
+        (R.output report.old) (R.output report.new) result }
+    ensures unsupported { IsForBytes UNSUPPORTED (texts words.now)
+        (F.disk files.old) (F.disk files.new) (O.output out.old) (O.output out.new)
+        (R.output report.old) (R.output report.new) result }
+    ensures link { IsForLink (texts words.now)
+        (F.disk files.old) (F.disk files.new) (O.output out.old) (O.output out.new)
+        (R.output report.old) (R.output report.new) result }
+    ensures check { IsForCheck (texts words.now)
+        (F.disk files.old) (F.disk files.new) (O.output out.old) (O.output out.new)
+        (R.output report.old) (R.output report.new) result }
+    ensures write { IsForWrite (texts words.now)
+        (F.disk files.old) (F.disk files.new) (O.output out.old) (O.output out.new)
+        (R.output report.old) (R.output report.new) result }
+    ensures memory { IsForMemory (texts words.now)
+        (F.disk files.old) (F.disk files.new) (O.output out.old) (O.output out.new)
+        (R.output report.old) (R.output report.new) result }
+
+    // What fails and what changes.
+    ensures faultless { IsFaultless (F.disk files.old) (F.disk files.new)
+        (O.output out.old) (O.output out.new) (R.output report.old) (R.output report.new) result }
+    ensures silent { IsSilent (O.output out.old) (O.output out.new) result }
+    ensures reads { OnlyReads (texts words.now) (F.disk files.old) (F.disk files.new) }
 {
-    do_call(alloc, words, files, out, report)
+    let outcome = do_words(alloc, words, files, out);
+    tell(alloc, outcome, report)
 }
 
-// The same, with all that it does in one clause.
-fn do_call<F: Files, O: Sink, R: Sink>(
-    alloc: Global,
-    words: &[String],
-    files: &mut F,
-    out: &mut O,
-    report: &mut R,
-) -> u8
-    ensures { IsTopCall (texts words.now) (F.disk files.old) (F.disk files.new)
-        (O.output out.old) (O.output out.new) (R.output report.old) (R.output report.new) result }
+// Puts the line of an outcome, if it has one, and answers its status, or that of the put.
+fn tell<R: Sink>(alloc: Global, outcome: Result<Told, JobFail<'_>>, report: &mut R) -> u8
+    ensures { IsTold outcome.entry (R.output report.old) (R.output report.new) result }
 {
-    match do_words(alloc, words, files, out) {
-        Ok(outcome) => tell(alloc, outcome, report),
-        Err(OutputFailed) => status::WRITE,
+    match outcome {
+        Ok(told) => put_line(alloc, report, told.line.as_bytes(), told.status),
+        Err(JobFail::Refused(refusal)) => match refusal.line(alloc) {
+            Ok(line) => put_line(alloc, report, line.as_bytes(), refusal.status()),
+            Err(NoMemory) => status::OUT_OF_MEMORY,
+        },
+        Err(JobFail::Output) => status::WRITE,
     }
 }
 
@@ -95,74 +104,60 @@ fn do_words<'a, F: Files, O: Sink>(
     words: &'a [String],
     files: &mut F,
     out: &mut O,
-) -> Result<Outcome<'a>, OutputFailed>
-    ensures { MatchResult result
-        (ComesOf (texts words.now) (F.disk files.old) (F.disk files.new) (O.output out.old) (O.output out.new))
-        (λ _. OutputFailsOf (texts words.now)
-        (F.disk files.old) (F.disk files.new) (O.output out.old) (O.output out.new)) }
+) -> Result<Told, JobFail<'a>>
+    ensures { ComesOf (texts words.now) (F.disk files.old) (F.disk files.new)
+        (O.output out.old) (O.output out.new) result }
 {
-    match request_of(words) {
+    let asked = request_of(alloc, words)?;
+    match asked {
         Some(request) => do_job(alloc, request, files, out),
-        None => Ok(Outcome::Refused(Refusal::Words)),
+        None => Err(JobFail::Refused(JobRefusal::Shared(Refusal::Words))),
     }
 }
 
-// Reads the class file, and runs it where it is accepted.
+// Reads the files, and runs the program where all are taken and make one of typed methods.
 fn do_job<'a, F: Files, O: Sink>(
     alloc: Global,
     request: Request<'a>,
     files: &mut F,
     out: &mut O,
-) -> Result<Outcome<'a>, OutputFailed>
-    ensures reads { ReadsFile (job_of request.entry) (F.disk files.old) (F.disk files.new) }
-    ensures comes { MatchResult result
-        (ComesTo (job_of request.entry)
-        (F.disk files.old) (F.disk files.new) (O.output out.old) (O.output out.new))
-        (λ _. OutputFails (job_of request.entry)
-        (F.disk files.old) (F.disk files.new) (O.output out.old) (O.output out.new)) }
+) -> Result<Told, JobFail<'a>>
+    requires { IsWithinLimits (job_of request) }
+    ensures within { StaysWithin (job_of request.entry) (F.disk files.old) (F.disk files.new) }
+    ensures comes { ComesTo (job_of request.entry) (F.disk files.old) (F.disk files.new)
+        (O.output out.old) (O.output out.new) result }
 {
-    let bytes = match files.read(alloc, request.file, MAX_FILE_BYTES) {
-        Ok(bytes) => bytes,
-        Err(FileFail::Failed) => return Ok(Outcome::Refused(Refusal::Read(request.file))),
-        Err(FileFail::TooLong) => return Ok(Outcome::Refused(Refusal::NotYet(request.file))),
-        Err(FileFail::NoMemory) => return Ok(Outcome::Refused(Refusal::OutOfMemory)),
-    };
-    match read_main_class(alloc, request.main, &bytes) {
-        Ok(class) => run_class(alloc, &class, request, out),
-        Err(FirstFail::NotYet) => Ok(Outcome::Refused(Refusal::NotYet(request.file))),
-        Err(FirstFail::NoMemory) => Ok(Outcome::Refused(Refusal::OutOfMemory)),
+    let names: &[&str] = &request.files;
+    if names.len() > MAX_CLASS_FILES as usize {
+        return Err(JobFail::Refused(JobRefusal::TooManyFiles(names.len())));
     }
+    let given = job_arguments(alloc, request.arguments)?;
+    let arguments: &[Units] = &given;
+    if arguments.len() > MAX_ARGUMENTS as usize {
+        return Err(JobFail::Refused(JobRefusal::TooManyArguments(arguments.len())));
+    }
+    let read = read_classes(alloc, names, files)?;
+    let classes: &[ClassDef] = &read;
+    let bytes = read_input(alloc, request.input, files)?;
+    let input: &[u8] = &bytes;
+    let budgets = Budgets {
+        steps: request.steps,
+        words: request.words,
+        frames: request.frames,
+    };
+    run_classes(alloc, classes, request.main, budgets, arguments, input, out)
 }
 
-// Runs a class from its main on.
-fn run_class<'a, O: Sink>(
-    alloc: Global,
-    class: &ClassDef,
-    request: Request<'a>,
-    out: &mut O,
-) -> Result<Outcome<'a>, OutputFailed>
-    ensures { MatchResult result
-        (ClassComesTo class.now (job_of request.entry) (O.output out.old) (O.output out.new))
-        (λ _. FailsAmong (run_of class.now request.entry.steps).prints (O.output out.old) (O.output out.new)) }
+// The arguments that a text gives; none where there is no text.
+fn job_arguments(alloc: Global, text: Option<&str>) -> Result<Vec<Units>, NoMemory>
+    requires { IfSome text (λ t. length t.now ≤ MAX_COMMAND_LINE_VALUE_BYTES) }
+    ensures given { IfOk result (λ arguments. arguments.items
+        ≡ text_arguments (option_map (λ t. t.now) text.entry)) }
+    ensures fit { IfOk result (λ arguments. AllByRecursion (λ argument.
+        (length argument < 2 ^ 31) × AreUnits argument) arguments.items) }
 {
-    let Ok(program) = link(alloc, class) else {
-        return Ok(Outcome::Refused(Refusal::OutOfMemory));
-    };
-    match run_program(alloc, &program, request.steps, out) {
-        Ok(Some(ended)) => Ok(Outcome::Ran(ended)),
-        Ok(None) => Ok(Outcome::Refused(Refusal::NotYet(request.file))),
-        Err(PutFail::NoMemory) => Ok(Outcome::Refused(Refusal::OutOfMemory)),
-        Err(PutFail::SinkFailed) => Err(OutputFailed),
-    }
-}
-
-// Puts the line of an outcome, and answers its status, or that of the put.
-fn tell<R: Sink>(alloc: Global, outcome: Outcome<'_>, report: &mut R) -> u8
-    ensures { Tells (outcome_line outcome.entry) (outcome_status outcome.entry)
-        (R.output report.old) (R.output report.new) result }
-{
-    match outcome.line(alloc) {
-        Ok(line) => put_line(alloc, report, line.as_bytes(), outcome.status()),
-        Err(NoMemory) => status::OUT_OF_MEMORY,
+    match text {
+        Some(text) => arguments_of(alloc, text),
+        None => Ok(Vec::new(alloc)),
     }
 }

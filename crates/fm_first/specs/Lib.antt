@@ -1,2 +1,0 @@
-pub mod MainClass
-pub mod inner

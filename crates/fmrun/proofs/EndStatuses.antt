@@ -1,0 +1,188 @@
+-- The statuses of ends, of refusals and of outcomes, apart from one another.
+use Rattle.std.proofs.Common.{◌≡◌, ◌≢◌, ◌≤◌, ◌⊎◌, ℕ, Bool, true, false, inl, inr, List, ◌∷◌, Contains, Ok, Err, refl, sym, ◌∙◌, arith}
+use Rattle.std.specs.Int.{w32, cast_unsigned}
+use Rattle.std.specs.List.{AllByRecursion}
+use Rattle.std.proofs.lemmas.Bool.{leb-false}
+use Rattle.std.proofs.lemmas.List.Elements.{All-contains, All-from_recursion}
+use Rattle.std.specs.Prelude.{◌%◌, ◌&&◌, nat_le, if◌then◌else◌}
+use Rattle.fm_base.proofs.ContainsFacts.{Contains-cons_cases, unlike_elements}
+use Rattle.fm_files.specs.Files.{Bytes, Disk}
+use Rattle.fm_files.specs.Sink.{Output}
+use Rattle.fm_frames.specs.Reports.{report_of}
+use Rattle.fm_frames.specs.declared.ends.Ended.{Ended}
+use Rattle.fm_frames.specs.declared.ends.Ended.TheVariants as end
+use Rattle.fm_given.proofs.RefusalLemmas.{class_status}
+use Rattle.fm_given.specs.Refusal.{refusal_status}
+use Rattle.fm_given.specs.declared.class_refusal.ClassRefusal.TheVariants as refused
+use Rattle.fm_given.specs.declared.refusal.JobRefusal.{JobRefusal}
+use Rattle.fm_given.specs.declared.refusal.JobRefusal.TheVariants as job_refusal
+use Rattle.fm_report.specs.Reports.{end_status}
+use Rattle.fm_report.specs.declared.status.TheConstants.{OTHER_EXIT}
+use Rattle.fm_request.specs.Request.{Job}
+use Rattle.fm_runner.specs.declared.runs.Told.{Told}
+use Rattle.fm_tool.proofs.LineLemmas.{instead_for_file}
+use Rattle.fm_tool.specs.declared.refusal.Refusal.TheVariants as refusal
+use Rattle.fm_tool.specs.declared.status.TheConstants.{DONE, WORDS, WRITE}
+use Rattle.fmrun.specs.Causes.{before_run, refusals}
+use Rattle.fmrun.specs.TopCall.{ComesOf, ComesOfJob, ComesTo, HasRun, Outcome, outcome_status}
+use Rattle.fmrun.specs.declared.outcome.JobFail.TheVariants as fail
+
+-- ---- ends
+
+-- a number of which the lowest bits are told is no status of a refusal
+exit_apart : (low : ℕ) (above below : Bool) → nat_le 64 low ≡ above → nat_le low 85 ≡ below → (s : ℕ) → 64 ≤ s → s ≤ 79 → (if above && below then OTHER_EXIT else low) ≡ s → ⊥
+exit_apart low true true a b s from to is = omega arith
+exit_apart low true false a b s from to is = let over = leb-false low 85 b in omega arith
+exit_apart low false below a b s from to is = let under = leb-false 64 low a in omega arith
+
+-- an end has no status of a refusal
+pub end_apart : (e : Ended) (s : ℕ) → 64 ≤ s → s ≤ 79 → end_status e ≡ s → ⊥
+end_apart (end.Exit n) s from to is = exit_apart (cast_unsigned w32 n % 256) (nat_le 64 (cast_unsigned w32 n % 256)) (nat_le (cast_unsigned w32 n % 256) 85) refl refl s from to is
+end_apart e s from to is = omega arith
+
+-- and so has no run
+pub run_apart : {job : Job} {line : List ℕ} {status : ℕ} {old new : Disk} {before after : Output} → HasRun job line status old new before after → (s : ℕ) → 64 ≤ s → s ≤ 79 → status ≡ s → ⊥
+run_apart ran s from to is = end_apart (report_of ran.last).end s from to (sym ran.status_is ∙ is)
+
+-- ---- refusals
+
+-- the statuses of refusals are these numbers
+pub record IsRefusal (status : ℕ) : Type 0 where
+  pub low : 64 ≤ status
+  pub high : status ≤ 79
+
+-- and those before the run are these
+pub record IsBeforeRun (status : ℕ) : Type 0 where
+  pub low : 64 ≤ status
+  pub high : status ≤ 71
+
+are_refusals : AllByRecursion IsRefusal refusals
+are_refusals = (
+  record { low = omega arith; high = omega arith },
+  (
+    record { low = omega arith; high = omega arith },
+    (
+      record { low = omega arith; high = omega arith },
+      (
+        record { low = omega arith; high = omega arith },
+        (
+          record { low = omega arith; high = omega arith },
+          (
+            record { low = omega arith; high = omega arith },
+            (
+              record { low = omega arith; high = omega arith },
+              (
+                record { low = omega arith; high = omega arith },
+                (
+                  record { low = omega arith; high = omega arith },
+                  (record { low = omega arith; high = omega arith }, tt),
+                ),
+              ),
+            ),
+          ),
+        ),
+      ),
+    ),
+  ),
+)
+
+pub among_refusals : (status : ℕ) → Contains refusals status → IsRefusal status
+among_refusals status among = All-contains IsRefusal refusals status (All-from_recursion IsRefusal refusals are_refusals) among
+
+are_before_run : AllByRecursion IsBeforeRun before_run
+are_before_run = (
+  record { low = omega arith; high = omega arith },
+  (
+    record { low = omega arith; high = omega arith },
+    (
+      record { low = omega arith; high = omega arith },
+      (
+        record { low = omega arith; high = omega arith },
+        (
+          record { low = omega arith; high = omega arith },
+          (
+            record { low = omega arith; high = omega arith },
+            (
+              record { low = omega arith; high = omega arith },
+              (record { low = omega arith; high = omega arith }, tt),
+            ),
+          ),
+        ),
+      ),
+    ),
+  ),
+)
+
+pub among_before_run : (status : ℕ) → Contains before_run status → IsBeforeRun status
+among_before_run status among = All-contains IsBeforeRun before_run status (All-from_recursion IsBeforeRun before_run are_before_run) among
+
+module _ {words : List Bytes} {old new : Disk} {before after : Output} where
+  -- a run that is told is that of a job
+  pub job_of_told : (told : Told) → ComesOf words old new before after (Ok told) → ComesOfJob words old new before after (Ok told)
+  job_of_told told (inl j) = j
+  job_of_told told (inr (inl nothing)) = absurd (let other = nothing.refused in cc)
+  job_of_told told (inr (inr lacking)) = absurd (let other = lacking.refused in cc)
+
+  -- and so is an output that failed
+  pub job_of_failed : ComesOf words old new before after (Err fail.Output) → ComesOfJob words old new before after (Err fail.Output)
+  job_of_failed (inl j) = j
+  job_of_failed (inr (inl nothing)) = absurd (let other = nothing.refused in cc)
+  job_of_failed (inr (inr lacking)) = absurd (let other = lacking.refused in cc)
+
+  -- no job is refused for a write, or for what isn't built
+  not_of_job : (r : JobRefusal) (status : ℕ) → (ComesOfJob words old new before after (Err (fail.Refused r)) → ⊥) → ¬ (r ≡ job_refusal.Shared refusal.Words) → ¬ (r ≡ job_refusal.Shared refusal.OutOfMemory)
+      → ComesOf words old new before after (Err (fail.Refused r)) → Contains refusals status
+  not_of_job r status none unlike_words unlike_memory (inl j) = absurd (none j)
+  not_of_job r status none unlike_words unlike_memory (inr (inl nothing)) = absurd (unlike_words (let same = nothing.refused in cc))
+  not_of_job r status none unlike_words unlike_memory (inr (inr lacking)) = absurd (unlike_memory (let same = lacking.refused in cc))
+
+  -- the status of a refusal is among these
+  pub refusal_among : (r : JobRefusal) → ComesOf words old new before after (Err (fail.Refused r)) → Contains refusals (refusal_status r)
+  refusal_among (job_refusal.Shared refusal.Words) comes = (0, omega arith, refl)
+  refusal_among (job_refusal.Shared (refusal.Read file)) comes = (1, omega arith, refl)
+  refusal_among (job_refusal.Shared (refusal.NotYet file)) comes = not_of_job (job_refusal.Shared (refusal.NotYet file)) _ (λ j. j.comes.0.1) (λ same. cc) (λ same. cc) comes
+  refusal_among (job_refusal.Shared refusal.OutOfMemory) comes = (9, omega arith, refl)
+  refusal_among (job_refusal.TooManyFiles count) comes = (4, omega arith, refl)
+  refusal_among (job_refusal.TooManyArguments count) comes = (4, omega arith, refl)
+  refusal_among (job_refusal.TooLong file) comes = (4, omega arith, refl)
+  refusal_among (job_refusal.Class file refused.Malformed) comes = (2, omega arith, refl)
+  refusal_among (job_refusal.Class file (refused.Version major minor)) comes = (3, omega arith, refl)
+  refusal_among (job_refusal.Class file (refused.Limit kind name count)) comes = (4, omega arith, refl)
+  refusal_among (job_refusal.Class file (refused.Unsupported name offset)) comes = (5, omega arith, refl)
+  refusal_among (job_refusal.Link link) comes = (6, omega arith, refl)
+  refusal_among (job_refusal.Check name) comes = (7, omega arith, refl)
+  refusal_among (job_refusal.Write name) comes = not_of_job (job_refusal.Write name) _ (λ j. j.comes.0.1) (λ same. cc) (λ same. cc) comes
+
+  -- and isn't that of a write
+  pub not_for_write : (r : JobRefusal) → ComesOf words old new before after (Err (fail.Refused r)) → refusal_status r ≢ WRITE
+  not_for_write (job_refusal.Write name) (inl j) is = j.comes.0.1
+  not_for_write (job_refusal.Write name) (inr (inl nothing)) is = let other = nothing.refused in cc
+  not_for_write (job_refusal.Write name) (inr (inr lacking)) is = let other = lacking.refused in cc
+  not_for_write (job_refusal.Shared refusal.Words) comes is = omega arith
+  not_for_write (job_refusal.Class file r) comes is = let c = class_status r in let high = c.high in omega arith
+  not_for_write r comes is = omega arith
+
+-- ---- outcomes, of which all runs count as done
+
+abbrev pub kind_of : Outcome → ℕ
+kind_of (Ok told) = DONE
+kind_of (Err e) = outcome_status (Err e)
+
+-- at another status than that of what is done it is the outcome's own
+pub own_status : (o : Outcome) (s : ℕ) → s ≢ DONE → kind_of o ≡ s → outcome_status o ≡ s
+own_status (Ok told) s other is = absurd (other (sym is))
+own_status (Err e) s other is = is
+
+pub own_among : (o : Outcome) (s : ℕ) → s ≢ DONE → Contains (s ∷ instead_for_file) (kind_of o) → Contains (s ∷ instead_for_file) (outcome_status o)
+own_among (Ok told) s other among = absurd (go (Contains-cons_cases s instead_for_file DONE among)) where
+  go : (DONE ≡ s) ⊎ Contains instead_for_file DONE → ⊥
+  go (inl same) = other (sym same)
+  go (inr rest) = unlike_elements DONE instead_for_file refl DONE rest refl
+own_among (Err e) s other among = among
+
+-- a job isn't refused for its words
+pub not_for_words : (job : Job) (old new : Disk) (before after : Output) (o : Outcome) → ComesTo job old new before after o → outcome_status o ≢ WORDS
+not_for_words job old new before after (Ok told) comes is = run_apart comes WORDS (omega arith) (omega arith) is
+not_for_words job old new before after (Err (fail.Refused (job_refusal.Shared refusal.Words))) comes is = comes.0.1
+not_for_words job old new before after (Err (fail.Refused (job_refusal.Class file r))) comes is = let c = class_status r in let low = c.low in omega arith
+not_for_words job old new before after o comes is = omega arith

@@ -1,0 +1,265 @@
+-- How a job comes out, by what comes of its class files, of its input and of its run.
+use Rattle.std.proofs.Common.{◌≡◌, ◌<◌, ◌≤◌, ℕ, inl, inr, List, [], ◌∷◌, ◌++◌, length, map, Contains, Option, Some, None, IsSomeAnd, Bor, Ok, Err, refl, sym, ap, ◌∙◌, subst, arith}
+use Rattle.std.specs.List.{AllByRecursion, slice_get}
+use Rattle.std.specs.declared.alloc.Global.{Global}
+use Rattle.std.proofs.lemmas.List.Elements.{Contains-append_left, Contains-append_right}
+use Rattle.fm_base.specs.declared.limits.TheConstants.{MAX_ARGUMENTS, MAX_CLASS_FILES, MAX_FILE_BYTES}
+use Rattle.fm_code.specs.Profile.{Profile}
+use Rattle.fm_code.specs.declared.class_file.ClassDef.{ClassDef}
+use Rattle.fm_files.specs.Files.{Bytes, Contents, Disk}
+use Rattle.fm_files.specs.Sink.{Output}
+use Rattle.fm_given.proofs.ChangesLemmas.{rises_of_kept, rises_then, faultless_then, read_fault_then}
+use Rattle.fm_given.proofs.ReadLemmas.{reads_next, reads_none, same_number}
+use Rattle.fm_given.proofs.TakenLemmas.{are_spelled}
+use Rattle.fm_given.specs.Given.{IsUntouched, IsNotLinked, AreChecked}
+use Rattle.fm_given.specs.Judging.{ComesOfProgram}
+use Rattle.fm_given.specs.Reading.{AreRead, ComesOfFiles, ReadsAll}
+use Rattle.fm_given.specs.Taking.{AreTaken, IsSpelled}
+use Rattle.fm_given.specs.declared.refusal.JobRefusal.{JobRefusal}
+use Rattle.fm_given.specs.declared.refusal.JobRefusal.TheVariants as job_refusal
+use Rattle.fm_input.specs.Reading.{ComesOfInput, IsInputOf, IsInputRead, ReadsInput}
+use Rattle.fm_refuse.specs.Refused.{refusal_of}
+use Rattle.fm_request.specs.Request.{Job, job_of}
+use Rattle.fm_request.specs.declared.request.Request.{Request}
+use Rattle.fm_tool.specs.Encoding.{modified}
+use Rattle.fm_tool.specs.Outside.{HoldsSuch}
+use Rattle.fm_tool.specs.declared.refusal.Refusal.TheVariants as refusal
+use Rattle.fm_world.specs.Causes.{Refusal}
+use Rattle.fm_world.specs.Linking.{refusals}
+use Rattle.fmrun.specs.Jobs.{given_of, budgets_of, input_files, job_arguments, job_files, IsReady}
+use Rattle.fmrun.specs.TopCall.{ComesTo, HasInput, Outcome, StaysWithin}
+use Rattle.fmrun.specs.declared.outcome.JobFail.TheVariants as fail
+use Rattle.fmrun.specs.inner.Running.{AreProgram, ComesOfClasses}
+
+-- ---- reads
+
+-- of some files, and so of these and others
+reads_among : (files more : List Bytes) (old new : Disk) → ReadsAll files old new → ReadsAll (files ++ more) old new
+reads_among files more old new all = record {
+  reads = record {
+    faults = rises_then (Contains files) (λ _. ⊥) (Contains (files ++ more)) old.read_faults new.read_faults new.read_faults (Contains-append_left files more) (λ n none. absurd none) all.reads.faults
+        (rises_of_kept (λ _. ⊥) new.read_faults new.read_faults (λ name. refl));
+    widest = rises_then (Contains files) (λ _. ⊥) (Contains (files ++ more)) old.widest_read new.widest_read new.widest_read (Contains-append_left files more) (λ n none. absurd none) all.reads.widest
+        (rises_of_kept (λ _. ⊥) new.widest_read new.widest_read (λ name. refl));
+    within = all.reads.within;
+  };
+  writes = all.writes;
+}
+
+-- of the input after the class files
+input_too : (files : List Bytes) (input : Option Bytes) (old between new : Disk) → ReadsAll files old between → ReadsInput input between new → ReadsAll (files ++ input_files input) old new
+input_too files None old between new all now = let P : Disk → Type 0 = λ d. ReadsAll (files ++ []) old d in subst P (sym now) (reads_among files [] old between all)
+input_too files (Some file) old between new all (now, keeps) =
+    reads_next (files ++ file ∷ []) file old between new (Contains-append_right files (file ∷ []) file (0, omega arith, refl)) (reads_among files (file ∷ []) old between all) now keeps
+
+-- the input changes no contents
+input_keeps : (input : Option Bytes) (old new : Disk) → ReadsInput input old new → new.contents ≡ old.contents
+input_keeps None old new now = ap (λ (d : Disk). d.contents) now
+input_keeps (Some file) old new (now, keeps) = keeps.contents
+
+-- classes that are taken are of the profile
+pub are_accepted : (contents : Contents) (files : List Bytes) (classes : List ClassDef) → AreTaken contents files classes → AllByRecursion Profile classes
+are_accepted contents [] [] taken = tt
+are_accepted contents (f ∷ files) (c ∷ classes) taken = (taken.0.profile, are_accepted contents files classes taken.1)
+are_accepted contents [] (c ∷ classes) taken = absurd taken
+are_accepted contents (f ∷ files) [] taken = absurd taken
+
+-- an input is no longer than a file may be
+pub input_is_short : (named : Option Bytes) (contents : Contents) (input : Bytes) → IsInputOf named contents input → length input ≤ MAX_FILE_BYTES
+input_is_short None contents input is = let P : Bytes → Type 0 = λ bytes. length bytes ≤ MAX_FILE_BYTES in subst P (sym is) (omega arith)
+input_is_short (Some file) contents input is = is.0
+
+-- ---- a job whose class files are read
+
+pub record HasClasses (job : Job) (classes : List ClassDef) (old between : Disk) : Type 0 where
+  pub read : AreRead job.files classes old between
+  pub all : ReadsAll job.files old between
+
+-- by the names and the classes as slices
+pub classes_of : {names : List (Bor Bytes)} {classes items : List ClassDef} {old between : Disk} (request : Request) → names ≡ request.files.items → classes ≡ items
+    → ReadsAll (map (λ n. n.now) names) old between → AreRead (map (λ n. n.now) names) items old between → HasClasses (job_of request) classes old between
+classes_of {names} {classes} {items} {old} {between} request same lent all read =
+    let files : map (λ n. n.now) names ≡ (job_of request).files = ap (map (λ n. n.now)) same in
+    let P : List Bytes → Type 0 = λ fs. AreRead fs classes old between in
+    let Q : List ClassDef → Type 0 = λ cs. AreRead (map (λ n. n.now) names) cs old between in
+    let R : List Bytes → Type 0 = λ fs. ReadsAll fs old between in
+    record { read = subst P files (subst Q (sym lent) read); all = subst R files all }
+
+-- a refusal of the class files by the names
+pub unread_of : {names : List (Bor Bytes)} (old between : Disk) (request : Request) → names ≡ request.files.items → (r : JobRefusal) → ComesOfFiles {Y = Global} (map (λ n. n.now) names) old between (Err r)
+    → ComesOfFiles {Y = Global} (job_of request).files old between (Err r)
+unread_of {names} old between request same r now =
+    let files : map (λ n. n.now) names ≡ (job_of request).files = ap (map (λ n. n.now)) same in
+    let P : List Bytes → Type 0 = λ fs. ComesOfFiles {Y = Global} fs old between (Err r) in subst P files now
+
+-- and what was read
+pub all_of_names : {names : List (Bor Bytes)} {old between : Disk} (request : Request) → names ≡ request.files.items → ReadsAll (map (λ n. n.now) names) old between → ReadsAll (job_of request).files old between
+all_of_names {names} {old} {between} request same all =
+    let files : map (λ n. n.now) names ≡ (job_of request).files = ap (map (λ n. n.now)) same in
+    let R : List Bytes → Type 0 = λ fs. ReadsAll fs old between in subst R files all
+
+-- the input as a slice
+pub input_of : {input items : Bytes} {named : Option Bytes} {between new : Disk} → input ≡ items → IsInputRead named items between new → IsInputRead named input between new
+input_of {input} {items} {named} {between} {new} lent = let P : Bytes → Type 0 = λ i. IsInputRead named i between new in subst P (sym lent)
+
+-- the arguments of a job aren't too many, as a slice
+pub few_of : {arguments items given : List (List ℕ)} → arguments ≡ items → items ≡ given → length arguments ≤ MAX_ARGUMENTS → length given ≤ MAX_ARGUMENTS
+few_of lent are few = let P : List (List ℕ) → Type 0 = λ xs. length xs ≤ MAX_ARGUMENTS in subst P (lent ∙ are) few
+
+-- memory can't be had before anything is read
+pub ends_at_once : (job : Job) (disk : Disk) (out : Output) → ComesTo job disk disk out out (Err (fail.Refused (job_refusal.Shared refusal.OutOfMemory)))
+ends_at_once job disk out = inl (record { faultless = record { reads = λ name. refl; writes = λ name. refl }; kept = refl }, refl)
+
+-- the class files alone were read
+pub classes_within : (job : Job) (old between : Disk) → ReadsAll job.files old between → StaysWithin job old between
+classes_within job old between = reads_among job.files (input_files job.input) old between
+
+-- nothing was read
+pub none_within : (job : Job) (disk : Disk) → StaysWithin job disk disk
+none_within job disk = reads_none (job_files job) disk
+
+-- a class file isn't taken
+pub ends_unread : (job : Job) (old between : Disk) (out : Output) → length (job_arguments job) ≤ MAX_ARGUMENTS → (r : JobRefusal) → ComesOfFiles {Y = Global} job.files old between (Err r)
+    → ComesTo job old between out out (Err (fail.Refused r))
+ends_unread job old between out few (job_refusal.TooLong file) now = ((few, inl now), refl)
+ends_unread job old between out few (job_refusal.Class file r) now = ((few, now), refl)
+ends_unread job old between out few (job_refusal.Shared (refusal.Read file)) now = ((few, inl now), refl)
+ends_unread job old between out few (job_refusal.Shared refusal.OutOfMemory) now = inl (now, refl)
+ends_unread job old between out few r now = absurd now
+
+module _ {job : Job} {classes : List ClassDef} {old between : Disk} (has : HasClasses job classes old between) where
+  -- the classes are spelled and of the profile, and not too many
+  pub spelled : AllByRecursion IsSpelled classes
+  spelled = are_spelled old.contents job.files classes has.read.taken.taken
+
+  pub accepted : AllByRecursion Profile classes
+  accepted = are_accepted old.contents job.files classes has.read.taken.taken
+
+  pub few_classes : length classes ≤ MAX_CLASS_FILES
+  few_classes = let few = has.read.taken.few in omega (arith, same_number old.contents job.files classes has.read.taken.taken)
+
+  same_contents : between.contents ≡ old.contents
+  same_contents = has.all.writes.contents
+
+  module _ (few : length (job_arguments job) ≤ MAX_ARGUMENTS) (new : Disk) (reads : ReadsInput job.input between new) where
+    -- the class files and the input alone were read
+    pub both_within : StaysWithin job old new
+    both_within = input_too job.files job.input old between new has.all reads
+
+    kept : new.contents ≡ old.contents
+    kept = input_keeps job.input between new reads ∙ same_contents
+
+    -- the input can't be had
+    pub ends_without_input : (out : Output) (r : JobRefusal) → ComesOfInput {Y = Global} job.input between new (Err r) → ComesTo job old new out out (Err (fail.Refused r))
+    ends_without_input out (job_refusal.TooLong file) now = (
+      (
+        few,
+        inr (record {
+          named = now.named_is;
+          classes = classes;
+          taken = has.read.taken;
+          long = let P : Contents → Type 0 = λ c. HoldsSuch c file.now (λ bytes. MAX_FILE_BYTES < length bytes) in subst P same_contents now.long;
+          seen = now.seen;
+          untouched = record { faultless = faultless_then old between new has.read.faultless now.faultless; kept = kept };
+        }),
+      ),
+      refl,
+    )
+    ends_without_input out (job_refusal.Shared (refusal.Read file)) now = (
+      (
+        few,
+        inr (record {
+          named = now.0;
+          classes = classes;
+          taken = has.read.taken;
+          fault = read_fault_then file.now old between new has.read.faultless now.1;
+          kept = kept;
+        }),
+      ),
+      refl,
+    )
+    ends_without_input out (job_refusal.Shared refusal.OutOfMemory) now =
+        inl (record { faultless = faultless_then old between new has.read.faultless now; kept = kept }, refl)
+    ends_without_input out r now = absurd now
+
+    module _ {input : Bytes} (read : IsInputRead job.input input between new) where
+      pub input_short : length input ≤ MAX_FILE_BYTES
+      input_short = input_is_short job.input between.contents input read.input_is
+
+      untouched : IsUntouched old new
+      untouched = record { faultless = faultless_then old between new has.read.faultless read.faultless; kept = kept }
+
+      input_is : IsInputOf job.input old.contents input
+      input_is = let P : Contents → Type 0 = λ c. IsInputOf job.input c input in subst P same_contents read.input_is
+
+      has_input : HasInput job old.contents
+      has_input = record { input = input; input_is = input_is }
+
+      checked : AreProgram classes (modified job.main) → AreChecked (given_of job) old.contents classes
+      checked are = record { linked = record { taken = has.read.taken; linked = are.linked }; typed = are.typed }
+
+      -- the classes make no program of typed methods
+      not_linked : (cause : Option Refusal) → IsSomeAnd cause (λ r. slice_get (refusals classes (modified job.main)) 0 ≡ Some r) → IsNotLinked (given_of job) cause old new
+      not_linked None first = absurd first
+      not_linked (Some r) first = record { refused = record { classes = classes; taken = has.read.taken; first = first }; untouched = untouched }
+
+      refused : (out : Output) (r : JobRefusal) → ComesOfProgram classes (modified job.main) (Err r) → ComesTo job old new out out (Err (fail.Refused r))
+      refused out (job_refusal.Link link) now = ((few, (has_input, not_linked (refusal_of link) now)), refl)
+      refused out (job_refusal.Check name) now = (
+        (
+          few,
+          (
+            has_input,
+            record {
+              classes = classes;
+              linked = record { taken = has.read.taken; linked = now.0 };
+              untyped = now.1;
+              untouched = untouched;
+            },
+          ),
+        ),
+        refl,
+      )
+      refused out (job_refusal.Shared refusal.OutOfMemory) now = inl (untouched, refl)
+      refused out r now = absurd now
+
+      ready : AreProgram classes (modified job.main) → IsReady job old.contents classes input
+      ready are = record { checked = checked are; few = few; input_is = input_is }
+
+      -- the classes are run, or not
+      pub ends_run : (before after : Output) (o : Outcome) → ComesOfClasses classes (modified job.main) (budgets_of job) (job_arguments job) input before after o
+          → ComesTo job old new before after o
+      ends_run before after (Ok told) (are, now) = record {
+        classes = classes;
+        input = input;
+        ready = ready are;
+        last = now.last;
+        runs = now.runs;
+        line_is = now.line_is;
+        status_is = now.status_is;
+        untouched = untouched;
+      }
+      ends_run before after (Err fail.Output) (are, now) = record {
+        classes = classes;
+        input = input;
+        ready = ready are;
+        fails = now;
+        untouched = untouched;
+      }
+      ends_run before after (Err (fail.Refused (job_refusal.Shared refusal.OutOfMemory))) (inl same) = inl (untouched, same)
+      ends_run before after (Err (fail.Refused (job_refusal.Shared refusal.OutOfMemory))) (inr (are, now)) = inr (record {
+        classes = classes;
+        input = input;
+        ready = ready are;
+        breaks = now;
+        untouched = untouched;
+      })
+      ends_run before after (Err (fail.Refused r)) now =
+          let P : Output → Type 0 = λ out. ComesTo job old new before out (Err (fail.Refused r)) in subst P (sym now.1) (refused before r now.0)
+
+      -- with the arguments as a slice
+      pub ends_run_as : {arguments : List (List ℕ)} → arguments ≡ job_arguments job → (before after : Output) (o : Outcome) → ComesOfClasses classes (modified job.main) (budgets_of job) arguments input before after o
+          → ComesTo job old new before after o
+      ends_run_as same before after o now =
+          let P : List (List ℕ) → Type 0 = λ given. ComesOfClasses classes (modified job.main) (budgets_of job) given input before after o in
+          ends_run before after o (subst P same now)

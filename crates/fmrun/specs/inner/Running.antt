@@ -1,0 +1,33 @@
+-- What the run of the classes that were read comes to.
+use Rattle.std.specs.Prelude.{◌≡◌, ℕ, ◌⊎◌, List, [], Result, Ok, Err}
+use Rattle.fm_code.specs.declared.class_file.ClassDef.{ClassDef}
+use Rattle.fm_files.specs.Sink.{Output}
+use Rattle.fm_given.specs.Judging.{ComesOfProgram}
+use Rattle.fm_given.specs.declared.refusal.JobRefusal.TheVariants as job_refusal
+use Rattle.fm_run.specs.Running.{BreaksRun, FailsRun}
+use Rattle.fm_runner.specs.Runs.{IsToldOf, choice, opened_run}
+use Rattle.fm_runner.specs.declared.runs.Budgets.{Budgets}
+use Rattle.fm_runner.specs.declared.runs.Told.{Told}
+use Rattle.fm_tool.specs.declared.refusal.Refusal.TheVariants as refusal
+use Rattle.fm_untyped.specs.Untyped.{AreTyped}
+use Rattle.fm_world.specs.Linking.{refusals}
+use Rattle.fm_world.specs.Programs.{program_of}
+use Rattle.fmrun.specs.declared.outcome.JobFail.{JobFail}
+use Rattle.fmrun.specs.declared.outcome.JobFail.TheVariants as fail
+
+-- they make a program, and its methods are typed
+pub record AreProgram (classes : List ClassDef) (main : List ℕ) : Type 0 where
+  pub linked : refusals classes main ≡ []
+  pub typed : AreTyped (program_of classes main)
+
+-- the run of their program is told; or the put of what it prints failed; or memory couldn't be had, before it or after some of its steps; or they make no
+-- program of typed methods
+abbrev pub ComesOfClasses : List ClassDef → List ℕ → Budgets → (arguments : List (List ℕ)) → (input : List ℕ) → Output → Output → Result Told JobFail → Type 0
+ComesOfClasses classes main b arguments input before after (Ok told) =
+    AreProgram classes main × IsToldOf (program_of classes main) b arguments input told before after
+ComesOfClasses classes main b arguments input before after (Err fail.Output) =
+    AreProgram classes main × FailsRun (program_of classes main) choice b.steps (opened_run (program_of classes main) b arguments input) before after
+ComesOfClasses classes main b arguments input before after (Err (fail.Refused (job_refusal.Shared refusal.OutOfMemory))) =
+    (after ≡ before)
+    ⊎ (AreProgram classes main × BreaksRun (program_of classes main) choice b.steps (opened_run (program_of classes main) b arguments input) before after)
+ComesOfClasses classes main b arguments input before after (Err (fail.Refused r)) = ComesOfProgram classes main (Err r) × (after ≡ before)

@@ -1,0 +1,47 @@
+// The run of the classes that were read.
+
+ghost use Rattle.std.specs.List.{AllByRecursion};
+ghost use Rattle.std.specs.Prelude.{◌≤◌, length};
+ghost use Rattle.fm_base.specs.declared.limits.TheConstants.{MAX_ARGUMENTS, MAX_CLASS_FILES, MAX_FILE_BYTES};
+ghost use Rattle.fm_code.specs.Profile.{Profile};
+ghost use Rattle.fm_given.specs.Taking.{IsSpelled};
+ghost use Rattle.fm_runner.specs.Runs.{AreWithin};
+ghost use Rattle.fm_sound.specs.Making.{ArgumentsFit};
+ghost use Rattle.fm_tool.specs.Encoding.{modified};
+ghost use Rattle.fmrun.specs.inner.Running.{ComesOfClasses};
+
+use crate::outcome::JobFail;
+use fm_base::Units;
+use fm_code::ClassDef;
+use fm_files::Sink;
+use fm_given::judge_program;
+use fm_resolved::law_can_run;
+use fm_runner::{Budgets, Told, run_program};
+use std::alloc::Global;
+
+/// Runs the program of classes with a main class of this name, where they make one of typed methods, and
+/// tells of its run.
+pub fn run_classes<'a, O: Sink>(
+    alloc: Global,
+    classes: &[ClassDef],
+    main: &str,
+    budgets: Budgets,
+    arguments: &[Units],
+    input: &[u8],
+    out: &mut O,
+) -> Result<Told, JobFail<'a>>
+    requires spelled { AllByRecursion IsSpelled classes.now }
+    requires accepted { AllByRecursion Profile classes.now }
+    requires few_files { length classes.now ≤ MAX_CLASS_FILES }
+    requires within { AreWithin budgets }
+    requires few { length arguments.now ≤ MAX_ARGUMENTS }
+    requires given { ArgumentsFit arguments.now }
+    requires short { length input.now ≤ MAX_FILE_BYTES }
+    ensures { ComesOfClasses classes.now (modified main.now) budgets arguments.now input.now
+        (O.output out.old) (O.output out.new) result }
+{
+    let program = judge_program(alloc, classes, main)?;
+    law_can_run();
+    let told = run_program(alloc, &program, budgets, arguments, input, out)?;
+    Ok(told)
+}
