@@ -6,6 +6,8 @@
 
 mod arguments;
 mod request;
+#[cfg(test)]
+mod tests;
 mod values;
 
 pub use arguments::arguments_of;

@@ -1,12 +1,10 @@
 -- What the words of the command line ask for.
-use Rattle.std.specs.Prelude.{◌≡◌, ℕ, ◌<◌, ◌≤◌, List, [], Some, true, length, map, codes}
+use Rattle.std.specs.Prelude.{◌≡◌, ℕ, ◌<◌, List, [], ◌∷◌, Some, length, map, codes}
 use Rattle.std.specs.List.{AllByRecursion}
-use Rattle.clap.specs.Lexer.{usize_max}
-use Rattle.clap.specs.Words.{App, Kinds, Row, Rule, all_of, fault_of, first_of, matches_of, new_app, new_rule, with_rule}
-use Rattle.clap.specs.Simple.{Shape, on_top}
-use Rattle.fm_base.specs.declared.limits.TheConstants.{MAX_COMMAND_LINE_VALUE_BYTES}
+use Rattle.clap.specs.Words.{App, Kinds, Row, Rule, all_of, fault_of, first_of, matches_of}
 use Rattle.fm_tool.specs.Encoding.{modified}
 use Rattle.fm_given.specs.Given.{Given}
+use Rattle.fm_request.specs.Values.{IsValue, command_with, files_rule, wanted_option_rule}
 use Rattle.freeme.specs.declared.request.Request.{Request}
 
 -- the folder to write into, the main class, and the files to read in order
@@ -23,26 +21,13 @@ main_name job = modified job.main
 abbrev pub given_of : Job → Given
 given_of job = record { files = job.files; main = main_name job }
 
--- an option that has to be given, once, with a value, as `--out DIR`
-abbrev pub option_rule : List ℕ → Rule
-option_rule name = record (new_rule name) { long = Some name; required = true }
-
--- the files, of which there is one or more: what stands among the words without an option before it
-abbrev pub files_rule : Rule
-files_rule = record (new_rule (codes "file")) {
-  range = Some (record { start_inclusive = 1; end_inclusive = usize_max });
-  required = true;
-}
-
--- the words begin after the program's name, and no word asks for help or for a version
-abbrev pub without_help : Shape → Shape
-without_help s = record s { no_binary_name = true; disable_help_flag = true; disable_version_flag = true }
+-- what stands among the words: two options and the files
+abbrev pub freeme_rules : List Rule
+freeme_rules = wanted_option_rule (codes "out") ∷ wanted_option_rule (codes "main") ∷ files_rule ∷ []
 
 -- the command `freeme --out DIR --main CLASS FILE...`, as clap reads it
-abbrev pub freeme_command : App
-freeme_command =
-    with_rule (with_rule (with_rule (on_top without_help (new_app (codes "freeme")))
-    (option_rule (codes "out"))) (option_rule (codes "main"))) files_rule
+unfoldable pub freeme_command : App
+freeme_command = command_with (codes "freeme") freeme_rules
 
 -- the faults that clap finds in the words
 unfoldable pub faults_in : List (List ℕ) → Kinds
@@ -51,10 +36,6 @@ faults_in words = fault_of freeme_command words
 -- what clap matches in the words
 unfoldable pub matched_in : List (List ℕ) → List Row
 matched_in words = matches_of freeme_command words
-
--- a value has a character, and isn't too long
-abbrev pub IsValue : List ℕ → Type 0
-IsValue value = (0 < length value) × (length value ≤ MAX_COMMAND_LINE_VALUE_BYTES)
 
 -- what clap matched is the job: the values of the two options and all files, each of them a value
 pub record HasValuesOf (matches : List Row) (job : Job) : Type 0 where

@@ -1,10 +1,10 @@
 // What the words of the command line ask for.
 
-ghost use Rattle.std.specs.Prelude.{◌≡◌, ◌↔◌, false, IfOk, IsTrue, MatchOption};
-ghost use Rattle.std.specs.List.{AllByRecursion};
+ghost use Rattle.std.specs.Prelude.{◌≡◌, false, IfOk, MatchOption};
 ghost use Rattle.clap.specs.Words.{app_of, found_of, rows_of, rule_of};
 ghost use Rattle.fm_tool.specs.Words.{texts};
-ghost use Rattle.freeme.specs.Request.{Asks, AskNothing, HasValuesOf, HasNoValues, IsValue, option_rule, files_rule, freeme_command, job_of};
+ghost use Rattle.fm_request.specs.Values.{wanted_option_rule};
+ghost use Rattle.freeme.specs.Request.{Asks, AskNothing, HasValuesOf, HasNoValues, freeme_command, job_of};
 
 #[cfg(test)]
 mod tests;
@@ -12,7 +12,7 @@ mod tests;
 use clap::error::ErrorKind;
 use clap::{Arg, ArgMatches, Command};
 use fm_base::NoMemory;
-use fm_base::limits::MAX_COMMAND_LINE_VALUE_BYTES;
+use fm_request::{are_values, command, files, is_value};
 use std::alloc::Global;
 
 /// The folder to write into, the main class and the files to read, in order, as the words
@@ -39,14 +39,11 @@ pub fn request_of(alloc: Global, words: &[String]) -> Result<Option<Request<'_>>
     }
 }
 
-// The command `freeme --out DIR --main CLASS FILE...`, which answers no call for help.
+// The command `freeme --out DIR --main CLASS FILE...`.
 fn freeme_command<'a>(alloc: Global) -> Result<Command<'a>, NoMemory>
     ensures { IfOk result (λ command. app_of command ≡ freeme_command) }
 {
-    let command = Command::new(alloc, "freeme")
-        .no_binary_name(true)
-        .disable_help_flag(true)
-        .disable_version_flag(true)
+    let command = command(alloc, "freeme")
         .arg(option(alloc, "out"))?
         .arg(option(alloc, "main"))?
         .arg(files(alloc))?;
@@ -55,18 +52,10 @@ fn freeme_command<'a>(alloc: Global) -> Result<Command<'a>, NoMemory>
 
 // An option that has to be given, with its value.
 fn option<'a>(alloc: Global, name: &'a str) -> Arg<'a>
-    ensures rule { rule_of result ≡ option_rule name.entry.now }
+    ensures rule { rule_of result ≡ wanted_option_rule name.entry.now }
     ensures local { result.global ≡ false }
 {
     Arg::new(alloc, name).long(name).required(true)
-}
-
-// The files, of which there is one or more.
-fn files<'a>(alloc: Global) -> Arg<'a>
-    ensures rule { rule_of result ≡ files_rule }
-    ensures local { result.global ≡ false }
-{
-    Arg::new(alloc, "file").num_args(1..).required(true)
 }
 
 // The request that was matched, or None where a value is missing, empty or too long.
@@ -93,18 +82,4 @@ fn request_in<'a>(alloc: Global, matches: &ArgMatches<'a>) -> Result<Option<Requ
         main,
         files,
     }))
-}
-
-// Whether each of the texts may be a value.
-fn are_values(values: &[&str]) -> bool
-    ensures { IsTrue result ↔ AllByRecursion (λ value. IsValue value.now) values.now }
-{
-    values.iter().all(|value| is_value(value))
-}
-
-// Whether the text may be a value: it isn't empty, and not too long.
-fn is_value(value: &str) -> bool
-    ensures { IsTrue result ↔ IsValue value.now }
-{
-    !value.is_empty() && value.len() <= MAX_COMMAND_LINE_VALUE_BYTES as usize
 }

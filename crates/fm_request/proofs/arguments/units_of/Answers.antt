@@ -1,4 +1,4 @@
-use Rattle.std.proofs.Common.{◌++◌, ◌^◌, ◌<◌, ℕ, ◌∙◌, sym, ap, subst}
+use Rattle.std.proofs.Common.{◌++◌, ◌^◌, ◌<◌, ◌∙◌, sym, ap, subst}
 use Rattle.std.specs.Char.Escape.{encode_utf16}
 use Rattle.std.specs.List.{AllByRecursion, flat_map}
 use Rattle.std.proofs.lemmas.Iterator.{YieldsList-from_chars}

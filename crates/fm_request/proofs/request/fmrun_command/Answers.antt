@@ -1,5 +1,5 @@
-use Rattle.std.proofs.Common.{List, [], ◌∷◌, codes}
-use Rattle.clap.specs.Words.{Rule, app_of}
+use Rattle.std.proofs.Common.{[], ◌∷◌, codes}
+use Rattle.clap.specs.Words.{app_of}
 use Rattle.fm_request.specs.Request.{class_rule}
 use Rattle.fm_request.specs.Values.{files_rule, option_rule}
 use Rattle.fm_request.proofs.CommandLemmas.{with_one_more}
