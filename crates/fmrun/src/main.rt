@@ -6,6 +6,8 @@
 
 mod outcome;
 mod running;
+#[cfg(test)]
+mod tests;
 mod top_call;
 
 use crate::top_call::fmrun_run;

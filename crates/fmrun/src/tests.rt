@@ -1,0 +1,204 @@
+// The program over files and sinks in memory.
+
+use crate::top_call::fmrun_run;
+use fm_base::NoMemory;
+use fm_files::{MemFiles, MemSink, SureFiles, SureSink};
+use fm_samples::{CALLS_ITSELF, COMPUTED, COMPUTES, DIVIDES_BY_ZERO, PRINTS_FOREVER, PRINTS_SUM};
+use std::alloc::Global;
+use std::test::Fail;
+
+// A call over files in memory, and what came of it. The number of a call that fails is counted from 1;
+// 0 is none.
+#[derive(Clone, Copy)]
+struct Case<'a> {
+    words: &'a str,
+    file: &'a [u8],
+    failing_read: u32,
+    failing_put: u32,
+    failing_report: u32,
+    status: u8,
+    printed: &'a [u8],
+    reported: &'a [u8],
+}
+
+// The case of a main that prints 2 + 3 and returns.
+fn sum_case<'a>(file: &'a [u8]) -> Case<'a> {
+    Case {
+        words: "M M.class",
+        file,
+        failing_read: 0,
+        failing_put: 0,
+        failing_report: 0,
+        status: 0,
+        printed: b"5\n",
+        reported: b"returned; steps 6, objects 3, frees 0, freed words 0, live words 6, \
+            peak words 6, cells made 3\n",
+    }
+}
+
+// Each budget as it just suffices, and with one less.
+fn budget_cases<'a>(sum: Case<'a>, calls_itself: &'a [u8]) -> [Case<'a>; 7] {
+    [
+        Case {
+            words: "--steps 6 M M.class",
+            ..sum
+        },
+        Case {
+            words: "--steps 5 M M.class",
+            status: 80,
+            reported: b"running; steps 5, objects 3, frees 0, freed words 0, live words 6, \
+                peak words 6, cells made 3\n",
+            ..sum
+        },
+        Case {
+            words: "--steps 0 M M.class",
+            status: 80,
+            printed: b"",
+            reported: b"running; steps 0, objects 3, frees 0, freed words 0, live words 6, \
+                peak words 6, cells made 3\n",
+            ..sum
+        },
+        Case {
+            words: "--words 6 M M.class",
+            ..sum
+        },
+        Case {
+            words: "--words 5 M M.class",
+            status: 81,
+            printed: b"",
+            reported: b"exhausted 4 needs 2; steps 0, objects 2, frees 0, freed words 0, \
+                live words 4, peak words 4, cells made 2\n",
+            ..sum
+        },
+        Case {
+            words: "--frames 1 M M.class",
+            ..sum
+        },
+        Case {
+            file: calls_itself,
+            status: 82,
+            printed: b"",
+            reported: b"deep 1024; steps 1023, objects 3, frees 0, freed words 0, live words 6, \
+                peak words 6, cells made 3\n",
+            ..sum
+        },
+    ]
+}
+
+// What is thrown, what is refused, and what fails.
+fn other_cases<'a>(
+    sum: Case<'a>,
+    divides_by_zero: &'a [u8],
+    prints_forever: &'a [u8],
+) -> [Case<'a>; 7] {
+    [
+        sum,
+        Case {
+            file: divides_by_zero,
+            status: 1,
+            printed: b"",
+            reported: b"uncaught java/lang/ArithmeticException; steps 3, objects 4, frees 0, \
+                freed words 0, live words 9, peak words 9, cells made 4\n",
+            ..sum
+        },
+        Case {
+            words: "M",
+            status: 64,
+            printed: b"",
+            reported: b"refused: words\n",
+            ..sum
+        },
+        Case {
+            words: "N M.class",
+            status: 70,
+            printed: b"",
+            reported: b"refused: link no-main N in N\n",
+            ..sum
+        },
+        Case {
+            failing_read: 1,
+            status: 65,
+            printed: b"",
+            reported: b"refused: read M.class\n",
+            ..sum
+        },
+        // A run of so many prints as could neither be kept nor be waited for, had it gone on.
+        Case {
+            words: "--steps 2147483648 M M.class",
+            file: prints_forever,
+            failing_put: 1,
+            status: 75,
+            printed: b"",
+            reported: b"",
+            ..sum
+        },
+        Case {
+            failing_report: 1,
+            status: 75,
+            reported: b"",
+            ..sum
+        },
+    ]
+}
+
+// The pieces between single spaces.
+fn split_words(alloc: Global, text: &str) -> Result<Vec<String>, NoMemory> {
+    let mut words = Vec::new(alloc);
+    for word in text.split(' ') {
+        words.push(String::from_str(alloc, word)?)?;
+    }
+    Ok(words)
+}
+
+// Whether the call comes out as the case says.
+fn comes_out(alloc: Global, case: Case<'_>) -> Result<bool, NoMemory> {
+    let mut files = MemFiles::new(alloc, vec![in alloc; case.failing_read]?);
+    files.add("M.class", case.file)?;
+    let mut out = MemSink::new(alloc, vec![in alloc; case.failing_put]?);
+    let mut report = MemSink::new(alloc, vec![in alloc; case.failing_report]?);
+    let words = split_words(alloc, case.words)?;
+    let status = fmrun_run(alloc, &words, &mut files, &mut out, &mut report);
+    Ok(status == case.status && out.bytes() == case.printed && report.bytes() == case.reported)
+}
+
+#[test]
+fn a_budget_suffices_or_lacks_one(rt: HostRuntime) -> Result<(), Fail> {
+    let alloc = rt.alloc();
+    let prints_sum = PRINTS_SUM.bytes(alloc)?;
+    let calls_itself = CALLS_ITSELF.bytes(alloc)?;
+    for case in budget_cases(sum_case(&prints_sum), &calls_itself) {
+        assert!(rt; comes_out(alloc, case)?, "{}", case.words);
+    }
+    Ok(())
+}
+
+#[test]
+fn each_status_has_its_output_and_its_report(rt: HostRuntime) -> Result<(), Fail> {
+    let alloc = rt.alloc();
+    let prints_sum = PRINTS_SUM.bytes(alloc)?;
+    let divides_by_zero = DIVIDES_BY_ZERO.bytes(alloc)?;
+    let prints_forever = PRINTS_FOREVER.bytes(alloc)?;
+    for case in other_cases(sum_case(&prints_sum), &divides_by_zero, &prints_forever) {
+        assert!(rt; comes_out(alloc, case)?, "{}", case.words);
+    }
+    Ok(())
+}
+
+#[test]
+fn every_instruction_computes_what_a_java_virtual_machine_does(
+    rt: HostRuntime,
+) -> Result<(), Fail> {
+    let alloc = rt.alloc();
+    let file = COMPUTES.bytes(alloc)?;
+    let mut files = SureFiles::new(alloc);
+    files.add("M.class", &file)?;
+    let mut out = SureSink::new(alloc);
+    let mut report = SureSink::new(alloc);
+    let words = split_words(alloc, "M M.class")?;
+    assert_eq!(rt;
+        fmrun_run(alloc, &words, &mut files, &mut out, &mut report),
+        0
+    );
+    assert!(rt; out.bytes() == COMPUTED);
+    Ok(())
+}
