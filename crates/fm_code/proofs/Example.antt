@@ -1,5 +1,5 @@
 -- The class file that is written out by hand, and its neighbours.
-use Rattle.std.proofs.Common.{◌≡◌, ℕ, true, false, List, [], ◌∷◌, ◌++◌, length, take, drop, codes, Some, None, refl, ap, sym, ◌∙◌, arith, inl, inr}
+use Rattle.std.proofs.Common.{◌≡◌, ℕ, true, false, List, [], ◌∷◌, ◌++◌, length, take, drop, codes, Some, None, refl, ap, sym, ◌∙◌, arith, inr}
 use Rattle.std.proofs.lemmas.List.{append-nil, append_assoc}
 use Rattle.std.specs.List.{flat_map, concat}
 use Rattle.fm_base.proofs.ListFacts.{same_head}
@@ -10,7 +10,6 @@ use Rattle.fm_code.specs.ClassBytes.{counted, magic, attribute_bytes, entry_byte
 use Rattle.fm_code.specs.Fits.{FitsTwo, FitsFour, MemberAttrFits, MemberFits, CountedFits, EntryFits, ClassFits, CodeFits}
 use Rattle.fm_code.specs.Names.{object}
 use Rattle.fm_code.specs.Spells.{Spells}
-use Rattle.fm_code.specs.FirstForm.{IsMain, IsFirstForm, IsNamed, DeclaresMain}
 use Rattle.fm_code.specs.CodeRules.{CodeIsValid}
 use Rattle.fm_code.specs.Members.{MethodIsValid}
 use Rattle.fm_code.specs.Example.{example_bytes, example_entries, example_code, example_method, example_record, short_length_bytes, wrong_tag_bytes, longer_bytes}
@@ -20,7 +19,7 @@ use Rattle.fm_code.specs.declared.class_file.ClassDef.{ClassDef}
 use Rattle.fm_code.specs.declared.class_file.Member.{Member}
 use Rattle.fm_code.specs.declared.class_file.MemberAttr.{MemberAttr}
 use Rattle.fm_code.specs.declared.instructions.Insn.TheVariants as insn
-use Rattle.fm_code.proofs.Tested.{are_bytes, are_plain, entries_fit, entries_valid}
+use Rattle.fm_code.proofs.Tested.{are_bytes, entries_fit, entries_valid}
 use Rattle.fm_code.proofs.Prefixes.{Tells, ◌then◌, tells, Cancels-two, cancel_attribute, peel, tells_two, tells_same, tells_nothing}
 use Rattle.fm_code.proofs.PoolPrefixes.{PoolFits, Cancels-pool, IsSpelledEntry, slots_due, slots_spelled}
 use Rattle.fm_code.proofs.ClassLaw.{nothing_follows, name_of, body_of, member_attribute_is, name_fits, body_fits}
@@ -135,58 +134,6 @@ example_spelled = record {
   distinct_methods = (tt, tt);
   attributes = tt;
 }
-
--- ---- the first form
-
--- it is main, in a class of that form and that name
-is_main : IsMain example_entries example_method
-is_main = record { name = refl; descriptor = refl }
-
-pub example_first_form : IsFirstForm example_record
-example_first_form = record {
-  minor = refl;
-  major = refl;
-  entries = (
-    tt,
-    (
-      are_plain (codes "M") refl,
-      (
-        tt,
-        (
-          are_plain (codes "java/lang/Object") refl,
-          (
-            tt,
-            (
-              are_plain (codes "main") refl,
-              (are_plain (codes "([Ljava/lang/String;)V") refl, (are_plain (codes "Code") refl, tt)),
-            ),
-          ),
-        ),
-      ),
-    ),
-  );
-  superclass = refl;
-  interfaces = refl;
-  fields = refl;
-  methods = (
-    record {
-      static = refl;
-      not_native = refl;
-      not_abstract = refl;
-      name = refl;
-      descriptor = inl is_main;
-      attributes = record { handlers = refl; attributes = refl; opcodes = (refl, tt); operands = (tt, tt) };
-    },
-    tt,
-  );
-  attributes = refl;
-}
-
-pub example_named : IsNamed example_record (codes "M")
-example_named = refl
-
-pub example_main : DeclaresMain example_record
-example_main = (example_method, ((0, omega arith, refl), is_main))
 
 -- ---- neighbours
 

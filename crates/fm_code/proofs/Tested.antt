@@ -28,7 +28,7 @@ pub are_bytes : (bytes : List ℕ) → list_all (λ b. ltb b 256) bytes ≡ true
 are_bytes bytes e = are_below 256 bytes e
 
 -- bytes from 1 to 127
-pub are_plain : (bytes : List ℕ) → list_all (λ b. ltb 0 b && ltb b 128) bytes ≡ true → AllByRecursion (λ b. (0 < b) × (b < 128)) bytes
+are_plain : (bytes : List ℕ) → list_all (λ b. ltb 0 b && ltb b 128) bytes ≡ true → AllByRecursion (λ b. (0 < b) × (b < 128)) bytes
 are_plain [] e = tt
 are_plain (b ∷ bytes) e =
     let parts = and_parts (ltb 0 b && ltb b 128) (list_all (λ c. ltb 0 c && ltb c 128) bytes) e in

@@ -16,7 +16,6 @@ pub mod Profile
 pub mod Edges
 pub mod Live
 pub mod EdgesExample
-pub mod FirstForm
 pub mod Example
 pub mod CompiledExample
 pub mod inner

@@ -1,12 +1,11 @@
 // Laws of the definitions, each as the contract of a function that does nothing.
 
-ghost use Rattle.std.specs.Prelude.{◌≡◌, ℕ, ◌+◌, ◌≤◌, List, [], ◌++◌, length, map, take, codes};
+ghost use Rattle.std.specs.Prelude.{◌≡◌, ℕ, ◌+◌, ◌≤◌, List, [], ◌++◌, length, map, take};
 ghost use Rattle.std.specs.List.{range_with_len};
 ghost use Rattle.byteorder.specs.Endian.{big_number, big_bytes};
 ghost use Rattle.fm_code.specs.Fits.{AreBytes};
 ghost use Rattle.fm_code.specs.Example.{example_bytes, example_record, short_length_bytes, wrong_tag_bytes, longer_bytes};
 ghost use Rattle.fm_code.specs.CompiledExample.{compiled_bytes, compiled_record};
-ghost use Rattle.fm_code.specs.FirstForm.{IsFirstForm, IsNamed, DeclaresMain};
 ghost use Rattle.fm_code.specs.InstructionTable.{Row, rows};
 ghost use Rattle.fm_code.specs.Profile.{IsFirstOverLimit, IsFirstUnsupported, IsSupported, IsWithinLimits, Profile};
 ghost use Rattle.fm_code.specs.Spells.{Spells};
@@ -48,14 +47,11 @@ pub fn law_opcodes()
     ensures { map (λ (row : Row). row.0) rows ≡ range_with_len 0 (JSR_W + 1) }
 {}
 
-/// The definitions at a class file that is written out by hand: its bytes spell its record, which is
-/// of the first form, and three byte strings that differ from it in one place spell no record at all.
+/// The definitions at a class file that is written out by hand: its bytes spell its record, and
+/// three byte strings that differ from it in one place spell no record at all.
 pub fn law_example()
     ensures size { length example_bytes ≡ 119 }
     ensures spelled { Spells example_bytes example_record }
-    ensures first_form { IsFirstForm example_record }
-    ensures named { IsNamed example_record (codes "M") }
-    ensures main { DeclaresMain example_record }
     ensures short_length { (c : ClassDef) → ¬ (Spells short_length_bytes c) }
     ensures wrong_tag { (c : ClassDef) → ¬ (Spells wrong_tag_bytes c) }
     ensures longer { (c : ClassDef) → ¬ (Spells longer_bytes c) }
