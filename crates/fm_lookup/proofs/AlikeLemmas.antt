@@ -3,7 +3,12 @@ use Rattle.std.proofs.Common.{◌≡◌, refl, sym, ◌∙◌, ap, subst, ℕ, �
 use Rattle.std.proofs.lemmas.Bool.{cases_eq, cases_lt, false≢true}
 use Rattle.std.proofs.lemmas.List.{get_or-replicate, length-replicate}
 use Rattle.fm_lookup.specs.declared.alike.Alike.{Alike}
-use Rattle.fm_lookup.specs.inner.AlikeMembers.{AreLinkedFrom, IsAlike}
+use Rattle.fm_lookup.specs.declared.members.MemberRow.{MemberRow}
+use Rattle.fm_lookup.specs.declared.members.Signatures.{Signatures}
+use Rattle.fm_lookup.specs.inner.AlikeMembers.{AreAlike, AreLinkedFrom, IsAlike}
+use Rattle.fm_lookup.specs.inner.MemberTables.{AreSignatures}
+use Rattle.fm_lookup.proofs.NearestLemmas.{signature_below}
+use Rattle.fm_lookup.proofs.SignatureLemmas.{count_of_signatures}
 
 -- no member is linked yet
 pub none_linked : (signatures : List ℕ) (marks : List Bool) (a : Alike) → a.first.items ≡ replicate (length signatures) (length signatures)
@@ -149,3 +154,17 @@ one_linked signatures marks old new member linked within inside next_is first_is
   next_told m below (inr other) from there =
       let is = get_or-set_other old.next.items member m (get_or old.first.items place 0) 0 other in
       ap (λ n. get_or signatures n 0) is ∙ linked.next_signed m (omega (arith, from, other)) below (omega (arith, there, is))
+
+-- links of what was read are links of what was kept
+pub alike_by : (rows : List MemberRow) (s : Signatures) (read : List ℕ) (marks first second : List Bool) (a : Alike) → AreSignatures rows s
+    → read ≡ s.of_members.items → first ≡ marks → second ≡ marks
+    → (((k : ℕ) → k < length read → get_or read k 0 < length read) → AreAlike read first a) → AreAlike s.of_members.items second a
+alike_by rows s read marks first second a are read_is first_is second_is told =
+    subst (λ ms. AreAlike s.of_members.items ms a) (first_is ∙ sym second_is)
+    (subst (λ xs. AreAlike xs first a) read_is (told (λ k below. subst (λ xs. get_or xs k 0 < length xs) (sym read_is)
+    (signed k (subst (λ xs. k < length xs) read_is below))))) where
+      signed : (k : ℕ) → k < length s.of_members.items → get_or s.of_members.items k 0 < length s.of_members.items
+      signed k below =
+          let h = signature_below rows s are k below in
+          let count = count_of_signatures rows s are in
+          omega (arith, h, count)

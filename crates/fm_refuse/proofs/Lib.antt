@@ -10,5 +10,7 @@ pub mod Sections
 pub mod CallsOfAbstracts
 pub mod LeftOver
 pub mod Among
+pub mod AbstractCounts
 pub mod LeftOverCounts
+pub mod CountLoops
 pub mod MainMethods

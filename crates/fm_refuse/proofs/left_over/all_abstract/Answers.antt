@@ -1,7 +1,7 @@
 use Rattle.std.proofs.Common.{◌∙◌, ap, arith, cond, get_or, set, true}
 use Rattle.fm_declare.specs.inner.Numbering.{texts_in}
 use Rattle.fm_lookup.proofs.SectionRows.{AreSections-methods}
-use Rattle.fm_refuse.proofs.LeftOverCounts.{abstract-all, abstract-more, abstract-none}
+use Rattle.fm_refuse.proofs.AbstractCounts.{abstract-all, abstract-more, abstract-none}
 use Rattle.fm_refuse.specs.inner.LeftOver.{changed}
 use Rattle.fm_refuse.proofs.left_over.all_abstract.Goals as goal
 

@@ -1,5 +1,5 @@
 use Rattle.std.proofs.Common.{List, length}
-use Rattle.fm_refuse.proofs.LeftOverCounts.{abstract_below}
+use Rattle.fm_refuse.proofs.AbstractCounts.{abstract_below}
 use Rattle.fm_refuse.specs.inner.LeftOver.{HasCounts}
 use Rattle.fm_refuse.specs.inner.Linking.{IsLinking}
 use Rattle.fm_world.specs.declared.declarations.DeclaredClass.{DeclaredClass}

@@ -1,7 +1,7 @@
 use Rattle.std.proofs.Common.{◌∙◌, ap}
 use Rattle.std.proofs.lemmas.List.{take_all}
 use Rattle.fm_world.specs.Chains.{is_among}
-use Rattle.fm_refuse.proofs.LeftOverCounts.{zero_more}
+use Rattle.fm_refuse.proofs.CountLoops.{zero_more}
 use Rattle.fm_refuse.proofs.left_over.are_zero.Goals as goal
 
 pub loop-class-preserved : goal.loop-class-preserved

@@ -1,6 +1,6 @@
 use Rattle.std.proofs.Common.{◌≡◌, ◌<◌, ◌≤◌, ◌∙◌, sym, ap, subst, arith, get_or, length}
 use Rattle.fm_lookup.proofs.SignatureLemmas.{count_of_signatures}
-use Rattle.fm_refuse.proofs.LeftOverCounts.{walk-end, walk-more, walk-start, IsWalked}
+use Rattle.fm_refuse.proofs.CountLoops.{walk-end, walk-more, walk-start, IsWalked}
 use Rattle.fm_refuse.proofs.left_over.change_all.Goals as goal
 
 pub loop-init : goal.loop-init

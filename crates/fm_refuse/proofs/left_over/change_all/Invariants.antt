@@ -1,5 +1,5 @@
 use Rattle.std.proofs.Common.{◌≤◌, List}
-use Rattle.fm_refuse.proofs.LeftOverCounts.{IsWalked}
+use Rattle.fm_refuse.proofs.CountLoops.{IsWalked}
 use Rattle.fm_refuse.specs.inner.LeftOver.{IsCounting}
 use Rattle.fm_world.specs.declared.declarations.DeclaredClass.{DeclaredClass}
 use Rattle.fm_refuse.proofs.left_over.change_all.Given as goal

@@ -3,7 +3,7 @@ use Rattle.std.proofs.lemmas.Bool.{eq-eqb}
 use Rattle.std.proofs.lemmas.List.Folds.{list_any_at}
 use Rattle.fm_lookup.specs.inner.ListTables.{lists}
 use Rattle.fm_world.specs.Chains.{is_among}
-use Rattle.fm_refuse.proofs.LeftOverCounts.{row_put, rows_short}
+use Rattle.fm_refuse.proofs.CountLoops.{row_put, rows_short}
 use Rattle.fm_refuse.proofs.left_over.counted.Goals as goal
 
 pub loop-class-init : goal.loop-class-init

@@ -2,7 +2,8 @@ use Rattle.std.proofs.Common.{◌≡◌, ◌<◌, ◌∙◌, sym, ap, subst, len
 use Rattle.fm_declare.specs.inner.Numbering.{texts_in}
 use Rattle.fm_lookup.specs.inner.MemberTables.{nearest_in}
 use Rattle.fm_refuse.proofs.FirstRefusals.{on_ok_then}
-use Rattle.fm_refuse.proofs.LeftOverCounts.{changed_at, other_truth, part-alike, part-before, part-changed, part-same, same_truth, signed_below}
+use Rattle.fm_refuse.proofs.CountLoops.{changed_at, other_truth, same_truth}
+use Rattle.fm_refuse.proofs.LeftOverCounts.{part-alike, part-before, part-changed, part-same, signed_below}
 use Rattle.fm_refuse.specs.inner.LeftOver.{is_open, is_part_owed, is_taken, selected_at}
 use Rattle.fm_refuse.proofs.left_over.take_in.Goals as goal
 

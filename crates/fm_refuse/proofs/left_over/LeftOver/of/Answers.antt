@@ -1,5 +1,5 @@
 use Rattle.std.proofs.Common.{◌∙◌}
-use Rattle.fm_refuse.proofs.LeftOverCounts.{alike_by}
+use Rattle.fm_lookup.proofs.AlikeLemmas.{alike_by}
 use Rattle.fm_refuse.proofs.left_over.LeftOver.of.Goals as goal
 
 pub returns : goal.returns

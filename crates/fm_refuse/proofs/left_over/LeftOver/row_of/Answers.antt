@@ -3,7 +3,8 @@ use Rattle.fm_declare.specs.inner.Numbering.{texts_in}
 use Rattle.fm_lookup.proofs.ParentTables.{row_within}
 use Rattle.fm_world.proofs.Displays.{parent_of-within}
 use Rattle.fm_world.specs.Chains.{parent_of}
-use Rattle.fm_refuse.proofs.LeftOverCounts.{part-end, part-start, sections_at}
+use Rattle.fm_refuse.proofs.CountLoops.{sections_at}
+use Rattle.fm_refuse.proofs.LeftOverCounts.{part-end, part-start}
 use Rattle.fm_refuse.specs.inner.LeftOver.{is_part_owed, HasCounts}
 use Rattle.fm_refuse.proofs.left_over.LeftOver.row_of.Goals as goal
 
