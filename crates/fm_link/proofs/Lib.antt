@@ -1,3 +1,4 @@
 pub mod ClassSteps
+pub mod MainMethods
 pub mod Phases
 pub mod ProgramMade

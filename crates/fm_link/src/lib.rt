@@ -6,6 +6,7 @@
 
 mod linked;
 mod linking;
+mod main_class;
 mod ready;
 #[cfg(test)]
 mod tests;

@@ -1,6 +1,6 @@
 // Superclasses are judged and their tables made; then what classes do with members is judged.
 
-ghost use Rattle.std.specs.Prelude.{◌≡◌, ℕ, IfOk, List, Some};
+ghost use Rattle.std.specs.Prelude.{◌≡◌, IfOk, List, Some};
 ghost use Rattle.fm_declare.specs.inner.Numbering.{texts_in, AreTexts};
 ghost use Rattle.fm_link.specs.inner.Judged.{class_refusals, member_refusals, AreLinked, AreReady};
 ghost use Rattle.fm_refuse.specs.Refused.{Refuses};
@@ -9,12 +9,13 @@ ghost use Rattle.fm_refuse.specs.inner.Linking.{IsLinking};
 ghost use Rattle.fm_world.specs.Programs.{classes_of, given_number, main_of};
 ghost use Rattle.fm_world.specs.declared.declarations.DeclaredClass.{DeclaredClass};
 
+use crate::main_class::main_of;
 use crate::ready::Ready;
 use fm_declare::{ClassNumbers, GivenFile, Texts, classes_by_text};
-use fm_lookup::{Ancestors, Fields, Hierarchy, Members, Methods};
+use fm_lookup::{Ancestors, Fields, Hierarchy, Members, Methods, asked_members};
 use fm_refuse::{
-    LinkFail, Linking, arrays_by_text, main_of, refuse_fields, refuse_methods,
-    refuse_missing_classes, refuse_not_implemented, refuse_parents,
+    LinkFail, Linking, arrays_by_text, refuse_fields, refuse_methods, refuse_missing_classes,
+    refuse_not_implemented, refuse_parents,
 };
 use std::alloc::Global;
 
@@ -70,8 +71,10 @@ pub(crate) fn linked_classes<'w>(
     let ancestors = Ancestors::of(alloc, &numbers, by_text, ready.classes, ready.files)?;
     refuse_parents(alloc, &ancestors, &numbers, by_text, ready.files)?;
     let hierarchy = Hierarchy::of(alloc, ancestors)?;
-    let fields = Fields::of(alloc, &hierarchy, fields)?;
-    let methods = Methods::of(alloc, &hierarchy, methods, ready.constructor)?;
+    let named_members = asked_members(alloc, by_text, ready.files)?;
+    let asked = named_members.as_slice();
+    let fields = Fields::of(alloc, &hierarchy, fields, asked)?;
+    let methods = Methods::of(alloc, &hierarchy, methods, ready.constructor, asked)?;
     let arrays = arrays_by_text(alloc, texts)?;
     Ok(Linked {
         numbers,

@@ -116,7 +116,7 @@ row_of_own rows signatures passes signature class k e = from_first (let P : Opti
       }
 
 -- a class doesn't stand among its superclasses
-not_above : (classes : List DeclaredClass) → IsLinear classes → (class x : ℕ) → class < length classes
+pub not_above : (classes : List DeclaredClass) → IsLinear classes → (class x : ℕ) → class < length classes
     → is_among x (chain_from classes (parent_of classes class)) ≡ true → nat_eq x class ≡ false
 not_above classes linear class x within among = by_parent (parent_of classes class) refl among where
   by_test : (p : ℕ) → parent_of classes class ≡ Some p → is_among x (chain_of classes p) ≡ true → (b : Bool) → nat_eq x class ≡ b → b ≡ false

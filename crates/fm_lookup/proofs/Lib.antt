@@ -10,6 +10,8 @@ pub mod Downwards
 pub mod HierarchyLemmas
 pub mod FirstOnes
 pub mod FoundLemmas
+pub mod SuperclassLemmas
+pub mod StartLemmas
 pub mod LayerSteps
 pub mod LookupLemmas
 pub mod NearestLemmas

@@ -1,5 +1,5 @@
 -- What the tables of members answer is what names are resolved to, and which method is called.
-use Rattle.std.proofs.Common.{◌≡◌, refl, sym, ◌∙◌, ap, ℕ, ◌<◌, ◌==◌, ◌&&◌, not, Bool, true, false, cond, List, [], ◌∷◌, ◌++◌, length, map, drop, get_or, nat_eq, Option, Some, None, option_and_then, option_to_list, unwrap_or, slice_get, arith, zero-add}
+use Rattle.std.proofs.Common.{◌≡◌, refl, sym, ◌∙◌, ap, subst, ℕ, ◌<◌, ◌==◌, ◌&&◌, not, Bool, true, false, cond, List, [], ◌∷◌, ◌++◌, length, map, drop, get_or, nat_eq, Option, Some, None, option_and_then, option_to_list, unwrap_or, slice_get, arith, zero-add}
 use Rattle.std.proofs.Math.ListN.{get_or-map}
 use Rattle.std.specs.Str.{bytes_eq}
 use Rattle.std.proofs.lemmas.Bool.{false≢true}
@@ -22,6 +22,8 @@ use Rattle.fm_world.specs.inner.Layers.{HasRoom}
 use Rattle.fm_world.specs.inner.Tables.{chain_from}
 use Rattle.fm_lookup.proofs.FoundLemmas.{first_found-append, first_found-distinct, first_found-none, first_found-same, first_found-without, interfaces_listed, list_in-row, or_else-None, own_in-is, row_of_own}
 use Rattle.fm_lookup.proofs.NearestLemmas.{first_found-cons}
+use Rattle.fm_lookup.proofs.StartLemmas.{first_along-is}
+use Rattle.fm_lookup.proofs.SuperclassLemmas.{superclass-is}
 use Rattle.fm_lookup.proofs.SectionLemmas.{own_field-position, own_method-position}
 use Rattle.fm_lookup.proofs.SectionRows.{AreSections-fields, AreSections-methods}
 use Rattle.fm_lookup.proofs.SignatureLemmas.{count_of_signatures, none-named, own_by-named, signature_at, text-number}
@@ -30,11 +32,11 @@ use Rattle.fm_lookup.specs.declared.lookups.Fields.{Fields}
 use Rattle.fm_lookup.specs.declared.lookups.Methods.{Methods}
 use Rattle.fm_lookup.specs.declared.members.MemberRow.{MemberRow}
 use Rattle.fm_lookup.specs.declared.members.Nearest.{Nearest}
-use Rattle.fm_lookup.specs.inner.FoundMembers.{above_in, field_found_in, field_in, is_constructor_in, is_marked, method_found_in, method_in, own_method_in, searches_in, selected_in, special_in}
-use Rattle.fm_lookup.specs.inner.Hierarchy.{distinct_path, IsHierarchy}
+use Rattle.fm_lookup.specs.inner.FoundMembers.{above_in, field_found_in, field_in, first_along, interface_method_in, is_constructor_in, is_marked, method_found_in, method_in, own_method_in, searches_in, selected_in, special_in}
+use Rattle.fm_lookup.specs.inner.Hierarchy.{distinct_path, is_superclass_in, IsHierarchy}
 use Rattle.fm_lookup.specs.inner.ListTables.{list_in}
 use Rattle.fm_lookup.specs.inner.MemberRows.{field_alike, method_alike, no_row, row_alike, Owned}
-use Rattle.fm_lookup.specs.inner.MemberTables.{has_key, nearest_in, number_of_key, own_by, own_in, signature_of, AreFields, AreMethods, AreNearest}
+use Rattle.fm_lookup.specs.inner.MemberTables.{has_key, nearest_in, number_of_key, own_by, signature_of, start_in, AreFields, AreMethods, AreNearest, IsStart}
 use Rattle.fm_lookup.specs.inner.NearestSteps.{or_else}
 
 -- ---- fields
@@ -67,9 +69,8 @@ field_in-is texts classes f h are is name descriptor signature n d there_n there
       room : HasRoom f.nearest.layers signature
       room = are.nearest.room signature (position-Some (has_key name descriptor) rows signature no_row found).0
 
-      path : first_found find (list_in h.paths.items class) ≡ first_found find (field_path classes class)
-      path = ap (first_found find) (list_in-row (distinct_path classes) (length classes) class h.paths.items is.paths within)
-          ∙ first_found-distinct find (field_path classes class)
+      path : first_found find (distinct_path classes class) ≡ first_found find (field_path classes class)
+      path = first_found-distinct find (field_path classes class)
 
       unmarked : is_marked f.in_interfaces.items signature ≡ false → (x i : ℕ) → is_among i (superinterfaces_of classes x) ≡ true → (o : Option ℕ)
           → find i ≡ o → o ≡ None
@@ -83,13 +84,15 @@ field_in-is texts classes f h are is name descriptor signature n d there_n there
 
       by_mark : (b : Bool) → is_marked f.in_interfaces.items signature ≡ b
           → cond b
-          (first_found (own_in f.nearest rows signature) (list_in h.paths.items class))
+          (first_along f.nearest rows f.starts class (list_in h.paths.items class) signature)
           (nearest_in f.nearest class signature)
           ≡ field_among classes n d (field_path classes class)
       by_mark true e =
-          first_found-same (own_in f.nearest rows signature) find (list_in h.paths.items class)
+          ap (λ list. first_along f.nearest rows f.starts class list signature)
+          (list_in-row (distinct_path classes) (length classes) class h.paths.items is.paths within)
+          ∙ first_along-is f.nearest rows f.starts f.signatures.of_members.items class (distinct_path classes class) signature
           (λ x. own_in-is classes f.members f.signatures.of_members.items f.nearest is.linear (AreSections-fields texts classes f.members are.rows)
-          are.nearest signature x room)
+          are.nearest signature x room) (are.starts class signature within)
           ∙ path
           ∙ first_found-same find (own_field classes n d) (field_path classes class) by_name
       by_mark false e =
@@ -156,9 +159,15 @@ method_in-is : (texts : List (List ℕ)) (classes : List DeclaredClass) (m : Met
     → slice_get texts descriptor ≡ Some d → signature_of m.members.rows.items name descriptor ≡ Some signature → (class : ℕ) → class < length classes
     → method_in m h class signature ≡ method_among classes any_flags n d (method_path classes class)
 method_in-is texts classes m h are is name descriptor signature n d there_n there_d found class within =
-    ap (λ cs. by_interface_in (is_interface_at cs class)) is.classes_are ∙ by_test (is_interface_at classes class) where
+    ap (λ cs. by_interface_in (is_interface_at cs class)) is.classes_are ∙ by_test (is_interface_at classes class) refl where
       f : ℕ → Option ℕ
       f = own_method classes any_flags n d
+
+      find : ℕ → Option ℕ
+      find = own_by m.members.rows.items m.signatures.of_members.items any_flags signature
+
+      by_name : (x : ℕ) → find x ≡ f x
+      by_name = method_by_signature texts classes m are any_flags name descriptor signature n d there_n there_d found
 
       own : (x : ℕ) → own_method_in m signature x ≡ f x
       own = own_method_in-is texts classes m h are is name descriptor signature n d there_n there_d found
@@ -167,36 +176,46 @@ method_in-is texts classes m h are is name descriptor signature n d there_n ther
       by_interface_in b =
           or_else (cond b (own_method_in m signature class) (nearest_in m.nearest class signature))
           (cond b
-          (or_else (first_found (own_method_in m signature) (list_in h.above.items class)) (option_and_then (own_method_in m signature) h.object))
-          (first_found (own_method_in m signature) (list_in h.interfaces.items class)))
+          (or_else (interface_method_in m class (list_in h.above.items class) signature) (option_and_then (own_method_in m signature) h.object))
+          (interface_method_in m class (list_in h.interfaces.items class) signature))
+
+      -- the first one in a list of interfaces is that of the whole list
+      along : (b : Bool) → is_interface_at classes class ≡ b → (table list : List ℕ) → table ≡ list
+          → list ≡ cond b (superinterfaces_of classes class) (interfaces_of classes class)
+          → interface_method_in m class table signature ≡ first_found f list
+      along b test table list same is_list =
+          ap (λ xs. interface_method_in m class xs signature) same
+          ∙ first_along-is m.nearest m.members.rows.items m.starts m.signatures.of_members.items class list signature
+          (λ x. own x ∙ sym (by_name x))
+          (subst (λ xs. IsStart xs m.members.rows.items m.signatures.of_members.items signature (start_in m.starts class signature))
+          (ap (λ t. cond t (superinterfaces_of classes class) (interfaces_of classes class)) test ∙ sym is_list) (are.starts class signature within))
+          ∙ first_found-same find f list by_name
 
       of_object : (o : Option ℕ) → option_and_then (own_method_in m signature) o ≡ first_found f (option_to_list o)
       of_object None = refl
       of_object (Some x) = own x ∙ sym (first_found-cons f x [] ∙ or_else-None (f x))
 
-      by_test : (b : Bool) → by_interface_in b
+      by_test : (b : Bool) → is_interface_at classes class ≡ b → by_interface_in b
           ≡ method_among classes any_flags n d
           (cond b (class ∷ (superinterfaces_of classes class ++ option_to_list (object_number classes)))
           (chain_of classes class ++ interfaces_of classes class))
-      by_test true =
-          ap (λ o. or_else o (or_else (first_found (own_method_in m signature) (list_in h.above.items class))
+      by_test true e =
+          ap (λ o. or_else o (or_else (interface_method_in m class (list_in h.above.items class) signature)
           (option_and_then (own_method_in m signature) h.object))) (own class)
           ∙ ap (or_else (f class)) (ap (λ o. or_else o (option_and_then (own_method_in m signature) h.object))
-          (first_found-same (own_method_in m signature) f (list_in h.above.items class) own
-          ∙ ap (first_found f) (interfaces_listed classes h.above.items is.above class))
+          (along true e (list_in h.above.items class) (superinterfaces_of classes class) (interfaces_listed classes h.above.items is.above class) refl)
           ∙ ap (or_else (first_found f (superinterfaces_of classes class))) (of_object h.object
           ∙ ap (λ o. first_found f (option_to_list o)) is.object)
           ∙ sym (first_found-append f (superinterfaces_of classes class) (option_to_list (object_number classes))))
           ∙ sym (first_found-cons f class (superinterfaces_of classes class ++ option_to_list (object_number classes)))
-      by_test false =
-          ap (λ o. or_else o (first_found (own_method_in m signature) (list_in h.interfaces.items class)))
+      by_test false e =
+          ap (λ o. or_else o (interface_method_in m class (list_in h.interfaces.items class) signature))
           (are.nearest.nearest class signature within
           (are.nearest.room signature (position-Some (has_key name descriptor) m.members.rows.items signature no_row found).0)
-          ∙ first_found-same (own_by m.members.rows.items m.signatures.of_members.items any_flags signature) f (chain_of classes class)
-          (method_by_signature texts classes m are any_flags name descriptor signature n d there_n there_d found))
+          ∙ first_found-same find f (chain_of classes class) by_name)
           ∙ ap (or_else (first_found f (chain_of classes class)))
-          (first_found-same (own_method_in m signature) f (list_in h.interfaces.items class) own
-          ∙ ap (first_found f) (list_in-row (interfaces_of classes) (length classes) class h.interfaces.items is.interfaces within))
+          (along false e (list_in h.interfaces.items class) (interfaces_of classes class)
+          (list_in-row (interfaces_of classes) (length classes) class h.interfaces.items is.interfaces within) refl)
           ∙ sym (first_found-append f (chain_of classes class) (interfaces_of classes class))
 
 searched-within : (classes : List DeclaredClass) (name : List ℕ) (c : ℕ) → class_searched classes name ≡ Some c → c < length classes
@@ -363,12 +382,11 @@ searches-is : (texts : List (List ℕ)) (classes : List DeclaredClass) (m : Meth
     → searches_in m h caller named method ≡ searches_above classes caller named (method_at classes method).method.name
 searches-is texts classes m h are is caller None method within m_within = refl
 searches-is texts classes m h are is caller (Some named) method within m_within =
-    ap (λ b. not b && has_flag (class_at h.classes.now caller).flags ACC_SUPER && is_among named (drop 1 (list_in h.chains.items caller)))
-    is_constructor
+    ap (λ b. not b && has_flag (class_at h.classes.now caller).flags ACC_SUPER && is_superclass_in h caller named) is_constructor
     ∙ ap (λ cs. not (bytes_eq (method_at classes method).method.name constructor_name) && has_flag (class_at cs caller).flags ACC_SUPER
-    && is_among named (drop 1 (list_in h.chains.items caller))) is.classes_are
-    ∙ ap (λ xs. not (bytes_eq (method_at classes method).method.name constructor_name) && has_flag (class_at classes caller).flags ACC_SUPER
-    && is_among named (drop 1 xs)) (list_in-row (chain_of classes) (length classes) caller h.chains.items is.chains within) where
+    && is_superclass_in h caller named) is.classes_are
+    ∙ ap (λ b. not (bytes_eq (method_at classes method).method.name constructor_name) && has_flag (class_at classes caller).flags ACC_SUPER && b)
+    (superclass-is classes h is caller named within) where
       row : MemberRow
       row = get_or m.members.rows.items method no_row
 

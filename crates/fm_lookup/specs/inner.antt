@@ -10,3 +10,4 @@ pub mod NearestSteps
 pub mod FoundMembers
 pub mod MemberSteps
 pub mod AlikeMembers
+pub mod Starts

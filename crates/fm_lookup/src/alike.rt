@@ -64,8 +64,8 @@ impl Alike {
     }
 }
 
-// The number at a place; 0 past the end.
-fn number_at(numbers: &[u32], place: u32) -> u32
+/// The number at a place; 0 past the end.
+pub(crate) fn number_at(numbers: &[u32], place: u32) -> u32
     ensures { result ≡ slice_index numbers.now place }
 {
     match numbers.get(place as usize) {
@@ -74,8 +74,8 @@ fn number_at(numbers: &[u32], place: u32) -> u32
     }
 }
 
-// Puts a number at a place, where the test holds; past the end there is none.
-fn put_number(test: bool, numbers: &mut Vec<u32>, place: u32, number: u32)
+/// Puts a number at a place, where the test holds; past the end there is none.
+pub(crate) fn put_number(test: bool, numbers: &mut Vec<u32>, place: u32, number: u32)
     ensures { numbers.new.items
         ≡ (if test then slice_set numbers.old.items place number else numbers.old.items) }
 {

@@ -1,10 +1,10 @@
 // The superclasses and superinterfaces of all classes (JVMS 5.3.5).
 
-ghost use Rattle.std.specs.Prelude.{◌≡◌, IfOk, List, drop};
-ghost use Rattle.fm_lookup.specs.inner.Hierarchy.{AreAncestors, AreSound, IsHierarchy};
+ghost use Rattle.std.specs.Prelude.{◌≡◌, ◌<◌, IfOk, List, length};
+ghost use Rattle.fm_lookup.specs.inner.Hierarchy.{is_superclass_in, AreAncestors, AreSound, IsHierarchy};
 ghost use Rattle.fm_lookup.specs.inner.ListTables.{list_in};
 ghost use Rattle.fm_lookup.specs.inner.NamedParents.{NamesClasses};
-ghost use Rattle.fm_world.specs.Chains.{is_among};
+ghost use Rattle.fm_world.specs.Chains.{is_among, superclasses_of};
 ghost use Rattle.fm_world.specs.Lookups.{is_interface_at};
 ghost use Rattle.fm_world.specs.declared.declarations.DeclaredClass.{DeclaredClass};
 
@@ -110,12 +110,20 @@ impl Hierarchy<'_> {
         list_at(self.chains.as_slice(), class)
     }
 
-    /// Whether the second class is a superclass of the first.
+    /// Whether the second class is a superclass of the first, at once: it stands in the chain of the first
+    /// one as far from the end as its own chain is long.
     pub fn is_superclass(&self, class: u32, other: u32) -> bool
-        ensures { result ≡ is_among other (drop 1 (list_in self.now.chains.items class)) }
+        ensures tables { result ≡ is_superclass_in self.now class other }
+        ensures is { (classes : List DeclaredClass) → IsHierarchy classes self.now
+            → class < length classes → result ≡ is_among other (superclasses_of classes class) }
     {
-        match self.chain(class).split_first() {
-            Some((_, above)) => above.contains(&other),
+        let lower = self.chain(class);
+        let upper = self.chain(other);
+        if lower.len() <= upper.len() {
+            return false;
+        }
+        match lower.get(lower.len() - upper.len()) {
+            Some(above) => *above == other,
             None => false,
         }
     }

@@ -3,6 +3,7 @@
 #![tactic(auto)]
 
 mod alike;
+mod asked;
 mod chain_tables;
 mod chains;
 mod hierarchy;
@@ -14,8 +15,10 @@ mod member_rows;
 mod members;
 mod once;
 mod parent_tables;
+mod starts;
 
 pub use alike::Alike;
+pub use asked::{Asked, asked_members};
 pub use chain_tables::{chains_of, parents_first};
 pub use chains::goes_up;
 pub use hierarchy::{Ancestors, Hierarchy, is_interface_at};
@@ -26,3 +29,4 @@ pub use marks::{is_marked, mark, mark_all};
 pub use member_rows::{fields_of, methods_of};
 pub use members::{MemberRow, Members, row_at};
 pub use parent_tables::{class_listed, class_named, listed_interfaces, parents_of};
+pub use starts::{Along, Starts, list_along};

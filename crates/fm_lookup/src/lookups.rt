@@ -1,12 +1,12 @@
 // What names are resolved to, and which method is called (JVMS 5.4.3, 5.4.5, 6.5).
 
-ghost use Rattle.std.specs.Prelude.{◌≡◌, ◌<◌, ℕ, IfOk, IfSome, List, Some, length, slice_get, slice_set, true, if◌then◌else◌};
+ghost use Rattle.std.specs.Prelude.{◌≡◌, ◌<◌, ℕ, IfOk, List, Some, drop, length, slice_get, slice_set, true, if◌then◌else◌};
 ghost use Rattle.fm_code.specs.AccessFlags.{is_static};
 ghost use Rattle.fm_code.specs.ConstantPool.{MemberName};
 ghost use Rattle.fm_lookup.specs.inner.Hierarchy.{IsHierarchy};
 ghost use Rattle.fm_lookup.specs.inner.MemberRows.{AreFieldRows, AreMethodRows};
 ghost use Rattle.fm_lookup.specs.inner.MemberTables.{flags_of, own_in, AreDistinct, AreFields, AreMethods, AreSignatures, MarksInterfaces};
-ghost use Rattle.fm_lookup.specs.inner.FoundMembers.{above_in, field_found_in, field_in, is_constructor_in, is_marked, method_above_in, method_found_in, method_in, own_static_in, searches_in, selected_in, special_in, static_among_in};
+ghost use Rattle.fm_lookup.specs.inner.FoundMembers.{above_in, field_found_in, field_in, first_along, interface_method_in, is_constructor_in, is_marked, method_above_in, method_found_in, method_in, own_static_in, searches_in, selected_in, special_in, static_among_in};
 ghost use Rattle.fm_lookup.specs.inner.NearestSteps.{is_signed};
 ghost use Rattle.fm_world.specs.Chains.{chain_of, class_at, first_found};
 ghost use Rattle.fm_world.specs.Descriptors.{class_number};
@@ -14,9 +14,11 @@ ghost use Rattle.fm_world.specs.Lookups.{class_searched, constructor_name, resol
 ghost use Rattle.fm_world.specs.Members.{method_among, methods_of};
 ghost use Rattle.fm_world.specs.declared.declarations.DeclaredClass.{DeclaredClass};
 
+use crate::asked::Asked;
 use crate::hierarchy::{Hierarchy, is_interface_at};
 use crate::lists::list_at;
 use crate::members::{Kept, Members, Nearest, Signatures, row_at};
+use crate::starts::{Along, Starts};
 use fm_base::NoMemory;
 use fm_code::{ACC_PRIVATE, ACC_STATIC, has_flag};
 use fm_declare::at;
@@ -31,11 +33,17 @@ pub struct Fields {
     nearest: Nearest,
     // for each signature whether some interface declares a field of it
     in_interfaces: Vec<bool>,
+    starts: Starts,
 }
 
 impl Fields {
-    /// The fields of all classes.
-    pub fn of(alloc: Global, hierarchy: &Hierarchy, members: Members) -> Result<Fields, NoMemory>
+    /// The fields of all classes. Those that are asked for are found at once.
+    pub fn of(
+        alloc: Global,
+        hierarchy: &Hierarchy,
+        members: Members,
+        asked: &[Asked],
+    ) -> Result<Fields, NoMemory>
         ensures { IfOk result (λ fields. (texts : List (List ℕ)) (classes : List DeclaredClass)
             → AreDistinct texts → IsHierarchy classes hierarchy.now
             → AreFieldRows texts classes members → AreFields texts classes fields) }
@@ -43,11 +51,22 @@ impl Fields {
         let signatures = Signatures::of(alloc, members.rows.as_slice())?;
         let nearest = Nearest::of(alloc, &members, &signatures, hierarchy, Kept::All)?;
         let in_interfaces = of_interfaces(alloc, hierarchy.classes, &members, &signatures)?;
+        let marks = in_interfaces.as_slice();
+        let starts = Starts::of(
+            alloc,
+            hierarchy,
+            Along::Paths,
+            &members,
+            &signatures,
+            marks,
+            asked,
+        )?;
         Ok(Fields {
             members,
             signatures,
             nearest,
             in_interfaces,
+            starts,
         })
     }
 
@@ -89,7 +108,14 @@ impl Fields {
     {
         if self.is_in_interfaces(signature) {
             let path = list_at(hierarchy.paths.as_slice(), class);
-            first_own(&self.nearest, &self.members, path, signature)
+            first_along(
+                &self.nearest,
+                &self.members,
+                &self.starts,
+                class,
+                path,
+                signature,
+            )
         } else {
             self.nearest.get(class, signature)
         }
@@ -104,6 +130,34 @@ impl Fields {
             None => false,
         }
     }
+}
+
+// The first member of the signature that one of these classes declares, from the noted place on.
+fn first_along(
+    nearest: &Nearest,
+    members: &Members,
+    starts: &Starts,
+    class: u32,
+    classes: &[u32],
+    signature: u32,
+) -> Option<u32>
+    ensures { result ≡ first_along nearest.now members.now.rows.items starts.now class classes.now
+        signature }
+{
+    let rest = rest_of(classes, starts.get(class, signature));
+    first_own(nearest, members, rest, signature)
+}
+
+// The numbers from a place on.
+fn rest_of(numbers: &[u32], start: u32) -> &[u32]
+    ensures { result.now ≡ drop start numbers.entry.now }
+{
+    let start = start as usize;
+    if start >= numbers.len() {
+        return &[];
+    }
+    let rest = &numbers[start..];
+    rest
 }
 
 // The first member of the signature that one of these classes declares.
@@ -157,17 +211,19 @@ pub struct Methods {
     nearest: Nearest,
     of_objects: Nearest,
     pub selectable: Nearest,
+    starts: Starts,
     // the text <init>
     constructor: u32,
 }
 
 impl Methods {
-    /// The methods of all classes.
+    /// The methods of all classes. Those that are asked for are found at once.
     pub fn of(
         alloc: Global,
         hierarchy: &Hierarchy,
         members: Members,
         constructor: u32,
+        asked: &[Asked],
     ) -> Result<Methods, NoMemory>
         ensures { IfOk result (λ methods. (texts : List (List ℕ)) (classes : List DeclaredClass)
             → AreDistinct texts → IsHierarchy classes hierarchy.now
@@ -179,12 +235,24 @@ impl Methods {
         let nearest = Nearest::of(alloc, &members, &signatures, hierarchy, Kept::All)?;
         let of_objects = Nearest::of(alloc, &members, &signatures, hierarchy, Kept::OfObjects)?;
         let selectable = Nearest::of(alloc, &members, &signatures, hierarchy, Kept::Selectable)?;
+        let in_interfaces = of_interfaces(alloc, hierarchy.classes, &members, &signatures)?;
+        let marks = in_interfaces.as_slice();
+        let starts = Starts::of(
+            alloc,
+            hierarchy,
+            Along::Interfaces,
+            &members,
+            &signatures,
+            marks,
+            asked,
+        )?;
         Ok(Methods {
             members,
             signatures,
             nearest,
             of_objects,
             selectable,
+            starts,
             constructor,
         })
     }
@@ -251,15 +319,29 @@ impl Methods {
     {
         if !is_interface_at(hierarchy.classes, class) {
             let interfaces = list_at(hierarchy.interfaces.as_slice(), class);
-            return first_own(&self.nearest, &self.members, interfaces, signature);
+            return self.interface_method(class, interfaces, signature);
         }
         let interfaces = list_at(hierarchy.above.as_slice(), class);
-        match first_own(&self.nearest, &self.members, interfaces, signature) {
+        match self.interface_method(class, interfaces, signature) {
             Some(method) => Some(method),
             None => self
                 .nearest
                 .own(&self.members, hierarchy.object?, signature),
         }
+    }
+
+    // The first method of the signature in the list of a class's superinterfaces.
+    fn interface_method(&self, class: u32, interfaces: &[u32], signature: u32) -> Option<u32>
+        ensures { result ≡ interface_method_in self.now class interfaces.now signature }
+    {
+        first_along(
+            &self.nearest,
+            &self.members,
+            &self.starts,
+            class,
+            interfaces,
+            signature,
+        )
     }
 
     /// The flags of a method.

@@ -116,8 +116,9 @@ impl Signatures {
     }
 }
 
-// The signature of a name and a descriptor, which is new where the map has none of them.
-fn add_signature(
+/// The number at a key, which is put there where the map has none: for members the signature of a name and
+/// a descriptor.
+pub(crate) fn add_signature(
     numbers: &mut BTreeMap<(u32, u32), u32>,
     name: u32,
     descriptor: u32,

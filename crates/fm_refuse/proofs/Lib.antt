@@ -13,4 +13,3 @@ pub mod Among
 pub mod AbstractCounts
 pub mod LeftOverCounts
 pub mod CountLoops
-pub mod MainMethods

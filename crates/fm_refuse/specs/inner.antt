@@ -4,4 +4,3 @@ pub mod GivenClasses
 pub mod LeftOver
 pub mod Linking
 pub mod Naming
-pub mod MainClass

@@ -71,7 +71,7 @@ impl From<NoMemory> for LinkFail {
 }
 
 /// The name and the user as texts of their own.
-pub(crate) fn bad_of(alloc: Global, name: &[u8], user: &[u8]) -> Result<LinkBad, NoMemory>
+pub fn bad_of(alloc: Global, name: &[u8], user: &[u8]) -> Result<LinkBad, NoMemory>
     ensures { IfOk result (λ bad. (bad.name ≡ name.now) × (bad.user ≡ user.now)) }
 {
     let name = Name::new(Vec::from_slice(alloc, name)?);

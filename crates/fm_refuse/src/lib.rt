@@ -9,7 +9,6 @@ mod duplicates;
 mod error;
 mod left_over;
 mod linking;
-mod main_class;
 mod marks;
 mod missing;
 mod not_implemented;
@@ -19,9 +18,8 @@ mod wanted_methods;
 mod wanting;
 
 pub use duplicates::{refuse_built_ins, refuse_duplicates};
-pub use error::{LinkBad, LinkFail};
+pub use error::{LinkBad, LinkFail, bad_of};
 pub use linking::{Linking, arrays_by_text, resolved_field, resolved_method};
-pub use main_class::main_of;
 pub use missing::refuse_missing_classes;
 pub use not_implemented::refuse_not_implemented;
 pub use parents::refuse_parents;

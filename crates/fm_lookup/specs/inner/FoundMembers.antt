@@ -3,39 +3,50 @@ use Rattle.std.specs.Prelude.{ℕ, ◌-◌, ◌==◌, ◌&&◌, not, Bool, false
 use Rattle.std.specs.List.{slice_index_or}
 use Rattle.std.specs.Option.{option_and_then, unwrap_or}
 use Rattle.fm_code.specs.AccessFlags.{has_flag, is_private, is_static}
-use Rattle.fm_world.specs.Chains.{class_at, first_found, is_among}
+use Rattle.fm_world.specs.Chains.{class_at, first_found}
 use Rattle.fm_world.specs.Lookups.{is_interface_at}
 use Rattle.fm_world.specs.declared.TheConstants.{ACC_SUPER}
 use Rattle.fm_lookup.specs.declared.hierarchy.Hierarchy.{Hierarchy}
 use Rattle.fm_lookup.specs.declared.lookups.Fields.{Fields}
 use Rattle.fm_lookup.specs.declared.lookups.Methods.{Methods}
 use Rattle.fm_lookup.specs.declared.members.MemberRow.{MemberRow}
+use Rattle.fm_lookup.specs.declared.members.Nearest.{Nearest}
+use Rattle.fm_lookup.specs.declared.starts.Starts.{Starts}
+use Rattle.fm_lookup.specs.inner.Hierarchy.{is_superclass_in}
 use Rattle.fm_lookup.specs.inner.ListTables.{list_in}
 use Rattle.fm_lookup.specs.inner.MemberRows.{section_of}
-use Rattle.fm_lookup.specs.inner.MemberTables.{first_from, flags_of, nearest_in, number_of_key, own_in}
+use Rattle.fm_lookup.specs.inner.MemberTables.{first_from, flags_of, nearest_in, number_of_key, own_in, start_in}
 use Rattle.fm_lookup.specs.inner.NearestSteps.{is_signed, or_else}
 
 -- the mark at a place; past the end none is set
 abbrev pub is_marked : List Bool → ℕ → Bool
 is_marked marks place = slice_index_or marks place false
 
+-- the first member of the signature that a class of the list declares, from the noted place on
+abbrev pub first_along : Nearest → List MemberRow → Starts → ℕ → List ℕ → ℕ → Option ℕ
+first_along n rows s class list signature = first_found (own_in n rows signature) (drop (start_in s class signature) list)
+
 -- the field of a signature from a class on
 abbrev pub field_in : Fields → Hierarchy → ℕ → ℕ → Option ℕ
 field_in f h class signature =
     if is_marked f.in_interfaces.items signature
-    then first_found (own_in f.nearest f.members.rows.items signature) (list_in h.paths.items class)
+    then first_along f.nearest f.members.rows.items f.starts class (list_in h.paths.items class) signature
     else nearest_in f.nearest class signature
 
 -- the class's own method of a signature
 abbrev pub own_method_in : Methods → ℕ → ℕ → Option ℕ
 own_method_in m signature class = own_in m.nearest m.members.rows.items signature class
 
+-- the first method of the signature that an interface of the list declares, from the noted place of the class on
+abbrev pub interface_method_in : Methods → ℕ → List ℕ → ℕ → Option ℕ
+interface_method_in m class list signature = first_along m.nearest m.members.rows.items m.starts class list signature
+
 -- the method of a class's superinterfaces; of those of an interface, or of Object
 abbrev pub method_above_in : Methods → Hierarchy → ℕ → ℕ → Option ℕ
 method_above_in m h class signature =
     if is_interface_at h.classes.now class
-    then or_else (first_found (own_method_in m signature) (list_in h.above.items class)) (option_and_then (own_method_in m signature) h.object)
-    else first_found (own_method_in m signature) (list_in h.interfaces.items class)
+    then or_else (interface_method_in m class (list_in h.above.items class) signature) (option_and_then (own_method_in m signature) h.object)
+    else interface_method_in m class (list_in h.interfaces.items class) signature
 
 -- the method of a signature from a class or an interface on
 abbrev pub method_in : Methods → Hierarchy → ℕ → ℕ → Option ℕ
@@ -60,8 +71,7 @@ is_constructor_in m method = named (slice_get m.members.rows.items method) where
 abbrev pub searches_in : Methods → Hierarchy → ℕ → Option ℕ → ℕ → Bool
 searches_in m h caller None method = false
 searches_in m h caller (Some named) method =
-    not (is_constructor_in m method) && has_flag (class_at h.classes.now caller).flags ACC_SUPER && is_among named
-    (drop 1 (list_in h.chains.items caller))
+    not (is_constructor_in m method) && has_flag (class_at h.classes.now caller).flags ACC_SUPER && is_superclass_in h caller named
 
 -- ---- what the public calls answer
 

@@ -1,5 +1,5 @@
 -- What the tables of superclasses and superinterfaces say of the classes.
-use Rattle.std.specs.Prelude.{◌≡◌, ℕ, ◌<◌, true, false, List, length, map, nat_eq, Some, slice_get, take}
+use Rattle.std.specs.Prelude.{◌≡◌, ℕ, ◌-◌, ◌<◌, ◌&&◌, Bool, true, false, List, length, map, nat_eq, nat_lt, Option, None, Some, slice_get, take}
 use Rattle.fm_world.specs.Acyclic.{IsAcyclic}
 use Rattle.fm_world.specs.Causes.{goes_deep}
 use Rattle.fm_world.specs.Chains.{chain_of, distinct, interfaces_of, is_among, listed_interfaces, parent_of, superinterfaces_of}
@@ -22,6 +22,15 @@ pub record IsDownwards (classes : List DeclaredClass) (order : List ℕ) : Type 
   pub after : (place class parent : ℕ) → slice_get order place ≡ Some class → parent_of classes class ≡ Some parent
       → is_among parent (take place order) ≡ true
 
+-- the number is there, and is this one
+abbrev pub is_this : ℕ → Option ℕ → Bool
+is_this number None = false
+is_this number (Some n) = nat_eq n number
+
+-- the number stands so far from the end of a chain, and not as the first of it
+abbrev pub stands_above : List ℕ → ℕ → ℕ → Bool
+stands_above chain far number = nat_lt far (length chain) && is_this number (slice_get chain (length chain - far))
+
 -- the tables before anything is refused: superinterfaces are found where no chain of interfaces leads into a cycle
 pub record AreAncestors (classes : List DeclaredClass) (a : Ancestors) : Type 0 where
   pub classes_are : a.classes.now ≡ classes
@@ -36,6 +45,10 @@ pub record AreAncestors (classes : List DeclaredClass) (a : Ancestors) : Type 0 
 -- where a field of a class is looked for, each class and each interface once
 abbrev pub distinct_path : List DeclaredClass → ℕ → List ℕ
 distinct_path classes class = distinct nat_eq (field_path classes class)
+
+-- the second class stands in the chain of the first one as far from its end as its own chain is long
+abbrev pub is_superclass_in : Hierarchy → ℕ → ℕ → Bool
+is_superclass_in h class other = stands_above (list_in h.chains.items class) (length (list_in h.chains.items other)) other
 
 -- the tables of classes of which none is refused
 pub record IsHierarchy (classes : List DeclaredClass) (h : Hierarchy) : Type 0 where

@@ -1,10 +1,10 @@
 -- The tables that answer which member a class has, or inherits, of a name with a descriptor. All members of one name with one descriptor go by the
 -- number of the first one of them, which is their signature.
-use Rattle.std.specs.Prelude.{◌≡◌, ℕ, zero, suc, ◌<◌, ◌&&◌, Bool, true, List, length, map, nat_eq, position, option_and_then, Option, Some, None, slice_get, if◌then◌else◌}
+use Rattle.std.specs.Prelude.{◌≡◌, ℕ, zero, suc, ◌<◌, ◌&&◌, Bool, true, List, length, map, nat_eq, position, option_and_then, Option, Some, None, slice_get, slice_index, unwrap_or, if◌then◌else◌}
 use Rattle.std.specs.BTreeMap.{BTreeMap, get_by}
 use Rattle.std.specs.List.{slice_index_or}
 use Rattle.std.specs.Ordering.{nat_cmp, ordering_then}
-use Rattle.fm_world.specs.Chains.{chain_of, first_found}
+use Rattle.fm_world.specs.Chains.{chain_of, first_found, interfaces_of, superinterfaces_of}
 use Rattle.fm_world.specs.Lookups.{any_flags, constructor_name, is_interface_at, is_selectable}
 use Rattle.fm_world.specs.Members.{is_instance}
 use Rattle.fm_world.specs.declared.declarations.DeclaredClass.{DeclaredClass}
@@ -16,6 +16,8 @@ use Rattle.fm_lookup.specs.declared.members.Kept.TheVariants as kept
 use Rattle.fm_lookup.specs.declared.members.MemberRow.{MemberRow}
 use Rattle.fm_lookup.specs.declared.members.Nearest.{Nearest}
 use Rattle.fm_lookup.specs.declared.members.Signatures.{Signatures}
+use Rattle.fm_lookup.specs.declared.starts.Starts.{Starts}
+use Rattle.fm_lookup.specs.inner.Hierarchy.{distinct_path}
 use Rattle.fm_lookup.specs.inner.MemberRows.{no_row, AreFieldRows, AreMethodRows}
 
 -- ---- signatures
@@ -92,6 +94,31 @@ MarksInterfaces classes rows signatures marks =
     (member : ℕ) → member < length rows → is_interface_at classes (slice_index_or rows member no_row).class ≡ true
     → slice_get marks (slice_index_or signatures member 0) ≡ Some true
 
+-- ---- from where members are looked for
+
+-- no class of the list before the place declares a member of the signature
+abbrev pub IsStart : List ℕ → List MemberRow → List ℕ → ℕ → ℕ → Type 0
+IsStart list rows signatures signature start =
+    (i k : ℕ) → i < start → i < length list → k < length rows → slice_index signatures k ≡ signature
+    → (slice_index_or rows k no_row).class ≡ slice_index list i → ⊥
+
+-- the place that is noted for a class and a signature; 0 where none is
+abbrev pub start_in : Starts → ℕ → ℕ → ℕ
+start_in s class signature = unwrap_or (number_of_key s.places class signature) 0
+
+-- each place is so in the list of its class
+abbrev pub AreStarts : (ℕ → List ℕ) → List MemberRow → List ℕ → Starts → Type 0
+AreStarts list_of rows signatures s = (class signature : ℕ) → IsStart (list_of class) rows signatures signature (start_in s class signature)
+
+-- each place of the program's classes is so
+abbrev pub AreStartsOf : List DeclaredClass → (ℕ → List ℕ) → List MemberRow → List ℕ → Starts → Type 0
+AreStartsOf classes list_of rows signatures s =
+    (class signature : ℕ) → class < length classes → IsStart (list_of class) rows signatures signature (start_in s class signature)
+
+-- the superinterfaces where a method of a class is looked for; of an interface those by its own list
+abbrev pub searched_interfaces : List DeclaredClass → ℕ → List ℕ
+searched_interfaces classes class = if is_interface_at classes class then superinterfaces_of classes class else interfaces_of classes class
+
 -- ---- all tables
 
 -- no text stands twice
@@ -105,6 +132,7 @@ pub record AreFields (texts : List (List ℕ)) (classes : List DeclaredClass) (f
   pub signatures : AreSignatures f.members.rows.items f.signatures
   pub nearest : AreNearest classes f.members.rows.items f.signatures.of_members.items any_flags f.nearest
   pub in_interfaces : MarksInterfaces classes f.members.rows.items f.signatures.of_members.items f.in_interfaces.items
+  pub starts : AreStartsOf classes (distinct_path classes) f.members.rows.items f.signatures.of_members.items f.starts
 
 -- the tables of the classes' methods
 pub record AreMethods (texts : List (List ℕ)) (classes : List DeclaredClass) (m : Methods) : Type 0 where
@@ -114,4 +142,5 @@ pub record AreMethods (texts : List (List ℕ)) (classes : List DeclaredClass) (
   pub nearest : AreNearest classes m.members.rows.items m.signatures.of_members.items any_flags m.nearest
   pub of_objects : AreNearest classes m.members.rows.items m.signatures.of_members.items is_instance m.of_objects
   pub selectable : AreNearest classes m.members.rows.items m.signatures.of_members.items is_selectable m.selectable
+  pub starts : AreStartsOf classes (searched_interfaces classes) m.members.rows.items m.signatures.of_members.items m.starts
   pub constructor : slice_get texts m.constructor ≡ Some constructor_name

@@ -1,5 +1,6 @@
 use Rattle.std.proofs.Common.{subst}
 use Rattle.fm_lookup.proofs.SectionRows.{AreSections-methods}
+use Rattle.fm_lookup.proofs.StartLemmas.{starts_along_interfaces}
 use Rattle.fm_lookup.specs.inner.MemberTables.{AreSignatures}
 use Rattle.fm_lookup.proofs.lookups.Methods.of.Goals as goal
 
@@ -13,5 +14,7 @@ returns c = λ texts classes distinct is rows constructor.
       nearest = c.in_ok-nearest.ensures classes is sections;
       of_objects = c.in_ok-of_objects.ensures classes is sections;
       selectable = c.in_ok-selectable.ensures classes is sections;
+      starts = starts_along_interfaces classes c.args.hierarchy.now is c.args.members.rows.items c.in_ok-signatures.signatures.of_members.items
+          c.in_ok-starts.starts c.in_ok-starts.ensures;
       constructor = constructor;
     }

@@ -1,9 +1,9 @@
 use Rattle.std.proofs.Common.{sym, ◌∙◌, ap, ◌+◌, length}
 use Rattle.std.specs.List.{position_from}
 use Rattle.std.proofs.lemmas.List.{drop_all}
-use Rattle.fm_refuse.specs.inner.MainClass.{is_named}
+use Rattle.fm_link.specs.inner.MainClass.{is_named}
 use Rattle.fm_world.specs.BuiltIns.{built_in}
-use Rattle.fm_refuse.proofs.main_class.main_class.Goals as goal
+use Rattle.fm_link.proofs.main_class.main_class.Goals as goal
 
 pub returns : goal.returns
 returns c =

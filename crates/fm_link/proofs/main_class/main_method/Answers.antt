@@ -1,8 +1,8 @@
 use Rattle.std.proofs.Common.{sym, ◌∙◌, ap}
 use Rattle.std.proofs.lemmas.List.{drop_all}
-use Rattle.fm_refuse.specs.inner.MainClass.{own_main_in}
+use Rattle.fm_link.specs.inner.MainClass.{own_main_in}
 use Rattle.fm_world.specs.Chains.{first_found}
-use Rattle.fm_refuse.proofs.main_class.main_method.Goals as goal
+use Rattle.fm_link.proofs.main_class.main_method.Goals as goal
 
 pub returns : goal.returns
 returns c =

@@ -1,8 +1,8 @@
 use Rattle.std.proofs.Common.{sym, ◌∙◌}
 use Rattle.fm_declare.specs.inner.Numbering.{texts_in}
-use Rattle.fm_refuse.proofs.MainMethods.{first_here, first_next, first_none}
-use Rattle.fm_refuse.specs.inner.MainClass.{is_main_at}
-use Rattle.fm_refuse.proofs.main_class.main_between.Goals as goal
+use Rattle.fm_link.proofs.MainMethods.{first_here, first_next, first_none}
+use Rattle.fm_link.specs.inner.MainClass.{is_main_at}
+use Rattle.fm_link.proofs.main_class.main_between.Goals as goal
 
 pub loop-method-preserved : goal.loop-method-preserved
 loop-method-preserved c =

@@ -1,8 +1,8 @@
 use Rattle.std.proofs.Common.{◌≡◌, ◌-◌}
 use Rattle.fm_declare.specs.inner.Numbering.{texts_in}
 use Rattle.fm_lookup.specs.inner.MemberTables.{first_from}
-use Rattle.fm_refuse.specs.inner.MainClass.{is_main_at, main_between}
-use Rattle.fm_refuse.proofs.main_class.main_between.Given as goal
+use Rattle.fm_link.specs.inner.MainClass.{is_main_at, main_between}
+use Rattle.fm_link.proofs.main_class.main_between.Given as goal
 
 abbrev pub invariant-loop-method : goal.invariant-loop-method
 invariant-loop-method l =

@@ -25,7 +25,7 @@ use Rattle.fm_lookup.specs.inner.NearestSteps.{or_else}
 use Rattle.fm_refuse.specs.declared.linking.Linking.{Linking}
 use Rattle.fm_refuse.specs.inner.GivenClasses.{class_in, given_in}
 use Rattle.fm_refuse.specs.inner.Linking.{IsLinking}
-use Rattle.fm_refuse.specs.inner.MainClass.{is_main_at, is_main_in, is_main_row, is_named, main_between, main_descriptor, main_found, main_method_in, main_name, number_among, own_main_in}
+use Rattle.fm_link.specs.inner.MainClass.{is_main_at, is_main_in, is_main_row, is_named, main_between, main_descriptor, main_found, main_method_in, main_name, number_among, own_main_in}
 use Rattle.fm_world.specs.BuiltIns.{built_in}
 use Rattle.fm_world.specs.Causes.{is_there_and, no_main, NoMain, own_name, Refusal, refused_if}
 use Rattle.fm_world.specs.Chains.{chain_of, first_found, is_among}

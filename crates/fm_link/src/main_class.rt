@@ -5,21 +5,20 @@ ghost use Rattle.fm_declare.specs.inner.Numbering.{texts_in};
 ghost use Rattle.fm_refuse.specs.Refused.{Refuses};
 ghost use Rattle.fm_refuse.specs.inner.GivenClasses.{given_in, AreNumbered};
 ghost use Rattle.fm_refuse.specs.inner.Linking.{IsLinking};
-ghost use Rattle.fm_refuse.specs.inner.MainClass.{is_main_at, is_main_row, main_between, main_found, main_method_in, number_among, own_main_in};
+ghost use Rattle.fm_link.specs.inner.MainClass.{is_main_at, is_main_row, main_between, main_found, main_method_in, number_among, own_main_in};
 ghost use Rattle.fm_world.specs.Linking.{refused_main};
 ghost use Rattle.fm_world.specs.Programs.{classes_of, given_number, main_of};
 
-use crate::error::{LinkFail, bad_of};
-use crate::linking::Linking;
 use fm_base::NoMemory;
 use fm_code::{ACC_STATIC, has_flag};
 use fm_declare::{GivenFile, Texts, number_of};
 use fm_lookup::{MemberRow, Members};
+use fm_refuse::{LinkFail, Linking, bad_of};
 use fm_world::built_in_classes;
 use std::alloc::Global;
 
 /// The main class and its main method by number, or the refusal of a program that has none.
-pub fn main_of(
+pub(crate) fn main_of(
     alloc: Global,
     linking: Linking,
     files: &[GivenFile],
