@@ -15,5 +15,4 @@ pub mod CallOffsetLemmas
 pub mod OutcomeLemmas
 pub mod JudgedLemmas
 pub mod StepLemmas
-pub mod Borrowed
 pub mod WovenLemmas

@@ -26,7 +26,7 @@ use Rattle.fm_rewrite.specs.Plans.{HasOldItems, IsPlannedByFacts}
 use Rattle.fm_rewrite.specs.inner.ByPlans.{frees_by, frees_of_one, HaveCounts, MayDoEach, others, own, sites_by, sites_of_one}
 use Rattle.fm_rewrite.specs.inner.Meant.{AreAllPlanned}
 use Rattle.fm_place.specs.Insertions.{all_insertions}
-use Rattle.fm_rewrite.proofs.Borrowed.{frees_within}
+use Rattle.fm_weave.proofs.FreesLemmas.{frees_within}
 use Rattle.fm_weave.specs.ByPlan.{narrow_by}
 use Rattle.fm_weave.specs.ClassByPlan.{MayDo, MayDoAll, MayWeave}
 use Rattle.fm_weave.specs.Conditions.{MayBeWoven}

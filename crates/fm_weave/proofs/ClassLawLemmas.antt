@@ -45,7 +45,7 @@ methods-same plans free first (p ∷ planned) (m ∷ methods) (one, rest) =
     λ k. method-same free (plans first) p m one k ∷ methods-same plans free (first + 1) planned methods rest k
 
 -- the class, as it is or changed
-abbrev by_change : Plans → (first : ℕ) → ClassDef → Bool → ClassDef
+abbrev pub by_change : Plans → (first : ℕ) → ClassDef → Bool → ClassDef
 by_change plans first c false = c
 by_change plans first c true = record c {
   minor = 0;

@@ -5,6 +5,7 @@ pub mod LaidLemmas
 pub mod LengthLemmas
 pub mod NarrowLemmas
 pub mod PlanLemmas
+pub mod FreesLemmas
 pub mod WeaveLemmas
 pub mod ClassLemmas
 pub mod ClassLawLemmas

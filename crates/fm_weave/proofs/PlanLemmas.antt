@@ -25,7 +25,7 @@ use Rattle.fm_weave.specs.Laws.{IsWholePlan, PlansAreInsertions, PlansMayBeWoven
 -- ---- lists of pairs
 
 -- what is listed for so many items, from one on
-abbrev listed : (ℕ → List ℕ) → ℕ → ℕ → List (ℕ × ℕ)
+abbrev pub listed : (ℕ → List ℕ) → ℕ → ℕ → List (ℕ × ℕ)
 listed f j n = flat_map (paired f) (range_with_len j n)
 
 same_number : (j : ℕ) → (j == j) ≡ true
@@ -62,10 +62,10 @@ drop-front : (j : ℕ) (hs : List ℕ) (rest : List (ℕ × ℕ)) → drop (leng
 drop-front j [] rest = refl
 drop-front j (h ∷ hs) rest = drop-front j hs rest
 
-here-listed : (f : ℕ → List ℕ) (j n : ℕ) → here j (listed f j (suc n)) ≡ paired f j
+pub here-listed : (f : ℕ → List ℕ) (j n : ℕ) → here j (listed f j (suc n)) ≡ paired f j
 here-listed f j n = ap (λ m. take m (listed f j (suc n))) (leading-listed f j n) ∙ take-front j (f j) (listed f (j + 1) n)
 
-later-listed : (f : ℕ → List ℕ) (j n : ℕ) → later j (listed f j (suc n)) ≡ listed f (j + 1) n
+pub later-listed : (f : ℕ → List ℕ) (j n : ℕ) → later j (listed f j (suc n)) ≡ listed f (j + 1) n
 later-listed f j n = ap (λ m. drop m (listed f j (suc n))) (leading-listed f j n) ∙ drop-front j (f j) (listed f (j + 1) n)
 
 -- ---- anchors
@@ -104,10 +104,10 @@ items-same free code ins anchors j (item ∷ items) =
 
 -- ---- a method
 
-before-is : (code : Code) (ins : Insertions) (plan : Plan) → IsWholePlan code ins plan → plan.before.items ≡ listed (before_at ins) 0 (length code.items)
+pub before-is : (code : Code) (ins : Insertions) (plan : Plan) → IsWholePlan code ins plan → plan.before.items ≡ listed (before_at ins) 0 (length code.items)
 before-is code ins plan is = is.plan_is.before ∙ ap (λ n. listed (before_at ins) 0 n) is.whole
 
-after-is : (code : Code) (ins : Insertions) (plan : Plan) → IsWholePlan code ins plan → plan.after.items ≡ listed (after_at ins) 0 (length code.items)
+pub after-is : (code : Code) (ins : Insertions) (plan : Plan) → IsWholePlan code ins plan → plan.after.items ≡ listed (after_at ins) 0 (length code.items)
 after-is code ins plan is = is.plan_is.after ∙ ap (λ n. listed (after_at ins) 0 n) is.whole
 
 pub anchors-is : (code : Code) (ins : Insertions) (plan : Plan) → IsWholePlan code ins plan → anchors_by code plan ≡ anchors_of ins code.items
