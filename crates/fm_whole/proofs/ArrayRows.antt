@@ -227,9 +227,9 @@ module _ (r : Row) where
 
   pub array_load_whole : (e : Elem) → array_load_row o e r.before ≡ Some r.after → Whole r (array_load_effect o e seen)
   unfolding array_load_row array_load_effect
-  array_load_whole e row =
+  array_load_whole e checked =
       load_by e (below_found o r.areas.store r.own r.news r.before r.frame r.locals r.stack (slot.Int ∷ [])
-      (on_array (is_array_of e) (null_element e) (typed.element_of e)) r.after row)
+      (on_array (is_array_of e) (null_element e) (typed.element_of e)) r.after checked)
 
   -- ---- storing
 
@@ -289,9 +289,9 @@ module _ (r : Row) where
 
   pub array_store_whole : (e : Elem) → array_store_row o e r.before ≡ Some r.after → Whole r (array_store_effect o e seen)
   unfolding array_store_row
-  array_store_whole e row =
+  array_store_whole e checked =
       store_by e (below_found o r.areas.store r.own r.news r.before r.frame r.locals r.stack (stored_element o e ++ slot.Int ∷ [])
-      (on_array (is_array_of e) [] (λ t. [])) r.after row)
+      (on_array (is_array_of e) [] (λ t. [])) r.after checked)
 
   -- ---- lengths
 
@@ -315,7 +315,7 @@ module _ (r : Row) where
 
   pub length_whole : length_row o r.before ≡ Some r.after → Whole r (length_effect o seen)
   unfolding length_row
-  length_whole row = length_by (below_found o r.areas.store r.own r.news r.before r.frame r.locals r.stack [] measured r.after row)
+  length_whole checked = length_by (below_found o r.areas.store r.own r.news r.before r.frame r.locals r.stack [] measured r.after checked)
 
   -- ---- new arrays
 
@@ -323,12 +323,12 @@ module _ (r : Row) where
   negative_whole = thrown_whole r (codes "java/lang/NegativeArraySizeException") r.cells.built_in.thrown.1.1.1.1.1.0
 
   array_whole : (t : TypeRef) → worked o (slot.Int ∷ []) (slot.Ref t ∷ []) r.before ≡ Some r.after → Whole r (array_made o (Some t) seen)
-  array_whole t row =
-      asked_int r (slot.Int ∷ []) (slot.Ref t ∷ []) row 0 refl _
+  array_whole t checked =
+      asked_int r (slot.Int ∷ []) (slot.Ref t ∷ []) checked 0 refl _
       (λ n. by_if (Whole r) (int_lt n (pos 0)) (thrown_negative o) (making 1 (Make t (unsigned_abs n) [])) (λ below. negative_whole)
       (λ fine. record {
         acts = (inl refl, tt);
-        next = worked_leaves r (slot.Int ∷ []) (slot.Ref t ∷ []) (making 1 (Make t (unsigned_abs n) [])) row refl refl
+        next = worked_leaves r (slot.Int ∷ []) (slot.Ref t ∷ []) (making 1 (Make t (unsigned_abs n) [])) checked refl refl
             (λ y made went. (
               inr (made_is r (t ∷ []) y made went 0 t (λ u. fits_type o.classes u t) refl (type-refl o.classes r.steps.tree t)),
               tt,
@@ -337,18 +337,18 @@ module _ (r : Row) where
 
   pub new_array_whole : (e : Elem) → new_array_row o e r.before ≡ Some r.after → Whole r (new_array_effect o e seen)
   unfolding new_array_row new_array_effect
-  new_array_whole elem.Boolean row = array_whole (record { dims = 1; base = base.Boolean }) row
-  new_array_whole elem.Byte row = array_whole (record { dims = 1; base = base.Byte }) row
-  new_array_whole elem.Char row = array_whole (record { dims = 1; base = base.Char }) row
-  new_array_whole elem.Short row = array_whole (record { dims = 1; base = base.Short }) row
-  new_array_whole elem.Int row = array_whole (record { dims = 1; base = base.Int }) row
-  new_array_whole elem.Long row = array_whole (record { dims = 1; base = base.Long }) row
-  new_array_whole elem.Ref row = absurd (cc)
+  new_array_whole elem.Boolean checked = array_whole (record { dims = 1; base = base.Boolean }) checked
+  new_array_whole elem.Byte checked = array_whole (record { dims = 1; base = base.Byte }) checked
+  new_array_whole elem.Char checked = array_whole (record { dims = 1; base = base.Char }) checked
+  new_array_whole elem.Short checked = array_whole (record { dims = 1; base = base.Short }) checked
+  new_array_whole elem.Int checked = array_whole (record { dims = 1; base = base.Int }) checked
+  new_array_whole elem.Long checked = array_whole (record { dims = 1; base = base.Long }) checked
+  new_array_whole elem.Ref checked = absurd (cc)
 
   pub new_references_whole : (u : Use) → new_references_row o u r.before ≡ Some r.after → Whole r (new_references_effect o u seen)
   unfolding new_references_row new_references_effect
-  new_references_whole u row =
-      by_row_type (Whole r) o u _ r.after row _
+  new_references_whole u checked =
+      by_row_type (Whole r) o u _ r.after checked _
       (λ n t is at array_is.
       let found = option_and_then-some (λ array. worked o (slot.Int ∷ []) (slot.Ref array ∷ []) r.before) (array_of t) r.after array_is in
       subst (λ a. Whole r (array_made o a seen)) (sym found.1) (array_whole found.0 found.2))

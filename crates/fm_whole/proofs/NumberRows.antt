@@ -39,68 +39,68 @@ module _ (r : Row) where
 
   pub int_op_whole : (op : Op) → worked o two_ints one_int r.before ≡ Some r.after → Whole r (int_op_effect o op seen)
   unfolding int_op_effect
-  int_op_whole op row =
-      asked_int r two_ints one_int row 0 refl _ (λ b.
-      asked_int r two_ints one_int row 1 refl _ (λ a.
+  int_op_whole op checked =
+      asked_int r two_ints one_int checked 0 refl _ (λ b.
+      asked_int r two_ints one_int checked 1 refl _ (λ a.
       by_thrown (Whole r) o (result_of_op op 32 a b) _
       (thrown_whole r (codes "java/lang/ArithmeticException") r.cells.built_in.thrown.1.0)
-      (λ n. int_given r two_ints n row)))
+      (λ n. int_given r two_ints n checked)))
 
   pub long_op_whole : (op : Op) → worked o two_longs one_long r.before ≡ Some r.after → Whole r (long_op_effect o op seen)
   unfolding long_op_effect
-  long_op_whole op row =
-      asked_long r two_longs one_long row 1 refl _ (λ b.
-      asked_long r two_longs one_long row 3 refl _ (λ a.
+  long_op_whole op checked =
+      asked_long r two_longs one_long checked 1 refl _ (λ b.
+      asked_long r two_longs one_long checked 3 refl _ (λ a.
       by_thrown (Whole r) o (result_of_op op 64 a b) _
       (thrown_whole r (codes "java/lang/ArithmeticException") r.cells.built_in.thrown.1.0)
-      (λ n. long_given r two_longs n row)))
+      (λ n. long_given r two_longs n checked)))
 
   pub int_negate_whole : worked o one_int one_int r.before ≡ Some r.after → Whole r (int_negate_effect seen)
   unfolding int_negate_effect
-  int_negate_whole row =
-      asked_int r one_int one_int row 0 refl _
-      (λ a. int_given r one_int _ row)
+  int_negate_whole checked =
+      asked_int r one_int one_int checked 0 refl _
+      (λ a. int_given r one_int _ checked)
 
   pub long_negate_whole : worked o one_long one_long r.before ≡ Some r.after → Whole r (long_negate_effect seen)
   unfolding long_negate_effect
-  long_negate_whole row =
-      asked_long r one_long one_long row 1 refl _
-      (λ a. long_given r one_long _ row)
+  long_negate_whole checked =
+      asked_long r one_long one_long checked 1 refl _
+      (λ a. long_given r one_long _ checked)
 
   pub int_shift_whole : (shift : Shift) → worked o two_ints one_int r.before ≡ Some r.after → Whole r (int_shift_effect shift seen)
   unfolding int_shift_effect
-  int_shift_whole shift row =
-      asked_int r two_ints one_int row 0 refl _ (λ n.
-      asked_int r two_ints one_int row 1 refl _
-      (λ a. int_given r two_ints _ row))
+  int_shift_whole shift checked =
+      asked_int r two_ints one_int checked 0 refl _ (λ n.
+      asked_int r two_ints one_int checked 1 refl _
+      (λ a. int_given r two_ints _ checked))
 
   pub long_shift_whole : (shift : Shift) → worked o int_and_long one_long r.before ≡ Some r.after → Whole r (long_shift_effect shift seen)
   unfolding long_shift_effect
-  long_shift_whole shift row =
-      asked_int r int_and_long one_long row 0 refl _ (λ n.
-      asked_long r int_and_long one_long row 2 refl _
-      (λ a. long_given r int_and_long _ row))
+  long_shift_whole shift checked =
+      asked_int r int_and_long one_long checked 0 refl _ (λ n.
+      asked_long r int_and_long one_long checked 2 refl _
+      (λ a. long_given r int_and_long _ checked))
 
   narrowed_whole : (to : Conv) → worked o one_int one_int r.before ≡ Some r.after → Whole r (int_converted to seen)
-  narrowed_whole to row =
-      asked_int r one_int one_int row 0 refl _
-      (λ a. int_given r one_int _ row)
+  narrowed_whole to checked =
+      asked_int r one_int one_int checked 0 refl _
+      (λ a. int_given r one_int _ checked)
 
   pub convert_whole : (to : Conv) → convert_row o to r.before ≡ Some r.after → Whole r (convert_effect to seen)
   unfolding convert_row convert_effect
-  convert_whole conv.IntToLong row =
-      asked_int r one_int one_long row 0 refl _
-      (λ a. long_given r one_int _ row)
-  convert_whole conv.LongToInt row =
-      asked_long r one_long one_int row 1 refl _
-      (λ a. int_given r one_long _ row)
-  convert_whole conv.IntToByte row = narrowed_whole conv.IntToByte row
-  convert_whole conv.IntToChar row = narrowed_whole conv.IntToChar row
-  convert_whole conv.IntToShort row = narrowed_whole conv.IntToShort row
+  convert_whole conv.IntToLong checked =
+      asked_int r one_int one_long checked 0 refl _
+      (λ a. long_given r one_int _ checked)
+  convert_whole conv.LongToInt checked =
+      asked_long r one_long one_int checked 1 refl _
+      (λ a. int_given r one_long _ checked)
+  convert_whole conv.IntToByte checked = narrowed_whole conv.IntToByte checked
+  convert_whole conv.IntToChar checked = narrowed_whole conv.IntToChar checked
+  convert_whole conv.IntToShort checked = narrowed_whole conv.IntToShort checked
 
   pub compare_whole : worked o two_longs one_int r.before ≡ Some r.after → Whole r (compare_effect seen)
   unfolding compare_effect
-  compare_whole row =
-      asked_long r two_longs one_int row 1 refl _ (λ b.
-      asked_long r two_longs one_int row 3 refl _
-      (λ a. int_given r two_longs _ row))
+  compare_whole checked =
+      asked_long r two_longs one_int checked 1 refl _ (λ b.
+      asked_long r two_longs one_int checked 3 refl _
+      (λ a. int_given r two_longs _ checked))
