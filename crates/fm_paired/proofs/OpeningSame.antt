@@ -34,6 +34,7 @@ use Rattle.fm_sound.specs.Sound.{AreasAreSound}
 use Rattle.fm_sound.proofs.NextPlaces.{starts_agree}
 use Rattle.fm_sound.proofs.Opening.{first_sound, fit_later, IsOfStart, start_made, streams_keep}
 use Rattle.fm_sound.proofs.OpeningActs.{opening_fits}
+use Rattle.fm_sound.proofs.OpeningCells.{opening_agrees}
 use Rattle.fm_sound.proofs.StartActs.{start_alone}
 use Rattle.fm_paired.specs.Pairing.{AreasPaired, FramesPaired, SameCell, SameEnd, SameValue, StatesPaired}
 use Rattle.fm_paired.specs.Reading.{ActsAlike}
@@ -47,14 +48,6 @@ use Rattle.fm_paired.proofs.Stores.{opened_paired, same_zero}
 use Rattle.fm_paired.proofs.WordsSame.{first_less, lacks_same, next_within, second_less, there_same, within_budget}
 
 -- ---- what the opening does
-
-arguments_agree : (o : Outline) (store : Store) (place : ℕ) (texts : List (List ℕ)) → AllByRecursion (PutAgrees o store []) (argument_actions o place texts)
-arguments_agree o store place [] = tt
-arguments_agree o store place (text ∷ texts) = (tt, (tt, arguments_agree o store (place + 1) texts))
-
-opening_agrees : (o : Outline) (store : Store) (job : Job) → AllByRecursion (PutAgrees o store []) (opening_actions o job)
-unfolding opening_actions
-opening_agrees o store job = (tt, (tt, (tt, arguments_agree o store 0 job.arguments)))
 
 arguments_alike : (o : Outline) (store : Store) (place : ℕ) (texts : List (List ℕ)) → AllByRecursion (ActsAlike o store no_frame) (argument_actions o place texts)
 arguments_alike o store place [] = tt

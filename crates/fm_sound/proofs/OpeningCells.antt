@@ -262,11 +262,11 @@ streams_lead o areas made leads small = record {
   heap = leads.heap;
 }
 
-arguments_agree : (o : Outline) (store : Store) (place : ℕ) (texts : List (List ℕ)) → AllByRecursion (PutAgrees o store []) (argument_actions o place texts)
+pub arguments_agree : (o : Outline) (store : Store) (place : ℕ) (texts : List (List ℕ)) → AllByRecursion (PutAgrees o store []) (argument_actions o place texts)
 arguments_agree o store place [] = tt
 arguments_agree o store place (text ∷ texts) = (tt, (tt, arguments_agree o store (place + 1) texts))
 
-opening_agrees : (o : Outline) (store : Store) (job : Job) → AllByRecursion (PutAgrees o store []) (opening_actions o job)
+pub opening_agrees : (o : Outline) (store : Store) (job : Job) → AllByRecursion (PutAgrees o store []) (opening_actions o job)
 unfolding opening_actions
 opening_agrees o store job = (tt, (tt, (tt, arguments_agree o store 0 job.arguments)))
 
