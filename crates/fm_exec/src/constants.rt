@@ -13,7 +13,7 @@ use fm_frames::{Machine, Value};
 use fm_world::Program;
 
 /// nop. Takes no memory.
-#[inline]
+#[inline(always)]
 pub fn nop<M: Memory>(machine: &mut Machine<M>, program: &Program)
     requires { CanStep program.now machine.old }
     ensures { Steps program.now M.choose machine.old machine.new (words 0 []) }
@@ -23,7 +23,7 @@ pub fn nop<M: Memory>(machine: &mut Machine<M>, program: &Program)
 }
 
 /// aconst_null.
-#[inline]
+#[inline(always)]
 pub fn null<M: Memory>(machine: &mut Machine<M>, program: &Program) -> Result<(), NoMemory>
     requires { CanStep program.now machine.old }
     ensures { OnOk result (Steps program.now M.choose machine.old machine.new (words 0 null_word)) }
@@ -33,7 +33,7 @@ pub fn null<M: Memory>(machine: &mut Machine<M>, program: &Program) -> Result<()
 }
 
 /// iconst, bipush and sipush, and ldc of an int.
-#[inline]
+#[inline(always)]
 pub fn int_constant<M: Memory>(
     machine: &mut Machine<M>,
     program: &Program,
@@ -47,7 +47,7 @@ pub fn int_constant<M: Memory>(
 }
 
 /// lconst, and ldc2_w of a long.
-#[inline]
+#[inline(always)]
 pub fn long_constant<M: Memory>(
     machine: &mut Machine<M>,
     program: &Program,
@@ -61,7 +61,7 @@ pub fn long_constant<M: Memory>(
 }
 
 /// ldc of a text, by its number: the literal is made at its first use.
-#[inline]
+#[inline(always)]
 pub fn text_constant<M: Memory>(
     machine: &mut Machine<M>,
     program: &Program,

@@ -17,7 +17,7 @@ use fm_frames::{Look, Machine};
 use fm_world::Program;
 
 // Whether the test holds of two ints.
-#[inline]
+#[inline(always)]
 fn holds(test: Test, a: i32, b: i32) -> bool
     ensures { result ≡ holds test a b }
 {
@@ -32,7 +32,7 @@ fn holds(test: Test, a: i32, b: i32) -> bool
 }
 
 // Takes so many words, and goes on at the instruction's one target or at the next item.
-#[inline]
+#[inline(always)]
 fn branch<M: Memory>(machine: &mut Machine<M>, takes: usize, taken: bool, target: u32)
     requires { IsReady machine.old }
     ensures { (p : world.Program) (choose : Choose) → IsTarget p machine.old 0 target
@@ -46,7 +46,7 @@ fn branch<M: Memory>(machine: &mut Machine<M>, takes: usize, taken: bool, target
 }
 
 /// ifeq and its like: an int and 0.
-#[inline]
+#[inline(always)]
 pub fn if_int<M: Memory>(machine: &mut Machine<M>, program: &Program, test: Test, target: u32)
     requires can { CanStep program.now machine.old }
     requires at { IsAt program.now machine.old (insn.IfInt test target) }
@@ -61,7 +61,7 @@ pub fn if_int<M: Memory>(machine: &mut Machine<M>, program: &Program, test: Test
 }
 
 /// if_icmpeq and its like: two ints.
-#[inline]
+#[inline(always)]
 pub fn if_pair<M: Memory>(machine: &mut Machine<M>, program: &Program, test: Test, target: u32)
     requires can { CanStep program.now machine.old }
     requires at { IsAt program.now machine.old (insn.IfPair test target) }
@@ -80,7 +80,7 @@ pub fn if_pair<M: Memory>(machine: &mut Machine<M>, program: &Program, test: Tes
 }
 
 /// if_acmpeq, and with `false` if_acmpne.
-#[inline]
+#[inline(always)]
 pub fn if_same<M: Memory>(machine: &mut Machine<M>, program: &Program, same: bool, target: u32)
     requires can { CanStep program.now machine.old }
     requires at { IsAt program.now machine.old (insn.IfSame same target) }
@@ -91,7 +91,7 @@ pub fn if_same<M: Memory>(machine: &mut Machine<M>, program: &Program, same: boo
 }
 
 /// ifnull, and with `false` ifnonnull.
-#[inline]
+#[inline(always)]
 pub fn if_null<M: Memory>(machine: &mut Machine<M>, program: &Program, null: bool, target: u32)
     requires can { CanStep program.now machine.old }
     requires at { IsAt program.now machine.old (insn.IfNull null target) }
@@ -108,7 +108,7 @@ pub fn if_null<M: Memory>(machine: &mut Machine<M>, program: &Program, null: boo
 }
 
 /// goto.
-#[inline]
+#[inline(always)]
 pub fn go_to<M: Memory>(machine: &mut Machine<M>, program: &Program, target: u32)
     requires can { CanStep program.now machine.old }
     requires at { IsAt program.now machine.old (insn.Goto target) }
@@ -119,7 +119,7 @@ pub fn go_to<M: Memory>(machine: &mut Machine<M>, program: &Program, target: u32
 }
 
 // The item of a key: of the keys from the least one on in order, and of all others.
-#[inline]
+#[inline(always)]
 fn table_item(low: i32, others: u32, targets: &[u32], key: i32) -> u32
     ensures { slice_get (others ∷ targets.now) (table_target low (length targets.now) key) ≡ Some result }
 {
@@ -134,7 +134,7 @@ fn table_item(low: i32, others: u32, targets: &[u32], key: i32) -> u32
 }
 
 /// tableswitch.
-#[inline]
+#[inline(always)]
 pub fn table_switch<M: Memory>(
     machine: &mut Machine<M>,
     program: &Program,
@@ -156,7 +156,7 @@ pub fn table_switch<M: Memory>(
 }
 
 // The place of the first of the keys that is this one.
-#[inline]
+#[inline(always)]
 fn key_place(keys: &[i32], key: i32) -> Option<usize>
     ensures { result ≡ position (int_eq key) keys.now }
 {
@@ -164,7 +164,7 @@ fn key_place(keys: &[i32], key: i32) -> Option<usize>
 }
 
 // The item of a key, which is looked for among as many of the first keys as there are targets.
-#[inline]
+#[inline(always)]
 fn key_item(others: u32, keys: &[i32], targets: &[u32], key: i32) -> u32
     ensures { slice_get (others ∷ targets.now)
         (key_target (position (int_eq key) (take (length targets.now) keys.now))) ≡ Some result }
@@ -177,7 +177,7 @@ fn key_item(others: u32, keys: &[i32], targets: &[u32], key: i32) -> u32
 }
 
 /// lookupswitch.
-#[inline]
+#[inline(always)]
 pub fn lookup_switch<M: Memory>(
     machine: &mut Machine<M>,
     program: &Program,

@@ -14,7 +14,7 @@ use fm_frames::{Machine, Value};
 use fm_world::Program;
 
 /// iload, lload and aload.
-#[inline]
+#[inline(always)]
 pub fn load<M: Memory>(
     machine: &mut Machine<M>,
     program: &Program,
@@ -33,7 +33,7 @@ pub fn load<M: Memory>(
 }
 
 /// istore, lstore and astore. Takes no memory.
-#[inline]
+#[inline(always)]
 pub fn store<M: Memory>(machine: &mut Machine<M>, program: &Program, kind: Reg, place: u16)
     requires { CanStep program.now machine.old }
     ensures { Steps program.now M.choose machine.old machine.new (store_effect kind place) }
@@ -55,7 +55,7 @@ pub fn store<M: Memory>(machine: &mut Machine<M>, program: &Program, kind: Reg, 
 }
 
 // The sum of an int and a number, which wraps.
-#[inline]
+#[inline(always)]
 fn int_sum(n: i32, by: i16) -> i32
     ensures { result ≡ signed 32 (n +ℤ by) }
 {
@@ -63,7 +63,7 @@ fn int_sum(n: i32, by: i16) -> i32
 }
 
 // An int with a number added; no value of what is no int.
-#[inline]
+#[inline(always)]
 fn sum_of(value: Value, by: i16) -> Value
     ensures { result ≡ sum_of value by }
 {
@@ -74,7 +74,7 @@ fn sum_of(value: Value, by: i16) -> Value
 }
 
 /// iinc. Takes no memory.
-#[inline]
+#[inline(always)]
 pub fn increment<M: Memory>(machine: &mut Machine<M>, program: &Program, place: u16, by: i16)
     requires { CanStep program.now machine.old }
     ensures { Steps program.now M.choose machine.old machine.new (increment_effect place by) }

@@ -15,7 +15,7 @@ use fm_frames::{ARITHMETIC_EXCEPTION, Machine, Value};
 use fm_world::Program;
 
 /// iadd, isub, imul, idiv, irem, iand, ior and ixor.
-#[inline]
+#[inline(always)]
 pub fn int_op<M: Memory>(
     machine: &mut Machine<M>,
     program: &Program,
@@ -40,7 +40,7 @@ pub fn int_op<M: Memory>(
 }
 
 /// ladd, lsub, lmul, ldiv, lrem, land, lor and lxor.
-#[inline]
+#[inline(always)]
 pub fn long_op<M: Memory>(
     machine: &mut Machine<M>,
     program: &Program,
@@ -65,7 +65,7 @@ pub fn long_op<M: Memory>(
 }
 
 // An int with its sign turned; the least one is its own.
-#[inline]
+#[inline(always)]
 fn negated_int(a: i32) -> i32
     ensures { result ≡ signed 32 (pos 0 -ℤ a) }
 {
@@ -73,7 +73,7 @@ fn negated_int(a: i32) -> i32
 }
 
 /// ineg.
-#[inline]
+#[inline(always)]
 pub fn int_negate<M: Memory>(machine: &mut Machine<M>, program: &Program) -> Result<(), NoMemory>
     requires { CanStep program.now machine.old }
     ensures { OnOk result (Steps program.now M.choose machine.old machine.new
@@ -87,7 +87,7 @@ pub fn int_negate<M: Memory>(machine: &mut Machine<M>, program: &Program) -> Res
 }
 
 // A long with its sign turned; the least one is its own.
-#[inline]
+#[inline(always)]
 fn negated_long(a: i64) -> i64
     ensures { result ≡ signed 64 (pos 0 -ℤ a) }
 {
@@ -95,7 +95,7 @@ fn negated_long(a: i64) -> i64
 }
 
 /// lneg.
-#[inline]
+#[inline(always)]
 pub fn long_negate<M: Memory>(machine: &mut Machine<M>, program: &Program) -> Result<(), NoMemory>
     requires { CanStep program.now machine.old }
     ensures { OnOk result (Steps program.now M.choose machine.old machine.new
@@ -109,7 +109,7 @@ pub fn long_negate<M: Memory>(machine: &mut Machine<M>, program: &Program) -> Re
 }
 
 /// ishl, ishr and iushr: the count is on top.
-#[inline]
+#[inline(always)]
 pub fn int_shift<M: Memory>(
     machine: &mut Machine<M>,
     program: &Program,
@@ -131,7 +131,7 @@ pub fn int_shift<M: Memory>(
 }
 
 /// lshl, lshr and lushr: the count is on top.
-#[inline]
+#[inline(always)]
 pub fn long_shift<M: Memory>(
     machine: &mut Machine<M>,
     program: &Program,
@@ -153,7 +153,7 @@ pub fn long_shift<M: Memory>(
 }
 
 /// lcmp.
-#[inline]
+#[inline(always)]
 pub fn long_compare<M: Memory>(machine: &mut Machine<M>, program: &Program) -> Result<(), NoMemory>
     requires { CanStep program.now machine.old }
     ensures { OnOk result (Steps program.now M.choose machine.old machine.new
@@ -171,7 +171,7 @@ pub fn long_compare<M: Memory>(machine: &mut Machine<M>, program: &Program) -> R
 }
 
 // i2b, i2c and i2s, whose results are ints.
-#[inline]
+#[inline(always)]
 fn convert_int<M: Memory>(
     machine: &mut Machine<M>,
     program: &Program,
@@ -191,7 +191,7 @@ fn convert_int<M: Memory>(
 }
 
 // i2l.
-#[inline]
+#[inline(always)]
 fn widen<M: Memory>(machine: &mut Machine<M>, program: &Program) -> Result<(), NoMemory>
     requires { CanStep program.now machine.old }
     ensures { OnOk result (Steps program.now M.choose machine.old machine.new
@@ -205,7 +205,7 @@ fn widen<M: Memory>(machine: &mut Machine<M>, program: &Program) -> Result<(), N
 }
 
 // l2i.
-#[inline]
+#[inline(always)]
 fn narrow<M: Memory>(machine: &mut Machine<M>, program: &Program) -> Result<(), NoMemory>
     requires { CanStep program.now machine.old }
     ensures { OnOk result (Steps program.now M.choose machine.old machine.new
@@ -220,7 +220,7 @@ fn narrow<M: Memory>(machine: &mut Machine<M>, program: &Program) -> Result<(), 
 }
 
 /// i2l, l2i, i2b, i2c and i2s.
-#[inline]
+#[inline(always)]
 pub fn convert<M: Memory>(
     machine: &mut Machine<M>,
     program: &Program,

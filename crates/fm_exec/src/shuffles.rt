@@ -12,7 +12,7 @@ use fm_frames::Machine;
 use fm_world::Program;
 
 /// pop. Takes no memory.
-#[inline]
+#[inline(always)]
 pub fn pop<M: Memory>(machine: &mut Machine<M>, program: &Program)
     requires { CanStep program.now machine.old }
     ensures { Steps program.now M.choose machine.old machine.new (move_effect insn.Pop) }
@@ -22,7 +22,7 @@ pub fn pop<M: Memory>(machine: &mut Machine<M>, program: &Program)
 }
 
 /// pop2. Takes no memory.
-#[inline]
+#[inline(always)]
 pub fn pop2<M: Memory>(machine: &mut Machine<M>, program: &Program)
     requires { CanStep program.now machine.old }
     ensures { Steps program.now M.choose machine.old machine.new (move_effect insn.Pop2) }
@@ -32,7 +32,7 @@ pub fn pop2<M: Memory>(machine: &mut Machine<M>, program: &Program)
 }
 
 /// dup.
-#[inline]
+#[inline(always)]
 pub fn dup<M: Memory>(machine: &mut Machine<M>, program: &Program) -> Result<(), NoMemory>
     requires { CanStep program.now machine.old }
     ensures { OnOk result (Steps program.now M.choose machine.old machine.new (move_effect insn.Dup)) }
@@ -43,7 +43,7 @@ pub fn dup<M: Memory>(machine: &mut Machine<M>, program: &Program) -> Result<(),
 }
 
 /// dup_x1.
-#[inline]
+#[inline(always)]
 pub fn dup_x1<M: Memory>(machine: &mut Machine<M>, program: &Program) -> Result<(), NoMemory>
     requires { CanStep program.now machine.old }
     ensures { OnOk result (Steps program.now M.choose machine.old machine.new (move_effect insn.DupX1)) }
@@ -55,7 +55,7 @@ pub fn dup_x1<M: Memory>(machine: &mut Machine<M>, program: &Program) -> Result<
 }
 
 /// dup_x2.
-#[inline]
+#[inline(always)]
 pub fn dup_x2<M: Memory>(machine: &mut Machine<M>, program: &Program) -> Result<(), NoMemory>
     requires { CanStep program.now machine.old }
     ensures { OnOk result (Steps program.now M.choose machine.old machine.new (move_effect insn.DupX2)) }
@@ -68,7 +68,7 @@ pub fn dup_x2<M: Memory>(machine: &mut Machine<M>, program: &Program) -> Result<
 }
 
 /// dup2.
-#[inline]
+#[inline(always)]
 pub fn dup2<M: Memory>(machine: &mut Machine<M>, program: &Program) -> Result<(), NoMemory>
     requires { CanStep program.now machine.old }
     ensures { OnOk result (Steps program.now M.choose machine.old machine.new (move_effect insn.Dup2)) }
@@ -80,7 +80,7 @@ pub fn dup2<M: Memory>(machine: &mut Machine<M>, program: &Program) -> Result<()
 }
 
 /// dup2_x1.
-#[inline]
+#[inline(always)]
 pub fn dup2_x1<M: Memory>(machine: &mut Machine<M>, program: &Program) -> Result<(), NoMemory>
     requires { CanStep program.now machine.old }
     ensures { OnOk result (Steps program.now M.choose machine.old machine.new (move_effect insn.Dup2X1)) }
@@ -93,7 +93,7 @@ pub fn dup2_x1<M: Memory>(machine: &mut Machine<M>, program: &Program) -> Result
 }
 
 /// dup2_x2.
-#[inline]
+#[inline(always)]
 pub fn dup2_x2<M: Memory>(machine: &mut Machine<M>, program: &Program) -> Result<(), NoMemory>
     requires { CanStep program.now machine.old }
     ensures { OnOk result (Steps program.now M.choose machine.old machine.new (move_effect insn.Dup2X2)) }
@@ -107,7 +107,7 @@ pub fn dup2_x2<M: Memory>(machine: &mut Machine<M>, program: &Program) -> Result
 }
 
 /// swap.
-#[inline]
+#[inline(always)]
 pub fn swap<M: Memory>(machine: &mut Machine<M>, program: &Program) -> Result<(), NoMemory>
     requires { CanStep program.now machine.old }
     ensures { OnOk result (Steps program.now M.choose machine.old machine.new (move_effect insn.Swap)) }

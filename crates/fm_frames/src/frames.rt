@@ -85,7 +85,7 @@ impl Frames {
     }
 
     /// The operand at this place, counted from the top; none where there are fewer.
-    #[inline]
+    #[inline(always)]
     pub fn operand(&self, place: usize) -> Option<Value>
         ensures { result ≡ slice_get (stack_in self.now) place }
     {
@@ -99,7 +99,7 @@ impl Frames {
     }
 
     /// The local at this place; no value where there is none.
-    #[inline]
+    #[inline(always)]
     pub fn local(&self, place: usize) -> Value
         ensures { result ≡ word_at (locals_in self.now) place }
     {
@@ -114,7 +114,7 @@ impl Frames {
     }
 
     /// Puts a word on top of the stack.
-    #[inline]
+    #[inline(always)]
     pub fn push(&mut self, value: Value) -> Result<(), NoMemory>
         ensures { OnOk result (self.new ≡ on_top (λ f. record f { stack = value ∷ f.stack }) self.old) }
     {
@@ -123,7 +123,7 @@ impl Frames {
     }
 
     /// Takes words off the stack.
-    #[inline]
+    #[inline(always)]
     pub fn drop_words(&mut self, count: usize)
         ensures { self.new ≡ on_top (λ f. record f { stack = drop count f.stack }) self.old }
     {
@@ -135,7 +135,7 @@ impl Frames {
     }
 
     /// Gives a local this value, if there is that local.
-    #[inline]
+    #[inline(always)]
     pub fn set_local(&mut self, place: usize, value: Value)
         ensures { self.new ≡ on_top (λ f. record f { locals = slice_set f.locals place value }) self.old }
     {
@@ -148,7 +148,7 @@ impl Frames {
     }
 
     /// Makes this item the next one.
-    #[inline]
+    #[inline(always)]
     pub fn go_to(&mut self, item: usize)
         ensures { self.new ≡ on_top (λ f. record f { item = item }) self.old }
     {
@@ -158,7 +158,7 @@ impl Frames {
     }
 
     /// Makes the item after this one the next.
-    #[inline]
+    #[inline(always)]
     pub fn advance(&mut self)
         requires { NextFits self.old }
         ensures { self.new ≡ on_top (λ f. record f { item = f.item + 1 }) self.old }
@@ -172,7 +172,7 @@ impl Frames {
     }
 
     /// The cursor of the topmost frame; none where there are no frames.
-    #[inline]
+    #[inline(always)]
     pub fn topmost(&self) -> Option<Cursor>
         ensures { option_map place result ≡ option_map place_of (spec.topmost self.now) }
     {
@@ -181,7 +181,7 @@ impl Frames {
     }
 
     /// How many frames there are.
-    #[inline]
+    #[inline(always)]
     pub fn count(&self) -> usize
         ensures { result ≡ length self.now }
     {

@@ -12,7 +12,7 @@ use crate::values::Value;
 use fm_cells::{Cell, Memory};
 
 // The cell of a reference; null of what is none.
-#[inline]
+#[inline(always)]
 fn cell_of(value: Value) -> Cell
     ensures { result.0 ≡ cell_of value }
 {
@@ -25,7 +25,7 @@ fn cell_of(value: Value) -> Cell
 impl<M: Memory> Machine<M> {
     /// Takes so many words off the stack, and goes on at an item: in each program in which the item is this
     /// target of the topmost frame's instruction. Takes no memory.
-    #[inline]
+    #[inline(always)]
     pub fn jump(&mut self, takes: usize, item: usize)
         requires { self.old.steps + 1 < 2 ^ 64 }
         ensures { (p : world.Program) (choose : Choose) (target : ℕ) → IsTarget p self.old target item
@@ -37,7 +37,7 @@ impl<M: Memory> Machine<M> {
     }
 
     // Whether the two words on top are the same reference, or with `false` aren't.
-    #[inline]
+    #[inline(always)]
     fn goes_same(&self, same: bool) -> bool
         ensures { result ≡ goes_same same self.now }
     {
@@ -48,7 +48,7 @@ impl<M: Memory> Machine<M> {
     /// Takes two references off the stack, and goes on at an item where they are the same, or where they
     /// aren't: in each program in which the item is the first target of the topmost frame's instruction.
     /// Takes no memory.
-    #[inline]
+    #[inline(always)]
     pub fn jump_if_same(&mut self, same: bool, item: usize)
         requires { IsReady self.old }
         ensures { (p : world.Program) (choose : Choose) → IsTarget p self.old 0 item

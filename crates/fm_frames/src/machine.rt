@@ -66,7 +66,7 @@ impl<M: Memory> Model for Machine<M> {
 
 impl<M: Memory> Machine<M> {
     /// The operand at this place, counted from the top; none where there are fewer. Takes no memory.
-    #[inline]
+    #[inline(always)]
     pub fn operand(&self, place: usize) -> Option<Value>
         ensures { result ≡ slice_get (stack_of self.now) place }
     {
@@ -74,7 +74,7 @@ impl<M: Memory> Machine<M> {
     }
 
     /// The word at this place of the stack; no value where there is none. Takes no memory.
-    #[inline]
+    #[inline(always)]
     pub fn word(&self, place: usize) -> Value
         ensures { result ≡ word_at (stack_of self.now) place }
     {
@@ -85,7 +85,7 @@ impl<M: Memory> Machine<M> {
     }
 
     /// The int at this place of the stack; none where there is no int. Takes no memory.
-    #[inline]
+    #[inline(always)]
     pub fn int_operand(&self, place: usize) -> Option<i32>
         ensures { result ≡ int_in (slice_get (stack_of self.now) place) }
     {
@@ -96,7 +96,7 @@ impl<M: Memory> Machine<M> {
     }
 
     /// The long at this place of the stack; none where there is no long. Takes no memory.
-    #[inline]
+    #[inline(always)]
     pub fn long_operand(&self, place: usize) -> Option<i64>
         ensures { result ≡ long_in (slice_get (stack_of self.now) place) }
     {
@@ -107,7 +107,7 @@ impl<M: Memory> Machine<M> {
     }
 
     /// The local at this place; no value where there is none. Takes no memory.
-    #[inline]
+    #[inline(always)]
     pub fn local(&self, place: usize) -> Value
         ensures { result ≡ word_at (locals_of self.now) place }
     {
@@ -116,7 +116,7 @@ impl<M: Memory> Machine<M> {
 
     /// Where the topmost frame stands: its method, and the item that is next. None where there are no
     /// frames. Takes no memory.
-    #[inline]
+    #[inline(always)]
     pub fn topmost(&self) -> Option<Cursor>
         ensures { option_map place result ≡ option_map place_of (topmost self.now.frames) }
     {
@@ -124,7 +124,7 @@ impl<M: Memory> Machine<M> {
     }
 
     /// The steps that were done. Takes no memory.
-    #[inline]
+    #[inline(always)]
     pub fn steps(&self) -> u64
         ensures { result ≡ self.now.steps }
     {

@@ -16,7 +16,7 @@ use fm_cells::Memory;
 
 impl<M: Memory> Machine<M> {
     /// Takes so many words off the stack. Takes no memory.
-    #[inline]
+    #[inline(always)]
     pub fn take(&mut self, takes: usize)
         requires { IsReady self.old }
         ensures { Does self.old self.new (words takes []) }
@@ -27,7 +27,7 @@ impl<M: Memory> Machine<M> {
     }
 
     /// Puts a value in place of so many words.
-    #[inline]
+    #[inline(always)]
     pub fn give(&mut self, takes: usize, value: Value) -> Result<(), NoMemory>
         requires { IsReady self.old }
         ensures { OnOk result ((source : Source) → value_of (before self.old) source ≡ value
@@ -41,7 +41,7 @@ impl<M: Memory> Machine<M> {
     }
 
     /// Puts a long, with its second half above it, in place of so many words.
-    #[inline]
+    #[inline(always)]
     pub fn give_wide(&mut self, takes: usize, value: Value) -> Result<(), NoMemory>
         requires { IsReady self.old }
         ensures { OnOk result ((source : Source) → value_of (before self.old) source ≡ value
@@ -56,7 +56,7 @@ impl<M: Memory> Machine<M> {
     }
 
     /// Takes so many words off the stack, and gives a local a value. Takes no memory.
-    #[inline]
+    #[inline(always)]
     pub fn store(&mut self, takes: usize, place: usize, value: Value)
         requires { IsReady self.old }
         ensures { (source : Source) → value_of (before self.old) source ≡ value
@@ -70,7 +70,7 @@ impl<M: Memory> Machine<M> {
 
     /// Takes so many words off the stack, and gives a local a long; the next local is its second half.
     /// Takes no memory.
-    #[inline]
+    #[inline(always)]
     pub fn store_wide(&mut self, takes: usize, place: u16, value: Value)
         requires { IsReady self.old }
         ensures { (source : Source) → value_of (before self.old) source ≡ value

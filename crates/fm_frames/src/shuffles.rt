@@ -14,7 +14,7 @@ use fm_base::NoMemory;
 use fm_cells::Memory;
 
 // Puts words on top of the topmost frame's stack, the first of them uppermost.
-#[inline]
+#[inline(always)]
 fn push_all(frames: &mut Frames, words: &[Value]) -> Result<(), NoMemory>
     ensures { OnOk result (frames.new ≡ on_top (with_words words.now) frames.old) }
 {
@@ -26,7 +26,7 @@ fn push_all(frames: &mut Frames, words: &[Value]) -> Result<(), NoMemory>
 
 impl<M: Memory> Machine<M> {
     /// Puts words, the first of them uppermost, in place of so many.
-    #[inline]
+    #[inline(always)]
     pub fn give_words(&mut self, takes: usize, words: &[Value]) -> Result<(), NoMemory>
         requires { IsReady self.old }
         ensures { OnOk result ((sources : List Source) → map (value_of (before self.old)) sources ≡ words.now

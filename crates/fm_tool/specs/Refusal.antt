@@ -2,7 +2,7 @@
 use Rattle.std.specs.Prelude.{ℕ, List, [], ◌∷◌, ◌++◌, codes}
 use Rattle.fm_tool.specs.declared.refusal.Refusal.{Refusal}
 use Rattle.fm_tool.specs.declared.refusal.Refusal.TheVariants as refusal
-use Rattle.fm_tool.specs.declared.status.TheConstants.{WORDS, READ, OUT_OF_MEMORY, NOT_YET}
+use Rattle.fm_tool.specs.declared.status.TheConstants.{WORDS, READ, OUT_OF_MEMORY}
 
 -- the lines, each with its line end: of words that aren't of the form,
 abbrev pub words_line : List ℕ
@@ -12,10 +12,6 @@ words_line = codes "refused: words" ++ 10 ∷ []
 abbrev pub read_line : List ℕ → List ℕ
 read_line file = codes "refused: read " ++ (file ++ 10 ∷ [])
 
--- of a class file that isn't of a form that is built so far,
-abbrev pub not_yet_line : List ℕ → List ℕ
-not_yet_line file = codes "refused: not-yet " ++ (file ++ 10 ∷ [])
-
 -- and of memory that couldn't be had
 abbrev pub memory_line : List ℕ
 memory_line = codes "refused: memory" ++ 10 ∷ []
@@ -24,12 +20,10 @@ memory_line = codes "refused: memory" ++ 10 ∷ []
 abbrev pub refusal_line : Refusal → List ℕ
 refusal_line refusal.Words = words_line
 refusal_line (refusal.Read file) = read_line file.now
-refusal_line (refusal.NotYet file) = not_yet_line file.now
 refusal_line refusal.OutOfMemory = memory_line
 
 -- the status of a refusal
 abbrev pub refusal_status : Refusal → ℕ
 refusal_status refusal.Words = WORDS
 refusal_status (refusal.Read file) = READ
-refusal_status (refusal.NotYet file) = NOT_YET
 refusal_status refusal.OutOfMemory = OUT_OF_MEMORY

@@ -14,8 +14,6 @@ pub enum Refusal<'a> {
     Words,
     /// This file couldn't be read.
     Read(&'a str),
-    /// This class file isn't of a form that is built so far.
-    NotYet(&'a str),
     /// Memory couldn't be had.
     OutOfMemory,
 }
@@ -28,7 +26,6 @@ impl Refusal<'_> {
         match self {
             Refusal::Words => Ok(format!(in alloc; "refused: words\n")?),
             Refusal::Read(file) => Ok(format!(in alloc; "refused: read {file}\n")?),
-            Refusal::NotYet(file) => Ok(format!(in alloc; "refused: not-yet {file}\n")?),
             Refusal::OutOfMemory => Ok(format!(in alloc; "refused: memory\n")?),
         }
     }
@@ -40,7 +37,6 @@ impl Refusal<'_> {
         match self {
             Refusal::Words => status::WORDS,
             Refusal::Read(_) => status::READ,
-            Refusal::NotYet(_) => status::NOT_YET,
             Refusal::OutOfMemory => status::OUT_OF_MEMORY,
         }
     }

@@ -35,9 +35,6 @@ pub const WRITE: u8 = 75;
 /// Memory couldn't be had.
 pub const OUT_OF_MEMORY: u8 = 76;
 
-/// A class file, or a step of a run, isn't of a form that is built so far.
-pub const NOT_YET: u8 = 77;
-
 /// The next step of a run would pass its step budget.
 pub const RUNNING: u8 = 80;
 
@@ -57,7 +54,6 @@ pub fn law_statuses()
     ensures check { CHECK ≡ 71 }
     ensures write { WRITE ≡ 75 }
     ensures out_of_memory { OUT_OF_MEMORY ≡ 76 }
-    ensures not_yet { NOT_YET ≡ 77 }
     ensures running { RUNNING ≡ 80 }
     ensures too_deep { TOO_DEEP ≡ 82 }
 {}

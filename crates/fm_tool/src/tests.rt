@@ -12,11 +12,6 @@ fn each_refusal_is_put_as_its_line_with_its_status(rt: HostRuntime) -> Result<()
     let rows = [
         (Refusal::Words, 64, "refused: words\n"),
         (Refusal::Read("a/M.class"), 65, "refused: read a/M.class\n"),
-        (
-            Refusal::NotYet("a/M.class"),
-            77,
-            "refused: not-yet a/M.class\n",
-        ),
         (Refusal::OutOfMemory, 76, "refused: memory\n"),
     ];
     for (refusal, status, text) in rows {

@@ -150,7 +150,6 @@ many_status job old new before after many o comes = go many o comes where
   go m (Err (fail.Refused (job_refusal.Shared refusal.Words))) c = absurd c.0.1
   go m (Err (fail.Refused (job_refusal.Shared (refusal.Read file)))) ((few, inl unread), same) = both m few unread.reaches.few
   go m (Err (fail.Refused (job_refusal.Shared (refusal.Read file)))) ((few, inr unread), same) = both m few unread.taken.few
-  go m (Err (fail.Refused (job_refusal.Shared (refusal.NotYet file)))) c = absurd c.0.1
   go m (Err (fail.Refused (job_refusal.Shared refusal.OutOfMemory))) c = (2, omega arith, refl)
   go m (Err (fail.Refused (job_refusal.TooManyFiles count))) c = (0, omega arith, refl)
   go m (Err (fail.Refused (job_refusal.TooManyArguments count))) c = (0, omega arith, refl)

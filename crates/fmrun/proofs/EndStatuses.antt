@@ -140,7 +140,6 @@ module _ {words : List Bytes} {old new : Disk} {before after : Output} where
   pub refusal_among : (r : JobRefusal) → ComesOf words old new before after (Err (fail.Refused r)) → Contains refusals (refusal_status r)
   refusal_among (job_refusal.Shared refusal.Words) comes = (0, omega arith, refl)
   refusal_among (job_refusal.Shared (refusal.Read file)) comes = (1, omega arith, refl)
-  refusal_among (job_refusal.Shared (refusal.NotYet file)) comes = not_of_job (job_refusal.Shared (refusal.NotYet file)) _ (λ j. j.comes.0.1) (λ same. cc) (λ same. cc) comes
   refusal_among (job_refusal.Shared refusal.OutOfMemory) comes = (9, omega arith, refl)
   refusal_among (job_refusal.TooManyFiles count) comes = (4, omega arith, refl)
   refusal_among (job_refusal.TooManyArguments count) comes = (4, omega arith, refl)

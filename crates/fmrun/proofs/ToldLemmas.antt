@@ -60,7 +60,6 @@ job_fails job old new before after (Ok told) comes = inl comes.untouched.faultle
 job_fails job old new before after (Err fail.Output) comes = inl comes.untouched.faultless
 job_fails job old new before after (Err (fail.Refused (job_refusal.Shared refusal.Words))) comes = absurd comes.0.1
 job_fails job old new before after (Err (fail.Refused (job_refusal.Shared (refusal.Read file)))) comes = inr refl
-job_fails job old new before after (Err (fail.Refused (job_refusal.Shared (refusal.NotYet file)))) comes = absurd comes.0.1
 job_fails job old new before after (Err (fail.Refused (job_refusal.Shared refusal.OutOfMemory))) (inl none) = inl none.0.faultless
 job_fails job old new before after (Err (fail.Refused (job_refusal.Shared refusal.OutOfMemory))) (inr broken) = inl broken.untouched.faultless
 job_fails job old new before after (Err (fail.Refused (job_refusal.TooManyFiles count))) comes = inl (no_fault_where_same old new comes.0.kept)

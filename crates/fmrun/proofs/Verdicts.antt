@@ -129,7 +129,6 @@ module _ (job : Job) (old : Disk) (held : Bytes → Option Bytes) (known : old.c
     verdict_of (Err fail.Output) comes = inr (inr (inl refl))
     verdict_of (Err (fail.Refused (job_refusal.Shared refusal.Words))) comes = absurd comes.0.1
     verdict_of (Err (fail.Refused (job_refusal.Shared (refusal.Read file)))) comes = inr (inl refl)
-    verdict_of (Err (fail.Refused (job_refusal.Shared (refusal.NotYet file)))) comes = absurd comes.0.1
     verdict_of (Err (fail.Refused (job_refusal.Shared refusal.OutOfMemory))) comes = inr (inr (inr refl))
     verdict_of (Err (fail.Refused (job_refusal.TooManyFiles count))) comes = let count = comes.0.count_is in let many = comes.0.many in inl (inl (omega arith, refl))
     verdict_of (Err (fail.Refused (job_refusal.TooManyArguments count))) comes = absurd (let count = comes.0.count_is in let many = comes.0.many in omega arith)
