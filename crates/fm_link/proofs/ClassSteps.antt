@@ -5,9 +5,9 @@ use Rattle.fm_declare.specs.declared.class_numbers.ClassNumbers.{ClassNumbers}
 use Rattle.fm_declare.specs.declared.given.GivenFile.{GivenFile}
 use Rattle.fm_declare.specs.inner.ClassNumbering.{NumbersClasses}
 use Rattle.fm_declare.specs.inner.Files.{AreFiles}
-use Rattle.fm_lookup.specs.declared.hierarchy.Ancestors.{Ancestors}
-use Rattle.fm_lookup.specs.inner.Hierarchy.{AreAncestors}
-use Rattle.fm_lookup.specs.inner.NamedParents.{NamesClasses}
+use Rattle.fm_above.specs.declared.hierarchy.Ancestors.{Ancestors}
+use Rattle.fm_above.specs.inner.Hierarchy.{AreAncestors}
+use Rattle.fm_above.specs.inner.NamedParents.{NamesClasses}
 use Rattle.fm_world.specs.Descriptors.{class_number}
 use Rattle.fm_world.specs.Programs.{classes_of}
 use Rattle.fm_world.specs.declared.declarations.DeclaredClass.{DeclaredClass}

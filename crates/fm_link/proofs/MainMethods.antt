@@ -11,10 +11,10 @@ use Rattle.fm_code.specs.AccessFlags.{is_static}
 use Rattle.fm_code.specs.declared.class_file.ClassDef.{ClassDef}
 use Rattle.fm_declare.specs.declared.given.GivenFile.{GivenFile}
 use Rattle.fm_declare.specs.inner.Numbering.{texts_in}
-use Rattle.fm_lookup.proofs.Downwards.{or_true, same_number, walk_within}
+use Rattle.fm_above.proofs.Downwards.{or_true, same_number, walk_within}
 use Rattle.fm_lookup.proofs.FirstOnes.{first_from-is, first_is_one, position-is}
 use Rattle.fm_lookup.proofs.NearestLemmas.{first_found-cons, widened}
-use Rattle.fm_lookup.proofs.ParentTables.{row_within}
+use Rattle.fm_above.proofs.ParentTables.{row_within}
 use Rattle.fm_lookup.proofs.SectionLemmas.{is_named as is_member_named, own_method-position, position_from-append, position_from-map}
 use Rattle.fm_lookup.proofs.SectionRows.{AreSections-methods}
 use Rattle.fm_lookup.specs.declared.members.MemberRow.{MemberRow}

@@ -11,8 +11,9 @@ ghost use Rattle.fm_world.specs.declared.declarations.DeclaredClass.{DeclaredCla
 
 use crate::main_class::main_of;
 use crate::ready::Ready;
+use fm_above::{Ancestors, Hierarchy};
 use fm_declare::{ClassNumbers, GivenFile, Texts, classes_by_text};
-use fm_lookup::{Ancestors, Fields, Hierarchy, Members, Methods, asked_members};
+use fm_lookup::{Fields, Members, Methods, asked_members};
 use fm_refuse::{
     LinkFail, Linking, arrays_by_text, refuse_fields, refuse_methods, refuse_missing_classes,
     refuse_not_implemented, refuse_parents,

@@ -3,7 +3,7 @@ use Rattle.std.proofs.Common.{◌≡◌, refl, sym, ◌∙◌, ap, ℕ, List, []
 use Rattle.std.specs.List.{AllByRecursion}
 use Rattle.fm_code.specs.Spells.{HasSpelling}
 use Rattle.fm_code.specs.declared.class_file.ClassDef.{ClassDef}
-use Rattle.fm_lookup.proofs.ParentRefusals.{are_sound, tree_interfaces, tree_object, tree_object_is_class, tree_parents, tree_top}
+use Rattle.fm_above.proofs.ParentRefusals.{are_sound, tree_interfaces, tree_object, tree_object_is_class, tree_parents, tree_top}
 use Rattle.fm_types.specs.Fits.{AreTree, object_of}
 use Rattle.fm_world.proofs.Acyclic.{IsLinear-acyclic}
 use Rattle.fm_world.specs.Causes.{Refusal}

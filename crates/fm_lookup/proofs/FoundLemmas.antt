@@ -1,25 +1,27 @@
 -- What is found in tables of members is what the definitions look up.
-use Rattle.std.proofs.Common.{◌≡◌, refl, sym, ◌∙◌, ap, subst, ℕ, zero, suc, ◌+◌, ◌<◌, ◌≤◌, ◌&&◌, ◌||◌, not, Bool, true, false, cond, List, [], ◌∷◌, ◌++◌, length, map, filter, get_or, set, nat_eq, Option, Some, None, option_and_then, slice_get, arith, ◌⊎◌, inl, inr, zero-add, length-set}
+use Rattle.std.proofs.Common.{◌≡◌, refl, sym, ◌∙◌, ap, subst, ℕ, zero, suc, ◌+◌, ◌<◌, ◌≤◌, ◌&&◌, not, Bool, true, false, cond, List, [], ◌∷◌, ◌++◌, length, map, filter, get_or, set, nat_eq, Option, Some, None, option_and_then, slice_get, arith, ◌⊎◌, inl, inr, length-set}
 use Rattle.std.specs.Global.{Vec}
 use Rattle.std.specs.List.{flat_map, filter_map}
 use Rattle.std.proofs.lemmas.Bool.{eq-eqb, eqb-true, cases_lt, false≢true}
-use Rattle.std.proofs.lemmas.List.{get_or_past, length-append}
-use Rattle.std.proofs.lemmas.List.FromFn.{get_or-map-range_with_len, length-map-range_with_len}
+use Rattle.std.proofs.lemmas.List.{get_or_past}
+use Rattle.std.proofs.lemmas.List.FromFn.{length-map-range_with_len}
 use Rattle.std.proofs.lemmas.Option.{slice_get-get_or, slice_get_past}
-use Rattle.fm_world.proofs.Displays.{chain_ends, parent_of-within}
-use Rattle.fm_world.specs.Chains.{chain_of, distinct, first_found, interfaces_within, is_among, parent_of, superinterfaces_of}
+use Rattle.fm_world.specs.Chains.{distinct, first_found, interfaces_within, is_among, parent_of, superinterfaces_of}
 use Rattle.fm_world.specs.Declarations.{no_class}
 use Rattle.fm_world.specs.Descriptors.{class_number}
 use Rattle.fm_world.specs.Lookups.{any_flags}
 use Rattle.fm_world.specs.declared.declarations.DeclaredClass.{DeclaredClass}
 use Rattle.fm_world.specs.inner.Layers.{value_at, HasRoom}
 use Rattle.fm_world.specs.inner.Tables.{IsLinear, chain_from, numbers_below}
+use Rattle.fm_above.proofs.Downwards.{among_head, among_later}
+use Rattle.fm_above.proofs.ParentTables.{list_in-row}
+use Rattle.fm_above.proofs.SuperclassLemmas.{not_above}
 use Rattle.fm_lookup.proofs.FirstOnes.{IsFirst, first_from-is}
 use Rattle.fm_lookup.proofs.NearestLemmas.{first_found-cons}
 use Rattle.fm_lookup.specs.declared.members.MemberRow.{MemberRow}
 use Rattle.fm_lookup.specs.declared.members.Members.{Members}
 use Rattle.fm_lookup.specs.declared.members.Nearest.{Nearest}
-use Rattle.fm_lookup.specs.inner.ListTables.{list_in, lists}
+use Rattle.fm_above.specs.inner.ListTables.{list_in, lists}
 use Rattle.fm_lookup.specs.inner.MemberRows.{no_row, AreSections}
 use Rattle.fm_lookup.specs.inner.MemberTables.{is_own, nearest_in, own_by, own_in, AreNearest}
 use Rattle.fm_lookup.specs.inner.NearestSteps.{or_else}
@@ -47,20 +49,10 @@ first_found-append f (x ∷ xs) ys =
     ∙ sym (or_else-assoc (f x) (first_found f xs) (first_found f ys))
     ∙ ap (λ o. or_else o (first_found f ys)) (sym (first_found-cons f x xs))
 
-or_true : (b : Bool) → (b || true) ≡ true
-or_true true = refl
-or_true false = refl
-
-pub among_first : (x : ℕ) (xs : List ℕ) → is_among x (x ∷ xs) ≡ true
-among_first x xs = ap (λ b. b || is_among x xs) (eq-eqb x x refl)
-
-pub among_later : (y x : ℕ) (xs : List ℕ) → is_among y xs ≡ true → is_among y (x ∷ xs) ≡ true
-among_later y x xs h = ap (λ b. nat_eq y x || b) h ∙ or_true (nat_eq y x)
-
 pub first_found-none : (f : ℕ → Option ℕ) (xs : List ℕ) → ((x : ℕ) → is_among x xs ≡ true → f x ≡ None) → first_found f xs ≡ None
 first_found-none f [] none = refl
 first_found-none f (x ∷ xs) none =
-    first_found-cons f x xs ∙ ap (λ o. or_else o (first_found f xs)) (none x (among_first x xs))
+    first_found-cons f x xs ∙ ap (λ o. or_else o (first_found f xs)) (none x (among_head x xs))
     ∙ first_found-none f xs (λ y h. none y (among_later y x xs h))
 
 -- where something is found
@@ -80,7 +72,7 @@ found_at f (x ∷ xs) k e = by_option (f x) refl (sym (first_found-cons f x xs) 
       let rest = later (sym (ap (λ o. or_else o (first_found f xs)) is) ∙ h) in
       record { place = rest.place; among = among_later rest.place x xs rest.among; is = rest.is }
   by_option (Some j) is h later =
-      record { place = x; among = among_first x xs; is = is ∙ sym (ap (λ o. or_else o (first_found f xs)) is) ∙ h }
+      record { place = x; among = among_head x xs; is = is ∙ sym (ap (λ o. or_else o (first_found f xs)) is) ∙ h }
 
 -- ---- a class's own members
 
@@ -114,23 +106,6 @@ row_of_own rows signatures passes signature class k e = from_first (let P : Opti
         signed = eqb-true (get_or signatures k 0) signature (test_second (nat_eq (get_or rows k no_row).class class)
             (nat_eq (get_or signatures k 0) signature) (passes (get_or rows k no_row).flags) is.2);
       }
-
--- a class doesn't stand among its superclasses
-pub not_above : (classes : List DeclaredClass) → IsLinear classes → (class x : ℕ) → class < length classes
-    → is_among x (chain_from classes (parent_of classes class)) ≡ true → nat_eq x class ≡ false
-not_above classes linear class x within among = by_parent (parent_of classes class) refl among where
-  by_test : (p : ℕ) → parent_of classes class ≡ Some p → is_among x (chain_of classes p) ≡ true → (b : Bool) → nat_eq x class ≡ b → b ≡ false
-  by_test p is h false e = refl
-  by_test p is h true e =
-      let ends = chain_ends classes linear (length (chain_of classes p)) p class (omega arith) (parent_of-within classes class p is)
-      (ap (λ y. is_among y (chain_of classes p)) (sym (eqb-true x class e)) ∙ h) in
-      let one_more : length (chain_of classes class) ≡ suc (length (chain_of classes p)) =
-      ap length (linear class within ∙ ap (λ o. class ∷ chain_from classes o) is) in
-      absurd (omega (arith, one_more, ap length ends.joined, length-append ends.front (chain_of classes class)))
-
-  by_parent : (o : Option ℕ) → parent_of classes class ≡ o → is_among x (chain_from classes o) ≡ true → nat_eq x class ≡ false
-  by_parent None is h = absurd (false≢true h)
-  by_parent (Some p) is h = by_test p is h (nat_eq x class) refl
 
 own_in-none : (n : Nearest) (rows : List MemberRow) (signature class : ℕ) → nearest_in n class signature ≡ None → own_in n rows signature class ≡ None
 own_in-none n rows signature class e = rw e refl
@@ -184,11 +159,6 @@ own_in-is classes m signatures n linear sections are signature class room = by_c
       ∙ no_own past (find class) refl
 
 -- ---- lists of classes
-
-pub list_in-row : (f : ℕ → List ℕ) (count class : ℕ) (table : List (Vec ℕ)) → lists table ≡ map f (numbers_below count) → class < count
-    → list_in table class ≡ f class
-list_in-row f count class table e within =
-    ap (λ xs. get_or xs class []) e ∙ get_or-map-range_with_len f 0 count class class [] within (zero-add class)
 
 -- a number past all classes has no superinterfaces
 superinterfaces-past : (classes : List DeclaredClass) (class : ℕ) → length classes ≤ class → superinterfaces_of classes class ≡ []

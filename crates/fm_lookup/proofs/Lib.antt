@@ -1,16 +1,5 @@
-pub mod ChainSteps
-pub mod TableSteps
-pub mod Distinct
-pub mod ParentTables
-pub mod InterfaceLemmas
-pub mod BuiltInParents
-pub mod NamedParentLemmas
-pub mod RoundCounts
-pub mod Downwards
-pub mod HierarchyLemmas
 pub mod FirstOnes
 pub mod FoundLemmas
-pub mod SuperclassLemmas
 pub mod StartLemmas
 pub mod LayerSteps
 pub mod LookupLemmas
@@ -20,8 +9,5 @@ pub mod SectionLemmas
 pub mod SectionRows
 pub mod SignatureLemmas
 pub mod SignatureSteps
-pub mod ParentRefusals
-pub mod Inherited
 pub mod StaticLemmas
 pub mod AlikeLemmas
-pub mod OnceEach

@@ -20,21 +20,22 @@ use Rattle.fm_world.specs.declared.TheConstants.{ACC_SUPER}
 use Rattle.fm_world.specs.declared.declarations.DeclaredClass.{DeclaredClass}
 use Rattle.fm_world.specs.inner.Layers.{HasRoom}
 use Rattle.fm_world.specs.inner.Tables.{chain_from}
-use Rattle.fm_lookup.proofs.FoundLemmas.{first_found-append, first_found-distinct, first_found-none, first_found-same, first_found-without, interfaces_listed, list_in-row, or_else-None, own_in-is, row_of_own}
+use Rattle.fm_above.proofs.ParentTables.{list_in-row}
+use Rattle.fm_lookup.proofs.FoundLemmas.{first_found-append, first_found-distinct, first_found-none, first_found-same, first_found-without, interfaces_listed, or_else-None, own_in-is, row_of_own}
 use Rattle.fm_lookup.proofs.NearestLemmas.{first_found-cons}
 use Rattle.fm_lookup.proofs.StartLemmas.{first_along-is}
-use Rattle.fm_lookup.proofs.SuperclassLemmas.{superclass-is}
+use Rattle.fm_above.proofs.SuperclassLemmas.{superclass-is}
 use Rattle.fm_lookup.proofs.SectionLemmas.{own_field-position, own_method-position}
 use Rattle.fm_lookup.proofs.SectionRows.{AreSections-fields, AreSections-methods}
 use Rattle.fm_lookup.proofs.SignatureLemmas.{count_of_signatures, none-named, own_by-named, signature_at, text-number}
-use Rattle.fm_lookup.specs.declared.hierarchy.Hierarchy.{Hierarchy}
+use Rattle.fm_above.specs.declared.hierarchy.Hierarchy.{Hierarchy}
 use Rattle.fm_lookup.specs.declared.lookups.Fields.{Fields}
 use Rattle.fm_lookup.specs.declared.lookups.Methods.{Methods}
 use Rattle.fm_lookup.specs.declared.members.MemberRow.{MemberRow}
 use Rattle.fm_lookup.specs.declared.members.Nearest.{Nearest}
 use Rattle.fm_lookup.specs.inner.FoundMembers.{above_in, field_found_in, field_in, first_along, interface_method_in, is_constructor_in, is_marked, method_found_in, method_in, own_method_in, searches_in, selected_in, special_in}
-use Rattle.fm_lookup.specs.inner.Hierarchy.{distinct_path, is_superclass_in, IsHierarchy}
-use Rattle.fm_lookup.specs.inner.ListTables.{list_in}
+use Rattle.fm_above.specs.inner.Hierarchy.{distinct_path, is_superclass_in, IsHierarchy}
+use Rattle.fm_above.specs.inner.ListTables.{list_in}
 use Rattle.fm_lookup.specs.inner.MemberRows.{field_alike, method_alike, no_row, row_alike, Owned}
 use Rattle.fm_lookup.specs.inner.MemberTables.{has_key, nearest_in, number_of_key, own_by, signature_of, start_in, AreFields, AreMethods, AreNearest, IsStart}
 use Rattle.fm_lookup.specs.inner.NearestSteps.{or_else}

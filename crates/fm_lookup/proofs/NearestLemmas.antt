@@ -15,12 +15,12 @@ use Rattle.fm_world.specs.inner.Tables.{IsLinear, chain_from}
 use Rattle.fm_lookup.proofs.FirstOnes.{IsFirst, first_from-is, first_is_one}
 use Rattle.fm_lookup.proofs.LayerSteps.{room_before, room_kept, table_kept, value_kept}
 use Rattle.fm_lookup.proofs.SignatureLemmas.{count_of_signatures, signature_at}
-use Rattle.fm_lookup.specs.declared.hierarchy.Hierarchy.{Hierarchy}
+use Rattle.fm_above.specs.declared.hierarchy.Hierarchy.{Hierarchy}
 use Rattle.fm_lookup.specs.declared.members.MemberRow.{MemberRow}
 use Rattle.fm_lookup.specs.declared.members.Members.{Members}
 use Rattle.fm_lookup.specs.declared.members.Nearest.{Nearest}
 use Rattle.fm_lookup.specs.declared.members.Signatures.{Signatures}
-use Rattle.fm_lookup.specs.inner.Hierarchy.{IsHierarchy}
+use Rattle.fm_above.specs.inner.Hierarchy.{IsHierarchy}
 use Rattle.fm_lookup.specs.inner.MemberRows.{no_row, section_of, AreSections}
 use Rattle.fm_lookup.specs.inner.MemberTables.{first_from, has_key, is_own, own_by, AreNearest, AreSignatures}
 use Rattle.fm_lookup.specs.inner.NearestSteps.{is_signed, or_else, top_of, AreTops, HasRooms, PutsSection}

@@ -8,10 +8,11 @@ use Rattle.std.specs.Ordering.{nat_cmp, ordering_then}
 use Rattle.fm_world.specs.Chains.{first_found, interfaces_of, superinterfaces_of}
 use Rattle.fm_world.specs.Lookups.{any_flags, is_interface_at}
 use Rattle.fm_world.specs.declared.declarations.DeclaredClass.{DeclaredClass}
-use Rattle.fm_lookup.proofs.FoundLemmas.{first_found-same, list_in-row, row_of_own}
+use Rattle.fm_above.proofs.ParentTables.{list_in-row}
+use Rattle.fm_lookup.proofs.FoundLemmas.{first_found-same, row_of_own}
 use Rattle.fm_lookup.proofs.NearestLemmas.{first_found-cons}
 use Rattle.fm_lookup.proofs.SignatureLemmas.{and_left, and_right, count_of_signatures}
-use Rattle.fm_lookup.specs.declared.hierarchy.Hierarchy.{Hierarchy}
+use Rattle.fm_above.specs.declared.hierarchy.Hierarchy.{Hierarchy}
 use Rattle.fm_lookup.specs.declared.members.MemberRow.{MemberRow}
 use Rattle.fm_lookup.specs.declared.members.Nearest.{Nearest}
 use Rattle.fm_lookup.specs.declared.starts.Along.TheVariants as along
@@ -19,8 +20,8 @@ use Rattle.fm_lookup.specs.declared.starts.Finding.{Finding}
 use Rattle.fm_lookup.specs.declared.starts.Starts.{Starts}
 use Rattle.fm_lookup.specs.inner.AlikeMembers.{IsAlike}
 use Rattle.fm_lookup.specs.inner.FoundMembers.{first_along}
-use Rattle.fm_lookup.specs.inner.Hierarchy.{distinct_path, IsHierarchy}
-use Rattle.fm_lookup.specs.inner.ListTables.{list_in}
+use Rattle.fm_above.specs.inner.Hierarchy.{distinct_path, IsHierarchy}
+use Rattle.fm_above.specs.inner.ListTables.{list_in}
 use Rattle.fm_lookup.specs.inner.MemberTables.{number_of_key, own_by, own_in, searched_interfaces, start_in, AreStarts, AreStartsOf, IsStart}
 use Rattle.fm_lookup.specs.inner.NearestSteps.{or_else}
 use Rattle.fm_lookup.specs.inner.Starts.{list_along, place_in, ArePlaces, IsFinding}

@@ -7,17 +7,18 @@ use Rattle.fm_code.specs.AccessFlags.{is_static}
 use Rattle.fm_world.specs.Chains.{chain_of, first_found}
 use Rattle.fm_world.specs.Members.{first_method, method_among, methods_of, own_method}
 use Rattle.fm_world.specs.declared.declarations.DeclaredClass.{DeclaredClass}
-use Rattle.fm_lookup.proofs.FoundLemmas.{first_found-none, first_found-same, list_in-row, row_of_own}
+use Rattle.fm_above.proofs.ParentTables.{list_in-row}
+use Rattle.fm_lookup.proofs.FoundLemmas.{first_found-none, first_found-same, row_of_own}
 use Rattle.fm_lookup.proofs.LookupLemmas.{method_by_signature}
 use Rattle.fm_lookup.proofs.NearestLemmas.{own_by-section}
 use Rattle.fm_lookup.proofs.SectionLemmas.{own_method-position}
 use Rattle.fm_lookup.proofs.SectionRows.{AreSections-methods}
 use Rattle.fm_lookup.proofs.SignatureLemmas.{none-named}
-use Rattle.fm_lookup.specs.declared.hierarchy.Hierarchy.{Hierarchy}
+use Rattle.fm_above.specs.declared.hierarchy.Hierarchy.{Hierarchy}
 use Rattle.fm_lookup.specs.declared.lookups.Methods.{Methods}
 use Rattle.fm_lookup.specs.inner.FoundMembers.{own_static_in, static_among_in}
-use Rattle.fm_lookup.specs.inner.Hierarchy.{IsHierarchy}
-use Rattle.fm_lookup.specs.inner.ListTables.{list_in}
+use Rattle.fm_above.specs.inner.Hierarchy.{IsHierarchy}
+use Rattle.fm_above.specs.inner.ListTables.{list_in}
 use Rattle.fm_lookup.specs.inner.MemberRows.{method_alike, section_of}
 use Rattle.fm_lookup.specs.inner.MemberTables.{first_from, own_by, signature_of, AreMethods}
 use Rattle.fm_lookup.specs.inner.NearestSteps.{is_signed}

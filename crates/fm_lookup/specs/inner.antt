@@ -1,9 +1,4 @@
 -- What serves the proofs alone.
-pub mod ParentTable
-pub mod ListTables
-pub mod InterfaceRounds
-pub mod NamedParents
-pub mod Hierarchy
 pub mod MemberRows
 pub mod MemberTables
 pub mod NearestSteps

@@ -1,8 +1,8 @@
 // What files ask of classes: the members that entries of their pools name. Look-ups of these are made fast.
 
-use crate::lists::empty_lists;
 use crate::marks::is_marked;
 use crate::members::Signatures;
+use fm_above::empty_lists;
 use fm_base::NoMemory;
 use fm_declare::{GivenFile, at};
 use std::alloc::Global;

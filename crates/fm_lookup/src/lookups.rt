@@ -3,7 +3,7 @@
 ghost use Rattle.std.specs.Prelude.{◌≡◌, ◌<◌, ℕ, IfOk, List, Some, drop, length, slice_get, slice_set, true, if◌then◌else◌};
 ghost use Rattle.fm_code.specs.AccessFlags.{is_static};
 ghost use Rattle.fm_code.specs.ConstantPool.{MemberName};
-ghost use Rattle.fm_lookup.specs.inner.Hierarchy.{IsHierarchy};
+ghost use Rattle.fm_above.specs.inner.Hierarchy.{IsHierarchy};
 ghost use Rattle.fm_lookup.specs.inner.MemberRows.{AreFieldRows, AreMethodRows};
 ghost use Rattle.fm_lookup.specs.inner.MemberTables.{flags_of, own_in, AreDistinct, AreFields, AreMethods, AreSignatures, MarksInterfaces};
 ghost use Rattle.fm_lookup.specs.inner.FoundMembers.{above_in, field_found_in, field_in, first_along, interface_method_in, is_constructor_in, is_marked, method_above_in, method_found_in, method_in, own_static_in, searches_in, selected_in, special_in, static_among_in};
@@ -15,10 +15,9 @@ ghost use Rattle.fm_world.specs.Members.{method_among, methods_of};
 ghost use Rattle.fm_world.specs.declared.declarations.DeclaredClass.{DeclaredClass};
 
 use crate::asked::Asked;
-use crate::hierarchy::{Hierarchy, is_interface_at};
-use crate::lists::list_at;
 use crate::members::{Kept, Members, Nearest, Signatures, row_at};
 use crate::starts::{Along, Starts};
+use fm_above::{Hierarchy, is_interface_at, list_at};
 use fm_base::NoMemory;
 use fm_code::{ACC_PRIVATE, ACC_STATIC, has_flag};
 use fm_declare::at;

@@ -2,14 +2,14 @@
 
 ghost use Rattle.std.specs.Prelude.{◌≡◌, ◌+◌, ◌<◌, ◌&&◌, ℕ, IfOk, List, Some, length, nat_eq, slice_get, slice_index, slice_set, unwrap_or, if◌then◌else◌};
 ghost use Rattle.std.specs.List.{slice_index_or};
-ghost use Rattle.fm_lookup.specs.inner.Hierarchy.{IsHierarchy};
+ghost use Rattle.fm_above.specs.inner.Hierarchy.{IsHierarchy};
 ghost use Rattle.fm_lookup.specs.inner.MemberRows.{no_row, section_of, AreSections};
 ghost use Rattle.fm_lookup.specs.inner.MemberTables.{nearest_in, number_of_key, own_in, passes_of, AreNearest, AreSignatures};
 ghost use Rattle.fm_lookup.specs.inner.NearestSteps.{top_of, AreTops, HasRooms, PutsMember, PutsSection};
 ghost use Rattle.fm_world.specs.declared.declarations.DeclaredClass.{DeclaredClass};
 ghost use Rattle.fm_world.specs.inner.Layers.{HasRoom, IsTable, KeepsTables};
 
-use crate::hierarchy::Hierarchy;
+use fm_above::Hierarchy;
 use fm_base::NoMemory;
 use fm_code::{ACC_PRIVATE, ACC_STATIC, has_flag};
 use fm_declare::{at, number_of};

@@ -10,9 +10,8 @@ ghost use Rattle.fm_lookup.specs.inner.Starts.{interfaces_along, list_along, pla
 
 use crate::alike::{Alike, number_at, put_number};
 use crate::asked::{Asked, asked_of_classes};
-use crate::hierarchy::{Hierarchy, is_interface_at};
-use crate::lists::list_at;
 use crate::members::{Members, Signatures, add_signature, row_at};
+use fm_above::{Hierarchy, is_interface_at, list_at};
 use fm_base::NoMemory;
 use fm_declare::number_of;
 use std::alloc::Global;

@@ -3,12 +3,12 @@ use Rattle.std.proofs.Common.{◌≡◌, sym, ◌∙◌, ap, subst, ℕ, ◌+◌
 use Rattle.std.proofs.lemmas.List.{length-map}
 use Rattle.std.proofs.lemmas.List.FromFn.{length-map-range_with_len}
 use Rattle.fm_code.specs.declared.class_file.ClassDef.{ClassDef}
-use Rattle.fm_lookup.proofs.HierarchyLemmas.{interfaces_only}
-use Rattle.fm_lookup.proofs.ParentRefusals.{tree_object}
-use Rattle.fm_lookup.specs.declared.hierarchy.Hierarchy.{Hierarchy}
+use Rattle.fm_above.proofs.HierarchyLemmas.{interfaces_only}
+use Rattle.fm_above.proofs.ParentRefusals.{tree_object}
+use Rattle.fm_above.specs.declared.hierarchy.Hierarchy.{Hierarchy}
 use Rattle.fm_lookup.specs.declared.lookups.Methods.{Methods}
 use Rattle.fm_lookup.specs.declared.members.MemberRow.{MemberRow}
-use Rattle.fm_lookup.specs.inner.Hierarchy.{AreSound, IsHierarchy}
+use Rattle.fm_above.specs.inner.Hierarchy.{AreSound, IsHierarchy}
 use Rattle.fm_lookup.specs.inner.MemberRows.{method_alike, row_alike}
 use Rattle.fm_lookup.specs.inner.MemberTables.{signature_of, AreMethods}
 use Rattle.fm_parts.proofs.AnswerSteps.{flags-at}

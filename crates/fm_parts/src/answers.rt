@@ -1,13 +1,14 @@
 // What a program looks up while it runs: superclasses, superinterfaces and methods by signature.
 
 ghost use Rattle.std.specs.Prelude.{◌≡◌, ◌+◌, IfOk, length, map, unwrap_or};
-ghost use Rattle.fm_lookup.specs.inner.Hierarchy.{IsHierarchy};
+ghost use Rattle.fm_above.specs.inner.Hierarchy.{IsHierarchy};
 ghost use Rattle.fm_world.specs.Members.{first_method};
 ghost use Rattle.fm_world.specs.inner.Tables.{numbers_below};
 ghost use Rattle.fm_parts.specs.inner.Answers.{AreAnswers};
 
+use fm_above::Hierarchy;
 use fm_base::{NoMemory, Seq};
-use fm_lookup::{Hierarchy, Methods};
+use fm_lookup::Methods;
 use fm_records::{displays_of, lists_of, own_tables};
 use fm_tables::flags_of;
 use fm_world::Layers;

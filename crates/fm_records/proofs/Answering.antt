@@ -9,11 +9,11 @@ use Rattle.fm_lookup.proofs.NearestLemmas.{own_by-section}
 use Rattle.fm_lookup.proofs.SectionLemmas.{own_method-position}
 use Rattle.fm_lookup.proofs.SectionRows.{AreSections-methods}
 use Rattle.fm_lookup.proofs.SignatureLemmas.{own_by-named, signature_at}
-use Rattle.fm_lookup.specs.declared.hierarchy.Hierarchy.{Hierarchy}
+use Rattle.fm_above.specs.declared.hierarchy.Hierarchy.{Hierarchy}
 use Rattle.fm_lookup.specs.declared.lookups.Methods.{Methods}
 use Rattle.fm_lookup.specs.declared.members.MemberRow.{MemberRow}
-use Rattle.fm_lookup.specs.inner.Hierarchy.{IsHierarchy}
-use Rattle.fm_lookup.specs.inner.ListTables.{lists}
+use Rattle.fm_above.specs.inner.Hierarchy.{IsHierarchy}
+use Rattle.fm_above.specs.inner.ListTables.{lists}
 use Rattle.fm_lookup.specs.inner.MemberRows.{method_alike, no_row, section_of, Owned}
 use Rattle.fm_lookup.specs.inner.MemberTables.{first_from, own_by, AreMethods}
 use Rattle.fm_lookup.specs.inner.NearestSteps.{is_signed}

@@ -17,7 +17,7 @@ use Rattle.fm_world.specs.Lookups.{any_flags, class_searched, constructor_name, 
 use Rattle.fm_world.specs.Members.{method_among, methods_of, own_method}
 use Rattle.fm_world.specs.Uses.{named_member, pool_indices}
 use Rattle.fm_world.specs.declared.declarations.DeclaredClass.{DeclaredClass}
-use Rattle.fm_lookup.proofs.ParentTables.{row_at}
+use Rattle.fm_above.proofs.ParentTables.{row_at}
 use Rattle.fm_refuse.specs.inner.Abstracts.{call_refusals, calls_abstract_at, is_member_and, special_call}
 
 -- ---- the marks of a pool's indices

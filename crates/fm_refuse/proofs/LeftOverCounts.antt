@@ -24,7 +24,7 @@ use Rattle.fm_world.specs.Lookups.{is_abstract_method, is_selectable}
 use Rattle.fm_world.specs.Members.{methods_of}
 use Rattle.fm_world.specs.declared.declarations.DeclaredClass.{DeclaredClass}
 use Rattle.fm_world.specs.inner.Tables.{chain_from, IsLinear}
-use Rattle.fm_lookup.proofs.Downwards.{among_head, among_left, among_right, or_true}
+use Rattle.fm_above.proofs.Downwards.{among_head, among_left, among_right, or_true}
 use Rattle.fm_refuse.proofs.LeftOver.{abstract_or_none, left_over_parts}
 use Rattle.fm_refuse.proofs.Sections.{section_all, section_within}
 use Rattle.fm_refuse.specs.inner.Abstracts.{left_over_at, left_over_by, left_over_of}

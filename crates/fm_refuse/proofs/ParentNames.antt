@@ -8,7 +8,7 @@ use Rattle.fm_code.specs.declared.class_file.ClassDef.{ClassDef}
 use Rattle.fm_declare.specs.declared.given.GivenFile.{GivenFile}
 use Rattle.fm_declare.specs.inner.Files.{class_text_in}
 use Rattle.fm_declare.specs.inner.Numbering.{IsNumberOf}
-use Rattle.fm_lookup.specs.inner.NamedParents.{class_at_text, class_listed_in}
+use Rattle.fm_above.specs.inner.NamedParents.{class_at_text, class_listed_in}
 use Rattle.fm_code.specs.declared.code_array.Item.{Item}
 use Rattle.fm_world.specs.inner.Tables.{numbers_below}
 use Rattle.std.proofs.lemmas.List.FromFn.{get_or-map-range_with_len}

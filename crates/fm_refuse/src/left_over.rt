@@ -14,10 +14,11 @@ ghost use Rattle.fm_world.specs.inner.Tables.{numbers_below};
 
 use crate::linking::Linking;
 use crate::not_implemented::is_abstract;
+use fm_above::{empty_lists, list_at, put_list};
 use fm_base::NoMemory;
 use fm_code::{ACC_PRIVATE, has_flag};
 use fm_declare::{at, number_of};
-use fm_lookup::{Alike, empty_lists, is_marked, list_at, put_list, row_at};
+use fm_lookup::{Alike, is_marked, row_at};
 use std::alloc::Global;
 
 /// For each class how many abstract methods of each class are left over in it.

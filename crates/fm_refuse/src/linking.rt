@@ -8,9 +8,10 @@ ghost use Rattle.fm_world.specs.Descriptors.{class_number};
 ghost use Rattle.fm_world.specs.Lookups.{class_searched, resolved_field, resolved_method};
 ghost use Rattle.fm_world.specs.declared.declarations.DeclaredClass.{DeclaredClass};
 
+use fm_above::Hierarchy;
 use fm_base::NoMemory;
 use fm_declare::{MemberTexts, Texts, at, class_type};
-use fm_lookup::{Fields, Hierarchy, Methods, is_marked};
+use fm_lookup::{Fields, Methods, is_marked};
 use std::alloc::Global;
 
 /// The texts, for each text the class that it names and whether it names an array, and the tables of

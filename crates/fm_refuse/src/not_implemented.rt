@@ -23,10 +23,11 @@ use crate::abstract_calls::refuse_calls;
 use crate::error::{LinkBad, LinkFail};
 use crate::left_over::LeftOver;
 use crate::linking::Linking;
+use fm_above::list_at;
 use fm_base::{Name, NoMemory};
 use fm_code::{ACC_ABSTRACT, ACC_INTERFACE, has_flag};
 use fm_declare::{GivenFile, number_of};
-use fm_lookup::{list_at, row_at};
+use fm_lookup::row_at;
 use fm_world::{DeclaredClass, built_in_classes};
 use std::alloc::Global;
 

@@ -5,7 +5,7 @@ ghost use Rattle.std.specs.List.{flat_map, list_any, slice_index_or};
 ghost use Rattle.std.specs.Str.{bytes_eq};
 ghost use Rattle.fm_code.specs.AccessFlags.{is_interface};
 ghost use Rattle.fm_declare.specs.inner.ClassNumbering.{NumbersClasses};
-ghost use Rattle.fm_lookup.specs.inner.Hierarchy.{AreAncestors};
+ghost use Rattle.fm_above.specs.inner.Hierarchy.{AreAncestors};
 ghost use Rattle.fm_refuse.specs.Refused.{refusal_of, IsFirst, Refuses};
 ghost use Rattle.fm_refuse.specs.inner.Ancestry.{JudgesParents};
 ghost use Rattle.fm_refuse.specs.inner.GivenClasses.{class_in, given_in, AreNumbered, IsNumbered};
@@ -22,10 +22,11 @@ ghost use Rattle.fm_world.specs.declared.declarations.DeclaredClass.{DeclaredCla
 
 use crate::error::{LinkFail, bad_of};
 use crate::marks::{index_of, set_marks};
+use fm_above::{Ancestors, class_listed, goes_up, is_interface_at};
 use fm_base::NoMemory;
 use fm_code::{ACC_INTERFACE, has_flag};
 use fm_declare::{ClassNumbers, GivenFile, name_at};
-use fm_lookup::{Ancestors, class_listed, goes_up, is_interface_at, is_marked};
+use fm_lookup::is_marked;
 use fm_world::DeclaredClass;
 use std::alloc::Global;
 

@@ -15,7 +15,7 @@ use Rattle.fm_code.specs.declared.code_array.Item.{Item}
 use Rattle.fm_code.specs.declared.constant_pool.Entry.{Entry}
 use Rattle.fm_code.specs.declared.constant_pool.Entry.TheVariants as entry
 use Rattle.fm_code.specs.declared.instructions.Insn.{Insn}
-use Rattle.fm_lookup.proofs.Downwards.{same_number}
+use Rattle.fm_above.proofs.Downwards.{same_number}
 use Rattle.fm_records.proofs.UseLaws.{resolved_by}
 use Rattle.fm_refuse.proofs.WantedMembers.{is_wrong_method, method_refusals}
 use Rattle.fm_resolved.proofs.CodedMethods.{code_there, item_there, use_at, uses_of_file}
@@ -32,7 +32,7 @@ use Rattle.fm_world.specs.Uses.{class_items, named_member, operand_of}
 use Rattle.fm_world.specs.declared.declarations.DeclaredClass.{DeclaredClass}
 use Rattle.fm_world.specs.declared.uses.Use.{Use}
 use Rattle.fm_world.specs.declared.uses.Use.TheVariants as resolved
-use Rattle.fm_lookup.proofs.ParentRefusals.{none_of, fails, refused_not}
+use Rattle.fm_above.proofs.ParentRefusals.{none_of, fails, refused_not}
 
 -- ---- what is wanted
 

@@ -15,10 +15,10 @@ use Rattle.fm_code.specs.Spells.{HasSpelling}
 use Rattle.fm_code.specs.declared.class_file.ClassDef.{ClassDef}
 use Rattle.fm_code.specs.declared.code_array.Code.{Code}
 use Rattle.fm_code.specs.declared.instructions.Insn.TheVariants as insn
-use Rattle.fm_lookup.proofs.BuiltInParents.{count_is}
-use Rattle.fm_lookup.proofs.Downwards.{or_true}
-use Rattle.fm_lookup.proofs.HierarchyLemmas.{interfaces_only, superinterfaces_only}
-use Rattle.fm_lookup.proofs.ParentRefusals.{fails, tree_object_is_class}
+use Rattle.fm_above.proofs.BuiltInParents.{count_is}
+use Rattle.fm_above.proofs.Downwards.{or_true}
+use Rattle.fm_above.proofs.HierarchyLemmas.{interfaces_only, superinterfaces_only}
+use Rattle.fm_above.proofs.ParentRefusals.{fails, tree_object_is_class}
 use Rattle.fm_resolved.proofs.Calls.{call_there, IsCall}
 use Rattle.fm_resolved.proofs.CellTypes.{above_built_in, above_seen}
 use Rattle.fm_resolved.proofs.FieldOwners.{append_cases, binary_found, found_among}

@@ -23,11 +23,11 @@ use Rattle.fm_frames.specs.Elements.{is_text_type}
 use Rattle.fm_frames.specs.NativeRows.{text_kind, text_type}
 use Rattle.fm_frames.specs.Runnable.{IsRunnable}
 use Rattle.fm_frames.specs.Sights.{has_hidden_field}
-use Rattle.fm_lookup.proofs.BuiltInParents.{count_is}
-use Rattle.fm_lookup.proofs.Downwards.{among_head, same_number}
-use Rattle.fm_lookup.proofs.HierarchyLemmas.{interfaces_only}
-use Rattle.fm_lookup.proofs.ParentRefusals.{are_sound, fails, if_true, length-declared, name_within, nil_left, none_of, not_refused, past_none, refused_not, superclass_used}
-use Rattle.fm_lookup.specs.inner.Hierarchy.{AreSound}
+use Rattle.fm_above.proofs.BuiltInParents.{count_is}
+use Rattle.fm_above.proofs.Downwards.{among_head, same_number}
+use Rattle.fm_above.proofs.HierarchyLemmas.{interfaces_only}
+use Rattle.fm_above.proofs.ParentRefusals.{are_sound, fails, if_true, length-declared, name_within, nil_left, none_of, not_refused, past_none, refused_not, superclass_used}
+use Rattle.fm_above.specs.inner.Hierarchy.{AreSound}
 use Rattle.fm_resolved.proofs.Constants.{text_constants}
 use Rattle.fm_resolved.proofs.GivenFiles.{class_of_file, no_built_in_refused, none_used}
 use Rattle.fm_resolved.proofs.MainMethod.{main_slots}

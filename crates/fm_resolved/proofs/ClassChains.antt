@@ -10,9 +10,9 @@ use Rattle.fm_code.specs.Spells.{HasSpelling}
 use Rattle.fm_code.specs.declared.class_file.ClassDef.{ClassDef}
 use Rattle.fm_code.specs.declared.constant_pool.Entry.{Entry}
 use Rattle.fm_code.specs.declared.constant_pool.Entry.TheVariants as entry
-use Rattle.fm_lookup.proofs.BuiltInParents.{count_is, number_first, object_parent_is}
-use Rattle.fm_lookup.proofs.Downwards.{among_head, or_true, same_number}
-use Rattle.fm_lookup.proofs.ParentRefusals.{tree_object, length-declared, past_none, name_within, nil_left, none_of, spelled_at, not_refused, fails, if_true, refused_not, superclass_used, some_entries}
+use Rattle.fm_above.proofs.BuiltInParents.{count_is, number_first, object_parent_is}
+use Rattle.fm_above.proofs.Downwards.{among_head, or_true, same_number}
+use Rattle.fm_above.proofs.ParentRefusals.{tree_object, length-declared, past_none, name_within, nil_left, none_of, spelled_at, not_refused, fails, if_true, refused_not, superclass_used, some_entries}
 use Rattle.fm_code.specs.Names.{object}
 use Rattle.fm_resolved.proofs.GivenFiles.{class_of_file, none_used}
 use Rattle.fm_types.specs.Fits.{AreTree, object_of}

@@ -20,7 +20,7 @@ use Rattle.fm_conn.proofs.ListLemmas.{Contains-from_flat_map, Contains-from_map}
 use Rattle.fm_conn.proofs.TypeLemmas.{types_in}
 use Rattle.fm_declare.proofs.SpelledNames.{named_class-is}
 use Rattle.fm_declare.proofs.SpelledTypes.{few_class}
-use Rattle.fm_lookup.proofs.Downwards.{either}
+use Rattle.fm_above.proofs.Downwards.{either}
 use Rattle.fm_resolved.proofs.CodedMethods.{contains_at}
 use Rattle.fm_resolved.proofs.GivenFiles.{each_one}
 use Rattle.fm_resolved.proofs.InterfaceCalls.{dims_kept}

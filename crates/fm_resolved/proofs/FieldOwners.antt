@@ -19,11 +19,11 @@ use Rattle.fm_code.specs.Spells.{HasSpelling}
 use Rattle.fm_code.specs.declared.class_file.ClassDef.{ClassDef}
 use Rattle.fm_code.specs.declared.class_file.Member.{Member}
 use Rattle.fm_code.specs.declared.constant_pool.Entry.{Entry}
-use Rattle.fm_lookup.proofs.BuiltInParents.{count_is}
-use Rattle.fm_lookup.proofs.Downwards.{among_head, either, or_true}
-use Rattle.fm_lookup.proofs.HierarchyLemmas.{superinterfaces_only}
-use Rattle.fm_lookup.proofs.ParentRefusals.{tree_object, first_true, length-declared, past_none, spelled_at}
-use Rattle.fm_lookup.specs.inner.Hierarchy.{AreSound}
+use Rattle.fm_above.proofs.BuiltInParents.{count_is}
+use Rattle.fm_above.proofs.Downwards.{among_head, either, or_true}
+use Rattle.fm_above.proofs.HierarchyLemmas.{superinterfaces_only}
+use Rattle.fm_above.proofs.ParentRefusals.{tree_object, first_true, length-declared, past_none, spelled_at}
+use Rattle.fm_above.specs.inner.Hierarchy.{AreSound}
 use Rattle.fm_resolved.proofs.GivenFiles.{class_of_file}
 use Rattle.fm_types.proofs.ClassTree.{interface-within}
 use Rattle.fm_types.specs.Fits.{is_seen_as_object, object_of}

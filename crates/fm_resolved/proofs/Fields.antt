@@ -27,7 +27,7 @@ use Rattle.fm_world.specs.Uses.{named_member, operand_of}
 use Rattle.fm_world.specs.declared.declarations.DeclaredClass.{DeclaredClass}
 use Rattle.fm_world.specs.declared.uses.Use.{Use}
 use Rattle.fm_world.specs.declared.uses.Use.TheVariants as resolved
-use Rattle.fm_lookup.proofs.ParentRefusals.{none_of, refused_not}
+use Rattle.fm_above.proofs.ParentRefusals.{none_of, refused_not}
 
 -- ---- what is named
 

@@ -5,7 +5,7 @@ use Rattle.std.proofs.lemmas.Bool.{eqb-true, false≢true}
 use Rattle.std.proofs.lemmas.List.{get_or-append-add}
 use Rattle.std.proofs.lemmas.List.FromFn.{get_or-range_with_len, length-range_with_len}
 use Rattle.fm_code.specs.declared.class_file.ClassDef.{ClassDef}
-use Rattle.fm_lookup.proofs.Downwards.{either, or_true}
+use Rattle.fm_above.proofs.Downwards.{either, or_true}
 use Rattle.fm_world.proofs.Displays.{is_among_at}
 use Rattle.fm_world.specs.BuiltIns.{built_in}
 use Rattle.fm_world.specs.Causes.{Refusal}
@@ -15,7 +15,7 @@ use Rattle.fm_world.specs.Linking.{refusals, refused_built_ins, refused_duplicat
 use Rattle.fm_world.specs.Programs.{classes_of}
 use Rattle.fm_world.specs.Uses.{is_used, pool_indices, uses_in_order}
 use Rattle.fm_world.specs.declared.declarations.DeclaredClass.{DeclaredClass}
-use Rattle.fm_lookup.proofs.ParentRefusals.{none_at, declared_at, nil_left, nil_right, first_true}
+use Rattle.fm_above.proofs.ParentRefusals.{none_at, declared_at, nil_left, nil_right, first_true}
 
 -- ---- lists without refusals
 

@@ -41,7 +41,7 @@ use Rattle.fm_world.specs.Numbers.{type_number}
 use Rattle.fm_world.specs.Programs.{class_of_type, Outline, type_number_at}
 use Rattle.fm_world.specs.Uses.{named_class, named_member}
 use Rattle.fm_world.specs.declared.declarations.DeclaredClass.{DeclaredClass}
-use Rattle.fm_lookup.proofs.ParentRefusals.{spelled_at}
+use Rattle.fm_above.proofs.ParentRefusals.{spelled_at}
 
 -- ---- the entry of an instruction
 

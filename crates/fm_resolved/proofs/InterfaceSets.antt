@@ -6,12 +6,12 @@ use Rattle.std.proofs.lemmas.Bool.{cases_lt, eqb-true, false≢true, lt-ltb}
 use Rattle.std.proofs.lemmas.List.{get_or_append_left}
 use Rattle.fm_code.specs.AccessFlags.{is_interface}
 use Rattle.fm_code.specs.declared.class_file.ClassDef.{ClassDef}
-use Rattle.fm_lookup.proofs.BuiltInParents.{count_is, number_first}
-use Rattle.fm_lookup.proofs.Distinct.{among_distinct}
-use Rattle.fm_lookup.proofs.Downwards.{among_left, among_right, either, or_true}
-use Rattle.fm_lookup.proofs.InterfaceLemmas.{superinterfaces_past}
-use Rattle.fm_lookup.proofs.ParentRefusals.{fails}
-use Rattle.fm_lookup.specs.inner.Hierarchy.{AreSound}
+use Rattle.fm_above.proofs.BuiltInParents.{count_is, number_first}
+use Rattle.fm_above.proofs.Distinct.{among_distinct}
+use Rattle.fm_above.proofs.Downwards.{among_left, among_right, either, or_true}
+use Rattle.fm_above.proofs.InterfaceLemmas.{superinterfaces_past}
+use Rattle.fm_above.proofs.ParentRefusals.{fails}
+use Rattle.fm_above.specs.inner.Hierarchy.{AreSound}
 use Rattle.fm_resolved.proofs.CellTypes.{built_in_at, table_false}
 use Rattle.fm_resolved.proofs.FieldOwners.{among_each}
 use Rattle.fm_resolved.proofs.SelectedMethods.{built_in_chain}

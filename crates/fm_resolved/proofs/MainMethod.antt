@@ -17,7 +17,7 @@ use Rattle.fm_frames.proofs.Programs.{string-is, string_number}
 use Rattle.fm_frames.specs.Natives.{native_of_row}
 use Rattle.fm_frames.specs.Runs.{arguments_type}
 use Rattle.fm_resolved.proofs.ConcreteCodes.{concrete_coded}
-use Rattle.fm_lookup.proofs.ParentRefusals.{nil_right}
+use Rattle.fm_above.proofs.ParentRefusals.{nil_right}
 use Rattle.fm_resolved.proofs.Rows.{all_methods, row_past}
 use Rattle.fm_resolved.proofs.Steps.{concrete_there}
 use Rattle.fm_sound.proofs.FoundMethods.{found_among, IsFound, own_method_found}

@@ -17,11 +17,11 @@ use Rattle.fm_code.specs.declared.class_file.ClassDef.{ClassDef}
 use Rattle.fm_code.specs.declared.class_file.Member.{Member}
 use Rattle.fm_code.specs.declared.constant_pool.Entry.{Entry}
 use Rattle.fm_linked.proofs.Trees.{no_parent_refused, tree_of}
-use Rattle.fm_lookup.proofs.BuiltInParents.{count_is}
-use Rattle.fm_lookup.proofs.Downwards.{among_head, among_left, either, or_true}
-use Rattle.fm_lookup.proofs.HierarchyLemmas.{interfaces_only}
-use Rattle.fm_lookup.proofs.ParentRefusals.{are_sound, first_true, spelled_at, nil_left, nil_right, none_at, past_none, refused_not, tree_object}
-use Rattle.fm_lookup.specs.inner.Hierarchy.{AreSound}
+use Rattle.fm_above.proofs.BuiltInParents.{count_is}
+use Rattle.fm_above.proofs.Downwards.{among_head, among_left, either, or_true}
+use Rattle.fm_above.proofs.HierarchyLemmas.{interfaces_only}
+use Rattle.fm_above.proofs.ParentRefusals.{are_sound, first_true, spelled_at, nil_left, nil_right, none_at, past_none, refused_not, tree_object}
+use Rattle.fm_above.specs.inner.Hierarchy.{AreSound}
 use Rattle.fm_refuse.proofs.LeftOver.{abstract_or_none, left_over_parts}
 use Rattle.fm_refuse.proofs.Positions.{is_some-position}
 use Rattle.fm_refuse.specs.inner.Abstracts.{left_over_by, left_over_of}

@@ -12,7 +12,7 @@ use Rattle.fm_code.specs.Spells.{HasSpelling}
 use Rattle.fm_code.specs.declared.class_file.ClassDef.{ClassDef}
 use Rattle.fm_code.specs.declared.instructions.Insn.{Insn}
 use Rattle.fm_code.specs.declared.instructions.Insn.TheVariants as insn
-use Rattle.fm_lookup.proofs.ParentRefusals.{are_sound}
+use Rattle.fm_above.proofs.ParentRefusals.{are_sound}
 use Rattle.fm_resolved.proofs.FieldOwners.{binary_found, instance_above}
 use Rattle.fm_resolved.proofs.Fields.{access_there, IsAccess}
 use Rattle.fm_resolved.proofs.InterfaceCalls.{binary_type, named_by, type_named}

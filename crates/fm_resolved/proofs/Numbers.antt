@@ -14,7 +14,7 @@ use Rattle.fm_code.specs.declared.code_array.Code.{Code}
 use Rattle.fm_code.specs.declared.constant_pool.Entry.{Entry}
 use Rattle.fm_code.specs.declared.constant_pool.Entry.TheVariants as entry
 use Rattle.fm_frames.specs.Runnable.{IsUseIn}
-use Rattle.fm_lookup.proofs.BuiltInParents.{count_is}
+use Rattle.fm_above.proofs.BuiltInParents.{count_is}
 use Rattle.fm_records.proofs.CodeLaws.{AreCodes-all}
 use Rattle.fm_records.proofs.UseLaws.{resolved_by}
 use Rattle.fm_rows.proofs.OwnerLemmas.{owner_within}

@@ -10,7 +10,7 @@ use Rattle.fm_base.specs.declared.limits.TheConstants.{MAX_CLASS_FILES}
 use Rattle.fm_code.specs.Spells.{HasSpelling}
 use Rattle.fm_code.specs.declared.class_file.ClassDef.{ClassDef}
 use Rattle.fm_resolved.proofs.FewTypes.{types_few}
-use Rattle.fm_lookup.proofs.ParentRefusals.{length-declared}
+use Rattle.fm_above.proofs.ParentRefusals.{length-declared}
 use Rattle.fm_world.specs.BuiltIns.{built_in}
 use Rattle.fm_world.specs.Chains.{chain_of, class_at, parent_of, upwards}
 use Rattle.fm_world.specs.Declarations.{declared_field, declared_from, no_class}

@@ -14,9 +14,9 @@ use Rattle.fm_code.specs.Spells.{HasSpelling}
 use Rattle.fm_code.specs.declared.class_file.ClassDef.{ClassDef}
 use Rattle.fm_code.specs.declared.class_file.Member.{Member}
 use Rattle.fm_code.specs.declared.constant_pool.Entry.{Entry}
-use Rattle.fm_lookup.proofs.BuiltInParents.{count_is, IsBelow}
-use Rattle.fm_lookup.proofs.Downwards.{among_head, among_right, either}
-use Rattle.fm_lookup.proofs.ParentRefusals.{tree_object, length-declared, nil_left, none_at, past_none, refused_not}
+use Rattle.fm_above.proofs.BuiltInParents.{count_is, IsBelow}
+use Rattle.fm_above.proofs.Downwards.{among_head, among_right, either}
+use Rattle.fm_above.proofs.ParentRefusals.{tree_object, length-declared, nil_left, none_at, past_none, refused_not}
 use Rattle.fm_refuse.proofs.LeftOver.{abstract_or_none, left_over_parts}
 use Rattle.fm_refuse.specs.inner.Abstracts.{left_over_by, left_over_of}
 use Rattle.fm_resolved.proofs.ClassChains.{built_in_above}

@@ -30,7 +30,7 @@ use Rattle.fm_world.specs.Programs.{class_of_type, classes_of, Outline, outline_
 use Rattle.fm_world.specs.Uses.{class_items, named_class, named_member}
 use Rattle.fm_world.specs.declared.declarations.DeclaredClass.{DeclaredClass}
 use Rattle.fm_world.specs.declared.uses.Use.TheVariants as resolved
-use Rattle.fm_lookup.proofs.ParentRefusals.{nil_left, nil_right, spelled_at, fails, refused_not}
+use Rattle.fm_above.proofs.ParentRefusals.{nil_left, nil_right, spelled_at, fails, refused_not}
 
 -- ---- what isn't refused of one file
 

@@ -42,7 +42,7 @@ use Rattle.fm_world.specs.Programs.{classes_of, codes_of, outline_of, program_of
 use Rattle.fm_world.specs.declared.declarations.Constant.{Constant}
 use Rattle.fm_world.specs.declared.uses.Use.{Use}
 use Rattle.fm_world.specs.declared.uses.Use.TheVariants as resolved
-use Rattle.fm_lookup.proofs.ParentRefusals.{spelled_at, fails}
+use Rattle.fm_above.proofs.ParentRefusals.{spelled_at, fails}
 
 -- ---- targets
 

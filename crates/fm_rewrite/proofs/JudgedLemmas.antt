@@ -7,7 +7,7 @@ use Rattle.fm_analysis.specs.Analysed.{AreAnalysable, IsAccepted}
 use Rattle.fm_base.proofs.ListFacts.{AllByRecursion-weaker}
 use Rattle.fm_code.specs.Spells.{HasSpelling}
 use Rattle.fm_code.specs.declared.class_file.ClassDef.{ClassDef}
-use Rattle.fm_lookup.proofs.ParentRefusals.{length-declared}
+use Rattle.fm_above.proofs.ParentRefusals.{length-declared}
 use Rattle.fm_place.specs.Rewriting.{first_given}
 use Rattle.fm_rewrite.proofs.MayDoLemmas.{have_counts, may_do_each}
 use Rattle.fm_rewrite.proofs.OldItemsLemmas.{have_old_items}

@@ -6,7 +6,7 @@ ghost use Rattle.fm_code.specs.Spells.{HasSpelling};
 ghost use Rattle.fm_declare.specs.inner.ClassNumbering.{NumbersClasses};
 ghost use Rattle.fm_declare.specs.inner.Files.{AreFiles};
 ghost use Rattle.fm_declare.specs.inner.Numbering.{texts_in};
-ghost use Rattle.fm_lookup.specs.inner.Hierarchy.{IsHierarchy};
+ghost use Rattle.fm_above.specs.inner.Hierarchy.{IsHierarchy};
 ghost use Rattle.fm_records.specs.inner.Fields.{fields_told};
 ghost use Rattle.fm_records.specs.inner.Firsts.{firsts_told};
 ghost use Rattle.fm_records.specs.inner.Methods.{methods_told};
@@ -20,9 +20,9 @@ ghost use Rattle.fm_world.specs.Programs.{Outline, classes_of, codes_of, uses_of
 ghost use Rattle.fm_world.specs.inner.Tables.{numbers_below};
 
 use crate::member_lists::{descriptor_marks, descriptors_of};
+use fm_above::Hierarchy;
 use fm_base::{NoMemory, Seq};
 use fm_declare::{ClassNumbers, GivenFile, Kinds};
-use fm_lookup::Hierarchy;
 use fm_records::{
     bases_of, codes_of, field_infos, firsts_of, kinds_by_text, kinds_of_members, method_infos,
     own_sizes, slots_of,

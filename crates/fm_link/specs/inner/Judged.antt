@@ -12,7 +12,7 @@ use Rattle.fm_link.specs.declared.linked.Linked.{Linked}
 use Rattle.fm_link.specs.declared.ready.Numbered.{Numbered}
 use Rattle.fm_link.specs.declared.ready.Ready.{Ready}
 use Rattle.fm_lookup.specs.declared.members.Members.{Members}
-use Rattle.fm_lookup.specs.inner.Hierarchy.{AreSound, IsHierarchy}
+use Rattle.fm_above.specs.inner.Hierarchy.{AreSound, IsHierarchy}
 use Rattle.fm_lookup.specs.inner.MemberRows.{AreFieldRows, AreMethodRows}
 use Rattle.fm_lookup.specs.inner.MemberTables.{AreFields, AreMethods}
 use Rattle.fm_refuse.specs.inner.GivenClasses.{given_in}

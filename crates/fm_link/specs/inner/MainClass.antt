@@ -6,7 +6,7 @@ use Rattle.fm_code.specs.AccessFlags.{is_static}
 use Rattle.fm_declare.specs.declared.given.GivenFile.{GivenFile}
 use Rattle.fm_declare.specs.inner.Numbering.{text_of, texts_in}
 use Rattle.fm_lookup.specs.declared.members.MemberRow.{MemberRow}
-use Rattle.fm_lookup.specs.inner.ListTables.{list_in}
+use Rattle.fm_above.specs.inner.ListTables.{list_in}
 use Rattle.fm_lookup.specs.inner.MemberRows.{section_of}
 use Rattle.fm_lookup.specs.inner.MemberTables.{first_from}
 use Rattle.fm_refuse.specs.declared.linking.Linking.{Linking}

@@ -6,14 +6,14 @@ use Rattle.fm_code.specs.AccessFlags.{has_flag, is_private, is_static}
 use Rattle.fm_world.specs.Chains.{class_at, first_found}
 use Rattle.fm_world.specs.Lookups.{is_interface_at}
 use Rattle.fm_world.specs.declared.TheConstants.{ACC_SUPER}
-use Rattle.fm_lookup.specs.declared.hierarchy.Hierarchy.{Hierarchy}
+use Rattle.fm_above.specs.declared.hierarchy.Hierarchy.{Hierarchy}
 use Rattle.fm_lookup.specs.declared.lookups.Fields.{Fields}
 use Rattle.fm_lookup.specs.declared.lookups.Methods.{Methods}
 use Rattle.fm_lookup.specs.declared.members.MemberRow.{MemberRow}
 use Rattle.fm_lookup.specs.declared.members.Nearest.{Nearest}
 use Rattle.fm_lookup.specs.declared.starts.Starts.{Starts}
-use Rattle.fm_lookup.specs.inner.Hierarchy.{is_superclass_in}
-use Rattle.fm_lookup.specs.inner.ListTables.{list_in}
+use Rattle.fm_above.specs.inner.Hierarchy.{is_superclass_in}
+use Rattle.fm_above.specs.inner.ListTables.{list_in}
 use Rattle.fm_lookup.specs.inner.MemberRows.{section_of}
 use Rattle.fm_lookup.specs.inner.MemberTables.{first_from, flags_of, nearest_in, number_of_key, own_in, start_in}
 use Rattle.fm_lookup.specs.inner.NearestSteps.{is_signed, or_else}

@@ -17,7 +17,7 @@ use Rattle.fm_lookup.specs.declared.members.MemberRow.{MemberRow}
 use Rattle.fm_lookup.specs.declared.members.Nearest.{Nearest}
 use Rattle.fm_lookup.specs.declared.members.Signatures.{Signatures}
 use Rattle.fm_lookup.specs.declared.starts.Starts.{Starts}
-use Rattle.fm_lookup.specs.inner.Hierarchy.{distinct_path}
+use Rattle.fm_above.specs.inner.Hierarchy.{distinct_path}
 use Rattle.fm_lookup.specs.inner.MemberRows.{no_row, AreFieldRows, AreMethodRows}
 
 -- ---- signatures

@@ -2,13 +2,13 @@
 use Rattle.std.specs.Prelude.{ℕ, ◌<◌, ◌≤◌, true, List, length, replicate, slice_index, if◌then◌else◌}
 use Rattle.std.specs.List.{slice_index_or}
 use Rattle.fm_world.specs.Lookups.{is_interface_at}
-use Rattle.fm_lookup.specs.declared.hierarchy.Hierarchy.{Hierarchy}
+use Rattle.fm_above.specs.declared.hierarchy.Hierarchy.{Hierarchy}
 use Rattle.fm_lookup.specs.declared.members.MemberRow.{MemberRow}
 use Rattle.fm_lookup.specs.declared.starts.Along.{Along}
 use Rattle.fm_lookup.specs.declared.starts.Along.TheVariants as along
 use Rattle.fm_lookup.specs.declared.starts.Finding.{Finding}
 use Rattle.fm_lookup.specs.inner.AlikeMembers.{AreAlike}
-use Rattle.fm_lookup.specs.inner.ListTables.{list_in}
+use Rattle.fm_above.specs.inner.ListTables.{list_in}
 use Rattle.fm_lookup.specs.inner.MemberRows.{no_row}
 use Rattle.fm_lookup.specs.inner.MemberTables.{AreSignatures}
 

@@ -1,8 +1,8 @@
 -- What a program looks up, copied out of what the linker looks up by.
 use Rattle.std.specs.Prelude.{◌≡◌, ◌-◌, length, map, reverse, unwrap_or}
-use Rattle.fm_lookup.specs.declared.hierarchy.Hierarchy.{Hierarchy}
+use Rattle.fm_above.specs.declared.hierarchy.Hierarchy.{Hierarchy}
 use Rattle.fm_lookup.specs.declared.lookups.Methods.{Methods}
-use Rattle.fm_lookup.specs.inner.ListTables.{lists}
+use Rattle.fm_above.specs.inner.ListTables.{lists}
 use Rattle.fm_records.specs.inner.Own.{AreOwnTables}
 use Rattle.fm_parts.specs.declared.answers.Answers.{Answers}
 use Rattle.fm_tables.specs.inner.MemberLists.{flags_in}

@@ -1,7 +1,7 @@
 -- By what superclasses and interfaces are judged.
 use Rattle.std.specs.Prelude.{◌≡◌, ℕ, List, map}
 use Rattle.fm_declare.specs.inner.ClassNumbering.{NumbersClasses}
-use Rattle.fm_lookup.specs.inner.Hierarchy.{AreAncestors}
+use Rattle.fm_above.specs.inner.Hierarchy.{AreAncestors}
 use Rattle.fm_world.specs.Descriptors.{class_number}
 use Rattle.fm_world.specs.declared.declarations.DeclaredClass.{DeclaredClass}
 use Rattle.fm_refuse.specs.declared.parents.Ancestry.{Ancestry}

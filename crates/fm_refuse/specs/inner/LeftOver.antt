@@ -3,7 +3,7 @@ use Rattle.std.specs.Prelude.{◌≡◌, ℕ, zero, suc, ◌+◌, ◌-◌, ◌<�
 use Rattle.fm_code.specs.AccessFlags.{is_private}
 use Rattle.fm_lookup.specs.declared.lookups.Methods.{Methods}
 use Rattle.fm_lookup.specs.inner.AlikeMembers.{AreAlike}
-use Rattle.fm_lookup.specs.inner.ListTables.{list_in}
+use Rattle.fm_above.specs.inner.ListTables.{list_in}
 use Rattle.fm_lookup.specs.inner.MemberRows.{section_of}
 use Rattle.fm_lookup.specs.inner.MemberTables.{flags_of, nearest_in}
 use Rattle.fm_world.specs.Chains.{chain_of, interfaces_of, is_among}

@@ -5,7 +5,7 @@ use Rattle.fm_code.specs.AccessFlags.{is_static}
 use Rattle.fm_code.specs.ConstantPool.{MemberName}
 use Rattle.fm_declare.specs.declared.given.MemberTexts.{MemberTexts}
 use Rattle.fm_declare.specs.inner.Numbering.{texts_in, AreTexts}
-use Rattle.fm_lookup.specs.inner.Hierarchy.{IsHierarchy}
+use Rattle.fm_above.specs.inner.Hierarchy.{IsHierarchy}
 use Rattle.fm_lookup.specs.inner.MemberTables.{AreFields, AreMethods}
 use Rattle.fm_world.specs.Causes.{differs}
 use Rattle.fm_world.specs.Descriptors.{class_number, class_type}

@@ -2,7 +2,7 @@ use Rattle.std.proofs.Common.{sym, ◌∙◌, ap, subst, map, List}
 use Rattle.std.proofs.lemmas.Result.{err_from_is_err_and}
 use Rattle.fm_declare.specs.inner.ClassNumbering.{NumbersClasses}
 use Rattle.fm_declare.specs.inner.Numbering.{lent, texts_in}
-use Rattle.fm_lookup.proofs.ParentRefusals.{are_sound}
+use Rattle.fm_above.proofs.ParentRefusals.{are_sound}
 use Rattle.fm_link.proofs.ClassSteps.{named-made}
 use Rattle.fm_link.proofs.Phases.{files_numbered, none_of_both}
 use Rattle.fm_refuse.proofs.FirstRefusals.{first-append, first_after}

@@ -1,5 +1,5 @@
 use Rattle.std.proofs.Common.{◌∙◌, ap, map, reverse, arith}
-use Rattle.fm_lookup.specs.inner.ListTables.{lists}
+use Rattle.fm_above.specs.inner.ListTables.{lists}
 use Rattle.fm_parts.proofs.AnswerSteps.{firsts-rising, firsts-some, own-tables}
 use Rattle.fm_tables.specs.inner.MemberLists.{flags_in}
 use Rattle.fm_parts.proofs.answers.answers_of.Goals as goal

@@ -1,7 +1,7 @@
 use Rattle.std.proofs.Common.{◌≡◌, ◌∙◌, sym, ap, refl, get_or, nat_eq, true}
 use Rattle.std.proofs.lemmas.Bool.{eq-eqb}
 use Rattle.std.proofs.lemmas.List.Folds.{list_any_at}
-use Rattle.fm_lookup.specs.inner.ListTables.{lists}
+use Rattle.fm_above.specs.inner.ListTables.{lists}
 use Rattle.fm_world.specs.Chains.{is_among}
 use Rattle.fm_refuse.proofs.CountLoops.{row_put, rows_short}
 use Rattle.fm_refuse.proofs.left_over.counted.Goals as goal

@@ -2,8 +2,8 @@ use Rattle.std.proofs.Common.{◌≡◌, sym, ◌∙◌, ap, subst, [], length}
 use Rattle.std.specs.List.{flat_map}
 use Rattle.std.proofs.lemmas.Result.{err_from_is_err_and}
 use Rattle.fm_world.specs.Chains.{chain_of, interfaces_of}
-use Rattle.fm_lookup.proofs.FoundLemmas.{list_in-row}
-use Rattle.fm_lookup.specs.inner.ListTables.{list_in}
+use Rattle.fm_above.proofs.ParentTables.{list_in-row}
+use Rattle.fm_above.specs.inner.ListTables.{list_in}
 use Rattle.fm_refuse.proofs.FirstRefusals.{first-append, refuses_after}
 use Rattle.fm_refuse.proofs.LeftOver.{left_over_parts}
 use Rattle.fm_refuse.specs.Refused.{refusal_of, IsFirst, Refuses}

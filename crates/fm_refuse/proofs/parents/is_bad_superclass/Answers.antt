@@ -3,13 +3,13 @@ use Rattle.std.specs.List.{list_any}
 use Rattle.std.specs.Str.{bytes_eq}
 use Rattle.fm_code.specs.AccessFlags.{is_interface}
 use Rattle.fm_declare.specs.inner.ClassNumbering.{number_in}
-use Rattle.fm_lookup.specs.inner.ParentTable.{climbs}
+use Rattle.fm_above.specs.inner.ParentTable.{climbs}
 use Rattle.fm_world.specs.BuiltIns.{object_name, sealed_names}
 use Rattle.fm_world.specs.Causes.{goes_up, is_array_name, is_there_and}
 use Rattle.fm_world.specs.Declarations.{name_at}
 use Rattle.fm_world.specs.Descriptors.{class_number}
 use Rattle.fm_world.specs.Lookups.{is_interface_at}
-use Rattle.fm_lookup.proofs.ParentTables.{climbs_is}
+use Rattle.fm_above.proofs.ParentTables.{climbs_is}
 use Rattle.fm_refuse.proofs.ParentNames.{class_at_index, first_fault, fourth_fault, last_fault, second_fault, third_fault}
 use Rattle.fm_refuse.specs.inner.GivenClasses.{class_in}
 use Rattle.fm_refuse.proofs.parents.is_bad_superclass.Goals as goal

@@ -1,6 +1,6 @@
 use Rattle.std.proofs.Common.{sym, ◌∙◌, ap, subst, length}
 use Rattle.fm_declare.specs.inner.Numbering.{lent, texts_in}
-use Rattle.fm_lookup.specs.inner.Hierarchy.{IsHierarchy}
+use Rattle.fm_above.specs.inner.Hierarchy.{IsHierarchy}
 use Rattle.fm_records.specs.inner.DeclaredKinds.{AreKinds}
 use Rattle.fm_records.specs.inner.Rows.{lent_kinds}
 use Rattle.fm_refuse.specs.inner.GivenClasses.{given_in}

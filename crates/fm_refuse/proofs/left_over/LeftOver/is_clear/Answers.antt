@@ -1,7 +1,7 @@
 use Rattle.std.proofs.Common.{◌≡◌, ◌∙◌, sym, ap, subst, length, refl, rules, Some}
 use Rattle.fm_declare.specs.inner.Numbering.{texts_in}
-use Rattle.fm_lookup.proofs.FoundLemmas.{list_in-row}
-use Rattle.fm_lookup.specs.inner.ListTables.{list_in}
+use Rattle.fm_above.proofs.ParentTables.{list_in-row}
+use Rattle.fm_above.specs.inner.ListTables.{list_in}
 use Rattle.fm_world.specs.Chains.{chain_of, interfaces_of, is_among}
 use Rattle.fm_refuse.proofs.CountLoops.{none_of_both}
 use Rattle.fm_refuse.specs.inner.LeftOver.{is_open, is_owed, selected_at, HasCounts}

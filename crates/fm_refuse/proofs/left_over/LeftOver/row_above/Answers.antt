@@ -1,5 +1,5 @@
 use Rattle.std.proofs.Common.{◌∙◌, sym, ap, subst, length, Option, Some, ℕ}
-use Rattle.fm_lookup.specs.inner.ListTables.{list_in}
+use Rattle.fm_above.specs.inner.ListTables.{list_in}
 use Rattle.fm_refuse.proofs.CountLoops.{if_ok_then}
 use Rattle.fm_refuse.specs.inner.LeftOver.{is_open, is_owed, selected_at, HasCounts}
 use Rattle.fm_refuse.proofs.left_over.LeftOver.row_above.Goals as goal

@@ -1,6 +1,6 @@
 use Rattle.std.proofs.Common.{◌≡◌, ◌≤◌, ℕ, None, ◌∙◌, sym, ap, subst, arith, get_or, length}
 use Rattle.fm_declare.specs.inner.Numbering.{texts_in}
-use Rattle.fm_lookup.proofs.ParentTables.{row_within}
+use Rattle.fm_above.proofs.ParentTables.{row_within}
 use Rattle.fm_world.proofs.Displays.{parent_of-within}
 use Rattle.fm_world.specs.Chains.{parent_of}
 use Rattle.fm_refuse.proofs.CountLoops.{sections_at}

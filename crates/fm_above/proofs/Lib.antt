@@ -1,0 +1,14 @@
+pub mod ChainSteps
+pub mod TableSteps
+pub mod Distinct
+pub mod ParentTables
+pub mod InterfaceLemmas
+pub mod BuiltInParents
+pub mod NamedParentLemmas
+pub mod RoundCounts
+pub mod Downwards
+pub mod HierarchyLemmas
+pub mod SuperclassLemmas
+pub mod ParentRefusals
+pub mod Inherited
+pub mod OnceEach

@@ -1,0 +1,6 @@
+-- What serves the proofs alone.
+pub mod ParentTable
+pub mod ListTables
+pub mod InterfaceRounds
+pub mod NamedParents
+pub mod Hierarchy

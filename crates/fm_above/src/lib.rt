@@ -1,0 +1,18 @@
+// The superclasses and superinterfaces of a list of classes by number, in tables that answer at once
+// what the definitions of `fm_world` find by name (JVMS 5.3.5).
+#![tactic(auto)]
+
+mod chain_tables;
+mod chains;
+mod hierarchy;
+mod interfaces;
+mod lists;
+mod once;
+mod parent_tables;
+
+pub use chain_tables::{chains_of, parents_first};
+pub use chains::goes_up;
+pub use hierarchy::{Ancestors, Hierarchy, is_interface_at};
+pub use interfaces::{Superinterfaces, joined_along, list_of_parent, with_classes};
+pub use lists::{empty_lists, list_at, put_list};
+pub use parent_tables::{class_listed, class_named, listed_interfaces, parents_of};

@@ -1,6 +1,0 @@
-use Rattle.std.proofs.Common.{◌≡◌, [], replicate}
-use Rattle.fm_lookup.specs.inner.ListTables.{lists}
-use Rattle.fm_lookup.proofs.lists.empty_lists.Given as goal
-
-abbrev pub invariant-loop : goal.invariant-loop
-invariant-loop l = lists l.made.items ≡ replicate l.counter []
