@@ -10,20 +10,22 @@ use Rattle.std.proofs.lemmas.List.Elements.{All-contains, Contains-append_left, 
 use Rattle.fm_base.proofs.OptionFacts.{IsSomeAnd-at_some, IsSomeAnd-from_some, same_value, Some-from_some_and}
 use Rattle.fm_base.specs.declared.kinds.TypeRef.{TypeRef}
 use Rattle.fm_check.proofs.ItemLemmas.{caught_forced, each_handler, kept-locals}
-use Rattle.fm_check.proofs.MergingLemmas.{fits-from, fits-parts, FitsByParts}
-use Rattle.fm_check.proofs.PlaceLemmas.{place_wanted, slot-fits, with_slot-above, with_slot-alike, with_slot-read, zip-from}
+use Rattle.fm_known.proofs.MergingLemmas.{fits-from, fits-parts, FitsByParts}
+use Rattle.fm_known.proofs.PlaceLemmas.{place_wanted, slot-fits, with_slot-above, with_slot-alike, with_slot-read, zip-from}
 use Rattle.fm_check.proofs.RiseLemmas.{all_held, all_room_later, caught_alike, locals_in, raised_forced, room_fits}
 use Rattle.fm_check.proofs.RunLemmas.{Contains-set_cases, got_entries, inside_level, none_there}
-use Rattle.fm_check.proofs.WalkLemmas.{alike-more, alike-refl, alike-then, fits_at, fits_later, fits_one, FitsOne, Went-none, Went-then}
-use Rattle.fm_check.specs.declared.known.Known.{Known}
-use Rattle.fm_check.specs.declared.known.Place.{Place}
-use Rattle.fm_check.specs.declared.known.Place.TheVariants as place
-use Rattle.fm_check.specs.declared.risen.Rise.{Rise}
+use Rattle.fm_check.proofs.WalkLemmas.{fits_at, fits_later, fits_one, FitsOne, Went-none, Went-then}
+use Rattle.fm_known.proofs.RisenLemmas.{alike-more, alike-refl, alike-then}
+use Rattle.fm_known.specs.declared.known.Known.{Known}
+use Rattle.fm_known.specs.declared.known.Place.{Place}
+use Rattle.fm_known.specs.declared.known.Place.TheVariants as place
+use Rattle.fm_known.specs.declared.risen.Rise.{Rise}
 use Rattle.fm_check.specs.declared.runs.Level.{Level}
 use Rattle.fm_check.specs.declared.runs.Run.{Run}
-use Rattle.fm_check.specs.inner.Risen.{HasPlace, is_local, known_state, local_rises, rise_of, slot_at, with_slot, without_words}
+use Rattle.fm_known.specs.inner.Risen.{HasPlace, is_local, known_state, local_rises, rise_of, slot_at, with_slot, without_words}
 use Rattle.fm_check.specs.inner.Runs.{AreGiven, entries_at, entries_in, entries_of, GivesAll, GivesLevel, GivesLevels, GivesRun, halved, has_room, Holds, is_brought, is_open, is_open_to, IsAsked, IsCovered, IsGiven, IsGuarded, IsHeld, IsLaid, IsRaised, LeavesAll, RaisesOne, RaisesRun, shape, Wanted}
-use Rattle.fm_check.specs.inner.Walks.{BringsHandlers, CanCarry, CarriesHandlers, HasRoom, IsForced, is_within, IsSound, Rises, Stands, Task, Walked}
+use Rattle.fm_check.specs.inner.Walks.{BringsHandlers, CanCarry, CarriesHandlers, HasRoom, IsForced, Rises, Stands, Walked}
+use Rattle.fm_known.specs.inner.Tasks.{is_within, IsSound, Task}
 use Rattle.fm_code.proofs.EdgesLemmas.{Contains-from_filter, Contains-from_map, Contains-map}
 use Rattle.fm_code.specs.Edges.{Catches}
 use Rattle.fm_code.specs.declared.code_array.Handler.{Handler}

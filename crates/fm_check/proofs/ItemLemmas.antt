@@ -9,12 +9,14 @@ use Rattle.std.proofs.lemmas.List.Elements.{All-contains, All-from_recursion, Co
 use Rattle.std.proofs.lemmas.Option.{slice_get_past}
 use Rattle.fm_base.proofs.ListFacts.{AllByRecursion-append, AllByRecursion-weaker}
 use Rattle.fm_base.proofs.OptionFacts.{IsSomeAnd-at_some, IsSomeAnd-from_some, option_map-some, same_value, Some-from_some_and}
-use Rattle.fm_check.proofs.MergingLemmas.{fits-from, fits-parts, state-refl, state-trans}
-use Rattle.fm_check.proofs.WalkLemmas.{alike-then, fits_at, fits_later, fits_one, given_at, same_locals, Went-none, Went-then, with_waiting-waits}
-use Rattle.fm_check.specs.declared.known.Place.{Place}
-use Rattle.fm_check.specs.inner.Ranks.{rank_at}
-use Rattle.fm_check.specs.inner.Risen.{IsAlikeBut}
-use Rattle.fm_check.specs.inner.Walks.{Brings, BringsAll, BringsCaught, BringsHandlers, BringsOn, falls_off, GoesOver, HasSettled, is_marked, IsForced, IsItem, IsKept, IsLeast, IsMet, IsMetBut, IsNearlyMet, IsSound, is_within, next_items, not_begun, Pops, risen_at, Rises, Stands, Takes, Task, Untypable, Walked, Walking, Went, with_risen, with_state, work_left}
+use Rattle.fm_known.proofs.MergingLemmas.{fits-from, fits-parts, state-refl, state-trans}
+use Rattle.fm_check.proofs.WalkLemmas.{fits_at, fits_later, fits_one, given_at, Went-none, Went-then, with_waiting-waits}
+use Rattle.fm_known.proofs.RisenLemmas.{alike-then, same_locals}
+use Rattle.fm_known.specs.declared.known.Place.{Place}
+use Rattle.fm_known.specs.inner.Ranks.{rank_at}
+use Rattle.fm_known.specs.inner.Risen.{IsAlikeBut}
+use Rattle.fm_check.specs.inner.Walks.{Brings, BringsAll, BringsCaught, BringsHandlers, BringsOn, falls_off, GoesOver, HasSettled, is_marked, IsForced, IsItem, IsKept, IsLeast, IsMet, IsMetBut, IsNearlyMet, next_items, not_begun, Pops, risen_at, Rises, Stands, Takes, Untypable, Walked, Walking, Went, with_risen, with_state, work_left}
+use Rattle.fm_known.specs.inner.Tasks.{IsSound, is_within, Task}
 use Rattle.fm_code.specs.CodeRules.{HandlerIsValid}
 use Rattle.fm_code.specs.Edges.{Catches, falls_through, insn_of, IsEdge, IsFlowPath, IsHandlerEdge, IsNormalEdge, IsReachable, LeadsTo}
 use Rattle.fm_code.specs.SpellsCode.{targets_of}

@@ -1,9 +1,4 @@
-pub mod StackFrames
-pub mod RowFrames
 pub mod RunLemmas
-pub mod MergingLemmas
-pub mod RankLemmas
-pub mod PlaceLemmas
 pub mod WalkLemmas
 pub mod ItemLemmas
 pub mod RiseLemmas

@@ -9,18 +9,19 @@ use Rattle.fm_base.proofs.ContainsFacts.{Contains-cons_cases}
 use Rattle.fm_base.proofs.OptionFacts.{IsSomeAnd-at_some, IsSomeAnd-from_some, same_value, Some-from_some_and}
 use Rattle.fm_base.specs.declared.kinds.TypeRef.{TypeRef}
 use Rattle.fm_check.proofs.ItemLemmas.{after-row, blank, caught_forced, each_handler, item_small, kept-locals, kept-stack, leads_from, leads_to, met_later, next_forced, next_inside}
-use Rattle.fm_check.proofs.MergingLemmas.{fits-from, fits-parts}
-use Rattle.fm_check.proofs.PlaceLemmas.{lost-fits, place_wanted, same_longs, slot-fits, slot-less, with_slot-above, with_slot-alike, with_slot-below, with_slot-read, with_slot-whole, with_slot-within, zip-from, zip-turned}
-use Rattle.fm_check.proofs.RowFrames.{row-carried}
+use Rattle.fm_known.proofs.MergingLemmas.{fits-from, fits-parts}
+use Rattle.fm_known.proofs.PlaceLemmas.{lost-fits, place_wanted, same_longs, slot-fits, slot-less, with_slot-above, with_slot-alike, with_slot-below, with_slot-read, with_slot-whole, with_slot-within, zip-from, zip-turned}
+use Rattle.fm_known.proofs.RowFrames.{row-carried}
 use Rattle.fm_check.proofs.WalkLemmas.{fits_at, fits_one, first_unfit, noted-tracked, Went-given, Went-none, Went-then, with_waiting-waits}
-use Rattle.fm_check.specs.declared.known.Place.{Place}
-use Rattle.fm_check.specs.declared.known.Place.TheVariants as place
-use Rattle.fm_check.specs.declared.risen.Rise.{Rise}
-use Rattle.fm_check.specs.inner.Ranks.{IsBounded, state_rank, rank_at}
-use Rattle.fm_check.specs.inner.Risen.{HasPlace, is_local, is_lost, IsAlikeBut, IsCarried, IsLeftAlone, leaves_alone, locals_of, noted, rise_of, slot_at, with_slot, words_taken}
+use Rattle.fm_known.specs.declared.known.Place.{Place}
+use Rattle.fm_known.specs.declared.known.Place.TheVariants as place
+use Rattle.fm_known.specs.declared.risen.Rise.{Rise}
+use Rattle.fm_known.specs.inner.Ranks.{IsBounded, state_rank, rank_at}
+use Rattle.fm_known.specs.inner.Risen.{HasPlace, is_local, is_lost, IsAlikeBut, IsCarried, IsLeftAlone, leaves_alone, locals_of, noted, rise_of, slot_at, with_slot, words_taken}
 use Rattle.fm_check.specs.declared.runs.Level.{Level}
 use Rattle.fm_check.specs.inner.Runs.{GivesAll, has_room}
-use Rattle.fm_check.specs.inner.Walks.{CanCarry, CanCarryOne, Carries, CarriesAll, CarriesHandlers, CarriesOn, CarriesOne, falls_off, GoesOver, HandlerHasRoom, HasRoom, is_marked, IsForced, IsKept, IsMet, IsNearlyMet, IsReady, IsSound, next_items, risen_at, Rises, Stands, Task, Untypable, Walked, Went, with_state}
+use Rattle.fm_check.specs.inner.Walks.{CanCarry, CanCarryOne, Carries, CarriesAll, CarriesHandlers, CarriesOn, CarriesOne, falls_off, GoesOver, HandlerHasRoom, HasRoom, is_marked, IsForced, IsKept, IsMet, IsNearlyMet, IsReady, next_items, risen_at, Rises, Stands, Untypable, Walked, Went, with_state}
+use Rattle.fm_known.specs.inner.Tasks.{IsSound, Task}
 use Rattle.fm_code.proofs.EdgesLemmas.{Contains-filter, Contains-from_filter, Contains-from_map, Contains-later, Contains-map}
 use Rattle.fm_code.specs.Edges.{Catches, falls_through, insn_of, IsNormalEdge, LeadsTo}
 use Rattle.fm_code.specs.declared.code_array.Handler.{Handler}
@@ -36,7 +37,6 @@ use Rattle.fm_types.specs.Rows.{row_after}
 use Rattle.fm_types.specs.States.{state_fits, TypeState}
 use Rattle.fm_types.specs.Typed.{after_item, caught_type, FitsAt, FitsHandler, handler_state, IsTypingOf, made_at, state_at, use_by}
 use Rattle.fm_types.specs.declared.slots.Slot.{Slot}
-use Rattle.fm_types.specs.declared.slots.Slot.TheVariants as slot
 use Rattle.fm_world.specs.Programs.{Outline}
 use Rattle.fm_world.specs.declared.uses.Use.{Use}
 
@@ -220,10 +220,6 @@ can_one t a b j k d rises rising can below =
     record { state = later.state; there = later.there; brought = can.brought; forced = can.forced; slot = can.slots k d below }
 
 -- ---- several slots, handlers and items
-
--- a place at which nothing rose
-abbrev pub nothing : Rise
-nothing = record { place = place.Local 0; slot = slot.Top }
 
 pub Carries-none : (t : Task) (item : ℕ) (w : Walked) → IsSound t → Stands t w → Carries t item [] w w
 Carries-none t item w sound stands = record { went = Went-none t w sound stands; room = λ k d below. absurd (omega arith) }

@@ -3,16 +3,15 @@
 
 ghost use Rattle.std.specs.Prelude.{ℕ, Contains, IfOk, MatchBool};
 ghost use Rattle.fm_check.specs.inner.Runs.{CarriesOnGuarded, IsGuarded};
-ghost use Rattle.fm_check.specs.inner.Walks.{CanCarry, CanCarryOne, Carries, CarriesAll, CarriesOne, IsReady, IsSound, Stands, Untypable, task, walked};
+ghost use Rattle.fm_check.specs.inner.Walks.{CanCarry, CanCarryOne, Carries, CarriesAll, CarriesOne, IsReady, Stands, Untypable, walked};
+ghost use Rattle.fm_known.specs.inner.Tasks.{IsSound, task};
 
-use crate::merging::law_bounded;
-use crate::method::Method;
-use crate::risen::{Rise, is_lost, locals_of};
 use crate::runs::Level;
 use crate::steps::next_items;
 use crate::walk::{Walk, most_noted, state_of};
 use fm_base::NoMemory;
 use fm_code::Insn;
+use fm_known::{Method, Rise, is_lost, law_bounded, locals_of};
 use fm_types::{fits, join};
 use std::alloc::Global;
 

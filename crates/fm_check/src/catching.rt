@@ -3,22 +3,21 @@
 // handlers of the run's entries.
 
 ghost use Rattle.std.specs.Prelude.{◌≡◌, ◌<◌, ◌⊎◌, Contains, IfOk, MatchBool, OnOk, length, true};
-ghost use Rattle.fm_check.specs.inner.Risen.{is_local, known_state, local_rises};
+ghost use Rattle.fm_known.specs.inner.Risen.{is_local, known_state, local_rises};
 ghost use Rattle.fm_check.specs.inner.Runs.{AreGiven, GivesAll, GivesLevel, GivesRun, Holds, IsGiven, IsGuarded, IsRaised, LeavesAll, RaisesOne, RaisesRun, entries_in, has_room, is_brought, is_open};
-ghost use Rattle.fm_check.specs.inner.Walks.{BringsCaught, BringsHandlers, CanCarry, CarriesHandlers, IsForced, IsSound, Stands, Untypable, is_within, task, walked};
-ghost use Rattle.fm_check.specs.declared.risen.Rise.{Rise as RiseSpec};
+ghost use Rattle.fm_check.specs.inner.Walks.{BringsCaught, BringsHandlers, CanCarry, CarriesHandlers, IsForced, Stands, Untypable, walked};
+ghost use Rattle.fm_known.specs.inner.Tasks.{IsSound, is_within, task};
+ghost use Rattle.fm_known.specs.declared.risen.Rise.{Rise as RiseSpec};
 ghost use Rattle.fm_code.specs.declared.code_array.Handler.{Handler as HandlerSpec};
 ghost use Rattle.fm_types.specs.Typed.{caught_type, handler_state};
 ghost use Rattle.fm_types.specs.Typings.{type_state};
 ghost use Rattle.fm_world.specs.Members.{methods_of};
 
-use crate::known::{Known, Place};
-use crate::method::Method;
-use crate::risen::{Rise, local_rises, rises_of};
 use crate::runs::{Level, Run};
 use crate::walk::Walk;
 use fm_base::{NoMemory, TypeRef};
 use fm_code::Handler;
+use fm_known::{Known, Method, Place, Rise, local_rises, rises_of};
 use fm_rows::{built_in_type, type_of_use, use_in};
 use fm_types::{Slot, Stack, State, fits, fits_type, join};
 use std::alloc::Global;

@@ -4,12 +4,10 @@ ghost use Rattle.std.specs.Prelude.{◌≡◌, ℕ, ◌<◌, ◌-◌, ◌++◌, 
 ghost use Rattle.std.specs.Option.{option_copied, option_map};
 ghost use Rattle.fm_check.specs.Checking.{HasCode, IsCheckable, IsLeastTyping, IsNarrow, IsTooWide, coded};
 ghost use Rattle.fm_check.specs.inner.Judgements.{Judged};
-ghost use Rattle.fm_check.specs.inner.Risen.{known_state};
-ghost use Rattle.fm_check.specs.inner.Walks.{IsLeast, IsSound, Untypable, states_seen, task};
-ghost use Rattle.std.specs.List.{flat_map};
+ghost use Rattle.fm_known.specs.inner.Risen.{known_state};
+ghost use Rattle.fm_check.specs.inner.Walks.{IsLeast, Untypable, states_seen};
+ghost use Rattle.fm_known.specs.inner.Tasks.{IsSound, task};
 ghost use Rattle.fm_code.specs.AccessFlags.{is_static};
-ghost use Rattle.fm_types.specs.Named.{parameters_of};
-ghost use Rattle.fm_types.specs.States.{local_slots};
 ghost use Rattle.fm_types.specs.Typed.{Typed, entry_slots, entry_state, receiver_slots};
 ghost use Rattle.fm_types.specs.Typings.{states_of, type_state};
 ghost use Rattle.fm_types.specs.declared.slots.Slot.TheVariants.{Top};
@@ -17,13 +15,12 @@ ghost use Rattle.fm_world.specs.Members.{method_at, methods_of};
 ghost use Rattle.fm_world.specs.Programs.{code_at, method_info};
 
 use crate::error::CheckFail;
-use crate::known::Known;
-use crate::method::Method;
 use crate::walk::{Walk, is_within};
 use fm_base::limits::{MAX_LOCAL_WORDS, MAX_STACK_WORDS};
 use fm_base::{MethodId, NoMemory, Seq};
 use fm_code::{ACC_STATIC, Code, has_flag};
-use fm_rows::{class_of_method, is_constructor, type_of_class, words_of};
+use fm_known::{Known, Method, parameter_slots};
+use fm_rows::{class_of_method, is_constructor, type_of_class};
 use fm_types::{Slot, Stack, State, Typing};
 use fm_world::{Body, Program};
 use std::alloc::Global;
@@ -142,20 +139,6 @@ fn is_static(program: &Program, method: MethodId) -> bool
         ≡ is_static (method_at program.now.outline.classes method.0).method.flags }
 {
     has_flag(program.method(method).flags, ACC_STATIC)
-}
-
-/// The words of the parameters.
-#[tactic(auto, unfolding(fm_world::specs::Programs::method_info))]
-pub fn parameter_slots(
-    alloc: Global,
-    program: &Program,
-    method: MethodId,
-) -> Result<Vec<Slot>, NoMemory>
-    requires { method.0 < length (methods_of program.now.outline.classes) }
-    ensures { IfOk result (λ slots. slots.items
-        ≡ flat_map local_slots (parameters_of program.now.outline method.0)) }
-{
-    words_of(alloc, program.method(method).params.as_slice())
 }
 
 // The receiver's slot, if there is a receiver.

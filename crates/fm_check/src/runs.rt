@@ -4,9 +4,9 @@
 ghost use Rattle.std.specs.Prelude.{◌≡◌, All, IfOk, OnOk, map};
 ghost use Rattle.fm_check.specs.inner.Runs.{IsLaid, IsMade, IsNoted, IsOneMore, IsShort, Puts, spans_of, wider};
 
-use crate::known::Known;
 use fm_base::NoMemory;
 use fm_code::Handler;
+use fm_known::Known;
 use std::alloc::Global;
 
 /// Items side by side, with entries whose ranges hold all of them.

@@ -2,20 +2,18 @@
 
 ghost use Rattle.std.specs.Prelude.{◌≡◌, ℕ, ◌+◌, ◌<◌, ◌∷◌, ◌++◌, [], Contains, IfOk, MatchBool, Some, if◌then◌else◌, length};
 ghost use Rattle.fm_check.specs.inner.Runs.{GoesOverGuarded, IsGuarded};
-ghost use Rattle.fm_check.specs.inner.Walks.{BringsAll, BringsOn, GoesOver, IsForced, HasSettled, IsItem, IsMetBut, IsSound, Stands, Untypable, Walking, falls_off, next_items, task, walked};
+ghost use Rattle.fm_check.specs.inner.Walks.{BringsAll, BringsOn, GoesOver, IsForced, HasSettled, IsItem, IsMetBut, Stands, Untypable, Walking, falls_off, next_items, walked};
+ghost use Rattle.fm_known.specs.inner.Tasks.{IsSound, task};
 ghost use Rattle.fm_code.specs.Edges.{falls_through, insn_of, LeadsTo};
 ghost use Rattle.fm_code.specs.SpellsCode.{targets_of};
 ghost use Rattle.fm_rows.specs.Members.{UsesNameMembers};
 ghost use Rattle.fm_types.specs.Typings.{type_state};
 
-use crate::frames::{all_left_alone, words_taken};
-use crate::known::Place;
-use crate::method::Method;
-use crate::risen::rises_of;
 use crate::runs::{Level, levels_of};
 use crate::walk::{Walk, state_of};
 use fm_base::{NoMemory, Seq};
 use fm_code::{Code, Insn};
+use fm_known::{Method, Place, all_left_alone, rises_of, words_taken};
 use fm_rows::apply;
 use fm_types::State;
 use std::alloc::Global;

@@ -4,18 +4,18 @@
 
 ghost use Rattle.std.specs.Prelude.{◌≡◌, ℕ, ◌<◌, ◌≤◌, None, replicate, IfOk, IfSome, IsNone, MatchBool, OnOk, Some, [], ◌∷◌, Contains, if◌then◌else◌, length, slice_set};
 ghost use Rattle.std.specs.Option.{option_copied, option_map};
-ghost use Rattle.fm_check.specs.inner.Walks.{Brings, IsForced, IsKept, IsSound, Pops, Stands, Untypable, is_within, not_begun, risen_at, states_seen, task, walked, with_risen, with_state, with_waiting};
-ghost use Rattle.fm_check.specs.inner.Risen.{HasPlace, known_state, noted, with_slot};
+ghost use Rattle.fm_check.specs.inner.Walks.{Brings, IsForced, IsKept, Pops, Stands, Untypable, not_begun, risen_at, states_seen, walked, with_risen, with_state, with_waiting};
+ghost use Rattle.fm_known.specs.inner.Tasks.{IsSound, is_within, task};
+ghost use Rattle.fm_known.specs.inner.Risen.{HasPlace, known_state, noted, with_slot};
 ghost use Rattle.fm_types.specs.States.{TypeState};
 ghost use Rattle.fm_types.specs.Typed.{state_at};
 ghost use Rattle.fm_types.specs.Typings.{type_state};
 
-use crate::known::{Known, Place};
-use crate::merging::{join_state, law_bounded_state, state_fits};
-use crate::method::Method;
-use crate::risen::{noted, risen_places};
 use fm_base::{NoMemory, Seq};
 use fm_code::Code;
+use fm_known::{
+    Known, Method, Place, join_state, law_bounded_state, noted, risen_places, state_fits,
+};
 use fm_types::{Slot, State};
 use std::alloc::Global;
 use std::mem;

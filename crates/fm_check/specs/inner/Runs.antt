@@ -2,14 +2,15 @@
 use Rattle.std.specs.Prelude.{◌≡◌, ℕ, zero, suc, ◌+◌, ◌-◌, ◌/◌, ◌%◌, ◌<◌, ◌≤◌, ◌⊎◌, ◌||◌, not, Bool, true, false, List, [], length, map, Option, Some, None, All, Contains}
 use Rattle.std.specs.List.{slice_index_or}
 use Rattle.fm_base.specs.declared.kinds.TypeRef.{TypeRef}
-use Rattle.fm_check.specs.declared.known.Known.{Known}
-use Rattle.fm_check.specs.declared.known.Place.{Place}
-use Rattle.fm_check.specs.declared.risen.Rise.{Rise}
+use Rattle.fm_known.specs.declared.known.Known.{Known}
+use Rattle.fm_known.specs.declared.known.Place.{Place}
+use Rattle.fm_known.specs.declared.risen.Rise.{Rise}
 use Rattle.fm_check.specs.declared.runs.Level.{Level}
 use Rattle.fm_check.specs.declared.runs.Run.{Run}
 use Rattle.fm_check.specs.declared.runs.Span.{Span}
-use Rattle.fm_check.specs.inner.Risen.{IsAlikeBut, is_local, known_state, rise_of, slot_at}
-use Rattle.fm_check.specs.inner.Walks.{CarriesOn, GoesOver, HasRoom, IsForced, Task, Walked, Went}
+use Rattle.fm_known.specs.inner.Risen.{IsAlikeBut, is_local, known_state, rise_of, slot_at}
+use Rattle.fm_check.specs.inner.Walks.{CarriesOn, GoesOver, HasRoom, IsForced, Walked, Went}
+use Rattle.fm_known.specs.inner.Tasks.{Task}
 use Rattle.fm_code.specs.declared.code_array.Handler.{Handler}
 use Rattle.fm_code.specs.declared.instructions.Insn.{Insn}
 use Rattle.fm_types.specs.Fits.{fits}

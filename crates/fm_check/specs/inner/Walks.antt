@@ -1,44 +1,25 @@
 -- How the walk over the items of a method stands.
-use Rattle.std.specs.Prelude.{◌≡◌, ℕ, ◌+◌, ◌<◌, ◌≤◌, ◌⊎◌, ◌==◌, ◌&&◌, nat_le, Bool, true, false, List, [], ◌∷◌, ◌++◌, length, map, replicate, Option, Some, None, IsSomeAnd, All, Contains, slice_set, sum_by, if◌then◌else◌}
+use Rattle.std.specs.Prelude.{◌≡◌, ℕ, ◌+◌, ◌<◌, ◌≤◌, ◌⊎◌, ◌==◌, ◌&&◌, Bool, true, false, List, [], ◌∷◌, ◌++◌, length, map, replicate, Option, Some, None, IsSomeAnd, All, Contains, slice_set, sum_by, if◌then◌else◌}
 use Rattle.std.specs.List.{AllByRecursion, slice_index_or}
 use Rattle.std.specs.Option.{option_map}
 use Rattle.fm_check.specs.declared.walk.Walk.{Walk}
-use Rattle.fm_code.specs.Edges.{Catches, falls_through, insn_of, IsReachable, LeadsTo, MeetsCodeRules}
+use Rattle.fm_code.specs.Edges.{Catches, falls_through, insn_of, IsReachable, LeadsTo}
 use Rattle.fm_code.specs.SpellsCode.{targets_of}
 use Rattle.fm_code.specs.declared.code_array.Code.{Code}
 use Rattle.fm_code.specs.declared.code_array.Handler.{Handler}
 use Rattle.fm_code.specs.declared.instructions.Insn.{Insn}
-use Rattle.fm_check.specs.declared.method.Method.{Method}
-use Rattle.fm_check.specs.inner.Ranks.{rank_at}
-use Rattle.fm_check.specs.inner.Risen.{IsAlikeBut, known_state, locals_of, slot_at}
-use Rattle.fm_check.specs.declared.known.Known.{Known}
-use Rattle.fm_check.specs.declared.known.Place.{Place}
-use Rattle.fm_check.specs.declared.risen.Rise.{Rise}
-use Rattle.fm_rows.specs.Members.{UsesNameMembers}
-use Rattle.fm_types.specs.Fits.{AreTree, fits}
+use Rattle.fm_known.specs.inner.Tasks.{is_within, Task}
+use Rattle.fm_known.specs.inner.Ranks.{rank_at}
+use Rattle.fm_known.specs.inner.Risen.{IsAlikeBut, known_state, locals_of, slot_at}
+use Rattle.fm_known.specs.declared.known.Known.{Known}
+use Rattle.fm_known.specs.declared.known.Place.{Place}
+use Rattle.fm_known.specs.declared.risen.Rise.{Rise}
+use Rattle.fm_types.specs.Fits.{fits}
 use Rattle.fm_types.specs.States.{is_whole, state_fits, TypeState}
 use Rattle.fm_types.specs.Typed.{entry_state, FitsAt, FitsHandler, IsTypingOf, MeetsItem, state_at}
-use Rattle.fm_world.specs.Members.{methods_of}
-use Rattle.fm_world.specs.Programs.{Outline, Program}
+use Rattle.fm_world.specs.Programs.{Outline}
 
--- ---- the method that is walked over
-
--- a method with its code
-pub record Task : Type 0 where
-  pub program : Program
-  pub number : ℕ
-  pub code : Code
-
--- the method that the code walks over
-abbrev pub task : Method → Task
-task m = record { program = m.program.now; number = m.number.0; code = m.code.now }
-
--- what linking and class files make sure of
-pub record IsSound (t : Task) : Type 0 where
-  pub tree : AreTree t.program.outline.classes
-  pub uses : UsesNameMembers t.program
-  pub member : t.number < length (methods_of t.program.outline.classes)
-  pub rules : MeetsCodeRules t.code
+-- ---- what no typing has
 
 -- no states are a typing
 abbrev pub Untypable : Task → Type 0
@@ -52,10 +33,6 @@ pub record IsForced (t : Task) (j : ℕ) (s : TypeState) : Type 0 where
   pub inside : j < length t.code.items
   pub whole : is_whole s.stack ≡ true
   pub below : (states : List (Option TypeState)) → IsTypingOf t.program t.number t.code states → FitsAt t.program states j s
-
--- as many locals as the method has, and no more words on the stack than it allows
-abbrev pub is_within : Code → TypeState → Bool
-is_within code s = (length s.locals == code.max_locals) && nat_le (length s.stack) code.max_stack
 
 -- and it is within the counts of the method
 pub record IsKept (t : Task) (j : ℕ) (s : TypeState) : Type 0 where

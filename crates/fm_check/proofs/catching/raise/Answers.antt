@@ -2,12 +2,12 @@ use Rattle.std.proofs.Common.{sym, subst, List, [], get_or}
 use Rattle.std.proofs.lemmas.List.{take_all}
 use Rattle.std.proofs.lemmas.List.Elements.{Contains-get_or}
 use Rattle.fm_check.proofs.GivingLemmas.{IsRaised-more, IsRaised-none}
-use Rattle.fm_check.proofs.RiseLemmas.{nothing}
-use Rattle.fm_check.specs.declared.known.Place.{Place}
-use Rattle.fm_check.specs.declared.risen.Rise.{Rise}
-use Rattle.fm_check.specs.inner.Risen.{known_state}
+use Rattle.fm_known.proofs.RisenLemmas.{nothing}
+use Rattle.fm_known.specs.declared.known.Place.{Place}
+use Rattle.fm_known.specs.declared.risen.Rise.{Rise}
+use Rattle.fm_known.specs.inner.Risen.{known_state}
 use Rattle.fm_check.specs.inner.Runs.{IsRaised}
-use Rattle.fm_check.specs.inner.Walks.{task}
+use Rattle.fm_known.specs.inner.Tasks.{task}
 use Rattle.fm_check.proofs.catching.raise.Goals as goal
 
 pub loop-rise-init : goal.loop-rise-init

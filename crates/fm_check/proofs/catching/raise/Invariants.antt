@@ -1,7 +1,7 @@
 use Rattle.std.proofs.Common.{take}
-use Rattle.fm_check.specs.inner.Risen.{known_state}
+use Rattle.fm_known.specs.inner.Risen.{known_state}
 use Rattle.fm_check.specs.inner.Runs.{IsRaised}
-use Rattle.fm_check.specs.inner.Walks.{task}
+use Rattle.fm_known.specs.inner.Tasks.{task}
 use Rattle.fm_check.proofs.catching.raise.Given as goal
 
 abbrev pub invariant-loop-rise : goal.invariant-loop-rise

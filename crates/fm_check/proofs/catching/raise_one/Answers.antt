@@ -1,10 +1,10 @@
 use Rattle.std.proofs.Common.{◌≡◌, ◌∙◌, sym, ap, subst, true, false, List}
 use Rattle.fm_check.proofs.GivingLemmas.{RaisesOne-none, RaisesOne-set}
-use Rattle.fm_check.proofs.PlaceLemmas.{place_wanted}
-use Rattle.fm_check.specs.declared.known.Place.{Place}
-use Rattle.fm_check.specs.inner.Risen.{known_state, slot_at, with_slot}
+use Rattle.fm_known.proofs.PlaceLemmas.{place_wanted}
+use Rattle.fm_known.specs.declared.known.Place.{Place}
+use Rattle.fm_known.specs.inner.Risen.{known_state, slot_at, with_slot}
 use Rattle.fm_check.specs.inner.Runs.{RaisesOne}
-use Rattle.fm_check.specs.inner.Walks.{task}
+use Rattle.fm_known.specs.inner.Tasks.{task}
 use Rattle.fm_types.specs.Fits.{fits}
 use Rattle.fm_types.specs.Joins.{join}
 use Rattle.fm_types.specs.States.{TypeState}

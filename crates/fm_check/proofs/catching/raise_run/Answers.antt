@@ -1,7 +1,7 @@
 use Rattle.std.proofs.Common.{◌∙◌, refl, ap, inr, map, List}
 use Rattle.fm_check.proofs.RunLemmas.{if_ok}
-use Rattle.fm_check.specs.declared.known.Place.{Place}
-use Rattle.fm_check.specs.inner.Risen.{known_state, rise_of}
+use Rattle.fm_known.specs.declared.known.Place.{Place}
+use Rattle.fm_known.specs.inner.Risen.{known_state, rise_of}
 use Rattle.fm_check.proofs.catching.raise_run.Goals as goal
 
 pub returns : goal.returns

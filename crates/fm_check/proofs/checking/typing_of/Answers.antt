@@ -2,7 +2,8 @@ use Rattle.std.proofs.Common.{◌∙◌, sym, ap, subst, List, map, None, Option
 use Rattle.std.specs.Option.{option_map}
 use Rattle.fm_check.proofs.ItemLemmas.{entry_forced, match_true, settled-is_least, Walking-first}
 use Rattle.fm_check.proofs.WalkLemmas.{too_large}
-use Rattle.fm_check.specs.inner.Walks.{HasSettled, IsForced, IsLeast, not_begun, task, Untypable, Walked, walked, Walking, with_state}
+use Rattle.fm_check.specs.inner.Walks.{HasSettled, IsForced, IsLeast, not_begun, Untypable, Walked, walked, Walking, with_state}
+use Rattle.fm_known.specs.inner.Tasks.{task}
 use Rattle.fm_types.specs.States.{TypeState}
 use Rattle.fm_types.specs.Typings.{type_state}
 use Rattle.fm_types.specs.declared.states.State.{State}

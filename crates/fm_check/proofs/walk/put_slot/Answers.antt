@@ -2,7 +2,7 @@ use Rattle.std.proofs.Common.{◌∙◌, sym, ap, set, Option, Some}
 use Rattle.std.specs.Option.{option_map}
 use Rattle.std.proofs.lemmas.List.{map-set}
 use Rattle.fm_check.proofs.WalkLemmas.{seen_read}
-use Rattle.fm_check.specs.inner.Risen.{known_state, with_slot}
+use Rattle.fm_known.specs.inner.Risen.{known_state, with_slot}
 use Rattle.fm_check.specs.inner.Walks.{states_seen}
 use Rattle.fm_types.specs.States.{TypeState}
 use Rattle.fm_check.proofs.walk.put_slot.Goals as goal

@@ -1,8 +1,9 @@
 use Rattle.std.proofs.Common.{◌≡◌, ◌∙◌, false, sym, ap, subst, None, Some}
 use Rattle.std.specs.Option.{option_map}
 use Rattle.fm_check.proofs.WalkLemmas.{Brings-first, Brings-fit, Brings-joined, few_locals, few_words, joined_level, no_join, state_copied, state_seen, too_large}
-use Rattle.fm_check.specs.inner.Risen.{known_state, noted}
-use Rattle.fm_check.specs.inner.Walks.{Brings, risen_at, task, Walked, walked, with_state}
+use Rattle.fm_known.specs.inner.Risen.{known_state, noted}
+use Rattle.fm_check.specs.inner.Walks.{Brings, risen_at, Walked, walked, with_state}
+use Rattle.fm_known.specs.inner.Tasks.{task}
 use Rattle.fm_types.specs.States.{state_fits, TypeState}
 use Rattle.fm_types.specs.Typings.{type_state}
 use Rattle.fm_check.proofs.walk.Walk.bring.Goals as goal

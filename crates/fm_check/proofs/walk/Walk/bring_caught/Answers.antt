@@ -2,7 +2,8 @@ use Rattle.std.proofs.Common.{◌∙◌, sym, subst}
 use Rattle.fm_types.specs.States.{TypeState}
 use Rattle.fm_types.specs.Typings.{type_state}
 use Rattle.fm_check.proofs.ItemLemmas.{BringsCaught-brings, caught_forced, ok_weaker, uncaught}
-use Rattle.fm_check.specs.inner.Walks.{Brings, BringsCaught, IsForced, task, Untypable, walked}
+use Rattle.fm_check.specs.inner.Walks.{Brings, BringsCaught, IsForced, Untypable, walked}
+use Rattle.fm_known.specs.inner.Tasks.{task}
 use Rattle.fm_check.proofs.walk.Walk.bring_caught.Goals as goal
 
 pub returns-in_default : goal.returns-in_default

@@ -1,7 +1,8 @@
 use Rattle.std.proofs.Common.{◌∙◌, sym, subst, ℕ, List, Contains}
 use Rattle.fm_types.specs.Typings.{type_state}
 use Rattle.fm_check.proofs.ItemLemmas.{BringsOn-all, item_small, items_forced, off_end, ok_weaker}
-use Rattle.fm_check.specs.inner.Walks.{BringsAll, BringsOn, task, Untypable, walked}
+use Rattle.fm_check.specs.inner.Walks.{BringsAll, BringsOn, Untypable, walked}
+use Rattle.fm_known.specs.inner.Tasks.{task}
 use Rattle.fm_check.proofs.walk.Walk.bring_on.Goals as goal
 
 pub returns-then-falls_off : goal.returns-then-falls_off

@@ -3,7 +3,8 @@ use Rattle.std.proofs.lemmas.List.{take_all}
 use Rattle.std.proofs.lemmas.List.Elements.{Contains-get_or}
 use Rattle.fm_types.specs.Typings.{type_state}
 use Rattle.fm_check.proofs.ItemLemmas.{BringsAll-more, BringsAll-none, match_true}
-use Rattle.fm_check.specs.inner.Walks.{Brings, BringsAll, task, Untypable, walked}
+use Rattle.fm_check.specs.inner.Walks.{Brings, BringsAll, Untypable, walked}
+use Rattle.fm_known.specs.inner.Tasks.{task}
 use Rattle.fm_check.proofs.walk.Walk.bring_to_all.Goals as goal
 
 pub loop-item-init : goal.loop-item-init

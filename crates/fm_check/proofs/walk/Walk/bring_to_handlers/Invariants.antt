@@ -1,5 +1,6 @@
 use Rattle.std.proofs.Common.{take}
-use Rattle.fm_check.specs.inner.Walks.{BringsHandlers, task, walked}
+use Rattle.fm_check.specs.inner.Walks.{BringsHandlers, walked}
+use Rattle.fm_known.specs.inner.Tasks.{task}
 use Rattle.fm_types.specs.Typings.{type_state}
 use Rattle.fm_check.proofs.walk.Walk.bring_to_handlers.Given as goal
 

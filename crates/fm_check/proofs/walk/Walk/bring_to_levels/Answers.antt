@@ -2,7 +2,8 @@ use Rattle.std.proofs.Common.{◌<◌, ◌≤◌, ◌∙◌, refl, sym, ap, subs
 use Rattle.fm_check.proofs.GivingLemmas.{GivesAll-all, GivesLevels-more, GivesLevels-none, halved-more, level_given, place_read, same_length, stays-brought}
 use Rattle.fm_check.proofs.ItemLemmas.{match_true}
 use Rattle.fm_check.specs.inner.Runs.{entries_in, GivesLevel, is_brought}
-use Rattle.fm_check.specs.inner.Walks.{task, Untypable, walked}
+use Rattle.fm_check.specs.inner.Walks.{Untypable, walked}
+use Rattle.fm_known.specs.inner.Tasks.{task}
 use Rattle.fm_types.specs.Typings.{type_state}
 use Rattle.fm_check.proofs.walk.Walk.bring_to_levels.Goals as goal
 

@@ -1,6 +1,7 @@
 use Rattle.std.proofs.Common.{◌≡◌}
 use Rattle.fm_check.specs.inner.Runs.{GivesLevels, halved, is_brought}
-use Rattle.fm_check.specs.inner.Walks.{task, walked}
+use Rattle.fm_check.specs.inner.Walks.{walked}
+use Rattle.fm_known.specs.inner.Tasks.{task}
 use Rattle.fm_types.specs.Typings.{type_state}
 use Rattle.fm_check.proofs.walk.Walk.bring_to_levels.Given as goal
 

@@ -1,9 +1,10 @@
 use Rattle.std.proofs.Common.{◌∙◌, refl, sym, subst, List, Contains}
 use Rattle.fm_check.proofs.GivingLemmas.{all_local, GivesRun-brought, GivesRun-open, open_can}
 use Rattle.fm_check.proofs.ItemLemmas.{match_true, ok_weaker}
-use Rattle.fm_check.specs.declared.risen.Rise.{Rise}
+use Rattle.fm_known.specs.declared.risen.Rise.{Rise}
 use Rattle.fm_check.specs.inner.Runs.{GivesRun, has_room, is_brought}
-use Rattle.fm_check.specs.inner.Walks.{BringsHandlers, CanCarry, task, Untypable, walked}
+use Rattle.fm_check.specs.inner.Walks.{BringsHandlers, CanCarry, Untypable, walked}
+use Rattle.fm_known.specs.inner.Tasks.{task}
 use Rattle.fm_code.specs.declared.code_array.Handler.{Handler}
 use Rattle.fm_types.specs.Typings.{type_state}
 use Rattle.fm_check.proofs.walk.Walk.bring_to_run.Goals as goal

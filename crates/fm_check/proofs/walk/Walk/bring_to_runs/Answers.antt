@@ -1,7 +1,8 @@
 use Rattle.std.proofs.Common.{rules, ◌≡◌, ◌∙◌, length, arith}
 use Rattle.fm_check.proofs.GivingLemmas.{GivesAll-all, GivesLevels-none}
 use Rattle.fm_check.specs.inner.Runs.{is_brought}
-use Rattle.fm_check.specs.inner.Walks.{task, walked}
+use Rattle.fm_check.specs.inner.Walks.{walked}
+use Rattle.fm_known.specs.inner.Tasks.{task}
 use Rattle.fm_types.specs.Typings.{type_state}
 use Rattle.fm_check.proofs.walk.Walk.bring_to_runs.Goals as goal
 

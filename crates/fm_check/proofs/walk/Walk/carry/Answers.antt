@@ -1,10 +1,11 @@
 use Rattle.std.proofs.Common.{◌≡◌, ◌∙◌, sym, ap, subst, true, false, [], ◌∷◌, Some, None}
-use Rattle.fm_check.proofs.PlaceLemmas.{place_wanted}
+use Rattle.fm_known.proofs.PlaceLemmas.{place_wanted}
 use Rattle.fm_check.proofs.RiseLemmas.{carried_first, carried_lost, carried_raised, carried_room}
 use Rattle.fm_check.proofs.WalkLemmas.{state_seen}
-use Rattle.fm_check.specs.inner.Ranks.{IsBounded}
-use Rattle.fm_check.specs.inner.Risen.{HasPlace, is_lost, known_state, noted, slot_at, with_slot}
-use Rattle.fm_check.specs.inner.Walks.{CarriesOne, risen_at, task, Walked, walked, with_state}
+use Rattle.fm_known.specs.inner.Ranks.{IsBounded}
+use Rattle.fm_known.specs.inner.Risen.{HasPlace, is_lost, known_state, noted, slot_at, with_slot}
+use Rattle.fm_check.specs.inner.Walks.{CarriesOne, risen_at, Walked, walked, with_state}
+use Rattle.fm_known.specs.inner.Tasks.{task}
 use Rattle.fm_types.specs.Fits.{fits}
 use Rattle.fm_types.specs.Joins.{join}
 use Rattle.fm_types.specs.States.{TypeState}

@@ -1,9 +1,11 @@
 use Rattle.std.proofs.Common.{subst, List, get_or}
 use Rattle.std.proofs.lemmas.List.{take_all}
 use Rattle.fm_check.proofs.ItemLemmas.{match_true}
-use Rattle.fm_check.proofs.RiseLemmas.{can_one, Carries-more, Carries-none, nothing}
-use Rattle.fm_check.specs.declared.risen.Rise.{Rise}
-use Rattle.fm_check.specs.inner.Walks.{Carries, CarriesOne, task, Untypable, walked}
+use Rattle.fm_check.proofs.RiseLemmas.{can_one, Carries-more, Carries-none}
+use Rattle.fm_known.proofs.RisenLemmas.{nothing}
+use Rattle.fm_known.specs.declared.risen.Rise.{Rise}
+use Rattle.fm_check.specs.inner.Walks.{Carries, CarriesOne, Untypable, walked}
+use Rattle.fm_known.specs.inner.Tasks.{task}
 use Rattle.fm_check.proofs.walk.Walk.carry_all.Goals as goal
 
 pub loop-rise-init : goal.loop-rise-init

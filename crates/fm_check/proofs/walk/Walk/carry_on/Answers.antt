@@ -2,9 +2,10 @@ use Rattle.std.proofs.Common.{◌∙◌, refl, sym, subst, ℕ, List, Contains}
 use Rattle.fm_check.proofs.GivingLemmas.{guarded-later}
 use Rattle.fm_check.proofs.ItemLemmas.{match_true, ok_weaker}
 use Rattle.fm_check.proofs.RiseLemmas.{can_carry_later, CarriesOn-both, rises_local}
-use Rattle.fm_check.specs.declared.risen.Rise.{Rise}
+use Rattle.fm_known.specs.declared.risen.Rise.{Rise}
 use Rattle.fm_check.specs.inner.Runs.{CarriesOnGuarded, GivesAll, has_room}
-use Rattle.fm_check.specs.inner.Walks.{CanCarry, CarriesAll, task, Untypable, walked}
+use Rattle.fm_check.specs.inner.Walks.{CanCarry, CarriesAll, Untypable, walked}
+use Rattle.fm_known.specs.inner.Tasks.{task}
 use Rattle.fm_check.proofs.walk.Walk.carry_on.Goals as goal
 
 pub carry_to_levels-requires-clause-local : goal.carry_to_levels-requires-clause-local

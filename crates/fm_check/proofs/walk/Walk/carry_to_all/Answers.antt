@@ -3,7 +3,8 @@ use Rattle.std.proofs.lemmas.List.{take_all}
 use Rattle.std.proofs.lemmas.List.Elements.{Contains-get_or}
 use Rattle.fm_check.proofs.ItemLemmas.{match_true}
 use Rattle.fm_check.proofs.RiseLemmas.{can_carry_later, CarriesAll-more, CarriesAll-none}
-use Rattle.fm_check.specs.inner.Walks.{Carries, CarriesAll, task, Untypable, walked}
+use Rattle.fm_check.specs.inner.Walks.{Carries, CarriesAll, Untypable, walked}
+use Rattle.fm_known.specs.inner.Tasks.{task}
 use Rattle.fm_check.proofs.walk.Walk.carry_to_all.Goals as goal
 
 pub loop-item-init : goal.loop-item-init

@@ -1,5 +1,6 @@
 use Rattle.std.proofs.Common.{take}
-use Rattle.fm_check.specs.inner.Walks.{CarriesAll, task, walked}
+use Rattle.fm_check.specs.inner.Walks.{CarriesAll, walked}
+use Rattle.fm_known.specs.inner.Tasks.{task}
 use Rattle.fm_check.proofs.walk.Walk.carry_to_all.Given as goal
 
 abbrev pub invariant-loop-item : goal.invariant-loop-item

@@ -4,7 +4,8 @@ use Rattle.std.proofs.lemmas.List.Elements.{Contains-get_or}
 use Rattle.fm_check.proofs.GivingLemmas.{CarriesHandlers-nothing}
 use Rattle.fm_check.proofs.ItemLemmas.{blank, match_true}
 use Rattle.fm_check.proofs.RiseLemmas.{can_carry_later, CarriesHandlers-more, CarriesHandlers-none}
-use Rattle.fm_check.specs.inner.Walks.{Carries, CarriesHandlers, task, Untypable, walked}
+use Rattle.fm_check.specs.inner.Walks.{Carries, CarriesHandlers, Untypable, walked}
+use Rattle.fm_known.specs.inner.Tasks.{task}
 use Rattle.fm_code.specs.declared.code_array.Handler.{Handler}
 use Rattle.fm_check.proofs.walk.Walk.carry_to_handlers.Goals as goal
 

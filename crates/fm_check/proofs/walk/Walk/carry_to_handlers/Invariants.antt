@@ -1,5 +1,6 @@
 use Rattle.std.proofs.Common.{take}
-use Rattle.fm_check.specs.inner.Walks.{CarriesHandlers, task, walked}
+use Rattle.fm_check.specs.inner.Walks.{CarriesHandlers, walked}
+use Rattle.fm_known.specs.inner.Tasks.{task}
 use Rattle.fm_check.proofs.walk.Walk.carry_to_handlers.Given as goal
 
 abbrev pub invariant-loop-handler : goal.invariant-loop-handler

@@ -2,7 +2,8 @@ use Rattle.std.proofs.Common.{◌<◌, ◌≤◌, length, set, arith}
 use Rattle.fm_check.proofs.GivingLemmas.{entries_read, given_read, GivesLevel-past, GivesLevel-set}
 use Rattle.fm_check.proofs.ItemLemmas.{ok_weaker}
 use Rattle.fm_check.specs.inner.Runs.{GivesLevel, GivesRun, has_room}
-use Rattle.fm_check.specs.inner.Walks.{task, Untypable, walked}
+use Rattle.fm_check.specs.inner.Walks.{Untypable, walked}
+use Rattle.fm_known.specs.inner.Tasks.{task}
 use Rattle.fm_check.proofs.walk.Walk.carry_to_level.Goals as goal
 
 pub returns-then-len-place : goal.returns-then-len-place

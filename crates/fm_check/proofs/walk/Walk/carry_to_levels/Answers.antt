@@ -3,7 +3,8 @@ use Rattle.fm_check.proofs.GivingLemmas.{GivesAll-all, GivesLevels-more, GivesLe
 use Rattle.fm_check.proofs.ItemLemmas.{match_true}
 use Rattle.fm_check.proofs.RiseLemmas.{can_carry_later}
 use Rattle.fm_check.specs.inner.Runs.{entries_in, GivesLevel, has_room}
-use Rattle.fm_check.specs.inner.Walks.{task, Untypable, walked}
+use Rattle.fm_check.specs.inner.Walks.{Untypable, walked}
+use Rattle.fm_known.specs.inner.Tasks.{task}
 use Rattle.fm_check.proofs.walk.Walk.carry_to_levels.Goals as goal
 
 pub loop-index-init : goal.loop-index-init

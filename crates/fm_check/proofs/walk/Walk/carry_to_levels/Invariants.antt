@@ -1,6 +1,7 @@
 use Rattle.std.proofs.Common.{◌≡◌}
 use Rattle.fm_check.specs.inner.Runs.{GivesLevels, halved, has_room}
-use Rattle.fm_check.specs.inner.Walks.{task, walked}
+use Rattle.fm_check.specs.inner.Walks.{walked}
+use Rattle.fm_known.specs.inner.Tasks.{task}
 use Rattle.fm_check.proofs.walk.Walk.carry_to_levels.Given as goal
 
 abbrev pub invariant-loop-index : goal.invariant-loop-index

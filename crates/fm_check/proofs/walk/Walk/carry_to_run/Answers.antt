@@ -1,9 +1,10 @@
 use Rattle.std.proofs.Common.{sym, subst, List, Contains}
 use Rattle.fm_check.proofs.GivingLemmas.{left_can, left_gives}
 use Rattle.fm_check.proofs.ItemLemmas.{ok_weaker}
-use Rattle.fm_check.specs.declared.risen.Rise.{Rise}
+use Rattle.fm_known.specs.declared.risen.Rise.{Rise}
 use Rattle.fm_check.specs.inner.Runs.{GivesRun, has_room}
-use Rattle.fm_check.specs.inner.Walks.{CanCarry, CarriesHandlers, task, Untypable, walked}
+use Rattle.fm_check.specs.inner.Walks.{CanCarry, CarriesHandlers, Untypable, walked}
+use Rattle.fm_known.specs.inner.Tasks.{task}
 use Rattle.fm_code.specs.declared.code_array.Handler.{Handler}
 use Rattle.fm_check.proofs.walk.Walk.carry_to_run.Goals as goal
 

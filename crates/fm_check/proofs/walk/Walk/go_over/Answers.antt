@@ -4,11 +4,12 @@ use Rattle.std.specs.List.{slice_index_or}
 use Rattle.fm_check.proofs.ItemLemmas.{GoesOver-none, ok_weaker, read_insn}
 use Rattle.fm_check.proofs.RiseLemmas.{asked-alone, GoesOver-carried, ready, words_below}
 use Rattle.fm_check.proofs.WalkLemmas.{state_seen}
-use Rattle.fm_check.specs.declared.risen.Rise.{Rise}
-use Rattle.fm_check.specs.declared.known.Place.{Place}
-use Rattle.fm_check.specs.inner.Risen.{known_state, rise_of, words_taken}
+use Rattle.fm_known.specs.declared.risen.Rise.{Rise}
+use Rattle.fm_known.specs.declared.known.Place.{Place}
+use Rattle.fm_known.specs.inner.Risen.{known_state, rise_of, words_taken}
 use Rattle.fm_check.specs.inner.Runs.{CarriesOnGuarded, GoesOverGuarded}
-use Rattle.fm_check.specs.inner.Walks.{IsReady, task, Untypable, walked}
+use Rattle.fm_check.specs.inner.Walks.{IsReady, Untypable, walked}
+use Rattle.fm_known.specs.inner.Tasks.{task}
 use Rattle.fm_types.specs.Typed.{use_by}
 use Rattle.fm_check.proofs.walk.Walk.go_over.Goals as goal
 

@@ -3,9 +3,10 @@ use Rattle.std.specs.List.{slice_index_or}
 use Rattle.fm_check.proofs.GivingLemmas.{all_brought, guarded-later}
 use Rattle.fm_check.proofs.ItemLemmas.{GoesOver-item, GoesOver-none, match_true, next_forced, ok_weaker, read_insn, row_unmet_at}
 use Rattle.fm_check.proofs.WalkLemmas.{state_copied, state_seen}
-use Rattle.fm_check.specs.inner.Risen.{known_state}
+use Rattle.fm_known.specs.inner.Risen.{known_state}
 use Rattle.fm_check.specs.inner.Runs.{GivesAll, GoesOverGuarded, is_brought}
-use Rattle.fm_check.specs.inner.Walks.{BringsOn, task, Untypable, walked}
+use Rattle.fm_check.specs.inner.Walks.{BringsOn, Untypable, walked}
+use Rattle.fm_known.specs.inner.Tasks.{task}
 use Rattle.fm_rows.specs.Outcomes.{outcome}
 use Rattle.fm_types.specs.Typings.{type_state}
 use Rattle.fm_check.proofs.walk.Walk.go_over_whole.Goals as goal

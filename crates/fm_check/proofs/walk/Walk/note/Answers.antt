@@ -1,8 +1,8 @@
 use Rattle.std.proofs.Common.{◌≡◌, ◌∙◌, ap, set, List, Option, None}
 use Rattle.std.proofs.lemmas.List.{get_or_default}
 use Rattle.fm_check.proofs.WalkLemmas.{set_twice}
-use Rattle.fm_check.specs.declared.known.Place.{Place}
-use Rattle.fm_check.specs.inner.Risen.{noted}
+use Rattle.fm_known.specs.declared.known.Place.{Place}
+use Rattle.fm_known.specs.inner.Risen.{noted}
 use Rattle.fm_check.specs.inner.Walks.{risen_at, walked}
 use Rattle.fm_check.proofs.walk.Walk.note.Goals as goal
 

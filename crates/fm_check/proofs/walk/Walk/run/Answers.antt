@@ -2,9 +2,10 @@ use Rattle.std.proofs.Common.{◌∙◌, sym, ap, subst, List, Option, None}
 use Rattle.std.specs.List.{slice_index_or}
 use Rattle.fm_check.proofs.GivingLemmas.{guarded-first}
 use Rattle.fm_check.proofs.ItemLemmas.{match_true, popped-rise, Stands-taken, taken-inside, taken-met, takes-popped, waiting_marked, Walking-more}
-use Rattle.fm_check.specs.declared.known.Place.{Place}
+use Rattle.fm_known.specs.declared.known.Place.{Place}
 use Rattle.fm_check.specs.inner.Runs.{GoesOverGuarded, IsGuarded, IsLaid}
-use Rattle.fm_check.specs.inner.Walks.{IsMetBut, task, Untypable, walked}
+use Rattle.fm_check.specs.inner.Walks.{IsMetBut, Untypable, walked}
+use Rattle.fm_known.specs.inner.Tasks.{task}
 use Rattle.fm_code.specs.declared.code_array.Handler.{Handler}
 use Rattle.fm_types.specs.States.{TypeState}
 use Rattle.fm_check.proofs.walk.Walk.run.Goals as goal

@@ -1,5 +1,6 @@
 use Rattle.fm_check.specs.inner.Runs.{IsGuarded}
-use Rattle.fm_check.specs.inner.Walks.{task, walked, Walking, work_left}
+use Rattle.fm_check.specs.inner.Walks.{walked, Walking, work_left}
+use Rattle.fm_known.specs.inner.Tasks.{task}
 use Rattle.fm_check.proofs.walk.Walk.run.Given as goal
 
 abbrev pub invariant-loop-item : goal.invariant-loop-item
