@@ -16,6 +16,7 @@ use fm_frames::{Machine, NEGATIVE_ARRAY_SIZE_EXCEPTION, Value};
 use fm_world::Program;
 
 /// How many elements a count means; none where it is negative.
+#[inline(always)]
 pub fn len_of(count: i32) -> Option<u32>
     ensures value { result ≡ (if int_lt count (pos 0) then None else Some (unsigned_abs count)) }
     ensures fits { IfSome result (λ len. len < 2 ^ 31) }
@@ -28,6 +29,7 @@ pub fn len_of(count: i32) -> Option<u32>
 }
 
 // Makes an array of this type, of as many elements as the int on top says.
+#[inline(always)]
 fn make_array<M: Memory>(
     machine: &mut Machine<M>,
     program: &Program,
@@ -48,6 +50,7 @@ fn make_array<M: Memory>(
 }
 
 // The base of the elements that are numbers.
+#[inline(always)]
 fn base_of_elem(e: Elem) -> Option<Base>
     ensures { result ≡ base_of_elem e }
 {
@@ -63,6 +66,7 @@ fn base_of_elem(e: Elem) -> Option<Base>
 }
 
 /// newarray.
+#[inline(always)]
 pub fn new_array<M: Memory>(
     machine: &mut Machine<M>,
     program: &Program,
@@ -82,6 +86,7 @@ pub fn new_array<M: Memory>(
 }
 
 // The array with one dimension more; an array has at most 255.
+#[inline(always)]
 fn array_of(t: TypeRef) -> Option<TypeRef>
     ensures { result ≡ array_of t }
 {
@@ -90,6 +95,7 @@ fn array_of(t: TypeRef) -> Option<TypeRef>
 }
 
 /// anewarray, of the type of its elements.
+#[inline(always)]
 pub fn new_references<M: Memory>(
     machine: &mut Machine<M>,
     program: &Program,
@@ -111,6 +117,7 @@ pub fn new_references<M: Memory>(
 }
 
 // Whether the type is that of an array.
+#[inline(always)]
 fn is_array(t: TypeRef) -> bool
     ensures { result ≡ nat_lt 0 t.dims }
 {
@@ -118,6 +125,7 @@ fn is_array(t: TypeRef) -> bool
 }
 
 // A length as an int.
+#[inline(always)]
 fn int_of(len: u32) -> i32
     requires { len < 2 ^ 31 }
     ensures { result ≡ pos len }
@@ -126,6 +134,7 @@ fn int_of(len: u32) -> i32
 }
 
 /// arraylength. Takes no memory where it throws nothing.
+#[inline(always)]
 pub fn array_length<M: Memory>(machine: &mut Machine<M>, program: &Program) -> Result<(), NoMemory>
     requires can { CanStep program.now machine.old }
     requires holds { HoldsLength program.now machine.old }

@@ -15,6 +15,7 @@ use fm_frames::Machine;
 use fm_world::Program;
 
 /// The words of a value of the kind on a stack.
+#[inline(always)]
 pub fn kind_words(kind: Kind) -> usize
     ensures value { result ≡ kind_words kind }
     ensures some { 0 < result }
@@ -27,6 +28,7 @@ pub fn kind_words(kind: Kind) -> usize
 }
 
 /// The words of the arguments of a method, without the receiver. Takes no memory.
+#[inline(always)]
 pub fn argument_words(program: &Program, m: MethodId) -> usize
     requires { m.0 < length (methods_of program.now.outline.classes) }
     ensures { result ≡ words_of_arguments program.now.outline m.0 }
@@ -35,6 +37,7 @@ pub fn argument_words(program: &Program, m: MethodId) -> usize
 }
 
 // The words of values of these kinds.
+#[inline(always)]
 fn words_of_kinds(kinds: &[Kind]) -> usize
     ensures { result ≡ sum_by kind_words kinds.now }
 {
@@ -46,6 +49,7 @@ fn words_of_kinds(kinds: &[Kind]) -> usize
 }
 
 // The words of a value that is returned.
+#[inline(always)]
 fn reg_words(kind: Reg) -> usize
     ensures value { result ≡ reg_words kind }
     ensures few { result ≤ 2 }
@@ -58,6 +62,7 @@ fn reg_words(kind: Reg) -> usize
 }
 
 /// return, ireturn, lreturn and areturn.
+#[inline(always)]
 pub fn leave<M: Memory>(
     machine: &mut Machine<M>,
     program: &Program,

@@ -14,6 +14,7 @@ use fm_frames::{CLASS_CAST_EXCEPTION, Look, Machine, Value};
 use fm_world::Program;
 
 /// checkcast: null passes each cast. Takes no memory where it throws nothing.
+#[inline(always)]
 pub fn cast<M: Memory>(
     machine: &mut Machine<M>,
     program: &Program,
@@ -50,6 +51,7 @@ pub fn cast<M: Memory>(
 }
 
 // The int of a truth value.
+#[inline(always)]
 fn truth(told: bool) -> Value
     ensures { result ≡ value.Int (if told then pos 1 else pos 0) }
 {
@@ -57,6 +59,7 @@ fn truth(told: bool) -> Value
 }
 
 /// instanceof: null is an instance of nothing.
+#[inline(always)]
 pub fn is_instance<M: Memory>(
     machine: &mut Machine<M>,
     program: &Program,

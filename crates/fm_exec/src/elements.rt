@@ -25,6 +25,7 @@ use fm_world::Program;
 
 // Whether an array of the letter is loaded and stored so: arrays of booleans are loaded and stored as those
 // of bytes.
+#[inline(always)]
 fn has_letter(e: Elem, base: Base) -> bool
     ensures { result ≡ has_letter e base }
 {
@@ -41,6 +42,7 @@ fn has_letter(e: Elem, base: Base) -> bool
 }
 
 // Whether the type is that of an array with such elements.
+#[inline(always)]
 fn is_array_of(e: Elem, t: TypeRef) -> bool
     ensures { result ≡ is_array_of e t }
 {
@@ -51,6 +53,7 @@ fn is_array_of(e: Elem, t: TypeRef) -> bool
 }
 
 // What values of the base are.
+#[inline(always)]
 fn kind_of_base(base: Base) -> Kind
     ensures { result ≡ kind_with 0 base }
 {
@@ -66,6 +69,7 @@ fn kind_of_base(base: Base) -> Kind
 }
 
 // The kind of an array's elements.
+#[inline(always)]
 fn element_kind(t: TypeRef) -> Kind
     ensures { result ≡ element_kind t }
 {
@@ -78,6 +82,7 @@ fn element_kind(t: TypeRef) -> Kind
 }
 
 // The place that an index means, where the array has it.
+#[inline(always)]
 fn place_in(len: u32, index: i32) -> Option<u32>
     ensures { result ≡ (if int_lt index (pos 0) || not (int_lt index (pos len)) then None
         else Some (unsigned_abs index)) }
@@ -90,6 +95,7 @@ fn place_in(len: u32, index: i32) -> Option<u32>
 }
 
 /// baload, caload, saload, iaload, laload and aaload. Takes no memory where it throws nothing.
+#[inline(always)]
 pub fn array_load<M: Memory>(
     machine: &mut Machine<M>,
     program: &Program,
@@ -122,6 +128,7 @@ pub fn array_load<M: Memory>(
 }
 
 // The words of an element on a stack.
+#[inline(always)]
 fn element_words(e: Elem) -> usize
     ensures value { result ≡ element_words e }
     ensures some { 0 < result }
@@ -134,6 +141,7 @@ fn element_words(e: Elem) -> usize
 }
 
 /// bastore, castore, sastore, iastore and lastore. Takes no memory where it throws nothing.
+#[inline(always)]
 pub fn array_store<M: Memory>(
     machine: &mut Machine<M>,
     program: &Program,
@@ -168,6 +176,7 @@ pub fn array_store<M: Memory>(
 }
 
 /// The type of an array's elements.
+#[inline(always)]
 pub fn element_type(t: TypeRef) -> TypeRef
     ensures { result ≡ element_type t }
 {
@@ -178,6 +187,7 @@ pub fn element_type(t: TypeRef) -> TypeRef
 }
 
 // Puts the value on top into an element of the array that lies with its index below the value.
+#[inline(always)]
 fn put_element<M: Memory>(machine: &mut Machine<M>, cell: Cell, t: TypeRef, place: u32)
     requires ready { IsReady machine.old }
     requires array { word_at (stack_of machine.old) 2 ≡ ref cell.0 }
@@ -192,6 +202,7 @@ fn put_element<M: Memory>(machine: &mut Machine<M>, cell: Cell, t: TypeRef, plac
 
 // Puts the reference on top into an element of an array of this type, if it is null or its type in the run is
 // below that of the elements.
+#[inline(always)]
 fn put_reference<M: Memory>(
     machine: &mut Machine<M>,
     program: &Program,
@@ -233,6 +244,7 @@ fn put_reference<M: Memory>(
 
 /// aastore. The value is asked for its type in the run, unless it is null. Takes no memory where it throws
 /// nothing.
+#[inline(always)]
 pub fn reference_store<M: Memory>(
     machine: &mut Machine<M>,
     program: &Program,

@@ -17,6 +17,7 @@ use fm_types::fits_type;
 use fm_world::Program;
 
 /// getfield.
+#[inline(always)]
 pub fn get_field<M: Memory>(
     machine: &mut Machine<M>,
     program: &Program,
@@ -44,6 +45,7 @@ pub fn get_field<M: Memory>(
 }
 
 /// putfield. Takes no memory where it throws nothing.
+#[inline(always)]
 pub fn put_field<M: Memory>(
     machine: &mut Machine<M>,
     program: &Program,

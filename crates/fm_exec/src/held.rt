@@ -19,6 +19,7 @@ use fm_world::Program;
 
 /// The step of an instruction whose operand at this place is no object: null throws, and a cell that isn't
 /// held is a fault.
+#[inline(always)]
 pub fn refuse<M: Memory>(
     machine: &mut Machine<M>,
     program: &Program,
@@ -47,6 +48,7 @@ pub fn refuse<M: Memory>(
 }
 
 /// The type of an object by its head. Takes no memory.
+#[inline(always)]
 pub fn type_in(program: &Program, head: Head) -> TypeRef
     ensures value { result ≡ type_numbered program.now.outline head.class }
     ensures inside { IsRunnable program.now → IsTypeIn program.now.outline.classes result }
@@ -55,6 +57,7 @@ pub fn type_in(program: &Program, head: Head) -> TypeRef
 }
 
 /// Puts a value of a kind in place of so many words: a long takes two.
+#[inline(always)]
 pub fn give<M: Memory>(
     machine: &mut Machine<M>,
     takes: usize,

@@ -8,6 +8,7 @@ ghost use Rattle.fm_world.specs.Programs.{class_of_type};
 use fm_base::{Base, ClassId, TypeRef};
 
 /// The class that a type is; none for an array. Takes no memory.
+#[inline(always)]
 pub fn class_of_type(t: TypeRef) -> Option<ClassId>
     ensures { option_map (λ (c : ids.ClassId). c.0) result ≡ class_of_type t }
 {
