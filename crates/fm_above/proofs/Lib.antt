@@ -12,3 +12,4 @@ pub mod SuperclassLemmas
 pub mod ParentRefusals
 pub mod Inherited
 pub mod OnceEach
+pub mod PassedLemmas

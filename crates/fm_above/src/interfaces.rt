@@ -4,15 +4,15 @@
 // superinterfaces found in that round, since those of the interfaces that it lists were found before. A
 // class whose chains never end leads into a cycle.
 
-ghost use Rattle.std.specs.Prelude.{◌≡◌, ◌≤◌, ℕ, suc, List, [], ◌∷◌, false, IfOk, OnOk, length, map, nat_eq, replicate};
+ghost use Rattle.std.specs.Prelude.{◌≡◌, ◌<◌, ◌≤◌, ℕ, suc, List, [], ◌∷◌, true, false, IfOk, OnOk, length, map, nat_eq, replicate, slice_index};
 ghost use Rattle.std.specs.Global.{Vec};
 ghost use Rattle.std.specs.List.{list_any};
-ghost use Rattle.fm_above.specs.inner.InterfaceRounds.{above_by, inherited_along, is_set, of_parent, settled_one, settled_to, with_classes, with_inherited, AreFoundTo, Lists, ListsOnce};
+ghost use Rattle.fm_above.specs.inner.InterfaceRounds.{above_by, inherited_along, is_set, of_parent, settled_one, settled_to, with_classes, with_inherited, AreFoundTo, HavePassed, Lists, ListsOnce};
 ghost use Rattle.fm_above.specs.inner.ListTables.{lists};
 ghost use Rattle.fm_world.specs.Chains.{distinct};
 ghost use Rattle.fm_world.specs.declared.declarations.DeclaredClass.{DeclaredClass};
 
-use crate::lists::{empty_lists, list_at, put_list};
+use crate::lists::{empty_lists, list_at, number_at, put_list, put_number};
 use crate::once::distinct;
 use fm_base::NoMemory;
 use fm_declare::{at, number_of};
@@ -47,25 +47,39 @@ impl Superinterfaces {
             above: empty_lists(alloc, count)?,
             leads_into_cycle: vec![in alloc; true; count]?,
         };
+        let mut passed = vec![in alloc; 0; count]?;
         for _ in 0..count {
-            if !found.go_deeper(alloc, listed)? {
+            if !found.go_deeper(alloc, listed, &mut passed)? {
                 return Ok(found);
             }
         }
         Ok(found)
     }
 
-    // One round. Whether another one can find more.
-    fn go_deeper(&mut self, alloc: Global, listed: &[Vec<u32>]) -> Result<bool, NoMemory>
+    // One round. Whether another one can find more. No interface that was passed is looked at again.
+    fn go_deeper(
+        &mut self,
+        alloc: Global,
+        listed: &[Vec<u32>],
+        passed: &mut Vec<u32>,
+    ) -> Result<bool, NoMemory>
+        ensures passes { IfOk result (λ goes_on. (classes : List DeclaredClass) (round : ℕ)
+            → ListsOnce classes listed.now → round ≤ length classes
+            → AreFoundTo classes round self.old
+            → HavePassed self.old.leads_into_cycle.items (lists listed.now) passed.old.items
+            → HavePassed self.new.leads_into_cycle.items (lists listed.now) passed.new.items) }
         ensures deeper { IfOk result (λ goes_on. (classes : List DeclaredClass) (round : ℕ)
             → ListsOnce classes listed.now → round ≤ length classes
-            → AreFoundTo classes round self.old → AreFoundTo classes (suc round) self.new) }
+            → AreFoundTo classes round self.old
+            → HavePassed self.old.leads_into_cycle.items (lists listed.now) passed.old.items
+            → AreFoundTo classes (suc round) self.new) }
         ensures ends { IfOk result (λ goes_on. (classes : List DeclaredClass) (round later : ℕ)
             → ListsOnce classes listed.now → round ≤ length classes
-            → AreFoundTo classes round self.old → goes_on ≡ false → round ≤ later
-            → AreFoundTo classes later self.new) }
+            → AreFoundTo classes round self.old
+            → HavePassed self.old.leads_into_cycle.items (lists listed.now) passed.old.items
+            → goes_on ≡ false → round ≤ later → AreFoundTo classes later self.new) }
     {
-        let deeper = one_deeper(alloc, listed, self.leads_into_cycle.as_slice())?;
+        let deeper = one_deeper(alloc, listed, self.leads_into_cycle.as_slice(), passed)?;
         settle(
             alloc,
             listed,
@@ -92,28 +106,45 @@ fn each_once(alloc: Global, listed: &[Vec<u32>]) -> Result<Vec<Vec<u32>>, NoMemo
     Ok(once)
 }
 
-// For each class whether some interface that it lists goes on.
-fn one_deeper(alloc: Global, listed: &[Vec<u32>], goes_on: &[bool]) -> Result<Vec<bool>, NoMemory>
-    ensures { IfOk result (λ deeper. deeper.items
-        ≡ map (list_any (is_set goes_on.now)) (lists listed.now)) }
+// For each class whether some interface that it lists goes on. Those in front of the first one that does
+// are passed.
+fn one_deeper(
+    alloc: Global,
+    listed: &[Vec<u32>],
+    goes_on: &[bool],
+    passed: &mut Vec<u32>,
+) -> Result<Vec<bool>, NoMemory>
+    ensures passes { IfOk result (λ deeper. HavePassed goes_on.now (lists listed.now) passed.old.items
+        → HavePassed goes_on.now (lists listed.now) passed.new.items) }
+    ensures deeper { IfOk result (λ deeper. HavePassed goes_on.now (lists listed.now) passed.old.items
+        → deeper.items ≡ map (list_any (is_set goes_on.now)) (lists listed.now)) }
 {
+    let count = number_of(listed.len())?;
     let mut deeper = Vec::with_capacity(alloc, listed.len())?;
-    for interfaces in listed {
-        deeper.push(some_goes_on(interfaces.as_slice(), goes_on))?;
+    for class in 0..count {
+        let interfaces = list_at(listed, class);
+        let start = number_at(passed.as_slice(), class);
+        let place = first_that_goes_on(interfaces, goes_on, start)?;
+        put_number(true, passed, class, place);
+        deeper.push((place as usize) < interfaces.len())?;
     }
     Ok(deeper)
 }
 
-// Whether one of the interfaces goes on.
-fn some_goes_on(interfaces: &[u32], goes_on: &[bool]) -> bool
-    ensures { result ≡ list_any (is_set goes_on.now) interfaces.now }
+// The place of the first interface from a place on that goes on, or the end.
+fn first_that_goes_on(interfaces: &[u32], goes_on: &[bool], start: u32) -> Result<u32, NoMemory>
+    ensures passed { IfOk result (λ place. (i : ℕ) → start ≤ i → i < place
+        → i < length interfaces.now → is_set goes_on.now (slice_index interfaces.now i) ≡ false) }
+    ensures here { IfOk result (λ place. place < length interfaces.now
+        → is_set goes_on.now (slice_index interfaces.now place) ≡ true) }
 {
-    for interface in interfaces {
-        if is_set(goes_on, *interface as usize) {
-            return true;
+    let end = number_of(interfaces.len())?;
+    for place in start..end {
+        if is_set(goes_on, interfaces[place as usize] as usize) {
+            return Ok(place);
         }
     }
-    false
+    Ok(end)
 }
 
 // Whether the mark of a class is set; past the end none is.

@@ -1,6 +1,6 @@
-// Tables that have a list of numbers for each class.
+// Tables that have a number, or a list of numbers, for each class.
 
-ghost use Rattle.std.specs.Prelude.{◌≡◌, [], IfOk, replicate, slice_set};
+ghost use Rattle.std.specs.Prelude.{◌≡◌, [], IfOk, replicate, slice_index, slice_set, if◌then◌else◌};
 ghost use Rattle.fm_above.specs.inner.ListTables.{list_in, lists};
 
 use fm_base::NoMemory;
@@ -33,5 +33,26 @@ pub fn put_list(table: &mut Vec<Vec<u32>>, place: usize, list: Vec<u32>)
 {
     if place < table.len() {
         table[place] = list;
+    }
+}
+
+/// The number at a place; 0 past the end.
+pub fn number_at(numbers: &[u32], place: u32) -> u32
+    ensures { result ≡ slice_index numbers.now place }
+{
+    match numbers.get(place as usize) {
+        Some(number) => *number,
+        None => 0,
+    }
+}
+
+/// Puts a number at a place, where the test holds; past the end there is none.
+pub fn put_number(test: bool, numbers: &mut Vec<u32>, place: u32, number: u32)
+    ensures { numbers.new.items
+        ≡ (if test then slice_set numbers.old.items place number else numbers.old.items) }
+{
+    let place = place as usize;
+    if test && place < numbers.len() {
+        numbers[place] = number;
     }
 }

@@ -4,6 +4,7 @@ ghost use Rattle.std.specs.Prelude.{◌≡◌, ◌<◌, ℕ, IfOk, length, slice
 ghost use Rattle.fm_lookup.specs.inner.AlikeMembers.{AreAlike};
 
 use crate::marks::is_marked;
+use fm_above::{number_at, put_number};
 use fm_base::NoMemory;
 use fm_declare::number_of;
 use std::alloc::Global;
@@ -61,26 +62,5 @@ impl Alike {
         ensures { result ≡ slice_index self.now.next.items member }
     {
         number_at(&self.next, member)
-    }
-}
-
-/// The number at a place; 0 past the end.
-pub(crate) fn number_at(numbers: &[u32], place: u32) -> u32
-    ensures { result ≡ slice_index numbers.now place }
-{
-    match numbers.get(place as usize) {
-        Some(number) => *number,
-        None => 0,
-    }
-}
-
-/// Puts a number at a place, where the test holds; past the end there is none.
-pub(crate) fn put_number(test: bool, numbers: &mut Vec<u32>, place: u32, number: u32)
-    ensures { numbers.new.items
-        ≡ (if test then slice_set numbers.old.items place number else numbers.old.items) }
-{
-    let place = place as usize;
-    if test && place < numbers.len() {
-        numbers[place] = number;
     }
 }

@@ -8,10 +8,10 @@ ghost use Rattle.std.specs.Prelude.{◌≡◌, ◌<◌, ◌≤◌, ℕ, IfOk, Li
 ghost use Rattle.fm_lookup.specs.inner.MemberTables.{start_in, AreSignatures, AreStarts};
 ghost use Rattle.fm_lookup.specs.inner.Starts.{interfaces_along, list_along, place_in, ArePlaces, IsFinding};
 
-use crate::alike::{Alike, number_at, put_number};
+use crate::alike::Alike;
 use crate::asked::{Asked, asked_of_classes};
 use crate::members::{Members, Signatures, add_signature, row_at};
-use fm_above::{Hierarchy, is_interface_at, list_at};
+use fm_above::{Hierarchy, is_interface_at, list_at, number_at, put_number};
 use fm_base::NoMemory;
 use fm_declare::number_of;
 use std::alloc::Global;

@@ -1,5 +1,5 @@
 -- The rounds in which superinterfaces are found: after round k, those of the classes none of whose chains of listed interfaces has k members.
-use Rattle.std.specs.Prelude.{◌≡◌, ℕ, zero, suc, ◌<◌, ◌&&◌, not, Bool, false, List, [], ◌∷◌, ◌++◌, length, map, nat_eq, Option, None, Some, slice_set, if◌then◌else◌}
+use Rattle.std.specs.Prelude.{◌≡◌, ℕ, zero, suc, ◌<◌, ◌&&◌, not, Bool, false, List, [], ◌∷◌, ◌++◌, length, map, nat_eq, Option, None, Some, slice_index, slice_set, if◌then◌else◌}
 use Rattle.std.specs.Global.{Vec}
 use Rattle.std.specs.List.{flat_map, slice_index_or}
 use Rattle.fm_world.specs.Causes.{goes_deep}
@@ -15,6 +15,12 @@ use Rattle.fm_above.specs.inner.ParentTable.{parent_at}
 -- a place past the end has no mark
 abbrev pub is_set : List Bool → ℕ → Bool
 is_set marks place = slice_index_or marks place false
+
+-- of each class so many interfaces at the front of its list have no mark
+abbrev pub HavePassed : List Bool → List (List ℕ) → List ℕ → Type 0
+HavePassed marks listed passed =
+    (class i : ℕ) → i < slice_index passed class → i < length (slice_index_or listed class [])
+    → is_set marks (slice_index (slice_index_or listed class []) i) ≡ false
 
 -- each of the interfaces and then what the table has at it, each once
 abbrev pub above_by : List ℕ → List (List ℕ) → List ℕ

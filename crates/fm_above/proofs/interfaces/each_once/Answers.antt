@@ -1,4 +1,4 @@
-use Rattle.std.proofs.Common.{◌≡◌, ◌∙◌, ℕ, List, ap, map, nat_eq}
+use Rattle.std.proofs.Common.{◌∙◌, ℕ, List, ap, map, nat_eq}
 use Rattle.std.specs.Global.{Vec}
 use Rattle.fm_above.proofs.TableSteps.{lists_push, map_end, map_step}
 use Rattle.fm_above.specs.inner.ListTables.{lists}

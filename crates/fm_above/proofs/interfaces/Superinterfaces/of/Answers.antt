@@ -1,4 +1,3 @@
-use Rattle.std.proofs.Common.{◌∙◌}
 use Rattle.fm_above.proofs.OnceEach.{lists_once}
 use Rattle.fm_above.proofs.interfaces.Superinterfaces.of.Goals as goal
 

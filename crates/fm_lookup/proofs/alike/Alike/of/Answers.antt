@@ -1,4 +1,4 @@
-use Rattle.std.proofs.Common.{◌≡◌, ◌-◌, ◌+◌, ◌∙◌, ◌<◌, ℕ, List, ap, cond, get_or, length, replicate, set, arith, subst, sym, false}
+use Rattle.std.proofs.Common.{◌≡◌, ◌-◌, ◌+◌, ◌∙◌, ap, cond, get_or, length, replicate, set, arith, subst, sym}
 use Rattle.fm_lookup.proofs.AlikeLemmas.{none_linked, one_linked}
 use Rattle.fm_lookup.specs.inner.AlikeMembers.{AreLinkedFrom}
 use Rattle.fm_lookup.proofs.alike.Alike.of.Goals as goal

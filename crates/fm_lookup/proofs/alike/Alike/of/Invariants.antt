@@ -1,4 +1,4 @@
-use Rattle.std.proofs.Common.{◌≡◌, ◌<◌, ◌≤◌, ℕ, length, slice_index}
+use Rattle.std.proofs.Common.{◌<◌, ◌≤◌, ℕ, length, slice_index}
 use Rattle.fm_lookup.specs.inner.AlikeMembers.{AreLinkedFrom}
 use Rattle.fm_lookup.proofs.alike.Alike.of.Given as goal
 
