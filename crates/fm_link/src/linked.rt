@@ -1,12 +1,13 @@
 // Superclasses are judged and their tables made; then what classes do with members is judged.
 
-ghost use Rattle.std.specs.Prelude.{◌≡◌, IfOk, List, Some};
+ghost use Rattle.std.specs.Prelude.{◌≡◌, IfOk, List};
 ghost use Rattle.fm_declare.specs.inner.Numbering.{texts_in, AreTexts};
 ghost use Rattle.fm_link.specs.inner.Judged.{class_refusals, member_refusals, AreLinked, AreReady};
+ghost use Rattle.fm_link.specs.inner.MainClass.{AreMain};
 ghost use Rattle.fm_refuse.specs.Refused.{Refuses};
 ghost use Rattle.fm_refuse.specs.inner.GivenClasses.{given_in, AreNumbered};
 ghost use Rattle.fm_refuse.specs.inner.Linking.{IsLinking};
-ghost use Rattle.fm_world.specs.Programs.{classes_of, given_number, main_of};
+ghost use Rattle.fm_world.specs.Programs.{classes_of};
 ghost use Rattle.fm_world.specs.declared.declarations.DeclaredClass.{DeclaredClass};
 
 use crate::main_class::main_of;
@@ -97,10 +98,8 @@ pub(crate) fn judged_main(
     requires { AreNumbered (texts_in linking.texts.now) files.now }
     ensures refuses { IsLinking (classes_of (given_in files.now)) linking.entry
         → Refuses (member_refusals (given_in files.now) main.now) result }
-    ensures class { IsLinking (classes_of (given_in files.now)) linking.entry → IfOk result (λ found.
-        given_number (classes_of (given_in files.now)) main.now ≡ Some found.0) }
-    ensures method { IsLinking (classes_of (given_in files.now)) linking.entry → IfOk result (λ found.
-        main_of (classes_of (given_in files.now)) found.0 ≡ Some found.1) }
+    ensures main { IsLinking (classes_of (given_in files.now)) linking.entry
+        → IfOk result (AreMain (given_in files.now) main.now) }
 {
     refuse_fields(alloc, linking, files)?;
     refuse_methods(alloc, linking, files)?;

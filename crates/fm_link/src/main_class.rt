@@ -1,13 +1,13 @@
 // The main class and its main method.
 
-ghost use Rattle.std.specs.Prelude.{◌≡◌, IfOk, Some};
+ghost use Rattle.std.specs.Prelude.{◌≡◌, IfOk};
 ghost use Rattle.fm_declare.specs.inner.Numbering.{texts_in};
 ghost use Rattle.fm_refuse.specs.Refused.{Refuses};
 ghost use Rattle.fm_refuse.specs.inner.GivenClasses.{given_in, AreNumbered};
 ghost use Rattle.fm_refuse.specs.inner.Linking.{IsLinking};
-ghost use Rattle.fm_link.specs.inner.MainClass.{is_main_at, is_main_row, main_between, main_found, main_method_in, number_among, own_main_in};
+ghost use Rattle.fm_link.specs.inner.MainClass.{is_main_at, is_main_row, main_between, main_found, main_method_in, number_among, own_main_in, AreMain};
 ghost use Rattle.fm_world.specs.Linking.{refused_main};
-ghost use Rattle.fm_world.specs.Programs.{classes_of, given_number, main_of};
+ghost use Rattle.fm_world.specs.Programs.{classes_of};
 
 use fm_base::NoMemory;
 use fm_code::{ACC_STATIC, has_flag};
@@ -27,10 +27,8 @@ pub(crate) fn main_of(
     requires { AreNumbered (texts_in linking.texts.now) files.now }
     ensures refuses { IsLinking (classes_of (given_in files.now)) linking.entry
         → Refuses (refused_main (given_in files.now) main.now) result }
-    ensures class { IsLinking (classes_of (given_in files.now)) linking.entry → IfOk result (λ found.
-        given_number (classes_of (given_in files.now)) main.now ≡ Some found.0) }
-    ensures method { IsLinking (classes_of (given_in files.now)) linking.entry → IfOk result (λ found.
-        main_of (classes_of (given_in files.now)) found.0 ≡ Some found.1) }
+    ensures main { IsLinking (classes_of (given_in files.now)) linking.entry
+        → IfOk result (AreMain (given_in files.now) main.now) }
 {
     match found_main(linking, files, main)? {
         Some(found) => Ok(found),

@@ -1,8 +1,9 @@
 -- The main class and its main method, by the tables.
-use Rattle.std.specs.Prelude.{ℕ, ◌-◌, ◌&&◌, Bool, false, List, codes, length, Option, None, Some, option_and_then, option_map, slice_get}
+use Rattle.std.specs.Prelude.{◌≡◌, ℕ, ◌-◌, ◌&&◌, Bool, false, List, codes, length, Option, None, Some, option_and_then, option_map, slice_get}
 use Rattle.std.specs.List.{position_from}
 use Rattle.std.specs.Str.{bytes_eq}
 use Rattle.fm_code.specs.AccessFlags.{is_static}
+use Rattle.fm_code.specs.declared.class_file.ClassDef.{ClassDef}
 use Rattle.fm_declare.specs.declared.given.GivenFile.{GivenFile}
 use Rattle.fm_declare.specs.inner.Numbering.{text_of, texts_in}
 use Rattle.fm_lookup.specs.declared.members.MemberRow.{MemberRow}
@@ -14,7 +15,7 @@ use Rattle.fm_refuse.specs.inner.GivenClasses.{class_in}
 use Rattle.fm_world.specs.BuiltIns.{built_in}
 use Rattle.fm_world.specs.Causes.{own_name}
 use Rattle.fm_world.specs.Chains.{first_found}
-use Rattle.fm_world.specs.Programs.{given_number, main_of}
+use Rattle.fm_world.specs.Programs.{classes_of, given_number, main_of}
 use Rattle.fm_world.specs.declared.declarations.DeclaredClass.{DeclaredClass}
 
 -- ---- by names
@@ -66,3 +67,8 @@ own_main_in l class = main_between (texts_in l.texts.now) l.methods.now.members.
 -- the first one of a class and its superclasses
 abbrev pub main_method_in : Linking → ℕ → Option ℕ
 main_method_in l class = first_found (own_main_in l) (list_in l.hierarchy.now.chains.items class)
+
+-- these are the program's main class and its main method
+pub record AreMain (given : List ClassDef) (main : List ℕ) (found : ℕ × ℕ) : Type 0 where
+  pub class_is : given_number (classes_of given) main ≡ Some found.0
+  pub method_is : main_of (classes_of given) found.0 ≡ Some found.1

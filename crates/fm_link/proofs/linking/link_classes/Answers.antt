@@ -71,6 +71,6 @@ returns-clause-tables c =
     record {
       main = c.in_ok-found.found;
       tables = c.in_ok-tables.ensures;
-      class = c.in_ok-found.ensures.class is;
-      method = c.in_ok-found.ensures.method is;
+      class = (c.in_ok-found.ensures.main is).class_is;
+      method = (c.in_ok-found.ensures.main is).method_is;
     }

@@ -7,8 +7,9 @@ use Rattle.fm_link.proofs.main_class.main_of.Goals as goal
 pub returns-in-Some : goal.returns-in-Some
 returns-in-Some c = record {
   refuses = λ is. (main_there (given_in c.args.files.now) c.args.main.now c.in-Some.found.0 c.in-Some.found.1 (sym (c.in_ok-found.ensures is) ∙ c.in-Some.is)).none;
-  class = λ is. (main_there (given_in c.args.files.now) c.args.main.now c.in-Some.found.0 c.in-Some.found.1 (sym (c.in_ok-found.ensures is) ∙ c.in-Some.is)).class_is;
-  method = λ is. (main_there (given_in c.args.files.now) c.args.main.now c.in-Some.found.0 c.in-Some.found.1 (sym (c.in_ok-found.ensures is) ∙ c.in-Some.is)).method_is;
+  main = λ is.
+      let found = main_there (given_in c.args.files.now) c.args.main.now c.in-Some.found.0 c.in-Some.found.1 (sym (c.in_ok-found.ensures is) ∙ c.in-Some.is) in
+      record { class_is = found.class_is; method_is = found.method_is };
 }
 
 pub returns-in_ok-bad_of-in-None-clause-refuses : goal.returns-in_ok-bad_of-in-None-clause-refuses
