@@ -80,6 +80,9 @@ pub fn start_words<M: Memory>(
     ensures { IfOk result (λ words. words ≡ min (own + words_among program.now.outline machine.now.areas []
         (map action_of actions.now)) most_words) }
 {
+    if actions.is_empty() {
+        return Ok(own);
+    }
     let mut counted = Row::new(alloc, program.texts())?;
     Ok(sum_of_words(machine, program, &mut counted, actions, own))
 }
