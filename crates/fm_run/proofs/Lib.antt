@@ -6,4 +6,4 @@ pub mod Counting
 pub mod Ranging
 pub mod Standing
 pub mod Steadying
-pub mod SimpleSteps
+pub mod CheapSteps

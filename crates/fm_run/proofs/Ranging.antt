@@ -1,5 +1,5 @@
 -- A run that goes on step by step.
-use Rattle.std.proofs.Common.{◌≡◌, inl, inr, ℕ, zero, suc, ◌+◌, ◌-◌, ◌^◌, ◌<◌, ◌≤◌, List, [], ◌∷◌, ◌++◌, Option, Some, None, refl, sym, ◌∙◌, ap, subst, arith, Bool, true, if◌then◌else◌, add-one, below_more, Result, Ok, Err, IsErrAnd, OnOk, min, false, IsTrue, ◌↔◌}
+use Rattle.std.proofs.Common.{◌≡◌, ◌⊎◌, inl, inr, ℕ, zero, suc, ◌+◌, ◌-◌, ◌^◌, ◌<◌, ◌≤◌, List, [], ◌∷◌, ◌++◌, Option, Some, None, refl, sym, ◌∙◌, ap, subst, arith, Bool, true, if◌then◌else◌, add-one, below_more, Result, Ok, Err, IsErrAnd, min, false, IsTrue, ◌↔◌}
 use Rattle.std.proofs.lemmas.List.{append-nil}
 use Rattle.std.proofs.lemmas.Option.{none-some}
 use Rattle.fm_ready.proofs.Standing.{costs_some}
@@ -10,17 +10,14 @@ use Rattle.fm_files.specs.Sink.{FailsPut, Output, with_piece, with_pieces}
 use Rattle.fm_frames.specs.Acts.{Choose}
 use Rattle.fm_frames.specs.Runs.{after, Goes}
 use Rattle.fm_frames.specs.States.{Moved, State}
-use Rattle.fm_frames.specs.Steps.{cost, next_effect, step}
+use Rattle.fm_frames.specs.Steps.{cost, step}
 use Rattle.fm_frames.specs.declared.ends.Ended.{Ended}
 use Rattle.fm_frames.specs.inner.Doings.{silent}
-use Rattle.fm_base.specs.declared.error.NoMemory.{NoMemory}
-use Rattle.fm_native.specs.Doing.{PutsOnce, quiet}
+use Rattle.fm_native.specs.Doing.{PutsOnce}
 use Rattle.fm_ready.specs.Ready.{IsGoing}
 use Rattle.fm_run.specs.Running.{ArePieces, BreaksRun, CanGo, FailsRun, GoFirst, OnePieceMore, printed_at, RunsTo, state_after}
 use Rattle.fm_run.specs.Stepping.{DoesStep, FailsStep}
-use Rattle.fm_native.proofs.Prints.{quiet-does}
-use Rattle.fm_run.proofs.Counting.{step-does}
-use Rattle.fm_run.specs.inner.Going.{DidSimple, Keeps, Leads, left_of, Ran}
+use Rattle.fm_run.specs.inner.Going.{BreaksLater, DidCheap, FailsLater, FailsNext, Keeps, Leads, left_of, Ran}
 use Rattle.fm_run.specs.inner.Nexts.{Stepped}
 use Rattle.fm_world.specs.Programs.{Program}
 
@@ -67,16 +64,20 @@ put-more pieces printed first old new put more =
 
 -- ---- what holds of a run that has come so far
 
-pub ran-none : (p : Program) (choose : Choose) (budget : ℕ) (x : State) (out : Output) → CanGo p budget x → Ran p choose budget x x out out
-ran-none p choose budget x out can = record {
+ran-here : (p : Program) (choose : Choose) (budget : ℕ) (x : State) (out : Output) → Keeps p budget x → Ran p choose budget x x out out
+ran-here p choose budget x out keeps = record {
   count = zero;
   goes = λ k h. absurd (omega (arith, h));
   state = sym (state-zero p choose x);
   pieces = [];
   are = refl;
   put = sym (with_pieces-nil out);
-  keeps = record { sound = can.sound; cells = can.cells; births = λ goes. omega (arith, can.births) };
+  keeps = keeps;
 }
+
+pub ran-none : (p : Program) (choose : Choose) (budget : ℕ) (x : State) (out : Output) → CanGo p budget x → Ran p choose budget x x out out
+ran-none p choose budget x out can =
+    ran-here p choose budget x out (record { sound = can.sound; cells = can.cells; births = λ goes. omega (arith, can.births) })
 
 pub keeps-going : (p : Program) (budget : ℕ) (x : State) → budget < 2 ^ 64 → Keeps p budget x → Goes p budget x → IsGoing p x
 keeps-going p budget x few keeps goes = record {
@@ -185,35 +186,95 @@ ran-ends p choose budget first x old new ran stops = record {
   put = ran.put;
 }
 
--- ---- steps that print nothing
+-- ---- steps that a run goes on by
 
-pub leads-none : (p : Program) (choose : Choose) (budget : ℕ) (x : State) → Leads p choose budget x x
-leads-none p choose budget x = record { ran = λ first old new ran. ran; left = omega arith }
+pub leads-none : (p : Program) (choose : Choose) (budget : ℕ) (x : State) (out : Output) → Leads p choose budget x x out out
+leads-none p choose budget x out = record { ran = λ first from ran. ran; left = inl refl }
 
-pub leads-more : (p : Program) (choose : Choose) (budget : ℕ) (x y z : State) → Leads p choose budget x y → DidSimple p choose budget y z → Leads p choose budget x z
-leads-more p choose budget x y z leads did = record {
-  ran = λ first old new ran.
-      ran-more p choose budget first y old new (leads.ran first old new ran) did.goes z new
-      (step-does p choose y z new new did.goes.not_ended (quiet-does p choose y z new (next_effect p y) did.does)) did.stepped;
-  left = let less = left-less p budget y z did.goes did.stepped (cost-some p y) in let before = leads.left in omega arith;
+-- no more are left
+pub leads-left : (p : Program) (choose : Choose) (budget : ℕ) (x y : State) (old new : Output) → Leads p choose budget x y old new → left_of budget y ≤ left_of budget x
+leads-left p choose budget x y old new leads = by_left leads.left where
+  by_left : (y ≡ x) ⊎ (left_of budget y < left_of budget x) → left_of budget y ≤ left_of budget x
+  by_left (inl same) = let is : left_of budget y ≡ left_of budget x = ap (left_of budget) same in omega (arith, is)
+  by_left (inr less) = omega (arith, less)
+
+-- the state can go on
+pub leads-keeps : (p : Program) (choose : Choose) (budget : ℕ) (x y : State) (old new : Output) → Leads p choose budget x y old new → Keeps p budget x → Keeps p budget y
+leads-keeps p choose budget x y old new leads keeps = (leads.ran x old (ran-here p choose budget x old keeps)).keeps
+
+-- where steps were counted, fewer are left
+pub leads-less : (p : Program) (choose : Choose) (budget : ℕ) (x y : State) (old new : Output) → Leads p choose budget x y old new → x.steps < y.steps
+    → left_of budget y < left_of budget x
+leads-less p choose budget x y old new leads rises = by_left leads.left where
+  by_left : (y ≡ x) ⊎ (left_of budget y < left_of budget x) → left_of budget y < left_of budget x
+  by_left (inl same) = let is : y.steps ≡ x.steps = ap (λ (z : State). z.steps) same in absurd (omega (arith, is, rises))
+  by_left (inr less) = less
+
+pub leads-more : (p : Program) (choose : Choose) (budget : ℕ) (x y z : State) (old mid new : Output) → Leads p choose budget x y old mid
+    → DidCheap p choose budget y z mid new → Leads p choose budget x z old new
+leads-more p choose budget x y z old mid new leads did = record {
+  ran = λ first from ran. ran-more p choose budget first y from mid (leads.ran first from ran) did.goes z new did.does did.stepped;
+  left =
+      inr (let less = left-less p budget y z did.goes did.stepped (cost-some p y) in
+      let before = leads-left p choose budget x y old mid leads in
+      omega (arith, less, before));
 }
 
--- a step that was done, or none
-pub went : (p : Program) (choose : Choose) (budget : ℕ) (first x y : State) (did : Bool) → (did ≡ true → DidSimple p choose budget x y) → (did ≡ false → y ≡ x)
-    → Leads p choose budget first x → Keeps p budget x → Leads p choose budget first y × Keeps p budget y
-went p choose budget first x y true done same leads keeps =
-    let did = done refl in
-    (leads-more p choose budget first x y leads did, keeps-more p budget x y keeps did.goes did.stepped)
-went p choose budget first x y false done same leads keeps =
-    (subst (Leads p choose budget first) (sym (same refl)) leads, subst (Keeps p budget) (sym (same refl)) keeps)
+pub leads-then : (p : Program) (choose : Choose) (budget : ℕ) (x y z : State) (old mid new : Output) → Leads p choose budget x y old mid
+    → Leads p choose budget y z mid new → Leads p choose budget x z old new
+leads-then p choose budget x y z old mid new first second =
+    record { ran = λ start from ran. second.ran start from (first.ran start from ran); left = by_left first.left second.left } where
+      by_left : (y ≡ x) ⊎ (left_of budget y < left_of budget x) → (z ≡ y) ⊎ (left_of budget z < left_of budget y) → (z ≡ x) ⊎ (left_of budget z < left_of budget x)
+      by_left (inl same) (inl more) = inl (more ∙ same)
+      by_left (inl same) (inr less) = inr (subst (λ w. left_of budget z < left_of budget w) same less)
+      by_left (inr less) (inl more) = inr (subst (λ w. left_of budget w < left_of budget x) (sym more) less)
+      by_left (inr less) (inr more) = inr (omega (arith, less, more))
 
-pub went-less : (p : Program) (choose : Choose) (budget : ℕ) (x y : State) (did : Bool) → (did ≡ true → DidSimple p choose budget x y) → (did ≡ false → y ≡ x)
-    → left_of budget y + (if did then 1 else 0) < left_of budget x + 1
-went-less p choose budget x y true done same =
+-- a step that was done, or none
+pub went : (p : Program) (choose : Choose) (budget : ℕ) (first x y : State) (old mid new : Output) (did : Bool) → (did ≡ true → DidCheap p choose budget x y mid new)
+    → (did ≡ false → (y ≡ x) × (new ≡ mid)) → Leads p choose budget first x old mid → Keeps p budget x → Leads p choose budget first y old new × Keeps p budget y
+went p choose budget first x y old mid new true done same leads keeps =
+    let did = done refl in
+    (leads-more p choose budget first x y old mid new leads did, keeps-more p budget x y keeps did.goes did.stepped)
+went p choose budget first x y old mid new false done same leads keeps =
+    let is = same refl in (
+      subst (λ out. Leads p choose budget first y old out) (sym is.1) (subst (λ z. Leads p choose budget first z old mid) (sym is.0) leads),
+      subst (Keeps p budget) (sym is.0) keeps,
+    )
+
+pub went-less : (p : Program) (choose : Choose) (budget : ℕ) (x y : State) (mid new : Output) (did : Bool) → (did ≡ true → DidCheap p choose budget x y mid new)
+    → (did ≡ false → (y ≡ x) × (new ≡ mid)) → left_of budget y + (if did then 1 else 0) < left_of budget x + 1
+went-less p choose budget x y mid new true done same =
     let did = done refl in
     let less = left-less p budget x y did.goes did.stepped (cost-some p x) in
     omega (arith, less)
-went-less p choose budget x y false done same = let is : left_of budget y ≡ left_of budget x = ap (left_of budget) (same refl) in omega (arith, is)
+went-less p choose budget x y mid new false done same =
+    let is : left_of budget y ≡ left_of budget x = ap (left_of budget) (same refl).0 in omega (arith, is)
+
+-- the same of steps in one method
+pub goes-less : (p : Program) (choose : Choose) (budget : ℕ) (x y : State) (mid new : Output) (any : Bool) → Leads p choose budget x y mid new
+    → (any ≡ true → left_of budget y < left_of budget x) → left_of budget y + (if any then 1 else 0) < left_of budget x + 1
+goes-less p choose budget x y mid new true leads less = let fewer = less refl in omega (arith, fewer)
+goes-less p choose budget x y mid new false leads less = let fewer = leads-left p choose budget x y mid new leads in omega (arith, fewer)
+
+-- the next step fails
+pub fails-later : (p : Program) (choose : Choose) (budget : ℕ) (x y : State) (old mid new : Output) → Leads p choose budget x y old mid
+    → FailsNext p choose budget y mid new → FailsLater p choose budget x old new
+fails-later p choose budget x y old mid new leads fails first from ran =
+    ran-fails p choose budget first y from mid (leads.ran first from ran) fails.goes new fails.fails
+
+-- the next steps fail
+pub fails-then : (p : Program) (choose : Choose) (budget : ℕ) (x y : State) (old mid new : Output) → Leads p choose budget x y old mid
+    → FailsLater p choose budget y mid new → FailsLater p choose budget x old new
+fails-then p choose budget x y old mid new leads fails first from ran = fails first from (leads.ran first from ran)
+
+pub breaks-later : (p : Program) (choose : Choose) (budget : ℕ) (x y : State) (old mid new : Output) → Leads p choose budget x y old mid → new ≡ mid
+    → BreaksLater p choose budget x old new
+breaks-later p choose budget x y old mid new leads same first from ran = ran-breaks p choose budget first y from mid new (leads.ran first from ran) same
+
+pub breaks-then : (p : Program) (choose : Choose) (budget : ℕ) (x y : State) (old mid new : Output) → Leads p choose budget x y old mid
+    → BreaksLater p choose budget y mid new → BreaksLater p choose budget x old new
+breaks-then p choose budget x y old mid new leads breaks first from ran = breaks first from (leads.ran first from ran)
 
 -- ---- whether the run goes on
 
@@ -232,8 +293,3 @@ within-goes p budget price left x few price_is left_is goes = let within = goes.
 pub same_error : {T E : Type 0} (r : Result T E) (met wanted : E) → IsErrAnd r (λ e. e ≡ met) → r ≡ Err wanted → met ≡ wanted
 same_error (Ok x) met wanted handed is = absurd handed
 same_error (Err e) met wanted handed is = let same : e ≡ wanted = cc in sym handed ∙ same
-
--- what is told of a call that prints nothing, once it has ended well
-pub quiet-ok : {T : Type 0} (P : Type 0) (done : Result T NoMemory) (u : T) → Ok u ≡ quiet done → OnOk done P → P
-quiet-ok P (Ok v) u is h = h
-quiet-ok P (Err e) u is h = absurd (cc)

@@ -1,20 +1,19 @@
 -- The state after a step is sound, and no more objects were made than the step costs.
-use Rattle.std.proofs.Common.{◌≡◌, None, sym, ap, subst}
+use Rattle.std.proofs.Common.{◌≡◌, sym, ap, subst}
 use Rattle.fm_cells.specs.Choices.{IsLawful}
 use Rattle.fm_cells.specs.Soundness as cells
 use Rattle.fm_cells.specs.Soundness.{CellsFit}
 use Rattle.fm_files.specs.Sink.{Output}
 use Rattle.fm_frames.specs.Acts.{Choose}
 use Rattle.fm_frames.specs.States.{Moved, State}
-use Rattle.fm_frames.specs.Steps.{next_effect, step}
-use Rattle.fm_native.proofs.Prints.{quiet-does}
+use Rattle.fm_frames.specs.Steps.{step}
 use Rattle.fm_nests.proofs.Grown.{step-makes}
 use Rattle.fm_ready.proofs.Loops.{steady}
 use Rattle.fm_ready.proofs.Standing.{standing}
 use Rattle.fm_ready.specs.Ready.{CanRun, IsGoing}
-use Rattle.fm_run.proofs.Counting.{step-does, steps-after}
+use Rattle.fm_run.proofs.Counting.{steps-after}
 use Rattle.fm_run.specs.Stepping.{DoesStep}
-use Rattle.fm_run.specs.inner.Nexts.{DoesNext, Stepped}
+use Rattle.fm_run.specs.inner.Nexts.{Stepped}
 use Rattle.fm_world.specs.Programs.{Program}
 
 pub stepped-is : (p : Program) (choose : Choose) (x y : State) (old new : Output) → CanRun p → IsGoing p x → DoesStep p choose x y old new → IsLawful choose
@@ -30,10 +29,3 @@ stepped-is p choose x y old new run going does lawful store =
       counted = λ goes. steps-after p choose x s.frame s.callers s.frames_is going.goes goes;
       births = λ goes. step-makes p x choose lawful run.steps run.makes going.sound goes;
     })
-
--- the same where nothing is printed
-pub stepped-quietly : (p : Program) (choose : Choose) (x y : State) → CanRun p → IsGoing p x → DoesNext p choose x y → IsLawful choose
-    → cells.IsSound y.areas.store → Stepped p x y
-stepped-quietly p choose x y run going does lawful store =
-    let out : Output = record { faults = 0; got = None } in
-    stepped-is p choose x y out out run going (step-does p choose x y out out going.goes (quiet-does p choose x y out (next_effect p x) does)) lawful store

@@ -21,6 +21,7 @@ use fm_world::Program;
 use std::alloc::Global;
 
 // invokevirtual.
+#[inline(always)]
 fn virtual_called<M: Memory, S: Sink>(
     alloc: Global,
     machine: &mut Machine<M>,
@@ -44,6 +45,7 @@ fn virtual_called<M: Memory, S: Sink>(
 }
 
 // invokeinterface.
+#[inline(always)]
 fn interface_called<M: Memory, S: Sink>(
     alloc: Global,
     machine: &mut Machine<M>,
@@ -67,6 +69,7 @@ fn interface_called<M: Memory, S: Sink>(
 }
 
 // invokespecial.
+#[inline(always)]
 fn special_called<M: Memory, S: Sink>(
     alloc: Global,
     machine: &mut Machine<M>,
@@ -90,6 +93,7 @@ fn special_called<M: Memory, S: Sink>(
 }
 
 // invokestatic.
+#[inline(always)]
 fn static_called<M: Memory, S: Sink>(
     alloc: Global,
     machine: &mut Machine<M>,
@@ -113,6 +117,7 @@ fn static_called<M: Memory, S: Sink>(
 }
 
 // The calls of methods.
+#[inline(always)]
 pub(crate) fn calls<M: Memory, S: Sink>(
     alloc: Global,
     machine: &mut Machine<M>,

@@ -1,6 +1,7 @@
 // Which instructions are done by one function.
 
-ghost use Rattle.std.specs.Prelude.{◌≡◌};
+ghost use Rattle.std.specs.Prelude.{◌≡◌, false, None};
+ghost use Rattle.fm_nests.specs.inner.Costs.{nest_of};
 ghost use Rattle.fm_run.specs.inner.Nexts.{group_of};
 
 use fm_code::Insn;
@@ -19,8 +20,19 @@ pub(crate) enum Group {
     LeftOut,
 }
 
+// Whether the instruction makes arrays of arrays; each other one costs 1.
+#[inline(always)]
+pub(crate) fn is_nest(insn: &Insn) -> bool
+    ensures { result ≡ false → nest_of insn.now ≡ None }
+{
+    match insn {
+        Insn::MultiArray(_, _) => true,
+        _ => false,
+    }
+}
+
 // Which function does the instruction.
-#[inline]
+#[inline(always)]
 pub(crate) fn group_of(insn: &Insn) -> Group
     ensures { result ≡ group_of insn.now }
 {

@@ -60,6 +60,7 @@ pub(crate) fn constant<M: Memory>(
 }
 
 // getfield.
+#[inline(always)]
 pub(crate) fn field_got<M: Memory>(
     machine: &mut Machine<M>,
     program: &Program,
@@ -77,6 +78,7 @@ pub(crate) fn field_got<M: Memory>(
 }
 
 // putfield.
+#[inline(always)]
 pub(crate) fn field_put<M: Memory>(
     machine: &mut Machine<M>,
     program: &Program,

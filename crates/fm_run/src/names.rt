@@ -19,6 +19,7 @@ use fm_frames::{Cursor, Machine, code_of};
 use fm_world::{Program, Use};
 
 // The place where the topmost frame stands.
+#[inline(always)]
 pub(crate) fn next_place<M: Memory>(machine: &Machine<M>) -> Cursor
     requires { HasFrame machine.now }
     ensures { (frame : Frame) (callers : List Frame) → machine.now.frames ≡ frame ∷ callers
@@ -31,6 +32,7 @@ pub(crate) fn next_place<M: Memory>(machine: &Machine<M>) -> Cursor
 }
 
 // The code of a method that has code.
+#[inline(always)]
 pub(crate) fn code_in(program: &Program, method: MethodId) -> &Code
     requires runnable { IsRunnable program.now }
     requires coded { HasCode program.now method.0 }
@@ -43,6 +45,7 @@ pub(crate) fn code_in(program: &Program, method: MethodId) -> &Code
 }
 
 // The instruction of an item that is there.
+#[inline(always)]
 pub(crate) fn insn_in(code: &Code, item: usize) -> &Insn
     requires { item < length code.now.items }
     ensures { insn_of code.now item ≡ Some result.now }
@@ -51,6 +54,7 @@ pub(crate) fn insn_in(code: &Code, item: usize) -> &Insn
 }
 
 // What an index of a method's class stands for.
+#[inline(always)]
 pub(crate) fn used(program: &Program, method: MethodId, index: u16) -> Use
     requires { method.0 < length (methods_of program.now.outline.classes) }
     ensures { result ≡ use_in program.now method.0 index }
@@ -59,6 +63,7 @@ pub(crate) fn used(program: &Program, method: MethodId, index: u16) -> Use
 }
 
 // The type that an index stands for.
+#[inline(always)]
 pub(crate) fn type_named(program: &Program, method: MethodId, index: u16) -> TypeId
     requires method { method.0 < length (methods_of program.now.outline.classes) }
     requires wanted { is_type (use_in program.now method.0 index) ≡ true }
@@ -71,6 +76,7 @@ pub(crate) fn type_named(program: &Program, method: MethodId, index: u16) -> Typ
 }
 
 // The field that an index stands for, with the type that is named.
+#[inline(always)]
 pub(crate) fn field_named(program: &Program, method: MethodId, index: u16) -> (FieldId, TypeId)
     requires method { method.0 < length (methods_of program.now.outline.classes) }
     requires wanted { is_field (use_in program.now method.0 index) ≡ true }
@@ -83,6 +89,7 @@ pub(crate) fn field_named(program: &Program, method: MethodId, index: u16) -> (F
 }
 
 // The method that an index stands for, with the type that is named.
+#[inline(always)]
 pub(crate) fn method_named(program: &Program, method: MethodId, index: u16) -> (MethodId, TypeId)
     requires method { method.0 < length (methods_of program.now.outline.classes) }
     requires wanted { is_method (use_in program.now method.0 index) ≡ true }

@@ -95,6 +95,7 @@ pub(crate) fn rarer<M: Memory>(
 }
 
 // Returns and athrow.
+#[inline(always)]
 pub(crate) fn leaves<M: Memory>(
     machine: &mut Machine<M>,
     program: &Program,
@@ -113,6 +114,7 @@ pub(crate) fn leaves<M: Memory>(
 }
 
 // Fields.
+#[inline(always)]
 pub(crate) fn fields<M: Memory>(
     alloc: Global,
     machine: &mut Machine<M>,
@@ -137,6 +139,7 @@ pub(crate) fn fields<M: Memory>(
 }
 
 // aastore and its like.
+#[inline(always)]
 fn element_put<M: Memory>(
     machine: &mut Machine<M>,
     program: &Program,
@@ -155,6 +158,7 @@ fn element_put<M: Memory>(
 }
 
 // Elements and lengths of arrays.
+#[inline(always)]
 pub(crate) fn arrays<M: Memory>(
     machine: &mut Machine<M>,
     program: &Program,

@@ -6,13 +6,12 @@ ghost use Rattle.fm_frames.specs.Runs.{Goes};
 ghost use Rattle.fm_frames.specs.declared.turns.StepFail.TheVariants as StepFail;
 ghost use Rattle.fm_ready.specs.Ready.{CanRun};
 ghost use Rattle.fm_run.specs.Running.{BreaksRun, CanGo, FailsRun, RunsTo};
-ghost use Rattle.fm_run.specs.inner.Going.{DidSimple, IsSimpleNext, Keeps, Leads};
+ghost use Rattle.fm_run.specs.inner.Going.{BreaksLater, DidCheap, FailsLater, FailsNext, IsCheapNext, Keeps, Leads, left_of};
 ghost use Rattle.fm_world.specs.Programs.{code_at};
 
-use crate::groups::{Group, group_of};
-use crate::plain::simple;
-use crate::steps::{advance, quiet};
-use fm_base::{MethodId, NoMemory};
+use crate::groups::is_nest;
+use crate::steps::{advance, do_step};
+use fm_base::MethodId;
 use fm_cells::Memory;
 use fm_code::{Code, Insn};
 use fm_files::Sink;
@@ -33,9 +32,10 @@ fn goes<M: Memory>(machine: &Machine<M>, program: &Program, steps: u64) -> bool
     }
 }
 
-// The next instruction, if it is a simple one of this method's code, and the run goes on within the budget.
+// The next instruction, if it is one of this method's code that costs 1, and the run goes on within the
+// budget.
 #[inline(always)]
-fn simple_next<'a, M: Memory>(
+fn cheap_next<'a, M: Memory>(
     machine: &Machine<M>,
     program: &Program,
     method: MethodId,
@@ -46,7 +46,7 @@ fn simple_next<'a, M: Memory>(
     requires code { code_at program.now method.0 ≡ Some code.now }
     requires few { steps < 2 ^ 64 }
     requires keeps { Keeps program.now steps machine.now }
-    ensures { IfSome result (λ insn. IsSimpleNext program.now steps machine.now insn.now) }
+    ensures { IfSome result (λ insn. IsCheapNext program.now steps machine.now method.0 insn.now) }
 {
     if machine.end().is_some() || machine.steps() >= steps {
         return None;
@@ -60,58 +60,99 @@ fn simple_next<'a, M: Memory>(
     let Some(item) = code.items.get(place.item) else {
         return None;
     };
-    match group_of(&item.insn) {
-        Group::Simple => Some(&item.insn),
-        _ => None,
+    if is_nest(&item.insn) {
+        None
+    } else {
+        Some(&item.insn)
     }
 }
 
-// Does the next instruction, if it is such a simple one; tells whether it was done.
+// Does the next instruction, if it is such a cheap one; tells whether it was done.
 #[inline(always)]
-fn do_simple<M: Memory>(
+fn do_cheap<M: Memory, S: Sink>(
+    alloc: Global,
     machine: &mut Machine<M>,
     program: &Program,
     method: MethodId,
     code: &Code,
     steps: u64,
-) -> Result<bool, NoMemory>
+    out: &mut S,
+) -> Result<bool, StepFail>
     requires run { CanRun program.now }
     requires code { code_at program.now method.0 ≡ Some code.now }
     requires few { steps < 2 ^ 64 }
     requires keeps { Keeps program.now steps machine.old }
-    ensures did { IfOk result (λ did. did ≡ true
-        → DidSimple program.now M.choose steps machine.old machine.new) }
-    ensures same { IfOk result (λ did. did ≡ false → machine.new ≡ machine.old) }
+    ensures did { IfOk result (λ did. did ≡ true → DidCheap program.now M.choose steps
+        machine.old machine.new (S.output out.old) (S.output out.new)) }
+    ensures same { IfOk result (λ did. did ≡ false
+        → (machine.new ≡ machine.old) × (S.output out.new ≡ S.output out.old)) }
+    ensures failed { IsErrOf result StepFail.SinkFailed → FailsNext program.now M.choose steps
+        machine.old (S.output out.old) (S.output out.new) }
+    ensures kept { IsErrOf result StepFail.NoMemory → S.output out.new ≡ S.output out.old }
 {
-    let Some(insn) = simple_next(machine, program, method, code, steps) else {
+    let Some(insn) = cheap_next(machine, program, method, code, steps) else {
         return Ok(false);
     };
-    simple(machine, program, insn)?;
-    let _births = machine.births();
+    do_step(alloc, machine, program, method, insn, out)?;
     Ok(true)
 }
 
-// Does the simple instructions that come next in the topmost frame's method, as far as the budget of steps
-// allows.
-fn do_simple_ones<M: Memory>(
+// Does the cheap instructions that come next in the topmost frame's method, as far as the budget of steps
+// allows; tells whether there was one.
+fn do_in_method<M: Memory, S: Sink>(
+    alloc: Global,
     machine: &mut Machine<M>,
     program: &Program,
     steps: u64,
-) -> Result<(), NoMemory>
+    out: &mut S,
+) -> Result<bool, StepFail>
     requires run { CanRun program.now }
     requires few { steps < 2 ^ 64 }
     requires keeps { Keeps program.now steps machine.old }
-    ensures { OnOk result (Leads program.now M.choose steps machine.old machine.new) }
+    ensures leads { OnOk result (Leads program.now M.choose steps machine.old machine.new
+        (S.output out.old) (S.output out.new)) }
+    ensures less { IfOk result (λ any. any ≡ true
+        → left_of steps machine.new < left_of steps machine.old) }
+    ensures failed { IsErrOf result StepFail.SinkFailed → FailsLater program.now M.choose steps
+        machine.old (S.output out.old) (S.output out.new) }
+    ensures kept { IsErrOf result StepFail.NoMemory → BreaksLater program.now M.choose steps
+        machine.old (S.output out.old) (S.output out.new) }
 {
     let Some(place) = machine.topmost() else {
-        return Ok(());
+        return Ok(false);
     };
     let Some(code) = code_of(program, place.method) else {
-        return Ok(());
+        return Ok(false);
     };
+    let before = machine.steps();
     let mut goes = true;
     while goes {
-        goes = do_simple(machine, program, place.method, code, steps)?;
+        goes = do_cheap(alloc, machine, program, place.method, code, steps, out)?;
+    }
+    Ok(before < machine.steps())
+}
+
+// Does the cheap instructions that come next, in all methods, as far as the budget of steps allows.
+fn do_cheap_ones<M: Memory, S: Sink>(
+    alloc: Global,
+    machine: &mut Machine<M>,
+    program: &Program,
+    steps: u64,
+    out: &mut S,
+) -> Result<(), StepFail>
+    requires run { CanRun program.now }
+    requires few { steps < 2 ^ 64 }
+    requires keeps { Keeps program.now steps machine.old }
+    ensures leads { OnOk result (Leads program.now M.choose steps machine.old machine.new
+        (S.output out.old) (S.output out.new)) }
+    ensures failed { IsErrOf result StepFail.SinkFailed → FailsLater program.now M.choose steps
+        machine.old (S.output out.old) (S.output out.new) }
+    ensures kept { IsErrOf result StepFail.NoMemory → BreaksLater program.now M.choose steps
+        machine.old (S.output out.old) (S.output out.new) }
+{
+    let mut goes = true;
+    while goes {
+        goes = do_in_method(alloc, machine, program, steps, out)?;
     }
     Ok(())
 }
@@ -138,7 +179,7 @@ pub fn run<M: Memory, S: Sink>(
 {
     while goes(machine, program, steps) {
         advance(alloc, machine, program, out)?;
-        quiet(do_simple_ones(machine, program, steps))?;
+        do_cheap_ones(alloc, machine, program, steps, out)?;
     }
     Ok(machine.report())
 }

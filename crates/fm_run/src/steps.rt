@@ -22,6 +22,7 @@ use fm_world::Program;
 use std::alloc::Global;
 
 // What comes of an instruction that prints nothing.
+#[inline(always)]
 pub(crate) fn quiet(done: Result<(), NoMemory>) -> Result<(), StepFail>
     ensures { result ≡ quiet done }
 {
@@ -32,6 +33,7 @@ pub(crate) fn quiet(done: Result<(), NoMemory>) -> Result<(), StepFail>
 }
 
 // Does the instruction that is next, by its group.
+#[inline(always)]
 fn do_insn<M: Memory, S: Sink>(
     alloc: Global,
     machine: &mut Machine<M>,
@@ -62,28 +64,37 @@ fn do_insn<M: Memory, S: Sink>(
     }
 }
 
-// Does the next instruction, that of the topmost frame.
-fn do_next<M: Memory, S: Sink>(
+// Does the step of the instruction that is next, and tells what is known of the state after it.
+#[inline(always)]
+pub(crate) fn do_step<M: Memory, S: Sink>(
     alloc: Global,
     machine: &mut Machine<M>,
     program: &Program,
+    method: MethodId,
+    insn: &Insn,
     out: &mut S,
 ) -> Result<(), StepFail>
     requires run { CanRun program.now }
     requires going { IsGoing program.now machine.old }
-    ensures told { OnOk result (StepsTo program.now M.choose machine.old machine.new
-        (S.output out.old) (S.output out.new) (next_effect program.now machine.old)) }
-    ensures failed { IsErrOf result StepFail.SinkFailed → FailsAt program.now M.choose machine.old
-        (S.output out.old) (S.output out.new) (next_effect program.now machine.old) }
+    requires can { CanStep program.now machine.old }
+    requires at { StandsIn program.now machine.old method.0 insn.now }
+    ensures does { OnOk result (DoesStep program.now M.choose machine.old machine.new
+        (S.output out.old) (S.output out.new)) }
+    ensures stepped { OnOk result (Stepped program.now machine.old machine.new) }
+    ensures failed { IsErrOf result StepFail.SinkFailed → FailsStep program.now M.choose machine.old
+        (S.output out.old) (S.output out.new) }
     ensures kept { IsErrOf result StepFail.NoMemory → S.output out.new ≡ S.output out.old }
 {
-    let place = next_place(machine);
-    let code = code_in(program, place.method);
-    let insn = insn_in(code, place.item);
-    do_insn(alloc, machine, program, place.method, insn, out)
+    match do_insn(alloc, machine, program, method, insn, out) {
+        Ok(()) => {
+            let _births = machine.births();
+            Ok(())
+        }
+        Err(fail) => Err(fail),
+    }
 }
 
-// Does one step of a run that hasn't ended, and tells what is known of the state after it.
+// Does one step of a run that hasn't ended, that of the topmost frame's next instruction.
 pub(crate) fn advance<M: Memory, S: Sink>(
     alloc: Global,
     machine: &mut Machine<M>,
@@ -99,13 +110,10 @@ pub(crate) fn advance<M: Memory, S: Sink>(
         (S.output out.old) (S.output out.new) }
     ensures kept { IsErrOf result StepFail.NoMemory → S.output out.new ≡ S.output out.old }
 {
-    match do_next(alloc, machine, program, out) {
-        Ok(()) => {
-            let _births = machine.births();
-            Ok(())
-        }
-        Err(fail) => Err(fail),
-    }
+    let place = next_place(machine);
+    let code = code_in(program, place.method);
+    let insn = insn_in(code, place.item);
+    do_step(alloc, machine, program, place.method, insn, out)
 }
 
 // What became of the machine, which had done so many steps.

@@ -1,5 +1,5 @@
--- A run that goes on: what is known of its state, and where steps lead that print nothing.
-use Rattle.std.specs.Prelude.{◌≡◌, ℕ, ◌+◌, ◌-◌, ◌^◌, ◌<◌, ◌≤◌, suc, List, Option, None, Some}
+-- A run that goes on: what is known of its state, and where steps lead.
+use Rattle.std.specs.Prelude.{◌≡◌, ◌⊎◌, ℕ, ◌+◌, ◌-◌, ◌^◌, ◌<◌, suc, List, Option, None, Some}
 use Rattle.fm_calls.specs.inner.Actions.{unmade}
 use Rattle.fm_files.specs.Sink.{Output, with_pieces}
 use Rattle.fm_code.specs.declared.instructions.Insn.{Insn}
@@ -9,9 +9,9 @@ use Rattle.fm_frames.specs.States.{State}
 use Rattle.fm_frames.specs.declared.ends.Ended.{Ended}
 use Rattle.fm_frames.specs.inner.Doings.{CanStep}
 use Rattle.fm_ready.specs.Ready.{IsGoing}
-use Rattle.fm_run.specs.Running.{ArePieces, GoFirst, state_after}
-use Rattle.fm_run.specs.declared.groups.Group.TheVariants as group
-use Rattle.fm_run.specs.inner.Nexts.{DoesNext, group_of, StandsAt, Stepped}
+use Rattle.fm_run.specs.Running.{ArePieces, BreaksRun, FailsRun, GoFirst, state_after}
+use Rattle.fm_run.specs.Stepping.{DoesStep, FailsStep}
+use Rattle.fm_run.specs.inner.Nexts.{StandsIn, Stepped}
 use Rattle.fm_sound.specs.HeldCells.{HoldsCells}
 use Rattle.fm_sound.specs.Sound.{IsSound}
 use Rattle.fm_world.specs.Programs.{Program}
@@ -39,21 +39,33 @@ left_of budget x = left_by budget x.steps x.ended where
   left_by budget steps None = suc (budget - steps)
   left_by budget steps (Some e) = 0
 
--- a simple instruction is next, and its step is within the budget
-pub record IsSimpleNext (p : Program) (budget : ℕ) (x : State) (i : Insn) : Type 0 where
-  pub at : StandsAt p x i
-  pub simple : group_of i ≡ group.Simple
+-- an instruction that costs 1 is next in the method, and its step is within the budget
+pub record IsCheapNext (p : Program) (budget : ℕ) (x : State) (method : ℕ) (i : Insn) : Type 0 where
+  pub at : StandsIn p x method i
   pub goes : Goes p budget x
   pub going : IsGoing p x
   pub can : CanStep p x
 
--- one step within the budget leads from one state to the other, and nothing is printed
-pub record DidSimple (p : Program) (choose : Choose) (budget : ℕ) (x y : State) : Type 0 where
+-- one step within the budget leads from one state to the other, and what it prints came to the output
+pub record DidCheap (p : Program) (choose : Choose) (budget : ℕ) (x y : State) (old new : Output) : Type 0 where
   pub goes : Goes p budget x
-  pub does : DoesNext p choose x y
+  pub does : DoesStep p choose x y old new
   pub stepped : Stepped p x y
 
--- a run that has come to one state comes by steps to the other without another byte of output
-pub record Leads (p : Program) (choose : Choose) (budget : ℕ) (x y : State) : Type 0 where
-  pub ran : (first : State) (old new : Output) → Ran p choose budget first x old new → Ran p choose budget first y old new
-  pub left : left_of budget y ≤ left_of budget x
+-- the next step is within the budget, and the put of what it prints failed
+pub record FailsNext (p : Program) (choose : Choose) (budget : ℕ) (x : State) (old new : Output) : Type 0 where
+  pub goes : Goes p budget x
+  pub fails : FailsStep p choose x old new
+
+-- a run that has come to one state and output comes by steps to the other
+pub record Leads (p : Program) (choose : Choose) (budget : ℕ) (x y : State) (old new : Output) : Type 0 where
+  pub ran : (first : State) (from : Output) → Ran p choose budget first x from old → Ran p choose budget first y from new
+  pub left : (y ≡ x) ⊎ (left_of budget y < left_of budget x)
+
+-- a run that has come to the state and output goes on to a step whose put fails
+abbrev pub FailsLater : Program → Choose → (budget : ℕ) → State → (old new : Output) → Type 0
+FailsLater p choose budget x old new = (first : State) (from : Output) → Ran p choose budget first x from old → FailsRun p choose budget first from new
+
+-- a run that has come to the state and output goes on by some steps
+abbrev pub BreaksLater : Program → Choose → (budget : ℕ) → State → (old new : Output) → Type 0
+BreaksLater p choose budget x old new = (first : State) (from : Output) → Ran p choose budget first x from old → BreaksRun p choose budget first from new

@@ -1,8 +1,7 @@
-use Rattle.std.proofs.Common.{◌≡◌, ◌<◌, ◌^◌, false, true, Err, ap, refl, sym, ◌∙◌, arith}
+use Rattle.std.proofs.Common.{◌≡◌, ◌<◌, ◌^◌, false, true, Err, ap, sym, ◌∙◌, arith}
 use Rattle.fm_frames.specs.declared.turns.StepFail.TheVariants as fail
-use Rattle.fm_run.proofs.Ranging.{cost-some, keeps-going, left-less, quiet-ok, ran-breaks, ran-ends, ran-fails, ran-more, ran-none, same_error}
+use Rattle.fm_run.proofs.Ranging.{cost-some, keeps-going, leads-left, left-less, ran-breaks, ran-ends, ran-fails, ran-more, ran-none, same_error}
 use Rattle.fm_run.proofs.runs.run.Goals as goal
-use Rattle.fm_run.specs.inner.Going.{Leads}
 
 pub loop-alloc-init : goal.loop-alloc-init
 loop-alloc-init g c =
@@ -16,40 +15,45 @@ advance-requires-clause-going g c =
     let few : c.args.steps < 2 ^ 64 = omega (arith, c.requires.going.births) in
     keeps-going c.args.program.now c.args.steps c.loop-alloc.machine few c.loop-alloc.invariant.keeps (c.goes.ensures.0 c.loop-alloc-test.true)
 
-pub do_simple_ones-requires-clause-few : goal.do_simple_ones-requires-clause-few
-do_simple_ones-requires-clause-few g c = omega (arith, c.requires.going.births)
+pub do_cheap_ones-requires-clause-few : goal.do_cheap_ones-requires-clause-few
+do_cheap_ones-requires-clause-few g c = omega (arith, c.requires.going.births)
 
-pub do_simple_ones-requires-clause-keeps : goal.do_simple_ones-requires-clause-keeps
-do_simple_ones-requires-clause-keeps g c =
+pub do_cheap_ones-requires-clause-keeps : goal.do_cheap_ones-requires-clause-keeps
+do_cheap_ones-requires-clause-keeps g c =
     (ran-more c.args.program.now g.M.Memory.choose c.args.steps c.args.machine.now c.loop-alloc.machine
     (g.S.Sink.output c.args.out.now) (g.S.Sink.output c.loop-alloc.out) c.loop-alloc.invariant (c.goes.ensures.0 c.loop-alloc-test.true)
     c.advance.new.machine (g.S.Sink.output c.advance.new.out) c.in_ok-advance.ensures.does c.in_ok-advance.ensures.stepped).keeps
 
 pub loop-alloc-preserved : goal.loop-alloc-preserved
 loop-alloc-preserved g c =
-    let leads = quiet-ok (Leads c.args.program.now g.M.Memory.choose c.args.steps c.advance.new.machine c.do_simple_ones.new.machine) c.do_simple_ones.result _ c.in_ok-quiet.ensures
-    c.do_simple_ones.ensures in
-    leads.ran c.args.machine.now (g.S.Sink.output c.args.out.now) (g.S.Sink.output c.advance.new.out)
+    c.in_ok-do_cheap_ones.ensures.leads.ran c.args.machine.now (g.S.Sink.output c.args.out.now)
     (ran-more c.args.program.now g.M.Memory.choose c.args.steps c.args.machine.now c.loop-alloc.machine
     (g.S.Sink.output c.args.out.now) (g.S.Sink.output c.loop-alloc.out) c.loop-alloc.invariant (c.goes.ensures.0 c.loop-alloc-test.true)
     c.advance.new.machine (g.S.Sink.output c.advance.new.out) c.in_ok-advance.ensures.does c.in_ok-advance.ensures.stepped)
 
 pub loop-alloc-smaller : goal.loop-alloc-smaller
 loop-alloc-smaller g c =
-    let leads = quiet-ok (Leads c.args.program.now g.M.Memory.choose c.args.steps c.advance.new.machine c.do_simple_ones.new.machine) c.do_simple_ones.result _ c.in_ok-quiet.ensures
-    c.do_simple_ones.ensures in
-    let fewer = leads.left in
+    let fewer = leads-left c.args.program.now g.M.Memory.choose c.args.steps c.advance.new.machine c.do_cheap_ones.new.machine
+    (g.S.Sink.output c.advance.new.out) (g.S.Sink.output c.do_cheap_ones.new.out) c.in_ok-do_cheap_ones.ensures.leads in
     let less = left-less c.args.program.now c.args.steps c.loop-alloc.machine c.advance.new.machine (c.goes.ensures.0 c.loop-alloc-test.true)
     c.in_ok-advance.ensures.stepped (cost-some c.args.program.now c.loop-alloc.machine) in
     omega (arith, fewer, less)
 
-pub returns-in_err-quiet-clause-kept : goal.returns-in_err-quiet-clause-kept
-returns-in_err-quiet-clause-kept g c wanting =
-    ran-breaks c.args.program.now g.M.Memory.choose c.args.steps c.args.machine.now c.advance.new.machine
-    (g.S.Sink.output c.args.out.now) (g.S.Sink.output c.advance.new.out) (g.S.Sink.output c.advance.new.out)
+pub returns-in_err-do_cheap_ones-clause-failed : goal.returns-in_err-do_cheap_ones-clause-failed
+returns-in_err-do_cheap_ones-clause-failed g c failed =
+    let why = same_error c.from_residual-in_err-do_cheap_ones.result c.in_err-do_cheap_ones.field-0.0 fail.SinkFailed c.from_residual-in_err-do_cheap_ones.ensures.1 failed in
+    c.in_err-do_cheap_ones.ensures.failed (ap Err why) c.args.machine.now (g.S.Sink.output c.args.out.now)
     (ran-more c.args.program.now g.M.Memory.choose c.args.steps c.args.machine.now c.loop-alloc.machine
     (g.S.Sink.output c.args.out.now) (g.S.Sink.output c.loop-alloc.out) c.loop-alloc.invariant (c.goes.ensures.0 c.loop-alloc-test.true)
-    c.advance.new.machine (g.S.Sink.output c.advance.new.out) c.in_ok-advance.ensures.does c.in_ok-advance.ensures.stepped) refl
+    c.advance.new.machine (g.S.Sink.output c.advance.new.out) c.in_ok-advance.ensures.does c.in_ok-advance.ensures.stepped)
+
+pub returns-in_err-do_cheap_ones-clause-kept : goal.returns-in_err-do_cheap_ones-clause-kept
+returns-in_err-do_cheap_ones-clause-kept g c wanting =
+    let why = same_error c.from_residual-in_err-do_cheap_ones.result c.in_err-do_cheap_ones.field-0.0 fail.NoMemory c.from_residual-in_err-do_cheap_ones.ensures.1 wanting in
+    c.in_err-do_cheap_ones.ensures.kept (ap Err why) c.args.machine.now (g.S.Sink.output c.args.out.now)
+    (ran-more c.args.program.now g.M.Memory.choose c.args.steps c.args.machine.now c.loop-alloc.machine
+    (g.S.Sink.output c.args.out.now) (g.S.Sink.output c.loop-alloc.out) c.loop-alloc.invariant (c.goes.ensures.0 c.loop-alloc-test.true)
+    c.advance.new.machine (g.S.Sink.output c.advance.new.out) c.in_ok-advance.ensures.does c.in_ok-advance.ensures.stepped)
 
 pub returns-in_err-advance-clause-failed : goal.returns-in_err-advance-clause-failed
 returns-in_err-advance-clause-failed g c failed =

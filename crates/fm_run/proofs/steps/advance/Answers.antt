@@ -1,22 +1,31 @@
-use Rattle.fm_native.proofs.Prints.{error-kept}
-use Rattle.fm_run.proofs.Counting.{step-does, step-fails}
-use Rattle.fm_run.proofs.Steadying.{stepped-is}
+use Rattle.fm_frames.specs.inner.Frames.{place}
+use Rattle.fm_ready.proofs.Standing.{can_step, standing}
+use Rattle.fm_run.proofs.Standing.{has-code, has-frame, item-inside, stands-here}
 use Rattle.fm_run.proofs.steps.advance.Goals as goal
 
-pub returns-in-Ok-clause-does : goal.returns-in-Ok-clause-does
-returns-in-Ok-clause-does g c =
-    step-does c.args.program.now g.M.Memory.choose c.args.machine.now c.do_next.new.machine (g.S.Sink.output c.args.out.now) (g.S.Sink.output c.do_next.new.out)
-    c.requires.going.goes c.in-Ok.ensures.told
+pub next_place-place-requires : goal.next_place-place-requires
+next_place-place-requires g c =
+    has-frame c.args.program.now c.args.machine.now (standing c.args.program.now c.args.machine.now c.requires.run c.requires.going)
 
-pub returns-in-Ok-clause-stepped : goal.returns-in-Ok-clause-stepped
-returns-in-Ok-clause-stepped g c =
-    let out = g.S.Sink.output c.args.out.now in
-    let new = g.S.Sink.output c.do_next.new.out in
-    stepped-is c.args.program.now g.M.Memory.choose c.args.machine.now c.do_next.new.machine out new c.requires.run c.requires.going
-    (step-does c.args.program.now g.M.Memory.choose c.args.machine.now c.do_next.new.machine out new c.requires.going.goes c.in-Ok.ensures.told)
-    c.births-births.ensures.lawful c.births-births.ensures.sound
+pub code_in-code-requires-clause-runnable : goal.code_in-code-requires-clause-runnable
+code_in-code-requires-clause-runnable g c = c.requires.run.steps.calls.runnable
 
-pub returns-in-Err-clause-failed : goal.returns-in-Err-clause-failed
-returns-in-Err-clause-failed g c failed =
-    step-fails c.args.program.now g.M.Memory.choose c.args.machine.now (g.S.Sink.output c.args.out.now) (g.S.Sink.output c.do_next.new.out)
-    c.requires.going.goes (c.in-Err.ensures.failed (error-kept c.in-Err.fail _ failed))
+pub code_in-code-requires-clause-coded : goal.code_in-code-requires-clause-coded
+code_in-code-requires-clause-coded g c =
+    let s = standing c.args.program.now c.args.machine.now c.requires.run c.requires.going in
+    has-code c.args.program.now c.args.machine.now s (place c.next_place-place.result) (c.next_place-place.ensures s.frame s.callers s.frames_is)
+
+pub insn_in-insn-requires : goal.insn_in-insn-requires
+insn_in-insn-requires g c =
+    let s = standing c.args.program.now c.args.machine.now c.requires.run c.requires.going in
+    item-inside c.args.program.now c.args.machine.now s (place c.next_place-place.result) c.code_in-code.result.now (c.next_place-place.ensures s.frame s.callers s.frames_is)
+    c.code_in-code.ensures
+
+pub do_step-requires-clause-can : goal.do_step-requires-clause-can
+do_step-requires-clause-can g c = can_step c.args.program.now c.args.machine.now c.requires.run c.requires.going
+
+pub do_step-requires-clause-at : goal.do_step-requires-clause-at
+do_step-requires-clause-at g c =
+    let s = standing c.args.program.now c.args.machine.now c.requires.run c.requires.going in
+    stands-here c.args.program.now c.args.machine.now s (place c.next_place-place.result) c.code_in-code.result.now c.insn_in-insn.result.now
+    (c.next_place-place.ensures s.frame s.callers s.frames_is) c.code_in-code.ensures c.insn_in-insn.ensures

@@ -2,11 +2,11 @@ use Rattle.std.proofs.Common.{◌≡◌, ◌<◌, None, Some, length, option_map
 use Rattle.std.proofs.lemmas.Bool.{ltb-true}
 use Rattle.std.proofs.lemmas.Option.{slice_get_read}
 use Rattle.fm_frames.specs.inner.Frames.{place, place_of, topmost}
-use Rattle.fm_run.proofs.SimpleSteps.{simple-is}
-use Rattle.fm_run.proofs.runs.simple_next.Goals as goal
+use Rattle.fm_run.proofs.CheapSteps.{cheap-is}
+use Rattle.fm_run.proofs.runs.cheap_next.Goals as goal
 
-pub returns-in-Simple : goal.returns-in-Simple
-returns-in-Simple g c =
+pub returns-else-is_nest : goal.returns-else-is_nest
+returns-else-is_nest g c =
     let on : c.args.machine.now.ended ≡ None = search rules in
     let less : c.args.machine.now.steps < c.args.steps = search rules in
     let same : c.in-Some.place.method ≡ c.args.method = search rules in
@@ -15,5 +15,5 @@ returns-in-Simple g c =
     let at : slice_get c.args.code.now.items c.in-Some.place.item ≡ Some c.in-Some-get.item.now =
     slice_get_read c.args.code.now.items (length c.args.code.now.items) c.in-Some.place.item c.in-Some-get.item.now refl
     (ltb-true c.in-Some.place.item (length c.args.code.now.items) (sym c.in-Some-get.ensures.0)) c.in-Some-get.ensures.1 in
-    simple-is c.args.program.now c.args.steps c.args.machine.now c.args.method.0 c.in-Some.place.item c.args.code.now c.in-Some-get.item.now c.requires.run c.requires.few
-    c.requires.keeps on less place_is (sym c.requires.code) at (sym c.group_of.ensures ∙ c.in-Simple.is)
+    cheap-is c.args.program.now c.args.steps c.args.machine.now c.args.method.0 c.in-Some.place.item c.args.code.now c.in-Some-get.item.now c.requires.run c.requires.few
+    c.requires.keeps on less place_is (sym c.requires.code) at (c.is_nest.ensures c.if-is_nest.false)
