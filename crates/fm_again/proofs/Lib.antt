@@ -1,0 +1,11 @@
+pub mod PassedOver
+pub mod PoolStays
+pub mod LaidLists
+pub mod UsedWithin
+pub mod ClassLists
+pub mod FreeMethod
+pub mod ClassStays
+pub mod Outlines
+pub mod ClassRefusals
+pub mod Links
+pub mod Uses
