@@ -12,7 +12,7 @@ use Rattle.fm_base.specs.declared.kinds.TypeRef.{TypeRef}
 use Rattle.fm_check.proofs.ItemLemmas.{caught_forced, each_handler, kept-locals}
 use Rattle.fm_known.proofs.MergingLemmas.{fits-from, fits-parts, FitsByParts}
 use Rattle.fm_known.proofs.PlaceLemmas.{place_wanted, slot-fits, with_slot-above, with_slot-alike, with_slot-read, zip-from}
-use Rattle.fm_check.proofs.RiseLemmas.{all_held, all_room_later, caught_alike, locals_in, raised_forced, room_fits}
+use Rattle.fm_check.proofs.RiseLemmas.{all_held, all_room_later, can_carry_later, caught_alike, locals_in, raised_forced, room_fits}
 use Rattle.fm_check.proofs.RunLemmas.{Contains-set_cases, got_entries, inside_level, none_there}
 use Rattle.fm_check.proofs.WalkLemmas.{fits_at, fits_later, fits_one, FitsOne, Went-none, Went-then}
 use Rattle.fm_known.proofs.RisenLemmas.{alike-more, alike-refl, alike-then}
@@ -20,11 +20,13 @@ use Rattle.fm_known.specs.declared.known.Known.{Known}
 use Rattle.fm_known.specs.declared.known.Place.{Place}
 use Rattle.fm_known.specs.declared.known.Place.TheVariants as place
 use Rattle.fm_known.specs.declared.risen.Rise.{Rise}
+use Rattle.fm_check.specs.declared.catching.Giving.{Giving}
+use Rattle.fm_check.specs.declared.catching.Giving.TheVariants as giving
 use Rattle.fm_check.specs.declared.runs.Level.{Level}
 use Rattle.fm_check.specs.declared.runs.Run.{Run}
 use Rattle.fm_known.specs.inner.Risen.{HasPlace, is_local, known_state, local_rises, rise_of, slot_at, with_slot, without_words}
-use Rattle.fm_check.specs.inner.Runs.{AreGiven, entries_at, entries_in, entries_of, GivesAll, GivesLevel, GivesLevels, GivesRun, halved, has_room, Holds, is_brought, is_open, is_open_to, IsAsked, IsCovered, IsGiven, IsGuarded, IsHeld, IsLaid, IsRaised, LeavesAll, RaisesOne, RaisesRun, shape, Wanted}
-use Rattle.fm_check.specs.inner.Walks.{BringsHandlers, CanCarry, CarriesHandlers, HasRoom, IsForced, Rises, Stands, Walked}
+use Rattle.fm_check.specs.inner.Runs.{AreGiven, entries_at, entries_in, entries_of, GivesAll, GivesLevel, GivesLevels, GivesRun, halved, has_room, Holds, is_brought, is_open, is_open_to, is_taken, IsAsked, IsCovered, IsGiven, IsGuarded, IsHeld, IsLaid, IsRaised, LeavesAll, MayGive, RaisesOne, RaisesRun, shape, Wanted}
+use Rattle.fm_check.specs.inner.Walks.{BringsHandlers, CanCarry, CarriesHandlers, HasRoom, IsForced, Rises, Stands, Walked, Went}
 use Rattle.fm_known.specs.inner.Tasks.{is_within, IsSound, Task}
 use Rattle.fm_code.proofs.EdgesLemmas.{Contains-from_filter, Contains-from_map, Contains-map}
 use Rattle.fm_code.specs.Edges.{Catches}
@@ -35,6 +37,7 @@ use Rattle.fm_types.proofs.StateOrder.{Fitting}
 use Rattle.fm_types.specs.Fits.{fits}
 use Rattle.fm_types.specs.Joins.{IsJoin, join}
 use Rattle.fm_types.specs.States.{local_at, TypeState}
+use Rattle.fm_types.specs.Typings.{type_state}
 use Rattle.fm_types.specs.Typed.{caught_type, FitsAt, FitsHandler, handler_state, state_at}
 use Rattle.fm_types.specs.declared.slots.Slot.{Slot}
 use Rattle.fm_types.specs.declared.slots.Slot.TheVariants as slot
@@ -415,6 +418,16 @@ stays-brought t item s sound = λ a b h rises fitting catches.
     let found = Some-from_some_and (caught_type t.program t.number h) (λ c. FitsAt t.program a.states h.handler (handler_state c s)) (fitting catches) in
     IsSomeAnd-from_some (caught_type t.program t.number h) (λ c. FitsAt t.program b.states h.handler (handler_state c s)) found.0 found.1
     (fits_later t a b h.handler (handler_state found.0 s) sound rises found.2)
+
+pub stays-taken : (t : Task) (item : ℕ) (given : Giving) → IsSound t → Stays t (is_taken t item given)
+stays-taken t item (giving.State s locals) sound = stays-brought t item (type_state s.now) sound
+stays-taken t item (giving.Locals rises) sound = stays-room t rises.now sound
+
+-- what may be given still may
+pub MayGive-later : (t : Task) (a b : Walked) (item : ℕ) (given : Giving) → Went t a b → MayGive t a item given → MayGive t b item given
+MayGive-later t a b item (giving.State s locals) went may = may
+MayGive-later t a b item (giving.Locals rises) went may =
+    record { local = may.local; carried = λ h holds. can_carry_later t a b h.handler rises.now went (may.carried h holds) }
 
 -- a level without such a run
 pub GivesLevel-past : (W : Wanted) (t : Task) (place : ℕ) (runs : List Run) (w : Walked) → IsSound t → Stands t w → AreGiven t w.states runs

@@ -6,6 +6,7 @@ ghost use Rattle.fm_check.specs.inner.Runs.{CarriesOnGuarded, IsGuarded};
 ghost use Rattle.fm_check.specs.inner.Walks.{CanCarry, CanCarryOne, Carries, CarriesAll, CarriesOne, IsReady, Stands, Untypable, walked};
 ghost use Rattle.fm_known.specs.inner.Tasks.{IsSound, task};
 
+use crate::catching::Giving;
 use crate::runs::Level;
 use crate::steps::next_items;
 use crate::walk::{Walk, most_noted, state_of};
@@ -118,7 +119,13 @@ impl Walk {
             (Untypable (task method.now))) }
     {
         let locals = locals_of(alloc, rises)?;
-        if !self.carry_to_levels(alloc, method, levels, item, locals.as_slice())? {
+        if !self.give_to_levels(
+            alloc,
+            method,
+            levels,
+            item,
+            Giving::Locals(locals.as_slice()),
+        )? {
             return Ok(false);
         }
         let items = next_items(alloc, insn, item)?;

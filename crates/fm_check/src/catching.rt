@@ -4,7 +4,7 @@
 
 ghost use Rattle.std.specs.Prelude.{◌≡◌, ◌<◌, ◌⊎◌, Contains, IfOk, MatchBool, OnOk, length, true};
 ghost use Rattle.fm_known.specs.inner.Risen.{is_local, known_state, local_rises};
-ghost use Rattle.fm_check.specs.inner.Runs.{AreGiven, GivesAll, GivesLevel, GivesRun, Holds, IsGiven, IsGuarded, IsRaised, LeavesAll, RaisesOne, RaisesRun, entries_in, has_room, is_brought, is_open};
+ghost use Rattle.fm_check.specs.inner.Runs.{AreGiven, GivesAll, GivesLevel, GivesRun, Holds, IsGiven, IsGuarded, IsRaised, LeavesAll, MayGive, RaisesOne, RaisesRun, entries_in, has_room, is_brought, is_open, is_taken};
 ghost use Rattle.fm_check.specs.inner.Walks.{BringsCaught, BringsHandlers, CanCarry, CarriesHandlers, IsForced, Stands, Untypable, walked};
 ghost use Rattle.fm_known.specs.inner.Tasks.{IsSound, is_within, task};
 ghost use Rattle.fm_known.specs.declared.risen.Rise.{Rise as RiseSpec};
@@ -21,6 +21,15 @@ use fm_known::{Known, Method, Place, Rise, local_rises, rises_of};
 use fm_rows::{built_in_type, type_of_use, use_in};
 use fm_types::{Slot, Stack, State, fits, fits_type, join};
 use std::alloc::Global;
+
+/// What an item gives to the handlers of the entries whose ranges hold it.
+#[derive(Clone, Copy)]
+pub enum Giving<'a> {
+    /// Its state, and the slots of the state's locals.
+    State(&'a State, &'a [Rise]),
+    /// Slots of locals alone.
+    Locals(&'a [Rise]),
+}
 
 // The class that an entry of the exception table catches, where it is one of those that can be thrown.
 #[tactic(auto, unfolding(fm_types::specs::Typed::caught_type))]
@@ -266,123 +275,83 @@ impl Walk {
         Ok(true)
     }
 
-    // Carries slots of locals to the handlers of the run at a place.
-    fn carry_to_level(
+    // Gives what an item does to the handlers of a run's entries.
+    fn give_to_run(
+        &mut self,
+        alloc: Global,
+        method: &Method<'_>,
+        run: &mut Run,
+        item: u32,
+        giving: Giving<'_>,
+    ) -> Result<bool, NoMemory>
+        requires sound { IsSound (task method.now) }
+        requires stands { Stands (task method.now) (walked self.old) }
+        requires given { IsGiven (task method.now) (walked self.old).states run.old }
+        requires may { MayGive (task method.now) (walked self.old) item giving }
+        requires holds { (h : HandlerSpec) → Contains run.old.entries.items h
+            → Holds (task method.now).code.handlers item h }
+        ensures { IfOk result (λ fits. MatchBool fits
+            (GivesRun (is_taken (task method.now) item giving.entry) (task method.now) run.old
+            run.new (walked self.old) (walked self.new))
+            (Untypable (task method.now))) }
+    {
+        match giving {
+            Giving::State(state, locals) => {
+                self.bring_to_run(alloc, method, run, item, state, locals)
+            }
+            Giving::Locals(rises) => self.carry_to_run(alloc, method, run, rises),
+        }
+    }
+
+    // The same to those of the run at a place.
+    fn give_to_level(
         &mut self,
         alloc: Global,
         method: &Method<'_>,
         level: &mut Level,
         place: u32,
-        rises: &[Rise],
+        item: u32,
+        giving: Giving<'_>,
     ) -> Result<bool, NoMemory>
         requires sound { IsSound (task method.now) }
         requires stands { Stands (task method.now) (walked self.old) }
         requires given { AreGiven (task method.now) (walked self.old).states level.old.runs.items }
-        requires local { (rise : RiseSpec) → Contains rises.now rise → is_local rise.place ≡ true }
-        requires carried { (h : HandlerSpec) → Contains (entries_in level.old.runs.items place) h
-            → CanCarry (task method.now) (walked self.old) h.handler rises.now }
+        requires may { MayGive (task method.now) (walked self.old) item giving }
+        requires holds { (h : HandlerSpec) → Contains (entries_in level.old.runs.items place) h
+            → Holds (task method.now).code.handlers item h }
         ensures { IfOk result (λ fits. MatchBool fits
-            (GivesLevel (has_room (task method.now) rises.now) (task method.now) place
+            (GivesLevel (is_taken (task method.now) item giving.entry) (task method.now) place
             level.old.runs.items level.new.runs.items (walked self.old) (walked self.new))
             (Untypable (task method.now))) }
     {
         if level.runs.len() <= place as usize {
             return Ok(true);
         }
-        self.carry_to_run(alloc, method, &mut level.runs[place as usize], rises)
+        self.give_to_run(alloc, method, &mut level.runs[place as usize], item, giving)
     }
 
-    // Brings an item's state to the handlers of the run at a place.
-    fn bring_to_level(
-        &mut self,
-        alloc: Global,
-        method: &Method<'_>,
-        level: &mut Level,
-        place: u32,
-        item: u32,
-        state: &State,
-        locals: &[Rise],
-    ) -> Result<bool, NoMemory>
-        requires sound { IsSound (task method.now) }
-        requires stands { Stands (task method.now) (walked self.old) }
-        requires given { AreGiven (task method.now) (walked self.old).states level.old.runs.items }
-        requires forced { IsForced (task method.now) item (type_state state.now) }
-        requires within { is_within (task method.now).code (type_state state.now) ≡ true }
-        requires locals { locals.now
-            ≡ local_rises (task method.now).code.max_locals (type_state state.now) }
-        requires holds { (h : HandlerSpec) → Contains (entries_in level.old.runs.items place) h
-            → Holds (task method.now).code.handlers item h }
-        ensures { IfOk result (λ fits. MatchBool fits
-            (GivesLevel (is_brought (task method.now) item (type_state state.now))
-            (task method.now) place level.old.runs.items level.new.runs.items (walked self.old)
-            (walked self.new))
-            (Untypable (task method.now))) }
-    {
-        if level.runs.len() <= place as usize {
-            return Ok(true);
-        }
-        let run = &mut level.runs[place as usize];
-        self.bring_to_run(alloc, method, run, item, state, locals)
-    }
-
-    /// Carries slots of locals to the handlers of the entries whose ranges hold an item; false where no
-    /// typing has room for them.
-    pub fn carry_to_levels(
+    /// Gives what an item does to the handlers of the entries whose ranges hold the item; false where no
+    /// typing has room for it.
+    pub fn give_to_levels(
         &mut self,
         alloc: Global,
         method: &Method<'_>,
         levels: &mut Vec<Level>,
         item: u32,
-        rises: &[Rise],
+        giving: Giving<'_>,
     ) -> Result<bool, NoMemory>
         requires sound { IsSound (task method.now) }
         requires stands { Stands (task method.now) (walked self.old) }
         requires guarded { IsGuarded (task method.now) (walked self.old).states levels.old.items }
-        requires local { (rise : RiseSpec) → Contains rises.now rise → is_local rise.place ≡ true }
-        requires carried { (h : HandlerSpec) → Holds (task method.now).code.handlers item h
-            → CanCarry (task method.now) (walked self.old) h.handler rises.now }
+        requires may { MayGive (task method.now) (walked self.old) item giving }
         ensures { IfOk result (λ fits. MatchBool fits
-            (GivesAll (has_room (task method.now) rises.now) (task method.now) item
+            (GivesAll (is_taken (task method.now) item giving.entry) (task method.now) item
             levels.new.items (walked self.old) (walked self.new))
             (Untypable (task method.now))) }
     {
         let mut place = item;
         for index in 0..levels.len() {
-            if !self.carry_to_level(alloc, method, &mut levels[index], place, rises)? {
-                return Ok(false);
-            }
-            place /= 2;
-        }
-        Ok(true)
-    }
-
-    // Brings the state of an item, which has these slots in its locals, to the handlers of the runs that
-    // it stands in.
-    fn bring_to_levels(
-        &mut self,
-        alloc: Global,
-        method: &Method<'_>,
-        levels: &mut Vec<Level>,
-        item: u32,
-        state: &State,
-        locals: &[Rise],
-    ) -> Result<bool, NoMemory>
-        requires sound { IsSound (task method.now) }
-        requires stands { Stands (task method.now) (walked self.old) }
-        requires guarded { IsGuarded (task method.now) (walked self.old).states levels.old.items }
-        requires forced { IsForced (task method.now) item (type_state state.now) }
-        requires within { is_within (task method.now).code (type_state state.now) ≡ true }
-        requires locals { locals.now
-            ≡ local_rises (task method.now).code.max_locals (type_state state.now) }
-        ensures { IfOk result (λ fits. MatchBool fits
-            (GivesAll (is_brought (task method.now) item (type_state state.now)) (task method.now)
-            item levels.new.items (walked self.old) (walked self.new))
-            (Untypable (task method.now))) }
-    {
-        let mut place = item;
-        for index in 0..levels.len() {
-            let level = &mut levels[index];
-            if !self.bring_to_level(alloc, method, level, place, item, state, locals)? {
+            if !self.give_to_level(alloc, method, &mut levels[index], place, item, giving)? {
                 return Ok(false);
             }
             place /= 2;
@@ -414,6 +383,12 @@ impl Walk {
             return Ok(true);
         }
         let locals = local_rises(alloc, state, method.code.max_locals)?;
-        self.bring_to_levels(alloc, method, levels, item, state, locals.as_slice())
+        self.give_to_levels(
+            alloc,
+            method,
+            levels,
+            item,
+            Giving::State(state, locals.as_slice()),
+        )
     }
 }

@@ -5,16 +5,19 @@ use Rattle.fm_base.specs.declared.kinds.TypeRef.{TypeRef}
 use Rattle.fm_known.specs.declared.known.Known.{Known}
 use Rattle.fm_known.specs.declared.known.Place.{Place}
 use Rattle.fm_known.specs.declared.risen.Rise.{Rise}
+use Rattle.fm_check.specs.declared.catching.Giving.{Giving}
+use Rattle.fm_check.specs.declared.catching.Giving.TheVariants as giving
 use Rattle.fm_check.specs.declared.runs.Level.{Level}
 use Rattle.fm_check.specs.declared.runs.Run.{Run}
 use Rattle.fm_check.specs.declared.runs.Span.{Span}
-use Rattle.fm_known.specs.inner.Risen.{IsAlikeBut, is_local, known_state, rise_of, slot_at}
-use Rattle.fm_check.specs.inner.Walks.{CarriesOn, GoesOver, HasRoom, IsForced, Walked, Went}
-use Rattle.fm_known.specs.inner.Tasks.{Task}
+use Rattle.fm_known.specs.inner.Risen.{IsAlikeBut, is_local, known_state, local_rises, rise_of, slot_at}
+use Rattle.fm_check.specs.inner.Walks.{CanCarry, CarriesOn, GoesOver, HasRoom, IsForced, Walked, Went}
+use Rattle.fm_known.specs.inner.Tasks.{is_within, Task}
 use Rattle.fm_code.specs.declared.code_array.Handler.{Handler}
 use Rattle.fm_code.specs.declared.instructions.Insn.{Insn}
 use Rattle.fm_types.specs.Fits.{fits}
 use Rattle.fm_types.specs.States.{TypeState}
+use Rattle.fm_types.specs.Typings.{type_state}
 use Rattle.fm_types.specs.Typed.{caught_type, FitsAt, FitsHandler, handler_state}
 
 -- ---- runs
@@ -167,6 +170,27 @@ has_room t rises states h = All (HasRoom t states h.handler) rises
 -- it fits what an item brings
 abbrev pub is_brought : Task → ℕ → TypeState → Wanted
 is_brought t item s states h = FitsHandler t.program t.number states item s h
+
+-- an item has this state, within the method's counts, and these are the slots of its locals
+pub record IsWhole (t : Task) (item : ℕ) (s : TypeState) (rises : List Rise) : Type 0 where
+  pub forced : IsForced t item s
+  pub within : is_within t.code s ≡ true
+  pub locals : rises ≡ local_rises t.code.max_locals s
+
+-- slots of locals that the handlers of an item can take
+pub record AreWanted (t : Task) (w : Walked) (item : ℕ) (rises : List Rise) : Type 0 where
+  pub local : (rise : Rise) → Contains rises rise → is_local rise.place ≡ true
+  pub carried : (h : Handler) → Holds t.code.handlers item h → CanCarry t w h.handler rises
+
+-- an item may give this
+abbrev pub MayGive : Task → Walked → ℕ → Giving → Type 0
+MayGive t w item (giving.State s locals) = IsWhole t item (type_state s.now) locals.now
+MayGive t w item (giving.Locals rises) = AreWanted t w item rises.now
+
+-- a handler has taken it
+abbrev pub is_taken : Task → ℕ → Giving → Wanted
+is_taken t item (giving.State s locals) = is_brought t item (type_state s.now)
+is_taken t item (giving.Locals rises) = has_room t rises.now
 
 -- the handlers of a run's entries have what is wanted
 pub record GivesRun (W : Wanted) (t : Task) (run given : Run) (old new : Walked) : Type 0 where

@@ -15,5 +15,6 @@ returns-then-is_empty c =
     let none : length levels ≡ 0 = search rules in
     GivesAll-all W t c.args.item 0 levels levels w w (omega (arith, none)) (GivesLevels-none W t c.args.item levels w c.requires.sound c.requires.stands c.requires.guarded)
 
-pub bring_to_levels-requires-clause-locals : goal.bring_to_levels-requires-clause-locals
-bring_to_levels-requires-clause-locals c = c.as_slice.ensures.value ∙ c.in_ok-locals.ensures
+pub give_to_levels-requires-clause-may : goal.give_to_levels-requires-clause-may
+give_to_levels-requires-clause-may c =
+    record { forced = c.requires.forced; within = c.requires.within; locals = c.as_slice.ensures.value ∙ c.in_ok-locals.ensures }

@@ -8,15 +8,16 @@ use Rattle.fm_check.specs.inner.Walks.{CanCarry, CarriesAll, Untypable, walked}
 use Rattle.fm_known.specs.inner.Tasks.{task}
 use Rattle.fm_check.proofs.walk.Walk.carry_on.Goals as goal
 
-pub carry_to_levels-requires-clause-local : goal.carry_to_levels-requires-clause-local
-carry_to_levels-requires-clause-local c = λ rise found.
-    rises_local c.args.rises.now rise (subst (λ (rs : List Rise). Contains rs rise) (c.as_slice.ensures.value ∙ c.in_ok-locals.ensures) found)
-
-pub carry_to_levels-requires-clause-carried : goal.carry_to_levels-requires-clause-carried
-carry_to_levels-requires-clause-carried c = λ h holds.
-    let Can : List Rise → Type 0 = λ rises. CanCarry (task c.args.method.now) (walked c.args.self.now) h.handler rises in
-    subst Can (sym (c.as_slice.ensures.value ∙ c.in_ok-locals.ensures))
-    (c.requires.ready.handlers h holds.listed (record { after_start = holds.after_start; before_end = holds.before_end; handler_is = refl }))
+pub give_to_levels-requires-clause-may : goal.give_to_levels-requires-clause-may
+give_to_levels-requires-clause-may c =
+    let is = c.as_slice.ensures.value ∙ c.in_ok-locals.ensures in
+    record {
+      local = λ rise found. rises_local c.args.rises.now rise (subst (λ (rs : List Rise). Contains rs rise) is found);
+      carried = λ h holds.
+          let Can : List Rise → Type 0 = λ rises. CanCarry (task c.args.method.now) (walked c.args.self.now) h.handler rises in
+          subst Can (sym is)
+          (c.requires.ready.handlers h holds.listed (record { after_start = holds.after_start; before_end = holds.before_end; handler_is = refl }));
+    }
 
 pub next_items-requires : goal.next_items-requires
 next_items-requires c = c.requires.ready.small
@@ -25,19 +26,19 @@ pub carry_to_all-requires-clause-stands : goal.carry_to_all-requires-clause-stan
 carry_to_all-requires-clause-stands c =
     let t = task c.args.method.now in
     (match_true
-    (GivesAll (has_room t c.as_slice.result.now) t c.args.item c.carry_to_levels.new.levels.items (walked c.args.self.now)
-    (walked c.carry_to_levels.new.self))
-    (Untypable t) c.in_ok-carry_to_levels.field-0 c.if-not-branch.false c.in_ok-carry_to_levels.ensures).went.stands
+    (GivesAll (has_room t c.as_slice.result.now) t c.args.item c.give_to_levels.new.levels.items (walked c.args.self.now)
+    (walked c.give_to_levels.new.self))
+    (Untypable t) c.in_ok-give_to_levels.field-0 c.if-not-branch.false c.in_ok-give_to_levels.ensures).went.stands
 
 pub carry_to_all-requires-clause-carried : goal.carry_to_all-requires-clause-carried
 carry_to_all-requires-clause-carried c = λ next found.
     let t = task c.args.method.now in
     let caught = match_true
-    (GivesAll (has_room t c.as_slice.result.now) t c.args.item c.carry_to_levels.new.levels.items (walked c.args.self.now)
-    (walked c.carry_to_levels.new.self))
-    (Untypable t) c.in_ok-carry_to_levels.field-0 c.if-not-branch.false c.in_ok-carry_to_levels.ensures in
+    (GivesAll (has_room t c.as_slice.result.now) t c.args.item c.give_to_levels.new.levels.items (walked c.args.self.now)
+    (walked c.give_to_levels.new.self))
+    (Untypable t) c.in_ok-give_to_levels.field-0 c.if-not-branch.false c.in_ok-give_to_levels.ensures in
     let is = c.as_slice-2.ensures.value ∙ c.in_ok-items.ensures in
-    can_carry_later t (walked c.args.self.now) (walked c.carry_to_levels.new.self) next c.args.rises.now caught.went
+    can_carry_later t (walked c.args.self.now) (walked c.give_to_levels.new.self) next c.args.rises.now caught.went
     (c.requires.ready.items next (subst (λ (xs : List ℕ). Contains xs next) is found))
 
 pub returns : goal.returns
@@ -45,12 +46,12 @@ returns c =
     let t = task c.args.method.now in
     let rises = c.args.rises.now in
     let old = walked c.args.self.now in
-    let middle = walked c.carry_to_levels.new.self in
+    let middle = walked c.give_to_levels.new.self in
     let new = walked c.carry_to_all.new.self in
-    let levels = c.carry_to_levels.new.levels.items in
+    let levels = c.give_to_levels.new.levels.items in
     let With : List Rise → Type 0 = λ locals. GivesAll (has_room t locals) t c.args.item levels old middle in
     let caught = subst With (c.as_slice.ensures.value ∙ c.in_ok-locals.ensures)
-    (match_true (With c.as_slice.result.now) (Untypable t) c.in_ok-carry_to_levels.field-0 c.if-not-branch.false c.in_ok-carry_to_levels.ensures) in
+    (match_true (With c.as_slice.result.now) (Untypable t) c.in_ok-give_to_levels.field-0 c.if-not-branch.false c.in_ok-give_to_levels.ensures) in
     let is = c.as_slice-2.ensures.value ∙ c.in_ok-items.ensures in
     ok_weaker (CarriesAll t c.as_slice-2.result.now rises middle new) (CarriesOnGuarded t c.args.item c.args.insn.now rises levels old new) (Untypable t)
     c.carry_to_all.result
