@@ -1,0 +1,9 @@
+// Laws of the definitions, each as the contract of a function that does nothing.
+
+ghost use Rattle.fm_told.specs.Told.{RefusalsNameWhatIsThere};
+
+/// What a refusal of rewriting names is there: a call of FreeMe at the offset in the method, the class of
+/// a file whose pool would be too long, or a method whose code would be too long.
+pub fn law_refusals()
+    ensures { RefusalsNameWhatIsThere }
+{}
