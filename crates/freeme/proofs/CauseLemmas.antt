@@ -1,6 +1,6 @@
 -- What each status says and when it comes, by what a call does as a whole.
-use Rattle.std.proofs.Common.{◌≡◌, ◌≢◌, ◌≤◌, ℕ, ◌⊎◌, inl, inr, ⊎_elim, List, [], ◌∷◌, Contains, Option, Some, None, Ok, Err, IfSome, IsSomeAnd, string_bytes, eqb, false, refl, sym, ap, ◌∙◌, subst, arith}
-use Rattle.std.specs.List.{list_any, slice_get}
+use Rattle.std.proofs.Common.{◌≡◌, ◌≢◌, ◌≤◌, ℕ, ◌⊎◌, inl, inr, ⊎_elim, List, [], ◌∷◌, Contains, Option, Some, None, Ok, Err, IsSomeAnd, string_bytes, eqb, false, refl, sym, ap, ◌∙◌, subst, arith}
+use Rattle.std.specs.List.{list_any}
 use Rattle.fm_base.proofs.ContainsFacts.{Contains-cons_cases, unlike_elements}
 use Rattle.fm_base.proofs.OptionFacts.{Some-from_is_some, Some-from_some_and}
 use Rattle.fm_files.specs.Files.{Bytes, Disk, AreKept}
@@ -11,20 +11,30 @@ use Rattle.fm_tool.specs.Status.{ComesExactly}
 use Rattle.fm_tool.specs.declared.refusal.Refusal.TheVariants as refusal
 use Rattle.fm_tool.proofs.LineLemmas.{instead_for_file, instead_for_words, told_among, is_put, put_fails, told_of_file, told_of_words, comes_of_file, comes_of_words}
 use Rattle.fm_tool.proofs.OutsideLemmas.{no_fault_where_same, known_such}
-use Rattle.fm_tool.specs.declared.status.TheConstants.{DONE, WORDS, READ, MALFORMED, VERSION, LIMIT, UNSUPPORTED, LINK, CHECK, WRITE, OUT_OF_MEMORY, NOT_YET}
+use Rattle.fm_tool.specs.declared.status.TheConstants.{DONE, WORDS, READ, MALFORMED, VERSION, LIMIT, UNSUPPORTED, LINK, CHECK, WRITE, OUT_OF_MEMORY}
 use Rattle.fm_code.specs.declared.class_file.ClassDef.{ClassDef}
+use Rattle.fm_conn.specs.Facts.{AreFacts, Facts}
 use Rattle.fm_refuse.specs.Refused.{refusal_of}
+use Rattle.fm_analysis.specs.Analysed.{AreLeastTypings}
+use Rattle.fm_place.specs.Safe.{full_plans}
+use Rattle.fm_rewrite.specs.FreeCalls.{first_call}
+use Rattle.fm_rewrite.specs.Rewritten.{AreRefused as AreRefusedFor, first_cause}
+use Rattle.fm_rewrite.specs.declared.error.RewriteFail.{RewriteFail}
+use Rattle.fm_rewrite.specs.declared.error.RewriteFail.TheVariants as fail
 use Rattle.fm_world.specs.Causes.{Refusal}
 use Rattle.fm_world.specs.Linking.{refusals}
-use Rattle.freeme.specs.Ahead.{IsBuilt, AreBuilt, IsFirstAhead}
+use Rattle.fm_world.specs.Programs.{program_of}
 use Rattle.fm_given.specs.ClassRefusal.{class_refusal_status}
 use Rattle.fm_given.specs.Given.{AreMany, IsUntouched, AreRefused, IsNotLinked, given_program}
-use Rattle.freeme.specs.Causes.{AskFor, AskForGiven, IsKnownAhead, IsKnownPassed, SaysWords, SaysRead, SaysRefused, SaysLimit, SaysLink, SaysCheck, SaysNotYet, SaysDone, SaysUnwritten, SaysWrite, SaysMemory, LacksLine, IsForWords, IsForRead, IsForBytes, IsForLimit, IsForLink, IsForCheck, IsForNotYet, IsForDone, IsForWrite, IsForMemory, IsFaultless, KeepsContents, ChangesOnly}
+use Rattle.freeme.specs.Causes.{AskFor, AskForGiven, BecomesAs, IsKnownAs, cause_status, SaysWords, SaysRead, SaysRefused, SaysLimit, SaysLink, SaysCheck, SaysNotFreed, SaysDone, SaysUnwritten, SaysWrite, SaysMemory, LacksLine, IsForWords, IsForRead, IsForBytes, IsForLimit, IsForLink, IsForCheck, IsForRewrite, IsForDone, IsForWrite, IsForMemory, IsFaultless, KeepsContents, ChangesOnly}
 use Rattle.fm_given.specs.Causes.{FailsARead, FailsAWrite, IsMissing, HasTooMany, IsKnownLong, IsKnownRefused, IsKnownUnlinked, IsKnownUntyped}
 use Rattle.fm_given.specs.LinkRefusal.{cause_line}
 use Rattle.freeme.specs.Request.{Job, Asks, AskNothing, given_of, main_name}
 use Rattle.fm_given.specs.Taking.{total_bytes, AllTaken, IsTooLong, IsRefused}
-use Rattle.freeme.specs.TopCall.{StaysWithin, IsBroken, ComesTo, ComesOfJob, ComesOf, Outcome, outcome_line, outcome_status}
+use Rattle.freeme.specs.TopCall.{IsFirstCause, StaysWithin, IsBroken, ComesTo, ComesOfJob, ComesOf, Outcome, outcome_line, outcome_status}
+use Rattle.freeme.specs.Refusal.{rewrite_status}
+use Rattle.freeme.specs.declared.refusal.FreeRefusal.TheVariants as free_refusal
+use Rattle.freeme.specs.declared.status.TheConstants.{CALLS_FREE, POOL_FULL, METHOD_TOO_LONG}
 use Rattle.fm_given.specs.declared.refusal.JobRefusal.TheVariants as job_refusal
 use Rattle.fm_given.specs.Refusal.{many_line}
 use Rattle.fm_tool.specs.Refusal.{memory_line}
@@ -43,18 +53,33 @@ job_of_status words old new o status (inl job) is unlike_words unlike_memory = j
 job_of_status words old new o status (inr (inl nothing)) is unlike_words unlike_memory = absurd (unlike_words (sym is ∙ ap outcome_status nothing.refused))
 job_of_status words old new o status (inr (inr lacking)) is unlike_words unlike_memory = absurd (unlike_memory (sym is ∙ ap outcome_status lacking.refused))
 
+-- the status of a program that isn't rewritten: 72 to 74, or that of memory
+rewrite_bounds : (cause : RewriteFail) → (72 ≤ rewrite_status cause) × (rewrite_status cause ≤ 76)
+rewrite_bounds (fail.CallsFree method offset) = (omega arith, omega arith)
+rewrite_bounds (fail.PoolFull class indices) = (omega arith, omega arith)
+rewrite_bounds (fail.MethodTooLong method bytes) = (omega arith, omega arith)
+rewrite_bounds fail.NoMemory = (omega arith, omega arith)
+
+not_write : (cause : RewriteFail) → rewrite_status cause ≢ WRITE
+not_write (fail.CallsFree method offset) is = omega arith
+not_write (fail.PoolFull class indices) is = omega arith
+not_write (fail.MethodTooLong method bytes) is = omega arith
+not_write fail.NoMemory is = omega arith
+
 module _ (words : List Bytes) (old new : Disk) (before after : Output) where
   -- 0
   done_said : (o : Outcome) → ComesOfJob words old new o → outcome_status o ≡ DONE → after ≡ with_piece (outcome_line o) before → SaysDone words old new before after
   done_said (Ok lines) j is line = record { job = j.job; asked = j.asked; lines = string_bytes lines; done = j.comes; line = line }
-  done_said (Err (job_refusal.Class file r)) j is line = absurd (let c = class_status r in let low = c.low in let high = c.high in omega arith)
-  done_said (Err (job_refusal.Shared refusal.Words)) j is line = absurd (omega arith)
+  done_said (Err (free_refusal.Job (job_refusal.Class file r))) j is line = absurd (let c = class_status r in let low = c.low in let high = c.high in omega arith)
+  done_said (Err (free_refusal.Job (job_refusal.Shared refusal.Words))) j is line = absurd (omega arith)
+  done_said (Err (free_refusal.Rewrite cause name)) j is line = absurd (let r = rewrite_bounds cause in let low = r.0 in let high = r.1 in omega arith)
   done_said o j is line = absurd (omega arith)
 
   -- 65
   read_said : (o : Outcome) → ComesOfJob words old new o → outcome_status o ≡ READ → after ≡ with_piece (outcome_line o) before → SaysRead words old new before after
-  read_said (Err (job_refusal.Shared (refusal.Read file))) j is line = record { job = j.job; asked = j.asked; file = file.now; unread = j.comes; line = line }
-  read_said (Err (job_refusal.Class file r)) j is line = absurd (let c = class_status r in let low = c.low in let high = c.high in omega arith)
+  read_said (Err (free_refusal.Job (job_refusal.Shared (refusal.Read file)))) j is line = record { job = j.job; asked = j.asked; file = file.now; unread = j.comes; line = line }
+  read_said (Err (free_refusal.Job (job_refusal.Class file r))) j is line = absurd (let c = class_status r in let low = c.low in let high = c.high in omega arith)
+  read_said (Err (free_refusal.Rewrite cause name)) j is line = absurd (let r = rewrite_bounds cause in let low = r.0 in let high = r.1 in omega arith)
   read_said o j is line = absurd (omega arith)
 
   -- 70
@@ -63,59 +88,70 @@ module _ (words : List Bytes) (old new : Disk) (before after : Output) where
   cause_said o j (Some cause) unlinked line = record { job = j.job; asked = j.asked; cause = cause; unlinked = unlinked; line = line }
 
   link_said : (o : Outcome) → ComesOfJob words old new o → outcome_status o ≡ LINK → after ≡ with_piece (outcome_line o) before → SaysLink words old new before after
-  link_said (Err (job_refusal.Link fail)) j is line = cause_said (Err (job_refusal.Link fail)) j (refusal_of fail) j.comes line
-  link_said (Err (job_refusal.Class file r)) j is line = absurd (let c = class_status r in let low = c.low in let high = c.high in omega arith)
-  link_said (Err (job_refusal.Shared refusal.Words)) j is line = absurd (omega arith)
+  link_said (Err (free_refusal.Job (job_refusal.Link fail))) j is line = cause_said (Err (free_refusal.Job (job_refusal.Link fail))) j (refusal_of fail) j.comes line
+  link_said (Err (free_refusal.Job (job_refusal.Class file r))) j is line = absurd (let c = class_status r in let low = c.low in let high = c.high in omega arith)
+  link_said (Err (free_refusal.Job (job_refusal.Shared refusal.Words))) j is line = absurd (omega arith)
+  link_said (Err (free_refusal.Rewrite cause name)) j is line = absurd (let r = rewrite_bounds cause in let low = r.0 in let high = r.1 in omega arith)
   link_said o j is line = absurd (omega arith)
 
   -- 71
   check_said : (o : Outcome) → ComesOfJob words old new o → outcome_status o ≡ CHECK → after ≡ with_piece (outcome_line o) before → SaysCheck words old new before after
-  check_said (Err (job_refusal.Check name)) j is line = record { job = j.job; asked = j.asked; name = name; untyped = j.comes; line = line }
-  check_said (Err (job_refusal.Class file r)) j is line = absurd (let c = class_status r in let low = c.low in let high = c.high in omega arith)
-  check_said (Err (job_refusal.Shared refusal.Words)) j is line = absurd (omega arith)
+  check_said (Err (free_refusal.Job (job_refusal.Check name))) j is line = record { job = j.job; asked = j.asked; name = name; untyped = j.comes; line = line }
+  check_said (Err (free_refusal.Job (job_refusal.Class file r))) j is line = absurd (let c = class_status r in let low = c.low in let high = c.high in omega arith)
+  check_said (Err (free_refusal.Job (job_refusal.Shared refusal.Words))) j is line = absurd (omega arith)
+  check_said (Err (free_refusal.Rewrite cause name)) j is line = absurd (let r = rewrite_bounds cause in let low = r.0 in let high = r.1 in omega arith)
   check_said o j is line = absurd (omega arith)
 
-  -- 77
-  not_yet_said : (o : Outcome) → ComesOfJob words old new o → outcome_status o ≡ NOT_YET → after ≡ with_piece (outcome_line o) before → SaysNotYet words old new before after
-  not_yet_said (Err (job_refusal.Shared (refusal.NotYet file))) j is line = record { job = j.job; asked = j.asked; file = file.now; ahead = j.comes; line = line }
-  not_yet_said (Err (job_refusal.Class file r)) j is line = absurd (let c = class_status r in let low = c.low in let high = c.high in omega arith)
-  not_yet_said o j is line = absurd (omega arith)
+  -- 72, 73 and 74
+  not_freed_said : (status : ℕ) → 72 ≤ status → status ≤ 74 → (o : Outcome) → ComesOfJob words old new o → outcome_status o ≡ status → after ≡ with_piece (outcome_line o) before → SaysNotFreed status words old new before after
+  not_freed_said status low high (Err (free_refusal.Rewrite cause name)) j is line = record { job = j.job; asked = j.asked; cause = cause; status_is = is; name = name; refused = j.comes; line = line }
+  not_freed_said status low high (Err (free_refusal.Job (job_refusal.Class file r))) j is line = absurd (let c = class_status r in let most = c.high in omega arith)
+  not_freed_said status low high (Err (free_refusal.Job (job_refusal.Shared refusal.Words))) j is line = absurd (omega arith)
+  not_freed_said status low high o j is line = absurd (omega arith)
 
   -- 66, 67 and 69
   bytes_said : (status : ℕ) → 66 ≤ status → status ≤ 69 → status ≢ LIMIT → (o : Outcome) → ComesOfJob words old new o → outcome_status o ≡ status → after ≡ with_piece (outcome_line o) before → SaysRefused status words old new before after
-  bytes_said status low high other (Err (job_refusal.TooManyFiles count)) j is line = absurd (other (sym is))
-  bytes_said status low high other (Err (job_refusal.TooLong file)) j is line = absurd (other (sym is))
-  bytes_said status low high other (Err (job_refusal.TooManyArguments count)) j is line = absurd j.comes
-  bytes_said status low high other (Err (job_refusal.Class file r)) j is line = record { job = j.job; asked = j.asked; file = file.now; refusal = r; status_is = is; refused = j.comes; line = line }
-  bytes_said status low high other (Err (job_refusal.Shared refusal.Words)) j is line = absurd (omega arith)
+  bytes_said status low high other (Err (free_refusal.Job (job_refusal.TooManyFiles count))) j is line = absurd (other (sym is))
+  bytes_said status low high other (Err (free_refusal.Job (job_refusal.TooLong file))) j is line = absurd (other (sym is))
+  bytes_said status low high other (Err (free_refusal.Job (job_refusal.TooManyArguments count))) j is line = absurd j.comes
+  bytes_said status low high other (Err (free_refusal.Job (job_refusal.Class file r))) j is line = record { job = j.job; asked = j.asked; file = file.now; refusal = r; status_is = is; refused = j.comes; line = line }
+  bytes_said status low high other (Err (free_refusal.Job (job_refusal.Shared refusal.Words))) j is line = absurd (omega arith)
+  bytes_said status low high other (Err (free_refusal.Rewrite cause name)) j is line = absurd (let r = rewrite_bounds cause in let from = r.0 in omega arith)
   bytes_said status low high other o j is line = absurd (omega arith)
 
   -- 68
   limit_said : (o : Outcome) → ComesOfJob words old new o → outcome_status o ≡ LIMIT → after ≡ with_piece (outcome_line o) before → SaysLimit words old new before after
-  limit_said (Err (job_refusal.TooManyFiles count)) j is line = let Many : ℕ → Type 0 = λ n. AreMany j.job.files n old new × (after ≡ with_piece (many_line n) before) in let own = subst Many j.comes.count_is (j.comes, line) in inl (record { job = j.job; asked = j.asked; many = own.0; line = own.1 })
-  limit_said (Err (job_refusal.TooManyArguments count)) j is line = absurd j.comes
-  limit_said (Err (job_refusal.TooLong file)) j is line = inr (inl (record { job = j.job; asked = j.asked; file = file.now; long = j.comes; line = line }))
-  limit_said (Err (job_refusal.Class file r)) j is line = inr (inr (record { job = j.job; asked = j.asked; file = file.now; refusal = r; status_is = is; refused = j.comes; line = line }))
-  limit_said (Err (job_refusal.Shared refusal.Words)) j is line = absurd (omega arith)
+  limit_said (Err (free_refusal.Job (job_refusal.TooManyFiles count))) j is line = let Many : ℕ → Type 0 = λ n. AreMany j.job.files n old new × (after ≡ with_piece (many_line n) before) in let own = subst Many j.comes.count_is (j.comes, line) in inl (record { job = j.job; asked = j.asked; many = own.0; line = own.1 })
+  limit_said (Err (free_refusal.Job (job_refusal.TooManyArguments count))) j is line = absurd j.comes
+  limit_said (Err (free_refusal.Job (job_refusal.TooLong file))) j is line = inr (inl (record { job = j.job; asked = j.asked; file = file.now; long = j.comes; line = line }))
+  limit_said (Err (free_refusal.Job (job_refusal.Class file r))) j is line = inr (inr (record { job = j.job; asked = j.asked; file = file.now; refusal = r; status_is = is; refused = j.comes; line = line }))
+  limit_said (Err (free_refusal.Job (job_refusal.Shared refusal.Words))) j is line = absurd (omega arith)
+  limit_said (Err (free_refusal.Rewrite cause name)) j is line = absurd (let r = rewrite_bounds cause in let low = r.0 in let high = r.1 in omega arith)
   limit_said o j is line = absurd (omega arith)
 
   -- 75, where the line is put
   unwritten_said : (o : Outcome) → ComesOfJob words old new o → outcome_status o ≡ WRITE → after ≡ with_piece (outcome_line o) before → SaysUnwritten words old new before after
-  unwritten_said (Err (job_refusal.Write name)) j is line = record { job = j.job; asked = j.asked; name = string_bytes name; unwritten = j.comes; line = line }
-  unwritten_said (Err (job_refusal.Class file r)) j is line = absurd (let c = class_status r in let low = c.low in let high = c.high in omega arith)
-  unwritten_said (Err (job_refusal.Shared refusal.Words)) j is line = absurd (omega arith)
+  unwritten_said (Err (free_refusal.Job (job_refusal.Write name))) j is line = record { job = j.job; asked = j.asked; name = string_bytes name; unwritten = j.comes; line = line }
+  unwritten_said (Err (free_refusal.Job (job_refusal.Class file r))) j is line = absurd (let c = class_status r in let low = c.low in let high = c.high in omega arith)
+  unwritten_said (Err (free_refusal.Job (job_refusal.Shared refusal.Words))) j is line = absurd (omega arith)
+  unwritten_said (Err (free_refusal.Rewrite cause name)) j is line = absurd (not_write cause is)
   unwritten_said o j is line = absurd (omega arith)
 
   -- 76, where the line is put
   stopped : (o : Outcome) → ComesOfJob words old new o → outcome_status o ≡ OUT_OF_MEMORY → IsUntouched old new ⊎ AskFor words (λ job. IsBroken job old new)
-  stopped (Err (job_refusal.Shared refusal.OutOfMemory)) j is = ⊎_elim (λ untouched. inl untouched) (λ broken. inr (j.job, (j.asked, broken))) j.comes
-  stopped (Err (job_refusal.Class file r)) j is = absurd (let c = class_status r in let low = c.low in let high = c.high in omega arith)
+  stopped (Err (free_refusal.Job (job_refusal.Shared refusal.OutOfMemory))) j is = ⊎_elim (λ untouched. inl untouched) (λ broken. inr (j.job, (j.asked, broken))) j.comes
+  stopped (Err (free_refusal.Job (job_refusal.Class file r))) j is = absurd (let c = class_status r in let low = c.low in let high = c.high in omega arith)
+  stopped (Err (free_refusal.Rewrite cause name)) j is = inl j.comes.untouched
   stopped o j is = absurd (omega arith)
 
   -- the line of memory
   memory_line_is : (o : Outcome) → outcome_status o ≡ OUT_OF_MEMORY → outcome_line o ≡ memory_line
-  memory_line_is (Err (job_refusal.Shared refusal.OutOfMemory)) is = refl
-  memory_line_is (Err (job_refusal.Class file r)) is = absurd (let c = class_status r in let low = c.low in let high = c.high in omega arith)
+  memory_line_is (Err (free_refusal.Job (job_refusal.Shared refusal.OutOfMemory))) is = refl
+  memory_line_is (Err (free_refusal.Job (job_refusal.Class file r))) is = absurd (let c = class_status r in let low = c.low in let high = c.high in omega arith)
+  memory_line_is (Err (free_refusal.Rewrite fail.NoMemory name)) is = refl
+  memory_line_is (Err (free_refusal.Rewrite (fail.CallsFree method offset) name)) is = absurd (omega arith)
+  memory_line_is (Err (free_refusal.Rewrite (fail.PoolFull class indices) name)) is = absurd (omega arith)
+  memory_line_is (Err (free_refusal.Rewrite (fail.MethodTooLong method bytes) name)) is = absurd (omega arith)
   memory_line_is o is = absurd (omega arith)
 
 -- ---- what fails and what is kept
@@ -127,17 +163,17 @@ FailsSo old new status =
 
 job_fails : (job : Job) (old new : Disk) (o : Outcome) → ComesTo job old new o → FailsSo old new (outcome_status o)
 job_fails job old new (Ok lines) comes = inl comes.written.faultless
-job_fails job old new (Err (job_refusal.Shared refusal.Words)) comes = absurd comes
-job_fails job old new (Err (job_refusal.TooManyArguments count)) comes = absurd comes
-job_fails job old new (Err (job_refusal.Shared (refusal.Read file))) comes = inr (inl (refl, comes.fault.writes))
-job_fails job old new (Err (job_refusal.Shared (refusal.NotYet file))) comes = inl comes.untouched.faultless
-job_fails job old new (Err (job_refusal.Shared refusal.OutOfMemory)) comes = ⊎_elim (λ untouched. inl untouched.faultless) (λ broken. inl broken.written.faultless) comes
-job_fails job old new (Err (job_refusal.TooManyFiles count)) comes = inl (no_fault_where_same old new comes.kept)
-job_fails job old new (Err (job_refusal.TooLong file)) comes = inl comes.untouched.faultless
-job_fails job old new (Err (job_refusal.Class file r)) comes = inl comes.untouched.faultless
-job_fails job old new (Err (job_refusal.Link fail)) comes = inl comes.untouched.faultless
-job_fails job old new (Err (job_refusal.Check name)) comes = inl comes.untouched.faultless
-job_fails job old new (Err (job_refusal.Write name)) comes = inr (inr (refl, comes.fails.fault.reads))
+job_fails job old new (Err (free_refusal.Job (job_refusal.Shared refusal.Words))) comes = absurd comes
+job_fails job old new (Err (free_refusal.Job (job_refusal.TooManyArguments count))) comes = absurd comes
+job_fails job old new (Err (free_refusal.Job (job_refusal.Shared (refusal.Read file)))) comes = inr (inl (refl, comes.fault.writes))
+job_fails job old new (Err (free_refusal.Rewrite cause name)) comes = inl comes.untouched.faultless
+job_fails job old new (Err (free_refusal.Job (job_refusal.Shared refusal.OutOfMemory))) comes = ⊎_elim (λ untouched. inl untouched.faultless) (λ broken. inl broken.written.faultless) comes
+job_fails job old new (Err (free_refusal.Job (job_refusal.TooManyFiles count))) comes = inl (no_fault_where_same old new comes.kept)
+job_fails job old new (Err (free_refusal.Job (job_refusal.TooLong file))) comes = inl comes.untouched.faultless
+job_fails job old new (Err (free_refusal.Job (job_refusal.Class file r))) comes = inl comes.untouched.faultless
+job_fails job old new (Err (free_refusal.Job (job_refusal.Link fail))) comes = inl comes.untouched.faultless
+job_fails job old new (Err (free_refusal.Job (job_refusal.Check name))) comes = inl comes.untouched.faultless
+job_fails job old new (Err (free_refusal.Job (job_refusal.Write name))) comes = inr (inr (refl, comes.fails.fault.reads))
 
 pub fails_so : (words : List Bytes) (old new : Disk) (o : Outcome) → ComesOf words old new o → FailsSo old new (outcome_status o)
 fails_so words old new o (inl j) = job_fails j.job old new o j.comes
@@ -147,17 +183,17 @@ fails_so words old new o (inr (inr lacking)) = inl (no_fault_where_same old new 
 -- contents are kept but where classes are written
 job_keeps : (job : Job) (old new : Disk) (o : Outcome) → ComesTo job old new o → outcome_status o ≢ DONE → outcome_status o ≢ WRITE → outcome_status o ≢ OUT_OF_MEMORY → new.contents ≡ old.contents
 job_keeps job old new (Ok lines) comes done write memory = absurd (done refl)
-job_keeps job old new (Err (job_refusal.Shared refusal.Words)) comes done write memory = absurd comes
-job_keeps job old new (Err (job_refusal.TooManyArguments count)) comes done write memory = absurd comes
-job_keeps job old new (Err (job_refusal.Shared (refusal.Read file))) comes done write memory = comes.kept
-job_keeps job old new (Err (job_refusal.Shared (refusal.NotYet file))) comes done write memory = comes.untouched.kept
-job_keeps job old new (Err (job_refusal.Shared refusal.OutOfMemory)) comes done write memory = absurd (memory refl)
-job_keeps job old new (Err (job_refusal.TooManyFiles count)) comes done write memory = ap (λ d. d.contents) comes.kept
-job_keeps job old new (Err (job_refusal.TooLong file)) comes done write memory = comes.untouched.kept
-job_keeps job old new (Err (job_refusal.Class file r)) comes done write memory = comes.untouched.kept
-job_keeps job old new (Err (job_refusal.Link fail)) comes done write memory = comes.untouched.kept
-job_keeps job old new (Err (job_refusal.Check name)) comes done write memory = comes.untouched.kept
-job_keeps job old new (Err (job_refusal.Write name)) comes done write memory = absurd (write refl)
+job_keeps job old new (Err (free_refusal.Job (job_refusal.Shared refusal.Words))) comes done write memory = absurd comes
+job_keeps job old new (Err (free_refusal.Job (job_refusal.TooManyArguments count))) comes done write memory = absurd comes
+job_keeps job old new (Err (free_refusal.Job (job_refusal.Shared (refusal.Read file)))) comes done write memory = comes.kept
+job_keeps job old new (Err (free_refusal.Rewrite cause name)) comes done write memory = comes.untouched.kept
+job_keeps job old new (Err (free_refusal.Job (job_refusal.Shared refusal.OutOfMemory))) comes done write memory = absurd (memory refl)
+job_keeps job old new (Err (free_refusal.Job (job_refusal.TooManyFiles count))) comes done write memory = ap (λ d. d.contents) comes.kept
+job_keeps job old new (Err (free_refusal.Job (job_refusal.TooLong file))) comes done write memory = comes.untouched.kept
+job_keeps job old new (Err (free_refusal.Job (job_refusal.Class file r))) comes done write memory = comes.untouched.kept
+job_keeps job old new (Err (free_refusal.Job (job_refusal.Link fail))) comes done write memory = comes.untouched.kept
+job_keeps job old new (Err (free_refusal.Job (job_refusal.Check name))) comes done write memory = comes.untouched.kept
+job_keeps job old new (Err (free_refusal.Job (job_refusal.Write name))) comes done write memory = absurd (write refl)
 
 keeps : (words : List Bytes) (old new : Disk) (o : Outcome) → ComesOf words old new o → outcome_status o ≢ DONE → outcome_status o ≢ WRITE → outcome_status o ≢ OUT_OF_MEMORY → new.contents ≡ old.contents
 keeps words old new o (inl j) done write memory = job_keeps j.job old new o j.comes done write memory
@@ -166,57 +202,116 @@ keeps words old new o (inr (inr lacking)) done write memory = ap (λ d. d.conten
 
 -- ---- verdicts, where contents are known
 
--- the first class that isn't built is one of those that aren't
-not_built : (classes : List ClassDef) (place : ℕ) → IsFirstAhead classes place → ¬ AreBuilt classes
-not_built classes place first built =
-    let found = Some-from_some_and (slice_get classes place) _ first.ahead in
-    let P : Option ClassDef → Type 0 = λ x. IfSome x (IsBuilt classes place) in
-    found.2 (subst P found.1 (built place))
+-- this status comes of classes
+abbrev IsKnown : List ℕ → ℕ → List ClassDef → Type 0
+IsKnown main known classes = BecomesAs known classes main (first_call (program_of classes main))
 
--- classes of a program are built so far or not
-abbrev Builds : Ends
-Builds classes status = (AreBuilt classes × (status ≡ DONE)) ⊎ ((¬ AreBuilt classes) × (status ≡ NOT_YET))
+-- their program calls FreeMe
+abbrev FindsCall : List ℕ → List ClassDef → Type 0
+FindsCall main classes = (call : ℕ × ℕ) × (first_call (program_of classes main) ≡ Some call)
 
-builds_once : EndsOnce Builds
-builds_once classes s t (inl a) (inl b) = a.1 ∙ sym b.1
-builds_once classes s t (inl a) (inr b) = absurd (b.0 a.0)
-builds_once classes s t (inr a) (inl b) = absurd (a.0 b.0)
-builds_once classes s t (inr a) (inr b) = a.1 ∙ sym b.1
+-- it doesn't, and by some exact facts with least typings this status comes of it
+pub record FindsFacts (main : List ℕ) (found : ℕ) (classes : List ClassDef) : Type 0 where
+  pub no_call : first_call (program_of classes main) ≡ None
+  pub facts : Facts
+  pub exact : AreFacts (program_of classes main) facts
+  pub least : AreLeastTypings (program_of classes main) facts.typing
+  pub status : cause_status (first_cause (full_plans (program_of classes main) facts) classes) ≡ found
+
+abbrev IsFound : List ℕ → ℕ → List ClassDef → Type 0
+IsFound main found classes = (FindsCall main classes × (CALLS_FREE ≡ found)) ⊎ FindsFacts main found classes
+
+-- what is known is what is found
+found_known : (main : List ℕ) (known found : ℕ) (classes : List ClassDef) → IsKnown main known classes → IsFound main found classes → known ≡ found
+found_known main known found classes is (inl call) =
+    let P : Option (ℕ × ℕ) → Type 0 = BecomesAs known classes main in sym (subst P call.0.1 is) ∙ call.1
+found_known main known found classes is (inr by) =
+    let P : Option (ℕ × ℕ) → Type 0 = BecomesAs known classes main in sym (subst P by.no_call is by.facts by.exact by.least) ∙ by.status
+
+-- classes come to the one status or to the other
+abbrev Rewrites : List ℕ → ℕ → ℕ → Ends
+Rewrites main known found classes status = (IsKnown main known classes × (status ≡ known)) ⊎ (IsFound main found classes × (status ≡ found))
+
+rewrites_once : (main : List ℕ) (known found : ℕ) → EndsOnce (Rewrites main known found)
+rewrites_once main known found classes s t (inl a) (inl b) = a.1 ∙ sym b.1
+rewrites_once main known found classes s t (inl a) (inr b) = a.1 ∙ found_known main known found classes a.0 b.0 ∙ sym b.1
+rewrites_once main known found classes s t (inr a) (inl b) = a.1 ∙ sym (found_known main known found classes b.0 a.0) ∙ sym b.1
+rewrites_once main known found classes s t (inr a) (inr b) = a.1 ∙ sym b.1
+
+by_facts : (main : List ℕ) (classes : List ClassDef) (cause : RewriteFail) → AreRefusedFor classes main cause → FindsFacts main (rewrite_status cause) classes
+by_facts main classes cause refused = record {
+  no_call = refused.no_call;
+  facts = refused.facts;
+  exact = refused.exact;
+  least = refused.least;
+  status = ap cause_status refused.first;
+}
+
+-- the first cause is found
+found_of : (main : List ℕ) (classes : List ClassDef) (cause : RewriteFail) → IsFirstCause classes main cause → IsFound main (rewrite_status cause) classes
+found_of main classes (fail.CallsFree method offset) first = inl ((_, first), refl)
+found_of main classes (fail.PoolFull class indices) first = inr (by_facts main classes (fail.PoolFull class indices) first)
+found_of main classes (fail.MethodTooLong method bytes) first = inr (by_facts main classes (fail.MethodTooLong method bytes) first)
+found_of main classes fail.NoMemory first = absurd first
 
 -- what the files of a job come to
-abbrev JobVerdict : (Bytes → Option Bytes) → Job → ℕ → Type 0
-JobVerdict held job status = Verdict (Links Builds (main_name job)) held job.files status
+abbrev JobVerdict : (known found : ℕ) → (Bytes → Option Bytes) → Job → ℕ → Type 0
+JobVerdict known found held job status = Verdict (Links (Rewrites (main_name job) known found) (main_name job)) held job.files status
 
-module _ (job : Job) (old new : Disk) (held : Bytes → Option Bytes) (known : old.contents ≡ Some held) where
+module _ (job : Job) (old new : Disk) (held : Bytes → Option Bytes) (known : old.contents ≡ Some held) (sought : ℕ) where
   all_known : (classes : List ClassDef) → AllTaken old.contents job.files classes → AllTaken (Some held) job.files classes
   all_known = all_taken job.files old.contents held known
 
   -- the verdict of an outcome, unless it is for a fault or for memory
   abbrev Comes : ℕ → Type 0
-  Comes status = JobVerdict held job status ⊎ ((status ≡ READ) ⊎ ((status ≡ WRITE) ⊎ (status ≡ OUT_OF_MEMORY)))
+  Comes status = JobVerdict sought status held job status ⊎ ((status ≡ READ) ⊎ ((status ≡ WRITE) ⊎ (status ≡ OUT_OF_MEMORY)))
 
   verdict_of : (o : Outcome) → ComesTo job old new o → Comes (outcome_status o)
-  verdict_of (Ok lines) comes = inl (inr (inr (record { classes = comes.classes; taken = all_known comes.classes comes.passed.checked.linked.taken; last = inr (comes.passed.checked.linked.linked, inr (comes.passed.checked.typed, inl (comes.passed.built, refl))) })))
-  verdict_of (Err (job_refusal.Shared refusal.Words)) comes = absurd comes
-  verdict_of (Err (job_refusal.TooManyArguments count)) comes = absurd comes
-  verdict_of (Err (job_refusal.Shared (refusal.Read file))) comes = inr (inl refl)
-  verdict_of (Err (job_refusal.Shared (refusal.NotYet file))) comes = inl (inr (inr (record { classes = comes.classes; taken = all_known comes.classes comes.checked.linked.taken; last = inr (comes.checked.linked.linked, inr (comes.checked.typed, inr (not_built comes.classes comes.place comes.ahead, refl))) })))
-  verdict_of (Err (job_refusal.Shared refusal.OutOfMemory)) comes = inr (inr (inr refl))
-  verdict_of (Err (job_refusal.TooManyFiles count)) comes = let count = comes.count_is in let many = comes.many in inl (inl (omega arith, refl))
-  verdict_of (Err (job_refusal.TooLong file)) comes = inl (inr (inl (long_stops job.files old.contents held known file.now comes.before comes.reaches (known_such old.contents held file.now (IsTooLong (total_bytes comes.before)) known comes.long))))
-  verdict_of (Err (job_refusal.Class file r)) comes = inl (inr (inl (bytes_stop job.files old.contents held known (class_refusal_status r) file.now comes.before r refl comes.reaches (known_such old.contents held file.now (IsRefused r (total_bytes comes.before)) known comes.refused))))
-  verdict_of (Err (job_refusal.Link fail)) comes =
+  verdict_of (Ok lines) comes = 
+      let freed = comes.freed in
+      let made = freed.rewritten in
+      inl (inr (inr (record {
+        classes = freed.classes;
+        taken = all_known freed.classes freed.checked.linked.taken;
+        last = inr (freed.checked.linked.linked, inr (freed.checked.typed, inr (inr (record {
+          no_call = made.no_call;
+          facts = made.full.facts;
+          exact = made.full.exact;
+          least = made.least;
+          status = ap cause_status made.no_cause;
+        }), refl)));
+      })))
+  verdict_of (Err (free_refusal.Job (job_refusal.Shared refusal.Words))) comes = absurd comes
+  verdict_of (Err (free_refusal.Job (job_refusal.TooManyArguments count))) comes = absurd comes
+  verdict_of (Err (free_refusal.Job (job_refusal.Shared (refusal.Read file)))) comes = inr (inl refl)
+  verdict_of (Err (free_refusal.Rewrite cause name)) comes =
+      inl (inr (inr (record {
+        classes = comes.classes;
+        taken = all_known comes.classes comes.checked.linked.taken;
+        last = inr (comes.checked.linked.linked, inr (comes.checked.typed, inr (found_of (main_name job) comes.classes cause comes.refused, refl)));
+      })))
+  verdict_of (Err (free_refusal.Job (job_refusal.Shared refusal.OutOfMemory))) comes = inr (inr (inr refl))
+  verdict_of (Err (free_refusal.Job (job_refusal.TooManyFiles count))) comes = let count = comes.count_is in let many = comes.many in inl (inl (omega arith, refl))
+  verdict_of (Err (free_refusal.Job (job_refusal.TooLong file))) comes = inl (inr (inl (long_stops job.files old.contents held known file.now comes.before comes.reaches (known_such old.contents held file.now (IsTooLong (total_bytes comes.before)) known comes.long))))
+  verdict_of (Err (free_refusal.Job (job_refusal.Class file r))) comes = inl (inr (inl (bytes_stop job.files old.contents held known (class_refusal_status r) file.now comes.before r refl comes.reaches (known_such old.contents held file.now (IsRefused r (total_bytes comes.before)) known comes.refused))))
+  verdict_of (Err (free_refusal.Job (job_refusal.Link fail))) comes =
       let found = Some-from_some_and (refusal_of fail) (AreRefused (given_of job) old.contents) comes.refused in
       let refused = found.2 in
       inl (inr (inr (record { classes = refused.classes; taken = all_known refused.classes refused.taken; last = inl (not_empty (refusals refused.classes (main_name job)) found.0 refused.first, refl) })))
-  verdict_of (Err (job_refusal.Check name)) comes = inl (inr (inr (record { classes = comes.classes; taken = all_known comes.classes comes.linked.taken; last = inr (comes.linked.linked, inl (not_typed (given_program (given_of job) comes.classes) name comes.untyped, refl)) })))
-  verdict_of (Err (job_refusal.Write name)) comes = inr (inr (inl refl))
+  verdict_of (Err (free_refusal.Job (job_refusal.Check name))) comes = inl (inr (inr (record { classes = comes.classes; taken = all_known comes.classes comes.linked.taken; last = inr (comes.linked.linked, inl (not_typed (given_program (given_of job) comes.classes) name comes.untyped, refl)) })))
+  verdict_of (Err (free_refusal.Job (job_refusal.Write name))) comes = inr (inr (inl refl))
+
+  own_verdict : (status found : ℕ) → JobVerdict sought found held job status → JobVerdict sought found held job found → status ≡ found
+  own_verdict status found verdict own =
+      let Rest = Rewrites (main_name job) sought found in
+      let once = links_once Rest (main_name job) (rewrites_once (main_name job) sought found) in
+      one_verdict (Links Rest (main_name job)) once held job.files status found verdict own
 
   -- files of this verdict have its status, unless there was a fault or memory was lacking
-  status_of : (status : ℕ) (o : Outcome) → JobVerdict held job status → ComesTo job old new o → Contains (status ∷ instead_for_file) (outcome_status o)
+  status_of : (status : ℕ) (o : Outcome) → JobVerdict sought (outcome_status o) held job status → ComesTo job old new o → Contains (status ∷ instead_for_file) (outcome_status o)
   status_of status o verdict comes = go (verdict_of o comes) where
     go : Comes (outcome_status o) → Contains (status ∷ instead_for_file) (outcome_status o)
-    go (inl own) = (0, omega arith, one_verdict (Links Builds (main_name job)) (links_once Builds (main_name job) builds_once) held job.files status (outcome_status o) verdict own)
+    go (inl own) = (0, omega arith, own_verdict status (outcome_status o) verdict own)
     go (inr (inl e)) = (1, omega arith, sym e)
     go (inr (inr (inl e))) = (2, omega arith, sym e)
     go (inr (inr (inr e))) = (3, omega arith, sym e)
@@ -225,32 +320,33 @@ module _ (job : Job) (old new : Disk) (held : Bytes → Option Bytes) (known : o
 
 -- too many files have one status, and memory may be lacking
 many_status : (job : Job) (old new : Disk) → HasTooMany (given_of job) → (o : Outcome) → ComesTo job old new o → Contains (LIMIT ∷ instead_for_words) (outcome_status o)
-many_status job old new many (Ok lines) comes = absurd (let few = comes.passed.checked.linked.taken.few in omega arith)
-many_status job old new many (Err (job_refusal.Shared refusal.Words)) comes = absurd comes
-many_status job old new many (Err (job_refusal.TooManyArguments count)) comes = absurd comes
-many_status job old new many (Err (job_refusal.Shared (refusal.Read file))) comes = absurd (let few = comes.reaches.few in omega arith)
-many_status job old new many (Err (job_refusal.Shared (refusal.NotYet file))) comes = absurd (let few = comes.checked.linked.taken.few in omega arith)
-many_status job old new many (Err (job_refusal.Shared refusal.OutOfMemory)) comes = (2, omega arith, refl)
-many_status job old new many (Err (job_refusal.TooManyFiles count)) comes = (0, omega arith, refl)
-many_status job old new many (Err (job_refusal.TooLong file)) comes = (0, omega arith, refl)
-many_status job old new many (Err (job_refusal.Class file r)) comes = absurd (let few = comes.reaches.few in omega arith)
-many_status job old new many (Err (job_refusal.Link fail)) comes =
+many_status job old new many (Ok lines) comes = absurd (let few = comes.freed.checked.linked.taken.few in omega arith)
+many_status job old new many (Err (free_refusal.Rewrite cause name)) comes = absurd (let few = comes.checked.linked.taken.few in omega arith)
+many_status job old new many (Err (free_refusal.Job (job_refusal.Shared refusal.Words))) comes = absurd comes
+many_status job old new many (Err (free_refusal.Job (job_refusal.TooManyArguments count))) comes = absurd comes
+many_status job old new many (Err (free_refusal.Job (job_refusal.Shared (refusal.Read file)))) comes = absurd (let few = comes.reaches.few in omega arith)
+many_status job old new many (Err (free_refusal.Job (job_refusal.Shared refusal.OutOfMemory))) comes = (2, omega arith, refl)
+many_status job old new many (Err (free_refusal.Job (job_refusal.TooManyFiles count))) comes = (0, omega arith, refl)
+many_status job old new many (Err (free_refusal.Job (job_refusal.TooLong file))) comes = (0, omega arith, refl)
+many_status job old new many (Err (free_refusal.Job (job_refusal.Class file r))) comes = absurd (let few = comes.reaches.few in omega arith)
+many_status job old new many (Err (free_refusal.Job (job_refusal.Link fail))) comes =
     absurd (let found = Some-from_some_and (refusal_of fail) (AreRefused (given_of job) old.contents) comes.refused in let few = found.2.taken.few in omega arith)
-many_status job old new many (Err (job_refusal.Check name)) comes = absurd (let few = comes.linked.taken.few in omega arith)
-many_status job old new many (Err (job_refusal.Write name)) comes = (1, omega arith, refl)
+many_status job old new many (Err (free_refusal.Job (job_refusal.Check name))) comes = absurd (let few = comes.linked.taken.few in omega arith)
+many_status job old new many (Err (free_refusal.Job (job_refusal.Write name))) comes = (1, omega arith, refl)
 
 -- a job isn't refused for its words
 not_for_words : (job : Job) (old new : Disk) (o : Outcome) → ComesTo job old new o → outcome_status o ≢ WORDS
-not_for_words job old new (Err (job_refusal.Shared refusal.Words)) comes is = comes
-not_for_words job old new (Err (job_refusal.Class file r)) comes is = let c = class_status r in let low = c.low in omega arith
+not_for_words job old new (Err (free_refusal.Job (job_refusal.Shared refusal.Words))) comes is = comes
+not_for_words job old new (Err (free_refusal.Job (job_refusal.Class file r))) comes is = let c = class_status r in let low = c.low in omega arith
+not_for_words job old new (Err (free_refusal.Rewrite cause name)) comes is = let r = rewrite_bounds cause in let low = r.0 in omega arith
 not_for_words job old new o comes is = omega arith
 
 -- the statuses at which nothing failed, and those at which contents are kept
 abbrev faultless_statuses : List ℕ
-faultless_statuses = DONE ∷ WORDS ∷ MALFORMED ∷ VERSION ∷ LIMIT ∷ UNSUPPORTED ∷ LINK ∷ CHECK ∷ NOT_YET ∷ []
+faultless_statuses = DONE ∷ WORDS ∷ MALFORMED ∷ VERSION ∷ LIMIT ∷ UNSUPPORTED ∷ LINK ∷ CHECK ∷ CALLS_FREE ∷ POOL_FULL ∷ METHOD_TOO_LONG ∷ []
 
 abbrev keeping_statuses : List ℕ
-keeping_statuses = WORDS ∷ READ ∷ MALFORMED ∷ VERSION ∷ LIMIT ∷ UNSUPPORTED ∷ LINK ∷ CHECK ∷ NOT_YET ∷ []
+keeping_statuses = WORDS ∷ READ ∷ MALFORMED ∷ VERSION ∷ LIMIT ∷ UNSUPPORTED ∷ LINK ∷ CHECK ∷ CALLS_FREE ∷ POOL_FULL ∷ METHOD_TOO_LONG ∷ []
 
 module _ (words : List Bytes) (old new : Disk) (o : Outcome) (comes : ComesOf words old new o) where
   -- the job that was asked for comes out so, or memory was lacking before
@@ -262,9 +358,9 @@ module _ (words : List Bytes) (old new : Disk) (o : Outcome) (comes : ComesOf wo
     go (inr (inr lacking)) = inr (ap outcome_status lacking.refused)
 
   -- a verdict of its files decides the status, unless there was a fault or memory was lacking
-  decided : (status : ℕ) (job : Job) (held : Bytes → Option Bytes) → old.contents ≡ Some held → Asks words job → JobVerdict held job status → Contains (status ∷ instead_for_file) (outcome_status o)
+  decided : (status : ℕ) (job : Job) (held : Bytes → Option Bytes) → old.contents ≡ Some held → Asks words job → JobVerdict status (outcome_status o) held job status → Contains (status ∷ instead_for_file) (outcome_status o)
   decided status job held known asked verdict = ⊎_elim
-      (λ (job_comes : ComesTo job old new o). status_of job old new held known status o verdict job_comes)
+      (λ (job_comes : ComesTo job old new o). status_of job old new held known status status o verdict job_comes)
       (λ (lacking : outcome_status o ≡ OUT_OF_MEMORY). (3, omega arith, sym lacking))
       (of_job job asked)
 
@@ -286,15 +382,6 @@ module _ (words : List Bytes) (old new : Disk) (o : Outcome) (comes : ComesOf wo
       decided status job found.0 found.1 asked
       (inr (inl (bytes_stop job.files old.contents found.0 found.1 status cause.file cause.before cause.refusal cause.status_is cause.reaches found.2)))
 
-  ahead_decides : AskFor words (IsKnownAhead old) → Contains (NOT_YET ∷ instead_for_file) (outcome_status o)
-  ahead_decides (job, (asked, cause)) =
-      let found = Some-from_is_some old.contents cause.known in
-      decided NOT_YET job found.0 found.1 asked (inr (inr (record {
-        classes = cause.classes;
-        taken = all_taken job.files old.contents found.0 found.1 cause.classes cause.checked.linked.taken;
-        last = inr (cause.checked.linked.linked, inr (cause.checked.typed, inr (cause.ahead, refl)));
-      })))
-
   untyped_decides : AskForGiven words (IsKnownUntyped old) → Contains (CHECK ∷ instead_for_file) (outcome_status o)
   untyped_decides (job, (asked, cause)) =
       let found = Some-from_is_some old.contents cause.known in
@@ -313,13 +400,13 @@ module _ (words : List Bytes) (old new : Disk) (o : Outcome) (comes : ComesOf wo
         last = inl (cause.refused, refl);
       })))
 
-  passed_decide : AskFor words (IsKnownPassed old) → Contains (DONE ∷ instead_for_file) (outcome_status o)
-  passed_decide (job, (asked, cause)) =
+  rewriting_decides : (status : ℕ) → AskFor words (IsKnownAs status old) → Contains (status ∷ instead_for_file) (outcome_status o)
+  rewriting_decides status (job, (asked, cause)) =
       let found = Some-from_is_some old.contents cause.known in
-      decided DONE job found.0 found.1 asked (inr (inr (record {
+      decided status job found.0 found.1 asked (inr (inr (record {
         classes = cause.classes;
-        taken = all_taken job.files old.contents found.0 found.1 cause.classes cause.passed.checked.linked.taken;
-        last = inr (cause.passed.checked.linked.linked, inr (cause.passed.checked.typed, inl (cause.passed.built, refl)));
+        taken = all_taken job.files old.contents found.0 found.1 cause.classes cause.checked.linked.taken;
+        last = inr (cause.checked.linked.linked, inr (cause.checked.typed, inl (cause.becomes, refl)));
       })))
 
   many_decide : AskForGiven words HasTooMany → Contains (LIMIT ∷ instead_for_words) (outcome_status o)
@@ -393,11 +480,12 @@ module _ {words : List Bytes} {old new : Disk} {before after : Output} {result :
   pub is_for_check : IsForCheck words old new before after result
   is_for_check = of_files CHECK (λ e. omega arith) (λ e. omega arith) (λ e. omega arith) (check_said words old new before after o) (untyped_decides words old new o comes)
 
-  pub is_for_not_yet : IsForNotYet words old new before after result
-  is_for_not_yet = of_files NOT_YET (λ e. omega arith) (λ e. omega arith) (λ e. omega arith) (not_yet_said words old new before after o) (ahead_decides words old new o comes)
+  pub is_for_rewrite : (status : ℕ) → 72 ≤ status → status ≤ 74 → IsForRewrite status words old new before after result
+  is_for_rewrite status low high =
+      of_files status (λ e. omega arith) (λ e. omega arith) (λ e. omega arith) (not_freed_said words old new before after status low high o) (rewriting_decides words old new o comes status)
 
   pub is_for_done : IsForDone words old new before after result
-  is_for_done = of_files DONE (λ e. omega arith) (λ e. omega arith) (λ e. omega arith) (done_said words old new before after o) (passed_decide words old new o comes)
+  is_for_done = of_files DONE (λ e. omega arith) (λ e. omega arith) (λ e. omega arith) (done_said words old new before after o) (rewriting_decides words old new o comes DONE)
 
   pub is_for_write : IsForWrite words old new before after result
   is_for_write = record {

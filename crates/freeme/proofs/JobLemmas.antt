@@ -1,39 +1,51 @@
 -- What a job leaves after its files are read, and after its classes are written.
-use Rattle.std.proofs.Common.{◌≡◌, ◌≢◌, ◌<◌, ◌≤◌, ℕ, ◌+◌, inl, inr, ⊎_elim, List, [], ◌∷◌, length, map, take, Contains, Option, Some, None, IfSome, IsSomeAnd, MatchOption, Bor, get_or, Result, Ok, Err, string_bytes, refl, sym, ap, ◌∙◌, subst, arith}
+use Rattle.std.proofs.Common.{◌≡◌, ◌≢◌, ◌≤◌, ℕ, ◌+◌, inl, inr, ⊎_elim, List, [], ◌∷◌, length, map, take, Contains, Option, Some, None, IfSome, IsSomeAnd, Bor, Result, Ok, Err, string_bytes, refl, sym, ap, ◌∙◌, subst, arith}
 use Rattle.std.specs.List.{AllByRecursion, slice_get}
+use Rattle.std.proofs.lemmas.List.{take-map}
 use Rattle.std.proofs.lemmas.List.Elements.{All-contains, All-from_recursion}
-use Rattle.std.proofs.lemmas.List.{length-map}
-use Rattle.std.proofs.lemmas.Option.{slice_get_within}
+use Rattle.std.proofs.lemmas.Option.{slice_get-map}
+use Rattle.std.specs.Option.{option_map}
+use Rattle.fm_analysis.specs.Analysed.{IsAccepted}
 use Rattle.fm_base.proofs.ListFacts.{AllByRecursion-weaker}
 use Rattle.fm_base.proofs.OptionFacts.{Some-from_some_and, IsSome-from_some}
 use Rattle.fm_base.proofs.TestFacts.{same_or_other}
 use Rattle.fm_files.specs.Files.{Bytes, Contents, Disk}
+use Rattle.fm_code.specs.ClassBytes.{class_bytes}
 use Rattle.fm_code.specs.ConstantPool.{class_name_at}
-use Rattle.fm_code.specs.Profile.{IsWithinLimits}
+use Rattle.fm_code.specs.Profile.{IsWithinLimits, Profile}
+use Rattle.fm_code.specs.Spells.{HasSpelling, Spells}
 use Rattle.fm_code.specs.declared.class_file.ClassDef.{ClassDef}
-use Rattle.fm_tool.specs.Outside.{HasWriteFault}
+use Rattle.fm_tool.specs.Outside.{HasNoFault, HasWriteFault}
 use Rattle.fm_tool.specs.declared.refusal.Refusal.TheVariants as refusal
 use Rattle.fm_untyped.specs.Untyped.{AreTyped}
 use Rattle.fm_refuse.specs.Refused.{refusal_of}
+use Rattle.fm_rewrite.specs.Rewritten.{AreJudged, AreRewritten}
+use Rattle.fm_rewrite.specs.declared.counts.Count.{Count}
+use Rattle.fm_rewrite.specs.declared.error.RewriteFail.{RewriteFail}
+use Rattle.fm_rewrite.specs.declared.rewriting.Rewritten.{Rewritten}
 use Rattle.fm_world.specs.Causes.{Refusal}
 use Rattle.fm_world.specs.Linking.{refusals, IsLinked}
 use Rattle.fm_world.specs.Programs.{Program, program_of}
-use Rattle.freeme.specs.Ahead.{IsBuilt, AreBuilt, IsFirstAhead}
+use Rattle.freeme.proofs.WrittenLemmas.{one_count_each, written_accepted, written_apart, written_spelled}
+use Rattle.freeme.proofs.UnheldLemmas.{are_still}
+use Rattle.fm_written.specs.Names.{AreNew}
+use Rattle.fm_written.specs.Changed.{IsShort}
 use Rattle.fm_given.specs.Given.{IsFirstUntypedName, IsUntouched, IsNotLinked, IsNotTyped, AreChecked, given_program}
 use Rattle.fm_given.specs.Changes.{RisesOnlyAt, ChangesOnlyAt}
 use Rattle.freeme.specs.Request.{Job, given_of, job_of, main_name}
 use Rattle.fm_given.specs.Taking.{AreTaken, IsSpelled}
-use Rattle.freeme.specs.TopCall.{StaysWithin, IsNotYet, ArePassed, IsDone, ComesTo}
+use Rattle.freeme.specs.TopCall.{AreFreed, IsFirstCause, IsNotFreed, StaysWithin, IsDone, ComesTo, told_name}
 use Rattle.freeme.specs.Writing.{HasName, class_text, written_name, class_lines, IsClassFileIn, IsFileOf, AreWritten, AllWritten}
 use Rattle.fm_given.specs.Judging.{ComesOfProgram}
 use Rattle.fm_given.specs.Reading.{ReadsAll, AreRead}
+use Rattle.freeme.specs.inner.Freeing.{ComesOfFreeing}
 use Rattle.freeme.specs.inner.Writing.{AreApart, KeepsReads, ComesOfClasses}
+use Rattle.freeme.specs.declared.refusal.FreeRefusal.{FreeRefusal}
+use Rattle.freeme.specs.declared.refusal.FreeRefusal.TheVariants as free_refusal
 use Rattle.fm_given.specs.declared.refusal.JobRefusal.{JobRefusal}
 use Rattle.fm_given.specs.declared.refusal.JobRefusal.TheVariants as job_refusal
 use Rattle.fm_given.proofs.ChangesLemmas.{rises_of_kept, rises_then, changes_of_kept, changes_then, faultless_then, write_fault_then}
 use Rattle.freeme.specs.declared.request.Request.{Request}
-use Rattle.fm_given.proofs.ListLemmas.{name_at}
-use Rattle.fm_given.proofs.ReadLemmas.{same_number}
 use Rattle.fm_given.proofs.TakenLemmas.{are_spelled, are_within}
 
 -- ---- classes that are taken
@@ -44,23 +56,42 @@ have_names classes spelled = AllByRecursion-weaker IsSpelled HasName named class
   named : (c : ClassDef) → IsSpelled c → HasName c
   named c spells = let found = Some-from_some_and (class_name_at c.pool.entries c.this_class) _ spells.this_class in IsSome-from_some (class_name_at c.pool.entries c.this_class) found.0 found.1
 
--- classes that are built have names of their own
-pub are_apart : (classes : List ClassDef) → AreBuilt classes → AreApart classes
-are_apart classes built place = at (slice_get classes place) (built place) where
-  at : (o : Option ClassDef) → IfSome o (IsBuilt classes place) → IfSome o (λ c. ¬ Contains (map class_text (take place classes)) (class_text c))
+-- they are accepted, and no longer than a file may be
+accepted_classes : (contents : Contents) (files : List Bytes) (classes : List ClassDef) → AreTaken contents files classes → AllByRecursion IsAccepted classes
+accepted_classes contents [] [] taken = tt
+accepted_classes contents (f ∷ files) (c ∷ classes) taken = (
+  record { spelled = (class_bytes c, taken.0.spelled); within = taken.0.profile.limits; supported = taken.0.profile.supported },
+  accepted_classes contents files classes taken.1,
+)
+accepted_classes contents [] (c ∷ classes) taken = absurd taken
+accepted_classes contents (f ∷ files) [] taken = absurd taken
+
+short_classes : (contents : Contents) (files : List Bytes) (classes : List ClassDef) → AreTaken contents files classes → AllByRecursion IsShort classes
+short_classes contents [] [] taken = tt
+short_classes contents (f ∷ files) (c ∷ classes) taken = (taken.0.short, short_classes contents files classes taken.1)
+short_classes contents [] (c ∷ classes) taken = absurd taken
+short_classes contents (f ∷ files) [] taken = absurd taken
+
+have_profiles : (contents : Contents) (files : List Bytes) (classes : List ClassDef) → AreTaken contents files classes → AllByRecursion Profile classes
+have_profiles contents [] [] taken = tt
+have_profiles contents (f ∷ files) (c ∷ classes) taken = (taken.0.profile, have_profiles contents files classes taken.1)
+have_profiles contents [] (c ∷ classes) taken = absurd taken
+have_profiles contents (f ∷ files) [] taken = absurd taken
+
+-- the only bytes that spell a class are its own
+are_spelled_so : (classes : List ClassDef) → AllByRecursion HasSpelling classes → AllByRecursion IsSpelled classes
+are_spelled_so classes = AllByRecursion-weaker HasSpelling IsSpelled (λ c h. subst (λ (bytes : List ℕ). Spells bytes c) h.1.bytes_are h.1) classes
+
+-- classes whose names as texts are new each are apart
+apart_of : (classes : List ClassDef) → AreNew (map class_text classes) → AreApart classes
+apart_of classes new place = at (slice_get classes place) refl where
+  at : (o : Option ClassDef) → slice_get classes place ≡ o → IfSome o (λ c. ¬ Contains (map class_text (take place classes)) (class_text c))
   at None is = tt
-  at (Some c) is = is.new_name
-
--- no class is ahead
-pub all_built : {ahead : Option ℕ} (classes : List ClassDef) → ahead ≡ None → MatchOption ahead (AreBuilt classes) (IsFirstAhead classes) → AreBuilt classes
-all_built classes none says = let P : Option ℕ → Type 0 = λ o. MatchOption o (AreBuilt classes) (IsFirstAhead classes) in subst P none says
-
--- the first class that isn't built has a file
-pub has_file : (contents : Contents) (files : List Bytes) (classes : List ClassDef) (place : ℕ) → AreTaken contents files classes → IsFirstAhead classes place → place < length files
-has_file contents files classes place taken first =
-    let found = Some-from_some_and (slice_get classes place) _ first.ahead in
-    let within = slice_get_within classes place found.0 found.1 in
-    omega (arith, same_number contents files classes taken)
+  at (Some c) is =
+      let there : slice_get (map class_text classes) place ≡ Some (class_text c) = slice_get-map class_text classes place ∙ ap (option_map class_text) is in
+      let P : Option (List ℕ) → Type 0 = λ o. IfSome o (λ text. ¬ Contains (take place (map class_text classes)) text) in
+      let Q : List (List ℕ) → Type 0 = λ texts. ¬ Contains texts (class_text c) in
+      subst Q (take-map class_text place classes) (subst P there (new place))
 
 -- ---- after the files are read
 
@@ -83,14 +114,14 @@ module _ (job : Job) (old new : Disk) (classes : List ClassDef) (read : AreRead 
     untouched = read_untouched;
   }
 
-  -- a class isn't built
-  pub is_not_yet : (place : ℕ) (file : Bytes) → AreChecked (given_of job) old.contents classes → IsFirstAhead classes place → slice_get job.files place ≡ Some file → IsNotYet job file old new
-  is_not_yet place file checked first there = record {
+  -- there is a cause not to rewrite it
+  pub is_not_freed : (cause : RewriteFail) (name : Bytes) → AreChecked (given_of job) old.contents classes → IsFirstCause classes (main_name job) cause
+      → name ≡ told_name (given_program (given_of job) classes).outline cause → IsNotFreed job cause name old new
+  is_not_freed cause name checked refused is = record {
     classes = classes;
     checked = checked;
-    place = place;
-    ahead = first;
-    there = there;
+    refused = refused;
+    name_is = is;
     untouched = read_untouched;
   }
 
@@ -160,43 +191,42 @@ module _ (job : Job) (old between new : Disk) (all : ReadsAll job.files old betw
     contents = let P : Contents → Type 0 = λ c. ChangesOnlyAt (IsClassFileIn job.folder) c new.contents in subst P same_contents writes.contents;
   }
 
-  module _ (classes : List ClassDef) (read : AreRead job.files classes old between) (checked : AreChecked (given_of job) old.contents classes) (built : AreBuilt classes) where
-    passed : ArePassed job old.contents classes
-    passed = record { checked = checked; built = built }
-
+  module _ (made : Rewritten) (faultless : HasNoFault old between) (freed : AreFreed job old.contents made) where
     written : (begun done : List ClassDef) → AreWritten job.folder done begun between.contents new.contents → AreWritten job.folder done begun old.contents new.contents
     written begun done = let P : Contents → Type 0 = λ c. AreWritten job.folder done begun c new.contents in subst P same_contents
 
     -- all are written
-    pub is_done : (lines : List ℕ) → lines ≡ class_lines classes → AllWritten job.folder classes between new → IsDone job lines old new
+    pub is_done : (lines : List ℕ) → lines ≡ class_lines made.classes.items made.counts.items → AllWritten job.folder made.classes.items between new → IsDone job lines old new
     is_done lines is now = record {
-      classes = classes;
-      passed = passed;
-      written = record { written = written classes classes now.written; faultless = faultless_then old between new read.faultless now.faultless };
+      made = made;
+      freed = freed;
+      written = record { written = written made.classes.items made.classes.items now.written; faultless = faultless_then old between new faultless now.faultless };
+      unheld = are_still freed.classes (main_name job) made job.folder job.files old.contents new.contents freed.checked.linked.taken.taken freed.rewritten
+          (written made.classes.items made.classes.items now.written).hold;
       lines_are = is;
     }
 
     -- a write didn't come off
-    pub write_ended : (r : JobRefusal) → ComesOfClasses job.folder classes between new (Err r) → ComesTo job old new (Err r)
+    pub write_ended : (r : JobRefusal) → ComesOfClasses job.folder made.classes.items between new (Err r) → ComesTo job old new (Err (free_refusal.Job r))
     write_ended (job_refusal.Write name) now = record {
-      classes = classes;
-      passed = passed;
+      made = made;
+      freed = freed;
       fails = record {
         count = now.count;
         class = now.class;
         next = now.next;
         name_is = now.name_is;
-        written = written (take (now.count + 1) classes) (take now.count classes) now.written;
-        fault = write_fault_then (string_bytes name) old between new read.faultless now.fault;
+        written = written (take (now.count + 1) made.classes.items) (take now.count made.classes.items) now.written;
+        fault = write_fault_then (string_bytes name) old between new faultless now.fault;
       };
     }
     write_ended (job_refusal.Shared refusal.OutOfMemory) now = inr (record {
-      classes = classes;
-      passed = passed;
+      made = made;
+      freed = freed;
       written = record {
         count = now.count;
-        written = written (take now.count classes) (take now.count classes) now.written;
-        faultless = faultless_then old between new read.faultless now.faultless;
+        written = written (take now.count made.classes.items) (take now.count made.classes.items) now.written;
+        faultless = faultless_then old between new faultless now.faultless;
       };
     })
     write_ended r now = absurd now
@@ -233,7 +263,7 @@ module _ {request : Request} {names : List (Bor Bytes)} {classes : List ClassDef
   within = are_within old.contents (job_of request).files classes reads.read.taken.taken
 
   -- or a program of which a method isn't typed
-  pub ends_refused : (r : JobRefusal) → ComesOfProgram classes (main_name (job_of request)) (Err r) → ComesTo (job_of request) old between (Err r)
+  pub ends_refused : (r : JobRefusal) → ComesOfProgram classes (main_name (job_of request)) (Err r) → ComesTo (job_of request) old between (Err (free_refusal.Job r))
   ends_refused (job_refusal.Link fail) now = is_not_linked (job_of request) old between classes reads.read reads.all (refusal_of fail) now
   ends_refused (job_refusal.Check name) now = is_not_typed (job_of request) old between classes reads.read reads.all name now.0 now.1
   ends_refused (job_refusal.Shared refusal.OutOfMemory) now = inl (read_untouched (job_of request) old between classes reads.read reads.all)
@@ -243,33 +273,76 @@ module _ {request : Request} {names : List (Bor Bytes)} {classes : List ClassDef
   pub are_checked : {program : Program} → IsLinked classes (main_name (job_of request)) (Ok program) × AreTyped (program_of classes (main_name (job_of request))) → AreChecked (given_of (job_of request)) old.contents classes
   are_checked (linked, typed) = record { linked = record { taken = reads.read.taken; linked = linked.0 }; typed = typed }
 
-  -- the name of the first class that isn't built is there
-  module _ {ahead : Option ℕ} (place : ℕ) (found : ahead ≡ Some place) (says : MatchOption ahead (AreBuilt classes) (IsFirstAhead classes)) where
-    first : IsFirstAhead classes place
-    first = let P : Option ℕ → Type 0 = λ o. MatchOption o (AreBuilt classes) (IsFirstAhead classes) in subst P found says
+  -- the program is that of judged class files
+  pub are_judged : {program : Program} → IsLinked classes (main_name (job_of request)) (Ok program) × AreTyped (program_of classes (main_name (job_of request))) → AreJudged classes program
+  are_judged (linked, typed) = record {
+    main = main_name (job_of request);
+    program_is = linked.1;
+    accepted = accepted_classes old.contents (job_of request).files classes reads.read.taken.taken;
+    linked = linked.0;
+    typed = typed;
+  }
 
-    pub has_name : place < length names
-    has_name =
-        let within = has_file old.contents (job_of request).files classes place reads.read.taken.taken first in
-        let same : length names ≡ length (job_of request).files = sym (length-map names (λ n. n.now)) ∙ ap length reads.files_are in
-        omega (arith, within, same)
+  -- a program that isn't rewritten
+  pub ends_not_freed : AreChecked (given_of (job_of request)) old.contents classes → (r : FreeRefusal) → ComesOfFreeing classes (main_name (job_of request)) (Err r) → ComesTo (job_of request) old between (Err r)
+  ends_not_freed checked (free_refusal.Rewrite cause name) now = is_not_freed (job_of request) old between classes reads.read reads.all cause name checked now.0 now.1
+  ends_not_freed checked (free_refusal.Job (job_refusal.Shared refusal.OutOfMemory)) now = inl (read_untouched (job_of request) old between classes reads.read reads.all)
+  ends_not_freed checked r now = absurd now
 
-    pub ends_not_yet : (d : Bor Bytes) → AreChecked (given_of (job_of request)) old.contents classes → IsNotYet (job_of request) (get_or names place d).now old between
-    ends_not_yet d checked =
-        is_not_yet (job_of request) old between classes reads.read reads.all place (get_or names place d).now checked first
-        (sym (ap (λ fs. slice_get fs place) reads.files_are) ∙ name_at names place d has_name)
+  -- the classes that are rewritten, with what is told of them
+  module _ (checked : AreChecked (given_of (job_of request)) old.contents classes) (made : Rewritten) (rewritten : AreRewritten classes (main_name (job_of request)) made) where
+    judged : AreJudged classes (program_of classes (main_name (job_of request)))
+    judged = record {
+      main = main_name (job_of request);
+      program_is = refl;
+      accepted = accepted_classes old.contents (job_of request).files classes reads.read.taken.taken;
+      linked = checked.linked.linked;
+      typed = checked.typed;
+    }
 
-  -- the classes are written, or a write didn't come off
-  module _ {new : Disk} (keeps : KeepsReads between new) where
-    pub ends_within : (r : Result Unit JobRefusal) → ComesOfClasses request.folder.now classes between new r → StaysWithin (job_of request) old new
-    ends_within r comes = writes_within (job_of request) old between new reads.all keeps (writes_in request.folder.now classes between new r comes)
+    made_spelled : AllByRecursion IsSpelled made.classes.items
+    made_spelled =
+        are_spelled_so made.classes.items
+        (written_spelled classes (main_name (job_of request)) made judged (short_classes old.contents (job_of request).files classes reads.read.taken.taken) rewritten)
 
-    module _ {ahead : Option ℕ} (checked : AreChecked (given_of (job_of request)) old.contents classes) (none : ahead ≡ None) (says : MatchOption ahead (AreBuilt classes) (IsFirstAhead classes)) where
-      built : AreBuilt classes
-      built = all_built classes none says
+    freed : AreFreed (job_of request) old.contents made
+    freed = record {
+      classes = classes;
+      checked = checked;
+      rewritten = rewritten;
+      spelled = made_spelled;
+      profile =
+          written_accepted classes (main_name (job_of request)) made judged (have_profiles old.contents (job_of request).files classes reads.read.taken.taken) rewritten;
+    }
 
-      pub ends_done : (lines : List ℕ) → lines ≡ class_lines classes → AllWritten request.folder.now classes between new → IsDone (job_of request) lines old new
-      ends_done lines is now = is_done (job_of request) old between new reads.all keeps classes reads.read checked built lines is now
+    -- and by slices of both
+    module _ {written : List ClassDef} (lent : written ≡ made.classes.items) where
+      pub lent_spelled : AllByRecursion IsSpelled written
+      lent_spelled = subst (AllByRecursion IsSpelled) (sym lent) made_spelled
 
-      pub ends_unwritten : (r : JobRefusal) → ComesOfClasses request.folder.now classes between new (Err r) → ComesTo (job_of request) old new (Err r)
-      ends_unwritten r now = write_ended (job_of request) old between new reads.all keeps classes reads.read checked built r now
+      pub lent_named : AllByRecursion HasName written
+      lent_named = have_names written lent_spelled
+
+      pub lent_apart : AreApart written
+      lent_apart = subst AreApart (sym lent) (apart_of made.classes.items (written_apart classes (main_name (job_of request)) made judged rewritten))
+
+      pub lent_counted : {counts : List Count} → counts ≡ made.counts.items → length counts ≡ length written
+      lent_counted told = ap length told ∙ one_count_each classes (main_name (job_of request)) made rewritten ∙ ap length (sym lent)
+
+  -- they are written, or a write didn't come off
+  module _ {new : Disk} (keeps : KeepsReads between new) (written : List ClassDef) where
+    pub ends_within : (r : Result Unit JobRefusal) → ComesOfClasses request.folder.now written between new r → StaysWithin (job_of request) old new
+    ends_within r comes = writes_within (job_of request) old between new reads.all keeps (writes_in request.folder.now written between new r comes)
+
+  module _ {new : Disk} (keeps : KeepsReads between new) (checked : AreChecked (given_of (job_of request)) old.contents classes) (made : Rewritten) (rewritten : AreRewritten classes (main_name (job_of request)) made) {written : List ClassDef} (lent : written ≡ made.classes.items) where
+    pub ends_done : {counts : List Count} (lines : List ℕ) → counts ≡ made.counts.items → lines ≡ class_lines written counts → AllWritten request.folder.now written between new
+        → IsDone (job_of request) lines old new
+    ends_done lines told is now =
+        let P : List ClassDef → Type 0 = λ cs. AllWritten request.folder.now cs between new in
+        is_done (job_of request) old between new reads.all keeps made reads.read.faultless (freed checked made rewritten) lines
+        (is ∙ ap (class_lines written) told ∙ ap (λ (cs : List ClassDef). class_lines cs made.counts.items) lent) (subst P lent now)
+
+    pub ends_unwritten : (r : JobRefusal) → ComesOfClasses request.folder.now written between new (Err r) → ComesTo (job_of request) old new (Err (free_refusal.Job r))
+    ends_unwritten r now =
+        let P : List ClassDef → Type 0 = λ cs. ComesOfClasses request.folder.now cs between new (Err r) in
+        write_ended (job_of request) old between new reads.all keeps made reads.read.faultless (freed checked made rewritten) r (subst P lent now)

@@ -1,6 +1,9 @@
-pub mod AheadLemmas
 pub mod CauseLemmas
+pub mod FreeingLemmas
 pub mod JobLemmas
 pub mod RequestLemmas
 pub mod StatusLemmas
+pub mod UnheldLemmas
+pub mod WovenFew
 pub mod WriteLemmas
+pub mod WrittenLemmas

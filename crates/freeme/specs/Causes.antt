@@ -1,27 +1,35 @@
 -- When each status comes, and what a call leaves then. All this follows from what a call does as a whole; a caller reads it one by one.
-use Rattle.std.specs.Prelude.{◌≡◌, ℕ, ◌<◌, ◌⊎◌, List, [], ◌∷◌, Contains, length, IsSome, Some}
+use Rattle.std.specs.Prelude.{◌≡◌, ℕ, ◌<◌, ◌⊎◌, List, [], ◌∷◌, Contains, length, Option, Some, None, IsSome}
 use Rattle.fm_files.specs.Files.{Bytes, Disk}
 use Rattle.fm_files.specs.Sink.{Output, FailsPut, with_piece}
 use Rattle.fm_code.specs.declared.class_file.ClassDef.{ClassDef}
 use Rattle.fm_tool.specs.Outside.{HasNoFault}
-use Rattle.fm_tool.specs.Refusal.{words_line, read_line, not_yet_line, memory_line}
+use Rattle.fm_tool.specs.Refusal.{words_line, read_line, memory_line}
 use Rattle.fm_tool.specs.Status.{ComesExactly}
-use Rattle.fm_tool.specs.declared.status.TheConstants.{DONE, WORDS, READ, MALFORMED, VERSION, LIMIT, UNSUPPORTED, LINK, CHECK, WRITE, OUT_OF_MEMORY, NOT_YET}
+use Rattle.fm_tool.specs.declared.status.TheConstants.{DONE, WORDS, READ, MALFORMED, VERSION, LIMIT, UNSUPPORTED, LINK, CHECK, WRITE, OUT_OF_MEMORY}
+use Rattle.fm_conn.specs.Facts.{AreFacts, Facts}
+use Rattle.fm_place.specs.Safe.{full_plans}
+use Rattle.fm_analysis.specs.Analysed.{AreLeastTypings}
+use Rattle.fm_rewrite.specs.FreeCalls.{first_call}
+use Rattle.fm_rewrite.specs.Rewritten.{first_cause}
+use Rattle.fm_rewrite.specs.declared.error.RewriteFail.{RewriteFail}
 use Rattle.fm_world.specs.Causes.{Refusal}
-use Rattle.freeme.specs.Ahead.{AreBuilt}
+use Rattle.fm_world.specs.Programs.{program_of}
 use Rattle.fm_given.specs.ClassRefusal.{class_refusal_line, class_refusal_status}
 use Rattle.fm_given.specs.LinkRefusal.{link_line}
 use Rattle.fm_given.specs.Refusal.{check_line, many_line, long_line, write_line}
-use Rattle.freeme.specs.Request.{Job, Asks, AskNothing, given_of}
-use Rattle.freeme.specs.TopCall.{StaysWithin, ArePassed, IsDone, IsUnwritten, IsBroken, IsNotYet, Outcome, ComesOf, outcome_line}
+use Rattle.freeme.specs.Refusal.{rewrite_line, rewrite_status}
+use Rattle.freeme.specs.Request.{Job, Asks, AskNothing, given_of, main_name}
+use Rattle.freeme.specs.TopCall.{StaysWithin, IsDone, IsUnwritten, IsBroken, IsNotFreed, Outcome, ComesOf, outcome_line}
+use Rattle.freeme.specs.declared.status.TheConstants.{CALLS_FREE, POOL_FULL, METHOD_TOO_LONG}
 use Rattle.fm_given.specs.Causes.{FailsARead, FailsAWrite, HasTooMany, IsMissing, IsKnownLong, IsKnownRefused, IsKnownUnlinked, IsKnownUntyped}
-use Rattle.fm_given.specs.Given.{Given, IsUntouched, AreMany, IsUnread, IsLong, IsRefusedFile, IsNotLinked, IsNotTyped, AreChecked}
+use Rattle.fm_given.specs.Given.{Given, IsUntouched, AreMany, IsUnread, IsLong, IsRefusedFile, IsNotLinked, IsNotTyped, AreChecked, given_program}
 use Rattle.fm_given.specs.declared.class_refusal.ClassRefusal.{ClassRefusal}
 
 -- there is no other status
 abbrev pub IsStatus : ℕ → Type 0
 IsStatus result =
-    Contains (DONE ∷ WORDS ∷ READ ∷ MALFORMED ∷ VERSION ∷ LIMIT ∷ UNSUPPORTED ∷ LINK ∷ CHECK ∷ WRITE ∷ OUT_OF_MEMORY ∷ NOT_YET ∷ []) result
+    Contains (DONE ∷ WORDS ∷ READ ∷ MALFORMED ∷ VERSION ∷ LIMIT ∷ UNSUPPORTED ∷ LINK ∷ CHECK ∷ CALLS_FREE ∷ POOL_FULL ∷ METHOD_TOO_LONG ∷ WRITE ∷ OUT_OF_MEMORY ∷ []) result
 
 -- the words ask for a job such as this
 abbrev pub AskFor : List Bytes → (Job → Type 0) → Type 0
@@ -137,33 +145,48 @@ abbrev pub IsForCheck : List Bytes → Disk → Disk → Output → Output → �
 IsForCheck words old new before after result =
     ComesExactly CHECK (READ ∷ WRITE ∷ OUT_OF_MEMORY ∷ []) result (SaysCheck words old new before after) (AskForGiven words (IsKnownUntyped old))
 
--- ---- 77
+-- ---- 72, 73 and 74
 
--- all files of the job are taken, their classes make a program, its methods are typed, the class of one is the first that isn't built so far,
--- nothing failed, no contents changed, and the sink got one line
-pub record SaysNotYet (words : List Bytes) (old new : Disk) (before after : Output) : Type 0 where
+-- all files of the job are taken, their classes make a program, its methods are typed, there is a cause of this status not to rewrite it, of which the
+-- line tells the first one, nothing failed, no contents changed, and the sink got that line
+pub record SaysNotFreed (status : ℕ) (words : List Bytes) (old new : Disk) (before after : Output) : Type 0 where
   pub job : Job
   pub asked : Asks words job
-  pub file : Bytes
-  pub ahead : IsNotYet job file old new
-  pub line : after ≡ with_piece (not_yet_line file) before
+  pub cause : RewriteFail
+  pub status_is : rewrite_status cause ≡ status
+  pub name : Bytes
+  pub refused : IsNotFreed job cause name old new
+  pub line : after ≡ with_piece (rewrite_line cause name) before
 
--- contents are known, all files of the job are taken, their classes make a program, its methods are typed, and one class isn't built so far
-pub record IsKnownAhead (old : Disk) (job : Job) : Type 0 where
+-- the status of what becomes of classes by their first cause, if there is one
+abbrev pub cause_status : Option RewriteFail → ℕ
+cause_status None = DONE
+cause_status (Some cause) = rewrite_status cause
+
+-- This status comes of classes with a main class: as their program calls FreeMe, or else by all exact facts of it, with least typings. These facts differ in
+-- the numbers of classes alone.
+abbrev pub BecomesAs : ℕ → List ClassDef → List ℕ → Option (ℕ × ℕ) → Type 0
+BecomesAs status classes main (Some call) = CALLS_FREE ≡ status
+BecomesAs status classes main None =
+    (facts : Facts) → AreFacts (program_of classes main) facts → AreLeastTypings (program_of classes main) facts.typing
+    → cause_status (first_cause (full_plans (program_of classes main) facts) classes) ≡ status
+
+-- contents are known, all files of the job are taken, their classes make a program, its methods are typed, and this status comes of it
+pub record IsKnownAs (status : ℕ) (old : Disk) (job : Job) : Type 0 where
   pub known : IsSome old.contents
   pub classes : List ClassDef
   pub checked : AreChecked (given_of job) old.contents classes
-  pub ahead : ¬ AreBuilt classes
+  pub becomes : BecomesAs status classes (main_name job) (first_call (given_program (given_of job) classes))
 
 -- exactly there, unless a read or the put fails or memory can't be had
-abbrev pub IsForNotYet : List Bytes → Disk → Disk → Output → Output → ℕ → Type 0
-IsForNotYet words old new before after result =
-    ComesExactly NOT_YET (READ ∷ WRITE ∷ OUT_OF_MEMORY ∷ []) result (SaysNotYet words old new before after) (AskFor words (IsKnownAhead old))
+abbrev pub IsForRewrite : ℕ → List Bytes → Disk → Disk → Output → Output → ℕ → Type 0
+IsForRewrite status words old new before after result =
+    ComesExactly status (READ ∷ WRITE ∷ OUT_OF_MEMORY ∷ []) result (SaysNotFreed status words old new before after) (AskFor words (IsKnownAs status old))
 
 -- ---- 0
 
--- all files of the job are taken, their classes make a program, its methods are typed, the classes are built and written, nothing failed, every
--- other name is as before, and the sink got their lines as one piece
+-- all files of the job are taken, their classes make a program, its methods are typed, its classes are written with what frees their dead objects, nothing
+-- failed, every other name is as before, and the sink got the lines of the classes as one piece
 pub record SaysDone (words : List Bytes) (old new : Disk) (before after : Output) : Type 0 where
   pub job : Job
   pub asked : Asks words job
@@ -171,16 +194,10 @@ pub record SaysDone (words : List Bytes) (old new : Disk) (before after : Output
   pub done : IsDone job lines old new
   pub line : after ≡ with_piece lines before
 
--- contents are known, all files of the job are taken, their classes make a program, its methods are typed, and the classes are built so far
-pub record IsKnownPassed (old : Disk) (job : Job) : Type 0 where
-  pub known : IsSome old.contents
-  pub classes : List ClassDef
-  pub passed : ArePassed job old.contents classes
-
--- exactly there, unless a read, a write or the put fails or memory can't be had
+-- exactly where there is no cause against it, unless a read, a write or the put fails or memory can't be had
 abbrev pub IsForDone : List Bytes → Disk → Disk → Output → Output → ℕ → Type 0
 IsForDone words old new before after result =
-    ComesExactly DONE (READ ∷ WRITE ∷ OUT_OF_MEMORY ∷ []) result (SaysDone words old new before after) (AskFor words (IsKnownPassed old))
+    ComesExactly DONE (READ ∷ WRITE ∷ OUT_OF_MEMORY ∷ []) result (SaysDone words old new before after) (AskFor words (IsKnownAs DONE old))
 
 -- ---- 75
 
@@ -230,12 +247,12 @@ IsForMemory words old new before after result = result ≡ OUT_OF_MEMORY → Say
 -- at a status that isn't for a fault or for memory, no count of faults rose in this call
 abbrev pub IsFaultless : Disk → Disk → Output → Output → ℕ → Type 0
 IsFaultless old new before after result =
-    Contains (DONE ∷ WORDS ∷ MALFORMED ∷ VERSION ∷ LIMIT ∷ UNSUPPORTED ∷ LINK ∷ CHECK ∷ NOT_YET ∷ []) result → HasNoFault old new × (after.faults ≡ before.faults)
+    Contains (DONE ∷ WORDS ∷ MALFORMED ∷ VERSION ∷ LIMIT ∷ UNSUPPORTED ∷ LINK ∷ CHECK ∷ CALLS_FREE ∷ POOL_FULL ∷ METHOD_TOO_LONG ∷ []) result → HasNoFault old new × (after.faults ≡ before.faults)
 
 -- a refusal before the first write leaves all contents as they were
 abbrev pub KeepsContents : Disk → Disk → ℕ → Type 0
 KeepsContents old new result =
-    Contains (WORDS ∷ READ ∷ MALFORMED ∷ VERSION ∷ LIMIT ∷ UNSUPPORTED ∷ LINK ∷ CHECK ∷ NOT_YET ∷ []) result → new.contents ≡ old.contents
+    Contains (WORDS ∷ READ ∷ MALFORMED ∷ VERSION ∷ LIMIT ∷ UNSUPPORTED ∷ LINK ∷ CHECK ∷ CALLS_FREE ∷ POOL_FULL ∷ METHOD_TOO_LONG ∷ []) result → new.contents ≡ old.contents
 
 -- a job reads its files alone and changes no name but those of class files in its folder, and words that ask for nothing leave the files as they were
 pub record ChangesOnly (words : List Bytes) (old new : Disk) : Type 0 where

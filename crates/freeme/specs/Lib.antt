@@ -1,6 +1,6 @@
 pub mod inner
 pub mod Request
-pub mod Ahead
+pub mod Refusal
 pub mod Writing
 pub mod TopCall
 pub mod Causes

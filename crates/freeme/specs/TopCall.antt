@@ -1,20 +1,30 @@
 -- What one call of the program does to the files and to the sink.
 use Rattle.std.specs.declared.alloc.Global.{Global}
-use Rattle.std.specs.Prelude.{◌≡◌, ℕ, ◌⊎◌, List, Contains, Result, Ok, Err, Some, slice_get, String, string_bytes}
+use Rattle.std.specs.Prelude.{◌≡◌, ℕ, ◌⊎◌, List, [], ◌∷◌, Contains, IfSome, Result, Ok, Err, String, string_bytes}
+use Rattle.std.specs.List.{AllByRecursion}
 use Rattle.fm_files.specs.Files.{Bytes, Contents, Disk}
 use Rattle.fm_files.specs.Sink.{Output}
+use Rattle.fm_code.specs.Profile.{Profile}
 use Rattle.fm_code.specs.declared.class_file.ClassDef.{ClassDef}
 use Rattle.fm_refuse.specs.Refused.{refusal_of}
+use Rattle.fm_rewrite.specs.Rewritten.{AreRewritten, ComesOfRewriting}
+use Rattle.fm_rewrite.specs.declared.counts.Count.{Count}
+use Rattle.fm_rewrite.specs.declared.error.RewriteFail.{RewriteFail}
+use Rattle.fm_rewrite.specs.declared.error.RewriteFail.TheVariants as fail
+use Rattle.fm_rewrite.specs.declared.rewriting.Rewritten.{Rewritten}
 use Rattle.fm_tool.specs.Line.{Tells}
 use Rattle.fm_tool.specs.declared.refusal.Refusal.TheVariants as refusal
 use Rattle.fm_tool.specs.declared.status.TheConstants.{DONE}
-use Rattle.freeme.specs.Ahead.{AreBuilt, IsFirstAhead}
-use Rattle.fm_given.specs.Given.{IsUntouched, AreMany, IsUnread, IsLong, IsRefusedFile, IsNotLinked, IsNotTyped, AreChecked}
+use Rattle.fm_world.specs.Causes.{declared_name, method_text}
+use Rattle.fm_world.specs.Programs.{class_info, Outline}
+use Rattle.fm_given.specs.Given.{given_program, IsUntouched, AreMany, IsUnread, IsLong, IsRefusedFile, IsNotLinked, IsNotTyped, AreChecked}
+use Rattle.fm_given.specs.Taking.{IsSpelled}
 use Rattle.fm_given.specs.Changes.{RisesOnlyAt, ChangesOnlyAt, ReadsOnly}
-use Rattle.fm_given.specs.Refusal.{refusal_line, refusal_status}
-use Rattle.freeme.specs.Request.{Job, Asks, AskNothing, given_of}
-use Rattle.freeme.specs.Writing.{IsClassFileIn, class_lines, AllWritten, SomeWritten, FailsToWrite}
-use Rattle.fm_given.specs.declared.refusal.JobRefusal.{JobRefusal}
+use Rattle.freeme.specs.Refusal.{refusal_line, refusal_status}
+use Rattle.freeme.specs.Request.{Job, Asks, AskNothing, given_of, main_name}
+use Rattle.freeme.specs.Writing.{IsClassFileIn, written_name, class_lines, AllWritten, SomeWritten, FailsToWrite}
+use Rattle.freeme.specs.declared.refusal.FreeRefusal.{FreeRefusal}
+use Rattle.freeme.specs.declared.refusal.FreeRefusal.TheVariants as free_refusal
 use Rattle.fm_given.specs.declared.refusal.JobRefusal.TheVariants as job_refusal
 
 -- ---- what a job does whatever comes of it
@@ -27,57 +37,85 @@ pub record StaysWithin (job : Job) (old new : Disk) : Type 0 where
 
 -- ---- how a job comes out
 
--- its classes make a program of typed methods, and the class of this file is the first that isn't built so far
-pub record IsNotYet (job : Job) (file : Bytes) (old new : Disk) : Type 0 where
+-- Its class files make a program of typed methods that calls no FreeMe, and these are its classes with a holder for each held site that is freed at all
+-- places of its class, with what is told of each; no pool of them is full, and no method too long. The bytes of each class spell it, and it is of the profile.
+pub record AreFreed (job : Job) (contents : Contents) (made : Rewritten) : Type 0 where
   pub classes : List ClassDef
-  pub checked : AreChecked (given_of job) old.contents classes
-  pub place : ℕ
-  pub ahead : IsFirstAhead classes place
-  pub there : slice_get job.files place ≡ Some file
-  pub untouched : IsUntouched old new
-
--- they make such a program, and are built so far
-pub record ArePassed (job : Job) (contents : Contents) (classes : List ClassDef) : Type 0 where
   pub checked : AreChecked (given_of job) contents classes
-  pub built : AreBuilt classes
+  pub rewritten : AreRewritten classes (main_name job) made
+  pub spelled : AllByRecursion IsSpelled made.classes.items
+  pub profile : AllByRecursion Profile made.classes.items
 
--- their classes are written, and these are their lines
+-- where contents are known, the name holds now what the file held before
+abbrev pub HoldsStill : (file name : Bytes) → (old new : Contents) → Type 0
+HoldsStill file name old new = IfSome old (λ before. IfSome new (λ after. after name ≡ before file))
+
+-- of files with the classes that are written of them, and with what is told of these: each class of which no site is held is written byte for byte as read
+abbrev pub AreStill : (folder : Bytes) → List Bytes → List ClassDef → List Count → (old new : Contents) → Type 0
+AreStill folder [] [] [] old new = Unit {0}
+AreStill folder (file ∷ files) (c ∷ classes) (count ∷ counts) old new =
+    (count.sites ≡ 0 → HoldsStill file (written_name folder c) old new) × AreStill folder files classes counts old new
+AreStill folder files classes counts old new = ⊥
+
+-- they are written, and these are their lines
 pub record IsDone (job : Job) (lines : List ℕ) (old new : Disk) : Type 0 where
-  pub classes : List ClassDef
-  pub passed : ArePassed job old.contents classes
-  pub written : AllWritten job.folder classes old new
-  pub lines_are : lines ≡ class_lines classes
+  pub made : Rewritten
+  pub freed : AreFreed job old.contents made
+  pub written : AllWritten job.folder made.classes.items old new
+  pub unheld : AreStill job.folder job.files made.classes.items made.counts.items old.contents new.contents
+  pub lines_are : lines ≡ class_lines made.classes.items made.counts.items
 
 -- the write of one of them, to this name, failed
 pub record IsUnwritten (job : Job) (name : Bytes) (old new : Disk) : Type 0 where
-  pub classes : List ClassDef
-  pub passed : ArePassed job old.contents classes
-  pub fails : FailsToWrite job.folder classes name old new
+  pub made : Rewritten
+  pub freed : AreFreed job old.contents made
+  pub fails : FailsToWrite job.folder made.classes.items name old new
 
 -- some of them are written
 pub record IsBroken (job : Job) (old new : Disk) : Type 0 where
+  pub made : Rewritten
+  pub freed : AreFreed job old.contents made
+  pub written : SomeWritten job.folder made.classes.items old new
+
+-- the method or the class that a cause names, by its name
+abbrev pub told_name : Outline → RewriteFail → List ℕ
+told_name o (fail.CallsFree method offset) = method_text (declared_name o.classes method.0)
+told_name o (fail.PoolFull class indices) = (class_info o class.0).name
+told_name o (fail.MethodTooLong method bytes) = method_text (declared_name o.classes method.0)
+told_name o fail.NoMemory = []
+
+-- class files with this main class aren't rewritten for this cause, which is the first one
+abbrev pub IsFirstCause : List ClassDef → List ℕ → RewriteFail → Type 0
+IsFirstCause classes main fail.NoMemory = ⊥
+IsFirstCause classes main cause = ComesOfRewriting classes main (Err cause)
+
+-- its class files make a program of typed methods, and this is the first cause for which it isn't rewritten: a method calls FreeMe, or else the pool of a
+-- class with a held site is full, or else a method is too long
+pub record IsNotFreed (job : Job) (cause : RewriteFail) (name : Bytes) (old new : Disk) : Type 0 where
   pub classes : List ClassDef
-  pub passed : ArePassed job old.contents classes
-  pub written : SomeWritten job.folder classes old new
+  pub checked : AreChecked (given_of job) old.contents classes
+  pub refused : IsFirstCause classes (main_name job) cause
+  pub name_is : name ≡ told_name (given_program (given_of job) classes).outline cause
+  pub untouched : IsUntouched old new
 
 -- how it comes out: with lines that tell of what is written, or with why it isn't done
 abbrev pub Outcome : Type 0
-Outcome = Result (String Global) JobRefusal
+Outcome = Result (String Global) FreeRefusal
 
 -- what a job that comes out so does to the files
 abbrev pub ComesTo : Job → Disk → Disk → Outcome → Type 0
 ComesTo job old new (Ok lines) = IsDone job (string_bytes lines) old new
-ComesTo job old new (Err (job_refusal.Write name)) = IsUnwritten job (string_bytes name) old new
-ComesTo job old new (Err (job_refusal.TooManyFiles count)) = AreMany job.files count old new
-ComesTo job old new (Err (job_refusal.TooLong file)) = IsLong job.files file.now old new
-ComesTo job old new (Err (job_refusal.Class file refusal)) = IsRefusedFile job.files file.now refusal old new
-ComesTo job old new (Err (job_refusal.Shared (refusal.Read file))) = IsUnread job.files file.now old new
-ComesTo job old new (Err (job_refusal.Link fail)) = IsNotLinked (given_of job) (refusal_of fail) old new
-ComesTo job old new (Err (job_refusal.Check name)) = IsNotTyped (given_of job) name old new
-ComesTo job old new (Err (job_refusal.Shared (refusal.NotYet file))) = IsNotYet job file.now old new
-ComesTo job old new (Err (job_refusal.Shared refusal.OutOfMemory)) = IsUntouched old new ⊎ IsBroken job old new
-ComesTo job old new (Err (job_refusal.Shared refusal.Words)) = ⊥
-ComesTo job old new (Err (job_refusal.TooManyArguments count)) = ⊥
+ComesTo job old new (Err (free_refusal.Rewrite cause name)) = IsNotFreed job cause name old new
+ComesTo job old new (Err (free_refusal.Job (job_refusal.Write name))) = IsUnwritten job (string_bytes name) old new
+ComesTo job old new (Err (free_refusal.Job (job_refusal.TooManyFiles count))) = AreMany job.files count old new
+ComesTo job old new (Err (free_refusal.Job (job_refusal.TooLong file))) = IsLong job.files file.now old new
+ComesTo job old new (Err (free_refusal.Job (job_refusal.Class file refusal))) = IsRefusedFile job.files file.now refusal old new
+ComesTo job old new (Err (free_refusal.Job (job_refusal.Shared (refusal.Read file)))) = IsUnread job.files file.now old new
+ComesTo job old new (Err (free_refusal.Job (job_refusal.Link fail))) = IsNotLinked (given_of job) (refusal_of fail) old new
+ComesTo job old new (Err (free_refusal.Job (job_refusal.Check name))) = IsNotTyped (given_of job) name old new
+ComesTo job old new (Err (free_refusal.Job (job_refusal.Shared refusal.OutOfMemory))) = IsUntouched old new ⊎ IsBroken job old new
+ComesTo job old new (Err (free_refusal.Job (job_refusal.Shared refusal.Words))) = ⊥
+ComesTo job old new (Err (free_refusal.Job (job_refusal.TooManyArguments count))) = ⊥
 
 -- ---- a call
 
@@ -91,12 +129,12 @@ pub record ComesOfJob (words : List Bytes) (old new : Disk) (outcome : Outcome) 
 -- the words ask for nothing, which is refused, and leaves the files as they were
 pub record ComesOfNothing (words : List Bytes) (old new : Disk) (outcome : Outcome) : Type 0 where
   pub unasked : AskNothing words
-  pub refused : outcome ≡ Err (job_refusal.Shared refusal.Words)
+  pub refused : outcome ≡ Err (free_refusal.Job (job_refusal.Shared refusal.Words))
   pub kept : new ≡ old
 
 -- memory to read the words can't be had, and the files are as they were
 pub record LacksRequest (old new : Disk) (outcome : Outcome) : Type 0 where
-  pub refused : outcome ≡ Err (job_refusal.Shared refusal.OutOfMemory)
+  pub refused : outcome ≡ Err (free_refusal.Job (job_refusal.Shared refusal.OutOfMemory))
   pub kept : new ≡ old
 
 -- what words that come out so do to the files

@@ -1,10 +1,12 @@
 -- The names and the lines of classes, and what is written of them.
 use Rattle.std.specs.Prelude.{◌≡◌, ℕ, ◌+◌, List, [], ◌∷◌, ◌++◌, codes, map, take, unwrap_or, Contains, Some, IsSome, slice_get}
-use Rattle.std.specs.List.{AllByRecursion, flat_map}
+use Rattle.std.specs.Fmt.{decimal}
+use Rattle.std.specs.List.{AllByRecursion}
 use Rattle.fm_files.specs.Files.{Bytes, Contents, Disk, Holds}
 use Rattle.fm_code.specs.ClassBytes.{class_bytes}
 use Rattle.fm_code.specs.ConstantPool.{class_name_at}
 use Rattle.fm_code.specs.declared.class_file.ClassDef.{ClassDef}
+use Rattle.fm_rewrite.specs.declared.counts.Count.{Count}
 use Rattle.fm_tool.specs.Outside.{HasNoFault, HasWriteFault}
 use Rattle.fm_tool.specs.Printed.{printed}
 use Rattle.fm_given.specs.Changes.{ChangesOnlyAt}
@@ -37,13 +39,15 @@ IsFileOf folder classes name = Contains (map (written_name folder) classes) name
 
 -- ---- lines
 
--- the line of a class that is written, with its line end
-abbrev pub class_line : ClassDef → List ℕ
-class_line c = class_text c ++ (codes ": 0 sites, 0 frees" ++ 10 ∷ [])
+-- the line of a class that is written, with its line end: how many of its sites are held, and how many frees are inserted
+abbrev pub class_line : ClassDef → Count → List ℕ
+class_line c count =
+    class_text c ++ (codes ": " ++ (decimal count.sites ++ (codes " sites, " ++ (decimal count.frees ++ (codes " frees" ++ 10 ∷ [])))))
 
 -- the lines of the classes, one after the other
-abbrev pub class_lines : List ClassDef → List ℕ
-class_lines classes = flat_map class_line classes
+abbrev pub class_lines : List ClassDef → List Count → List ℕ
+class_lines (c ∷ classes) (count ∷ counts) = class_line c count ++ class_lines classes counts
+class_lines classes counts = []
 
 -- ---- files
 

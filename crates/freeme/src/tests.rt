@@ -5,8 +5,10 @@ mod checking;
 mod family;
 mod lengths;
 mod linking;
+mod long;
 mod malformed;
 mod refused;
+mod rows;
 mod taken;
 
 use crate::tests::changes::is_answered;
@@ -244,15 +246,16 @@ fn words_of_no_form_are_refused(rt: HostRuntime) -> Result<(), Fail> {
     Ok(())
 }
 
-// Whether a class isn't built that frees.
-fn is_free_not_yet(alloc: Global) -> Result<bool, NoMemory> {
+// Whether a class is refused that frees.
+fn is_free_refused(alloc: Global) -> Result<bool, NoMemory> {
     let class = FREES.bytes(alloc)?;
-    is_answered(alloc, class.as_slice(), 77, "refused: not-yet M.class\n")
+    let line = "refused: calls FreeMe M.main([Ljava/lang/String;)V 1\n";
+    is_answered(alloc, class.as_slice(), 72, line)
 }
 
 #[test]
-fn a_class_that_frees_is_not_built(rt: HostRuntime) -> Result<(), Fail> {
-    assert!(rt; is_free_not_yet(rt.alloc())?);
+fn a_class_that_frees_is_refused(rt: HostRuntime) -> Result<(), Fail> {
+    assert!(rt; is_free_refused(rt.alloc())?);
     Ok(())
 }
 

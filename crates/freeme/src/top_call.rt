@@ -3,18 +3,21 @@
 ghost use Rattle.fm_tool.specs.Line.{Tells};
 ghost use Rattle.fm_tool.specs.Words.{texts};
 ghost use Rattle.fm_tool.specs.declared.status.TheConstants.{MALFORMED, UNSUPPORTED, VERSION};
-ghost use Rattle.freeme.specs.Causes.{ChangesOnly, IsFaultless, IsForBytes, IsForCheck, IsForDone, IsForLimit, IsForLink, IsForMemory, IsForNotYet, IsForRead, IsForWords, IsForWrite, IsStatus, KeepsContents};
+ghost use Rattle.freeme.specs.Causes.{ChangesOnly, IsFaultless, IsForBytes, IsForCheck, IsForDone, IsForLimit, IsForLink, IsForMemory, IsForRead, IsForRewrite, IsForWords, IsForWrite, IsStatus, KeepsContents};
 ghost use Rattle.freeme.specs.Request.{job_of};
 ghost use Rattle.freeme.specs.TopCall.{ComesOf, ComesTo, IsTopCall, StaysWithin, outcome_line, outcome_status};
+ghost use Rattle.freeme.specs.declared.status.TheConstants.{CALLS_FREE, METHOD_TOO_LONG, POOL_FULL};
 
-use crate::ahead::first_ahead;
+use crate::freeing::{class_lines, freed_classes};
+use crate::refusal::FreeRefusal;
 use crate::request::{Request, request_of};
-use crate::writing::{class_lines, write_classes};
+use crate::writing::write_classes;
 use fm_base::NoMemory;
 use fm_base::limits::MAX_CLASS_FILES;
 use fm_code::ClassDef;
 use fm_files::{Files, Sink};
 use fm_given::{JobRefusal, judge_program, read_classes};
+use fm_rewrite::Count;
 use fm_tool::{Refusal, put_line, status};
 use std::alloc::Global;
 
@@ -50,7 +53,11 @@ pub fn freeme_run<F: Files, S: Sink>(
         (F.disk files.old) (F.disk files.new) (S.output out.old) (S.output out.new) result }
     ensures check { IsForCheck (texts words.now)
         (F.disk files.old) (F.disk files.new) (S.output out.old) (S.output out.new) result }
-    ensures not_yet { IsForNotYet (texts words.now)
+    ensures calls_free { IsForRewrite CALLS_FREE (texts words.now)
+        (F.disk files.old) (F.disk files.new) (S.output out.old) (S.output out.new) result }
+    ensures pool_full { IsForRewrite POOL_FULL (texts words.now)
+        (F.disk files.old) (F.disk files.new) (S.output out.old) (S.output out.new) result }
+    ensures method_too_long { IsForRewrite METHOD_TOO_LONG (texts words.now)
         (F.disk files.old) (F.disk files.new) (S.output out.old) (S.output out.new) result }
     ensures write { IsForWrite (texts words.now)
         (F.disk files.old) (F.disk files.new) (S.output out.old) (S.output out.new) result }
@@ -72,41 +79,42 @@ fn do_words<'a, F: Files>(
     alloc: Global,
     words: &'a [String],
     files: &mut F,
-) -> Result<String, JobRefusal<'a>>
+) -> Result<String, FreeRefusal<'a>>
     ensures { ComesOf (texts words.now) (F.disk files.old) (F.disk files.new) result }
 {
     match request_of(alloc, words)? {
         Some(request) => do_job(alloc, request, files),
-        None => Err(JobRefusal::Shared(Refusal::Words)),
+        None => Err(FreeRefusal::Job(JobRefusal::Shared(Refusal::Words))),
     }
 }
 
-// Reads the class files, and writes them where all are taken and make a program of typed methods.
+// Reads the class files, and writes them with what frees their dead objects, where all are taken and make
+// a program of typed methods that may be rewritten.
 fn do_job<'a, F: Files>(
     alloc: Global,
     request: Request<'a>,
     files: &mut F,
-) -> Result<String, JobRefusal<'a>>
+) -> Result<String, FreeRefusal<'a>>
     ensures within { StaysWithin (job_of request.entry) (F.disk files.old) (F.disk files.new) }
     ensures comes { ComesTo (job_of request.entry) (F.disk files.old) (F.disk files.new) result }
 {
     let names: &[&str] = &request.files;
     if names.len() > MAX_CLASS_FILES as usize {
-        return Err(JobRefusal::TooManyFiles(names.len()));
+        return Err(FreeRefusal::Job(JobRefusal::TooManyFiles(names.len())));
     }
     let read = read_classes(alloc, names, files)?;
     let classes: &[ClassDef] = &read;
-    judge_program(alloc, classes, request.main)?;
-    if let Some(place) = first_ahead(alloc, classes)? {
-        return Err(JobRefusal::Shared(Refusal::NotYet(names[place])));
-    }
-    let lines = class_lines(alloc, classes)?;
-    write_classes(alloc, request.folder, classes, files)?;
+    let program = judge_program(alloc, classes, request.main)?;
+    let made = freed_classes(alloc, &program, classes)?;
+    let written: &[ClassDef] = &made.classes;
+    let counts: &[Count] = &made.counts;
+    let lines = class_lines(alloc, written, counts)?;
+    write_classes(alloc, request.folder, written, files)?;
     Ok(lines)
 }
 
 // Puts the lines of an outcome, and answers its status, or that of the put.
-fn tell<S: Sink>(alloc: Global, outcome: Result<String, JobRefusal<'_>>, out: &mut S) -> u8
+fn tell<S: Sink>(alloc: Global, outcome: Result<String, FreeRefusal<'_>>, out: &mut S) -> u8
     ensures { Tells (outcome_line outcome.entry) (outcome_status outcome.entry)
         (S.output out.old) (S.output out.new) result }
 {

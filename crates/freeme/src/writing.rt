@@ -1,8 +1,8 @@
-// The classes of a job, written one after the other, and the lines that tell of them.
+// The classes of a job, written one after the other.
 
 ghost use Rattle.std.specs.Prelude.{◌≡◌, IfOk, string_bytes};
 ghost use Rattle.std.specs.List.{AllByRecursion};
-ghost use Rattle.freeme.specs.Writing.{HasName, class_lines, class_text, written_name};
+ghost use Rattle.freeme.specs.Writing.{HasName, class_text, written_name};
 ghost use Rattle.freeme.specs.inner.Writing.{AreApart, ComesOfClass, ComesOfClasses, KeepsReads};
 ghost use Rattle.fm_given.specs.Taking.{IsSpelled};
 
@@ -30,20 +30,6 @@ fn written_name(alloc: Global, folder: &str, class: &ClassDef) -> Result<String,
 {
     let name = class_text(alloc, class)?;
     Ok(format!(in alloc; "{folder}/{name}.class")?)
-}
-
-/// The lines of classes that are written, each with its line end.
-pub fn class_lines(alloc: Global, classes: &[ClassDef]) -> Result<String, NoMemory>
-    requires { AllByRecursion HasName classes.now }
-    ensures { IfOk result (λ lines. string_bytes lines ≡ class_lines classes.now) }
-{
-    let mut lines = String::new(alloc);
-    for class in classes {
-        let name = class_text(alloc, class)?;
-        lines.push_str(name.as_str())?;
-        lines.push_str(": 0 sites, 0 frees\n")?;
-    }
-    Ok(lines)
 }
 
 /// Writes each class to its file in the folder, in their order.

@@ -40,8 +40,8 @@ pub fn changed(
     Ok(changed)
 }
 
-// A start, a piece so often, and an end.
-fn repeated(
+/// A start, a piece so often, and an end.
+pub fn repeated(
     alloc: Global,
     start: &[u8],
     piece: &[u8],

@@ -28,18 +28,16 @@ const UNTYPED: [Row; 3] = [
     ),
 ];
 
-// What is told of a main that isn't typed, of typed classes, and of one that makes objects.
+// What is told of a main that isn't typed, and of typed classes.
 const UNTYPED_MAIN: &str = "refused: check M.main([Ljava/lang/String;)V\n";
 
 const NO_SITES: &str = "M: 0 sites, 0 frees\nR: 0 sites, 0 frees\n";
-
-const NOT_YET: &str = "refused: not-yet M.class\n";
 
 // Other code of the main of M, from its attribute's length to its exception table, and the status and the line that then
 // come.
 type CodeRow = (&'static [u8], u8, &'static str);
 
-const CODES: [CodeRow; 11] = [
+const CODES: [CodeRow; 10] = [
     // iconst_1; astore_0; return
     (
         b"\0\0\0\x0f\0\x01\0\x01\0\0\0\x03\x04\x4b\xb1\0\0",
@@ -52,7 +50,7 @@ const CODES: [CodeRow; 11] = [
         71,
         UNTYPED_MAIN,
     ),
-    // new Object; iadd; return: an object is made too, which isn't built yet
+    // new Object; iadd; return
     (
         b"\0\0\0\x11\0\x01\0\x01\0\0\0\x05\xbb\0\x04\x60\xb1\0\0",
         71,
@@ -93,14 +91,8 @@ const CODES: [CodeRow; 11] = [
     // L: new Object; astore_1; goto L: the copy in the local is forgotten at the new
     (
         b"\0\0\0\x13\0\x01\0\x02\0\0\0\x07\xbb\0\x04\x4c\xa7\xff\xfc\0\0",
-        77,
-        NOT_YET,
-    ),
-    // new int[1] is dropped; switch (0), to the return
-    (
-        b"\0\0\0\x25\0\x01\0\x01\0\0\0\x19\x04\xbc\x0a\x57\x03\xaa\0\0\0\0\0\x13\0\0\0\0\0\0\0\0\0\0\0\x13\xb1\0\0",
-        77,
-        NOT_YET,
+        0,
+        NO_SITES,
     ),
 ];
 

@@ -125,8 +125,6 @@ const UNTYPED_MAIN: &str = "refused: check M.main([Ljava/lang/String;)V\n";
 
 const UNTYPED_CONSTRUCTOR: &str = "refused: check M.<init>()V\n";
 
-const NOT_YET: &str = "refused: not-yet M.class\n";
-
 // The code that is replaced and the other one, and the status and the lines that then come.
 type Row = (&'static [u8], &'static [u8], u8, &'static str);
 
@@ -168,8 +166,8 @@ const ROWS: [Row; 7] = [
     (
         MAIN_CODE,
         b"\0\0\0\x11\0\x01\0\x01\0\0\0\x05\xbb\0\x24\x57\xb1\0\0",
-        77,
-        NOT_YET,
+        0,
+        NO_SITES,
     ),
     // the constructor puts 1 into n, and then calls the one of Object
     (

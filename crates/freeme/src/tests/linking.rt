@@ -117,7 +117,7 @@ fn what_makes_no_program_is_refused(rt: HostRuntime) -> Result<(), Fail> {
 
 // An object is made too, which isn't built yet.
 #[test]
-fn linking_comes_before_what_is_not_built(rt: HostRuntime) -> Result<(), Fail> {
+fn linking_comes_before_rewriting(rt: HostRuntime) -> Result<(), Fail> {
     let alloc = rt.alloc();
     let class = MAKES_LIST.bytes(alloc)?;
     let line = "refused: link missing-class java/util/ArrayList in M\n";

@@ -1,11 +1,11 @@
-// Class files that are refused by their version, by a limit, by what isn't supported or isn't built yet.
+// Class files that are refused by their version, by a limit, or by what isn't supported.
 
 use crate::tests::M;
 use crate::tests::changes::{
-    Change, LongChange, first_other_part, is_answered, is_change_answered, is_long_change_answered,
+    LongChange, is_answered, is_change_answered, is_long_change_answered,
 };
 use fm_base::NoMemory;
-use fm_samples::{ClassSample, EVERY_PART, MAIN, MethodSample, RETURNS};
+use fm_samples::EVERY_PART;
 use std::alloc::Global;
 use std::test::Fail;
 
@@ -85,35 +85,6 @@ const HANDLERS: LongChange = (
     b"",
 );
 
-const NOT_YET: [Change; 4] = [
-    (b"\x01\xc0\0\x20", b"\xbb\0\x04\0"), // an object is made
-    (b"\x01\xc0\0\x20\x57", b"\x03\xbc\x0a\x57\0"), // an array of ints
-    (b"\x01\xc0\0\x20", b"\x03\xbd\0\x20"), // an array of references
-    (b"\x01\xb9\0\x0d\x01\0", b"\x03\xc5\0\x20\x01\0"), // an array of arrays
-];
-
-// Main calls a method that gives a reference.
-const GIVES_TEXT: ClassSample<'static> = ClassSample {
-    pool_count: b"\0\x0c",
-    more_pool: &[
-        b"\x01\0\x08toString", // 8
-        b"\x01\0\x14()Ljava/lang/String;", // 9
-        b"\x0c\0\x08\0\x09", // 10: NameAndType 8 9
-        b"\x0a\0\x04\0\x0a", // 11: Methodref 4 10
-    ],
-    methods: &[MethodSample {
-        attribute_length: b"\0\0\0\x12",
-        max_stack: b"\0\x01",
-        code_length: b"\0\0\0\x06",
-        code: &[
-            b"\x01\xb6\0\x0b\x57", // 0: null.toString(), which throws
-            b"\xb1", // 5: return
-        ],
-        ..MAIN
-    }],
-    ..RETURNS
-};
-
 // The place of the first row that isn't refused with this status, by a line of this start.
 fn first_other(
     alloc: Global,
@@ -160,18 +131,12 @@ fn methods_above_a_limit_are_refused(rt: HostRuntime) -> Result<(), Fail> {
 }
 
 #[test]
-fn what_is_not_supported_or_built_is_refused(rt: HostRuntime) -> Result<(), Fail> {
+fn what_is_not_supported_is_refused(rt: HostRuntime) -> Result<(), Fail> {
     let alloc = rt.alloc();
     assert_eq!(rt;
         first_other(alloc, &UNSUPPORTED, 69, "refused: unsupported M.class ")?,
         None
     );
-    assert_eq!(rt;
-        first_other_part(alloc, &NOT_YET, 77, "refused: not-yet M.class\n")?,
-        None
-    );
-    let class = GIVES_TEXT.bytes(alloc)?;
-    assert!(rt; is_answered(alloc, class.as_slice(), 77, "refused: not-yet M.class\n")?);
     Ok(())
 }
 
@@ -200,8 +165,6 @@ fn code_of_a_few_bytes_is_refused(rt: HostRuntime) -> Result<(), Fail> {
             "refused: unsupported M.class main 0\n"
         )?
     );
-    let makes_array = b"\0\0\0\x11\0\x01\0\x01\0\0\0\x05\x04\xbc\x0a\x57\xb1";
-    assert!(rt; is_code_answered(alloc, makes_array, 77, "refused: not-yet M.class\n")?);
     let many_locals = b"\0\0\0\x0d\0\0\x08\x01\0\0\0\x01\xb1";
     assert!(rt;
         is_code_answered(

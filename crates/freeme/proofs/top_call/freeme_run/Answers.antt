@@ -1,10 +1,10 @@
 use Rattle.std.proofs.Common.{arith}
-use Rattle.freeme.proofs.CauseLemmas.{is_for_words, is_for_read, is_for_bytes, is_for_limit, is_for_link, is_for_check, is_for_not_yet, is_for_done, is_for_write, is_for_memory, is_faultless, keeps_contents, changes_only}
+use Rattle.freeme.proofs.CauseLemmas.{is_for_words, is_for_read, is_for_bytes, is_for_limit, is_for_link, is_for_check, is_for_rewrite, is_for_done, is_for_write, is_for_memory, is_faultless, keeps_contents, changes_only}
 use Rattle.freeme.proofs.StatusLemmas.{is_status}
 use Rattle.freeme.proofs.top_call.freeme_run.Goals as goal
 
 pub returns-clause-status : goal.returns-clause-status
-returns-clause-status g c = is_status c.do_words-outcome.result _ _ _ c.tell.ensures
+returns-clause-status g c = is_status _ _ _ c.do_words-outcome.result _ _ _ c.do_words-outcome.ensures c.tell.ensures
 
 pub returns-clause-done : goal.returns-clause-done
 returns-clause-done g c = is_for_done c.do_words-outcome.result c.do_words-outcome.ensures c.tell.ensures
@@ -33,8 +33,14 @@ returns-clause-link g c = is_for_link c.do_words-outcome.result c.do_words-outco
 pub returns-clause-check : goal.returns-clause-check
 returns-clause-check g c = is_for_check c.do_words-outcome.result c.do_words-outcome.ensures c.tell.ensures
 
-pub returns-clause-not_yet : goal.returns-clause-not_yet
-returns-clause-not_yet g c = is_for_not_yet c.do_words-outcome.result c.do_words-outcome.ensures c.tell.ensures
+pub returns-clause-calls_free : goal.returns-clause-calls_free
+returns-clause-calls_free g c = is_for_rewrite c.do_words-outcome.result c.do_words-outcome.ensures c.tell.ensures _ (omega arith) (omega arith)
+
+pub returns-clause-pool_full : goal.returns-clause-pool_full
+returns-clause-pool_full g c = is_for_rewrite c.do_words-outcome.result c.do_words-outcome.ensures c.tell.ensures _ (omega arith) (omega arith)
+
+pub returns-clause-method_too_long : goal.returns-clause-method_too_long
+returns-clause-method_too_long g c = is_for_rewrite c.do_words-outcome.result c.do_words-outcome.ensures c.tell.ensures _ (omega arith) (omega arith)
 
 pub returns-clause-write : goal.returns-clause-write
 returns-clause-write g c = is_for_write c.do_words-outcome.result c.do_words-outcome.ensures c.tell.ensures

@@ -1,0 +1,93 @@
+-- A class of which no site is held is written as it was read.
+use Rattle.std.proofs.Common.{◌≡◌, ℕ, ◌+◌, ◌<◌, ◌||◌, Bool, true, false, List, [], ◌∷◌, length, map, Option, Some, None, refl, sym, ap, subst, ◌∙◌, arith}
+use Rattle.std.specs.Prelude.{is_some, option_and_then}
+use Rattle.std.specs.List.{AllByRecursion, list_any, range_with_len, sum}
+use Rattle.std.proofs.lemmas.Bool.{false≢true}
+use Rattle.std.proofs.lemmas.List.Sums.{sum_by-cons}
+use Rattle.fm_code.specs.ClassBytes.{class_bytes}
+use Rattle.fm_code.specs.declared.class_file.ClassDef.{ClassDef}
+use Rattle.fm_conn.specs.Facts.{Facts}
+use Rattle.fm_conn.specs.Nodes.{TypedMethod}
+use Rattle.fm_files.specs.Files.{Bytes, Contents, Holds}
+use Rattle.fm_given.specs.Taking.{AreTaken}
+use Rattle.fm_place.specs.Insertions.{all_holders, full_insertions, Insertions}
+use Rattle.fm_place.specs.Rewriting.{first_given, Plans, rewritten_class, rewritten_from, site_count, sites_in}
+use Rattle.fm_place.specs.Safe.{full_plans, method_in_facts}
+use Rattle.fm_rewrite.proofs.FullPlanLemmas.{holders_counted}
+use Rattle.fm_rewrite.specs.Rewritten.{AreRewritten, counts_from}
+use Rattle.fm_rewrite.specs.declared.counts.Count.{Count}
+use Rattle.fm_rewrite.specs.declared.rewriting.Rewritten.{Rewritten}
+use Rattle.fm_world.specs.Programs.{Program, program_of}
+use Rattle.freeme.proofs.WrittenLemmas.{by_change, is_all, rewritten-is}
+use Rattle.freeme.specs.TopCall.{AreStill, HoldsStill}
+use Rattle.freeme.specs.Writing.{written_name}
+
+-- ---- a class
+
+-- where none is counted none passes a test that only counted ones pass
+none_passes : {X : Type 0} (count : X → ℕ) (test : X → Bool) → ((x : X) → test x ≡ true → 0 < count x) → (xs : List X) → sum (map count xs) ≡ 0 → list_any test xs ≡ false
+none_passes count test some [] none = refl
+none_passes count test some (x ∷ xs) none = by (test x) refl (none_passes count test some xs (omega (arith, all))) where
+  all : count x + sum (map count xs) ≡ 0
+  all = sym (sum_by-cons (λ (n : ℕ). n) (count x) (map count xs)) ∙ none
+
+  by : (b : Bool) → test x ≡ b → list_any test xs ≡ false → (test x || list_any test xs) ≡ false
+  by true passes rest = absurd (let many = some x passes in omega (arith, many, all))
+  by false fails rest = ap (λ b. b || list_any test xs) fails ∙ rest
+
+-- what is planned for a method has a holder
+plan_holds : (facts : Facts) (x : TypedMethod) (o : Option Insertions) → full_insertions facts x ≡ o → is_some o ≡ true → 0 < site_count o
+plan_holds facts x None full some = absurd (false≢true some)
+plan_holds facts x (Some plan) full some =
+    let own = is_all facts x plan full in
+    let same : length plan.holders ≡ length (all_holders facts x) = ap (λ (i : Insertions). length i.holders) own.all in
+    let counted = holders_counted facts x in
+    let held = own.held in
+    omega (arith, same, counted, held)
+
+method_holds : (facts : Facts) (o : Option TypedMethod) → is_some (option_and_then (full_insertions facts) o) ≡ true → 0 < site_count (option_and_then (full_insertions facts) o)
+method_holds facts None some = absurd (false≢true some)
+method_holds facts (Some x) some = plan_holds facts x (full_insertions facts x) refl some
+
+plans_hold : (p : Program) (facts : Facts) (method : ℕ) → is_some (full_plans p facts method) ≡ true → 0 < site_count (full_plans p facts method)
+plans_hold p facts method = method_holds facts (method_in_facts p facts method)
+
+module _ (plans : Plans) (hold : (method : ℕ) → is_some (plans method) ≡ true → 0 < site_count (plans method)) where
+  -- a class of which no site is held is as it was
+  class_still : (first : ℕ) (c : ClassDef) → sites_in plans first c ≡ 0 → rewritten_class plans first c ≡ c
+  class_still first c none =
+      rewritten-is plans first c
+      ∙ ap (by_change plans first c) (none_passes {X = ℕ} (λ method. site_count (plans method)) (λ method. is_some (plans method)) hold (range_with_len first (length c.methods)) none)
+
+-- ---- files
+
+holds_still : (file name before after : Bytes) (old new : Contents) → after ≡ before → Holds old file before → Holds new name after → HoldsStill file name old new
+holds_still file name before after None new same held now = tt
+holds_still file name before after (Some old) None same held now = tt
+holds_still file name before after (Some old) (Some new) same held now = now ∙ ap Some same ∙ sym held
+
+module _ (plans : Plans) (hold : (method : ℕ) → is_some (plans method) ≡ true → 0 < site_count (plans method)) (folder : Bytes) (old new : Contents) where
+  files_still : (first : ℕ) (files : List Bytes) (classes : List ClassDef) → AreTaken old files classes
+      → AllByRecursion (λ (c : ClassDef). Holds new (written_name folder c) (class_bytes c)) (rewritten_from plans first classes)
+      → AreStill folder files (rewritten_from plans first classes) (counts_from plans first classes) old new
+  files_still first [] [] taken written = tt
+  files_still first (file ∷ files) (c ∷ classes) taken written = (
+    λ none. holds_still file (written_name folder (rewritten_class plans first c)) (class_bytes c) (class_bytes (rewritten_class plans first c)) old new
+        (ap class_bytes (class_still plans hold first c none)) taken.0.holds written.0,
+    files_still (first + length c.methods) files classes taken.1 written.1,
+  )
+  files_still first [] (c ∷ classes) taken written = absurd taken
+  files_still first (file ∷ files) [] taken written = absurd taken
+
+-- the classes of which no site is held are written byte for byte as they were read
+pub are_still : (given : List ClassDef) (main : List ℕ) (made : Rewritten) (folder : Bytes) (files : List Bytes) (old new : Contents) → AreTaken old files given
+    → AreRewritten given main made → AllByRecursion (λ (c : ClassDef). Holds new (written_name folder c) (class_bytes c)) made.classes.items
+    → AreStill folder files made.classes.items made.counts.items old new
+are_still given main made folder files old new taken are written =
+    let p = program_of given main in
+    let plans = full_plans p are.full.facts in
+    let P : List ClassDef → Type 0 = AllByRecursion (λ (c : ClassDef). Holds new (written_name folder c) (class_bytes c)) in
+    let now = subst P are.full.written_is written in
+    let all = files_still plans (plans_hold p are.full.facts) folder old new first_given files given taken now in
+    subst (λ (classes : List ClassDef). AreStill folder files classes made.counts.items old new) (sym are.full.written_is)
+    (subst (λ (counts : List Count). AreStill folder files (rewritten_from plans first_given given) counts old new) (sym are.counts_are) all)

@@ -1,0 +1,34 @@
+-- What rewriting the classes of a program comes to, with the name of the method or class for which it isn't rewritten.
+use Rattle.std.specs.Prelude.{◌≡◌, ◌<◌, ℕ, List, length, Result, Ok, Err}
+use Rattle.fm_code.specs.declared.class_file.ClassDef.{ClassDef}
+use Rattle.fm_given.specs.declared.refusal.JobRefusal.TheVariants as job_refusal
+use Rattle.fm_rewrite.specs.Rewritten.{AreRewritten}
+use Rattle.fm_rewrite.specs.declared.error.RewriteFail.{RewriteFail}
+use Rattle.fm_rewrite.specs.declared.error.RewriteFail.TheVariants as fail
+use Rattle.fm_rewrite.specs.declared.rewriting.Rewritten.{Rewritten}
+use Rattle.fm_tool.specs.declared.refusal.Refusal.TheVariants as refusal
+use Rattle.fm_world.specs.Members.{methods_of}
+use Rattle.fm_world.specs.Programs.{Outline, program_of}
+use Rattle.freeme.specs.TopCall.{IsFirstCause, told_name}
+use Rattle.freeme.specs.declared.refusal.FreeRefusal.{FreeRefusal}
+use Rattle.freeme.specs.declared.refusal.FreeRefusal.TheVariants as free_refusal
+
+-- what a cause names is there: the method or the class has a number of the program
+abbrev pub IsThere : Outline → RewriteFail → Type 0
+IsThere o (fail.CallsFree method offset) = method.0 < length (methods_of o.classes)
+IsThere o (fail.PoolFull class indices) = class.0 < length o.classes
+IsThere o (fail.MethodTooLong method bytes) = method.0 < length (methods_of o.classes)
+IsThere o fail.NoMemory = Unit {0}
+
+-- the name is that of the method or the class; want of memory names none
+abbrev pub IsNamed : Outline → RewriteFail → List ℕ → Type 0
+IsNamed o fail.NoMemory name = ⊥
+IsNamed o cause name = name ≡ told_name o cause
+
+-- they are rewritten; or there is a cause against it; or memory couldn't be had
+abbrev pub ComesOfFreeing : List ClassDef → List ℕ → Result Rewritten FreeRefusal → Type 0
+ComesOfFreeing given main (Ok made) = AreRewritten given main made
+ComesOfFreeing given main (Err (free_refusal.Rewrite cause name)) =
+    IsFirstCause given main cause × (name ≡ told_name (program_of given main).outline cause)
+ComesOfFreeing given main (Err (free_refusal.Job (job_refusal.Shared refusal.OutOfMemory))) = Unit {0}
+ComesOfFreeing given main (Err r) = ⊥

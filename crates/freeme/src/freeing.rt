@@ -1,0 +1,88 @@
+// The classes of a program with what frees their dead objects, and the lines that tell of them.
+
+ghost use Rattle.std.specs.Prelude.{◌≡◌, ◌<◌, ℕ, List, IfOk, length, string_bytes};
+ghost use Rattle.std.specs.List.{AllByRecursion};
+ghost use Rattle.fm_rewrite.specs.Rewritten.{AreJudged};
+ghost use Rattle.fm_world.specs.Programs.{class_info, program_of};
+ghost use Rattle.freeme.specs.Writing.{HasName, class_line, class_lines};
+ghost use Rattle.freeme.specs.inner.Freeing.{ComesOfFreeing, IsNamed, IsThere};
+
+use crate::refusal::FreeRefusal;
+use crate::writing::class_text;
+use fm_base::{ClassId, Name, NoMemory};
+use fm_code::ClassDef;
+use fm_given::method_text;
+use fm_rewrite::{Count, RewriteFail, Rewritten, rewrite};
+use fm_world::Program;
+use std::alloc::Global;
+
+/// The classes of a program, each held site with a holder that is freed at all places of its class, and
+/// what is told of each; where there is a cause against it, they are refused for the first one.
+pub fn freed_classes<'a>(
+    alloc: Global,
+    program: &Program,
+    classes: &[ClassDef],
+) -> Result<Rewritten, FreeRefusal<'a>>
+    requires { AreJudged classes.now program.now }
+    ensures { (main : List ℕ) → program.now ≡ program_of classes.now main
+        → ComesOfFreeing classes.now main result }
+{
+    match rewrite(alloc, program, classes) {
+        Ok(made) => Ok(made),
+        Err(fail) => {
+            let name = cause_name(alloc, program, fail)?;
+            Err(FreeRefusal::Rewrite(fail, name))
+        }
+    }
+}
+
+// The name of the method or the class that a cause names; want of memory names none.
+fn cause_name(alloc: Global, program: &Program, fail: RewriteFail) -> Result<Name, NoMemory>
+    requires { IsThere program.now.outline fail }
+    ensures { IfOk result (λ name. IsNamed program.now.outline fail name) }
+{
+    match fail {
+        RewriteFail::CallsFree(method, _) => method_text(alloc, program, method),
+        RewriteFail::PoolFull(class, _) => class_name(alloc, program, class),
+        RewriteFail::MethodTooLong(method, _) => method_text(alloc, program, method),
+        RewriteFail::NoMemory => Err(NoMemory),
+    }
+}
+
+// The name of a class of the program.
+#[tactic(auto, unfolding(fm_world::specs::Programs::class_info))]
+fn class_name(alloc: Global, program: &Program, class: ClassId) -> Result<Name, NoMemory>
+    requires { class.0 < length program.now.outline.classes }
+    ensures { IfOk result (λ name. name ≡ (class_info program.now.outline class.0).name) }
+{
+    let info = program.class(class);
+    Ok(Name::new(Vec::from_slice(alloc, info.name.as_slice())?))
+}
+
+/// The lines of classes that are written, each with its line end.
+pub fn class_lines(
+    alloc: Global,
+    classes: &[ClassDef],
+    counts: &[Count],
+) -> Result<String, NoMemory>
+    requires named { AllByRecursion HasName classes.now }
+    requires one_each { length counts.now ≡ length classes.now }
+    ensures { IfOk result (λ lines. string_bytes lines ≡ class_lines classes.now counts.now) }
+{
+    let mut lines = String::new(alloc);
+    for place in 0..classes.len() {
+        let line = class_line(alloc, &classes[place], counts[place])?;
+        lines.push_str(line.as_str())?;
+    }
+    Ok(lines)
+}
+
+// The line of a class that is written.
+fn class_line(alloc: Global, class: &ClassDef, count: Count) -> Result<String, NoMemory>
+    requires { HasName class.now }
+    ensures { IfOk result (λ line. string_bytes line ≡ class_line class.now count) }
+{
+    let name = class_text(alloc, class)?;
+    let Count { sites, frees } = count;
+    Ok(format!(in alloc; "{name}: {sites} sites, {frees} frees\n")?)
+}

@@ -1,0 +1,20 @@
+// The exit statuses of freeme alone, for programs that aren't rewritten; all others stand beside those
+// of fmrun.
+
+ghost use Rattle.std.specs.Prelude.{◌≡◌};
+
+/// A method calls FreeMe.
+pub const CALLS_FREE: u8 = 72;
+
+/// The constant pool of a class would have too many indices.
+pub const POOL_FULL: u8 = 73;
+
+/// A method would have too many bytes of code.
+pub const METHOD_TOO_LONG: u8 = 74;
+
+/// The value of each status, as its clauses tell.
+pub fn law_free_statuses()
+    ensures calls_free { CALLS_FREE ≡ 72 }
+    ensures pool_full { POOL_FULL ≡ 73 }
+    ensures method_too_long { METHOD_TOO_LONG ≡ 74 }
+{}
