@@ -9,3 +9,4 @@ pub mod Outlines
 pub mod ClassRefusals
 pub mod Links
 pub mod Uses
+pub mod FreeUse

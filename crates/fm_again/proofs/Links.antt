@@ -5,14 +5,15 @@ use Rattle.std.specs.Str.{bytes_eq}
 use Rattle.fm_again.proofs.ClassRefusals.{built_in_same, classes_missing, fields_same, implemented_same, methods_same, parents_same}
 use Rattle.fm_again.proofs.ClassStays.{name_is}
 use Rattle.fm_again.proofs.FreeMethod.{knows_free}
-use Rattle.fm_again.proofs.Outlines.{all_listed, classes_same, either_class}
+use Rattle.fm_again.proofs.Outlines.{all_listed, classes_same, either_class, outline_same}
+use Rattle.fm_again.specs.Again.{SafeClassesLink}
 use Rattle.fm_code.specs.Spells.{HasSpelling}
 use Rattle.fm_code.specs.declared.class_file.ClassDef.{ClassDef}
 use Rattle.fm_place.specs.Rewriting.{first_given, Plans, rewritten, rewritten_class, rewritten_from}
 use Rattle.fm_world.specs.BuiltIns.{built_in}
 use Rattle.fm_world.specs.Causes.{bad_parents, built_in_named, Duplicate, duplicates, each_from, missing_classes, missing_fields, missing_methods, no_main, not_implemented, own_name, refused, refused_if}
 use Rattle.fm_world.specs.Linking.{refusals, refused_built_ins, refused_duplicates, refused_fields, refused_main, refused_methods, refused_missing_classes, refused_not_implemented, refused_parents}
-use Rattle.fm_world.specs.Programs.{classes_of}
+use Rattle.fm_world.specs.Programs.{classes_of, outline_of}
 use Rattle.fm_world.specs.declared.declarations.DeclaredClass.{DeclaredClass}
 
 module _ (plans : Plans) where
@@ -94,3 +95,11 @@ module _ (plans : Plans) where
     refusals_same main =
         λ k.
         duplicates_are k ++ built_ins_are k ++ classes_are k ++ parents_are k ++ fields_are k ++ methods_are k ++ implemented_are k ++ main_is main k
+
+-- ---- safe insertions
+
+pub safe_link : SafeClassesLink
+safe_link given main written marks spelled none safe = record {
+  links = ap (λ files. refusals files main) safe.written_is ∙ refusals_same safe.plans given spelled main ∙ none;
+  outline = ap (λ files. outline_of files main) safe.written_is ∙ outline_same safe.plans given main spelled;
+}

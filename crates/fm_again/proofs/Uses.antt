@@ -26,19 +26,19 @@ use Rattle.fm_written.specs.Changed.{changed}
 -- ---- one class
 
 -- what an index of a class's pool stands for, if the class uses it
-abbrev use_in : Outline → ClassDef → ℕ → Use
+abbrev pub use_in : Outline → ClassDef → ℕ → Use
 use_in o c index = cond (is_used c index) (resolved_at o c.pool.entries index) resolved.Unused
 
 row_length : (o : Outline) (c : ClassDef) → length (class_uses o c) ≡ length c.pool.entries
 row_length o c = length-map-range_with_len (use_in o c) 0 (length c.pool.entries)
 
-row_within : (o : Outline) (c : ClassDef) (index : ℕ) → index < length c.pool.entries → get_or (class_uses o c) index resolved.Unused ≡ use_in o c index
+pub row_within : (o : Outline) (c : ClassDef) (index : ℕ) → index < length c.pool.entries → get_or (class_uses o c) index resolved.Unused ≡ use_in o c index
 row_within o c index within = get_or-map-range_with_len (use_in o c) 0 (length c.pool.entries) index index resolved.Unused within (zero-add index)
 
-row_past : (o : Outline) (c : ClassDef) (index : ℕ) → length c.pool.entries ≤ index → get_or (class_uses o c) index resolved.Unused ≡ resolved.Unused
+pub row_past : (o : Outline) (c : ClassDef) (index : ℕ) → length c.pool.entries ≤ index → get_or (class_uses o c) index resolved.Unused ≡ resolved.Unused
 row_past o c index past = get_or_past (class_uses o c) index resolved.Unused (let long = row_length o c in omega (arith, past, long))
 
-row_unused : (o : Outline) (c : ClassDef) (index : ℕ) → is_used c index ≡ false → get_or (class_uses o c) index resolved.Unused ≡ resolved.Unused
+pub row_unused : (o : Outline) (c : ClassDef) (index : ℕ) → is_used c index ≡ false → get_or (class_uses o c) index resolved.Unused ≡ resolved.Unused
 row_unused o c index unused = by_place (cases_lt index (length c.pool.entries)) where
   by_place : (index < length c.pool.entries) ⊎ (length c.pool.entries ≤ index) → get_or (class_uses o c) index resolved.Unused ≡ resolved.Unused
   by_place (inl within) = row_within o c index within ∙ ap (λ b. cond b (resolved_at o c.pool.entries index) resolved.Unused) unused
@@ -62,7 +62,7 @@ changed_row plans first c (bytes, spells) o index other = by_place (cases_lt ind
 
 -- ---- all classes
 
-use_at : (given : List ClassDef) (main : List ℕ) (place : ℕ) (c : ClassDef) → slice_get given place ≡ Some c → (index : ℕ)
+pub use_at : (given : List ClassDef) (main : List ℕ) (place : ℕ) (c : ClassDef) → slice_get given place ≡ Some c → (index : ℕ)
     → use_of (program_of given main) (length built_in + place) index ≡ get_or (class_uses (outline_of given main) c) index resolved.Unused
 unfolding program_of uses_of
 use_at given main place c there index =
@@ -74,7 +74,7 @@ use_at given main place c there index =
     (ap (λ n. get_or (front ++ rows) (n + place) []) (sym count) ∙ get_or-append-add front rows place []
     ∙ get_or-map (class_uses o) given place c [] (slice_get_within given place c there) ∙ ap (class_uses o) (get_or_from_slice_get given place c c there))
 
-written_at : (plans : Plans) (first : ℕ) (given : List ClassDef) (place : ℕ) (c : ClassDef) → slice_get given place ≡ Some c
+pub written_at : (plans : Plans) (first : ℕ) (given : List ClassDef) (place : ℕ) (c : ClassDef) → slice_get given place ≡ Some c
     → (n : ℕ) × (slice_get (rewritten_from plans first given) place ≡ Some (rewritten_class plans n c))
 written_at plans first [] place c there = cc
 written_at plans first (d ∷ given) zero c there = (first, ap (λ (o : Option ClassDef). option_map (rewritten_class plans first) o) there)

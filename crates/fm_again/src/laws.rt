@@ -1,6 +1,8 @@
 // Laws of the definitions, each as the contract of a function that does nothing.
 
-ghost use Rattle.fm_again.specs.Again.{OutlinesStay, RefusalsStay, UsesStay};
+ghost use Rattle.fm_again.specs.Again.{FreeStands, OutlinesStay, RefusalsStay, SafeClassesLink, UsesStay};
+
+use fm_world::law_class_types;
 
 /// Classes with what is inserted into their methods make a program of the same outline as the given ones:
 /// classes, members, types and texts have the same numbers, and main is the same.
@@ -8,12 +10,18 @@ pub fn law_outline()
     ensures { OutlinesStay }
 {}
 
-/// Each index of a pool stands for what it stood for, but for that of FreeMe.free.
+/// Each index of a pool stands for what it stood for, but for that of FreeMe.free, which stands for that
+/// method where it is used.
 pub fn law_uses()
-    ensures { UsesStay }
-{}
+    ensures stay { UsesStay }
+    ensures free { FreeStands }
+{
+    law_class_types();
+}
 
-/// The same is refused of such classes as of the given ones: they link where these do.
+/// The same is refused of such classes as of the given ones; so classes with safe insertions link where
+/// the given ones do.
 pub fn law_links()
-    ensures { RefusalsStay }
+    ensures refusals { RefusalsStay }
+    ensures safe { SafeClassesLink }
 {}
