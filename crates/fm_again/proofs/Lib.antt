@@ -10,3 +10,6 @@ pub mod ClassRefusals
 pub mod Links
 pub mod Uses
 pub mod FreeUse
+pub mod RowSteps
+pub mod RowsBlind
+pub mod FitsBlind

@@ -1,6 +1,7 @@
 // Laws of the definitions, each as the contract of a function that does nothing.
 
 ghost use Rattle.fm_again.specs.Again.{FreeStands, OutlinesStay, RefusalsStay, SafeClassesLink, UsesStay};
+ghost use Rattle.fm_again.specs.Rows.{RowsAreBlind, StatesFitStill};
 
 use fm_world::law_class_types;
 
@@ -24,4 +25,11 @@ pub fn law_uses()
 pub fn law_links()
     ensures refusals { RefusalsStay }
     ensures safe { SafeClassesLink }
+{}
+
+/// The checker's rows don't look at the numbers of items, but for whether two are the same, nor at locals
+/// behind those that an instruction names; and states fit still where items have other numbers.
+pub fn law_rows()
+    ensures rows { RowsAreBlind }
+    ensures fits { StatesFitStill }
 {}
