@@ -267,19 +267,28 @@ module _ (job : Job) (old new : Disk) (held : Bytes → Option Bytes) (known : o
   Comes status = JobVerdict sought status held job status ⊎ ((status ≡ READ) ⊎ ((status ≡ WRITE) ⊎ (status ≡ OUT_OF_MEMORY)))
 
   verdict_of : (o : Outcome) → ComesTo job old new o → Comes (outcome_status o)
-  verdict_of (Ok lines) comes = 
+  verdict_of (Ok lines) comes =
       let freed = comes.freed in
       let made = freed.rewritten in
       inl (inr (inr (record {
         classes = freed.classes;
         taken = all_known freed.classes freed.checked.linked.taken;
-        last = inr (freed.checked.linked.linked, inr (freed.checked.typed, inr (inr (record {
-          no_call = made.no_call;
-          facts = made.full.facts;
-          exact = made.full.exact;
-          least = made.least;
-          status = ap cause_status made.no_cause;
-        }), refl)));
+        last = inr (
+          freed.checked.linked.linked,
+          inr (
+            freed.checked.typed,
+            inr (
+              inr (record {
+                no_call = made.no_call;
+                facts = made.full.facts;
+                exact = made.full.exact;
+                least = made.least;
+                status = ap cause_status made.no_cause;
+              }),
+              refl,
+            ),
+          ),
+        );
       })))
   verdict_of (Err (free_refusal.Job (job_refusal.Shared refusal.Words))) comes = absurd comes
   verdict_of (Err (free_refusal.Job (job_refusal.TooManyArguments count))) comes = absurd comes

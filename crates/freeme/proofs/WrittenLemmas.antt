@@ -193,7 +193,7 @@ module _ (p : Program) (facts : Facts) (may : AreAnalysable p) (old : HasOldItem
       let here : first ≡ first + 0 = omega arith in (
         method_can in_interface entries free first m valid.0 fits (ap (code_at p) here ∙ codes 0 (omega arith)) own,
         methods_can in_interface entries free (first + 1) methods valid.1 fits
-        (λ i inside. let place : first + 1 + i ≡ first + suc i = omega arith in ap (code_at p) place ∙ codes (suc i) (omega (arith, inside))) parts.1,
+            (λ i inside. let place : first + 1 + i ≡ first + suc i = omega arith in ap (code_at p) place ∙ codes (suc i) (omega (arith, inside))) parts.1,
       )
 
   -- a class that changes has room in its pool, and in its methods for what is planned for them
@@ -221,14 +221,14 @@ module _ (p : Program) (facts : Facts) (may : AreAnalysable p) (old : HasOldItem
       let rooms = or_first (option_map (λ (indices : ℕ). (class, indices)) (full_pool own_plans first c)) (full_from own_plans (class + 1) (first + n) classes) room in
       let shorts = or_first (long_among own_plans (free_index c) first c.methods) (long_from own_plans (first + n) classes) short in (
         class_can first c spelled.0
-        (λ i inside. codes i (omega (arith, inside)) ∙ get_or_append_left (map code_of c.methods) later None i (omega (arith, inside, count)))
-        (map_none (λ (indices : ℕ). (class, indices)) (full_pool own_plans first c) rooms.0) shorts.0,
+            (λ i inside. codes i (omega (arith, inside)) ∙ get_or_append_left (map code_of c.methods) later None i (omega (arith, inside, count)))
+            (map_none (λ (indices : ℕ). (class, indices)) (full_pool own_plans first c) rooms.0) shorts.0,
         classes_can (class + 1) (first + n) classes spelled.1
-        (λ i inside.
-        let place : first + n + i ≡ first + (n + i) = omega arith in
-        ap (code_at p) place ∙ codes (n + i) (omega (arith, inside))
-        ∙ ap (λ k. get_or (map code_of c.methods ++ later) (k + i) None) (sym count) ∙ get_or-append-add (map code_of c.methods) later i None)
-        rooms.1 shorts.1,
+            (λ i inside.
+            let place : first + n + i ≡ first + (n + i) = omega arith in
+            ap (code_at p) place ∙ codes (n + i) (omega (arith, inside))
+            ∙ ap (λ k. get_or (map code_of c.methods ++ later) (k + i) None) (sym count) ∙ get_or-append-add (map code_of c.methods) later i None)
+            rooms.1 shorts.1,
       )
 
 -- ---- a class as it is written

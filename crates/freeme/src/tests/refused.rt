@@ -1,9 +1,7 @@
 // Class files that are refused by their version, by a limit, or by what isn't supported.
 
 use crate::tests::M;
-use crate::tests::changes::{
-    LongChange, is_answered, is_change_answered, is_long_change_answered,
-};
+use crate::tests::changes::{LongChange, is_answered, is_change_answered, is_long_change_answered};
 use fm_base::NoMemory;
 use fm_samples::EVERY_PART;
 use std::alloc::Global;

@@ -384,10 +384,16 @@ const ARRAYS: [Call<'static>; 6] = [
     // a point is made in each turn of a loop
     Call {
         words: "--out d --main M M.class Point.class",
-        files: &[("M.class", POINTS_IN_LOOP), ("Point.class", POINTS_IN_LOOP_POINT)],
+        files: &[
+            ("M.class", POINTS_IN_LOOP),
+            ("Point.class", POINTS_IN_LOOP_POINT),
+        ],
         status: 0,
         lines: "M: 1 sites, 1 frees\nPoint: 0 sites, 0 frees\n",
-        after: &[("d/M.class", POINTS_IN_LOOP_FREED), ("d/Point.class", POINTS_IN_LOOP_POINT)],
+        after: &[
+            ("d/M.class", POINTS_IN_LOOP_FREED),
+            ("d/Point.class", POINTS_IN_LOOP_POINT),
+        ],
         ..NOTHING
     },
     // a method makes the object and answers it
@@ -414,7 +420,10 @@ const ARRAYS: [Call<'static>; 6] = [
         files: &[("M.class", LINKED_NODES), ("Node.class", LINKED_NODES_NODE)],
         status: 0,
         lines: "M: 2 sites, 2 frees\nNode: 0 sites, 0 frees\n",
-        after: &[("d/M.class", LINKED_NODES_FREED), ("d/Node.class", LINKED_NODES_NODE)],
+        after: &[
+            ("d/M.class", LINKED_NODES_FREED),
+            ("d/Node.class", LINKED_NODES_NODE),
+        ],
         ..NOTHING
     },
 ];
@@ -424,10 +433,18 @@ const CALLS: [Call<'static>; 4] = [
     // an argument that one of two methods puts into a static field
     Call {
         words: "--out d --main M M.class A.class B.class",
-        files: &[("M.class", VIRTUAL_ESCAPE), ("A.class", VIRTUAL_ESCAPE_A), ("B.class", VIRTUAL_ESCAPE_B)],
+        files: &[
+            ("M.class", VIRTUAL_ESCAPE),
+            ("A.class", VIRTUAL_ESCAPE_A),
+            ("B.class", VIRTUAL_ESCAPE_B),
+        ],
         status: 0,
         lines: "M: 1 sites, 1 frees\nA: 0 sites, 0 frees\nB: 0 sites, 0 frees\n",
-        after: &[("d/M.class", VIRTUAL_ESCAPE_FREED), ("d/A.class", VIRTUAL_ESCAPE_A), ("d/B.class", VIRTUAL_ESCAPE_B)],
+        after: &[
+            ("d/M.class", VIRTUAL_ESCAPE_FREED),
+            ("d/A.class", VIRTUAL_ESCAPE_A),
+            ("d/B.class", VIRTUAL_ESCAPE_B),
+        ],
         ..NOTHING
     },
     // two methods that call one another and answer their argument
@@ -473,10 +490,16 @@ const HANDLERS: [Call<'static>; 3] = [
     // a constructor that throws
     Call {
         words: "--out d --main M M.class X.class",
-        files: &[("M.class", THROWING_CONSTRUCTOR), ("X.class", THROWING_CONSTRUCTOR_X)],
+        files: &[
+            ("M.class", THROWING_CONSTRUCTOR),
+            ("X.class", THROWING_CONSTRUCTOR_X),
+        ],
         status: 0,
         lines: "M: 1 sites, 1 frees\nX: 0 sites, 0 frees\n",
-        after: &[("d/M.class", THROWING_CONSTRUCTOR_FREED), ("d/X.class", THROWING_CONSTRUCTOR_X)],
+        after: &[
+            ("d/M.class", THROWING_CONSTRUCTOR_FREED),
+            ("d/X.class", THROWING_CONSTRUCTOR_X),
+        ],
         ..NOTHING
     },
     // a local that holds one object and then another
