@@ -117,6 +117,34 @@ def left_over():
     return [lowest, interface, full] + [File(b"C%d" % place, b"F") for place in range(400)]
 
 
+def late_interfaces():
+    """A chain of 300 interfaces, and 1,800 classes that each list 300 others before the lowest of the chain."""
+    chained = [b"I%d" % place for place in range(300)]
+    others = [b"O%d" % place for place in range(300)]
+    lowest = File(b"M")
+    lowest.main()
+    files = [lowest] + [File(other, flags=INTERFACE) for other in others]
+    files += [File(name, interfaces=[above], flags=INTERFACE) for name, above in zip(chained, chained[1:])]
+    files.append(File(chained[-1], flags=INTERFACE))
+    return files + [File(b"C%d" % place, interfaces=others + chained[:1]) for place in range(1_800)]
+
+
+def shared_names():
+    """1,000 interfaces of the same 60 methods, and 1,000 classes that have them and list none."""
+    names = [b"m%d" % place for place in range(60)]
+    lowest = File(b"M")
+    lowest.main()
+    files = [lowest]
+    for place in range(1_000):
+        interface = File(b"I%d" % place, flags=INTERFACE)
+        full = File(b"C%d" % place)
+        for name in names:
+            interface.method(ABSTRACT, name)
+            full.method(PUBLIC, name)
+        files += [interface, full]
+    return files
+
+
 def long_texts():
     """16 MB: a class and its superclass, each with 65,000 texts that differ in their last characters alone."""
     upper = File(b"C")
@@ -128,7 +156,16 @@ def long_texts():
     return [lowest, upper]
 
 
-PROGRAMS = [chain, levels, fields_through_interfaces, methods_through_interfaces, left_over, long_texts]
+PROGRAMS = [
+    chain,
+    levels,
+    fields_through_interfaces,
+    methods_through_interfaces,
+    left_over,
+    late_interfaces,
+    shared_names,
+    long_texts,
+]
 
 
 def main():
