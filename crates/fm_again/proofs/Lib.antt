@@ -13,3 +13,4 @@ pub mod FreeUse
 pub mod RowSteps
 pub mod RowsBlind
 pub mod FitsBlind
+pub mod Codes

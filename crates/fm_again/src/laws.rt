@@ -1,6 +1,7 @@
 // Laws of the definitions, each as the contract of a function that does nothing.
 
 ghost use Rattle.fm_again.specs.Again.{FreeStands, OutlinesStay, RefusalsStay, SafeClassesLink, UsesStay};
+ghost use Rattle.fm_again.specs.Codes.{CodesAreWoven};
 ghost use Rattle.fm_again.specs.Rows.{RowsAreBlind, StatesFitStill};
 
 use fm_world::law_class_types;
@@ -9,6 +10,11 @@ use fm_world::law_class_types;
 /// classes, members, types and texts have the same numbers, and main is the same.
 pub fn law_outline()
     ensures { OutlinesStay }
+{}
+
+/// Each method has its old code, with what its plan inserts if it has one.
+pub fn law_codes()
+    ensures { CodesAreWoven }
 {}
 
 /// Each index of a pool stands for what it stood for, but for that of FreeMe.free, which stands for that

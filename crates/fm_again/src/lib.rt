@@ -4,4 +4,4 @@
 
 mod laws;
 
-pub use laws::{law_links, law_outline, law_rows, law_uses};
+pub use laws::{law_codes, law_links, law_outline, law_rows, law_uses};
