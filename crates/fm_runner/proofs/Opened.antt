@@ -38,10 +38,10 @@ states_by p typed method None is = []
 states_by p typed method (Some code) is = (typed method (subst IsSome (sym is) refl)).0
 
 -- typed methods have a typing each
-typings_of : (p : Program) → AreTyped p → Typings
+pub typings_of : (p : Program) → AreTyped p → Typings
 typings_of p typed method = states_by p typed method (code_at p method) refl
 
-typings_are : (p : Program) (typed : AreTyped p) → sound.AreTyped p (typings_of p typed)
+pub typings_are : (p : Program) (typed : AreTyped p) → sound.AreTyped p (typings_of p typed)
 unfolding states_by typings_of
 typings_are p typed method code is = by_code (code_at p method) refl is where
   by_code : (found : Option Code) (same : code_at p method ≡ found) → found ≡ Some code → IsTyping p method (states_by p typed method found same)
@@ -55,7 +55,7 @@ abbrev pub job_of : Budgets → List (List ℕ) → List ℕ → Job
 job_of b arguments input = record { arguments = arguments; input = input; depth = b.frames }
 
 -- nothing is printed in it
-opening-silent : (p : Program) (b : Budgets) (arguments : List (List ℕ)) (input : List ℕ)
+pub opening-silent : (p : Program) (b : Budgets) (arguments : List (List ℕ)) (input : List ℕ)
     → opening p choice (job_of b arguments input) (opened b.words (Some MAX_MADE_WORDS) empty_lists) ≡ silent (opened_run p b arguments input)
 unfolding opening
 opening-silent p b arguments input = refl
@@ -79,6 +79,13 @@ opened_goes p b arguments input may can typed within few given short fit =
       births = omega (arith, births, texts, steps, few);
     }
 
+-- after all its steps the run is at its last state
+pub last_after : (p : Program) (b : Budgets) (arguments : List (List ℕ)) (input : List ℕ) (last : State) (before later : Output)
+    → (runs : RunsTo p choice b.steps (opened_run p b arguments input) last before later)
+    → after p choice runs.run.count (opening p choice (job_of b arguments input) (opened b.words (Some MAX_MADE_WORDS) empty_lists))
+    ≡ record { state = last; printed = runs.printed }
+last_after p b arguments input last before later runs = ap (after p choice runs.run.count) (opening-silent p b arguments input) ∙ sym runs.run.is
+
 -- what the end of the run names is there
 pub end_told : (p : Program) (b : Budgets) (arguments : List (List ℕ)) (input : List ℕ) → CanRun p → AreTyped p → AreWithin b → ArgumentsFit arguments
     → length input ≤ MAX_FILE_BYTES → (last : State) (before later : Output) → RunsTo p choice b.steps (opened_run p b arguments input) last before later
@@ -86,9 +93,7 @@ pub end_told : (p : Program) (b : Budgets) (arguments : List (List ℕ)) (input 
 end_told p b arguments input can typed within given short last before later runs =
     let job = job_of b arguments input in
     let there = ends_there p (typings_of p typed) (typings_are p typed) can last_choice job short given b.words (Some MAX_MADE_WORDS) empty_lists within.words runs.run.count in
-    let same : after p choice runs.run.count (opening p choice job (opened b.words (Some MAX_MADE_WORDS) empty_lists)) ≡ record { state = last; printed = runs.printed } =
-    ap (after p choice runs.run.count) (opening-silent p b arguments input) ∙ sym runs.run.is in
-    subst (λ (m : Moved). IsEndIn p (end_of m.state)) same there
+    subst (λ (m : Moved). IsEndIn p (end_of m.state)) (last_after p b arguments input last before later runs) there
 
 -- ---- what is left undone
 

@@ -5,6 +5,7 @@ use Rattle.std.specs.List.{AllByRecursion}
 use Rattle.std.proofs.lemmas.Bool.{leb-false}
 use Rattle.std.proofs.lemmas.List.Elements.{All-contains, All-from_recursion}
 use Rattle.std.specs.Prelude.{◌%◌, ◌&&◌, nat_le, if◌then◌else◌}
+use Rattle.fm_base.specs.declared.ids.MethodId.{MethodId}
 use Rattle.fm_base.proofs.ContainsFacts.{Contains-cons_cases, unlike_elements}
 use Rattle.fm_files.specs.Files.{Bytes, Disk}
 use Rattle.fm_files.specs.Sink.{Output}
@@ -17,7 +18,7 @@ use Rattle.fm_given.specs.declared.class_refusal.ClassRefusal.TheVariants as ref
 use Rattle.fm_given.specs.declared.refusal.JobRefusal.{JobRefusal}
 use Rattle.fm_given.specs.declared.refusal.JobRefusal.TheVariants as job_refusal
 use Rattle.fm_report.specs.Reports.{end_status}
-use Rattle.fm_report.specs.declared.status.TheConstants.{OTHER_EXIT}
+use Rattle.fm_report.specs.declared.status.TheConstants.{FAULT, OTHER_EXIT}
 use Rattle.fm_request.specs.Request.{Job}
 use Rattle.fm_runner.specs.declared.runs.Told.{Told}
 use Rattle.fm_tool.proofs.LineLemmas.{instead_for_file}
@@ -29,18 +30,28 @@ use Rattle.fmrun.specs.declared.outcome.JobFail.TheVariants as fail
 
 -- ---- ends
 
--- a number of which the lowest bits are told is no status of a refusal
-exit_apart : (low : ℕ) (above below : Bool) → nat_le 64 low ≡ above → nat_le low 85 ≡ below → (s : ℕ) → 64 ≤ s → s ≤ 79 → (if above && below then OTHER_EXIT else low) ≡ s → ⊥
+-- a number of which the lowest bits are told has no status of a refusal or of another end
+exit_apart : (low : ℕ) (above below : Bool) → nat_le 64 low ≡ above → nat_le low 85 ≡ below → (s : ℕ) → 64 ≤ s → s ≤ 85 → (if above && below then OTHER_EXIT else low) ≡ s → ⊥
 exit_apart low true true a b s from to is = omega arith
 exit_apart low true false a b s from to is = let over = leb-false low 85 b in omega arith
 exit_apart low false below a b s from to is = let under = leb-false 64 low a in omega arith
 
 -- an end has no status of a refusal
 pub end_apart : (e : Ended) (s : ℕ) → 64 ≤ s → s ≤ 79 → end_status e ≡ s → ⊥
-end_apart (end.Exit n) s from to is = exit_apart (cast_unsigned w32 n % 256) (nat_le 64 (cast_unsigned w32 n % 256)) (nat_le (cast_unsigned w32 n % 256) 85) refl refl s from to is
+end_apart (end.Exit n) s from to is = exit_apart (cast_unsigned w32 n % 256) (nat_le 64 (cast_unsigned w32 n % 256)) (nat_le (cast_unsigned w32 n % 256) 85) refl refl s from (omega arith) is
 end_apart e s from to is = omega arith
 
--- and so has no run
+-- the end is a fault
+abbrev pub IsFault : Ended → Type 0
+IsFault e = (method : MethodId) × (offset cell : ℕ) × (e ≡ end.Fault method offset cell)
+
+-- and so is each end that has its status
+pub fault_status : (e : Ended) → end_status e ≡ FAULT → IsFault e
+fault_status (end.Fault method offset cell) is = (method, offset, cell, refl)
+fault_status (end.Exit n) is = absurd (exit_apart (cast_unsigned w32 n % 256) (nat_le 64 (cast_unsigned w32 n % 256)) (nat_le (cast_unsigned w32 n % 256) 85) refl refl FAULT (omega arith) (omega arith) is)
+fault_status e is = absurd (omega arith)
+
+-- nor has a run a status of a refusal
 pub run_apart : {job : Job} {line : List ℕ} {status : ℕ} {old new : Disk} {before after : Output} → HasRun job line status old new before after → (s : ℕ) → 64 ≤ s → s ≤ 79 → status ≡ s → ⊥
 run_apart ran s from to is = end_apart (report_of ran.last).end s from to (sym ran.status_is ∙ is)
 

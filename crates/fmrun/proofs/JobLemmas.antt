@@ -233,10 +233,11 @@ module _ {job : Job} {classes : List ClassDef} {old between : Disk} (has : HasCl
         classes = classes;
         input = input;
         ready = ready are;
-        last = now.last;
-        runs = now.runs;
-        line_is = now.line_is;
-        status_is = now.status_is;
+        last = now.told.last;
+        runs = now.told.runs;
+        line_is = now.told.line_is;
+        status_is = now.told.status_is;
+        no_fault = now.no_fault;
         untouched = untouched;
       }
       ends_run before after (Err fail.Output) (are, now) = record {

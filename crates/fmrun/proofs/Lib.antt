@@ -6,3 +6,4 @@ pub mod RequestLimits
 pub mod RunningLemmas
 pub mod ToldLemmas
 pub mod Verdicts
+pub mod RunFacts

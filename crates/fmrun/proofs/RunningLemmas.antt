@@ -1,11 +1,14 @@
 -- The program of classes that are taken can be run, and what comes of it.
-use Rattle.std.proofs.Common.{◌≤◌, ℕ, inl, inr, List, length, Ok, Err, refl, sym, subst}
+use Rattle.std.proofs.Common.{◌≤◌, ℕ, inl, inr, List, length, Some, Ok, Err, refl, sym, subst}
 use Rattle.std.specs.List.{AllByRecursion}
 use Rattle.fm_base.proofs.ListFacts.{AllByRecursion-weaker}
-use Rattle.fm_base.specs.declared.limits.TheConstants.{MAX_CLASS_FILES}
+use Rattle.fm_base.specs.declared.limits.TheConstants.{MAX_CLASS_FILES, MAX_FILE_BYTES, MAX_MADE_WORDS}
+use Rattle.fm_cells.specs.Choices.{last_choice}
+use Rattle.fm_cells.specs.Stores.{empty_lists}
 use Rattle.fm_code.specs.Profile.{IsSupported, IsWithinLimits, Profile}
 use Rattle.fm_code.specs.declared.class_file.ClassDef.{ClassDef}
 use Rattle.fm_files.specs.Sink.{Output}
+use Rattle.fm_frames.specs.States.{Moved, State}
 use Rattle.fm_frames.specs.declared.turns.StepFail.{StepFail}
 use Rattle.fm_frames.specs.declared.turns.StepFail.TheVariants as step_fail
 use Rattle.fm_given.proofs.TakenLemmas.{have_spellings}
@@ -15,13 +18,18 @@ use Rattle.fm_given.specs.declared.refusal.JobRefusal.{JobRefusal}
 use Rattle.fm_given.specs.declared.refusal.JobRefusal.TheVariants as job_refusal
 use Rattle.fm_ready.specs.Ready.{CanRun}
 use Rattle.fm_resolved.specs.Laws.{ProgramsCanRun}
-use Rattle.fm_run.specs.Running.{BreaksRun, FailsRun}
-use Rattle.fm_runner.specs.Runs.{ComesOfRun, IsToldOf, choice, opened_run}
+use Rattle.fm_run.specs.Running.{BreaksRun, FailsRun, RunsTo}
+use Rattle.fm_runner.proofs.Opened.{job_of, last_after, typings_are, typings_of}
+use Rattle.fm_runner.specs.Runs.{AreWithin, ComesOfRun, IsToldOf, choice, opened_run}
 use Rattle.fm_runner.specs.declared.runs.Budgets.{Budgets}
 use Rattle.fm_runner.specs.declared.runs.Told.{Told}
+use Rattle.fm_same.specs.Resolved.{CallsNoFreeMe}
+use Rattle.fm_sound.specs.Making.{ArgumentsFit}
 use Rattle.fm_tool.specs.declared.refusal.Refusal.TheVariants as refusal
 use Rattle.fm_untyped.specs.Untyped.{AreTyped}
-use Rattle.fm_world.specs.Programs.{Program}
+use Rattle.fm_whole.specs.NoFault.{LinkedProgramsNeverFault}
+use Rattle.fm_whole.specs.Whole.{HasNoFault}
+use Rattle.fm_world.specs.Programs.{Program, program_of}
 use Rattle.fmrun.specs.declared.outcome.JobFail.{JobFail}
 use Rattle.fmrun.specs.declared.outcome.JobFail.TheVariants as fail
 use Rattle.fmrun.specs.inner.Fails.{IsOfStep}
@@ -55,9 +63,27 @@ module _ (classes : List ClassDef) (main : List ℕ) where
       are_program : AreProgram classes main
       are_program = record { linked = comes.0.0; typed = comes.1 }
 
+      -- a run of the program doesn't end in a fault where no method calls FreeMe
+      never_faults : LinkedProgramsNeverFault → AllByRecursion IsSpelled classes → AllByRecursion Profile classes → length classes ≤ MAX_CLASS_FILES
+          → AreWithin b → ArgumentsFit arguments → length input ≤ MAX_FILE_BYTES → (last : State)
+          → RunsTo (program_of classes main) choice b.steps (opened_run (program_of classes main) b arguments input) last before after
+          → CallsNoFreeMe (program_of classes main) → HasNoFault last
+      never_faults law spelled accepted few within given short last runs frees_none =
+          let p = program_of classes main in
+          let supported = AllByRecursion-weaker Profile IsSupported (λ c profile. profile.supported) classes accepted in
+          let kept = law classes main (have_spellings classes spelled) supported comes.0.0 few (typings_of p are_program.typed)
+          (typings_are p are_program.typed) frees_none last_choice (job_of b arguments input) short given b.words (Some MAX_MADE_WORDS) empty_lists
+          within.words runs.run.count in
+          subst (λ (m : Moved). HasNoFault m.state) (last_after p b arguments input last before after runs) kept.1
+
       -- their run is told
-      pub comes_told : (told : Told) → ComesOfRun program b arguments input before after (Ok told) → ComesOfClasses classes main b arguments input before after (Ok told)
-      comes_told told now = (are_program, let P : Program → Type 0 = λ p. IsToldOf p b arguments input told before after in subst P comes.0.1 now)
+      pub comes_told : LinkedProgramsNeverFault → AllByRecursion IsSpelled classes → AllByRecursion Profile classes → length classes ≤ MAX_CLASS_FILES
+          → AreWithin b → ArgumentsFit arguments → length input ≤ MAX_FILE_BYTES → (told : Told) → ComesOfRun program b arguments input before after (Ok told)
+          → ComesOfClasses classes main b arguments input before after (Ok told)
+      comes_told law spelled accepted few within given short told now =
+          let P : Program → Type 0 = λ p. IsToldOf p b arguments input told before after in
+          let own : IsToldOf (program_of classes main) b arguments input told before after = subst P comes.0.1 now in
+          (are_program, record { told = own; no_fault = never_faults law spelled accepted few within given short own.last own.runs })
 
       -- or a step of it couldn't be done
       pub comes_failed : (f : StepFail) (e : JobFail) → IsOfStep f e → ComesOfRun program b arguments input before after (Err f) → ComesOfClasses classes main b arguments input before after (Err e)

@@ -1,5 +1,6 @@
 -- When each status comes, and what a call leaves then. All this follows from what a call does as a whole; a caller reads it one by one.
-use Rattle.std.specs.Prelude.{◌≡◌, ℕ, ◌<◌, ◌≤◌, ◌⊎◌, List, [], ◌∷◌, Contains, length, IsSome, Some}
+use Rattle.std.specs.Prelude.{◌≡◌, ◌≢◌, ℕ, ◌<◌, ◌≤◌, ◌⊎◌, List, [], ◌∷◌, Contains, length, IsSome, Some}
+use Rattle.std.specs.List.{sum}
 use Rattle.fm_base.specs.declared.limits.TheConstants.{MAX_ARGUMENTS, MAX_CLASS_FILES, MAX_FILE_BYTES}
 use Rattle.fm_code.specs.declared.class_file.ClassDef.{ClassDef}
 use Rattle.fm_files.specs.Files.{Bytes, Disk}
@@ -11,14 +12,17 @@ use Rattle.fm_frames.specs.declared.ends.Ended.{Ended}
 use Rattle.fm_frames.specs.inner.Doings.{silent}
 use Rattle.fm_given.specs.Causes.{FailsARead, HasTooMany, IsMissing, IsKnownLong, IsKnownRefused, IsKnownUnlinked, IsKnownUntyped}
 use Rattle.fm_given.specs.ClassRefusal.{class_refusal_line, class_refusal_status}
-use Rattle.fm_given.specs.Given.{AreMany, IsLong, IsNotLinked, IsNotTyped, IsRefusedFile, IsUnread, IsUntouched}
+use Rattle.fm_given.specs.Given.{AreChecked, AreMany, IsLong, IsNotLinked, IsNotTyped, IsRefusedFile, IsUnread, IsUntouched}
 use Rattle.fm_given.specs.LinkRefusal.{link_line}
 use Rattle.fm_given.specs.Refusal.{check_line, long_line, many_arguments_line, many_line}
 use Rattle.fm_given.specs.Taking.{AllTaken}
 use Rattle.fm_given.specs.declared.class_refusal.ClassRefusal.{ClassRefusal}
+use Rattle.fm_held.specs.MostHeld.{all_most_held}
 use Rattle.fm_report.specs.Reports.{end_status}
+use Rattle.fm_report.specs.declared.status.TheConstants.{FAULT}
 use Rattle.fm_request.specs.Request.{Job, Asks, AskNothing}
 use Rattle.fm_runner.specs.Runs.{choice}
+use Rattle.fm_same.specs.Resolved.{CallsNoFreeMe}
 use Rattle.fm_tool.specs.Outside.{HasNoFault, IsKnownMissing, IsKnownSuch}
 use Rattle.fm_tool.specs.Refusal.{memory_line, read_line, words_line}
 use Rattle.fm_tool.specs.Status.{ComesExactly}
@@ -232,6 +236,34 @@ pub record IsForRun (words : List Bytes) (old new : Disk) (before after report r
   pub only : ¬ Contains refusals result → SaysRun words old new before after report report' result
   pub ready : AskFor words (IsKnownReady old) → SaysRun words old new before after report report' result ⊎ Contains (READ ∷ WRITE ∷ OUT_OF_MEMORY ∷ []) result
   pub ends : (status : ℕ) → AskFor words (IsKnownRun status old) → Contains (status ∷ READ ∷ WRITE ∷ OUT_OF_MEMORY ∷ []) result
+
+-- ---- 83
+
+-- the run came to its end in a fault, and a method of its program calls FreeMe
+pub record SaysFault (words : List Bytes) (old new : Disk) (before after report report' : Output) : Type 0 where
+  pub run : SaysRun words old new before after report report' FAULT
+  pub frees : ¬ CallsNoFreeMe (job_program run.job run.ran.classes)
+
+-- contents are known, all class files are taken, and their classes make a program of typed methods, none of which calls FreeMe
+pub record IsKnownFreeless (old : Disk) (job : Job) : Type 0 where
+  pub known : IsSome old.contents
+  pub classes : List ClassDef
+  pub checked : AreChecked (given_of job) old.contents classes
+  pub frees_none : CallsNoFreeMe (job_program job classes)
+
+-- only there: a program that calls no method of FreeMe never ends in a fault
+pub record IsForFault (words : List Bytes) (old new : Disk) (before after report report' : Output) (result : ℕ) : Type 0 where
+  pub only : result ≡ FAULT → SaysFault words old new before after report report'
+  pub never : AskFor words (IsKnownFreeless old) → result ≢ FAULT
+
+-- ---- the cells of a run
+
+-- the cells made that the line of a run reports are those of each size class that were held at once at most, in all its states from its opening on
+abbrev pub ReportsMostHeld : List Bytes → Disk → Disk → Output → Output → Output → Output → ℕ → Type 0
+ReportsMostHeld words old new before after report report' result =
+    (said : SaysRun words old new before after report report' result)
+    → (report_of said.ran.last).cells_made
+    ≡ sum (all_most_held (job_program said.job said.ran.classes) (silent (opened_job said.job said.ran.classes said.ran.input)) said.ran.runs.run.count)
 
 -- ---- 75
 

@@ -18,11 +18,13 @@ use Rattle.fm_report.specs.Reports.{report_line, end_status}
 use Rattle.fm_request.specs.Request.{Job, Asks, AskNothing}
 use Rattle.fm_run.specs.Running.{BreaksRun, FailsRun, RunsTo}
 use Rattle.fm_runner.specs.Runs.{choice}
+use Rattle.fm_same.specs.Resolved.{CallsNoFreeMe}
 use Rattle.fm_runner.specs.declared.runs.Told.{Told}
 use Rattle.fm_tool.specs.Line.{Tells}
 use Rattle.fm_tool.specs.Outside.{HasReadFault, HoldsSuch}
 use Rattle.fm_tool.specs.declared.refusal.Refusal.TheVariants as refusal
 use Rattle.fm_tool.specs.declared.status.TheConstants.{WRITE}
+use Rattle.fm_whole.specs.Whole.{HasNoFault}
 use Rattle.fmrun.specs.Jobs.{given_of, job_arguments, job_files, job_program, opened_job, IsReady}
 use Rattle.fmrun.specs.declared.outcome.JobFail.{JobFail}
 use Rattle.fmrun.specs.declared.outcome.JobFail.TheVariants as fail
@@ -67,7 +69,7 @@ pub record HasInput (job : Job) (contents : Contents) : Type 0 where
 -- ---- how a job is run
 
 -- the run was opened with these classes and this input, and came to its end: what it printed came to the output, each step's bytes in one put, and
--- this is its line and its status
+-- this is its line and its status. Where no method of the program calls FreeMe it didn't end in a fault
 pub record HasRun (job : Job) (line : List ℕ) (status : ℕ) (old new : Disk) (before after : Output) : Type 0 where
   pub classes : List ClassDef
   pub input : Bytes
@@ -76,6 +78,7 @@ pub record HasRun (job : Job) (line : List ℕ) (status : ℕ) (old new : Disk) 
   pub runs : RunsTo (job_program job classes) choice job.steps (opened_job job classes input) last before after
   pub line_is : line ≡ report_line (job_program job classes) (report_of last)
   pub status_is : status ≡ end_status (report_of last).end
+  pub no_fault : CallsNoFreeMe (job_program job classes) → HasNoFault last
   pub untouched : IsUntouched old new
 
 -- the put of what one of its steps prints failed, after what the steps before it printed came

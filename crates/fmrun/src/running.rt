@@ -15,12 +15,12 @@ use fm_base::Units;
 use fm_code::ClassDef;
 use fm_files::Sink;
 use fm_given::judge_program;
-use fm_resolved::law_can_run;
+use fm_resolved::{law_can_run, law_linked_no_fault};
 use fm_runner::{Budgets, Told, run_program};
 use std::alloc::Global;
 
 /// Runs the program of classes with a main class of this name, where they make one of typed methods, and
-/// tells of its run.
+/// tells of its run; it ends in a fault only where a method calls FreeMe.
 pub fn run_classes<'a, O: Sink>(
     alloc: Global,
     classes: &[ClassDef],
@@ -42,6 +42,7 @@ pub fn run_classes<'a, O: Sink>(
 {
     let program = judge_program(alloc, classes, main)?;
     law_can_run();
+    law_linked_no_fault();
     let told = run_program(alloc, &program, budgets, arguments, input, out)?;
     Ok(told)
 }

@@ -7,7 +7,7 @@ ghost use Rattle.fm_request.specs.Request.{job_of};
 ghost use Rattle.fm_sound.specs.Making.{AreUnits};
 ghost use Rattle.fm_tool.specs.Words.{texts};
 ghost use Rattle.fm_tool.specs.declared.status.TheConstants.{MALFORMED, UNSUPPORTED, VERSION};
-ghost use Rattle.fmrun.specs.Causes.{IsFaultless, IsForBytes, IsForCheck, IsForLimit, IsForLink, IsForMemory, IsForRead, IsForRun, IsForWords, IsForWrite, IsSilent, IsStatus, OnlyReads};
+ghost use Rattle.fmrun.specs.Causes.{IsFaultless, IsForBytes, IsForCheck, IsForFault, IsForLimit, IsForLink, IsForMemory, IsForRead, IsForRun, IsForWords, IsForWrite, IsSilent, IsStatus, OnlyReads, ReportsMostHeld};
 ghost use Rattle.fmrun.specs.Jobs.{IsWithinLimits, text_arguments};
 ghost use Rattle.fmrun.specs.TopCall.{ComesOf, ComesTo, IsTold, IsTopCall, StaysWithin};
 
@@ -18,8 +18,10 @@ use fm_base::{NoMemory, Units};
 use fm_code::ClassDef;
 use fm_files::{Files, Sink};
 use fm_given::{JobRefusal, read_classes};
+use fm_held::law_most_held;
 use fm_input::read_input;
 use fm_request::{Request, arguments_of, request_of};
+use fm_resolved::law_can_run;
 use fm_runner::{Budgets, Told};
 use fm_tool::{Refusal, put_line, status};
 use std::alloc::Global;
@@ -67,10 +69,18 @@ pub fn fmrun_run<F: Files, O: Sink, R: Sink>(
     ensures check { IsForCheck (texts words.now)
         (F.disk files.old) (F.disk files.new) (O.output out.old) (O.output out.new)
         (R.output report.old) (R.output report.new) result }
+    ensures fault { IsForFault (texts words.now)
+        (F.disk files.old) (F.disk files.new) (O.output out.old) (O.output out.new)
+        (R.output report.old) (R.output report.new) result }
     ensures write { IsForWrite (texts words.now)
         (F.disk files.old) (F.disk files.new) (O.output out.old) (O.output out.new)
         (R.output report.old) (R.output report.new) result }
     ensures memory { IsForMemory (texts words.now)
+        (F.disk files.old) (F.disk files.new) (O.output out.old) (O.output out.new)
+        (R.output report.old) (R.output report.new) result }
+
+    // Of each size class as many cells are made as were held at once.
+    ensures most_held { ReportsMostHeld (texts words.now)
         (F.disk files.old) (F.disk files.new) (O.output out.old) (O.output out.new)
         (R.output report.old) (R.output report.new) result }
 
@@ -80,6 +90,8 @@ pub fn fmrun_run<F: Files, O: Sink, R: Sink>(
     ensures silent { IsSilent (O.output out.old) (O.output out.new) result }
     ensures reads { OnlyReads (texts words.now) (F.disk files.old) (F.disk files.new) }
 {
+    law_can_run();
+    law_most_held();
     let outcome = do_words(alloc, words, files, out);
     tell(alloc, outcome, report)
 }

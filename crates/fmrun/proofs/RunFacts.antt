@@ -1,0 +1,115 @@
+-- What else is known of a run that is told: when it ends in a fault, and how many cells it made.
+use Rattle.std.proofs.Common.{◌≡◌, ◌⊎◌, ◌≤◌, ℕ, inl, inr, List, Contains, Option, Some, None, length, refl, sym, ◌∙◌, ap, subst, arith}
+use Rattle.std.specs.List.{sum}
+use Rattle.std.specs.Prelude.{unwrap_or}
+use Rattle.fm_base.proofs.ListFacts.{AllByRecursion-weaker}
+use Rattle.fm_base.proofs.OptionFacts.{Some-from_is_some}
+use Rattle.fm_base.specs.declared.limits.TheConstants.{MAX_CLASS_FILES, MAX_MADE_WORDS}
+use Rattle.fm_code.specs.Profile.{IsSupported, Profile}
+use Rattle.fm_code.specs.declared.class_file.ClassDef.{ClassDef}
+use Rattle.fm_files.specs.Files.{Bytes, Disk}
+use Rattle.fm_files.specs.Sink.{Output}
+use Rattle.fm_frames.specs.Reports.{report_of}
+use Rattle.fm_frames.specs.States.{Moved, State}
+use Rattle.fm_frames.specs.declared.ends.Ended.{Ended}
+use Rattle.fm_frames.specs.declared.ends.Ended.TheVariants as end
+use Rattle.fm_given.proofs.KnownLemmas.{all_taken}
+use Rattle.fm_given.proofs.ReadLemmas.{same_number}
+use Rattle.fm_given.proofs.TakenLemmas.{are_spelled, have_spellings}
+use Rattle.fm_given.proofs.VerdictLemmas.{Ends, EndsOnce, one_judgement}
+use Rattle.fm_given.specs.Given.{AreChecked}
+use Rattle.fm_given.specs.Taking.{AllTaken}
+use Rattle.fm_held.specs.MostHeld.{all_most_held, MadeIsMostHeld}
+use Rattle.fm_ready.specs.Ready.{CanRun}
+use Rattle.fm_report.specs.declared.status.TheConstants.{FAULT}
+use Rattle.fm_request.proofs.RequestLemmas.{asks_one}
+use Rattle.fm_request.specs.Request.{Job}
+use Rattle.fm_resolved.specs.Laws.{ProgramsCanRun}
+use Rattle.fm_runner.proofs.Opened.{job_of, last_after, opening-silent}
+use Rattle.fm_same.specs.Resolved.{CallsNoFreeMe}
+use Rattle.fm_tool.specs.Encoding.{modified}
+use Rattle.fm_whole.specs.Whole.{HasNoFault}
+use Rattle.fmrun.proofs.EndStatuses.{among_refusals, fault_status, IsFault}
+use Rattle.fmrun.proofs.JobLemmas.{are_accepted}
+use Rattle.fmrun.specs.Causes.{AskFor, IsForFault, IsForRun, IsKnownFreeless, refusals, ReportsMostHeld, SaysFault, SaysRun}
+use Rattle.fmrun.specs.Jobs.{budgets_of, given_of, job_arguments, job_program}
+
+-- ---- 83
+
+-- a run that ends in a fault has ended
+ended_in : (ended : Option Ended) → IsFault (unwrap_or ended end.Running) → (last : State) → last.ended ≡ ended → HasNoFault last → ⊥
+ended_in None (method, offset, cell, is) last same none = absurd (cc)
+ended_in (Some e) (method, offset, cell, is) last same none = none method offset cell (same ∙ ap Some is)
+
+-- classes of which none calls FreeMe end in 0, and others in 1
+abbrev Frees : Job → Ends
+Frees job classes status =
+    (CallsNoFreeMe (job_program job classes) × (status ≡ 0)) ⊎ ((CallsNoFreeMe (job_program job classes) → ⊥) × (status ≡ 1))
+
+not_both : (status : ℕ) → status ≡ 0 → status ≡ 1 → ⊥
+not_both status first second = omega arith
+
+frees_once : (job : Job) → EndsOnce (Frees job)
+frees_once job classes s t (inl p) (inl q) = p.1 ∙ sym q.1
+frees_once job classes s t (inl p) (inr q) = absurd (q.0 p.0)
+frees_once job classes s t (inr p) (inl q) = absurd (p.0 q.0)
+frees_once job classes s t (inr p) (inr q) = p.1 ∙ sym q.1
+
+module _ (words : List Bytes) (old new : Disk) (before after report report' : Output) where
+  fault_said : SaysRun words old new before after report report' FAULT → SaysFault words old new before after report report'
+  fault_said said = record {
+    run = said;
+    frees = λ none. ended_in said.ran.last.ended (fault_status (report_of said.ran.last).end (sym said.ran.status_is)) said.ran.last refl (said.ran.no_fault none);
+  }
+
+  -- where contents are known, the classes of a job are the same
+  known_frees : AskFor words (IsKnownFreeless old) → SaysFault words old new before after report report' → ⊥
+  known_frees (job, (asked, known)) fault =
+      let found = Some-from_is_some old.contents known.known in
+      let P : Job → Type 0 = λ j. (classes : List ClassDef) × AllTaken old.contents j.files classes × (CallsNoFreeMe (job_program j classes) → ⊥) in
+      let own = subst P (asks_one words fault.run.job job fault.run.asked asked)
+      (fault.run.ran.classes, fault.run.ran.ready.checked.linked.taken, fault.frees) in
+      not_both 0 refl (one_judgement (Frees job) (frees_once job) found.0 job.files 0 1
+      (inr (record {
+        classes = known.classes;
+        taken = all_taken job.files old.contents found.0 found.1 known.classes known.checked.linked.taken;
+        last = inl (known.frees_none, refl);
+      }))
+      (inr (record {
+        classes = own.0;
+        taken = all_taken job.files old.contents found.0 found.1 own.0 own.1;
+        last = inr (own.2, refl);
+      })))
+
+  no_refusal : Contains refusals FAULT → ⊥
+  no_refusal among = let bounds = among_refusals FAULT among in let high = bounds.high in omega arith
+
+  pub is_for_fault : (result : ℕ) → IsForRun words old new before after report report' result → IsForFault words old new before after report report' result
+  is_for_fault result run = record { only = only; never = λ known is. known_frees known (only is) } where
+    only : result ≡ FAULT → SaysFault words old new before after report report'
+    only is =
+        let P : ℕ → Type 0 = λ s. (Contains refusals s → ⊥) → SaysRun words old new before after report report' s in
+        fault_said (subst P is run.only no_refusal)
+
+  -- ---- cells
+
+  can_run : ProgramsCanRun → (job : Job) (classes : List ClassDef) → AreChecked (given_of job) old.contents classes → CanRun (job_program job classes)
+  can_run law job classes checked =
+      let taken = checked.linked.taken in
+      let spelled = have_spellings classes (are_spelled old.contents job.files classes taken.taken) in
+      let accepted = are_accepted old.contents job.files classes taken.taken in
+      let few : length classes ≤ MAX_CLASS_FILES = let most = taken.few in omega (arith, same_number old.contents job.files classes taken.taken) in
+      law classes (modified job.main) spelled (AllByRecursion-weaker Profile IsSupported (λ c profile. profile.supported) classes accepted) checked.linked.linked few
+
+  pub reports_most_held : ProgramsCanRun → MadeIsMostHeld → (result : ℕ) → ReportsMostHeld words old new before after report report' result
+  reports_most_held can law result said =
+      let job = said.job in
+      let ran = said.ran in
+      let p = job_program job ran.classes in
+      let b = budgets_of job in
+      let count = ran.runs.run.count in
+      let made = law p (can_run can job ran.classes ran.ready.checked) (job_of b (job_arguments job) ran.input) b.words (Some MAX_MADE_WORDS) count in
+      let same = last_after p b (job_arguments job) ran.input ran.last before after ran.runs in
+      sym (ap (λ (m : Moved). sum m.state.areas.store.made) same)
+      ∙ ap sum made
+      ∙ ap (λ (first : Moved). sum (all_most_held p first count)) (opening-silent p b (job_arguments job) ran.input)
