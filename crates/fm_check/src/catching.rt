@@ -271,7 +271,7 @@ impl Walk {
         if !self.bring_to_handlers(alloc, method, item, run.entries.as_slice(), state)? {
             return Ok(false);
         }
-        run.given = Some(Known::without_words(alloc, state)?);
+        run.keep(alloc, state)?;
         Ok(true)
     }
 

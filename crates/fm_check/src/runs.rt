@@ -2,11 +2,13 @@
 // entry stands at two runs of a level at most, and yet each item that it holds is in one of its runs.
 
 ghost use Rattle.std.specs.Prelude.{◌≡◌, All, IfOk, OnOk, map};
-ghost use Rattle.fm_check.specs.inner.Runs.{IsLaid, IsMade, IsNoted, IsOneMore, IsShort, Puts, spans_of, wider};
+ghost use Rattle.fm_check.specs.inner.Runs.{IsLaid, IsMade, IsNoted, IsOneMore, IsShort, Keeps, Puts, spans_of, wider};
+ghost use Rattle.fm_types.specs.Typings.{type_state};
 
 use fm_base::NoMemory;
 use fm_code::Handler;
 use fm_known::Known;
+use fm_types::State;
 use std::alloc::Global;
 
 /// Items side by side, with entries whose ranges hold all of them.
@@ -16,6 +18,16 @@ pub struct Run {
     pub entries: Vec<Handler>,
     /// A state that the handlers of all of them have room for, once one was brought to them.
     pub given: Option<Known>,
+}
+
+impl Run {
+    /// Notes a state that was brought to the handlers, but for the words of its stack.
+    pub fn keep(&mut self, alloc: Global, state: &State) -> Result<(), NoMemory>
+        ensures { OnOk result (Keeps (type_state state.now) self.old self.new) }
+    {
+        self.given = Some(Known::without_words(alloc, state)?);
+        Ok(())
+    }
 }
 
 /// Runs of one length, side by side from the first item on.

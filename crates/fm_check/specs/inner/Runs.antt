@@ -10,7 +10,7 @@ use Rattle.fm_check.specs.declared.catching.Giving.TheVariants as giving
 use Rattle.fm_check.specs.declared.runs.Level.{Level}
 use Rattle.fm_check.specs.declared.runs.Run.{Run}
 use Rattle.fm_check.specs.declared.runs.Span.{Span}
-use Rattle.fm_known.specs.inner.Risen.{IsAlikeBut, is_local, known_state, local_rises, rise_of, slot_at}
+use Rattle.fm_known.specs.inner.Risen.{IsAlikeBut, is_local, known_state, local_rises, rise_of, slot_at, without_words}
 use Rattle.fm_check.specs.inner.Walks.{CanCarry, CarriesOn, GoesOver, HasRoom, IsForced, Walked, Went}
 use Rattle.fm_known.specs.inner.Tasks.{is_within, Task}
 use Rattle.fm_code.specs.declared.code_array.Handler.{Handler}
@@ -138,6 +138,13 @@ pub record IsLaidSoFar (handlers : List Handler) (spans : List Span) (levels : L
   pub fresh : AreAllFresh levels
 
 -- ---- what was given to the handlers of runs
+
+-- a state was given to the handlers of a run's entries, but for the words of its stack
+pub record Keeps (s : TypeState) (run given : Run) : Type 0 where
+  pub known : Known
+  pub is : given.given ≡ Some known
+  pub bare : known_state known ≡ without_words s
+  pub same : given.entries.items ≡ run.entries.items
 
 -- an entry's handler has room for the locals of a state, and in each typing it does
 pub record IsHeld (t : Task) (states : List (Option TypeState)) (s : TypeState) (h : Handler) : Type 0 where

@@ -122,23 +122,32 @@ const FREE_ME_CLASS: ClassSample<'static> = ClassSample {
     ..NO_MAIN_CLASS
 };
 
+// An m()V that returns, and an abstract one.
+const METHOD: MethodSample<'static> = MethodSample {
+    flags: b"\0\x01",
+    name: b"\0\x10",
+    descriptor: b"\0\x11",
+    ..MAIN
+};
+
+const ABSTRACT: MethodSample<'static> = MethodSample {
+    flags: b"\x04\x01",
+    attributes_count: b"\0\0",
+    attribute_name: b"",
+    attribute_length: b"",
+    max_stack: b"",
+    max_locals: b"",
+    code_length: b"",
+    code: &[],
+    handlers: b"",
+    code_attributes: b"",
+    ..METHOD
+};
+
 const I_CLASS: ClassSample<'static> = ClassSample {
     this_class: b"\0\x0d",
     flags: b"\x06\x01",
-    methods: &[MethodSample {
-        flags: b"\x04\x01",
-        name: b"\0\x10",
-        descriptor: b"\0\x11",
-        attributes_count: b"\0\0",
-        attribute_name: b"",
-        attribute_length: b"",
-        max_stack: b"",
-        max_locals: b"",
-        code_length: b"",
-        code: &[],
-        handlers: b"",
-        code_attributes: b"",
-    }],
+    methods: &[ABSTRACT],
     ..M_CLASS
 };
 
@@ -175,12 +184,7 @@ const A_ABSTRACT_CLASS: ClassSample<'static> = ClassSample {
 
 const A_WITH_M_CLASS: ClassSample<'static> = ClassSample {
     methods_count: b"\0\x01",
-    methods: &[MethodSample {
-        flags: b"\0\x01",
-        name: b"\0\x10",
-        descriptor: b"\0\x11",
-        ..MAIN
-    }],
+    methods: &[METHOD],
     ..A_CLASS
 };
 
@@ -189,7 +193,110 @@ const B_BELOW_A_OF_I_CLASS: ClassSample<'static> = ClassSample {
     ..B_OF_I_CLASS
 };
 
-// All of these classes, and their places.
+// Superclasses that lead into a cycle, and those that can't be ones: none, an interface, a built-in class
+// that has none below it. Interfaces that extend one another, and one whose superclass isn't Object.
+const M_BELOW_A_CLASS: ClassSample<'static> = ClassSample {
+    super_class: b"\0\x09",
+    ..M_CLASS
+};
+
+const A_ALONE_CLASS: ClassSample<'static> = ClassSample {
+    super_class: b"\0\0",
+    ..A_CLASS
+};
+
+const A_BELOW_I_CLASS: ClassSample<'static> = ClassSample {
+    super_class: b"\0\x0d",
+    ..A_CLASS
+};
+
+const A_BELOW_FREE_ME_CLASS: ClassSample<'static> = ClassSample {
+    super_class: b"\0\x0f",
+    ..A_CLASS
+};
+
+const A_EXTENDS_B_CLASS: ClassSample<'static> = ClassSample {
+    flags: b"\x06\x01",
+    ..A_OF_B_CLASS
+};
+
+const B_EXTENDS_A_CLASS: ClassSample<'static> = ClassSample {
+    flags: b"\x06\x01",
+    interfaces: b"\0\x01\0\x09",
+    ..B_CLASS
+};
+
+const I_BELOW_B_CLASS: ClassSample<'static> = ClassSample {
+    super_class: b"\0\x0b",
+    ..I_CLASS
+};
+
+// A with a field x, and with a static one; with a static m()V, with an abstract one, and as an interface.
+const A_WITH_X_CLASS: ClassSample<'static> = ClassSample {
+    fields: b"\0\x01\0\x01\0\x14\0\x0c\0\0",
+    ..A_CLASS
+};
+
+const A_STATIC_X_CLASS: ClassSample<'static> = ClassSample {
+    fields: b"\0\x01\0\x09\0\x14\0\x0c\0\0",
+    ..A_CLASS
+};
+
+const A_STATIC_M_CLASS: ClassSample<'static> = ClassSample {
+    methods: &[MethodSample {
+        flags: b"\0\x09",
+        ..METHOD
+    }],
+    ..A_WITH_M_CLASS
+};
+
+const A_ABSTRACT_M_CLASS: ClassSample<'static> = ClassSample {
+    flags: b"\x04\x21",
+    methods: &[ABSTRACT],
+    ..A_WITH_M_CLASS
+};
+
+const A_INTERFACE_CLASS: ClassSample<'static> = ClassSample {
+    flags: b"\x06\x01",
+    ..A_ABSTRACT_M_CLASS
+};
+
+// Main calls A.m()V as a superclass's method.
+const M_CALLS_SPECIAL_CLASS: ClassSample<'static> = ClassSample {
+    methods: &[MethodSample {
+        attribute_length: b"\0\0\0\x11",
+        max_stack: b"\0\x01",
+        code_length: b"\0\0\0\x05",
+        code: &[
+            b"\x01\xb7\0\x13", // 0: null.m()
+            b"\xb1", // 4: return
+        ],
+        ..MAIN
+    }],
+    ..M_CLASS
+};
+
+// M with a main that isn't static, M without one below A, and A with one.
+const M_OF_OBJECT_CLASS: ClassSample<'static> = ClassSample {
+    methods: &[MethodSample {
+        flags: b"\0\x01",
+        max_locals: b"\0\x02",
+        ..MAIN
+    }],
+    ..M_CLASS
+};
+
+const NO_MAIN_BELOW_A_CLASS: ClassSample<'static> = ClassSample {
+    super_class: b"\0\x09",
+    ..NO_MAIN_CLASS
+};
+
+const A_WITH_MAIN_CLASS: ClassSample<'static> = ClassSample {
+    this_class: b"\0\x09",
+    ..M_CLASS
+};
+
+// All of these classes, in two tables, and their places.
 const CLASSES: [ClassSample<'static>; 18] = [
     M_CLASS,
     NO_MAIN_CLASS,
@@ -209,6 +316,25 @@ const CLASSES: [ClassSample<'static>; 18] = [
     A_ABSTRACT_CLASS,
     A_WITH_M_CLASS,
     B_BELOW_A_OF_I_CLASS,
+];
+
+const OTHER_CLASSES: [ClassSample<'static>; 16] = [
+    M_BELOW_A_CLASS,
+    A_ALONE_CLASS,
+    A_BELOW_I_CLASS,
+    A_BELOW_FREE_ME_CLASS,
+    A_EXTENDS_B_CLASS,
+    B_EXTENDS_A_CLASS,
+    I_BELOW_B_CLASS,
+    A_WITH_X_CLASS,
+    A_STATIC_X_CLASS,
+    A_STATIC_M_CLASS,
+    A_ABSTRACT_M_CLASS,
+    A_INTERFACE_CLASS,
+    M_CALLS_SPECIAL_CLASS,
+    M_OF_OBJECT_CLASS,
+    NO_MAIN_BELOW_A_CLASS,
+    A_WITH_MAIN_CLASS,
 ];
 
 const M: usize = 0;
@@ -246,6 +372,38 @@ const A_ABSTRACT: usize = 15;
 const A_WITH_M: usize = 16;
 
 const B_BELOW_A_OF_I: usize = 17;
+
+const M_BELOW_A: usize = 18;
+
+const A_ALONE: usize = 19;
+
+const A_BELOW_I: usize = 20;
+
+const A_BELOW_FREE_ME: usize = 21;
+
+const A_EXTENDS_B: usize = 22;
+
+const B_EXTENDS_A: usize = 23;
+
+const I_BELOW_B: usize = 24;
+
+const A_WITH_X: usize = 25;
+
+const A_STATIC_X: usize = 26;
+
+const A_STATIC_M: usize = 27;
+
+const A_ABSTRACT_M: usize = 28;
+
+const A_INTERFACE: usize = 29;
+
+const M_CALLS_SPECIAL: usize = 30;
+
+const M_OF_OBJECT: usize = 31;
+
+const NO_MAIN_BELOW_A: usize = 32;
+
+const A_WITH_MAIN: usize = 33;
 
 // The places of classes, and the line.
 type Row = (&'static [usize], &'static str);
@@ -296,6 +454,34 @@ const LEFT_OVER: [Row; 4] = [
     (&[M, B_BELOW_A_OF_I, A_WITH_M, I], "linked"),
 ];
 
+// Superclasses and interfaces that can't be ones: the first file whose chain leads into a cycle is told.
+const PARENTS: [Row; 7] = [
+    (&[M, A_EXTENDS_B, B_EXTENDS_A], "bad-parent B in A"),
+    (&[M_BELOW_A, A_BELOW_B, B_BELOW_A], "bad-parent A in M"),
+    (&[M, A_ALONE], "bad-parent A in A"),
+    (&[M, A_BELOW_I, I], "bad-parent I in A"),
+    (&[M, A_BELOW_FREE_ME], "bad-parent FreeMe in A"),
+    (&[M, I_BELOW_B, B], "bad-parent B in I"),
+    (&[M_BELOW_A, A_BELOW_B, B], "linked"),
+];
+
+// Members that are static where the instruction isn't, and those of an interface that is named as a class;
+// an abstract method that a special call names; a main that isn't static, and one of a superclass.
+const MEMBERS: [Row; 9] = [
+    (&[M_READS_TWICE, A_STATIC_X, B], "missing-field A.x in M"),
+    (&[M_READS_TWICE, A_WITH_X, B], "missing-field B.x in M"),
+    (&[M_CALLS, A_STATIC_M], "missing-method A.m()V in M"),
+    (&[M_CALLS, A_INTERFACE], "missing-method A.m()V in M"),
+    (&[M_CALLS, A_ABSTRACT_M], "linked"),
+    (
+        &[M_CALLS_SPECIAL, A_ABSTRACT_M],
+        "not-implemented A.m()V in M",
+    ),
+    (&[M_CALLS_SPECIAL, A_WITH_M], "linked"),
+    (&[M_OF_OBJECT], "no-main M in M"),
+    (&[NO_MAIN_BELOW_A, A_WITH_MAIN], "linked"),
+];
+
 // The line of an answer.
 fn line_of(alloc: Global, answer: Result<Program, LinkFail>) -> Result<String, NoMemory> {
     let (cause, bad) = match answer {
@@ -331,9 +517,17 @@ fn add_class_at(alloc: Global, classes: &mut Vec<ClassDef>, place: usize) -> Res
     requires { AllByRecursion HasSpelling classes.old.items }
     ensures { OnOk result (AllByRecursion HasSpelling classes.new.items) }
 {
-    match CLASSES.get(place) {
+    match class_at(place) {
         Some(sample) => add_class(alloc, classes, sample),
         None => Ok(()),
+    }
+}
+
+// The class of a place.
+fn class_at(place: usize) -> Option<&'static ClassSample<'static>> {
+    match place.checked_sub(CLASSES.len()) {
+        Some(other) => OTHER_CLASSES.get(other),
+        None => CLASSES.get(place),
     }
 }
 
@@ -358,6 +552,18 @@ fn first_other(alloc: Global, rows: &[Row]) -> Result<Option<usize>, Fail> {
 #[test]
 fn each_cause_is_told(rt: HostRuntime) -> Result<(), Fail> {
     assert_eq!(rt; first_other(rt.alloc(), &ROWS)?, None);
+    Ok(())
+}
+
+#[test]
+fn what_can_be_above_no_class_is_told(rt: HostRuntime) -> Result<(), Fail> {
+    assert_eq!(rt; first_other(rt.alloc(), &PARENTS)?, None);
+    Ok(())
+}
+
+#[test]
+fn members_that_do_not_serve_are_told(rt: HostRuntime) -> Result<(), Fail> {
+    assert_eq!(rt; first_other(rt.alloc(), &MEMBERS)?, None);
     Ok(())
 }
 

@@ -1,4 +1,4 @@
-use Rattle.std.proofs.Common.{◌∙◌, refl, sym, subst, List, Contains}
+use Rattle.std.proofs.Common.{◌∙◌, sym, subst, List, Contains}
 use Rattle.fm_check.proofs.GivingLemmas.{all_local, GivesRun-brought, GivesRun-open, open_can}
 use Rattle.fm_check.proofs.ItemLemmas.{match_true, ok_weaker}
 use Rattle.fm_known.specs.declared.risen.Rise.{Rise}
@@ -49,5 +49,6 @@ returns c =
     let To : List Handler → Type 0 = λ hs. BringsHandlers t c.args.item s hs old new in
     let brings = subst To c.as_slice.ensures.value
     (match_true (To c.as_slice.result.now) (Untypable t) c.in_ok-bring_to_handlers.field-0 c.if-not-branch.false c.in_ok-bring_to_handlers.ensures) in
-    GivesRun-brought t c.args.item s c.args.run.now _ c.in_ok-without_words.field-0 old new c.requires.sound c.requires.forced refl
-    c.in_ok-without_words.ensures refl c.requires.holds brings
+    let kept = c.in_ok-keep.ensures in
+    GivesRun-brought t c.args.item s c.args.run.now c.keep.new.self kept.known old new c.requires.sound c.requires.forced kept.is kept.bare kept.same
+    c.requires.holds brings
