@@ -94,7 +94,7 @@ edge_from_item code j next (inl edge) =
 edge_from_item code j next (inr edge) = edge.from_item
 
 -- a path goes on along an edge
-IsFlowPath-more : (code : Code) (a : ℕ) (path : List ℕ) (j next : ℕ) → IsFlowPath code a path j → IsEdge code j next → IsFlowPath code a (path ++ next ∷ []) next
+pub IsFlowPath-more : (code : Code) (a : ℕ) (path : List ℕ) (j next : ℕ) → IsFlowPath code a path j → IsEdge code j next → IsFlowPath code a (path ++ next ∷ []) next
 IsFlowPath-more code a [] j next same edge = (subst (λ (n : ℕ). IsEdge code n next) (sym same) edge, refl)
 IsFlowPath-more code a (b ∷ path) j next (first, rest) edge = (first, IsFlowPath-more code b path j next rest edge)
 

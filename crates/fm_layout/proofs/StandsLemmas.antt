@@ -1,6 +1,6 @@
 -- Each new item stands among the laid ones.
 use Rattle.std.proofs.Common.{◌≡◌, ℕ, zero, suc, ◌+◌, ◌<◌, ◌≤◌, ◌⊎◌, inl, inr, Bool, true, false, List, [], ◌∷◌, ◌++◌, length, refl, sym, ap, subst, ◌∙◌, arith, if◌then◌else◌, Option, Some, None, append_assoc, length-append}
-use Rattle.std.specs.Prelude.{nat_lt, slice_get, slice_index}
+use Rattle.std.specs.Prelude.{is_some, nat_lt, slice_get, slice_index}
 use Rattle.std.proofs.lemmas.Bool.{cases_lt, lt-ltb, le-ltb}
 use Rattle.fm_code.specs.SpellsCode.{with_targets}
 use Rattle.fm_code.specs.declared.code_array.Item.{Item}
@@ -9,7 +9,7 @@ use Rattle.fm_code.specs.declared.instructions.Insn.TheVariants as insn
 use Rattle.fm_layout.specs.Laid.{firsts_from, goto_w_item, item_count, laid_from, laid_items, laid_of, moved_item, short_item, wide_items}
 use Rattle.fm_layout.specs.Rooms.{narrow, room_of, rooms_of, size_at, starts_from, widened_rooms}
 use Rattle.fm_layout.specs.Spelling.{conditional, is_goto_w, kept_item, opposite}
-use Rattle.fm_layout.specs.Stands.{Stands, insn_of}
+use Rattle.fm_layout.specs.Stands.{Stands, StandsSplit, StandsWhole, insn_of}
 use Rattle.fm_layout.specs.declared.new_items.NewItem.{NewItem}
 use Rattle.fm_layout.specs.declared.rooms.Branch.{Branch}
 use Rattle.fm_layout.specs.declared.rooms.Condition.{Condition}
@@ -79,27 +79,50 @@ at_first front rest first number = let same : first ≡ length front + 0 = omega
 at_second : (front rest : List Item) (first : ℕ) → length front ≡ first → insn_of (front ++ rest) (first + 1) ≡ insn_of rest 1
 at_second front rest first number = let same : first + 1 ≡ length front + 1 = omega arith in ap (λ n. insn_of (front ++ rest) n) same ∙ behind front rest 1
 
+-- ---- which way it stands
+
+-- whether a room is that of a branch that is split
+abbrev pub is_split : Room → Bool
+is_split (room.Wide b) = is_some b.condition
+is_split r = false
+
+-- the same of the room at an index
+abbrev pub is_split_at : List Room → ℕ → Bool
+is_split_at [] k = false
+is_split_at (r ∷ rooms) zero = is_split r
+is_split_at (r ∷ rooms) (suc k) = is_split_at rooms k
+
+-- an instruction stands split, or whole
+abbrev pub StandsAs : Bool → List Item → List ℕ → ℕ → Bool → Insn → Type 0
+StandsAs true laid firsts number follows i = StandsSplit laid firsts number follows i
+StandsAs false laid firsts number follows i = StandsWhole laid firsts number i
+
+in_one_way : (split : Bool) (laid : List Item) (firsts : List ℕ) (number : ℕ) (follows : Bool) (i : Insn) → StandsAs split laid firsts number follows i
+    → Stands laid firsts number follows i
+in_one_way true laid firsts number follows i stands = inr stands
+in_one_way false laid firsts number follows i stands = inl stands
+
 -- a widened branch, with other items before and behind it
 wide_stands : (start first to target : ℕ) (firsts : List ℕ) (follows : Bool) (i : Insn) (taken : Option Condition) (front rest : List Item) → i ≡ branch_on taken target → length front ≡ first
-    → Stands (front ++ (wide_items start first follows taken to (slice_index firsts target) ++ rest)) firsts first follows i
+    → StandsAs (is_some taken) (front ++ (wide_items start first follows taken to (slice_index firsts target) ++ rest)) firsts first follows i
 wide_stands start first to target firsts follows i None front rest is number =
-    inl (at_first front (goto_w_item start to (slice_index firsts target) ∷ rest) first number ∙ ap (λ j. Some (with_targets (slice_index firsts) j)) (sym is))
+    at_first front (goto_w_item start to (slice_index firsts target) ∷ rest) first number ∙ ap (λ j. Some (with_targets (slice_index firsts) j)) (sym is)
 wide_stands start first to target firsts true i (Some taken) front rest is number =
     let laid = short_item start (Some (opposite taken)) (start + 8) (first + 2) ∷ goto_w_item (start + 3) to (slice_index firsts target) ∷ rest in
-    inr (record { condition = taken; target = target; branch = is; test = at_first front laid first number; jump = at_second front laid first number })
+    record { condition = taken; target = target; branch = is; test = at_first front laid first number; jump = at_second front laid first number }
 wide_stands start first to target firsts false i (Some taken) front rest is number =
     let laid = short_item start (Some (opposite taken)) (start + 3) (first + 1) ∷ goto_w_item (start + 3) to (slice_index firsts target) ∷ rest in
-    inr (record { condition = taken; target = target; branch = is; test = at_first front laid first number; jump = at_second front laid first number })
+    record { condition = taken; target = target; branch = is; test = at_first front laid first number; jump = at_second front laid first number }
 
 stands_here : (starts firsts : List ℕ) (start first : ℕ) (follows : Bool) (kept : Option Item) (i : Insn) (r : Room) (front rest : List Item) → IsWider (room_of kept i) r → length front ≡ first
-    → Stands (front ++ (laid_items starts firsts start first follows kept i r ++ rest)) firsts first follows i
-stands_here starts firsts start first follows kept i (room.Plain n) front rest wider number = inl (at_first front (moved_item starts firsts start kept i ∷ rest) first number)
-stands_here starts firsts start first follows kept i (room.Switch n) front rest wider number = inl (at_first front (moved_item starts firsts start kept i ∷ rest) first number)
+    → StandsAs (is_split r) (front ++ (laid_items starts firsts start first follows kept i r ++ rest)) firsts first follows i
+stands_here starts firsts start first follows kept i (room.Plain n) front rest wider number = at_first front (moved_item starts firsts start kept i ∷ rest) first number
+stands_here starts firsts start first follows kept i (room.Switch n) front rest wider number = at_first front (moved_item starts firsts start kept i ∷ rest) first number
 stands_here starts firsts start first follows kept i (room.Narrow b) front rest wider number =
     let g = slice_index firsts in
     let item = short_item start b.condition (slice_index starts b.target) (g b.target) in
-    inl (at_first front (item ∷ rest) first number
-    ∙ ap (λ j. Some j) (short_insn g start (slice_index starts b.target) b.target b.condition ∙ ap (λ j. with_targets g j) (sym (narrow_of kept i b wider))))
+    at_first front (item ∷ rest) first number
+    ∙ ap (λ j. Some j) (short_insn g start (slice_index starts b.target) b.target b.condition ∙ ap (λ j. with_targets g j) (sym (narrow_of kept i b wider)))
 stands_here starts firsts start first follows kept i (room.Wide b) front rest wider number =
     wide_stands start first (slice_index starts b.target) b.target firsts follows i b.condition front rest (branch_of kept i b wider) number
 
@@ -113,7 +136,8 @@ next_too m k n e = go (cases_lt m n) where
 
 stands_from : (old : List Item) (starts firsts : List ℕ) (start first : ℕ) (items : List NewItem) (rooms : List Room) (front : List Item) (k : ℕ) (new : NewItem)
     → AreWider (rooms_of old items) rooms → length front ≡ first → slice_get items k ≡ Some new
-    → Stands (front ++ laid_from old starts firsts start first items rooms) firsts (slice_index (firsts_from first rooms) k) (nat_lt (k + 1) (length items)) new.insn
+    → StandsAs (is_split_at rooms k) (front ++ laid_from old starts firsts start first items rooms) firsts (slice_index (firsts_from first rooms) k)
+    (nat_lt (k + 1) (length items)) new.insn
 stands_from old starts firsts start first [] rooms front k new wider number found = cc
 stands_from old starts firsts start first (x ∷ items) [] front k new wider number found = absurd wider
 stands_from old starts firsts start first (x ∷ items) (r ∷ rooms) front zero new wider number found =
@@ -123,7 +147,8 @@ stands_from old starts firsts start first (x ∷ items) (r ∷ rooms) front zero
     let laid = front ++ (laid_items starts firsts start first follows (kept_item old x) x.insn r ++ rest) in
     let here = stands_here starts firsts start first follows (kept_item old x) x.insn r front rest wider.0 number in
     let last : follows ≡ nat_lt (0 + 1) (suc (length items)) = next_too 0 (0 + 1) (length items) (omega arith) in
-    subst (λ (b : Bool). Stands laid firsts first b new.insn) last (subst (λ (n : NewItem). Stands laid firsts first follows n.insn) same here)
+    subst (λ (b : Bool). StandsAs (is_split r) laid firsts first b new.insn) last
+    (subst (λ (n : NewItem). StandsAs (is_split r) laid firsts first follows n.insn) same here)
 stands_from old starts firsts start first (x ∷ items) (r ∷ rooms) front (suc k) new wider number found =
     let follows = nat_lt 0 (length items) in
     let here = laid_items starts firsts start first follows (kept_item old x) x.insn r in
@@ -132,12 +157,21 @@ stands_from old starts firsts start first (x ∷ items) (r ∷ rooms) front (suc
     let later = stands_from old starts firsts (start + size_at start r) (first + item_count r) items rooms (front ++ here) k new wider.1 (omega (arith, length-append front here)) found in
     let number_is = slice_index (firsts_from (first + item_count r) rooms) k in
     let last : nat_lt (k + 1) (length items) ≡ nat_lt (suc k + 1) (suc (length items)) = next_too (k + 1) (suc k + 1) (length items) (omega arith) in
-    subst (λ (b : Bool). Stands (front ++ (here ++ rest)) firsts number_is b new.insn) last
-    (subst (λ (l : List Item). Stands l firsts number_is (nat_lt (k + 1) (length items)) new.insn) (append_assoc front here rest) later)
+    let split = is_split_at rooms k in
+    subst (λ (b : Bool). StandsAs split (front ++ (here ++ rest)) firsts number_is b new.insn) last
+    (subst (λ (l : List Item). StandsAs split l firsts number_is (nat_lt (k + 1) (length items)) new.insn) (append_assoc front here rest) later)
+
+-- each new item stands as its room tells
+pub laid_stands_as : (old : List Item) (items : List NewItem) (k : ℕ) (new : NewItem) → slice_get items k ≡ Some new
+    → StandsAs (is_split_at (widened_rooms (rooms_of old items)) k) (laid_of old items).items (laid_of old items).firsts (slice_index (laid_of old items).firsts k)
+    (nat_lt (k + 1) (length items)) new.insn
+unfolding laid_of
+laid_stands_as old items k new found =
+    let rooms = widened_rooms (rooms_of old items) in
+    stands_from old (starts_from 0 rooms) (firsts_from 0 rooms) 0 0 items rooms [] k new (rounds_wider (length (rooms_of old items)) (rooms_of old items)) refl found
 
 pub laid_stands : (old : List Item) (items : List NewItem) (k : ℕ) (new : NewItem) → slice_get items k ≡ Some new
     → Stands (laid_of old items).items (laid_of old items).firsts (slice_index (laid_of old items).firsts k) (nat_lt (k + 1) (length items)) new.insn
-unfolding laid_of
 laid_stands old items k new found =
-    let rooms = widened_rooms (rooms_of old items) in
-    stands_from old (starts_from 0 rooms) (firsts_from 0 rooms) 0 0 items rooms [] k new (rounds_wider (length (rooms_of old items)) (rooms_of old items)) refl found
+    in_one_way (is_split_at (widened_rooms (rooms_of old items)) k) (laid_of old items).items (laid_of old items).firsts (slice_index (laid_of old items).firsts k)
+    (nat_lt (k + 1) (length items)) new.insn (laid_stands_as old items k new found)

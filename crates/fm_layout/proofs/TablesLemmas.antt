@@ -41,7 +41,7 @@ length-laid_items starts firsts start first follows kept i (room.Wide b) =
     length-wide_items start first follows b.condition (slice_index starts b.target) (slice_index firsts b.target)
 
 -- the last number is that of all laid items
-last_first : (old : List Item) (starts firsts : List ℕ) (start first : ℕ) (items : List NewItem) (rooms : List Room) → length items ≡ length rooms
+pub last_first : (old : List Item) (starts firsts : List ℕ) (start first : ℕ) (items : List NewItem) (rooms : List Room) → length items ≡ length rooms
     → get_or (firsts_from first rooms) (length rooms) 0 ≡ first + length (laid_from old starts firsts start first items rooms)
 last_first old starts firsts start first [] [] same = omega arith
 last_first old starts firsts start first [] (r ∷ rooms) same = absurd (omega arith)
@@ -53,17 +53,17 @@ last_first old starts firsts start first (new ∷ items) (r ∷ rooms) same =
     let number = length-laid_items starts firsts start first (nat_lt 0 (length items)) (kept_item old new) new.insn r in
     omega (arith, length-append here rest)
 
-length-firsts_from : (first : ℕ) (rooms : List Room) → length (firsts_from first rooms) ≡ suc (length rooms)
+pub length-firsts_from : (first : ℕ) (rooms : List Room) → length (firsts_from first rooms) ≡ suc (length rooms)
 length-firsts_from first [] = refl
 length-firsts_from first (r ∷ rooms) = ap suc (length-firsts_from (first + item_count r) rooms)
 
-first_le : (first : ℕ) (rooms : List Room) (k : ℕ) → k ≤ length rooms → first ≤ get_or (firsts_from first rooms) k 0
+pub first_le : (first : ℕ) (rooms : List Room) (k : ℕ) → k ≤ length rooms → first ≤ get_or (firsts_from first rooms) k 0
 first_le first [] zero inside = omega arith
 first_le first [] (suc k) inside = absurd (omega arith)
 first_le first (r ∷ rooms) zero inside = omega arith
 first_le first (r ∷ rooms) (suc k) inside = let later = first_le (first + item_count r) rooms k (omega arith) in omega arith
 
-firsts_rise : (first : ℕ) (rooms : List Room) (k l : ℕ) → k < l → l ≤ length rooms → get_or (firsts_from first rooms) k 0 < get_or (firsts_from first rooms) l 0
+pub firsts_rise : (first : ℕ) (rooms : List Room) (k l : ℕ) → k < l → l ≤ length rooms → get_or (firsts_from first rooms) k 0 < get_or (firsts_from first rooms) l 0
 firsts_rise first [] k l below inside = absurd (omega arith)
 firsts_rise first (r ∷ rooms) k zero below inside = absurd (omega arith)
 firsts_rise first (r ∷ rooms) zero (suc l) below inside =
@@ -84,7 +84,7 @@ at_most rooms k total inside last = go (cases_lt k (length rooms)) where
 
 -- ---- rising lists
 
-rise : (xs : List ℕ) → IsStrictlyIncreasing xs → (k l : ℕ) → k < l → l < length xs → slice_index xs k < slice_index xs l
+pub rise : (xs : List ℕ) → IsStrictlyIncreasing xs → (k l : ℕ) → k < l → l < length xs → slice_index xs k < slice_index xs l
 rise xs rising k zero below inside = absurd (omega arith)
 rise xs rising k (suc l) below inside = go (cases_lt k l) (λ less. rise xs rising k l less (omega arith)) where
   go : (k < l) ⊎ (l ≤ k) → (k < l → slice_index xs k < slice_index xs l) → slice_index xs k < slice_index xs (suc l)
@@ -105,11 +105,11 @@ rise xs rising k (suc l) below inside = go (cases_lt k l) (λ less. rise xs risi
 -- ---- moved numbers
 
 -- numbers of old items, up to their count, go to rising numbers up to another count
-record MovesUp (move : ℕ → ℕ) (count total : ℕ) : Type 0 where
-  rises : (a b : ℕ) → a < b → b ≤ count → move a < move b
-  inside : (b : ℕ) → b ≤ count → move b ≤ total
+pub record MovesUp (move : ℕ → ℕ) (count total : ℕ) : Type 0 where
+  pub rises : (a b : ℕ) → a < b → b ≤ count → move a < move b
+  pub inside : (b : ℕ) → b ≤ count → move b ≤ total
 
-below_total : (move : ℕ → ℕ) (count total : ℕ) → MovesUp move count total → (a : ℕ) → a < count → move a < total
+pub below_total : (move : ℕ → ℕ) (count total : ℕ) → MovesUp move count total → (a : ℕ) → a < count → move a < total
 below_total move count total up a below = let first = up.rises a count below (omega arith) in let last = up.inside count (omega arith) in omega arith
 
 handler_moved : (entries : List Entry) (count total : ℕ) (firsts anchors : List ℕ) → MovesUp (moved_number firsts anchors) count total → (h : Handler) → HandlerIsValid entries count h
@@ -172,7 +172,7 @@ attributes_moved entries count total firsts anchors up (attribute.Other raw ∷ 
 
 -- ---- the law
 
-moves_up : (code : Code) (items : List NewItem) (anchors : List ℕ) → AreAnchors code (laid_of code.items items) anchors
+pub moves_up : (code : Code) (items : List NewItem) (anchors : List ℕ) → AreAnchors code (laid_of code.items items) anchors
     → MovesUp (moved_number (laid_of code.items items).firsts anchors) (length code.items) (length (laid_of code.items items).items)
 unfolding laid_of
 moves_up code items anchors are =

@@ -139,7 +139,7 @@ same-but-targets f (insn.Table low others targets) = ap (λ ts. insn.Table low z
 same-but-targets f (insn.Lookup others keys targets) = ap (λ ts. insn.Lookup zero keys ts) (all-zero f targets)
 same-but-targets f i = refl
 
-targets-of-with : (f : ℕ → ℕ) (i : Insn) → targets_of (with_targets f i) ≡ map f (targets_of i)
+pub targets-of-with : (f : ℕ → ℕ) (i : Insn) → targets_of (with_targets f i) ≡ map f (targets_of i)
 targets-of-with f (insn.IfInt t n) = refl
 targets-of-with f (insn.IfPair t n) = refl
 targets-of-with f (insn.IfSame t n) = refl
