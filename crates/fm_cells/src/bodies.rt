@@ -8,7 +8,7 @@ use crate::digits::{digit, with_digit};
 
 /// The element at a place of a body that begins at a word, where a word holds 2 to the exponent of
 /// them. Takes no memory.
-#[inline]
+#[inline(always)]
 pub fn element(words: &[u64], start: usize, exponent: u32, place: u32) -> u64
     requires small { exponent < 4 }
     requires within { start + place / 2 ^ exponent < length words.now }
@@ -19,7 +19,7 @@ pub fn element(words: &[u64], start: usize, exponent: u32, place: u32) -> u64
 }
 
 /// Sets the element at a place of such a body, and nothing else. Takes no memory.
-#[inline]
+#[inline(always)]
 pub fn set_element(words: &mut [u64], start: usize, exponent: u32, place: u32, element: u64)
     requires small { exponent < 4 }
     requires within { start + place / 2 ^ exponent < length words.old }
@@ -35,7 +35,7 @@ pub fn set_element(words: &mut [u64], start: usize, exponent: u32, place: u32, e
 }
 
 /// Writes the header words of an object, and nothing else. Takes no memory.
-#[inline]
+#[inline(always)]
 pub fn write_header(words: &mut [u64], cell: usize, identity: u64, extent: u64)
     requires { cell + 2 ≤ length words.old }
     ensures first { slice_index words.new cell ≡ identity }

@@ -4,7 +4,7 @@ ghost use Rattle.std.specs.Prelude.{◌≡◌, ◌+◌, ◌*◌, ◌^◌, ◌<�
 ghost use Rattle.fm_cells.specs.inner.Words as spec;
 
 /// The group of so many bits at a place of a word. Takes no memory.
-#[inline]
+#[inline(always)]
 pub fn digit(word: u64, bits: u32, place: u32) -> u64
     requires some { 0 < bits }
     requires within { bits * place + bits ≤ 64 }
@@ -15,7 +15,7 @@ pub fn digit(word: u64, bits: u32, place: u32) -> u64
 }
 
 /// The word with another group at a place. Takes no memory.
-#[inline]
+#[inline(always)]
 pub fn with_digit(word: u64, bits: u32, place: u32, value: u64) -> u64
     requires some { 0 < bits }
     requires within { bits * place + bits ≤ 64 }

@@ -36,7 +36,7 @@ const LEN_MASK: u64 = 0x7fff_ffff;
 const CHAIN_MASK: u64 = 0xffff_ffff;
 
 /// The first header word.
-#[inline]
+#[inline(always)]
 pub fn identity_word(class: u32, birth: u32, pack: u8, fixed: bool) -> u64
     requires class_fits { class < 2 ^ 28 }
     requires pack_is { IsPack pack }
@@ -50,7 +50,7 @@ pub fn identity_word(class: u32, birth: u32, pack: u8, fixed: bool) -> u64
 }
 
 /// The second header word.
-#[inline]
+#[inline(always)]
 pub fn extent_word(len: u32, chain: u32) -> u64
     requires { len < 2 ^ 31 }
     ensures { result ≡ spec.extent_word len chain }
@@ -59,7 +59,7 @@ pub fn extent_word(len: u32, chain: u32) -> u64
 }
 
 /// The number of the type in the first header word.
-#[inline]
+#[inline(always)]
 pub fn class_in(identity: u64) -> u32
     ensures { result ≡ spec.class_in identity }
 {
@@ -67,7 +67,7 @@ pub fn class_in(identity: u64) -> u32
 }
 
 /// The birth number in the first header word.
-#[inline]
+#[inline(always)]
 pub fn birth_in(identity: u64) -> u32
     ensures { result ≡ spec.birth_in identity }
 {
@@ -75,7 +75,7 @@ pub fn birth_in(identity: u64) -> u32
 }
 
 /// The exponent of the pack in the first header word.
-#[inline]
+#[inline(always)]
 pub fn exponent_in(identity: u64) -> u32
     ensures value { result ≡ spec.exponent_in identity }
     ensures small { result < 4 }
@@ -84,7 +84,7 @@ pub fn exponent_in(identity: u64) -> u32
 }
 
 /// The pack in the first header word.
-#[inline]
+#[inline(always)]
 pub fn pack_in(identity: u64) -> u8
     ensures value { result ≡ spec.pack_in identity }
     ensures pack { IsPack result }
@@ -93,7 +93,7 @@ pub fn pack_in(identity: u64) -> u8
 }
 
 /// Whether the first header word says that the object is fixed.
-#[inline]
+#[inline(always)]
 pub fn is_fixed(identity: u64) -> bool
     ensures { result ≡ spec.is_fixed identity }
 {
@@ -101,7 +101,7 @@ pub fn is_fixed(identity: u64) -> bool
 }
 
 /// The number of elements in the second header word.
-#[inline]
+#[inline(always)]
 pub fn len_in(extent: u64) -> u32
     ensures { result ≡ spec.len_in extent }
 {
@@ -109,7 +109,7 @@ pub fn len_in(extent: u64) -> u32
 }
 
 /// The chain in the second header word.
-#[inline]
+#[inline(always)]
 pub fn chain_in(extent: u64) -> u32
     ensures { result ≡ spec.chain_in extent }
 {

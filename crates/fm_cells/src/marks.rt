@@ -7,7 +7,7 @@ use crate::digits::{digit, with_digit};
 use std::alloc::AllocError;
 
 /// Whether a word has its mark. Takes no memory.
-#[inline]
+#[inline(always)]
 pub fn is_marked(marks: &[u64], cell: u32) -> bool
     ensures { IsTrue result ↔ (spec.mark_in marks.now cell ≡ 1) }
 {
@@ -18,7 +18,7 @@ pub fn is_marked(marks: &[u64], cell: u32) -> bool
 }
 
 /// Sets or clears the mark of a word: `mark` is 1 or 0. Takes no memory.
-#[inline]
+#[inline(always)]
 pub fn set_mark(marks: &mut [u64], cell: u32, mark: u64)
     requires within { cell / 64 < length marks.old }
     requires bit { mark < 2 }

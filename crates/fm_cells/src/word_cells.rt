@@ -221,7 +221,7 @@ impl Memory for WordCells {
         Ok(Freed::Done)
     }
 
-    #[inline]
+    #[inline(always)]
     fn head(&self, cell: Cell) -> Option<Head> {
         if !is_marked(&self.marks, cell.0) {
             return None;
@@ -237,51 +237,51 @@ impl Memory for WordCells {
         })
     }
 
-    #[inline]
+    #[inline(always)]
     fn get(&self, cell: Cell, place: u32) -> u64 {
         let at = cell.0 as usize;
         element(&self.words, at + 2, exponent_in(self.words[at]), place)
     }
 
-    #[inline]
+    #[inline(always)]
     fn put(&mut self, cell: Cell, place: u32, element: u64) {
         let at = cell.0 as usize;
         let exponent = exponent_in(self.words[at]);
         set_element(self.words.as_mut_slice(), at + 2, exponent, place, element);
     }
 
-    #[inline]
+    #[inline(always)]
     fn chain(&self, cell: Cell) -> Cell {
         Cell(chain_in(self.words[cell.0 as usize + 1]))
     }
 
-    #[inline]
+    #[inline(always)]
     fn set_chain(&mut self, cell: Cell, to: Cell) {
         let at = cell.0 as usize + 1;
         self.words[at] = extent_word(len_in(self.words[at]), to.0);
     }
 
-    #[inline]
+    #[inline(always)]
     fn budget(&self) -> u64 {
         self.budget
     }
 
-    #[inline]
+    #[inline(always)]
     fn live_words(&self) -> u64 {
         self.live
     }
 
-    #[inline]
+    #[inline(always)]
     fn peak_words(&self) -> u64 {
         self.peak
     }
 
-    #[inline]
+    #[inline(always)]
     fn births(&self) -> u64 {
         self.births
     }
 
-    #[inline]
+    #[inline(always)]
     fn made_words(&self) -> u64 {
         (self.words.len() as u64).saturating_sub(1)
     }

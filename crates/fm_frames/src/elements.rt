@@ -16,7 +16,7 @@ use fm_base::Kind;
 use fm_cells::{Cell, Head, Memory};
 
 // The lowest bits of a number, as many as an element of the kind has.
-#[inline]
+#[inline(always)]
 fn low_bits(kind: Kind, n: i64) -> u64
     ensures { result ≡ low_bits (int_bits kind) n }
 {
@@ -33,7 +33,7 @@ fn low_bits(kind: Kind, n: i64) -> u64
 }
 
 /// The element that keeps a value; a reference is kept by its cell. Takes no memory.
-#[inline]
+#[inline(always)]
 pub fn kept(kind: Kind, value: Value) -> u64
     ensures { result ≡ kept kind value }
 {
@@ -46,7 +46,7 @@ pub fn kept(kind: Kind, value: Value) -> u64
 }
 
 /// The value that an element keeps. Takes no memory.
-#[inline]
+#[inline(always)]
 pub fn read(kind: Kind, element: u64) -> Value
     requires { IsOfKind kind element }
     ensures { result ≡ read kind element }
@@ -64,7 +64,7 @@ pub fn read(kind: Kind, element: u64) -> Value
 
 impl<M: Memory> Machine<M> {
     /// The element at a place of the object in a cell; 0 where there is none. Takes no memory.
-    #[inline]
+    #[inline(always)]
     pub fn element(&self, cell: Cell, place: u32) -> u64
         ensures { result ≡ element_at self.now.areas.store cell.0 place }
     {
@@ -79,7 +79,7 @@ impl<M: Memory> Machine<M> {
     }
 
     /// The head of the object in a cell, if the cell is held. Takes no memory.
-    #[inline]
+    #[inline(always)]
     pub fn head(&self, cell: Cell) -> Option<Head>
         ensures { result ≡ head_at self.now.areas.store cell.0 }
     {
@@ -87,7 +87,7 @@ impl<M: Memory> Machine<M> {
     }
 
     /// The value that the element at a place of the object in a cell keeps. Takes no memory.
-    #[inline]
+    #[inline(always)]
     pub fn place(&self, cell: Cell, place: u32, kind: Kind) -> Value
         requires { IsOfKind kind (element_at self.now.areas.store cell.0 place) }
         ensures { result ≡ read kind (element_at self.now.areas.store cell.0 place) }
@@ -96,7 +96,7 @@ impl<M: Memory> Machine<M> {
     }
 
     /// Puts a value at a place of the object in a cell, if there is that place. Takes no memory.
-    #[inline]
+    #[inline(always)]
     pub fn put_place(&mut self, cell: Cell, place: u32, kind: Kind, value: Value)
         requires { FitsIn self.old.areas.store cell.0 kind value }
         ensures { self.new ≡ record self.old {
@@ -113,7 +113,7 @@ impl<M: Memory> Machine<M> {
 
     /// Takes so many words off the stack, and puts a value at a place of the object in a cell.
     /// Takes no memory.
-    #[inline]
+    #[inline(always)]
     pub fn put(&mut self, takes: usize, cell: Cell, place: u32, kind: Kind, value: Value)
         requires ready { IsReady self.old }
         requires fits { FitsIn self.old.areas.store cell.0 kind value }

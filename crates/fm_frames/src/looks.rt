@@ -22,7 +22,7 @@ pub enum Look {
 
 impl<M: Memory> Machine<M> {
     /// Looks at the operand at this place, counted from the top. Takes no memory.
-    #[inline]
+    #[inline(always)]
     pub fn look(&self, place: usize) -> Look
         ensures { result ≡ look_at self.now.areas.store (slice_get (stack_of self.now) place) }
     {
@@ -40,7 +40,7 @@ impl<M: Memory> Machine<M> {
 
     /// The object of the operand at this place, by its cell and its head; none where there is no object.
     /// Takes no memory.
-    #[inline]
+    #[inline(always)]
     pub fn object(&self, place: usize) -> Option<(Cell, Head)>
         ensures value { result
             ≡ object_in (look_at self.now.areas.store (slice_get (stack_of self.now) place)) }
