@@ -287,7 +287,7 @@ map-twice : (f g h : ℕ → ℕ) (ts : List ℕ) → AllByRecursion (λ t. f (g
 map-twice f g h [] agree = refl
 map-twice f g h (t ∷ ts) agree = (λ k. agree.0 k ∷ map-twice f g h ts agree.1 k)
 
-with_targets-twice : (f g h : ℕ → ℕ) (i : Insn) → AllByRecursion (λ t. f (g t) ≡ h t) (targets_of i) → with_targets f (with_targets g i) ≡ with_targets h i
+pub with_targets-twice : (f g h : ℕ → ℕ) (i : Insn) → AllByRecursion (λ t. f (g t) ≡ h t) (targets_of i) → with_targets f (with_targets g i) ≡ with_targets h i
 with_targets-twice f g h (insn.IfInt t n) agree = ap (insn.IfInt t) agree.0
 with_targets-twice f g h (insn.IfPair t n) agree = ap (insn.IfPair t) agree.0
 with_targets-twice f g h (insn.IfSame t n) agree = ap (insn.IfSame t) agree.0

@@ -54,7 +54,7 @@ narrow_of : (kept : Option Item) (i : Insn) (b : Branch) → IsWider (room_of ke
 narrow_of kept i b (inl e) = branch_is kept i b e
 narrow_of kept i b (inr (c, narrow, wide)) = cc
 
-with_targets-conditional : (g : ℕ → ℕ) (taken : Condition) (target : ℕ) → with_targets g (conditional taken target) ≡ conditional taken (g target)
+pub with_targets-conditional : (g : ℕ → ℕ) (taken : Condition) (target : ℕ) → with_targets g (conditional taken target) ≡ conditional taken (g target)
 with_targets-conditional g (condition.Int t) target = refl
 with_targets-conditional g (condition.Pair t) target = refl
 with_targets-conditional g (condition.Same t) target = refl

@@ -89,7 +89,7 @@ anchor-most free code plan anchors n j (item ∷ items) (suc k) inside =
     let rest = anchor-most free code plan anchors (n + count_at plan j) (j + 1) items k (omega arith) in
     omega (arith, all, rest)
 
-anchor-first : (plan : Insertions) (n j : ℕ) (items : List Item) → slice_index (anchors_from plan n j items) 0 ≡ n
+pub anchor-first : (plan : Insertions) (n j : ℕ) (items : List Item) → slice_index (anchors_from plan n j items) 0 ≡ n
 anchor-first plan n j [] = refl
 anchor-first plan n j (item ∷ items) = refl
 
@@ -213,7 +213,7 @@ after-inside plan j h found =
     let inside = slice_get_within plan.holders was.place was.holder was.there in
     omega (arith, inside, was.number)
 
-all-at : {X : Type 0} (P : X → Type 0) (xs : List X) (k : ℕ) (x : X) → AllByRecursion P xs → slice_get xs k ≡ Some x → P x
+pub all-at : {X : Type 0} (P : X → Type 0) (xs : List X) (k : ℕ) (x : X) → AllByRecursion P xs → slice_get xs k ≡ Some x → P x
 all-at P [] k x each there = absurd (none-some x there)
 all-at P (y ∷ xs) zero x (first, rest) there = subst P (some-same there) first
 all-at P (y ∷ xs) (suc k) x (first, rest) there = all-at P xs k x rest there
