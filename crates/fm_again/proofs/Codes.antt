@@ -28,20 +28,20 @@ attributes_code free plan m (attribute.Constant name value ∷ attributes) = att
 attributes_code free plan m (attribute.Coded name code ∷ attributes) = refl
 attributes_code free plan m (attribute.Other raw ∷ attributes) = attributes_code free plan m attributes
 
-method_code : (free : ℕ) (plan : Option Insertions) (m : Member) → code_of (rewritten_method free plan m) ≡ code_with free plan (code_of m)
+pub method_code : (free : ℕ) (plan : Option Insertions) (m : Member) → code_of (rewritten_method free plan m) ≡ code_with free plan (code_of m)
 method_code free None m = refl
 method_code free (Some plan) m = attributes_code free plan m m.attributes
 
 -- no code stays none
-no_code : (free : ℕ) (plan : Option Insertions) → code_with free plan None ≡ None
+pub no_code : (free : ℕ) (plan : Option Insertions) → code_with free plan None ≡ None
 no_code free None = refl
 no_code free (Some plan) = refl
 
-abbrev codes : List Member → List (Option Code)
+abbrev pub codes : List Member → List (Option Code)
 codes methods = map code_of methods
 
 module _ (plans : Plans) where
-  methods_code : (free first : ℕ) (methods : List Member) (i : ℕ)
+  pub methods_code : (free first : ℕ) (methods : List Member) (i : ℕ)
       → get_or (codes (rewritten_methods plans free first methods)) i None ≡ code_with free (plans (first + i)) (get_or (codes methods) i None)
   methods_code free first [] i = sym (no_code free (plans (first + i)))
   methods_code free first (m ∷ methods) zero =
@@ -75,11 +75,11 @@ module _ (plans : Plans) where
       let same : first + suc i ≡ first + 1 + i = omega arith in
       ap plans same ∙ none_planned (first + 1) n i (both_fail (is_some (plans first)) _ none).1 (omega (arith, within))
 
-  abbrev chosen : (first : ℕ) → ClassDef → Bool → ClassDef
+  abbrev pub chosen : (first : ℕ) → ClassDef → Bool → ClassDef
   chosen first c false = c
   chosen first c true = changed plans first c
 
-  class_code : (first : ℕ) (c : ClassDef) (i : ℕ) → i < length c.methods
+  pub class_code : (first : ℕ) (c : ClassDef) (i : ℕ) → i < length c.methods
       → get_or (codes (rewritten_class plans first c).methods) i None ≡ code_with (free_index c) (plans (first + i)) (get_or (codes c.methods) i None)
   class_code first c i within = by_change (changes plans first c) refl where
     by_change : (b : Bool) → changes plans first c ≡ b
@@ -87,7 +87,7 @@ module _ (plans : Plans) where
     by_change true is = methods_code (free_index c) first c.methods i
     by_change false is = sym (ap (λ o. code_with (free_index c) o (get_or (codes c.methods) i None)) (none_planned first (length c.methods) i is within))
 
-  class_count : (first : ℕ) (c : ClassDef) → length (codes (rewritten_class plans first c).methods) ≡ length c.methods
+  pub class_count : (first : ℕ) (c : ClassDef) → length (codes (rewritten_class plans first c).methods) ≡ length c.methods
   class_count first c = by_change (changes plans first c) where
     by_change : (b : Bool) → length (codes (chosen first c b).methods) ≡ length c.methods
     by_change true = length-map (rewritten_methods plans (free_index c) first c.methods) code_of ∙ count_kept (free_index c) first c.methods

@@ -44,17 +44,17 @@ ClassTypesAreNumbered = (classes : List DeclaredClass) (given : List ClassDef) (
 -- ---- an outline with FreeMe
 
 -- what is known of an outline: the numbers of FreeMe, of its type and of its method
-record HasFree (o : Outline) : Type 0 where
-  class : class_number o.classes free_class ≡ Some free_class_number
-  type : type_in o.classes (class_type free_class) ≡ Some free_type
-  number : type_number o.types free_type ≡ Some free_class_number
-  method : resolved_method o.classes free_method ≡ Some free_method_number
+pub record HasFree (o : Outline) : Type 0 where
+  pub class : class_number o.classes free_class ≡ Some free_class_number
+  pub type : type_in o.classes (class_type free_class) ≡ Some free_type
+  pub number : type_number o.types free_type ≡ Some free_class_number
+  pub method : resolved_method o.classes free_method ≡ Some free_method_number
 
 few_built_in : (given : List ClassDef) → free_class_number < length (classes_of given)
 unfolding classes_of
 few_built_in given = let both = length-append built_in (declared_from 0 given) in let count = count_is in omega (arith, both, count)
 
-has_free : ClassTypesAreNumbered → (given : List ClassDef) (main : List ℕ) → HasFree (outline_of given main)
+pub has_free : ClassTypesAreNumbered → (given : List ClassDef) (main : List ℕ) → HasFree (outline_of given main)
 unfolding outline_of
 has_free numbered given main = record {
   class = class_number_is given;
@@ -86,7 +86,7 @@ module _ (o : Outline) (has : HasFree o) (entries : List Entry) (index class mem
 -- ---- a class
 
 -- a use that is none, or that of FreeMe.free
-abbrev NoneOrFree : Use → Type 0
+abbrev pub NoneOrFree : Use → Type 0
 NoneOrFree u = (u ≡ resolved.Unused) ⊎ (u ≡ method_use free_class_number free_method_number)
 
 if_used : (b : Bool) (u : Use) → u ≡ method_use free_class_number free_method_number → NoneOrFree (cond b u resolved.Unused)
@@ -112,7 +112,7 @@ module _ (o : Outline) (has : HasFree o) (plans : Plans) (first : ℕ) (c : Clas
     by_place (inr past) = inl (row_past o (changed plans first c) (free_index c) past)
 
   -- of the class itself
-  own_row : NoneOrFree (get_or (class_uses o c) (free_index c) resolved.Unused)
+  pub own_row : NoneOrFree (get_or (class_uses o c) (free_index c) resolved.Unused)
   own_row = by_place (cases_lt (free_index c) (length c.pool.entries)) where
     by_place : (free_index c < length c.pool.entries) ⊎ (length c.pool.entries ≤ free_index c)
         → NoneOrFree (get_or (class_uses o c) (free_index c) resolved.Unused)
@@ -129,7 +129,7 @@ module _ (o : Outline) (has : HasFree o) (plans : Plans) (first : ℕ) (c : Clas
         (free_resolved o has c.pool.entries (free_index c) e.0 e.1 is member))
     by_place (inr past) = inl (row_past o c (free_index c) past)
 
-  written_row : NoneOrFree (get_or (class_uses o (rewritten_class plans first c)) (free_index c) resolved.Unused)
+  pub written_row : NoneOrFree (get_or (class_uses o (rewritten_class plans first c)) (free_index c) resolved.Unused)
   written_row = either_class plans first c (λ (d : ClassDef). NoneOrFree (get_or (class_uses o d) (free_index c) resolved.Unused)) own_row changed_row
 
 -- ---- all classes
