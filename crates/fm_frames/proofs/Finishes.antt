@@ -85,26 +85,24 @@ took p choose old x moved frames takes is fits one two =
     (two ∙ ap (on_top (without_words takes)) one ∙ on_top-then moved_on (without_words takes) old.frames)
     (λ f callers at. refl)
 
-pub given : (p : Program) (choose : Choose) (old x : State) (moved dropped frames : List Frame) (takes : ℕ) (v : Value) (source : Source)
-    → old ≡ x → NextFits x.frames → moved ≡ on_top moved_on old.frames → dropped ≡ on_top (without_words takes) moved
-    → frames ≡ on_top (with_word v) dropped → value_of (before x) source ≡ v
+pub given : (p : Program) (choose : Choose) (old x : State) (moved frames : List Frame) (takes : ℕ) (v : Value) (source : Source)
+    → old ≡ x → NextFits x.frames → moved ≡ on_top moved_on old.frames → frames ≡ on_top (λ f. with_word v (without_words takes f)) moved
+    → value_of (before x) source ≡ v
     → silent (record old { frames = frames; steps = old.steps + 1 }) ≡ attempted p choose x (words takes (source ∷ []))
-given p choose old x moved dropped frames takes v source is fits one two three told =
+given p choose old x moved frames takes v source is fits one two told =
     finished-top p choose old x frames (λ f. with_word v (without_words takes (moved_on f))) takes (source ∷ []) [] is fits
-    (three
-    ∙ ap (on_top (with_word v)) (two ∙ ap (on_top (without_words takes)) one ∙ on_top-then moved_on (without_words takes) old.frames)
-    ∙ on_top-then (λ f. without_words takes (moved_on f)) (with_word v) old.frames)
+    (two ∙ ap (on_top (λ f. with_word v (without_words takes f))) one
+    ∙ on_top-then moved_on (λ f. with_word v (without_words takes f)) old.frames)
     (λ f callers at. ap (λ w. record f { item = f.item + 1; stack = w ∷ drop takes f.stack }) (sym (source-at old x source v is told f callers at)))
 
-pub given_wide : (p : Program) (choose : Choose) (old x : State) (moved dropped half frames : List Frame) (takes : ℕ) (v : Value) (source : Source)
-    → old ≡ x → NextFits x.frames → moved ≡ on_top moved_on old.frames → dropped ≡ on_top (without_words takes) moved
-    → half ≡ on_top (with_word v) dropped → frames ≡ on_top (with_word value.Top) half → value_of (before x) source ≡ v
+pub given_wide : (p : Program) (choose : Choose) (old x : State) (moved half frames : List Frame) (takes : ℕ) (v : Value) (source : Source)
+    → old ≡ x → NextFits x.frames → moved ≡ on_top moved_on old.frames → half ≡ on_top (λ f. with_word v (without_words takes f)) moved
+    → frames ≡ on_top (with_word value.Top) half → value_of (before x) source ≡ v
     → silent (record old { frames = frames; steps = old.steps + 1 }) ≡ attempted p choose x (words takes (Plain value.Top ∷ source ∷ []))
-given_wide p choose old x moved dropped half frames takes v source is fits one two three four told =
+given_wide p choose old x moved half frames takes v source is fits one two three told =
     finished-top p choose old x frames (λ f. with_word value.Top (with_word v (without_words takes (moved_on f)))) takes (Plain value.Top ∷ source ∷ []) [] is fits
-    (four ∙ ap (on_top (with_word value.Top)) (three
-    ∙ ap (on_top (with_word v)) (two ∙ ap (on_top (without_words takes)) one ∙ on_top-then moved_on (without_words takes) old.frames)
-    ∙ on_top-then (λ f. without_words takes (moved_on f)) (with_word v) old.frames)
+    (three ∙ ap (on_top (with_word value.Top)) (two ∙ ap (on_top (λ f. with_word v (without_words takes f))) one
+    ∙ on_top-then moved_on (λ f. with_word v (without_words takes f)) old.frames)
     ∙ on_top-then (λ f. with_word v (without_words takes (moved_on f))) (with_word value.Top) old.frames)
     (λ f callers at. ap (λ w. record f { item = f.item + 1; stack = value.Top ∷ w ∷ drop takes f.stack }) (sym (source-at old x source v is told f callers at)))
 

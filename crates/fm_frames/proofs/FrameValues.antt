@@ -1,15 +1,15 @@
 -- Frames that lie in one list: what a change of the list, or of the topmost cursor, does to them.
-use Rattle.std.proofs.Common.{◌≡◌, ℕ, ◌+◌, ◌-◌, ◌<◌, ◌≤◌, ◌⊎◌, inl, inr, List, [], ◌∷◌, ◌++◌, length, take, drop, set, reverse, Option, Some, None, get_or, refl, ap, sym, ◌∙◌, subst, slice_get, option_map, map, zero, suc, ◌≢◌, add-one, replicate, max, take_all, option_to_list, append_assoc, true, false, leb, arith}
+use Rattle.std.proofs.Common.{◌≡◌, ℕ, Bool, ◌+◌, ◌-◌, ◌<◌, ◌≤◌, ◌⊎◌, inl, inr, List, [], ◌∷◌, ◌++◌, length, take, drop, set, reverse, Some, None, get_or, refl, ap, sym, ◌∙◌, subst, slice_get, option_map, map, zero, suc, ◌≢◌, add-one, replicate, max, take_all, option_to_list, append_assoc, true, false, leb, arith}
 use Rattle.std.proofs.Math.ListN.{drop_of_length-le}
 use Rattle.std.proofs.Math.Seq.{drop-append_seam, take-set-lt}
-use Rattle.std.proofs.lemmas.List.{drop-append-le, take-append-le, take-append-drop, drop-take, reverse-append, length-reverse, length-take, length-drop, get_or-reverse, length-append, take-set-le, drop-set-lt, drop-set-add, length-set, set_past, drop-drop, length-replicate, reverse-reverse}
+use Rattle.std.proofs.lemmas.List.{replicate_more, take_more_set, drop-append-le, take-append-le, take-append-drop, drop-take, reverse-append, length-reverse, length-take, length-drop, get_or-reverse, length-append, take-set-le, drop-set-lt, drop-set-add, drop-drop, length-replicate, reverse-reverse}
 use Rattle.std.proofs.lemmas.Option.{slice_get-get_or, slice_get-map, slice_get_past}
 use Rattle.std.proofs.lemmas.Bool.Decides.{leb_tells}
 use Rattle.fm_frames.specs.States.{Frame}
 use Rattle.fm_frames.specs.declared.frames.Cursor.{Cursor}
 use Rattle.fm_frames.specs.declared.values.Value.{Value}
 use Rattle.fm_frames.specs.declared.values.Value.TheVariants as value
-use Rattle.fm_frames.specs.inner.Frames.{AreTiled, cursors, frames_at, on_top, place, place_of, result_word, stack_in, with_called, with_result, with_words}
+use Rattle.fm_frames.specs.inner.Frames.{AreLaid, AreTiled, frames_at, frames_in, on_top, place, place_of, result_word, stack_in, topmost, with_called, with_result, with_words}
 
 -- frames are equal by their parts
 same_frame : (method item : ℕ) {l1 l2 s1 s2 : List Value} → l1 ≡ l2 → s1 ≡ s2
@@ -20,29 +20,7 @@ same_frame method item p q = λ i. record { method = method; item = item; locals
 both : {f g : Frame} {callers others : List Frame} → f ≡ g → callers ≡ others → (f ∷ callers) ≡ (g ∷ others)
 both p q = λ i. p i ∷ q i
 
--- ---- a value after all others
-
-pub tiled-pushed : (values : List Value) (c : Option Cursor) (callers : List Cursor) (v : Value) → AreTiled values (cursors c callers)
-    → AreTiled (values ++ v ∷ []) (cursors c callers)
-tiled-pushed values None callers v tiled = tt
-tiled-pushed values (Some c) callers v tiled =
-    let P : List Value → Type 0 = λ front. AreTiled front callers in (
-      tiled.0,
-      omega (arith, length-append values (v ∷ [])),
-      subst P (sym (take-append-le c.locals values (v ∷ []) (omega arith))) tiled.2,
-    )
-
-pub frames-pushed : (values : List Value) (c : Option Cursor) (callers : List Cursor) (v : Value) → AreTiled values (cursors c callers)
-    → frames_at (values ++ v ∷ []) (cursors c callers) ≡ on_top (λ f. record f { stack = v ∷ f.stack }) (frames_at values (cursors c callers))
-frames-pushed values None callers v tiled = refl
-frames-pushed values (Some c) callers v tiled =
-    both
-    (same_frame c.method.0 c.item
-    (ap (drop c.locals) (take-append-le c.stack values (v ∷ []) tiled.1))
-    (ap reverse (drop-append-le c.stack values (v ∷ []) tiled.1) ∙ reverse-append (drop c.stack values) (v ∷ [])))
-    (ap (λ front. frames_at front callers) (take-append-le c.locals values (v ∷ []) (omega arith)))
-
--- ---- values after which the list is cut
+-- ---- where frames lie
 
 -- a place is below the other, or not
 pub below_or_not : (a b : ℕ) → (a < b) ⊎ (b ≤ a)
@@ -55,6 +33,42 @@ below_or_not a b = by_test (leb_tells b a) where
 take_take : (n m : ℕ) (xs : List Value) → n ≤ m → n ≤ length xs → take n (take m xs) ≡ take n xs
 take_take n m xs less within =
     sym (take-append-le n (take m xs) (drop m xs) (omega (arith, length-take m xs))) ∙ ap (take n) (take-append-drop m xs)
+
+-- the values that are used end with those of a cursor
+tiled : (has : Bool) (values : List Value) (used : ℕ) (c : Cursor) (callers : List Cursor) → AreLaid has values used c callers
+    → AreTiled (take used values) (c ∷ callers)
+tiled has values used c callers laid =
+    let P : List Value → Type 0 = λ front. AreTiled front callers in (
+      laid.0,
+      omega (arith, length-take used values),
+      subst P (sym (take_take c.locals used values (omega arith) (omega arith))) laid.4,
+    )
+
+-- the topmost frame with those below it, where there is one
+some-there : (has : Bool) (values : List Value) (used : ℕ) (c : Cursor) (callers : List Cursor) (x : List Frame)
+    → has ≡ true → frames_in has values used c callers ≡ x → frames_at (take used values) (c ∷ callers) ≡ x
+some-there has values used c callers x there is = sym (ap (λ h. frames_in h values used c callers) there) ∙ is
+
+-- ---- a value after all others
+
+frames-pushed : (values : List Value) (c : Cursor) (callers : List Cursor) (v : Value) → AreTiled values (c ∷ callers)
+    → frames_at (values ++ v ∷ []) (c ∷ callers) ≡ on_top (λ f. record f { stack = v ∷ f.stack }) (frames_at values (c ∷ callers))
+frames-pushed values c callers v tiled =
+    both
+    (same_frame c.method.0 c.item
+    (ap (drop c.locals) (take-append-le c.stack values (v ∷ []) tiled.1))
+    (ap reverse (drop-append-le c.stack values (v ∷ []) tiled.1) ∙ reverse-append (drop c.stack values) (v ∷ [])))
+    (ap (λ front. frames_at front callers) (take-append-le c.locals values (v ∷ []) (omega arith)))
+
+pushed : (has : Bool) (values new : List Value) (used many : ℕ) (c : Cursor) (callers : List Cursor) (v : Value) (x : List Frame)
+    → AreLaid has values used c callers → frames_in has values used c callers ≡ x → take many new ≡ take used values ++ v ∷ []
+    → frames_in has new many c callers ≡ on_top (λ f. record f { stack = v ∷ f.stack }) x
+pushed false values new used many c callers v x laid is made = ap (on_top (λ f. record f { stack = v ∷ f.stack })) is
+pushed true values new used many c callers v x laid is made =
+    ap (λ front. frames_at front (c ∷ callers)) made ∙ frames-pushed (take used values) c callers v (tiled true values used c callers laid)
+    ∙ ap (on_top (λ f. record f { stack = v ∷ f.stack })) is
+
+-- ---- values after which the list is cut
 
 -- a list turned round, without its last values
 reverse-take : (xs : List Value) (count : ℕ) → reverse (take (length xs - count) xs) ≡ drop count (reverse xs)
@@ -71,50 +85,76 @@ reverse-take xs count = by_count (below_or_not (length xs) count) where
       ∙ drop-append_seam (reverse (drop m xs)) (reverse (take m xs)))
 
 -- the values that are kept where so many words are taken off the topmost frame's stack
-abbrev pub kept_by : Cursor → List Value → ℕ → ℕ
-kept_by c values count = c.stack + (length values - c.stack - count)
+abbrev kept_by : Cursor → (used count : ℕ) → ℕ
+kept_by c used count = c.stack + (used - c.stack - count)
 
-pub tiled-dropped : (values : List Value) (c : Cursor) (callers : List Cursor) (count : ℕ) → AreTiled values (c ∷ callers)
-    → AreTiled (take (kept_by c values count) values) (c ∷ callers)
+tiled-dropped : (values : List Value) (c : Cursor) (callers : List Cursor) (count : ℕ) → AreTiled values (c ∷ callers)
+    → AreTiled (take (kept_by c (length values) count) values) (c ∷ callers)
 tiled-dropped values c callers count tiled =
-    let P : List Value → Type 0 = λ front. AreTiled front callers in (
+    let P : List Value → Type 0 = λ front. AreTiled front callers in
+    let kept : ℕ = kept_by c (length values) count in (
       tiled.0,
-      omega (arith, length-take (kept_by c values count) values),
-      subst P (sym (take_take c.locals (kept_by c values count) values (omega arith) (omega arith))) tiled.2,
+      omega (arith, length-take kept values),
+      subst P (sym (take_take c.locals kept values (omega arith) (omega arith))) tiled.2,
     )
 
-pub frames-dropped : (values : List Value) (c : Cursor) (callers : List Cursor) (count : ℕ) → AreTiled values (c ∷ callers)
-    → frames_at (take (kept_by c values count) values) (c ∷ callers)
+frames-dropped : (values : List Value) (c : Cursor) (callers : List Cursor) (count : ℕ) → AreTiled values (c ∷ callers)
+    → frames_at (take (kept_by c (length values) count) values) (c ∷ callers)
     ≡ on_top (λ f. record f { stack = drop count f.stack }) (frames_at values (c ∷ callers))
 frames-dropped values c callers count tiled =
     let more : ℕ = length values - c.stack - count in
+    let kept : ℕ = kept_by c (length values) count in
     let h : length (drop c.stack values) ≡ length values - c.stack = length-drop c.stack values in
     both
     (same_frame c.method.0 c.item
-    (ap (drop c.locals) (take_take c.stack (kept_by c values count) values (omega arith) (omega arith)))
-    (ap reverse (drop-take c.stack more values) ∙ ap (λ n. reverse (take (n - count) (drop c.stack values))) (sym h) ∙ reverse-take (drop c.stack values) count))
-    (ap (λ front. frames_at front callers) (take_take c.locals (kept_by c values count) values (omega arith) (omega arith)))
+    (ap (drop c.locals) (take_take c.stack kept values (omega arith) (omega arith)))
+    (ap reverse (drop-take c.stack more values) ∙ ap (λ n. reverse (take (n - count) (drop c.stack values))) (sym h)
+    ∙ reverse-take (drop c.stack values) count))
+    (ap (λ front. frames_at front callers) (take_take c.locals kept values (omega arith) (omega arith)))
 
--- ---- looks
+-- the values that are kept, of those that are used
+kept-used : (values : List Value) (used count kept : ℕ) (c : Cursor) → c.stack ≤ used → used ≤ length values → kept ≡ kept_by c used count
+    → take kept values ≡ take (kept_by c (length (take used values)) count) (take used values)
+kept-used values used count kept c above within much =
+    let long : length (take used values) ≡ used = omega (arith, length-take used values) in
+    sym (take_take kept used values (omega arith) (omega arith))
+    ∙ ap (λ n. take n (take used values)) (much ∙ ap (λ n. kept_by c n count) (sym long))
 
--- the operand at a place lies so far from the end
-pub operand-is : (xs : List Value) (place : ℕ) (v : Value) → place < length xs → get_or xs (length xs - 1 - place) v ≡ v → slice_get (reverse xs) place ≡ Some v
-operand-is xs place v within is =
-    slice_get-get_or (reverse xs) place v (omega (arith, length-reverse xs))
-    ∙ ap Some (get_or-reverse xs place v within ∙ is)
+pub dropped : (has : Bool) (values : List Value) (used count kept : ℕ) (c : Cursor) (callers : List Cursor) (x : List Frame)
+    → AreLaid has values used c callers → frames_in has values used c callers ≡ x → kept ≡ kept_by c used count
+    → frames_in has values kept c callers ≡ on_top (λ f. record f { stack = drop count f.stack }) x
+dropped false values used count kept c callers x laid is much = ap (on_top (λ f. record f { stack = drop count f.stack })) is
+dropped true values used count kept c callers x laid is much =
+    ap (λ front. frames_at front (c ∷ callers)) (kept-used values used count kept c laid.1 laid.2 much)
+    ∙ frames-dropped (take used values) c callers count (tiled true values used c callers laid)
+    ∙ ap (on_top (λ f. record f { stack = drop count f.stack })) is
 
--- ---- a local
+-- a value in place of several
 
-pub tiled-set : (values : List Value) (c : Cursor) (callers : List Cursor) (place : ℕ) (v : Value) → AreTiled values (c ∷ callers)
-    → AreTiled (set values (c.locals + place) v) (c ∷ callers)
-tiled-set values c callers place v tiled =
-    let P : List Value → Type 0 = λ front. AreTiled front callers in (
-      tiled.0,
-      omega (arith, length-set values (c.locals + place) v),
-      subst P (sym (take-set-le c.locals values (c.locals + place) v (omega arith))) tiled.2,
-    )
+given-for : (takes : ℕ) (v : Value) (x : List Frame)
+    → on_top (λ f. record f { stack = v ∷ f.stack }) (on_top (λ f. record f { stack = drop takes f.stack }) x)
+    ≡ on_top (λ f. record f { stack = v ∷ drop takes f.stack }) x
+given-for takes v [] = refl
+given-for takes v (f ∷ callers) = refl
 
-pub frames-set : (values : List Value) (c : Cursor) (callers : List Cursor) (place : ℕ) (v : Value) → AreTiled values (c ∷ callers)
+positive : (n : ℕ) → n ≢ 0 → 0 < n
+positive zero some = absurd (some refl)
+positive (suc n) some = omega arith
+
+pub swapped : (has : Bool) (values : List Value) (used takes kept : ℕ) (c : Cursor) (callers : List Cursor) (v : Value) (x : List Frame)
+    → AreLaid has values used c callers → frames_in has values used c callers ≡ x → takes ≢ 0 → takes ≤ used - c.stack → kept ≡ used - takes
+    → frames_in has (set values kept v) (kept + 1) c callers ≡ on_top (λ f. record f { stack = v ∷ drop takes f.stack }) x
+swapped has values used takes kept c callers v x laid is some few much =
+    let one : 0 < takes = positive takes some in
+    let below : AreLaid has values kept c callers = (laid.0, omega arith, omega arith, laid.3, laid.4) in
+    pushed has values (set values kept v) kept (kept + 1) c callers v (on_top (λ f. record f { stack = drop takes f.stack }) x) below
+    (dropped has values used takes kept c callers x laid is (omega arith))
+    (take_more_set values kept v (omega arith))
+    ∙ given-for takes v x
+
+-- ---- a local is written
+
+frames-set : (values : List Value) (c : Cursor) (callers : List Cursor) (place : ℕ) (v : Value) → AreTiled values (c ∷ callers)
     → place < c.stack - c.locals
     → frames_at (set values (c.locals + place) v) (c ∷ callers)
     ≡ on_top (λ f. record f { locals = set f.locals place v }) (frames_at values (c ∷ callers))
@@ -125,39 +165,14 @@ frames-set values c callers place v tiled within =
     (ap reverse (drop-set-lt c.stack values (c.locals + place) v (omega arith))))
     (ap (λ front. frames_at front callers) (take-set-le c.locals values (c.locals + place) v (omega arith)))
 
--- a place where there is no local
-pub frames-set-none : (values : List Value) (c : Cursor) (callers : List Cursor) (place : ℕ) (v : Value) → AreTiled values (c ∷ callers)
-    → c.stack - c.locals ≤ place
-    → frames_at values (c ∷ callers) ≡ on_top (λ f. record f { locals = set f.locals place v }) (frames_at values (c ∷ callers))
-frames-set-none values c callers place v tiled outside =
-    let few : length (drop c.locals (take c.stack values)) ≤ place =
-    omega (arith, length-drop c.locals (take c.stack values), length-take c.stack values) in
-    both (same_frame c.method.0 c.item (sym (set_past (drop c.locals (take c.stack values)) place v few)) refl) refl
-
--- ---- the same of a topmost cursor that is known, as calls leave it
-
-pub dropped : (values new : List Value) (t : Option Cursor) (c : Cursor) (callers : List Cursor) (count kept : ℕ) (x : List Frame)
-    → t ≡ Some c → AreTiled values (cursors t callers) → frames_at values (cursors t callers) ≡ x
-    → kept ≡ kept_by c values count → new ≡ take kept values
-    → frames_at new (cursors t callers) ≡ on_top (λ f. record f { stack = drop count f.stack }) x
-dropped values new t c callers count kept x known tiled is much cut =
-    let P : Option Cursor → Type 0 = λ t. AreTiled values (cursors t callers) → frames_at values (cursors t callers) ≡ x
-    → frames_at new (cursors t callers) ≡ on_top (λ f. record f { stack = drop count f.stack }) x in
-    subst P (sym known)
-    (λ tiled is. ap (λ front. frames_at front (c ∷ callers)) (cut ∙ ap (λ n. take n values) much)
-    ∙ frames-dropped values c callers count tiled ∙ ap (on_top (λ f. record f { stack = drop count f.stack })) is)
-    tiled is
-
-pub set_at : (values : List Value) (t : Option Cursor) (c : Cursor) (callers : List Cursor) (place : ℕ) (v : Value) (x : List Frame)
-    → t ≡ Some c → AreTiled values (cursors t callers) → frames_at values (cursors t callers) ≡ x
-    → place < c.stack - c.locals
-    → frames_at (set values (c.locals + place) v) (cursors t callers) ≡ on_top (λ f. record f { locals = set f.locals place v }) x
-set_at values t c callers place v x known tiled is within =
-    let P : Option Cursor → Type 0 = λ t. AreTiled values (cursors t callers) → frames_at values (cursors t callers) ≡ x
-    → frames_at (set values (c.locals + place) v) (cursors t callers) ≡ on_top (λ f. record f { locals = set f.locals place v }) x in
-    subst P (sym known)
-    (λ tiled is. frames-set values c callers place v tiled within ∙ ap (on_top (λ f. record f { locals = set f.locals place v })) is)
-    tiled is
+pub set_at : (has : Bool) (values : List Value) (used : ℕ) (c : Cursor) (callers : List Cursor) (place : ℕ) (v : Value) (x : List Frame)
+    → AreLaid has values used c callers → frames_in has values used c callers ≡ x → place < c.stack - c.locals
+    → frames_in has (set values (c.locals + place) v) used c callers ≡ on_top (λ f. record f { locals = set f.locals place v }) x
+set_at false values used c callers place v x laid is within = ap (on_top (λ f. record f { locals = set f.locals place v })) is
+set_at true values used c callers place v x laid is within =
+    ap (λ front. frames_at front (c ∷ callers)) (take-set-lt used values (c.locals + place) v (omega arith))
+    ∙ frames-set (take used values) c callers place v (tiled true values used c callers laid) within
+    ∙ ap (on_top (λ f. record f { locals = set f.locals place v })) is
 
 -- ---- how many frames there are, and where each one stands
 
@@ -165,12 +180,12 @@ length-frames : (values : List Value) (all : List Cursor) → length (frames_at 
 length-frames values [] = refl
 length-frames values (c ∷ callers) = ap suc (length-frames (take c.locals values) callers)
 
-pub counted : (values : List Value) (t : Option Cursor) (c : Cursor) (callers : List Cursor) (x : List Frame)
-    → t ≡ Some c → frames_at values (cursors t (reverse callers)) ≡ x → length callers + 1 ≡ length x
-counted values t c callers x known is =
-    let count : length (frames_at values (c ∷ reverse callers)) ≡ length callers + 1 =
-    length-frames values (c ∷ reverse callers) ∙ ap suc (length-reverse callers) ∙ sym (add-one (length callers)) in
-    sym (ap length (sym is) ∙ ap (λ t. length (frames_at values (cursors t (reverse callers)))) known ∙ count)
+pub counted : (has : Bool) (values : List Value) (used : ℕ) (c : Cursor) (callers : List Cursor) (x : List Frame)
+    → has ≡ true → frames_in has values used c (reverse callers) ≡ x → length callers + 1 ≡ length x
+counted has values used c callers x there is =
+    let count : length (frames_at (take used values) (c ∷ reverse callers)) ≡ length callers + 1 =
+    length-frames (take used values) (c ∷ reverse callers) ∙ ap suc (length-reverse callers) ∙ sym (add-one (length callers)) in
+    sym count ∙ ap length (some-there has values used c (reverse callers) x there is)
 
 map-places : (values : List Value) (all : List Cursor) → map place_of (frames_at values all) ≡ map place all
 map-places values [] = refl
@@ -182,10 +197,10 @@ place-at values all above =
     sym (slice_get-map place_of (frames_at values all) above) ∙ ap (λ places. slice_get places above) (map-places values all)
     ∙ slice_get-map place all above
 
-pub no-cursor : (values : List Value) (t : Option Cursor) (c : Cursor) (callers : List Cursor) (above : ℕ) (x : List Frame)
-    → t ≡ Some c → frames_at values (cursors t (reverse callers)) ≡ x → length callers < above → None ≡ option_map place_of (slice_get x above)
-no-cursor values t c callers above x known is past =
-    let few : length x ≤ above = omega (arith, counted values t c callers x known is) in
+pub no-cursor : (has : Bool) (values : List Value) (used : ℕ) (c : Cursor) (callers : List Cursor) (above : ℕ) (x : List Frame)
+    → has ≡ true → frames_in has values used c (reverse callers) ≡ x → length callers < above → None ≡ option_map place_of (slice_get x above)
+no-cursor has values used c callers above x there is past =
+    let few : length x ≤ above = omega (arith, counted has values used c callers x there is) in
     sym (ap (option_map place_of) (slice_get_past x above few))
 
 from-end : (c : Cursor) (callers : List Cursor) (above : ℕ) → above ≢ 0 → above ≤ length callers
@@ -198,24 +213,18 @@ from-end c callers (suc k) some within =
     ∙ ap (λ n. Some (get_or callers n c)) (let e : length callers - 1 - k ≡ length callers - suc k = omega arith in e)
     ∙ sym (slice_get-get_or callers (length callers - suc k) c (omega arith))
 
-pub cursor-below : (values : List Value) (t : Option Cursor) (c : Cursor) (callers : List Cursor) (above : ℕ) (x : List Frame)
-    → t ≡ Some c → frames_at values (cursors t (reverse callers)) ≡ x → above ≢ 0 → above ≤ length callers
-    → option_map place (slice_get callers (length callers - above)) ≡ option_map place_of (slice_get x above)
-cursor-below values t c callers above x known is some within =
-    sym (ap (λ fs. option_map place_of (slice_get fs above)) (sym is)
-    ∙ ap (λ t. option_map place_of (slice_get (frames_at values (cursors t (reverse callers))) above)) known
-    ∙ place-at values (c ∷ reverse callers) above ∙ ap (option_map place) (from-end c callers above some within))
-
--- the same as calls leave it, where the callers were lent
-pub cursor-is : (values : List Value) (t : Option Cursor) (c d : Cursor) (callers lent : List Cursor) (above : ℕ) (x : List Frame)
-    → t ≡ Some c → frames_at values (cursors t (reverse callers)) ≡ x → lent ≡ callers → above ≢ 0 → above ≤ length lent
+-- as calls leave it, where the callers were lent
+pub cursor-is : (has : Bool) (values : List Value) (used : ℕ) (c d : Cursor) (callers lent : List Cursor) (above : ℕ) (x : List Frame)
+    → has ≡ true → frames_in has values used c (reverse callers) ≡ x → lent ≡ callers → above ≢ 0 → above ≤ length lent
     → Some (place (get_or lent (length lent - above) d)) ≡ option_map place_of (slice_get x above)
-cursor-is values t c d callers lent above x known is same some within =
+cursor-is has values used c d callers lent above x there is same some within =
     let P : List Cursor → Type 0 = λ lent. above ≤ length lent
     → Some (place (get_or lent (length lent - above) d)) ≡ option_map place_of (slice_get x above) in
     subst P (sym same)
-    (λ within. ap (option_map place) (sym (slice_get-get_or callers (length callers - above) d (omega arith)))
-    ∙ cursor-below values t c callers above x known is some within)
+    (λ within. ap (option_map place) (sym (slice_get-get_or callers (length callers - above) d (omega arith))
+    ∙ sym (from-end c callers above some within))
+    ∙ sym (place-at (take used values) (c ∷ reverse callers) above)
+    ∙ ap (λ fs. option_map place_of (slice_get fs above)) (some-there has values used c (reverse callers) x there is))
     within
 
 -- one value less
@@ -245,6 +254,16 @@ last-values xs words =
           ap (λ n. reverse (take n (reverse xs))) (sym left) ∙ reverse-take (reverse xs) (length xs - words)
           ∙ ap (drop (length xs - words)) (reverse-reverse xs)
 
+-- one more value that is no value of its own
+pub cleared-next : (values front : List Value) (start place : ℕ) → place < length values → start ≤ place
+    → take place values ≡ front ++ replicate (place - start) value.Top
+    → take (place + 1) (set values place value.Top) ≡ front ++ replicate (place + 1 - start) value.Top
+cleared-next values front start place within above so_far =
+    let more : place - start + 1 ≡ place + 1 - start = omega arith in
+    take_more_set values place value.Top within ∙ ap (λ xs. xs ++ value.Top ∷ []) so_far
+    ∙ append_assoc front (replicate (place - start) value.Top) (value.Top ∷ [])
+    ∙ ap (λ xs. front ++ xs) (replicate_more (place - start) value.Top ∙ ap (λ n. replicate n value.Top) more)
+
 -- the values with room for the callee's locals behind them
 abbrev pub with_room : List Value → ℕ → List Value
 with_room values stack = values ++ replicate (stack - length values) value.Top
@@ -252,23 +271,12 @@ with_room values stack = values ++ replicate (stack - length values) value.Top
 abbrev pub callee : ℕ → ℕ → ℕ → Cursor
 callee method locals stack = record { method = record { 0 = method }; item = 0; locals = locals; stack = stack }
 
-pub tiled-called : (values : List Value) (c : Cursor) (callers : List Cursor) (method words stack : ℕ) → AreTiled values (c ∷ callers)
-    → length values ≤ stack → AreTiled (with_room values stack) (callee method (kept_by c values words) stack ∷ c ∷ callers)
-tiled-called values c callers method words stack tiled room =
-    let front : take (kept_by c values words) (with_room values stack) ≡ take (kept_by c values words) values =
-    take-append-le (kept_by c values words) values (replicate (stack - length values) value.Top) (omega arith) in
-    let P : List Value → Type 0 = λ front. AreTiled front (c ∷ callers) in (
-      omega arith,
-      omega (arith, length-append values (replicate (stack - length values) value.Top), length-replicate (stack - length values) value.Top),
-      subst P (sym front) (tiled-dropped values c callers words tiled),
-    )
-
-pub frames-called : (values : List Value) (c : Cursor) (callers : List Cursor) (method max_locals words stack : ℕ) → AreTiled values (c ∷ callers)
-    → stack ≡ max (kept_by c values words + max_locals) (length values)
-    → frames_at (with_room values stack) (callee method (kept_by c values words) stack ∷ c ∷ callers)
+frames-called : (values : List Value) (c : Cursor) (callers : List Cursor) (method max_locals words kept stack : ℕ) → AreTiled values (c ∷ callers)
+    → kept ≡ kept_by c (length values) words → stack ≡ max (kept + max_locals) (length values)
+    → frames_at (with_room values stack) (callee method kept stack ∷ c ∷ callers)
     ≡ with_called method max_locals words (frames_at values (c ∷ callers))
-frames-called values c callers method max_locals words stack tiled is =
-    let base : ℕ = kept_by c values words in
+frames-called values c callers method max_locals words kept stack tiled much is =
+    let base : ℕ = kept_by c (length values) words in
     let more : List Value = replicate (stack - length values) value.Top in
     let ws : List Value = drop c.stack values in
     let h : length ws ≡ length values - c.stack = length-drop c.stack values in
@@ -280,31 +288,33 @@ frames-called values c callers method max_locals words stack tiled is =
     ∙ ap (λ n. drop n values) (let e : c.stack + (length ws - words) ≡ base = omega arith in e) in
     let count : length (drop base values) ≡ length values - base = length-drop base values in
     let room : stack - length values ≡ max_locals - length (reverse (take words (reverse ws))) = omega (arith, ap length arguments) in
+    let here : frames_at (with_room values stack) (callee method base stack ∷ c ∷ callers)
+    ≡ with_called method max_locals words (frames_at values (c ∷ callers)) =
     both
     (same_frame method 0
     (ap (drop base) whole ∙ drop-append-le base values more (omega arith) ∙ ap (λ xs. xs ++ more) (sym arguments)
     ∙ ap (λ n. reverse (take words (reverse ws)) ++ replicate n value.Top) room)
     (ap reverse (drop_of_length-le (with_room values stack) (omega arith))))
-    (ap (λ front. frames_at front (c ∷ callers)) (take-append-le base values more (omega arith)) ∙ frames-dropped values c callers words tiled)
+    (ap (λ front. frames_at front (c ∷ callers)) (take-append-le base values more (omega arith)) ∙ frames-dropped values c callers words tiled) in
+    ap (λ n. frames_at (with_room values stack) (callee method n stack ∷ c ∷ callers)) much ∙ here
 
--- the same as calls leave it
-pub entered : (values new : List Value) (t : Option Cursor) (c : Cursor) (callers pushed : List Cursor) (method max_locals words kept stack missing : ℕ) (x : List Frame)
-    → t ≡ Some c → AreTiled values (cursors t (reverse callers)) → frames_at values (cursors t (reverse callers)) ≡ x
-    → kept ≡ kept_by c values words → stack ≡ max (kept + max_locals) (length values)
-    → new ≡ take stack values ++ replicate missing value.Top → missing ≡ stack - length values → pushed ≡ callers ++ c ∷ []
-    → frames_at new (callee method kept stack ∷ reverse pushed) ≡ with_called method max_locals words x
-entered values new t c callers pushed method max_locals words kept stack missing x known tiled is much room made more last =
-    let P : Option Cursor → Type 0 = λ t. AreTiled values (cursors t (reverse callers)) → frames_at values (cursors t (reverse callers)) ≡ x
-    → frames_at new (callee method kept stack ∷ reverse pushed) ≡ with_called method max_locals words x in
-    let all : new ≡ with_room values stack =
-    made ∙ ap (λ xs. xs ++ replicate missing value.Top) (take_all stack values (omega arith)) ∙ ap (λ n. values ++ replicate n value.Top) more in
+-- as calls leave it
+pub entered : (has : Bool) (values new : List Value) (used : ℕ) (c : Cursor) (callers pushed : List Cursor)
+    (method max_locals words kept stack : ℕ) (x : List Frame)
+    → has ≡ true → AreLaid has values used c (reverse callers) → frames_in has values used c (reverse callers) ≡ x
+    → kept ≡ kept_by c used words → stack ≡ max (kept + max_locals) used
+    → take stack new ≡ take used values ++ replicate (stack - used) value.Top → pushed ≡ callers ++ c ∷ []
+    → frames_in has new stack (callee method kept stack) (reverse pushed) ≡ with_called method max_locals words x
+entered has values new used c callers pushed method max_locals words kept stack x there laid is much room made last =
+    let front : List Value = take used values in
+    let long : length front ≡ used = omega (arith, length-take used values) in
     let turned : reverse pushed ≡ c ∷ reverse callers = ap reverse last ∙ reverse-append callers (c ∷ []) in
-    subst P (sym known)
-    (λ tiled is.
-    (λ i. frames_at (all i) (callee method (much i) stack ∷ turned i))
-    ∙ frames-called values c (reverse callers) method max_locals words stack tiled (room ∙ ap (λ n. max (n + max_locals) (length values)) much)
-    ∙ ap (with_called method max_locals words) is)
-    tiled is
+    ap (λ h. frames_in h new stack (callee method kept stack) (reverse pushed)) there
+    ∙ ap (λ all. frames_at all (callee method kept stack ∷ reverse pushed)) (made ∙ ap (λ n. front ++ replicate (stack - n) value.Top) (sym long))
+    ∙ ap (λ others. frames_at (with_room front stack) (callee method kept stack ∷ others)) turned
+    ∙ frames-called front c (reverse callers) method max_locals words kept stack (tiled has values used c (reverse callers) laid)
+    (much ∙ ap (λ n. kept_by c n words) (sym long)) (room ∙ ap (λ n. max (kept + max_locals) n) (sym long))
+    ∙ ap (with_called method max_locals words) (some-there has values used c (reverse callers) x there is)
 
 -- ---- returns
 

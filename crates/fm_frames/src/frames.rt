@@ -6,6 +6,7 @@
 ghost use Rattle.std.specs.Prelude.{◌≡◌, ◌<◌, ◌^◌, ◌+◌, ◌++◌, ◌-◌, [], ◌∷◌, length, drop, take, reverse, replicate, slice_get, slice_set, option_to_list, ◌≤◌, IfOk, OnOk};
 ghost use Rattle.std.specs.Option.{option_map};
 ghost use Rattle.fm_frames.specs.States.{word_at};
+ghost use Rattle.fm_frames.specs.declared.values.Value.TheVariants.{Top as NoValue};
 ghost use Rattle.fm_frames.specs.inner.Frames as spec;
 ghost use Rattle.fm_frames.specs.inner.Doings.{NextFits};
 ghost use Rattle.fm_frames.specs.inner.Frames.{main_frame, on_top, place, place_of, result_word, stack_in, locals_in, with_called, with_result, with_words};
@@ -26,11 +27,24 @@ pub struct Cursor {
     pub stack: usize,
 }
 
+// Where the topmost frame lies while there is none.
+const NOWHERE: Cursor = Cursor {
+    method: MethodId(0),
+    item: 0,
+    locals: 0,
+    stack: 0,
+};
+
 /// The frames. Contracts see them with the topmost first.
 #[derive(Drop)]
 pub struct Frames {
+    /// The values of all frames, and then others that make room.
     values: Vec<Value>,
-    topmost: Option<Cursor>,
+    /// How many of the values are those of frames.
+    used: usize,
+    /// Whether there is a frame. Where there is none, there is room for no value.
+    has_frames: bool,
+    topmost: Cursor,
     callers: Vec<Cursor>,
 }
 
@@ -40,11 +54,44 @@ impl Model for Frames {
 
     ghost Value = { List Frame };
 
-    ghost use Rattle.fm_frames.specs.inner.Frames.{cursors, frames_at, AreTiled};
+    ghost use Rattle.fm_frames.specs.inner.Frames.{frames_in, AreLaid};
 
-    ghost view = { λ a. frames_at a.values.items (cursors a.topmost (reverse a.callers.items)) };
+    ghost view = { λ a. frames_in a.has_frames a.values.items a.used a.topmost (reverse a.callers.items) };
 
-    ghost invariant = { λ a. AreTiled a.values.items (cursors a.topmost (reverse a.callers.items)) };
+    ghost invariant = { λ a. AreLaid a.has_frames a.values.items a.used a.topmost (reverse a.callers.items) };
+}
+
+// Gives each value from a place on, up to another place, no value of its own; the values are made more where
+// there are too few.
+fn clear_values(values: &mut Vec<Value>, start: usize, end: usize) -> Result<(), NoMemory>
+    requires in_order { start ≤ end }
+    requires within { start ≤ length values.old.items }
+    ensures front { take start values.new.items ≡ take start values.old.items }
+    ensures fits { start ≤ length values.new.items }
+    ensures room { OnOk result (end ≤ length values.new.items) }
+    ensures cleared { OnOk result (take end values.new.items
+        ≡ take start values.old.items ++ replicate (end - start) NoValue) }
+{
+    if end > values.len() {
+        lengthen(values, end)?;
+    }
+    for place in start..end {
+        values[place] = Value::Top;
+    }
+    Ok(())
+}
+
+// Makes the values more, up to so many.
+#[cold]
+#[inline(never)]
+fn lengthen(values: &mut Vec<Value>, len: usize) -> Result<(), NoMemory>
+    requires { length values.old.items ≤ len }
+    ensures kept { take (length values.old.items) values.new.items ≡ values.old.items }
+    ensures longer { length values.old.items ≤ length values.new.items }
+    ensures len { OnOk result (length values.new.items ≡ len) }
+{
+    values.resize(len, Value::Top)?;
+    Ok(())
 }
 
 impl Frames {
@@ -54,7 +101,9 @@ impl Frames {
     {
         Frames {
             values: Vec::new(alloc),
-            topmost: None,
+            used: 0,
+            has_frames: false,
+            topmost: NOWHERE,
             callers: Vec::new(alloc),
         }
     }
@@ -74,12 +123,14 @@ impl Frames {
         values.resize(stack, Value::Top)?;
         Ok(Frames {
             values,
-            topmost: Some(Cursor {
+            used: stack,
+            has_frames: true,
+            topmost: Cursor {
                 method,
                 item: 0,
                 locals: 0,
                 stack,
-            }),
+            },
             callers: Vec::new(alloc),
         })
     }
@@ -89,10 +140,9 @@ impl Frames {
     pub fn operand(&self, place: usize) -> Option<Value>
         ensures { result ≡ slice_get (stack_in self.now) place }
     {
-        let topmost = self.topmost?;
-        let words = &self.values[topmost.stack..];
-        if place < words.len() {
-            Some(words[words.len() - 1 - place])
+        let height = self.used - self.topmost.stack;
+        if place < height {
+            Some(self.values[self.used - 1 - place])
         } else {
             None
         }
@@ -103,13 +153,11 @@ impl Frames {
     pub fn local(&self, place: usize) -> Value
         ensures { result ≡ word_at (locals_in self.now) place }
     {
-        let Some(topmost) = self.topmost else {
-            return Value::Top;
-        };
-        let words = &self.values[topmost.locals..topmost.stack];
-        match words.get(place) {
-            Some(value) => *value,
-            None => Value::Top,
+        let count = self.topmost.stack - self.topmost.locals;
+        if place < count {
+            self.values[self.topmost.locals + place]
+        } else {
+            Value::Top
         }
     }
 
@@ -118,7 +166,26 @@ impl Frames {
     pub fn push(&mut self, value: Value) -> Result<(), NoMemory>
         ensures { OnOk result (self.new ≡ on_top (λ f. record f { stack = value ∷ f.stack }) self.old) }
     {
-        self.values.push(value)?;
+        if self.used < self.values.len() {
+            self.values[self.used] = value;
+            self.used += 1;
+            Ok(())
+        } else {
+            self.push_last(value)
+        }
+    }
+
+    // Puts a word on top of the stack, and room for it behind the values.
+    #[cold]
+    #[inline(never)]
+    fn push_last(&mut self, value: Value) -> Result<(), NoMemory>
+        ensures { OnOk result (self.new ≡ on_top (λ f. record f { stack = value ∷ f.stack }) self.old) }
+    {
+        if self.has_frames {
+            self.values.truncate(self.used);
+            self.values.push(value)?;
+            self.used += 1;
+        }
         Ok(())
     }
 
@@ -127,11 +194,26 @@ impl Frames {
     pub fn drop_words(&mut self, count: usize)
         ensures { self.new ≡ on_top (λ f. record f { stack = drop count f.stack }) self.old }
     {
-        if let Some(topmost) = self.topmost {
-            let height = self.values.len() - topmost.stack;
-            self.values
-                .truncate(topmost.stack + height.saturating_sub(count));
+        let height = self.used - self.topmost.stack;
+        self.used = self.topmost.stack + height.saturating_sub(count);
+    }
+
+    /// Puts a word in place of so many words of the stack.
+    #[inline(always)]
+    pub fn swap_in(&mut self, takes: usize, value: Value) -> Result<(), NoMemory>
+        ensures { OnOk result (self.new
+            ≡ on_top (λ f. record f { stack = value ∷ drop takes f.stack }) self.old) }
+    {
+        let height = self.used - self.topmost.stack;
+        if takes == 0 || takes > height {
+            self.drop_words(takes);
+            self.push(value)?;
+            return Ok(());
         }
+        let place = self.used - takes;
+        self.values[place] = value;
+        self.used = place + 1;
+        Ok(())
     }
 
     /// Gives a local this value, if there is that local.
@@ -139,11 +221,9 @@ impl Frames {
     pub fn set_local(&mut self, place: usize, value: Value)
         ensures { self.new ≡ on_top (λ f. record f { locals = slice_set f.locals place value }) self.old }
     {
-        if let Some(topmost) = self.topmost {
-            let count = topmost.stack - topmost.locals;
-            if place < count {
-                self.values[topmost.locals + place] = value;
-            }
+        let count = self.topmost.stack - self.topmost.locals;
+        if place < count {
+            self.values[self.topmost.locals + place] = value;
         }
     }
 
@@ -152,9 +232,7 @@ impl Frames {
     pub fn go_to(&mut self, item: usize)
         ensures { self.new ≡ on_top (λ f. record f { item = item }) self.old }
     {
-        if let Some(topmost) = self.topmost {
-            self.topmost = Some(Cursor { item, ..topmost });
-        }
+        self.topmost.item = item;
     }
 
     /// Makes the item after this one the next.
@@ -163,12 +241,7 @@ impl Frames {
         requires { NextFits self.old }
         ensures { self.new ≡ on_top (λ f. record f { item = f.item + 1 }) self.old }
     {
-        if let Some(topmost) = self.topmost {
-            self.topmost = Some(Cursor {
-                item: topmost.item + 1,
-                ..topmost
-            });
-        }
+        self.topmost.item += 1;
     }
 
     /// The cursor of the topmost frame; none where there are no frames.
@@ -176,8 +249,11 @@ impl Frames {
     pub fn topmost(&self) -> Option<Cursor>
         ensures { option_map place result ≡ option_map place_of (spec.topmost self.now) }
     {
-        let _values = &self.values;
-        self.topmost
+        if self.has_frames {
+            Some(self.topmost)
+        } else {
+            None
+        }
     }
 
     /// How many frames there are.
@@ -185,9 +261,10 @@ impl Frames {
     pub fn count(&self) -> usize
         ensures { result ≡ length self.now }
     {
-        match self.topmost {
-            Some(_) => self.callers.as_slice().len() + 1,
-            None => 0,
+        if self.has_frames {
+            self.callers.as_slice().len() + 1
+        } else {
+            0
         }
     }
 
@@ -195,9 +272,11 @@ impl Frames {
     pub fn cursor(&self, above: usize) -> Option<Cursor>
         ensures { option_map place result ≡ option_map place_of (slice_get self.now above) }
     {
-        let topmost = self.topmost?;
+        if !self.has_frames {
+            return None;
+        }
         if above == 0 {
-            return Some(topmost);
+            return Some(self.topmost);
         }
         let callers = self.callers.as_slice();
         if above > callers.len() {
@@ -210,9 +289,20 @@ impl Frames {
     pub fn pop(&mut self)
         ensures { self.new ≡ drop 1 self.old }
     {
-        if let Some(topmost) = self.topmost {
-            self.values.truncate(topmost.locals);
-            self.topmost = self.callers.pop();
+        if !self.has_frames {
+            return;
+        }
+        match self.callers.pop() {
+            Some(caller) => {
+                self.used = self.topmost.locals;
+                self.topmost = caller;
+            }
+            None => {
+                self.has_frames = false;
+                self.topmost = NOWHERE;
+                self.used = 0;
+                self.values.truncate(0);
+            }
         }
     }
 
@@ -220,9 +310,7 @@ impl Frames {
     pub fn clear_words(&mut self)
         ensures { self.new ≡ on_top (λ f. record f { stack = [] }) self.old }
     {
-        if let Some(topmost) = self.topmost {
-            self.values.truncate(topmost.stack);
-        }
+        self.used = self.topmost.stack;
     }
 
     /// Takes so many frames off, and goes on at a handler in the one that is then on top, with a value as
@@ -243,21 +331,22 @@ impl Frames {
     pub fn enter(&mut self, method: MethodId, max_locals: u16, words: usize) -> Result<(), NoMemory>
         ensures { OnOk result (self.new ≡ with_called method.0 max_locals words self.old) }
     {
-        let Some(topmost) = self.topmost else {
+        if !self.has_frames {
             return Ok(());
-        };
-        let len = self.values.len();
-        let height = len - topmost.stack;
+        }
+        let topmost = self.topmost;
+        let height = self.used - topmost.stack;
         let locals = topmost.stack + height.saturating_sub(words);
-        let stack = (locals + max_locals as usize).max(len);
-        self.values.resize(stack, Value::Top)?;
+        let stack = (locals + max_locals as usize).max(self.used);
+        clear_values(&mut self.values, self.used, stack)?;
         self.callers.push(topmost)?;
-        self.topmost = Some(Cursor {
+        self.topmost = Cursor {
             method,
             item: 0,
             locals,
             stack,
-        });
+        };
+        self.used = stack;
         Ok(())
     }
 

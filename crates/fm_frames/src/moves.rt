@@ -34,8 +34,7 @@ impl<M: Memory> Machine<M> {
             → Does self.old self.new (words takes (source ∷ []))) }
     {
         self.frames.advance();
-        self.frames.drop_words(takes);
-        self.frames.push(value)?;
+        self.frames.swap_in(takes, value)?;
         self.steps += 1;
         Ok(())
     }
@@ -48,8 +47,7 @@ impl<M: Memory> Machine<M> {
             → Does self.old self.new (words takes (Plain NoValue ∷ source ∷ []))) }
     {
         self.frames.advance();
-        self.frames.drop_words(takes);
-        self.frames.push(value)?;
+        self.frames.swap_in(takes, value)?;
         self.frames.push(Value::Top)?;
         self.steps += 1;
         Ok(())

@@ -1,6 +1,6 @@
 -- How frames lie among the values of one list: the lowest first, and of each first its locals and then its stack, whose last value is its top. And what
 -- changes the topmost frame.
-use Rattle.std.specs.Prelude.{ℕ, ◌+◌, ◌-◌, ◌≤◌, nat_lt, if◌then◌else◌, slice_get, List, [], ◌∷◌, ◌++◌, length, replicate, take, drop, reverse, Option, Some, None}
+use Rattle.std.specs.Prelude.{ℕ, Bool, false, true, ◌≡◌, ◌+◌, ◌-◌, ◌≤◌, nat_lt, if◌then◌else◌, slice_get, List, [], ◌∷◌, ◌++◌, length, replicate, take, drop, reverse, Option, Some, None}
 use Rattle.fm_world.specs.Programs.{Program}
 use Rattle.fm_frames.specs.States.{Frame}
 use Rattle.fm_frames.specs.Steps.{new_frame}
@@ -30,9 +30,18 @@ AreTiled values [] = Unit {0}
 AreTiled values (c ∷ callers) = (c.locals ≤ c.stack) × (c.stack ≤ length values) × AreTiled (take c.locals values) callers
 
 -- the cursors, where there is a topmost one
-abbrev pub cursors : Option Cursor → List Cursor → List Cursor
-cursors None callers = []
-cursors (Some c) callers = c ∷ callers
+abbrev pub cursors : Bool → Cursor → List Cursor → List Cursor
+cursors false c callers = []
+cursors true c callers = c ∷ callers
+
+-- the frames, if there are any, whose values are the first ones of a list, as many as are used
+abbrev pub frames_in : (has_frames : Bool) (values : List Value) (used : ℕ) → Cursor → (callers : List Cursor) → List Frame
+frames_in has_frames values used c callers = frames_at (take used values) (cursors has_frames c callers)
+
+-- the used values end with those of the topmost frame; without frames there is no room behind them; and the callers' values come before
+abbrev pub AreLaid : (has_frames : Bool) (values : List Value) (used : ℕ) → Cursor → (callers : List Cursor) → Type 0
+AreLaid has_frames values used c callers =
+    (c.locals ≤ c.stack) × (c.stack ≤ used) × (used ≤ length values) × (has_frames ≡ false → length values ≤ c.locals) × AreTiled (take c.locals values) callers
 
 -- ---- the topmost frame
 

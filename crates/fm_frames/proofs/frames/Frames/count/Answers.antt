@@ -2,8 +2,8 @@ use Rattle.std.proofs.Common.{◌∙◌, ap, ◌+◌, length}
 use Rattle.fm_frames.proofs.FrameValues.{counted}
 use Rattle.fm_frames.proofs.frames.Frames.count.Goals as goal
 
-pub returns-in-Some : goal.returns-in-Some
-returns-in-Some c =
+pub returns-then-self : goal.returns-then-self
+returns-then-self c =
     ap (λ n. n + 1) (ap length c.as_slice.ensures.value)
-    ∙ counted c.self.inside.values.items c.self.inside.topmost c.in-Some.field-0 c.self.inside.callers.items c.args.self.now c.in-Some.is
-    c.self.view_is
+    ∙ counted c.self.inside.has_frames c.self.inside.values.items c.self.inside.used c.self.inside.topmost c.self.inside.callers.items
+    c.args.self.now c.if-self.true c.self.view_is

@@ -3,5 +3,5 @@ use Rattle.fm_frames.proofs.machine.Machine.give.Goals as goal
 
 pub returns : goal.returns
 returns g c source told p choose =
-    given p choose _ c.args.self.now c.advance.new.self c.drop_words.new.self c.push.new.self c.args.takes c.args.value source c.self.view_is
-    c.requires.next_fits c.advance.ensures c.drop_words.ensures c.in_ok-push.ensures told
+    given p choose _ c.args.self.now c.advance.new.self c.swap_in.new.self c.args.takes c.args.value source c.self.view_is
+    c.requires.next_fits c.advance.ensures c.in_ok-swap_in.ensures told
