@@ -25,5 +25,5 @@ pub mod OpeningStarts
 pub mod FirstValues
 pub mod OpeningArguments
 pub mod OpeningObjects
-pub mod MainFrame
 pub mod OpeningMain
+pub mod StepCounts

@@ -1,5 +1,5 @@
 -- How many objects a step makes: no more than it costs, and one for each text that gets its literal.
-use Rattle.std.proofs.Common.{◌≡◌, ℕ, ◌+◌, ◌<◌, ◌≤◌, ◌==◌, Bool, true, false, cond, nat_lt, if◌then◌else◌, List, [], ◌∷◌, ◌++◌, length, max, set, Option, Some, None, refl, ap, sym, ◌∙◌, arith}
+use Rattle.std.proofs.Common.{◌≡◌, ℕ, ◌+◌, ◌<◌, ◌≤◌, ◌==◌, Bool, true, false, cond, nat_lt, if◌then◌else◌, List, [], ◌∷◌, ◌++◌, length, max, set, Option, Some, None, refl, ap, sym, ◌∙◌, subst, arith}
 use Rattle.std.specs.List.{AllByRecursion, slice_index_or}
 use Rattle.std.proofs.lemmas.Bool.{eq-eqb, ltb-false, ne_eqb}
 use Rattle.std.proofs.lemmas.List.{length-set}
@@ -11,6 +11,7 @@ use Rattle.fm_cells.specs.Choices.{IsLawful, MayReuse}
 use Rattle.fm_cells.specs.Objects.{Object, object_words, Request}
 use Rattle.fm_cells.specs.Stores.{object_at, Store}
 use Rattle.fm_frames.proofs.Contents.{content_in}
+use Rattle.fm_frames.proofs.StepCounts.{step_is, stepped}
 use Rattle.fm_frames.specs.Acts.{all_freed, cell_of, chain_freed, chain_from, chained, Choose, class_started, Did, freed, freed_object, FullAt, is_there, literal_made, literal_text, LostAt, made_then, performed, Performed, put_value, requested, set_static, Sources, value_of, with_content}
 use Rattle.fm_frames.specs.Effects.{Action, Effect, Make, MakeFixed, MakeLiteral, Put, SetStatic, Start, Free, SetChain, FreeChain}
 use Rattle.fm_frames.specs.Elements.{kept}
@@ -260,15 +261,11 @@ frames-grown p choose lawful z (f ∷ callers) some made room =
 pub step-makes : (p : Program) (x : State) (choose : Choose) → IsLawful choose → StepsAreResolved p → MakesAreResolved p → IsSound p x
     → (step p choose x).state.ended ≡ None
     → (step p choose x).state.areas.store.births + unmade (step p choose x).state.areas.literals ≤ x.areas.store.births + unmade x.areas.literals + cost p x
-unfolding step
-step-makes p x choose lawful ready makes sound goes = (by_end x.ended refl).few goes where
-  moved_with : Option Ended → Moved
-  moved_with (Some ended) = record { state = x; printed = [] }
-  moved_with None = attempted p choose x (next_effect p x)
-
-  by_end : (ended : Option Ended) → x.ended ≡ ended → IsCounted x (cost p x) (moved_with ended).state
-  by_end (Some ended) is = record { few = λ goes. omega arith }
-  by_end None is =
-      let parts = sound.1 in
-      let many = parts.areas.literals in
-      frames-grown p choose lawful x x.frames (parts.running is) (next-made p x ready.calls.runnable) (omega (arith, many))
+step-makes p x choose lawful ready makes sound goes =
+    (subst (λ (m : Moved). IsCounted x (cost p x) m.state) (sym (step_is p choose x)) (by_end x.ended refl)).few goes where
+      by_end : (ended : Option Ended) → x.ended ≡ ended → IsCounted x (cost p x) (stepped p choose x ended).state
+      by_end (Some ended) is = record { few = λ goes. omega arith }
+      by_end None is =
+          let parts = sound.1 in
+          let many = parts.areas.literals in
+          frames-grown p choose lawful x x.frames (parts.running is) (next-made p x ready.calls.runnable) (omega (arith, many))

@@ -12,7 +12,8 @@ use Rattle.fm_frames.specs.declared.ends.Ended.TheVariants as end
 use Rattle.fm_sound.specs.Sound.{IsSoundBy, Typings}
 use Rattle.fm_paired.specs.Pairing.{EndAlike}
 use Rattle.fm_paired.specs.Runs.{Alike, FirstLacks, GoAlike, IsPrefix, SecondIsFull, SecondLacks}
-use Rattle.fm_paired.proofs.StepSame.{AlikeStill, Both, GoesAlike, IsReady, OneLacks, OtherIsFull, OtherLacks, step_alike, step_ended}
+use Rattle.fm_paired.proofs.StepSame.{AlikeStill, Both, GoesAlike, IsReady, OneLacks, OtherIsFull, OtherLacks, step_alike}
+use Rattle.fm_frames.proofs.StepCounts.{step_ended}
 
 -- ---- what was printed
 

@@ -13,6 +13,7 @@ use Rattle.fm_frames.specs.States.{Areas, Frame, Moved, State}
 use Rattle.fm_frames.specs.Steps.{attempted, done_by, finished, input_after, is_deep, is_done, is_over, next_effect, objects_made, step, stopped, words_made}
 use Rattle.fm_frames.specs.declared.ends.Ended.{Ended}
 use Rattle.fm_frames.specs.declared.ends.Ended.TheVariants as end
+use Rattle.fm_frames.proofs.StepCounts.{step_going}
 use Rattle.fm_same.specs.Resolved.{CallsNoFreeMe}
 use Rattle.fm_sound.specs.Leading.{sources_of}
 use Rattle.fm_sound.specs.Making.{HaveTextFirst, MakesAreResolved}
@@ -87,23 +88,6 @@ frame_later one other next following stays other_stays f g h = record {
   locals = zip-implied (SameValue one other) (SameValue next following) (value_later one other next following stays other_stays) f.locals g.locals h.locals;
   stack = zip-implied (SameValue one other) (SameValue next following) (value_later one other next following stays other_stays) f.stack g.stack h.stack;
 }
-
--- ---- the step of a state
-
--- by its end
-abbrev step_of : Program → Choose → State → Option Ended → Moved
-step_of p choose x (Some e) = record { state = x; printed = [] }
-step_of p choose x None = attempted p choose x (next_effect p x)
-
-step_is : (p : Program) (choose : Choose) (x : State) → step p choose x ≡ step_of p choose x x.ended
-unfolding step
-step_is p choose x = refl
-
-pub step_ended : (p : Program) (choose : Choose) (x : State) (e : Ended) → x.ended ≡ Some e → step p choose x ≡ record { state = x; printed = [] }
-step_ended p choose x e is = step_is p choose x ∙ ap (step_of p choose x) is
-
-step_going : (p : Program) (choose : Choose) (x : State) → x.ended ≡ None → step p choose x ≡ attempted p choose x (next_effect p x)
-step_going p choose x going = step_is p choose x ∙ ap (step_of p choose x) going
 
 -- ---- a step of both
 

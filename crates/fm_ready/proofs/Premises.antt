@@ -1,5 +1,6 @@
 -- What the code of each instruction asks, of each state from which a run goes on.
-pub use Rattle.fm_ready.proofs.Standing.{at_insn, births, caller_inside, can_step, costs_some, IsStanding, standing}
+pub use Rattle.fm_ready.proofs.Standing.{at_insn, births, caller_inside, can_step, IsStanding, standing}
+pub use Rattle.fm_frames.proofs.StepCounts.{costs_some}
 pub use Rattle.fm_ready.proofs.Named.{dimensions_within, literal_inside, meets, MeetsRow, named_at, use_inside, wanted}
 pub use Rattle.fm_ready.proofs.Heap.{element_fits, holds_elements, holds_field, holds_length}
 pub use Rattle.fm_ready.proofs.Puts.{keeps_static, takes_element, takes_field_value}

@@ -1,5 +1,5 @@
 -- Where the frames of a state that goes on stand, and what that gives to each step.
-use Rattle.std.proofs.Common.{◌≡◌, ℕ, zero, suc, ◌+◌, ◌-◌, ◌^◌, ◌<◌, ◌≤◌, ◌⊎◌, inl, inr, true, List, [], ◌∷◌, length, max, Option, Some, None, refl, sym, subst, slice_get, arith}
+use Rattle.std.proofs.Common.{◌≡◌, ℕ, zero, suc, ◌+◌, ◌-◌, ◌^◌, ◌<◌, ◌≤◌, ◌⊎◌, inl, inr, true, List, [], ◌∷◌, length, Option, Some, None, refl, sym, subst, slice_get, arith}
 use Rattle.std.specs.List.{slice_index_or}
 use Rattle.fm_base.proofs.OptionFacts.{option_and_then-some, Some-from_some_and}
 use Rattle.fm_calls.specs.inner.Actions.{unmade}
@@ -7,8 +7,9 @@ use Rattle.fm_code.specs.Edges.{insn_of, IsNormalEdge}
 use Rattle.fm_code.specs.declared.code_array.Code.{Code}
 use Rattle.fm_code.specs.declared.code_array.TheConstants.{MAX_CODE_BYTES}
 use Rattle.fm_code.specs.declared.instructions.Insn.{Insn}
+use Rattle.fm_frames.proofs.StepCounts.{costs_some}
 use Rattle.fm_frames.specs.States.{Frame, State}
-use Rattle.fm_frames.specs.Steps.{cost, insn_at, next_effect, objects_made}
+use Rattle.fm_frames.specs.Steps.{insn_at}
 use Rattle.fm_frames.specs.inner.Doings.{CanStep, NextFits}
 use Rattle.fm_frames.specs.inner.Targets.{IsAt, IsAtIn}
 use Rattle.fm_ready.specs.Ready.{CanRun, IsGoing, IsNext}
@@ -116,11 +117,6 @@ item_fits p typings words f can typed h =
     omega (arith, inside, same, few, most)
 
 -- ---- what each step asks
-
--- each step costs something
-pub costs_some : (p : Program) (x : State) → 1 ≤ cost p x
-unfolding cost
-costs_some p x = let most : 1 ≤ max 1 (objects_made (next_effect p x).actions) = omega arith in most
 
 -- one more object can be numbered after the literals that aren't made yet
 pub births : (p : Program) (x : State) → CanRun p → IsGoing p x → x.areas.store.births + unmade x.areas.literals < 2 ^ 32 - 1

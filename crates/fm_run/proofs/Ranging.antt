@@ -2,7 +2,7 @@
 use Rattle.std.proofs.Common.{◌≡◌, ◌⊎◌, inl, inr, ℕ, zero, suc, ◌+◌, ◌-◌, ◌^◌, ◌<◌, ◌≤◌, List, [], ◌∷◌, ◌++◌, Option, Some, None, refl, sym, ◌∙◌, ap, subst, arith, Bool, true, if◌then◌else◌, add-one, below_more, Result, Ok, Err, IsErrAnd, min, false, IsTrue, ◌↔◌}
 use Rattle.std.proofs.lemmas.List.{append-nil}
 use Rattle.std.proofs.lemmas.Option.{none-some}
-use Rattle.fm_ready.proofs.Standing.{costs_some}
+use Rattle.fm_frames.proofs.StepCounts.{costs_some}
 use Rattle.std.proofs.lemmas.List.Folds.{concat-append}
 use Rattle.std.specs.List.{concat}
 use Rattle.fm_files.proofs.SinkLemmas.{with_piece-is, with_pieces-append, with_pieces-nil}

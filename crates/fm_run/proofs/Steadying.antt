@@ -11,7 +11,7 @@ use Rattle.fm_nests.proofs.Grown.{step-makes}
 use Rattle.fm_ready.proofs.Loops.{steady}
 use Rattle.fm_ready.proofs.Standing.{standing}
 use Rattle.fm_ready.specs.Ready.{CanRun, IsGoing}
-use Rattle.fm_run.proofs.Counting.{steps-after}
+use Rattle.fm_frames.proofs.StepCounts.{steps-after}
 use Rattle.fm_run.specs.Stepping.{DoesStep}
 use Rattle.fm_run.specs.inner.Nexts.{Stepped}
 use Rattle.fm_world.specs.Programs.{Program}

@@ -11,6 +11,7 @@ use Rattle.fm_frames.specs.States.{Areas, Frame, Moved, State}
 use Rattle.fm_frames.specs.Steps.{attempted, done_by, finished, halted, input_after, is_deep, is_done, is_over, next_effect, objects_made, step, words_made}
 use Rattle.fm_frames.specs.declared.ends.Ended.{Ended}
 use Rattle.fm_frames.specs.declared.ends.Ended.TheVariants as end
+use Rattle.fm_frames.proofs.StepCounts.{step_is, stepped}
 use Rattle.fm_same.specs.Advances.{GoesOver, IsResult, IsStill, OwesAt, point_of}
 use Rattle.fm_same.specs.Colours.{AreAreasColoured, AreFramesColoured, Colour, Coloured}
 use Rattle.fm_same.specs.Evenness.{HoldsNumbers, Obeys}
@@ -164,14 +165,6 @@ frameless_over p facts choose y colour coloured e none =
     (stays_over p facts x (done_by p (max 1 (objects_made e.actions)) e x (Did y.areas [])).state colour coloured refl refl)))
 
 -- ---- from a state to the next
-
-abbrev pub stepped : Program → Choose → State → Option Ended → Moved
-stepped p choose x (Some e) = record { state = x; printed = [] }
-stepped p choose x None = attempted p choose x (next_effect p x)
-
-pub step_is : (p : Program) (choose : Choose) (x : State) → step p choose x ≡ stepped p choose x x.ended
-unfolding step
-step_is p choose x = refl
 
 module _ (p : Program) (facts : Facts) (exact : AreFacts p facts) (choose : Choose) (may : (s : Store) (request : Request) → MayReuse s request (choose s request)) (numbers : HoldsNumbers p.outline) where
   attempt_over : (y : State) (frames : List Frame) (colour : Colour) (e : Effect) → Coloured p facts (record y { frames = frames }) colour

@@ -1,0 +1,4 @@
+pub mod Beside
+pub mod Renaming
+pub mod Programs
+pub mod Laws
