@@ -32,7 +32,7 @@ use Rattle.fm_place.specs.declared.found_sites.Site.{Site}
 use Rattle.fm_place.specs.declared.plans.Plan.{Plan}
 use Rattle.fm_place.specs.inner.PlanRows.{AreRowsOf, class_held, facts_seen, freed_at, freed_of, has_come, is_busy_at, IsGroupsOf, IsPlanBy, pair_of, typed_seen}
 
-abbrev full_of : Facts → TypedMethod → List ℕ → Option Insertions
+abbrev pub full_of : Facts → TypedMethod → List ℕ → Option Insertions
 full_of facts x [] = None
 full_of facts x (site ∷ sites) = Some (all_insertions facts x)
 

@@ -1,6 +1,7 @@
 -- Rows of all items: where classes are busy, and where control comes to from there.
-use Rattle.std.proofs.Common.{◌≡◌, ◌≢◌, ℕ, zero, suc, ◌+◌, ◌<◌, ◌||◌, ◌&&◌, not, Bool, true, false, cond, List, [], ◌∷◌, ◌++◌, length, get_or, set, Option, Some, refl, ⊎_elim, ap, sym, ◌∙◌, subst, eq-eqb, arith, Contains, length-set}
+use Rattle.std.proofs.Common.{◌≡◌, ◌≢◌, ℕ, zero, suc, ◌+◌, ◌<◌, ◌||◌, ◌&&◌, not, Bool, true, false, cond, List, [], ◌∷◌, ◌++◌, length, get_or, map, replicate, set, Option, Some, refl, ⊎_elim, ap, sym, ◌∙◌, subst, append-nil, eq-eqb, arith, Contains, length-set}
 use Rattle.std.specs.Prelude.{nat_eq}
+use Rattle.std.specs.Bool.{OnFalse}
 use Rattle.std.specs.List.{list_any, range_with_len}
 use Rattle.std.proofs.lemmas.Bool.{cases_eq}
 use Rattle.std.proofs.lemmas.List.{get_or-set_other, get_or-set_same}
@@ -12,13 +13,14 @@ use Rattle.fm_code.proofs.EdgesLemmas.{edge-from_edges_listed, edges_listed-from
 use Rattle.fm_code.specs.Edges.{IsEdge}
 use Rattle.fm_code.specs.EdgesExample.{edges_listed}
 use Rattle.fm_code.specs.declared.code_array.Code.{Code}
+use Rattle.fm_flow.proofs.RowFacts.{has-replicate}
 use Rattle.fm_flow.specs.Tables.{IsRisingListOf}
 use Rattle.fm_world.specs.Chains.{is_among}
 use Rattle.fm_place.proofs.GroupLemmas.{differs, row_retested}
 use Rattle.fm_place.proofs.PlaceLemmas.{any-found, any-from}
 use Rattle.fm_place.proofs.SiteLemmas.{same_test}
 use Rattle.fm_place.specs.Places.{is_busy, is_local_in, is_place, is_word_in}
-use Rattle.fm_place.specs.inner.PlanRows.{AddsTo, AreBelow, AreRowsOf, AreWide, facts_seen, has_come, is_busy_at, is_class, is_freed, is_in_locals, is_in_words, IsGroupsOf, IsRowOf, numbers_by, typed_seen}
+use Rattle.fm_place.specs.inner.PlanRows.{AddsTo, AreAsWide, AreBelow, AreRowsOf, AreWide, facts_seen, has_come, is_busy_at, is_class, is_freed, is_in_locals, is_in_words, IsGroupsOf, IsRowOf, numbers_by, typed_seen}
 use Rattle.fm_place.specs.declared.busy_rows.Seen.{Seen}
 
 -- ---- tests over ranges
@@ -177,3 +179,33 @@ pub rows_wide : (held of_holders : List ℕ) (numbers : ℕ → Option ℕ) (cou
 rows_wide held of_holders numbers count test rows groups are j inside k within =
     let below = groups_below held of_holders numbers groups k within in
     subst (λ n. get_or of_holders k 0 < n) (sym (are.each j inside).wide) below
+
+-- both lists have rows of one width
+pub rows_as_wide : (width : ℕ) (numbers : ℕ → Option ℕ) (count : ℕ) (test others_test : ℕ → ℕ → Bool) (rows others : List (List Bool))
+    → AreRowsOf width numbers count test rows → AreRowsOf width numbers count others_test others → AreAsWide count rows others
+rows_as_wide width numbers count test others_test rows others are others_are j inside = (others_are.each j inside).wide ∙ sym (are.each j inside).wide
+
+-- ---- nothing is freed
+
+no_more : (b c : Bool) → b ≡ (b || c) → (not b && c) ≡ false
+no_more true c is = refl
+no_more false c is = sym is
+
+-- what has come adds nothing to what is busy
+pub none_freed : (any : Bool) (busy came both after : List Bool) → IsUnion (replicate (length busy) false) busy both → IsUnion both came after
+    → OnFalse any (after ≡ both) → OnFalse any ((group : ℕ) → is_freed busy came group ≡ false)
+none_freed true busy came both after copied joined unchanged = tt
+none_freed false busy came both after copied joined unchanged = λ group.
+    let same : has both group ≡ has busy group = copied.members group ∙ ap (λ b. b || has busy group) (has-replicate (length busy) group) in
+    let stays : has both group ≡ (has both group || has came group) = sym (ap (λ row. has row group) unchanged) ∙ joined.members group in
+    no_more (has busy group) (has came group) (sym same ∙ stays ∙ ap (λ b. b || has came group) same)
+
+numbers_none : (test : ℕ → Bool) (n : ℕ) (groups : List ℕ) → ((group : ℕ) → test group ≡ false) → numbers_by test n groups ≡ []
+numbers_none test n [] none = refl
+numbers_none test n (group ∷ groups) none =
+    ap (λ b. cond b (n ∷ numbers_by test (n + 1) groups) (numbers_by test (n + 1) groups)) (none group) ∙ numbers_none test (n + 1) groups none
+
+pub none_pushed : (item : ℕ) (found : List (ℕ × ℕ)) (busy came : List Bool) (groups : List ℕ) → ((group : ℕ) → is_freed busy came group ≡ false)
+    → found ≡ found ++ map (λ (h : ℕ). (item, h)) (numbers_by (is_freed busy came) 0 groups)
+none_pushed item found busy came groups none =
+    sym (append-nil found) ∙ ap (λ numbers. found ++ map (λ (h : ℕ). (item, h)) numbers) (sym (numbers_none (is_freed busy came) 0 groups none))

@@ -68,7 +68,7 @@ listed_parameter o method k is =
     Contains-filter (λ n. is_reference (get_or (entry_slots o method) n slot.Top)) (range_with_len 0 (length (entry_slots o method))) k
     (Contains-range 0 (length (entry_slots o method)) k (omega arith) (omega arith)) is
 
-parameter_listed : (o : Outline) (method k : ℕ) → Contains (reference_parameters o method) k
+pub parameter_listed : (o : Outline) (method k : ℕ) → Contains (reference_parameters o method) k
     → is_reference (get_or (entry_slots o method) k slot.Top) ≡ true
 parameter_listed o method k found =
     (Contains-from_filter (λ n. is_reference (get_or (entry_slots o method) n slot.Top)) (range_with_len 0 (length (entry_slots o method))) k found).1

@@ -1,8 +1,10 @@
 // The plan of a method: which locals are added, where each takes an object, and where it is freed.
 
-ghost use Rattle.std.specs.Prelude.{◌≡◌, ◌≤◌, ◌<◌, ◌++◌, ℕ, [], ◌∷◌, IfOk, OnOk, Some, length, map, if◌then◌else◌};
+ghost use Rattle.std.specs.Prelude.{◌≡◌, ◌≤◌, ◌<◌, ◌++◌, ℕ, [], ◌∷◌, IfOk, OnOk, Some, false, length, map, replicate, if◌then◌else◌};
+ghost use Rattle.std.specs.Bool.{OnFalse};
 ghost use Rattle.std.specs.List.{filter_map, flat_map, range_with_len};
 ghost use Rattle.fm_base.specs.declared.ids.MethodId.{MethodId};
+ghost use Rattle.fm_base.specs.Rows.{IsUnion};
 ghost use Rattle.fm_base.specs.declared.limits.TheConstants.{MAX_LOCAL_WORDS};
 ghost use Rattle.fm_code.specs.declared.code_array.Code.{Code};
 ghost use Rattle.fm_conn.specs.Facts.{Facts};
@@ -15,7 +17,7 @@ ghost use Rattle.fm_world.specs.Programs.{code_at, method_info};
 ghost use Rattle.fm_place.specs.Insertions.{all_insertions};
 ghost use Rattle.fm_place.specs.PlansBy.{holders_in, paired, HasNodesOf, IsPlanOf, IsToldBy};
 ghost use Rattle.fm_place.specs.Sites.{sites_of};
-ghost use Rattle.fm_place.specs.inner.PlanRows.{class_held, freed_at, freed_of, is_freed, listed, numbers_by, pair_of, AreBelow, AreWide, IsPlanBy, IsSeen};
+ghost use Rattle.fm_place.specs.inner.PlanRows.{class_held, freed_at, freed_of, is_freed, listed, numbers_by, pair_of, AreAsWide, AreBelow, AreWide, IsPlanBy, IsSeen};
 
 use crate::busy_rows::Seen;
 use crate::found_sites::{Site, item_count};
@@ -184,6 +186,7 @@ fn all_freed(
     requires came_rows { length came.now ≡ count }
     requires busy { AreWide groups.now count busy.now }
     requires came { AreWide groups.now count came.now }
+    requires as_wide { AreAsWide count busy.now came.now }
     ensures { IfOk result (λ found. found.items
         ≡ flat_map (paired (freed_at groups.now busy.now came.now)) (range_with_len 0 count)) }
 {
@@ -191,13 +194,57 @@ fn all_freed(
     for item in 0..count {
         let busy_row = &busy[item as usize];
         let came_row = &came[item as usize];
-        push_freed(&mut found, groups, item, busy_row, came_row)?;
+        push_freed(alloc, &mut found, groups, item, busy_row, came_row)?;
     }
     Ok(found)
 }
 
-// Puts the holders that are freed before an item after the last pair.
+// Puts the holders that are freed before an item after the last pair. Where none is, words of the
+// rows tell so, and no holder is asked for.
 fn push_freed(
+    alloc: Global,
+    found: &mut Vec<(u32, u16)>,
+    groups: &[u32],
+    item: u32,
+    busy: &Row,
+    came: &Row,
+) -> Result<(), NoMemory>
+    requires few { length groups.now ≤ MAX_LOCAL_WORDS }
+    requires busy { AreBelow (length busy.now) groups.now }
+    requires came { AreBelow (length came.now) groups.now }
+    requires as_wide { length came.now ≡ length busy.now }
+    ensures { OnOk result (found.new.items ≡ found.old.items
+        ++ map (λ (h : ℕ). (item, h)) (numbers_by (is_freed busy.now came.now) 0 groups.now)) }
+{
+    let any = is_any_freed(alloc, busy, came)?;
+    if !any {
+        return Ok(());
+    }
+    push_each_freed(found, groups, item, busy, came)
+}
+
+// Whether some group isn't busy, and has come from where it is: false only if there is none.
+// Takes memory for a row.
+fn is_any_freed(alloc: Global, busy: &Row, came: &Row) -> Result<bool, NoMemory>
+    requires { length came.now ≡ length busy.now }
+    ensures { IfOk result (λ any. OnFalse any
+        ((group : ℕ) → is_freed busy.now came.now group ≡ false)) }
+{
+    let mut both = copied(alloc, busy)?;
+    Ok(both.union(came))
+}
+
+// A row in which the same bits are set. Takes memory for it.
+fn copied(alloc: Global, row: &Row) -> Result<Row, NoMemory>
+    ensures { IfOk result (IsUnion (replicate (length row.now) false) row.now) }
+{
+    let mut copy = Row::new(alloc, row.bits())?;
+    copy.union(row);
+    Ok(copy)
+}
+
+// The same holders, each of them asked for.
+fn push_each_freed(
     found: &mut Vec<(u32, u16)>,
     groups: &[u32],
     item: u32,

@@ -137,6 +137,10 @@ AreBelow bound numbers = (k : ℕ) → k < length numbers → slice_index number
 abbrev pub AreWide : List ℕ → ℕ → List (List Bool) → Type 0
 AreWide numbers count rows = (j : ℕ) → j < count → AreBelow (length (slice_index_or rows j [])) numbers
 
+-- the rows of so many items have as many bits in both lists
+abbrev pub AreAsWide : ℕ → (rows others : List (List Bool)) → Type 0
+AreAsWide count rows others = (j : ℕ) → j < count → length (slice_index_or others j []) ≡ length (slice_index_or rows j [])
+
 -- the holders of these classes that are freed before an item
 abbrev pub freed_of : Seen → List ℕ → ℕ → List ℕ
 freed_of s held j = numbers_by (λ class. is_place (facts_seen s) (typed_seen s) class j) 0 held

@@ -1,4 +1,4 @@
-use Rattle.std.proofs.Common.{◌≡◌, ◌∙◌, ◌<◌, ◌++◌, ℕ, Bool, List, [], length, get_or, map, sym, subst, arith}
+use Rattle.std.proofs.Common.{◌≡◌, ◌∙◌, ◌<◌, ◌++◌, ℕ, Bool, List, [], length, get_or, map, ap, sym, subst, arith}
 use Rattle.std.proofs.lemmas.List.{get_or_read}
 use Rattle.fm_conn.proofs.ListLemmas.{flat_range_next}
 use Rattle.fm_place.specs.PlansBy.{paired}
@@ -18,6 +18,17 @@ push_freed-requires-clause-came c =
     let within : c.loop-item.item < length c.args.came.now = omega (arith, c.requires.came_rows, c.loop-item-test.true) in
     let is : row ≡ get_or c.args.came.now c.loop-item.item [] = get_or_read c.args.came.now c.loop-item.item row within c.index-came-item.is [] in
     subst (λ (list : List Bool). AreBelow (length list) c.args.groups.now) (sym is) (c.requires.came c.loop-item.item c.loop-item-test.true)
+
+pub push_freed-requires-clause-as_wide : goal.push_freed-requires-clause-as_wide
+push_freed-requires-clause-as_wide c =
+    let busy = c.index-busy-item.result in
+    let came = c.index-came-item.result in
+    let item = c.loop-item.item in
+    let busy_within : item < length c.args.busy.now = omega (arith, c.requires.rows, c.loop-item-test.true) in
+    let came_within : item < length c.args.came.now = omega (arith, c.requires.came_rows, c.loop-item-test.true) in
+    let busy_is : busy ≡ get_or c.args.busy.now item [] = get_or_read c.args.busy.now item busy busy_within c.index-busy-item.is [] in
+    let came_is : came ≡ get_or c.args.came.now item [] = get_or_read c.args.came.now item came came_within c.index-came-item.is [] in
+    ap (λ (row : List Bool). length row) came_is ∙ c.requires.as_wide item c.loop-item-test.true ∙ sym (ap (λ (row : List Bool). length row) busy_is)
 
 pub loop-item-preserved : goal.loop-item-preserved
 loop-item-preserved c =

@@ -1,6 +1,6 @@
 use Rattle.std.proofs.Common.{◌≡◌, ◌++◌, ℕ, drop, map}
 use Rattle.fm_place.specs.inner.PlanRows.{is_freed, numbers_by}
-use Rattle.fm_place.proofs.plans.push_freed.Given as goal
+use Rattle.fm_place.proofs.plans.push_each_freed.Given as goal
 
 abbrev pub invariant-loop-holder : goal.invariant-loop-holder
 invariant-loop-holder l =
