@@ -2,6 +2,7 @@
 //
 // A class has the counts of its superclass, but for the abstract methods that have the signature of one
 // of its own methods. So what stands above a class is looked at once, however many classes are below.
+// Only classes with objects, or with such classes below, have counts: no others are asked for theirs.
 
 ghost use Rattle.std.specs.Prelude.{◌≡◌, ◌&&◌, ◌<◌, ◌≤◌, ◌+◌, ℕ, Bool, false, IfOk, List, OnOk, Some, length, map, nat_eq, not, slice_index, slice_set, true, if◌then◌else◌};
 ghost use Rattle.std.specs.List.{slice_index_or};
@@ -16,9 +17,10 @@ use crate::linking::Linking;
 use crate::not_implemented::is_abstract;
 use fm_above::{empty_lists, list_at, put_list};
 use fm_base::NoMemory;
-use fm_code::{ACC_PRIVATE, has_flag};
+use fm_code::{ACC_ABSTRACT, ACC_INTERFACE, ACC_PRIVATE, has_flag};
 use fm_declare::{at, number_of};
-use fm_lookup::{Alike, is_marked, row_at};
+use fm_lookup::{Alike, is_marked, mark, row_at};
+use fm_world::DeclaredClass;
 use std::alloc::Global;
 
 /// For each class how many abstract methods of each class are left over in it.
@@ -34,6 +36,8 @@ struct Counting<'w, 't, 'c> {
     linking: Linking<'w, 't, 'c>,
     marks: &'w [bool],
     alike: &'w Alike,
+    // for each class whether its counts are asked for
+    asked: &'w [bool],
 }
 
 impl LeftOver {
@@ -46,10 +50,12 @@ impl LeftOver {
         let marks = marks_of(alloc, linking)?;
         let signatures = linking.methods.signatures.of_members.as_slice();
         let alike = Alike::of(alloc, signatures, marks.as_slice())?;
+        let asked = asked_of(alloc, linking)?;
         let counting = Counting {
             linking,
             marks: marks.as_slice(),
             alike: &alike,
+            asked: asked.as_slice(),
         };
         let found = counted(alloc, counting)?;
         Ok(found)
@@ -92,6 +98,27 @@ impl LeftOver {
         }
     }
 
+    // The counts of a class that are asked for; none of the others.
+    fn row_if_asked(
+        &self,
+        alloc: Global,
+        counting: Counting,
+        class: u32,
+    ) -> Result<Vec<u32>, NoMemory>
+        ensures { IfOk result (λ row. (classes : List DeclaredClass)
+            → IsCounting classes counting.entry
+            → class < length classes
+            → IsLeftOver classes counting.entry.linking.methods.now self.now
+            → HasCounts counting.entry.linking.methods.now (length classes)
+            (is_owed classes counting.entry.linking.methods.now (λ signature. is_open classes
+            (selected_at counting.entry.linking.methods.now (Some class) signature))) row.items) }
+    {
+        if !is_marked(counting.asked, class) {
+            return Ok(Vec::new(alloc));
+        }
+        self.row_of(alloc, counting, class)
+    }
+
     // The counts of a class, by those of its superclass.
     fn row_of(&self, alloc: Global, counting: Counting, class: u32) -> Result<Vec<u32>, NoMemory>
         ensures { IfOk result (λ row. (classes : List DeclaredClass)
@@ -123,10 +150,41 @@ fn counted(alloc: Global, counting: Counting) -> Result<LeftOver, NoMemory>
         rows: empty_lists(alloc, hierarchy.classes.len())?,
     };
     for class in hierarchy.order.as_slice() {
-        let row = found.row_of(alloc, counting, *class)?;
+        let row = found.row_if_asked(alloc, counting, *class)?;
         put_list(&mut found.rows, *class as usize, row);
     }
     Ok(found)
+}
+
+// For each class whether it, or a class below it, has objects.
+fn asked_of(alloc: Global, linking: Linking) -> Result<Vec<bool>, NoMemory> {
+    let hierarchy = linking.hierarchy;
+    let mut asked = vec![in alloc; false; hierarchy.classes.len()]?;
+    for class in hierarchy.order.as_slice() {
+        if has_objects(hierarchy.classes, *class) {
+            mark_chain(&mut asked, hierarchy.chain(*class));
+        }
+    }
+    Ok(asked)
+}
+
+// Whether a class has objects: it is neither abstract nor an interface.
+fn has_objects(classes: &[DeclaredClass], class: u32) -> bool {
+    match classes.get(class as usize) {
+        Some(class) => !has_flag(class.flags, ACC_ABSTRACT)
+            && !has_flag(class.flags, ACC_INTERFACE),
+        None => false,
+    }
+}
+
+// Marks a class and its superclasses, up to one that has a mark: those above it have theirs.
+fn mark_chain(marks: &mut Vec<bool>, chain: &[u32]) {
+    for class in chain {
+        if is_marked(marks.as_slice(), *class) {
+            return;
+        }
+        mark(marks, *class);
+    }
 }
 
 // For each method whether it is abstract and isn't private.
