@@ -21,9 +21,8 @@ ghost use Rattle.fm_world.specs.declared.uses.Use.TheVariants as used;
 
 use fm_base::{ClassId, MethodId, NoMemory, TypeId, TypeRef};
 use fm_cells::Memory;
-use fm_exec::{argument_words, class_of_type, refuse, type_in};
+use fm_exec::{argument_words, class_of_type, fits_named, refuse, type_in};
 use fm_frames::{CLASS_CHANGE_ERROR, Look, Machine, NULL_POINTER_EXCEPTION};
-use fm_types::fits_type;
 use fm_world::Program;
 
 // The class in which a method is selected for an object of the type: for an array that of Object.
@@ -69,12 +68,12 @@ pub fn virtual_target<M: Memory>(
         refuse(machine, program, words)?;
         return Ok(None);
     };
-    let t = type_in(program, head);
-    let fits = fits_type(program, t, program.type_of(named));
+    let fits = fits_named(program, head, named);
     if !fits {
         machine.fault(program, cell);
         return Ok(None);
     }
+    let t = type_in(program, head);
     let Some(target) = selected(program, t, m) else {
         machine.stuck(program);
         return Ok(None);

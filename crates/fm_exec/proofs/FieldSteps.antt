@@ -11,7 +11,7 @@ use Rattle.fm_frames.specs.inner.Places.{element_at}
 use Rattle.fm_world.specs.Numbers.{type_of_class}
 use Rattle.fm_base.specs.declared.kinds.Kind.TheVariants as kind
 use Rattle.fm_frames.specs.declared.values.Value.TheVariants as value
-use Rattle.std.proofs.Common.{◌≡◌, ◌≢◌, ℕ, ◌+◌, ◌-◌, Bool, true, if◌then◌else◌, List, [], ◌∷◌, Some, None, slice_get, refl, ap, sym, ◌∙◌}
+use Rattle.std.proofs.Common.{◌≡◌, ◌≢◌, ℕ, ◌+◌, ◌-◌, Bool, true, if◌then◌else◌, List, [], ◌∷◌, Some, slice_get, refl, ap, sym, ◌∙◌}
 use Rattle.fm_base.specs.declared.ids.FieldId.{FieldId}
 use Rattle.fm_base.specs.declared.ids.TypeId.{TypeId}
 use Rattle.fm_base.specs.declared.kinds.Kind.{Kind}
@@ -95,11 +95,6 @@ put_static-named o f t named at =
 pub field-kind : (o : Outline) (f : ℕ) → (field_info o f).kind ≡ kind_of_field o f
 unfolding field_info
 field-kind o f = refl
-
--- the test of the code is that of the row
-pub told-fits : (o : Outline) (head : Head) (found t : TypeRef) (told : Bool) → told ≡ fits_type o.classes found t → found ≡ type_numbered o head.class
-    → told ≡ fits_type o.classes (type_numbered o head.class) t
-told-fits o head found t told is type_is = is ∙ ap (λ a. fits_type o.classes a t) type_is
 
 pub named-fits : (o : Outline) (object : Object) (head : Head) (t : TypeRef) (named : ℕ) → head_of object ≡ head → slice_get o.types named ≡ Some t
     → true ≡ fits_type o.classes (type_numbered o head.class) t → fits_type o.classes (type_numbered o object.class) (type_numbered o named) ≡ true

@@ -9,11 +9,10 @@ ghost use Rattle.fm_world.specs.Members.{fields_of};
 ghost use Rattle.fm_world.specs.declared.uses.Use.TheVariants as used;
 
 use crate::calls::kind_words;
-use crate::held::{give, refuse, type_in};
+use crate::held::{fits_named, give, refuse};
 use fm_base::{FieldId, NoMemory, TypeId};
 use fm_cells::Memory;
 use fm_frames::Machine;
-use fm_types::fits_type;
 use fm_world::Program;
 
 /// getfield.
@@ -34,7 +33,7 @@ pub fn get_field<M: Memory>(
     let Some((cell, head)) = machine.object(0) else {
         return refuse(machine, program, 0);
     };
-    let fits = fits_type(program, type_in(program, head), program.type_of(named));
+    let fits = fits_named(program, head, named);
     if fits {
         let kind = program.field(f).kind;
         let value = machine.place(cell, program.slot_of(f), kind);
@@ -64,7 +63,7 @@ pub fn put_field<M: Memory>(
     let Some((cell, head)) = machine.object(words) else {
         return refuse(machine, program, words);
     };
-    let fits = fits_type(program, type_in(program, head), program.type_of(named));
+    let fits = fits_named(program, head, named);
     if fits {
         let value = machine.word(words - 1);
         machine.put(words + 1, cell, program.slot_of(f), kind, value);

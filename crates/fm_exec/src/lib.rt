@@ -24,7 +24,7 @@ pub use casts::{cast, is_instance};
 pub use constants::{int_constant, long_constant, nop, null, text_constant};
 pub use elements::{array_load, array_store, element_type, reference_store};
 pub use fields::{get_field, put_field};
-pub use held::{give, refuse, type_in};
+pub use held::{fits_named, give, refuse, type_in};
 pub use jumps::{go_to, if_int, if_null, if_pair, if_same, lookup_switch, table_switch};
 pub use locals::{increment, load, store};
 pub use numbers::{

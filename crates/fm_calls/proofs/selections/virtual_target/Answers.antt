@@ -1,4 +1,4 @@
-use Rattle.std.proofs.Common.{◌≡◌, true, false, Some, None, get_or, refl, ap, sym, subst, rules}
+use Rattle.std.proofs.Common.{◌≡◌, true, false, Some, None, get_or, refl, ap, sym, ◌∙◌, subst, rules}
 use Rattle.std.proofs.lemmas.Option.{slice_get-get_or}
 use Rattle.fm_calls.proofs.SelectSteps.{virtual-named, virtual-selected, virtual-told, virtual_of}
 use Rattle.fm_calls.proofs.selections.virtual_target.Goals as goal
@@ -9,6 +9,7 @@ use Rattle.fm_frames.specs.Acts.{cell_of}
 use Rattle.fm_frames.specs.CallRows.{virtual_effect, words_of_arguments}
 use Rattle.fm_frames.specs.Effects.{OfOperand, faulty, stuck}
 use Rattle.fm_frames.specs.Operands.{on_any}
+use Rattle.fm_frames.specs.Sights.{type_numbered}
 use Rattle.fm_frames.specs.Steps.{stack_of}
 use Rattle.fm_types.specs.Fits.{fits_type}
 use Rattle.fm_world.specs.Numbers.{type_of_class}
@@ -33,10 +34,12 @@ returns-then-not-fits g c byte =
     let n = words_of_arguments o c.args.m.0 in
     let it = subst (λ n. Seen o x.areas.store (stack_of x) n c.in-Some.cell c.in-Some.head) c.argument_words-words.ensures
     (object-found o x.areas.store (stack_of x) c.argument_words-words.result c.in-Some.cell c.in-Some.head c.in-Some.ensures.value) in
-    let told : false ≡ fits_type o.classes c.type_in-t.result c.type_of.result = search rules in
+    let t = type_numbered o c.args.named.0 in
+    let at = slice_get-get_or o.types c.args.named.0 (type_of_class 0) c.requires.named in
+    let told : false ≡ fits_type o.classes (type_numbered o c.in-Some.head.class) t = search rules in
     carried p g.M.Memory.choose x c.fault.new.self (virtual_effect o (used.OfMethod c.args.m c.args.named) byte (seen p x)) (faulty n)
-    (virtual-told o x.areas.store (stack_of x) c.args.m c.args.named c.type_of.result byte c.in-Some.cell c.in-Some.head c.type_in-t.result false
-    c.type_of.ensures it c.type_in-t.ensures.value told)
+    (virtual-told o x.areas.store (stack_of x) c.args.m c.args.named t byte c.in-Some.cell c.in-Some.head (type_numbered o c.in-Some.head.class) false
+    at it refl told)
     (c.fault.ensures c.requires.can.runnable g.M.Memory.choose (OfOperand n) (ap cell_of it.word))
 
 pub returns-in_default-selected : goal.returns-in_default-selected
@@ -46,10 +49,13 @@ returns-in_default-selected g c byte =
     let x = c.args.machine.now in
     let it = subst (λ n. Seen o x.areas.store (stack_of x) n c.in-Some.cell c.in-Some.head) c.argument_words-words.ensures
     (object-found o x.areas.store (stack_of x) c.argument_words-words.result c.in-Some.cell c.in-Some.head c.in-Some.ensures.value) in
-    let told : true ≡ fits_type o.classes c.type_in-t.result c.type_of.result = search rules in
+    let t = type_numbered o c.args.named.0 in
+    let at = slice_get-get_or o.types c.args.named.0 (type_of_class 0) c.requires.named in
+    let fits : true ≡ fits_type o.classes (type_numbered o c.in-Some.head.class) t = search rules in
+    let told = fits ∙ ap (λ a. fits_type o.classes a t) (sym c.type_in-t.ensures.value) in
     carried p g.M.Memory.choose x c.stuck.new.self (virtual_effect o (used.OfMethod c.args.m c.args.named) byte (seen p x)) stuck
-    (virtual-selected o x.areas.store (stack_of x) c.args.m c.args.named c.type_of.result byte c.in-Some.cell c.in-Some.head c.type_in-t.result None
-    c.type_of.ensures it c.type_in-t.ensures.value told c.in_default-selected.ensures)
+    (virtual-selected o x.areas.store (stack_of x) c.args.m c.args.named t byte c.in-Some.cell c.in-Some.head c.type_in-t.result None
+    at it c.type_in-t.ensures.value told c.in_default-selected.ensures)
     (c.stuck.ensures c.requires.can.runnable g.M.Memory.choose)
 
 pub returns : goal.returns
@@ -59,8 +65,11 @@ returns g c =
     let x = c.args.machine.now in
     let it = subst (λ n. Seen o x.areas.store (stack_of x) n c.in-Some.cell c.in-Some.head) c.argument_words-words.ensures
     (object-found o x.areas.store (stack_of x) c.argument_words-words.result c.in-Some.cell c.in-Some.head c.in-Some.ensures.value) in
-    let told : true ≡ fits_type o.classes c.type_in-t.result c.type_of.result = search rules in (
+    let t = type_numbered o c.args.named.0 in
+    let at = slice_get-get_or o.types c.args.named.0 (type_of_class 0) c.requires.named in
+    let fits : true ≡ fits_type o.classes (type_numbered o c.in-Some.head.class) t = search rules in
+    let told = fits ∙ ap (λ a. fits_type o.classes a t) (sym c.type_in-t.ensures.value) in (
       refl,
-      λ byte. virtual-selected o x.areas.store (stack_of x) c.args.m c.args.named c.type_of.result byte c.in-Some.cell c.in-Some.head c.type_in-t.result
-          (Some c.in-Some-selected.target.0) c.type_of.ensures it c.type_in-t.ensures.value told c.in-Some-selected.ensures,
+      λ byte. virtual-selected o x.areas.store (stack_of x) c.args.m c.args.named t byte c.in-Some.cell c.in-Some.head c.type_in-t.result
+          (Some c.in-Some-selected.target.0) at it c.type_in-t.ensures.value told c.in-Some-selected.ensures,
     )
