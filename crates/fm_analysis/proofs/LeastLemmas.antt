@@ -37,9 +37,9 @@ use Rattle.fm_world.specs.declared.uses.Use.TheVariants as resolved
 -- ---- references at the same places
 
 -- the words of each item hold references at the same places, and what is reached by the first is reached by the second
-record AreAlike (first second : List (Option TypeState)) : Type 0 where
-  words : (j : ℕ) → words_of_state (state_at first j) ≡ words_of_state (state_at second j)
-  reached : (j : ℕ) (s : TypeState) → state_at first j ≡ Some s → (t : TypeState) × (state_at second j ≡ Some t)
+pub record AreAlike (first second : List (Option TypeState)) : Type 0 where
+  pub words : (j : ℕ) → words_of_state (state_at first j) ≡ words_of_state (state_at second j)
+  pub reached : (j : ℕ) (s : TypeState) → state_at first j ≡ Some s → (t : TypeState) × (state_at second j ≡ Some t)
 
 bit_same : (o : Outline) (a b : slots.Slot) → fits o a b ≡ true → fits o b a ≡ true → is_reference a ≡ is_reference b
 bit_same o a b up down = at (is_reference a) (is_reference b) refl refl where
@@ -58,7 +58,7 @@ bits_same o (x ∷ xs) (y ∷ ys) up down =
     let below = and_parts (fits o y x) (all_fit o ys xs) down in
     (λ k. bit_same o x y above.0 below.0 k ∷ bits_same o xs ys above.1 below.1 k)
 
-stack_fits : (o : Outline) (s t : TypeState) → state_fits o s t ≡ true → all_fit o s.stack t.stack ≡ true
+pub stack_fits : (o : Outline) (s t : TypeState) → state_fits o s t ≡ true → all_fit o s.stack t.stack ≡ true
 unfolding state_fits
 stack_fits o s t fit =
     (and_parts (all_fit o s.locals t.locals) (all_fit o s.stack t.stack)
@@ -70,24 +70,30 @@ words_same o s t up down =
     ∙ ap reverse (bits_same o s.stack t.stack (stack_fits o s t up) (stack_fits o t s down))
     ∙ reverse-map is_reference t.stack
 
-least_alike : (p : Program) (method : ℕ) (first second : List (Option TypeState)) → IsLeastTyping p method first → IsLeastTyping p method second
-    → AreAlike first second
-least_alike p method first second one other = record {
-  words = λ j. at j (state_at first j) (state_at second j) refl refl;
-  reached = λ j s is. let found = Some-from_some_and (state_at second j) (λ t. state_fits p.outline s t ≡ true) (one.least second other.typing j s is) in (found.0, found.1);
-} where
-  at : (j : ℕ) (a b : Option TypeState) → state_at first j ≡ a → state_at second j ≡ b → words_of_state (state_at first j) ≡ words_of_state (state_at second j)
-  at j None None is same = ap words_of_state is ∙ sym (ap words_of_state same)
-  at j None (Some t) is same =
+-- what is told of states that fit each other is the same of the states of an item
+pub told_same : {X : Type 0} (told : Option TypeState → X) (p : Program) (method : ℕ) (first second : List (Option TypeState))
+    → ((s t : TypeState) → state_fits p.outline s t ≡ true → state_fits p.outline t s ≡ true → told (Some s) ≡ told (Some t))
+    → IsLeastTyping p method first → IsLeastTyping p method second → (j : ℕ) → told (state_at first j) ≡ told (state_at second j)
+told_same told p method first second agree one other j = at (state_at first j) (state_at second j) refl refl where
+  at : (a b : Option TypeState) → state_at first j ≡ a → state_at second j ≡ b → told (state_at first j) ≡ told (state_at second j)
+  at None None is same = ap told is ∙ sym (ap told same)
+  at None (Some t) is same =
       absurd (let found = Some-from_some_and (state_at first j) (λ s. state_fits p.outline t s ≡ true) (other.least first one.typing j t same) in
       let none : None ≡ Some found.0 = sym is ∙ found.1 in cc)
-  at j (Some s) None is same =
+  at (Some s) None is same =
       absurd (let found = Some-from_some_and (state_at second j) (λ t. state_fits p.outline s t ≡ true) (one.least second other.typing j s is) in
       let none : None ≡ Some found.0 = sym same ∙ found.1 in cc)
-  at j (Some s) (Some t) is same =
+  at (Some s) (Some t) is same =
       let up = IsSomeAnd-at_some (state_at second j) (λ v. state_fits p.outline s v ≡ true) t same (one.least second other.typing j s is) in
       let down = IsSomeAnd-at_some (state_at first j) (λ v. state_fits p.outline t v ≡ true) s is (other.least first one.typing j t same) in
-      ap words_of_state is ∙ words_same p.outline s t up down ∙ sym (ap words_of_state same)
+      ap told is ∙ agree s t up down ∙ sym (ap told same)
+
+pub least_alike : (p : Program) (method : ℕ) (first second : List (Option TypeState)) → IsLeastTyping p method first → IsLeastTyping p method second
+    → AreAlike first second
+least_alike p method first second one other = record {
+  words = told_same words_of_state p method first second (words_same p.outline) one other;
+  reached = λ j s is. let found = Some-from_some_and (state_at second j) (λ t. state_fits p.outline s t ≡ true) (one.least second other.typing j s is) in (found.0, found.1);
+}
 
 -- ---- what states are asked for
 
@@ -107,26 +113,26 @@ slice_of_state (o ∷ states) (suc j) s is = slice_of_state states j s is
 -- ---- what the one joins, the other joins
 
 module _ (p : Program) (method : ℕ) (code : Code) (first second : List (Option TypeState)) (alike : AreAlike first second) where
-  abbrev x : TypedMethod
+  abbrev pub x : TypedMethod
   x = method_with p method code first
 
-  abbrev y : TypedMethod
+  abbrev pub y : TypedMethod
   y = method_with p method code second
 
-  depth_same : (j : ℕ) → depth_at x j ≡ depth_at y j
+  pub depth_same : (j : ℕ) → depth_at x j ≡ depth_at y j
   depth_same j = depth_words x j ∙ ap length (alike.words j) ∙ sym (depth_words y j)
 
-  below_same : (j : ℕ) (i : Insn) → depth_below x j i ≡ depth_below y j i
+  pub below_same : (j : ℕ) (i : Insn) → depth_below x j i ≡ depth_below y j i
   below_same j i = ap (λ d. d - words_taken p.outline (use_at x i) i) (depth_same j)
 
-  node_kept : (a : Node) → IsNode x a → IsNode y a
+  pub node_kept : (a : Node) → IsNode x a → IsNode y a
   node_kept (Local k) node = tt
   node_kept (Slot j d) node =
       node_of_word y j d (subst (λ w. has w d ≡ true) (words_of_item x j ∙ alike.words j ∙ sym (words_of_item y j)) (word_of_node x j d node))
   node_kept Return node = tt
   node_kept Global node = tt
 
-  reached_kept : (j : ℕ) → IsReached x j → IsReached y j
+  pub reached_kept : (j : ℕ) → IsReached x j → IsReached y j
   reached_kept j reached =
       let was = state_reached x j reached in
       let now = alike.reached j was.0 was.1 in
@@ -148,7 +154,7 @@ module _ (p : Program) (method : ℕ) (code : Code) (first second : List (Option
   call_with_same k (resolved.OfMethod m t) = refl
   call_with_same k u = refl
 
-  calls_same : (i : Insn) → call_of x i ≡ call_of y i
+  pub calls_same : (i : Insn) → call_of x i ≡ call_of y i
   calls_same (insn.Virtual index) = call_with_same call.Virtual (use_at x (insn.Virtual index))
   calls_same (insn.Interface index) = call_with_same call.Interface (use_at x (insn.Interface index))
   calls_same (insn.Special index) = call_with_same call.Special (use_at x (insn.Special index))
@@ -203,7 +209,7 @@ module _ (p : Program) (method : ℕ) (code : Code) (first second : List (Option
   path_kept linked more up a [] b same = same
   path_kept linked more up a (next ∷ rest) b (paired, path) = (are_paired_kept linked more up a next paired, path_kept linked more up next rest b path)
 
-  joined_kept : (linked more : Linking) → ((m : ℕ) (a b : End2) → linked m a b → more m a b) → (a b : Node) → Joined linked x a b → Joined more y a b
+  pub joined_kept : (linked more : Linking) → ((m : ℕ) (a b : End2) → linked m a b → more m a b) → (a b : Node) → Joined linked x a b → Joined more y a b
   joined_kept linked more up a b (path, is) = (path, path_kept linked more up a path b is)
 
   makes_kept : (j : ℕ) (i : Insn) (s : CallShape) → MakesCall x j i s.call → MakesCall y j i s.call
@@ -259,7 +265,7 @@ least_make_one_shape p typings others least other shapes are = record {
 
 -- ---- links
 
-linked_kept : (p : Program) (typings others : Typings) → AreLeastTypings p typings → AreLeastTypings p others → (round method : ℕ) (a b : End2)
+pub linked_kept : (p : Program) (typings others : Typings) → AreLeastTypings p typings → AreLeastTypings p others → (round method : ℕ) (a b : End2)
     → LinkedIn p typings round method a b → LinkedIn p others round method a b
 unfolding LinkedIn
 linked_kept p typings others least other zero method a b linked = linked
