@@ -1,7 +1,7 @@
 -- What is done at kept items costs something: so no two states of one run stand for one state of another.
 use Rattle.std.proofs.Common.{◌≡◌, ℕ, zero, suc, ◌+◌, ◌-◌, ◌<◌, ◌≤◌, ◌⊎◌, Bool, true, false, List, [], ◌∷◌, nat_lt, Option, Some, None, refl, sym, ◌∙◌, ap, subst, inl, inr, if◌then◌else◌, arith}
 use Rattle.std.proofs.Math.Nat.{le-suc_iff}
-use Rattle.std.proofs.lemmas.Bool.{false≢true, ltb-false}
+use Rattle.std.proofs.lemmas.Bool.{false≢true, ltb-false, ltb-true}
 use Rattle.std.proofs.lemmas.Option.{none-some}
 use Rattle.fm_frames.proofs.StepCounts.{costs_some, step_ended, steps-after}
 use Rattle.fm_frames.specs.Acts.{Choose}
@@ -18,10 +18,10 @@ later_costs : (marks : Marks) (ys : ℕ → Moved) (l m : ℕ) → l ≤ m → k
 later_costs marks ys l zero le = subst (λ n. kept_cost marks ys n ≤ kept_cost marks ys zero) zero_is (omega arith) where
   zero_is : zero ≡ l
   zero_is = omega (arith, le)
-later_costs marks ys l (suc m) le = by_case (le-suc_iff.0 le) where
-  by_case : (l ≤ m) ⊎ (l ≡ suc m) → kept_cost marks ys l ≤ kept_cost marks ys (suc m)
-  by_case (inl before) = let rest = later_costs marks ys l m before in omega (arith, rest)
-  by_case (inr is) = subst (λ n. kept_cost marks ys n ≤ kept_cost marks ys (suc m)) (sym is) (omega arith)
+later_costs marks ys l (suc m) le = by_case (λ before. later_costs marks ys l m before) (le-suc_iff.0 le) where
+  by_case : (l ≤ m → kept_cost marks ys l ≤ kept_cost marks ys m) → (l ≤ m) ⊎ (l ≡ suc m) → kept_cost marks ys l ≤ kept_cost marks ys (suc m)
+  by_case rest (inl before) = let less = rest before in omega (arith, less)
+  by_case rest (inr is) = subst (λ n. kept_cost marks ys n ≤ kept_cost marks ys (suc m)) (sym is) (omega arith)
 
 -- ---- a run that goes on has gone on
 
@@ -38,10 +38,10 @@ module _ (p : Program) (choose : Choose) (ys : ℕ → Moved) (steps : (l : ℕ)
   all_went_on l zero le goes = subst (λ n. (ys n).state.ended ≡ None) zero_is goes where
     zero_is : zero ≡ l
     zero_is = omega (arith, le)
-  all_went_on l (suc m) le goes = by_case (le-suc_iff.0 le) where
-    by_case : (l ≤ m) ⊎ (l ≡ suc m) → (ys l).state.ended ≡ None
-    by_case (inl before) = all_went_on l m before (went_on m goes)
-    by_case (inr is) = subst (λ n. (ys n).state.ended ≡ None) (sym is) goes
+  all_went_on l (suc m) le goes = by_case (λ before. all_went_on l m before (went_on m goes)) (le-suc_iff.0 le) where
+    by_case : (l ≤ m → (ys l).state.ended ≡ None) → (l ≤ m) ⊎ (l ≡ suc m) → (ys l).state.ended ≡ None
+    by_case rest (inl before) = rest before
+    by_case rest (inr is) = subst (λ n. (ys n).state.ended ≡ None) (sym is) goes
 
   -- ---- a step at a kept item costs something
 
@@ -76,8 +76,8 @@ module _ (b : Beside) (choose : Choose) (goes : SecondGoesOn b choose) (k : ℕ)
   one_stands : (l m : ℕ) → StandsFor b k l → StandsFor b k m → l ≡ m
   one_stands l m one other = by_tests (nat_lt l m) (nat_lt m l) refl refl where
     by_tests : (before after : Bool) → nat_lt l m ≡ before → nat_lt m l ≡ after → l ≡ m
-    by_tests true after is other_is = absurd (not_before l m one other (omega (arith, is)))
-    by_tests false true is other_is = absurd (not_before m l other one (omega (arith, other_is)))
+    by_tests true after is other_is = absurd (not_before l m one other (ltb-true l m is))
+    by_tests false true is other_is = absurd (not_before m l other one (ltb-true m l other_is))
     by_tests false false is other_is = let le = ltb-false m l other_is in let ge = ltb-false l m is in omega (arith, le, ge)
 
 pub matches_are_one : MatchesAreOne
