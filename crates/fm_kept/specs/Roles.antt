@@ -96,7 +96,7 @@ HasHolder plan (StoreAfter j h) = Contains (after_at plan j) h
 
 -- ---- what follows
 
--- the item is the first of those before an old one, or of their sequences, or the old one itself
+-- where control comes to an old item: at what frees a holder before it, or at the item itself
 abbrev pub IsEntry : Code → ℕ → Role → Type 0
 IsEntry old j r = (j < length old.items) × (((h : ℕ) × (r ≡ LoadBefore j h)) ⊎ (r ≡ Keep j))
 
@@ -135,7 +135,7 @@ pub record RolesFollow (old : Code) (plan : Insertions) (roles : List Role) (n n
   pub to_is : slice_get roles next ≡ Some to
   pub follows : Follows old plan from to
 
--- an item is caught by a moved entry exactly as its old item is by the old entry, and the handler's first item is an entry of the old one
+-- where a moved entry of the exception table catches an item, the old one catches its old item; and it leads to an entry of the old handler (JVMS 4.7.3)
 pub record IsCaught (old : Code) (roles : List Role) (r : Role) (entry moved : Handler) : Type 0 where
   pub caught : IsSomeAnd (owner r) (λ j. Catches j entry.handler entry)
   pub to : Role
@@ -147,7 +147,7 @@ abbrev pub IsOwnerReached : Code → Option ℕ → Type 0
 IsOwnerReached old None = Unit {0}
 IsOwnerReached old (Some j) = IsReachable old j
 
--- code stands as old code with these insertions, where items are for this and entries of the exception table moved so
+-- code stands as old code with these insertions, by the roles of its items, the numbers of the kept ones, and how entries of the exception table move
 pub record StandsFor (free : ℕ) (old : Code) (plan : Insertions) (new : Code) (roles : List Role) (numbers : ℕ → ℕ) (moved : Handler → Handler) : Type 0 where
   pub one_each : length roles ≡ length new.items
   pub insns : (n : ℕ) (r : Role) → slice_get roles n ≡ Some r → IsSomeAnd (insn_of new n) (HasInsn free old r)
@@ -164,7 +164,7 @@ pub record StandsFor (free : ℕ) (old : Code) (plan : Insertions) (new : Code) 
   pub numbered : (j : ℕ) → j < length old.items → slice_get roles (numbers j) ≡ Some (Keep j)
   pub kept_once : (n j : ℕ) → slice_get roles n ≡ Some (Keep j) → n ≡ numbers j
   pub beyond : (j : ℕ) → length old.items ≤ j → length new.items ≤ numbers j
-  -- two items have one number exactly where they are the same: AreApart of fm_again
+  -- two items have one number exactly where they are the same
   pub apart : (i j : ℕ) → (numbers i == numbers j) ≡ (i == j)
 
 -- ---- what is asked of a plan
