@@ -77,7 +77,7 @@ module _ (o : Outline) (has : HasFree o) (entries : List Entry) (index class mem
       ap (λ n. option_and_then (type_number o.types) (option_and_then (λ (name : List ℕ). type_in o.classes (class_type name)) n)) class_named
       ∙ ap (option_and_then (type_number o.types)) has.type ∙ has.number
 
-  free_resolved : resolved_at o entries index ≡ method_use free_class_number free_method_number
+  pub free_resolved : resolved_at o entries index ≡ method_use free_class_number free_method_number
   free_resolved =
       resolved_at-by o entries index ∙ ap (resolved_by o entries index) is
       ∙ (λ k. with_number (λ type. with_number (method_use type) (option_and_then (resolved_method o.classes) (named k))) (type_named k))
@@ -135,7 +135,7 @@ module _ (o : Outline) (has : HasFree o) (plans : Plans) (first : ℕ) (c : Clas
 -- ---- all classes
 
 -- the type of that number is FreeMe's
-type_found : (types : List TypeRef) → type_number types free_type ≡ Some free_class_number → slice_get types free_class_number ≡ Some free_type
+pub type_found : (types : List TypeRef) → type_number types free_type ≡ Some free_class_number → slice_get types free_class_number ≡ Some free_type
 type_found types number =
     let found = position-Some (same_type free_type) types free_class_number free_type number in
     slice_get-get_or types free_class_number free_type found.0

@@ -1,0 +1,15 @@
+pub mod Trimmed
+pub mod TrimmedRows
+pub mod Trims
+pub mod HolderRows
+pub mod RoleStates
+pub mod KeptRows
+pub mod SlotLists
+pub mod RoleRows
+pub mod Retypes
+pub mod SameTypings
+pub mod SiteStates
+pub mod WrittenMethods
+pub mod WrittenUses
+pub mod FreeRow
+pub mod SafeMethods

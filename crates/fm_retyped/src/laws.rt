@@ -1,0 +1,18 @@
+// Laws of the definitions, each as the contract of a function that does nothing.
+
+ghost use Rattle.fm_retyped.specs.Retyped.{SafeClassesAreTyped};
+
+use fm_kept::law_stands;
+use fm_resolved::{law_linking, law_steps};
+use fm_world::law_class_types;
+
+/// Each method of classes with safe insertions is typed, where no local holds an object that isn't
+/// initialised while the constructor of an object that is held is called.
+pub fn law_typed()
+    ensures { SafeClassesAreTyped }
+{
+    law_class_types();
+    law_linking();
+    law_steps();
+    law_stands();
+}
