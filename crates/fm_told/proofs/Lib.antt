@@ -1,2 +1,5 @@
 pub mod Calls
 pub mod Causes
+pub mod PlainPlans
+pub mod LeastFacts
+pub mod Exact
