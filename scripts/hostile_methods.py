@@ -1,6 +1,6 @@
 #!/usr/bin/env python3
 """Writes programs of one method that is long, or hostile to a stack checker: paths that lead back and let what is known of
-the local variables rise step by step.
+the local variables rise step by step; or in which much is freed.
 
     scripts/hostile_methods.py FOLDER
 
@@ -17,6 +17,7 @@ PUBLIC_STATIC = 0x0009
 NOP, NULL, ZERO, POP, RETURN = b"\0", b"\x01", b"\x03", b"\x57", b"\xb1"
 LOAD_ARGUMENTS, CAST, IF_NULL, GO_TO, STORE_INT, STORE = b"\x2a", b"\xc0", b"\xc6", b"\xa7", b"\x36", b"\x3a"
 WIDE_LOAD, WIDE_STORE = b"\xc4\x19", b"\xc4\x3a"
+NEW_INTS = b"\xbc\x0a"
 
 
 def program(max_locals, array, chain=0, max_stack=1, handlers=b"\0\0"):
@@ -104,7 +105,12 @@ def nested():
     return guarded(60_000, 200, lambda place: (place * 29, 60_000 - place * 29))
 
 
-PROGRAMS = [straight, nops, wide, forgetting, shifting, refilling, covered, nested]
+def holding():
+    """1,000 arrays, each of which is made and popped, and so has a holder and a place, before 39,000 items that do nothing."""
+    return program(1, (ZERO + NEW_INTS + POP) * 1_000 + NOP * 39_000 + RETURN)
+
+
+PROGRAMS = [straight, nops, wide, forgetting, shifting, refilling, covered, nested, holding]
 
 
 def main():
