@@ -3,12 +3,11 @@ use Rattle.std.proofs.Common.{◌≡◌, refl, sym, ◌∙◌, ap, subst, ℕ, z
 use Rattle.std.proofs.lemmas.Bool.{cases_eq, cases_lt, eqb-true, false≢true, le-ltb, lt-ltb}
 use Rattle.fm_code.specs.AccessFlags.{is_private}
 use Rattle.fm_lookup.specs.declared.lookups.Methods.{Methods}
-use Rattle.fm_lookup.specs.inner.AlikeMembers.{IsAlike}
 use Rattle.fm_lookup.specs.inner.MemberRows.{no_row, section_of, AreSections}
 use Rattle.fm_lookup.specs.inner.MemberTables.{flags_of}
 use Rattle.fm_world.specs.Lookups.{is_abstract_method}
 use Rattle.fm_world.specs.declared.declarations.DeclaredClass.{DeclaredClass}
-use Rattle.fm_refuse.specs.inner.LeftOver.{can_be_met, changed, counted, counted_of, is_owed, with_signature, HasCounts}
+use Rattle.fm_refuse.specs.inner.LeftOver.{changed, counted, counted_of, is_owed, HasCounts}
 
 -- ---- truth values
 
@@ -154,7 +153,7 @@ counts_short m count q row short long class below = absurd (omega (arith, short,
 
 -- ---- all abstract methods
 
-counted-zero : (count start : ℕ) → counted (λ k. false) count start ≡ 0
+pub counted-zero : (count start : ℕ) → counted (λ k. false) count start ≡ 0
 counted-zero zero start = refl
 counted-zero (suc count) start = counted-zero count (suc start)
 
@@ -208,104 +207,3 @@ abstract-all classes m row end are past counts =
     counts_same classes m (abstract_below classes end) (is_owed classes m (λ signature. true)) row are
     (λ k below. ap (λ b. b && is_abstract_method classes k) (lt-ltb k end (omega (arith, below, past)))
     ∙ or_last (is_abstract_method classes k) (is_private (flags_of m.members.rows.items k))) counts
-
--- ---- all methods of a signature
-
--- the method has the signature and can be overridden
-abbrev pub is_one : List DeclaredClass → Methods → ℕ → ℕ → Bool
-is_one classes m signature k = nat_eq (get_or m.signatures.of_members.items k 0) signature && can_be_met classes m k
-
--- none stands between
-pub passed_over : (classes : List DeclaredClass) (m : Methods) (signature : ℕ) (adds : Bool) (from to : ℕ) (q : ℕ → Bool) (row : List ℕ)
-    → AreSections classes m.members → from ≤ to
-    → ((k : ℕ) → from ≤ k → k < to → k < length m.members.rows.items → is_one classes m signature k ≡ false)
-    → HasCounts m (length classes) (with_signature classes m signature adds from q) row
-    → HasCounts m (length classes) (with_signature classes m signature adds to q) row
-passed_over classes m signature adds from to q row are rises none counts =
-    counts_same classes m (with_signature classes m signature adds from q) (with_signature classes m signature adds to q) row are
-    (λ k below. each k below (cases_lt k from) (cases_lt k to)) counts where
-      each : (k : ℕ) → k < length m.members.rows.items → (k < from) ⊎ (from ≤ k) → (k < to) ⊎ (to ≤ k)
-          → with_signature classes m signature adds from q k ≡ with_signature classes m signature adds to q k
-      each k below (inl h) b =
-          ap (λ t. cond (is_one classes m signature k && t) adds (q k)) (lt-ltb k from h ∙ sym (lt-ltb k to (omega (arith, h, rises))))
-      each k below (inr h) (inl g) =
-          let e = none k h g below in
-          ap (λ t. cond (t && nat_lt k from) adds (q k)) e ∙ sym (ap (λ t. cond (t && nat_lt k to) adds (q k)) e)
-      each k below (inr h) (inr g) = ap (λ t. cond (is_one classes m signature k && t) adds (q k)) (le-ltb k from h ∙ sym (le-ltb k to g))
-
--- none is below 0
-pub none_below : (classes : List DeclaredClass) (m : Methods) (signature : ℕ) (adds : Bool) (q : ℕ → Bool) (row : List ℕ)
-    → AreSections classes m.members → HasCounts m (length classes) q row
-    → HasCounts m (length classes) (with_signature classes m signature adds 0 q) row
-none_below classes m signature adds q row are counts =
-    counts_same classes m q (with_signature classes m signature adds 0 q) row are
-    (λ k below. sym (ap (λ t. cond (is_one classes m signature k && t) adds (q k)) (le-ltb k 0 (omega arith))
-    ∙ ap (λ t. cond t adds (q k)) (and_false (is_one classes m signature k)))) counts
-
--- one method
-pub one_changed : (classes : List DeclaredClass) (m : Methods) (signature : ℕ) (adds : Bool) (method : ℕ) (q : ℕ → Bool) (row new : List ℕ) (test : Bool)
-    → AreSections classes m.members → method < length m.members.rows.items → test ≡ is_one classes m signature method
-    → (is_one classes m signature method ≡ true → q method ≡ not adds)
-    → new ≡ cond test (set row (class_of m method) (changed adds (get_or row (class_of m method) 0))) row
-    → HasCounts m (length classes) (with_signature classes m signature adds method q) row
-    → HasCounts m (length classes) (with_signature classes m signature adds (method + 1) q) new
-one_changed classes m signature adds method q row new test are within told before is counts = by_test test told is where
-  old : ℕ → Bool
-  old = with_signature classes m signature adds method q
-
-  next : ℕ → Bool
-  next = with_signature classes m signature adds (method + 1) q
-
-  same : (k : ℕ) → (k ≡ method → ⊥) → old k ≡ next k
-  same k other = ap (λ t. cond (is_one classes m signature k && t) adds (q k)) (sym (lt_step k method other))
-
-  by_test : (b : Bool) → b ≡ is_one classes m signature method
-      → new ≡ cond b (set row (class_of m method) (changed adds (get_or row (class_of m method) 0))) row → HasCounts m (length classes) next new
-  by_test true e h =
-      counts_changed classes m old next row new method adds are within same
-      (ap (λ t. cond (is_one classes m signature method && t) adds (q method)) (le-ltb method method (omega arith))
-      ∙ ap (λ t. cond t adds (q method)) (and_false (is_one classes m signature method)) ∙ before (sym e))
-      (ap (λ t. cond (t && nat_lt method (method + 1)) adds (q method)) (sym e)
-      ∙ ap (λ t. cond t adds (q method)) (lt-ltb method (method + 1) (omega arith))) h counts
-  by_test false e h =
-      subst (HasCounts m (length classes) next) (sym h)
-      (counts_same classes m old next row are (λ k below. each k (cases_eq k method)) counts) where
-        each : (k : ℕ) → (k ≡ method) ⊎ (k ≡ method → ⊥) → old k ≡ next k
-        each k (inr other) = same k other
-        each k (inl at) =
-            let none : is_one classes m signature k ≡ false = ap (is_one classes m signature) at ∙ sym e in
-            ap (λ t. cond (t && nat_lt k method) adds (q k)) none ∙ sym (ap (λ t. cond (t && nat_lt k (method + 1)) adds (q k)) none)
-
--- no member of the signature stands before the first one, nor between one and the next
-one_alike : (classes : List DeclaredClass) (m : Methods) (marks : List Bool) (signature k : ℕ) → length m.signatures.of_members.items ≡ length m.members.rows.items
-    → ((j : ℕ) → j < length m.members.rows.items → get_or marks j false ≡ can_be_met classes m j) → k < length m.members.rows.items
-    → (IsAlike m.signatures.of_members.items marks signature k → ⊥) → is_one classes m signature k ≡ false
-one_alike classes m marks signature k long told below none =
-    by_test (nat_eq (get_or m.signatures.of_members.items k 0) signature) refl (can_be_met classes m k) refl where
-      by_test : (a : Bool) → nat_eq (get_or m.signatures.of_members.items k 0) signature ≡ a → (b : Bool) → can_be_met classes m k ≡ b
-          → is_one classes m signature k ≡ false
-      by_test false e b f = ap (λ t. t && can_be_met classes m k) e
-      by_test true e false f = ap (λ t. nat_eq (get_or m.signatures.of_members.items k 0) signature && t) f
-          ∙ and_false (nat_eq (get_or m.signatures.of_members.items k 0) signature)
-      by_test true e true f =
-          absurd (none (record {
-            within = omega (arith, below, long);
-            is_marked = told k below ∙ f;
-            signed = eqb-true (get_or m.signatures.of_members.items k 0) signature e;
-          }))
-
-pub none_before : (classes : List DeclaredClass) (m : Methods) (marks : List Bool) (signature first : ℕ)
-    → length m.signatures.of_members.items ≡ length m.members.rows.items
-    → ((j : ℕ) → j < length m.members.rows.items → get_or marks j false ≡ can_be_met classes m j)
-    → ((k : ℕ) → IsAlike m.signatures.of_members.items marks signature k → first ≤ k) → (k : ℕ) → 0 ≤ k → k < first
-    → k < length m.members.rows.items → is_one classes m signature k ≡ false
-none_before classes m marks signature first long told least k low high below =
-    one_alike classes m marks signature k long told below (λ is. let h = least k is in omega (arith, h, high))
-
-pub none_between : (classes : List DeclaredClass) (m : Methods) (marks : List Bool) (signature method next : ℕ)
-    → length m.signatures.of_members.items ≡ length m.members.rows.items
-    → ((j : ℕ) → j < length m.members.rows.items → get_or marks j false ≡ can_be_met classes m j)
-    → ((k : ℕ) → method < k → IsAlike m.signatures.of_members.items marks signature k → next ≤ k) → (k : ℕ) → method + 1 ≤ k → k < next
-    → k < length m.members.rows.items → is_one classes m signature k ≡ false
-none_between classes m marks signature method next long told least k low high below =
-    one_alike classes m marks signature k long told below (λ is. let h = least k (omega (arith, low)) is in omega (arith, h, high))

@@ -1,12 +1,10 @@
--- The loops over counts of abstract methods: the walk over the methods of a signature, and the table of all classes.
+-- The loops over counts of abstract methods: those of one class, and the table of all classes.
 use Rattle.std.proofs.Common.{◌≡◌, Result, refl, sym, ◌∙◌, ap, subst, ℕ, ◌+◌, ◌-◌, ◌<◌, ◌≤◌, ◌&&◌, ◌||◌, not, Bool, true, false, cond, List, [], ◌∷◌, ◌++◌, length, take, get_or, replicate, set, nat_eq, Option, Some, arith, ◌⊎◌, inl, inr, get_or-set_same, get_or-set_other, length-set, zero-add}
-use Rattle.std.proofs.lemmas.Bool.{cases_eq, cases_lt, eqb-true, false≢true, lt-ltb}
+use Rattle.std.proofs.lemmas.Bool.{cases_eq, cases_lt, eqb-true, false≢true}
 use Rattle.std.proofs.lemmas.List.{get_or-replicate, get_or_past, length-replicate, take_more}
-use Rattle.std.proofs.lemmas.List.FromFn.{get_or-map-range_with_len, length-map-range_with_len}
+use Rattle.std.proofs.lemmas.List.FromFn.{length-map-range_with_len}
 use Rattle.std.proofs.lemmas.Option.{slice_get_past}
-use Rattle.fm_lookup.proofs.SignatureLemmas.{count_of_signatures}
 use Rattle.fm_lookup.specs.declared.lookups.Methods.{Methods}
-use Rattle.fm_lookup.specs.inner.AlikeMembers.{IsAlike}
 use Rattle.fm_lookup.specs.inner.MemberRows.{AreSections}
 use Rattle.fm_lookup.specs.inner.MemberTables.{AreMethods}
 use Rattle.fm_world.specs.Chains.{is_among}
@@ -17,8 +15,8 @@ use Rattle.fm_declare.specs.inner.Numbering.{texts_in}
 use Rattle.fm_refuse.proofs.Among.{among_either}
 use Rattle.std.specs.Prelude.{Ok, Err, IfOk}
 use Rattle.fm_refuse.specs.declared.left_over.Counting.{Counting}
-use Rattle.fm_refuse.specs.inner.LeftOver.{can_be_met, changed, counted, counted_of, is_open, is_owed, is_part_owed, selected_at, with_signature, HasCounts, IsCounting}
-use Rattle.fm_refuse.proofs.AbstractCounts.{class_of, counts_same, counts_short, is_one, none_before, none_below, none_between, one_changed, passed_over}
+use Rattle.fm_refuse.specs.inner.LeftOver.{counted, counted_of, is_open, is_owed, is_part_owed, selected_at, with_signature, HasCounts, IsCounting}
+use Rattle.fm_refuse.proofs.AbstractCounts.{counts_short}
 use Rattle.fm_refuse.proofs.LeftOverCounts.{sections_of}
 
 -- ---- loops
@@ -36,90 +34,9 @@ zero_more row xs i class within before here among =
       by_part (inl h) = before class h
       by_part (inr h) = last (nat_eq class (get_or xs i 0)) refl h
 
-second_holds : (a b : Bool) → (a && b) ≡ true → b ≡ true
-second_holds true b e = e
-second_holds false b e = absurd (false≢true e)
-
--- the walk over the methods of a signature has come to a method
-abbrev pub IsWalked : List DeclaredClass → Counting → ℕ → Bool → List ℕ → ℕ → List ℕ → Type 0
-IsWalked classes c signature adds old method row =
-    (q : ℕ → Bool) → signature < length c.linking.methods.now.members.rows.items
-    → ((k : ℕ) → can_be_met classes c.linking.methods.now k ≡ true
-    → get_or c.linking.methods.now.signatures.of_members.items k 0 ≡ signature → q k ≡ not adds)
-    → HasCounts c.linking.methods.now (length classes) q old
-    → (method < length c.linking.methods.now.members.rows.items
-    → get_or c.linking.methods.now.signatures.of_members.items method 0 ≡ signature)
-    × HasCounts c.linking.methods.now (length classes) (with_signature classes c.linking.methods.now signature adds method q) row
-
-signatures_long : (classes : List DeclaredClass) (c : Counting) → IsCounting classes c
-    → length c.linking.methods.now.signatures.of_members.items ≡ length c.linking.methods.now.members.rows.items
-signatures_long classes c counting =
-    count_of_signatures c.linking.methods.now.members.rows.items c.linking.methods.now.signatures counting.linking.methods.signatures
-
-pub marks_told : (classes : List DeclaredClass) (c : Counting) → IsCounting classes c → (j : ℕ)
-    → j < length c.linking.methods.now.members.rows.items → get_or c.marks.now j false ≡ can_be_met classes c.linking.methods.now j
-marks_told classes c counting j below =
-    let count = counting.linking.methods.signatures.count in
-    ap (λ xs. get_or xs j false) counting.marks
-    ∙ get_or-map-range_with_len (can_be_met classes c.linking.methods.now) 0 c.linking.methods.now.signatures.count j j false
-    (omega (arith, below, count)) (zero-add j)
-
 pub sections_at : (classes : List DeclaredClass) (c : Counting) → IsCounting classes c → AreSections classes c.linking.methods.now.members
 sections_at classes c counting =
     sections_of (texts_in c.linking.texts.now) classes c.linking.methods.now counting.linking.methods
-
-pub walk-start : (classes : List DeclaredClass) (c : Counting) (signature : ℕ) (adds : Bool) (row : List ℕ) → IsCounting classes c
-    → IsWalked classes c signature adds row (get_or c.alike.now.first.items signature 0) row
-walk-start classes c signature adds row counting q below before counts =
-    let m = c.linking.methods.now in
-    let long = signatures_long classes c counting in (
-      λ h. counting.alike.first_signed signature (omega (arith, below, long)) (omega (arith, h, long)),
-      passed_over classes m signature adds 0 (get_or c.alike.now.first.items signature 0) q row (sections_at classes c counting) (omega arith)
-          (none_before classes m c.marks.now signature (get_or c.alike.now.first.items signature 0) long (marks_told classes c counting)
-          (λ k is. counting.alike.first signature k (omega arith) is))
-          (none_below classes m signature adds q row (sections_at classes c counting) counts),
-    )
-
-pub walk-more : (classes : List DeclaredClass) (c : Counting) (signature : ℕ) (adds : Bool) (old : List ℕ) (method : ℕ) (row new : List ℕ)
-    → IsCounting classes c → method < length c.linking.methods.now.members.rows.items
-    → new ≡ cond (nat_eq (get_or c.linking.methods.now.signatures.of_members.items method 0) signature && get_or c.marks.now method false)
-    (set row (class_of c.linking.methods.now method) (changed adds (get_or row (class_of c.linking.methods.now method) 0))) row
-    → IsWalked classes c signature adds old method row
-    → IsWalked classes c signature adds old (get_or c.alike.now.next.items method 0) new
-walk-more classes c signature adds old method row new counting within is walked q below before counts =
-    let m = c.linking.methods.now in
-    let long = signatures_long classes c counting in
-    let so_far = walked q below before counts in
-    let signed : get_or m.signatures.of_members.items method 0 ≡ signature = so_far.0 within in
-    let next = get_or c.alike.now.next.items method 0 in
-    let later = counting.alike.later method (omega arith) (omega (arith, within, long)) in
-    let test = nat_eq (get_or m.signatures.of_members.items method 0) signature && get_or c.marks.now method false in (
-      λ h. counting.alike.next_signed method (omega arith) (omega (arith, within, long)) (omega (arith, h, long)) ∙ signed,
-      passed_over classes m signature adds (method + 1) next q new (sections_at classes c counting) (omega (arith, later))
-          (none_between classes m c.marks.now signature method next long (marks_told classes c counting)
-          (λ k after alike. counting.alike.next method k (omega arith) after
-          (subst (λ s. IsAlike m.signatures.of_members.items c.marks.now s k) (sym signed) alike)))
-          (one_changed classes m signature adds method q row new test (sections_at classes c counting) within
-          (ap (λ b. nat_eq (get_or m.signatures.of_members.items method 0) signature && b) (marks_told classes c counting method within))
-          (λ one. before method (second_holds (nat_eq (get_or m.signatures.of_members.items method 0) signature) (can_be_met classes m method) one) signed)
-          is so_far.1),
-    )
-
-pub walk-end : (classes : List DeclaredClass) (c : Counting) (signature : ℕ) (adds : Bool) (old : List ℕ) (method : ℕ) (row : List ℕ)
-    → IsCounting classes c → length c.linking.methods.now.members.rows.items ≤ method → IsWalked classes c signature adds old method row
-    → (q : ℕ → Bool) → signature < length c.linking.methods.now.members.rows.items
-    → ((k : ℕ) → can_be_met classes c.linking.methods.now k ≡ true
-    → get_or c.linking.methods.now.signatures.of_members.items k 0 ≡ signature → q k ≡ not adds)
-    → HasCounts c.linking.methods.now (length classes) q old
-    → HasCounts c.linking.methods.now (length classes)
-    (with_signature classes c.linking.methods.now signature adds (length c.linking.methods.now.members.rows.items) q) row
-walk-end classes c signature adds old method row counting past walked q below before counts =
-    let m = c.linking.methods.now in
-    counts_same classes m (with_signature classes m signature adds method q)
-    (with_signature classes m signature adds (length m.members.rows.items) q) row (sections_at classes c counting)
-    (λ k inside. ap (λ t. cond (is_one classes m signature k && t) adds (q k))
-    (lt-ltb k method (omega (arith, inside, past)) ∙ sym (lt-ltb k (length m.members.rows.items) inside)))
-    (walked q below before counts).1
 
 -- what a test of two truth values tells
 pub same_truth : (a b : Bool) → cond a b (not b) ≡ true → a ≡ b
@@ -168,7 +85,7 @@ row_put classes m old new class row is mine before k below =
           counts_short m (length classes) (is_owed classes m (λ s. is_open classes (selected_at m (Some k) s))) (get_or (set old class row) k [])
           (ap length gone)
 
-none_at : (count k : ℕ) → (let none : List ℕ = [] in get_or (replicate count none) k none ≡ none)
+pub none_at : (count k : ℕ) → (let none : List ℕ = [] in get_or (replicate count none) k none ≡ none)
 none_at count k = by_place (cases_lt k count) where
   none : List ℕ
   none = []

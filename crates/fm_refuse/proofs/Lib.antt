@@ -13,3 +13,4 @@ pub mod Among
 pub mod AbstractCounts
 pub mod LeftOverCounts
 pub mod CountLoops
+pub mod Owners

@@ -4,23 +4,22 @@
 // of its own methods. So what stands above a class is looked at once, however many classes are below.
 // Only classes with objects, or with such classes below, have counts: no others are asked for theirs.
 
-ghost use Rattle.std.specs.Prelude.{◌≡◌, ◌&&◌, ◌<◌, ◌≤◌, ◌+◌, ℕ, Bool, false, IfOk, List, OnOk, Some, length, map, nat_eq, not, slice_index, slice_set, true, if◌then◌else◌};
+ghost use Rattle.std.specs.Prelude.{◌≡◌, ◌<◌, ◌≤◌, ◌+◌, ℕ, Bool, IfOk, List, OnOk, Some, length, not, slice_index, slice_set, true, if◌then◌else◌};
 ghost use Rattle.std.specs.List.{slice_index_or};
 ghost use Rattle.fm_lookup.specs.inner.MemberRows.{no_row};
-ghost use Rattle.fm_refuse.specs.inner.LeftOver.{can_be_met, changed, is_open, is_part_owed, is_owed, is_taken, selected_at, with_signature, HasCounts, IsCounting, IsLeftOver, NoneLeft};
+ghost use Rattle.fm_above.specs.inner.ListTables.{lists};
+ghost use Rattle.fm_refuse.specs.inner.LeftOver.{can_be_met, changed, is_open, is_part_owed, is_owed, is_taken, pushed, selected_at, with_signature, AreOwners, HasCounts, IsCounting, IsLeftOver, NoneLeft};
 ghost use Rattle.fm_refuse.specs.inner.Linking.{IsLinking};
 ghost use Rattle.fm_world.specs.Chains.{is_among};
 ghost use Rattle.fm_world.specs.declared.declarations.DeclaredClass.{DeclaredClass};
-ghost use Rattle.fm_world.specs.inner.Tables.{numbers_below};
 
 use crate::linking::Linking;
 use crate::not_implemented::is_abstract;
 use fm_above::{empty_lists, list_at, put_list};
 use fm_base::NoMemory;
-use fm_code::{ACC_ABSTRACT, ACC_INTERFACE, ACC_PRIVATE, has_flag};
+use fm_code::{ACC_ABSTRACT, ACC_PRIVATE, has_flag};
 use fm_declare::{at, number_of};
-use fm_lookup::{Alike, is_marked, mark, row_at};
-use fm_world::DeclaredClass;
+use fm_lookup::{is_marked, mark, row_at};
 use std::alloc::Global;
 
 /// For each class how many abstract methods of each class are left over in it.
@@ -29,14 +28,12 @@ pub(crate) struct LeftOver {
     rows: Vec<Vec<u32>>,
 }
 
-// By what methods are counted: the marks of those that are abstract and aren't private, and which of
-// these are of one signature.
+// By what methods are counted: for each signature the classes of its abstract methods that aren't private,
+// and for each class whether its counts are asked for.
 #[derive(Clone, Copy)]
 struct Counting<'w, 't, 'c> {
     linking: Linking<'w, 't, 'c>,
-    marks: &'w [bool],
-    alike: &'w Alike,
-    // for each class whether its counts are asked for
+    owners: &'w [Vec<u32>],
     asked: &'w [bool],
 }
 
@@ -47,14 +44,11 @@ impl LeftOver {
             → IsLinking classes linking.entry
             → IsLeftOver classes linking.entry.methods.now found) }
     {
-        let marks = marks_of(alloc, linking)?;
-        let signatures = linking.methods.signatures.of_members.as_slice();
-        let alike = Alike::of(alloc, signatures, marks.as_slice())?;
+        let owners = owners_of(alloc, linking)?;
         let asked = asked_of(alloc, linking)?;
         let counting = Counting {
             linking,
-            marks: marks.as_slice(),
-            alike: &alike,
+            owners: owners.as_slice(),
             asked: asked.as_slice(),
         };
         let found = counted(alloc, counting)?;
@@ -156,25 +150,18 @@ fn counted(alloc: Global, counting: Counting) -> Result<LeftOver, NoMemory>
     Ok(found)
 }
 
-// For each class whether it, or a class below it, has objects.
+// For each class whether it, or a class below it, has objects: isn't abstract, as interfaces are.
 fn asked_of(alloc: Global, linking: Linking) -> Result<Vec<bool>, NoMemory> {
     let hierarchy = linking.hierarchy;
     let mut asked = vec![in alloc; false; hierarchy.classes.len()]?;
     for class in hierarchy.order.as_slice() {
-        if has_objects(hierarchy.classes, *class) {
-            mark_chain(&mut asked, hierarchy.chain(*class));
+        if let Some(declared) = hierarchy.classes.get(*class as usize) {
+            if !has_flag(declared.flags, ACC_ABSTRACT) {
+                mark_chain(&mut asked, hierarchy.chain(*class));
+            }
         }
     }
     Ok(asked)
-}
-
-// Whether a class has objects: it is neither abstract nor an interface.
-fn has_objects(classes: &[DeclaredClass], class: u32) -> bool {
-    match classes.get(class as usize) {
-        Some(class) => !has_flag(class.flags, ACC_ABSTRACT)
-            && !has_flag(class.flags, ACC_INTERFACE),
-        None => false,
-    }
 }
 
 // Marks a class and its superclasses, up to one that has a mark: those above it have theirs.
@@ -187,18 +174,45 @@ fn mark_chain(marks: &mut Vec<bool>, chain: &[u32]) {
     }
 }
 
-// For each method whether it is abstract and isn't private.
-fn marks_of(alloc: Global, linking: Linking) -> Result<Vec<bool>, NoMemory>
-    ensures { IfOk result (λ marks. (classes : List DeclaredClass)
+// For each signature the classes of its abstract methods that aren't private, one after the other: what
+// changes with a signature is changed in one walk over numbers that lie side by side.
+fn owners_of(alloc: Global, linking: Linking) -> Result<Vec<Vec<u32>>, NoMemory>
+    ensures { IfOk result (λ owners. (classes : List DeclaredClass)
         → IsLinking classes linking.entry
-        → marks.items ≡ map (can_be_met classes linking.entry.methods.now)
-        (numbers_below linking.entry.methods.now.signatures.count)) }
+        → AreOwners classes linking.entry.methods.now
+        (length linking.entry.methods.now.members.rows.items) owners.items) }
 {
-    let mut marks = Vec::new(alloc);
+    let mut owners = empty_lists(alloc, linking.methods.signatures.count as usize)?;
     for method in 0..linking.methods.signatures.count {
-        marks.push(can_be_met(linking, method))?;
+        let is_met = can_be_met(linking, method);
+        let signature = linking.methods.signatures.of_member(method);
+        let class = class_of(linking, method);
+        push_if(is_met, &mut owners, signature, class)?;
     }
-    Ok(marks)
+    Ok(owners)
+}
+
+// Puts a number at the end of the list at a place, where the test holds.
+fn push_if(test: bool, table: &mut Vec<Vec<u32>>, place: u32, number: u32) -> Result<(), NoMemory>
+    ensures { OnOk result (lists table.new.items ≡ (if test
+        then pushed (lists table.old.items) place number else lists table.old.items)) }
+{
+    if !test {
+        return Ok(());
+    }
+    push_at(table, place, number)
+}
+
+// Puts a number at the end of the list at a place; past the end there is none.
+fn push_at(table: &mut Vec<Vec<u32>>, place: u32, number: u32) -> Result<(), NoMemory>
+    ensures { OnOk result (lists table.new.items
+        ≡ pushed (lists table.old.items) place number) }
+{
+    let place = place as usize;
+    if place < table.len() {
+        table[place].push(number)?;
+    }
+    Ok(())
 }
 
 // Whether a method is abstract and isn't private.
@@ -318,36 +332,11 @@ fn change_all(
         (with_signature classes counting.entry.linking.methods.now signature adds
         (length counting.entry.linking.methods.now.members.rows.items) q) row.new.items) }
 {
-    let mut method = counting.alike.first(signature);
-    for _ in 0..counting.linking.methods.signatures.count {
-        if method >= counting.linking.methods.signatures.count {
-            return Ok(());
-        }
-        change_one(counting, row, signature, method, adds)?;
-        method = counting.alike.next(method);
+    let owners = list_at(counting.owners, signature);
+    for class in owners {
+        change_if(true, row, *class, adds)?;
     }
     Ok(())
-}
-
-// Changes the count of a method's class, where it has the signature and is abstract.
-fn change_one(
-    counting: Counting,
-    row: &mut Vec<u32>,
-    signature: u32,
-    method: u32,
-    adds: bool,
-) -> Result<(), NoMemory>
-    ensures { let m = counting.entry.linking.methods.now in
-        let class = (slice_index_or m.members.rows.items method no_row).class in
-        OnOk result (row.new.items
-        ≡ (if nat_eq (slice_index m.signatures.of_members.items method) signature
-        && slice_index_or counting.entry.marks.now method false
-        then slice_set row.old.items class (changed adds (slice_index row.old.items class))
-        else row.old.items)) }
-{
-    let is_one = counting.linking.methods.signatures.of_member(method) == signature
-        && is_marked(counting.marks, method);
-    change_if(is_one, row, class_of(counting.linking, method), adds)
 }
 
 // Changes the count of a class by one, where the test holds.

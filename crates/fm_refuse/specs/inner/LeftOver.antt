@@ -1,15 +1,15 @@
 -- How many abstract methods are left over in a class, by the class that declares them.
-use Rattle.std.specs.Prelude.{◌≡◌, ℕ, zero, suc, ◌+◌, ◌-◌, ◌<◌, ◌≤◌, ◌&&◌, ◌||◌, not, Bool, true, false, List, ◌++◌, length, map, nat_eq, nat_lt, Option, Some, None, slice_index, if◌then◌else◌}
+use Rattle.std.specs.Prelude.{◌≡◌, ℕ, zero, suc, ◌+◌, ◌-◌, ◌<◌, ◌≤◌, ◌&&◌, ◌||◌, not, Bool, true, false, List, [], ◌∷◌, ◌++◌, length, nat_eq, nat_lt, Option, Some, None, slice_index, slice_set, if◌then◌else◌}
+use Rattle.std.specs.Global.{Vec}
+use Rattle.std.specs.List.{count_by, slice_index_or}
 use Rattle.fm_code.specs.AccessFlags.{is_private}
 use Rattle.fm_lookup.specs.declared.lookups.Methods.{Methods}
-use Rattle.fm_lookup.specs.inner.AlikeMembers.{AreAlike}
 use Rattle.fm_above.specs.inner.ListTables.{list_in}
 use Rattle.fm_lookup.specs.inner.MemberRows.{section_of}
 use Rattle.fm_lookup.specs.inner.MemberTables.{flags_of, nearest_in}
 use Rattle.fm_world.specs.Chains.{chain_of, interfaces_of, is_among}
 use Rattle.fm_world.specs.Lookups.{is_abstract_method}
 use Rattle.fm_world.specs.declared.declarations.DeclaredClass.{DeclaredClass}
-use Rattle.fm_world.specs.inner.Tables.{numbers_below}
 use Rattle.fm_refuse.specs.declared.left_over.Counting.{Counting}
 use Rattle.fm_refuse.specs.declared.left_over.LeftOver.{LeftOver}
 use Rattle.fm_refuse.specs.inner.Linking.{IsLinking}
@@ -57,10 +57,14 @@ is_part_open classes m parent class start end signature =
 abbrev pub is_part_owed : List DeclaredClass → Methods → Option ℕ → ℕ → ℕ → ℕ → ℕ → Bool
 is_part_owed classes m parent class start end k = is_owed classes m (is_part_open classes m parent class start end) k
 
+-- the method has the signature, is abstract and isn't private, and has a lower number
+abbrev pub is_one : List DeclaredClass → Methods → ℕ → ℕ → ℕ → Bool
+is_one classes m signature end k =
+    (nat_eq (slice_index m.signatures.of_members.items k) signature && can_be_met classes m k) && nat_lt k end
+
 -- the abstract methods of a signature below a number are as they are now, and all others as before
 abbrev pub with_signature : List DeclaredClass → Methods → ℕ → Bool → ℕ → (ℕ → Bool) → ℕ → Bool
-with_signature classes m signature adds end q k =
-    if (nat_eq (slice_index m.signatures.of_members.items k) signature && can_be_met classes m k) && nat_lt k end then adds else q k
+with_signature classes m signature adds end q k = if is_one classes m signature end k then adds else q k
 
 -- ---- counts
 
@@ -92,11 +96,20 @@ IsLeftOver classes m found =
 
 -- ---- by what methods are counted
 
--- the marks are those of the methods, and no method that has one is passed over
+-- a number more at the end of the list at a place
+abbrev pub pushed : List (List ℕ) → ℕ → ℕ → List (List ℕ)
+pushed table place number = slice_set table place (slice_index_or table place [] ++ number ∷ [])
+
+-- the list of each signature has each class as often as the class has abstract methods of it below a number
+abbrev pub AreOwners : List DeclaredClass → Methods → ℕ → List (Vec ℕ) → Type 0
+AreOwners classes m end owners =
+    (signature class : ℕ) → signature < length m.members.rows.items → class < length classes
+    → count_by (nat_eq class) (list_in owners signature) ≡ counted_of m (is_one classes m signature end) class
+
+-- the lists are those of all methods
 pub record IsCounting (classes : List DeclaredClass) (c : Counting) : Type 0 where
   pub linking : IsLinking classes c.linking
-  pub marks : c.marks.now ≡ map (can_be_met classes c.linking.methods.now) (numbers_below c.linking.methods.now.signatures.count)
-  pub alike : AreAlike c.linking.methods.now.signatures.of_members.items c.marks.now c.alike.now
+  pub owners : AreOwners classes c.linking.methods.now (length c.linking.methods.now.members.rows.items) c.owners.now
 
 -- no method of a class, of its superclasses and of their superinterfaces is left over in it
 abbrev pub NoneLeft : List DeclaredClass → Methods → ℕ → Type 0
