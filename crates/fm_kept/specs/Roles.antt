@@ -169,8 +169,7 @@ pub record StandsFor (free : ℕ) (old : Code) (plan : Insertions) (new : Code) 
 
 -- ---- what is asked of a plan
 
--- there are holders; insertions are said of each item; and after an item that gives an object for a holder control goes on
+-- there are holders, and after an item that gives an object for a holder control goes on
 pub record CanStand (old : Code) (plan : Insertions) : Type 0 where
   pub some : 0 < length plan.holders
-  pub one_each : length plan.before ≡ length old.items
   pub goes_on : (j h : ℕ) → Contains (after_at plan j) h → FallsAt old j

@@ -223,7 +223,6 @@ module _ (numbered : ClassTypesAreNumbered) (stand : CodesStand) (given : List C
     can : CanStand code plan
     can = record {
       some = safe.some;
-      one_each = safe.one_each;
       goes_on = λ j h there.
           let site = site_at facts t j (holder_after j h there).some in
           IsSomeAnd-from_some (insn_of code j) (λ i. falls_through i ≡ true) site.i site.there (site-falls facts t j site.i site.kind_some);
