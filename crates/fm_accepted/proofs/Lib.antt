@@ -1,0 +1,2 @@
+pub mod LengthsAlone
+pub mod WrittenAgain
