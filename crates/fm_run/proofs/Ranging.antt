@@ -1,5 +1,5 @@
 -- A run that goes on step by step.
-use Rattle.std.proofs.Common.{◌≡◌, ◌⊎◌, inl, inr, ℕ, zero, suc, ◌+◌, ◌-◌, ◌^◌, ◌<◌, ◌≤◌, List, [], ◌∷◌, ◌++◌, Option, Some, None, refl, sym, ◌∙◌, ap, subst, arith, Bool, true, if◌then◌else◌, add-one, below_more, Result, Ok, Err, IsErrAnd, min, false, IsTrue, ◌↔◌}
+use Rattle.std.proofs.Common.{◌≡◌, ◌⊎◌, inl, inr, ℕ, zero, suc, ◌+◌, ◌-◌, ◌^◌, ◌<◌, ◌≤◌, List, [], ◌∷◌, ◌++◌, Option, Some, None, refl, sym, ◌∙◌, ap, subst, arith, Bool, true, if◌then◌else◌, add-one, below_more, Result, Ok, Err, IsErrAnd, OnOk, min, false, IsTrue, ◌↔◌}
 use Rattle.std.proofs.lemmas.List.{append-nil}
 use Rattle.std.proofs.lemmas.Option.{none-some}
 use Rattle.fm_frames.proofs.StepCounts.{costs_some}
@@ -13,11 +13,12 @@ use Rattle.fm_frames.specs.States.{Moved, State}
 use Rattle.fm_frames.specs.Steps.{cost, step}
 use Rattle.fm_frames.specs.declared.ends.Ended.{Ended}
 use Rattle.fm_frames.specs.inner.Doings.{silent}
-use Rattle.fm_native.specs.Doing.{PutsOnce}
+use Rattle.fm_base.specs.declared.error.NoMemory.{NoMemory}
+use Rattle.fm_native.specs.Doing.{PutsOnce, quiet}
 use Rattle.fm_ready.specs.Ready.{IsGoing}
 use Rattle.fm_run.specs.Running.{ArePieces, BreaksRun, CanGo, FailsRun, GoFirst, OnePieceMore, printed_at, RunsTo, state_after}
 use Rattle.fm_run.specs.Stepping.{DoesStep, FailsStep}
-use Rattle.fm_run.specs.inner.Going.{BreaksLater, DidCheap, FailsLater, FailsNext, Keeps, Leads, left_of, Ran}
+use Rattle.fm_run.specs.inner.Going.{BreaksLater, DidCheap, DidQuietly, FailsLater, FailsNext, Keeps, Leads, LeadsQuietly, left_of, Ran}
 use Rattle.fm_run.specs.inner.Nexts.{Stepped}
 use Rattle.fm_world.specs.Programs.{Program}
 
@@ -251,11 +252,44 @@ went-less p choose budget x y mid new true done same =
 went-less p choose budget x y mid new false done same =
     let is : left_of budget y ≡ left_of budget x = ap (left_of budget) (same refl).0 in omega (arith, is)
 
+-- nothing came to it, as far as is known
+abbrev no_output : Output
+no_output = record { faults = 0; got = None }
+
+-- a step that was done and printed nothing, or none
+pub went-quietly : (p : Program) (choose : Choose) (budget : ℕ) (first x y : State) (did : Bool) → (did ≡ true → DidQuietly p choose budget x y) → (did ≡ false → y ≡ x)
+    → LeadsQuietly p choose budget first x → Keeps p budget x → LeadsQuietly p choose budget first y × Keeps p budget y
+went-quietly p choose budget first x y did done same leads keeps =
+    let goes : (out : Output) → Leads p choose budget first y out out × Keeps p budget y =
+    λ out. went p choose budget first x y out out out did (λ h. done h out) (λ h. (same h, refl)) (leads out) keeps in
+    (λ out. (goes out).0, (goes no_output).1)
+
+pub went-quietly-less : (p : Program) (choose : Choose) (budget : ℕ) (x y : State) (did : Bool) → (did ≡ true → DidQuietly p choose budget x y) → (did ≡ false → y ≡ x)
+    → left_of budget y + (if did then 1 else 0) < left_of budget x + 1
+went-quietly-less p choose budget x y did done same =
+    went-less p choose budget x y no_output no_output did (λ h. done h no_output) (λ h. (same h, refl))
+
 -- the same of steps in one method
 pub goes-less : (p : Program) (choose : Choose) (budget : ℕ) (x y : State) (mid new : Output) (any : Bool) → Leads p choose budget x y mid new
     → (any ≡ true → left_of budget y < left_of budget x) → left_of budget y + (if any then 1 else 0) < left_of budget x + 1
 goes-less p choose budget x y mid new true leads less = let fewer = less refl in omega (arith, fewer)
 goes-less p choose budget x y mid new false leads less = let fewer = leads-left p choose budget x y mid new leads in omega (arith, fewer)
+
+-- steps that print nothing, one after the other
+pub quietly-then : (p : Program) (choose : Choose) (budget : ℕ) (x y z : State) → LeadsQuietly p choose budget x y → LeadsQuietly p choose budget y z
+    → LeadsQuietly p choose budget x z
+quietly-then p choose budget x y z first second out = leads-then p choose budget x y z out out out (first out) (second out)
+
+pub quietly-keeps : (p : Program) (choose : Choose) (budget : ℕ) (x y : State) → LeadsQuietly p choose budget x y → Keeps p budget x → Keeps p budget y
+quietly-keeps p choose budget x y leads keeps = leads-keeps p choose budget x y no_output no_output (leads no_output) keeps
+
+pub quietly-less : (p : Program) (choose : Choose) (budget : ℕ) (x y : State) → LeadsQuietly p choose budget x y → x.steps < y.steps
+    → left_of budget y < left_of budget x
+quietly-less p choose budget x y leads rises = leads-less p choose budget x y no_output no_output (leads no_output) rises
+
+pub quietly-goes-less : (p : Program) (choose : Choose) (budget : ℕ) (x y : State) (any : Bool) → LeadsQuietly p choose budget x y
+    → (any ≡ true → left_of budget y < left_of budget x) → left_of budget y + (if any then 1 else 0) < left_of budget x + 1
+quietly-goes-less p choose budget x y any leads less = goes-less p choose budget x y no_output no_output any (leads no_output) less
 
 -- the next step fails
 pub fails-later : (p : Program) (choose : Choose) (budget : ℕ) (x y : State) (old mid new : Output) → Leads p choose budget x y old mid
@@ -293,3 +327,8 @@ within-goes p budget price left x few price_is left_is goes = let within = goes.
 pub same_error : {T E : Type 0} (r : Result T E) (met wanted : E) → IsErrAnd r (λ e. e ≡ met) → r ≡ Err wanted → met ≡ wanted
 same_error (Ok x) met wanted handed is = absurd handed
 same_error (Err e) met wanted handed is = let same : e ≡ wanted = cc in sym handed ∙ same
+
+-- what is told of a call that prints nothing, once it has ended well
+pub quiet-ok : {T : Type 0} (P : Type 0) (done : Result T NoMemory) (u : T) → Ok u ≡ quiet done → OnOk done P → P
+quiet-ok P (Ok v) u is h = h
+quiet-ok P (Err e) u is h = absurd (cc)

@@ -9,11 +9,11 @@ use fm_code::Insn;
 // The instructions that one function does.
 #[derive(Clone, Copy)]
 pub(crate) enum Group {
-    Simple,
+    // What most steps are.
+    Frequent,
     Rarer,
-    Leaves,
-    Fields,
-    Arrays,
+    Throws,
+    Statics,
     Objects,
     Calls,
     // What no program has that is run.
@@ -52,10 +52,17 @@ pub(crate) fn group_of(insn: &Insn) -> Group
         | Insn::IfNull(_, _)
         | Insn::Goto(_)
         | Insn::Dup
-        | Insn::Pop => Group::Simple,
+        | Insn::Pop
+        | Insn::GetField(_)
+        | Insn::PutField(_)
+        | Insn::ArrayLoad(_)
+        | Insn::ArrayStore(_)
+        | Insn::Length
+        | Insn::LoadPool(_)
+        | Insn::New(_)
+        | Insn::Return(_) => Group::Frequent,
         Insn::Nop
         | Insn::LongConst(_)
-        | Insn::LoadPool(_)
         | Insn::IntNeg
         | Insn::LongNeg
         | Insn::LongShift(_)
@@ -69,12 +76,9 @@ pub(crate) fn group_of(insn: &Insn) -> Group
         | Insn::Dup2X1
         | Insn::Dup2X2
         | Insn::Swap => Group::Rarer,
-        Insn::Return(_) | Insn::Throw => Group::Leaves,
-        Insn::GetField(_) | Insn::PutField(_) | Insn::GetStatic(_) | Insn::PutStatic(_) =>
-            Group::Fields,
-        Insn::ArrayLoad(_) | Insn::ArrayStore(_) | Insn::Length => Group::Arrays,
-        Insn::New(_)
-        | Insn::NewArray(_)
+        Insn::Throw => Group::Throws,
+        Insn::GetStatic(_) | Insn::PutStatic(_) => Group::Statics,
+        Insn::NewArray(_)
         | Insn::NewRefs(_)
         | Insn::MultiArray(_, _)
         | Insn::Cast(_)

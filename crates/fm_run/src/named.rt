@@ -19,6 +19,7 @@ use fm_world::{Program, Use};
 use std::alloc::Global;
 
 // The constant that an index stands for is pushed.
+#[inline(always)]
 fn constant_of<M: Memory>(
     machine: &mut Machine<M>,
     program: &Program,
@@ -43,6 +44,7 @@ fn constant_of<M: Memory>(
 }
 
 // ldc and its like.
+#[inline(always)]
 pub(crate) fn constant<M: Memory>(
     machine: &mut Machine<M>,
     program: &Program,

@@ -1,6 +1,6 @@
 // The instructions that print nothing, group by group (JVMS 6.5).
 
-ghost use Rattle.std.specs.Prelude.{◌≡◌, OnOk};
+ghost use Rattle.std.specs.Prelude.{◌≡◌, true, false, IfOk, OnOk};
 ghost use Rattle.fm_code.specs.declared.instructions.Insn.TheVariants as insn;
 ghost use Rattle.fm_frames.specs.inner.Doings.{CanStep};
 ghost use Rattle.fm_ready.specs.Ready.{CanRun, IsGoing};
@@ -19,17 +19,42 @@ use fm_frames::Machine;
 use fm_world::Program;
 use std::alloc::Global;
 
-// The simple instructions, of which most steps are.
+// aastore and its like.
 #[inline(always)]
-pub(crate) fn simple<M: Memory>(
+fn element_put<M: Memory>(
     machine: &mut Machine<M>,
     program: &Program,
-    insn: &Insn,
+    e: Elem,
 ) -> Result<(), NoMemory>
+    requires run { CanRun program.now }
+    requires going { IsGoing program.now machine.old }
     requires can { CanStep program.now machine.old }
-    requires at { StandsAt program.now machine.old insn.now }
-    requires group { group_of insn.now ≡ group.Simple }
+    requires at { StandsAt program.now machine.old (insn.ArrayStore e) }
     ensures { OnOk result (DoesNext program.now M.choose machine.old machine.new) }
+{
+    match e {
+        Elem::Ref => rows::reference_store(machine, program),
+        _ => rows::array_store(machine, program, e),
+    }
+}
+
+// Does the instruction, if it is one of those that most steps are; tells whether it was done.
+#[inline(always)]
+pub(crate) fn frequent<M: Memory>(
+    alloc: Global,
+    machine: &mut Machine<M>,
+    program: &Program,
+    method: MethodId,
+    insn: &Insn,
+) -> Result<bool, NoMemory>
+    requires run { CanRun program.now }
+    requires going { IsGoing program.now machine.old }
+    requires can { CanStep program.now machine.old }
+    requires at { StandsIn program.now machine.old method.0 insn.now }
+    ensures did { IfOk result (λ did. did ≡ true
+        → DoesNext program.now M.choose machine.old machine.new) }
+    ensures same { IfOk result (λ did. did ≡ false → machine.new ≡ machine.old) }
+    ensures all { IfOk result (λ did. group_of insn.now ≡ group.Frequent → did ≡ true) }
 {
     match insn {
         Insn::Load(kind, place) => rows::load(machine, program, *kind, *place)?,
@@ -48,8 +73,36 @@ pub(crate) fn simple<M: Memory>(
         Insn::Goto(target) => rows::go_to(machine, program, *target),
         Insn::Dup => rows::dup(machine, program)?,
         Insn::Pop => rows::pop(machine, program),
-        _ => unreachable!(),
+        Insn::GetField(index) => field_got(machine, program, method, *index)?,
+        Insn::PutField(index) => field_put(machine, program, method, *index)?,
+        Insn::ArrayLoad(e) => rows::array_load(machine, program, *e)?,
+        Insn::ArrayStore(e) => element_put(machine, program, *e)?,
+        Insn::Length => rows::array_length(machine, program)?,
+        Insn::LoadPool(index) => constant(machine, program, method, *index)?,
+        Insn::New(index) => object_made(alloc, machine, program, method, *index)?,
+        Insn::Return(value) => rows::leave(machine, program, *value)?,
+        _ => return Ok(false),
     }
+    Ok(true)
+}
+
+// One of these instructions.
+#[inline(always)]
+pub(crate) fn usual<M: Memory>(
+    alloc: Global,
+    machine: &mut Machine<M>,
+    program: &Program,
+    method: MethodId,
+    insn: &Insn,
+) -> Result<(), NoMemory>
+    requires run { CanRun program.now }
+    requires going { IsGoing program.now machine.old }
+    requires can { CanStep program.now machine.old }
+    requires at { StandsIn program.now machine.old method.0 insn.now }
+    requires group { group_of insn.now ≡ group.Frequent }
+    ensures { OnOk result (DoesNext program.now M.choose machine.old machine.new) }
+{
+    frequent(alloc, machine, program, method, insn)?;
     Ok(())
 }
 
@@ -70,7 +123,6 @@ pub(crate) fn rarer<M: Memory>(
     match insn {
         Insn::Nop => rows::nop(machine, program),
         Insn::LongConst(n) => rows::long_constant(machine, program, *n)?,
-        Insn::LoadPool(index) => constant(machine, program, method, *index)?,
         Insn::IntNeg => rows::int_negate(machine, program)?,
         Insn::LongNeg => rows::long_negate(machine, program)?,
         Insn::LongShift(shift) => rows::long_shift(machine, program, *shift)?,
@@ -94,28 +146,25 @@ pub(crate) fn rarer<M: Memory>(
     Ok(())
 }
 
-// Returns and athrow.
-#[inline(always)]
-pub(crate) fn leaves<M: Memory>(
+// athrow.
+pub(crate) fn thrown<M: Memory>(
     machine: &mut Machine<M>,
     program: &Program,
     insn: &Insn,
 ) -> Result<(), NoMemory>
     requires can { CanStep program.now machine.old }
     requires at { StandsAt program.now machine.old insn.now }
-    requires group { group_of insn.now ≡ group.Leaves }
+    requires group { group_of insn.now ≡ group.Throws }
     ensures { OnOk result (DoesNext program.now M.choose machine.old machine.new) }
 {
     match insn {
-        Insn::Return(value) => rows::leave(machine, program, *value),
         Insn::Throw => rows::throw(machine, program),
         _ => unreachable!(),
     }
 }
 
-// Fields.
-#[inline(always)]
-pub(crate) fn fields<M: Memory>(
+// Static fields.
+pub(crate) fn statics<M: Memory>(
     alloc: Global,
     machine: &mut Machine<M>,
     program: &Program,
@@ -126,55 +175,12 @@ pub(crate) fn fields<M: Memory>(
     requires going { IsGoing program.now machine.old }
     requires can { CanStep program.now machine.old }
     requires at { StandsIn program.now machine.old method.0 insn.now }
-    requires group { group_of insn.now ≡ group.Fields }
+    requires group { group_of insn.now ≡ group.Statics }
     ensures { OnOk result (DoesNext program.now M.choose machine.old machine.new) }
 {
     match insn {
-        Insn::GetField(index) => field_got(machine, program, method, *index),
-        Insn::PutField(index) => field_put(machine, program, method, *index),
         Insn::GetStatic(index) => static_got(alloc, machine, program, method, *index),
         Insn::PutStatic(index) => static_put(alloc, machine, program, method, *index),
-        _ => unreachable!(),
-    }
-}
-
-// aastore and its like.
-#[inline(always)]
-fn element_put<M: Memory>(
-    machine: &mut Machine<M>,
-    program: &Program,
-    e: Elem,
-) -> Result<(), NoMemory>
-    requires run { CanRun program.now }
-    requires going { IsGoing program.now machine.old }
-    requires can { CanStep program.now machine.old }
-    requires at { StandsAt program.now machine.old (insn.ArrayStore e) }
-    ensures { OnOk result (DoesNext program.now M.choose machine.old machine.new) }
-{
-    match e {
-        Elem::Ref => rows::reference_store(machine, program),
-        _ => rows::array_store(machine, program, e),
-    }
-}
-
-// Elements and lengths of arrays.
-#[inline(always)]
-pub(crate) fn arrays<M: Memory>(
-    machine: &mut Machine<M>,
-    program: &Program,
-    insn: &Insn,
-) -> Result<(), NoMemory>
-    requires run { CanRun program.now }
-    requires going { IsGoing program.now machine.old }
-    requires can { CanStep program.now machine.old }
-    requires at { StandsAt program.now machine.old insn.now }
-    requires group { group_of insn.now ≡ group.Arrays }
-    ensures { OnOk result (DoesNext program.now M.choose machine.old machine.new) }
-{
-    match insn {
-        Insn::ArrayLoad(e) => rows::array_load(machine, program, *e),
-        Insn::ArrayStore(e) => element_put(machine, program, *e),
-        Insn::Length => rows::array_length(machine, program),
         _ => unreachable!(),
     }
 }
@@ -195,7 +201,6 @@ pub(crate) fn objects<M: Memory>(
     ensures { OnOk result (DoesNext program.now M.choose machine.old machine.new) }
 {
     match insn {
-        Insn::New(index) => object_made(alloc, machine, program, method, *index),
         Insn::NewArray(e) => rows::new_array(machine, program, *e),
         Insn::NewRefs(index) => references_made(machine, program, method, *index),
         Insn::MultiArray(index, dimensions) => {

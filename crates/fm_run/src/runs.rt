@@ -6,12 +6,13 @@ ghost use Rattle.fm_frames.specs.Runs.{Goes};
 ghost use Rattle.fm_frames.specs.declared.turns.StepFail.TheVariants as StepFail;
 ghost use Rattle.fm_ready.specs.Ready.{CanRun};
 ghost use Rattle.fm_run.specs.Running.{BreaksRun, CanGo, FailsRun, RunsTo};
-ghost use Rattle.fm_run.specs.inner.Going.{BreaksLater, DidCheap, FailsLater, FailsNext, IsCheapNext, Keeps, Leads, left_of};
+ghost use Rattle.fm_run.specs.inner.Going.{BreaksLater, DidCheap, DidQuietly, FailsLater, FailsNext, IsCheapNext, Keeps, Leads, LeadsQuietly, left_of};
 ghost use Rattle.fm_world.specs.Programs.{code_at};
 
 use crate::groups::is_nest;
-use crate::steps::{advance, do_step};
-use fm_base::MethodId;
+use crate::plain::frequent;
+use crate::steps::{advance, do_step, quiet};
+use fm_base::{MethodId, NoMemory};
 use fm_cells::Memory;
 use fm_code::{Code, Insn};
 use fm_files::Sink;
@@ -67,56 +68,46 @@ fn cheap_next<'a, M: Memory>(
     }
 }
 
-// Does the next instruction, if it is such a cheap one; tells whether it was done.
+// Does the next instruction, if it is such a cheap one that most steps are; tells whether it was done.
 #[inline(always)]
-fn do_cheap<M: Memory, S: Sink>(
+fn do_frequent<M: Memory>(
     alloc: Global,
     machine: &mut Machine<M>,
     program: &Program,
     method: MethodId,
     code: &Code,
     steps: u64,
-    out: &mut S,
-) -> Result<bool, StepFail>
+) -> Result<bool, NoMemory>
     requires run { CanRun program.now }
     requires code { code_at program.now method.0 ≡ Some code.now }
     requires few { steps < 2 ^ 64 }
     requires keeps { Keeps program.now steps machine.old }
-    ensures did { IfOk result (λ did. did ≡ true → DidCheap program.now M.choose steps
-        machine.old machine.new (S.output out.old) (S.output out.new)) }
-    ensures same { IfOk result (λ did. did ≡ false
-        → (machine.new ≡ machine.old) × (S.output out.new ≡ S.output out.old)) }
-    ensures failed { IsErrOf result StepFail.SinkFailed → FailsNext program.now M.choose steps
-        machine.old (S.output out.old) (S.output out.new) }
-    ensures kept { IsErrOf result StepFail.NoMemory → S.output out.new ≡ S.output out.old }
+    ensures did { IfOk result (λ did. did ≡ true
+        → DidQuietly program.now M.choose steps machine.old machine.new) }
+    ensures same { IfOk result (λ did. did ≡ false → machine.new ≡ machine.old) }
 {
     let Some(insn) = cheap_next(machine, program, method, code, steps) else {
         return Ok(false);
     };
-    do_step(alloc, machine, program, method, insn, out)?;
-    Ok(true)
+    let did = frequent(alloc, machine, program, method, insn)?;
+    let _births = machine.births();
+    Ok(did)
 }
 
-// Does the cheap instructions that come next in the topmost frame's method, as far as the budget of steps
-// allows; tells whether there was one.
-fn do_in_method<M: Memory, S: Sink>(
+// Does those that come next in the topmost frame's method; tells whether there was one.
+#[inline(always)]
+fn do_frequent_in_method<M: Memory>(
     alloc: Global,
     machine: &mut Machine<M>,
     program: &Program,
     steps: u64,
-    out: &mut S,
-) -> Result<bool, StepFail>
+) -> Result<bool, NoMemory>
     requires run { CanRun program.now }
     requires few { steps < 2 ^ 64 }
     requires keeps { Keeps program.now steps machine.old }
-    ensures leads { OnOk result (Leads program.now M.choose steps machine.old machine.new
-        (S.output out.old) (S.output out.new)) }
+    ensures leads { OnOk result (LeadsQuietly program.now M.choose steps machine.old machine.new) }
     ensures less { IfOk result (λ any. any ≡ true
         → left_of steps machine.new < left_of steps machine.old) }
-    ensures failed { IsErrOf result StepFail.SinkFailed → FailsLater program.now M.choose steps
-        machine.old (S.output out.old) (S.output out.new) }
-    ensures kept { IsErrOf result StepFail.NoMemory → BreaksLater program.now M.choose steps
-        machine.old (S.output out.old) (S.output out.new) }
 {
     let Some(place) = machine.topmost() else {
         return Ok(false);
@@ -127,12 +118,65 @@ fn do_in_method<M: Memory, S: Sink>(
     let before = machine.steps();
     let mut goes = true;
     while goes {
-        goes = do_cheap(alloc, machine, program, place.method, code, steps, out)?;
+        goes = do_frequent(alloc, machine, program, place.method, code, steps)?;
     }
     Ok(before < machine.steps())
 }
 
-// Does the cheap instructions that come next, in all methods, as far as the budget of steps allows.
+// Does those that come next, in all methods. A function of its own has the fewest values to keep.
+#[inline(never)]
+fn do_frequent_ones<M: Memory>(
+    alloc: Global,
+    machine: &mut Machine<M>,
+    program: &Program,
+    steps: u64,
+) -> Result<(), NoMemory>
+    requires run { CanRun program.now }
+    requires few { steps < 2 ^ 64 }
+    requires keeps { Keeps program.now steps machine.old }
+    ensures { OnOk result (LeadsQuietly program.now M.choose steps machine.old machine.new) }
+{
+    let mut goes = true;
+    while goes {
+        goes = do_frequent_in_method(alloc, machine, program, steps)?;
+    }
+    Ok(())
+}
+
+// Does the next instruction, if it is a cheap one; tells whether it was done.
+#[inline(always)]
+fn do_cheap<M: Memory, S: Sink>(
+    alloc: Global,
+    machine: &mut Machine<M>,
+    program: &Program,
+    steps: u64,
+    out: &mut S,
+) -> Result<bool, StepFail>
+    requires run { CanRun program.now }
+    requires few { steps < 2 ^ 64 }
+    requires keeps { Keeps program.now steps machine.old }
+    ensures did { IfOk result (λ did. did ≡ true → DidCheap program.now M.choose steps
+        machine.old machine.new (S.output out.old) (S.output out.new)) }
+    ensures same { IfOk result (λ did. did ≡ false
+        → (machine.new ≡ machine.old) × (S.output out.new ≡ S.output out.old)) }
+    ensures failed { IsErrOf result StepFail.SinkFailed → FailsNext program.now M.choose steps
+        machine.old (S.output out.old) (S.output out.new) }
+    ensures kept { IsErrOf result StepFail.NoMemory → S.output out.new ≡ S.output out.old }
+{
+    let Some(place) = machine.topmost() else {
+        return Ok(false);
+    };
+    let Some(code) = code_of(program, place.method) else {
+        return Ok(false);
+    };
+    let Some(insn) = cheap_next(machine, program, place.method, code, steps) else {
+        return Ok(false);
+    };
+    do_step(alloc, machine, program, place.method, insn, out)?;
+    Ok(true)
+}
+
+// Does the cheap instructions that come next, as far as the budget of steps allows.
 fn do_cheap_ones<M: Memory, S: Sink>(
     alloc: Global,
     machine: &mut Machine<M>,
@@ -152,7 +196,8 @@ fn do_cheap_ones<M: Memory, S: Sink>(
 {
     let mut goes = true;
     while goes {
-        goes = do_in_method(alloc, machine, program, steps, out)?;
+        quiet(do_frequent_ones(alloc, machine, program, steps))?;
+        goes = do_cheap(alloc, machine, program, steps, out)?;
     }
     Ok(())
 }

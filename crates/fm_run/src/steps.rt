@@ -12,7 +12,7 @@ ghost use Rattle.fm_run.specs.inner.Nexts.{StandsIn, Stepped};
 use crate::calls::calls;
 use crate::groups::{Group, group_of};
 use crate::names::{code_in, insn_in, next_place};
-use crate::plain::{arrays, fields, leaves, objects, rarer, simple};
+use crate::plain::{objects, rarer, statics, thrown, usual};
 use fm_base::{MethodId, NoMemory};
 use fm_cells::Memory;
 use fm_code::Insn;
@@ -53,11 +53,10 @@ fn do_insn<M: Memory, S: Sink>(
     ensures kept { IsErrOf result StepFail.NoMemory → S.output out.new ≡ S.output out.old }
 {
     match group_of(insn) {
-        Group::Simple => quiet(simple(machine, program, insn)),
+        Group::Frequent => quiet(usual(alloc, machine, program, method, insn)),
         Group::Rarer => quiet(rarer(machine, program, method, insn)),
-        Group::Leaves => quiet(leaves(machine, program, insn)),
-        Group::Fields => quiet(fields(alloc, machine, program, method, insn)),
-        Group::Arrays => quiet(arrays(machine, program, insn)),
+        Group::Throws => quiet(thrown(machine, program, insn)),
+        Group::Statics => quiet(statics(alloc, machine, program, method, insn)),
         Group::Objects => quiet(objects(alloc, machine, program, method, insn)),
         Group::Calls => calls(alloc, machine, program, method, insn, out),
         Group::LeftOut => unreachable!(),
@@ -65,7 +64,6 @@ fn do_insn<M: Memory, S: Sink>(
 }
 
 // Does the step of the instruction that is next, and tells what is known of the state after it.
-#[inline(always)]
 pub(crate) fn do_step<M: Memory, S: Sink>(
     alloc: Global,
     machine: &mut Machine<M>,

@@ -52,6 +52,10 @@ pub record DidCheap (p : Program) (choose : Choose) (budget : ℕ) (x y : State)
   pub does : DoesStep p choose x y old new
   pub stepped : Stepped p x y
 
+-- the same of a step that prints nothing, whatever came to the output before
+abbrev pub DidQuietly : Program → Choose → (budget : ℕ) → (x y : State) → Type 0
+DidQuietly p choose budget x y = (out : Output) → DidCheap p choose budget x y out out
+
 -- the next step is within the budget, and the put of what it prints failed
 pub record FailsNext (p : Program) (choose : Choose) (budget : ℕ) (x : State) (old new : Output) : Type 0 where
   pub goes : Goes p budget x
@@ -61,6 +65,10 @@ pub record FailsNext (p : Program) (choose : Choose) (budget : ℕ) (x : State) 
 pub record Leads (p : Program) (choose : Choose) (budget : ℕ) (x y : State) (old new : Output) : Type 0 where
   pub ran : (first : State) (from : Output) → Ran p choose budget first x from old → Ran p choose budget first y from new
   pub left : (y ≡ x) ⊎ (left_of budget y < left_of budget x)
+
+-- the same by steps that print nothing
+abbrev pub LeadsQuietly : Program → Choose → (budget : ℕ) → (x y : State) → Type 0
+LeadsQuietly p choose budget x y = (out : Output) → Leads p choose budget x y out out
 
 -- a run that has come to the state and output goes on to a step whose put fails
 abbrev pub FailsLater : Program → Choose → (budget : ℕ) → State → (old new : Output) → Type 0

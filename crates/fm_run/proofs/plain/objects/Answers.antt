@@ -3,9 +3,6 @@ use Rattle.fm_frames.specs.Rows.{effect_of}
 use Rattle.fm_run.proofs.NextSteps.{row-done, stands-at}
 use Rattle.fm_run.proofs.plain.objects.Goals as goal
 
-pub object_made-requires-clause-at : goal.object_made-requires-clause-at
-object_made-requires-clause-at g c = stands-at c.args.program.now c.args.machine.now c.args.method.0 c.args.insn.now (insn.New c.in-New.index) c.requires.at c.in-New.is
-
 pub references_made-requires-clause-at : goal.references_made-requires-clause-at
 references_made-requires-clause-at g c = stands-at c.args.program.now c.args.machine.now c.args.method.0 c.args.insn.now (insn.NewRefs c.in-NewRefs.index) c.requires.at c.in-NewRefs.is
 

@@ -2,7 +2,7 @@ use Rattle.std.proofs.Common.{◌≡◌, arith, ap, sym, ◌∙◌, to_z, of_z, 
 use Rattle.std.proofs.lemmas.Int.{ints, to_z-of_z}
 use Rattle.fm_code.specs.declared.instructions.Insn.TheVariants as insn
 use Rattle.fm_frames.specs.Rows.{effect_of}
-use Rattle.fm_run.proofs.NextSteps.{at-row, row-does, stands-at}
+use Rattle.fm_run.proofs.NextSteps.{at-row, row-does}
 use Rattle.fm_run.proofs.plain.rarer.Goals as goal
 
 pub returns-in_ok-int_negate-in-IntNeg : goal.returns-in_ok-int_negate-in-IntNeg
@@ -64,10 +64,6 @@ pub returns-in-Pop2 : goal.returns-in-Pop2
 unfolding effect_of
 returns-in-Pop2 g c =
     row-does c.args.program.now g.M.Memory.choose c.args.machine.now c.pop2.new.machine c.args.insn.now (insn.Pop2) c.requires.at.at c.in-Pop2.is c.pop2.ensures
-
-pub constant-requires-clause-at : goal.constant-requires-clause-at
-constant-requires-clause-at g c =
-    stands-at c.args.program.now c.args.machine.now c.args.method.0 c.args.insn.now (insn.LoadPool c.in-LoadPool.index) c.requires.at c.in-LoadPool.is
 
 pub returns-in_ok-long_constant-in-LongConst : goal.returns-in_ok-long_constant-in-LongConst
 unfolding effect_of

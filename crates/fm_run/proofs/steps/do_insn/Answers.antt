@@ -8,22 +8,19 @@ use Rattle.fm_run.specs.inner.Nexts.{DoesNext}
 use Rattle.fm_frames.specs.Steps.{next_effect}
 use Rattle.fm_types.specs.Typed.{use_by}
 
-pub simple-requires-clause-group : goal.simple-requires-clause-group
-simple-requires-clause-group g c = sym c.group_of.ensures ∙ c.in-Simple.is
+pub usual-requires-clause-group : goal.usual-requires-clause-group
+usual-requires-clause-group g c = sym c.group_of.ensures ∙ c.in-Frequent.is
 
-pub simple-requires-clause-at : goal.simple-requires-clause-at
-simple-requires-clause-at g c = c.requires.at.at
-
-pub returns-in-Simple-clause-told : goal.returns-in-Simple-clause-told
-returns-in-Simple-clause-told g c =
+pub returns-in-Frequent-clause-told : goal.returns-in-Frequent-clause-told
+returns-in-Frequent-clause-told g c =
     let p = c.args.program.now in
     let x = c.args.machine.now in
     let out = g.S.Sink.output c.args.out.now in
-    quiet-told (DoesNext p g.M.Memory.choose x c.simple.new.machine) (StepsTo p g.M.Memory.choose x c.simple.new.machine out out (next_effect p x)) c.simple.result c.quiet.result
-    c.quiet.ensures (quiet-does p g.M.Memory.choose x c.simple.new.machine out (next_effect p x)) c.simple.ensures
+    quiet-told (DoesNext p g.M.Memory.choose x c.usual.new.machine) (StepsTo p g.M.Memory.choose x c.usual.new.machine out out (next_effect p x)) c.usual.result c.quiet.result
+    c.quiet.ensures (quiet-does p g.M.Memory.choose x c.usual.new.machine out (next_effect p x)) c.usual.ensures
 
-pub returns-in-Simple-clause-failed : goal.returns-in-Simple-clause-failed
-returns-in-Simple-clause-failed g c failed = absurd (quiet-fails c.simple.result c.quiet.result c.quiet.ensures failed)
+pub returns-in-Frequent-clause-failed : goal.returns-in-Frequent-clause-failed
+returns-in-Frequent-clause-failed g c failed = absurd (quiet-fails c.usual.result c.quiet.result c.quiet.ensures failed)
 
 pub rarer-requires-clause-group : goal.rarer-requires-clause-group
 rarer-requires-clause-group g c = sym c.group_of.ensures ∙ c.in-Rarer.is
@@ -39,53 +36,36 @@ returns-in-Rarer-clause-told g c =
 pub returns-in-Rarer-clause-failed : goal.returns-in-Rarer-clause-failed
 returns-in-Rarer-clause-failed g c failed = absurd (quiet-fails c.rarer.result c.quiet-in-Rarer.result c.quiet-in-Rarer.ensures failed)
 
-pub leaves-requires-clause-group : goal.leaves-requires-clause-group
-leaves-requires-clause-group g c = sym c.group_of.ensures ∙ c.in-Leaves.is
+pub thrown-requires-clause-group : goal.thrown-requires-clause-group
+thrown-requires-clause-group g c = sym c.group_of.ensures ∙ c.in-Throws.is
 
-pub leaves-requires-clause-at : goal.leaves-requires-clause-at
-leaves-requires-clause-at g c = c.requires.at.at
+pub thrown-requires-clause-at : goal.thrown-requires-clause-at
+thrown-requires-clause-at g c = c.requires.at.at
 
-pub returns-in-Leaves-clause-told : goal.returns-in-Leaves-clause-told
-returns-in-Leaves-clause-told g c =
+pub returns-in-Throws-clause-told : goal.returns-in-Throws-clause-told
+returns-in-Throws-clause-told g c =
     let p = c.args.program.now in
     let x = c.args.machine.now in
     let out = g.S.Sink.output c.args.out.now in
-    quiet-told (DoesNext p g.M.Memory.choose x c.leaves.new.machine) (StepsTo p g.M.Memory.choose x c.leaves.new.machine out out (next_effect p x)) c.leaves.result c.quiet-in-Leaves.result
-    c.quiet-in-Leaves.ensures (quiet-does p g.M.Memory.choose x c.leaves.new.machine out (next_effect p x)) c.leaves.ensures
+    quiet-told (DoesNext p g.M.Memory.choose x c.thrown.new.machine) (StepsTo p g.M.Memory.choose x c.thrown.new.machine out out (next_effect p x)) c.thrown.result c.quiet-in-Throws.result
+    c.quiet-in-Throws.ensures (quiet-does p g.M.Memory.choose x c.thrown.new.machine out (next_effect p x)) c.thrown.ensures
 
-pub returns-in-Leaves-clause-failed : goal.returns-in-Leaves-clause-failed
-returns-in-Leaves-clause-failed g c failed = absurd (quiet-fails c.leaves.result c.quiet-in-Leaves.result c.quiet-in-Leaves.ensures failed)
+pub returns-in-Throws-clause-failed : goal.returns-in-Throws-clause-failed
+returns-in-Throws-clause-failed g c failed = absurd (quiet-fails c.thrown.result c.quiet-in-Throws.result c.quiet-in-Throws.ensures failed)
 
-pub fields-requires-clause-group : goal.fields-requires-clause-group
-fields-requires-clause-group g c = sym c.group_of.ensures ∙ c.in-Fields.is
+pub statics-requires-clause-group : goal.statics-requires-clause-group
+statics-requires-clause-group g c = sym c.group_of.ensures ∙ c.in-Statics.is
 
-pub returns-in-Fields-clause-told : goal.returns-in-Fields-clause-told
-returns-in-Fields-clause-told g c =
+pub returns-in-Statics-clause-told : goal.returns-in-Statics-clause-told
+returns-in-Statics-clause-told g c =
     let p = c.args.program.now in
     let x = c.args.machine.now in
     let out = g.S.Sink.output c.args.out.now in
-    quiet-told (DoesNext p g.M.Memory.choose x c.fields.new.machine) (StepsTo p g.M.Memory.choose x c.fields.new.machine out out (next_effect p x)) c.fields.result c.quiet-in-Fields.result
-    c.quiet-in-Fields.ensures (quiet-does p g.M.Memory.choose x c.fields.new.machine out (next_effect p x)) c.fields.ensures
+    quiet-told (DoesNext p g.M.Memory.choose x c.statics.new.machine) (StepsTo p g.M.Memory.choose x c.statics.new.machine out out (next_effect p x)) c.statics.result c.quiet-in-Statics.result
+    c.quiet-in-Statics.ensures (quiet-does p g.M.Memory.choose x c.statics.new.machine out (next_effect p x)) c.statics.ensures
 
-pub returns-in-Fields-clause-failed : goal.returns-in-Fields-clause-failed
-returns-in-Fields-clause-failed g c failed = absurd (quiet-fails c.fields.result c.quiet-in-Fields.result c.quiet-in-Fields.ensures failed)
-
-pub arrays-requires-clause-group : goal.arrays-requires-clause-group
-arrays-requires-clause-group g c = sym c.group_of.ensures ∙ c.in-Arrays.is
-
-pub arrays-requires-clause-at : goal.arrays-requires-clause-at
-arrays-requires-clause-at g c = c.requires.at.at
-
-pub returns-in-Arrays-clause-told : goal.returns-in-Arrays-clause-told
-returns-in-Arrays-clause-told g c =
-    let p = c.args.program.now in
-    let x = c.args.machine.now in
-    let out = g.S.Sink.output c.args.out.now in
-    quiet-told (DoesNext p g.M.Memory.choose x c.arrays.new.machine) (StepsTo p g.M.Memory.choose x c.arrays.new.machine out out (next_effect p x)) c.arrays.result c.quiet-in-Arrays.result
-    c.quiet-in-Arrays.ensures (quiet-does p g.M.Memory.choose x c.arrays.new.machine out (next_effect p x)) c.arrays.ensures
-
-pub returns-in-Arrays-clause-failed : goal.returns-in-Arrays-clause-failed
-returns-in-Arrays-clause-failed g c failed = absurd (quiet-fails c.arrays.result c.quiet-in-Arrays.result c.quiet-in-Arrays.ensures failed)
+pub returns-in-Statics-clause-failed : goal.returns-in-Statics-clause-failed
+returns-in-Statics-clause-failed g c failed = absurd (quiet-fails c.statics.result c.quiet-in-Statics.result c.quiet-in-Statics.ensures failed)
 
 pub objects-requires-clause-group : goal.objects-requires-clause-group
 objects-requires-clause-group g c = sym c.group_of.ensures ∙ c.in-Objects.is

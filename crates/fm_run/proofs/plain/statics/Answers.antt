@@ -1,12 +1,6 @@
 use Rattle.fm_code.specs.declared.instructions.Insn.TheVariants as insn
 use Rattle.fm_run.proofs.NextSteps.{stands-at}
-use Rattle.fm_run.proofs.plain.fields.Goals as goal
-
-pub field_got-requires-clause-at : goal.field_got-requires-clause-at
-field_got-requires-clause-at g c = stands-at c.args.program.now c.args.machine.now c.args.method.0 c.args.insn.now (insn.GetField c.in-GetField.index) c.requires.at c.in-GetField.is
-
-pub field_put-requires-clause-at : goal.field_put-requires-clause-at
-field_put-requires-clause-at g c = stands-at c.args.program.now c.args.machine.now c.args.method.0 c.args.insn.now (insn.PutField c.in-PutField.index) c.requires.at c.in-PutField.is
+use Rattle.fm_run.proofs.plain.statics.Goals as goal
 
 pub static_got-requires-clause-at : goal.static_got-requires-clause-at
 static_got-requires-clause-at g c = stands-at c.args.program.now c.args.machine.now c.args.method.0 c.args.insn.now (insn.GetStatic c.in-GetStatic.index) c.requires.at c.in-GetStatic.is
