@@ -2,7 +2,7 @@
 use Rattle.std.proofs.Common.{◌≡◌, ℕ, ◌-◌, Option, Some, None, refl, sym, ◌∙◌, ap, subst, arith}
 use Rattle.fm_frames.specs.Acts.{Choose}
 use Rattle.fm_frames.specs.States.{Moved, State}
-use Rattle.fm_frames.specs.Steps.{cost, next_effect, step}
+use Rattle.fm_frames.specs.Steps.{cost, next_effect}
 use Rattle.fm_frames.specs.declared.ends.Ended.{Ended}
 use Rattle.fm_frames.proofs.StepCounts.{step_going}
 use Rattle.fm_files.specs.Sink.{FailsPut, Output}
