@@ -1,5 +1,7 @@
 // The program over files and sinks in memory.
 
+mod rows;
+
 use crate::top_call::fmrun_run;
 use fm_base::NoMemory;
 use fm_files::{MemFiles, MemSink, SureFiles, SureSink};

@@ -5,7 +5,6 @@ mod checking;
 mod family;
 mod lengths;
 mod linking;
-mod long;
 mod malformed;
 mod refused;
 mod rows;

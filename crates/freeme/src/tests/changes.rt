@@ -3,6 +3,7 @@
 use crate::tests::ends_with;
 use fm_base::NoMemory;
 use fm_files::MemFiles;
+use fm_programs::Repeated;
 use fm_samples::{EVERY_PART, INTERFACE};
 use std::alloc::Global;
 
@@ -38,22 +39,6 @@ pub fn changed(
         }
     }
     Ok(changed)
-}
-
-/// A start, a piece so often, and an end.
-pub fn repeated(
-    alloc: Global,
-    start: &[u8],
-    piece: &[u8],
-    count: u32,
-    end: &[u8],
-) -> Result<Vec<u8>, NoMemory> {
-    let mut bytes = Vec::from_slice(alloc, start)?;
-    for _ in 0..count {
-        bytes.extend_from_slice(piece)?;
-    }
-    bytes.extend_from_slice(end)?;
-    Ok(bytes)
 }
 
 /// Whether a call for a class M of these bytes and the interface R is answered so: M is written where the status is 0.
@@ -118,7 +103,13 @@ pub fn is_long_change_answered(
 ) -> Result<bool, NoMemory> {
     let (old, start, piece, count, end) = change;
     let class = EVERY_PART.bytes(alloc)?;
-    let new = repeated(alloc, start, piece, count, end)?;
+    let new = Repeated {
+        start,
+        piece,
+        count,
+        end,
+    };
+    let new = new.bytes(alloc)?;
     match changed(alloc, class.as_slice(), old, new.as_slice())? {
         Some(bytes) => is_answered(alloc, bytes.as_slice(), status, lines),
         None => Ok(false),

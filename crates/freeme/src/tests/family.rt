@@ -137,7 +137,7 @@ const OF_AN_A_OR_A_B: Row = (
     NO_SITES,
 );
 
-const ROWS: [Row; 7] = [
+const ROWS: [Row; 8] = [
     OF_AN_A_OR_A_B,
     // x is an int[][] or a String[][]; x[0].hashCode()
     (
@@ -168,6 +168,13 @@ const ROWS: [Row; 7] = [
         b"\0\0\0\x11\0\x01\0\x01\0\0\0\x05\xbb\0\x24\x57\xb1\0\0",
         0,
         NO_SITES,
+    ),
+    // return; nop; athrow, which catches a String that the return throws
+    (
+        MAIN_CODE,
+        b"\0\0\0\x17\0\x01\0\x01\0\0\0\x03\xb1\0\xbf\0\x01\0\0\0\x01\0\x02\0\x24",
+        71,
+        UNTYPED_MAIN,
     ),
     // the constructor puts 1 into n, and then calls the one of Object
     (

@@ -115,7 +115,7 @@ fn what_makes_no_program_is_refused(rt: HostRuntime) -> Result<(), Fail> {
     Ok(())
 }
 
-// An object is made too, which isn't built yet.
+// The class that it makes an object of isn't there.
 #[test]
 fn linking_comes_before_rewriting(rt: HostRuntime) -> Result<(), Fail> {
     let alloc = rt.alloc();
