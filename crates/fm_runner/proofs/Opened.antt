@@ -3,7 +3,7 @@ use Rattle.std.proofs.Common.{◌≡◌, ◌<◌, ◌≤◌, ◌^◌, ℕ, zero,
 use Rattle.std.specs.Prelude.{IsSome}
 use Rattle.std.specs.List.{AllByRecursion}
 use Rattle.fm_base.proofs.ListFacts.{AllByRecursion-weaker}
-use Rattle.fm_base.specs.declared.limits.TheConstants.{MAX_ARGUMENTS, MAX_FILE_BYTES, MAX_MADE_WORDS}
+use Rattle.fm_base.specs.declared.limits.TheConstants.{MAX_ARGUMENTS, MAX_FILE_BYTES}
 use Rattle.fm_cells.specs.Choices.{IsLawful, last_choice}
 use Rattle.fm_cells.specs.Soundness.{CellsFit}
 use Rattle.fm_cells.specs.Stores.{empty_lists, opened}
@@ -56,7 +56,7 @@ job_of b arguments input = record { arguments = arguments; input = input; depth 
 
 -- nothing is printed in it
 pub opening-silent : (p : Program) (b : Budgets) (arguments : List (List ℕ)) (input : List ℕ)
-    → opening p choice (job_of b arguments input) (opened b.words (Some MAX_MADE_WORDS) empty_lists) ≡ silent (opened_run p b arguments input)
+    → opening p choice (job_of b arguments input) (opened b.words (Some b.store) empty_lists) ≡ silent (opened_run p b arguments input)
 unfolding opening
 opening-silent p b arguments input = refl
 
@@ -70,8 +70,8 @@ pub opened_goes : (p : Program) (b : Budgets) (arguments : List (List ℕ)) (inp
     → CanGo p b.steps (opened_run p b arguments input)
 opened_goes p b arguments input may can typed within few given short fit =
     let job = job_of b arguments input in
-    let steady = opened_steady p (typings_of p typed) choice job may can (typings_are p typed) short given b.words (Some MAX_MADE_WORDS) empty_lists within.words fit in
-    let births = opened_births p choice job (opened b.words (Some MAX_MADE_WORDS) empty_lists) may can in
+    let steady = opened_steady p (typings_of p typed) choice job may can (typings_are p typed) short given b.words (Some b.store) empty_lists within.words fit in
+    let births = opened_births p choice job (opened b.words (Some b.store) empty_lists) may can in
     let texts = can.few_texts in
     let steps = within.steps in record {
       sound = steady.0;
@@ -82,7 +82,7 @@ opened_goes p b arguments input may can typed within few given short fit =
 -- after all its steps the run is at its last state
 pub last_after : (p : Program) (b : Budgets) (arguments : List (List ℕ)) (input : List ℕ) (last : State) (before later : Output)
     → (runs : RunsTo p choice b.steps (opened_run p b arguments input) last before later)
-    → after p choice runs.run.count (opening p choice (job_of b arguments input) (opened b.words (Some MAX_MADE_WORDS) empty_lists))
+    → after p choice runs.run.count (opening p choice (job_of b arguments input) (opened b.words (Some b.store) empty_lists))
     ≡ record { state = last; printed = runs.printed }
 last_after p b arguments input last before later runs = ap (after p choice runs.run.count) (opening-silent p b arguments input) ∙ sym runs.run.is
 
@@ -92,7 +92,7 @@ pub end_told : (p : Program) (b : Budgets) (arguments : List (List ℕ)) (input 
     → IsEndIn p (report_of last).end
 end_told p b arguments input can typed within given short last before later runs =
     let job = job_of b arguments input in
-    let there = ends_there p (typings_of p typed) (typings_are p typed) can last_choice job short given b.words (Some MAX_MADE_WORDS) empty_lists within.words runs.run.count in
+    let there = ends_there p (typings_of p typed) (typings_are p typed) can last_choice job short given b.words (Some b.store) empty_lists within.words runs.run.count in
     subst (λ (m : Moved). IsEndIn p (end_of m.state)) (last_after p b arguments input last before later runs) there
 
 -- ---- what is left undone

@@ -19,6 +19,7 @@ use Rattle.fm_world.specs.Programs.{Program}
 -- the budgets are within their limits
 pub record AreWithin (b : Budgets) : Type 0 where
   pub words : b.words ≤ MAX_LIVE_WORDS
+  pub store : b.store ≤ MAX_MADE_WORDS
   pub steps : b.steps ≤ MAX_STEPS
 
 -- the cells that are taken: the one of the size that was freed last, and else one after all that were made
@@ -28,7 +29,7 @@ choice = lawful last_choice
 -- the state at the opening of the run, over a memory in which nothing was made
 abbrev pub opened_run : Program → Budgets → (arguments : List (List ℕ)) → (input : List ℕ) → State
 opened_run p b arguments input =
-    (opening p choice (record { arguments = arguments; input = input; depth = b.frames }) (opened b.words (Some MAX_MADE_WORDS) empty_lists)).state
+    (opening p choice (record { arguments = arguments; input = input; depth = b.frames }) (opened b.words (Some b.store) empty_lists)).state
 
 -- the run came to its end, and this is told: the line of its report, and the status of its end
 pub record IsToldOf (p : Program) (b : Budgets) (arguments : List (List ℕ)) (input : List ℕ) (told : Told) (before after : Output) : Type 0 where

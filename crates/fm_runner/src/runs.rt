@@ -8,7 +8,6 @@ ghost use Rattle.fm_sound.specs.Making.{ArgumentsFit};
 ghost use Rattle.fm_untyped.specs.Untyped.{AreTyped};
 
 use fm_base::Units;
-use fm_base::limits::MAX_MADE_WORDS;
 use fm_cells::WordCells;
 use fm_files::Sink;
 use fm_frames::{Machine, StepFail};
@@ -24,6 +23,8 @@ pub struct Budgets {
     pub steps: u64,
     /// How many words may live at once.
     pub words: u64,
+    /// How many words all cells together may have.
+    pub store: u64,
     /// How many frames there may be.
     pub frames: u32,
 }
@@ -57,7 +58,7 @@ pub fn run_program<O: Sink>(
     ensures { ComesOfRun program.now budgets arguments.now input.now
         (O.output out.old) (O.output out.new) result }
 {
-    let memory = WordCells::new(alloc, budgets.words, MAX_MADE_WORDS);
+    let memory = WordCells::new(alloc, budgets.words, budgets.store);
     let mut machine = Machine::open(alloc, program, arguments, input, budgets.frames, memory)?;
     let _births = machine.births();
     let report = run(alloc, &mut machine, program, budgets.steps, out)?;

@@ -1,9 +1,10 @@
 -- The statuses of ends, of refusals and of outcomes, apart from one another.
 use Rattle.std.proofs.Common.{◌≡◌, ◌≢◌, ◌≤◌, ◌⊎◌, ℕ, Bool, true, false, inl, inr, List, ◌∷◌, Contains, Ok, Err, refl, sym, ◌∙◌, arith}
 use Rattle.std.specs.Int.{w32, cast_unsigned}
-use Rattle.std.specs.List.{AllByRecursion}
-use Rattle.std.proofs.lemmas.Bool.{leb-false}
-use Rattle.std.proofs.lemmas.List.Elements.{All-contains, All-from_recursion}
+use Rattle.std.specs.List.{list_all}
+use Rattle.std.proofs.lemmas.Bool.{and_parts, leb-false, leb-true}
+use Rattle.std.proofs.lemmas.List.Elements.{All-contains}
+use Rattle.std.proofs.lemmas.List.Sums.{AllPass-from_list_all}
 use Rattle.std.specs.Prelude.{◌%◌, ◌&&◌, nat_le, if◌then◌else◌}
 use Rattle.fm_base.specs.declared.ids.MethodId.{MethodId}
 use Rattle.fm_base.proofs.ContainsFacts.{Contains-cons_cases, unlike_elements}
@@ -57,75 +58,31 @@ run_apart ran s from to is = end_apart (report_of ran.last).end s from to (sym r
 
 -- ---- refusals
 
--- the statuses of refusals are these numbers
-pub record IsRefusal (status : ℕ) : Type 0 where
-  pub low : 64 ≤ status
-  pub high : status ≤ 79
+-- the status is between these numbers
+pub record IsBetween (least most status : ℕ) : Type 0 where
+  pub low : least ≤ status
+  pub high : status ≤ most
 
--- and those before the run are these
-pub record IsBeforeRun (status : ℕ) : Type 0 where
-  pub low : 64 ≤ status
-  pub high : status ≤ 71
+-- whether it is
+abbrev is_between : ℕ → ℕ → ℕ → Bool
+is_between least most status = nat_le least status && nat_le status most
 
-are_refusals : AllByRecursion IsRefusal refusals
-are_refusals = (
-  record { low = omega arith; high = omega arith },
-  (
-    record { low = omega arith; high = omega arith },
-    (
-      record { low = omega arith; high = omega arith },
-      (
-        record { low = omega arith; high = omega arith },
-        (
-          record { low = omega arith; high = omega arith },
-          (
-            record { low = omega arith; high = omega arith },
-            (
-              record { low = omega arith; high = omega arith },
-              (
-                record { low = omega arith; high = omega arith },
-                (
-                  record { low = omega arith; high = omega arith },
-                  (record { low = omega arith; high = omega arith }, tt),
-                ),
-              ),
-            ),
-          ),
-        ),
-      ),
-    ),
-  ),
-)
+-- a status of some, all of which are
+one_between : (least most : ℕ) (statuses : List ℕ) → list_all (is_between least most) statuses ≡ true → (status : ℕ) → Contains statuses status
+    → IsBetween least most status
+one_between least most statuses are status among =
+    let passes : is_between least most status ≡ true =
+    All-contains (λ s. is_between least most s ≡ true) statuses status (AllPass-from_list_all (is_between least most) statuses are) among in
+    let own = and_parts (nat_le least status) (nat_le status most) passes in
+    record { low = leb-true least status own.0; high = leb-true status most own.1 }
 
-pub among_refusals : (status : ℕ) → Contains refusals status → IsRefusal status
-among_refusals status among = All-contains IsRefusal refusals status (All-from_recursion IsRefusal refusals are_refusals) among
+-- the statuses of refusals are between these
+pub among_refusals : (status : ℕ) → Contains refusals status → IsBetween 64 79 status
+among_refusals = one_between 64 79 refusals refl
 
-are_before_run : AllByRecursion IsBeforeRun before_run
-are_before_run = (
-  record { low = omega arith; high = omega arith },
-  (
-    record { low = omega arith; high = omega arith },
-    (
-      record { low = omega arith; high = omega arith },
-      (
-        record { low = omega arith; high = omega arith },
-        (
-          record { low = omega arith; high = omega arith },
-          (
-            record { low = omega arith; high = omega arith },
-            (
-              record { low = omega arith; high = omega arith },
-              (record { low = omega arith; high = omega arith }, tt),
-            ),
-          ),
-        ),
-      ),
-    ),
-  ),
-)
-
-pub among_before_run : (status : ℕ) → Contains before_run status → IsBeforeRun status
-among_before_run status among = All-contains IsBeforeRun before_run status (All-from_recursion IsBeforeRun before_run are_before_run) among
+-- and those before the run between these
+pub among_before_run : (status : ℕ) → Contains before_run status → IsBetween 64 71 status
+among_before_run = one_between 64 71 before_run refl
 
 module _ {words : List Bytes} {old new : Disk} {before after : Output} where
   -- a run that is told is that of a job

@@ -14,7 +14,7 @@ use Rattle.fm_given.proofs.TakenLemmas.{are_spelled}
 use Rattle.fm_given.specs.Given.{IsUntouched, IsNotLinked, AreChecked}
 use Rattle.fm_given.specs.Judging.{ComesOfProgram}
 use Rattle.fm_given.specs.Reading.{AreRead, ComesOfFiles, ReadsAll}
-use Rattle.fm_given.specs.Taking.{AreTaken, IsSpelled}
+use Rattle.fm_given.specs.Taking.{AllTaken, AreTaken, IsSpelled}
 use Rattle.fm_given.specs.declared.refusal.JobRefusal.{JobRefusal}
 use Rattle.fm_given.specs.declared.refusal.JobRefusal.TheVariants as job_refusal
 use Rattle.fm_input.specs.Reading.{ComesOfInput, IsInputOf, IsInputRead, ReadsInput}
@@ -58,11 +58,22 @@ input_keeps None old new now = ap (λ (d : Disk). d.contents) now
 input_keeps (Some file) old new (now, keeps) = keeps.contents
 
 -- classes that are taken are of the profile
-pub are_accepted : (contents : Contents) (files : List Bytes) (classes : List ClassDef) → AreTaken contents files classes → AllByRecursion Profile classes
+are_accepted : (contents : Contents) (files : List Bytes) (classes : List ClassDef) → AreTaken contents files classes → AllByRecursion Profile classes
 are_accepted contents [] [] taken = tt
 are_accepted contents (f ∷ files) (c ∷ classes) taken = (taken.0.profile, are_accepted contents files classes taken.1)
 are_accepted contents [] (c ∷ classes) taken = absurd taken
 are_accepted contents (f ∷ files) [] taken = absurd taken
+
+-- and spelled,
+pub taken_spelled : {contents : Contents} {files : List Bytes} {classes : List ClassDef} → AllTaken contents files classes → AllByRecursion IsSpelled classes
+taken_spelled {contents} {files} {classes} all = are_spelled contents files classes all.taken
+
+pub taken_accepted : {contents : Contents} {files : List Bytes} {classes : List ClassDef} → AllTaken contents files classes → AllByRecursion Profile classes
+taken_accepted {contents} {files} {classes} all = are_accepted contents files classes all.taken
+
+-- and not too many
+pub taken_few : {contents : Contents} {files : List Bytes} {classes : List ClassDef} → AllTaken contents files classes → length classes ≤ MAX_CLASS_FILES
+taken_few {contents} {files} {classes} all = let few = all.few in omega (arith, same_number contents files classes all.taken)
 
 -- an input is no longer than a file may be
 pub input_is_short : (named : Option Bytes) (contents : Contents) (input : Bytes) → IsInputOf named contents input → length input ≤ MAX_FILE_BYTES
@@ -130,13 +141,13 @@ ends_unread job old between out few r now = absurd now
 module _ {job : Job} {classes : List ClassDef} {old between : Disk} (has : HasClasses job classes old between) where
   -- the classes are spelled and of the profile, and not too many
   pub spelled : AllByRecursion IsSpelled classes
-  spelled = are_spelled old.contents job.files classes has.read.taken.taken
+  spelled = taken_spelled has.read.taken
 
   pub accepted : AllByRecursion Profile classes
-  accepted = are_accepted old.contents job.files classes has.read.taken.taken
+  accepted = taken_accepted has.read.taken
 
   pub few_classes : length classes ≤ MAX_CLASS_FILES
-  few_classes = let few = has.read.taken.few in omega (arith, same_number old.contents job.files classes has.read.taken.taken)
+  few_classes = taken_few has.read.taken
 
   same_contents : between.contents ≡ old.contents
   same_contents = has.all.writes.contents

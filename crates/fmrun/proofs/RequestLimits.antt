@@ -18,7 +18,7 @@ value_within (Some text) is = is.1
 -- so what words ask for is within the limits
 pub within_limits : (words : List (List ℕ)) (job : Job) → Asks words job → IsWithinLimits job
 within_limits words job asks = record {
-  budgets = record { words = words_within words job asks; steps = steps_within words job asks };
+  budgets = record { words = words_within words job asks; store = omega arith; steps = steps_within words job asks };
   text = value_within job.arguments asks.values.text_is_value;
 }
 

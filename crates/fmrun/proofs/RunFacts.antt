@@ -1,10 +1,9 @@
 -- What else is known of a run that is told: when it ends in a fault, and how many cells it made.
-use Rattle.std.proofs.Common.{◌≡◌, ◌⊎◌, ◌≤◌, ℕ, inl, inr, List, Contains, Option, Some, None, length, refl, sym, ◌∙◌, ap, subst, arith}
+use Rattle.std.proofs.Common.{◌≡◌, ◌⊎◌, ℕ, inl, inr, List, Contains, Option, Some, None, refl, sym, ◌∙◌, ap, subst, arith}
 use Rattle.std.specs.List.{sum}
 use Rattle.std.specs.Prelude.{unwrap_or}
 use Rattle.fm_base.proofs.ListFacts.{AllByRecursion-weaker}
 use Rattle.fm_base.proofs.OptionFacts.{Some-from_is_some}
-use Rattle.fm_base.specs.declared.limits.TheConstants.{MAX_CLASS_FILES, MAX_MADE_WORDS}
 use Rattle.fm_code.specs.Profile.{IsSupported, Profile}
 use Rattle.fm_code.specs.declared.class_file.ClassDef.{ClassDef}
 use Rattle.fm_files.specs.Files.{Bytes, Disk}
@@ -14,8 +13,7 @@ use Rattle.fm_frames.specs.States.{Moved, State}
 use Rattle.fm_frames.specs.declared.ends.Ended.{Ended}
 use Rattle.fm_frames.specs.declared.ends.Ended.TheVariants as end
 use Rattle.fm_given.proofs.KnownLemmas.{all_taken}
-use Rattle.fm_given.proofs.ReadLemmas.{same_number}
-use Rattle.fm_given.proofs.TakenLemmas.{are_spelled, have_spellings}
+use Rattle.fm_given.proofs.TakenLemmas.{have_spellings}
 use Rattle.fm_given.proofs.VerdictLemmas.{Ends, EndsOnce, one_judgement}
 use Rattle.fm_given.specs.Given.{AreChecked}
 use Rattle.fm_given.specs.Taking.{AllTaken}
@@ -30,7 +28,7 @@ use Rattle.fm_same.specs.Resolved.{CallsNoFreeMe}
 use Rattle.fm_tool.specs.Encoding.{modified}
 use Rattle.fm_whole.specs.Whole.{HasNoFault}
 use Rattle.fmrun.proofs.EndStatuses.{among_refusals, fault_status, IsFault}
-use Rattle.fmrun.proofs.JobLemmas.{are_accepted}
+use Rattle.fmrun.proofs.JobLemmas.{taken_accepted, taken_few, taken_spelled}
 use Rattle.fmrun.specs.Causes.{AskFor, IsForFault, IsForRun, IsKnownFreeless, refusals, ReportsMostHeld, SaysFault, SaysRun}
 use Rattle.fmrun.specs.Jobs.{budgets_of, given_of, job_arguments, job_program}
 
@@ -96,10 +94,9 @@ module _ (words : List Bytes) (old new : Disk) (before after report report' : Ou
   can_run : ProgramsCanRun → (job : Job) (classes : List ClassDef) → AreChecked (given_of job) old.contents classes → CanRun (job_program job classes)
   can_run law job classes checked =
       let taken = checked.linked.taken in
-      let spelled = have_spellings classes (are_spelled old.contents job.files classes taken.taken) in
-      let accepted = are_accepted old.contents job.files classes taken.taken in
-      let few : length classes ≤ MAX_CLASS_FILES = let most = taken.few in omega (arith, same_number old.contents job.files classes taken.taken) in
-      law classes (modified job.main) spelled (AllByRecursion-weaker Profile IsSupported (λ c profile. profile.supported) classes accepted) checked.linked.linked few
+      let spelled = have_spellings classes (taken_spelled taken) in
+      let accepted = taken_accepted taken in
+      law classes (modified job.main) spelled (AllByRecursion-weaker Profile IsSupported (λ c profile. profile.supported) classes accepted) checked.linked.linked (taken_few taken)
 
   pub reports_most_held : ProgramsCanRun → MadeIsMostHeld → (result : ℕ) → ReportsMostHeld words old new before after report report' result
   reports_most_held can law result said =
@@ -108,7 +105,7 @@ module _ (words : List Bytes) (old new : Disk) (before after report report' : Ou
       let p = job_program job ran.classes in
       let b = budgets_of job in
       let count = ran.runs.run.count in
-      let made = law p (can_run can job ran.classes ran.ready.checked) (job_of b (job_arguments job) ran.input) b.words (Some MAX_MADE_WORDS) count in
+      let made = law p (can_run can job ran.classes ran.ready.checked) (job_of b (job_arguments job) ran.input) b.words (Some b.store) count in
       let same = last_after p b (job_arguments job) ran.input ran.last before after ran.runs in
       sym (ap (λ (m : Moved). sum m.state.areas.store.made) same)
       ∙ ap sum made

@@ -2,7 +2,7 @@
 use Rattle.std.proofs.Common.{◌≤◌, ℕ, inl, inr, List, length, Some, Ok, Err, refl, sym, subst}
 use Rattle.std.specs.List.{AllByRecursion}
 use Rattle.fm_base.proofs.ListFacts.{AllByRecursion-weaker}
-use Rattle.fm_base.specs.declared.limits.TheConstants.{MAX_CLASS_FILES, MAX_FILE_BYTES, MAX_MADE_WORDS}
+use Rattle.fm_base.specs.declared.limits.TheConstants.{MAX_CLASS_FILES, MAX_FILE_BYTES}
 use Rattle.fm_cells.specs.Choices.{last_choice}
 use Rattle.fm_cells.specs.Stores.{empty_lists}
 use Rattle.fm_code.specs.Profile.{IsSupported, IsWithinLimits, Profile}
@@ -72,7 +72,7 @@ module _ (classes : List ClassDef) (main : List ℕ) where
           let p = program_of classes main in
           let supported = AllByRecursion-weaker Profile IsSupported (λ c profile. profile.supported) classes accepted in
           let kept = law classes main (have_spellings classes spelled) supported comes.0.0 few (typings_of p are_program.typed)
-          (typings_are p are_program.typed) frees_none last_choice (job_of b arguments input) short given b.words (Some MAX_MADE_WORDS) empty_lists
+          (typings_are p are_program.typed) frees_none last_choice (job_of b arguments input) short given b.words (Some b.store) empty_lists
           within.words runs.run.count in
           subst (λ (m : Moved). HasNoFault m.state) (last_after p b arguments input last before after runs) kept.1
 

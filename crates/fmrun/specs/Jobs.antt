@@ -1,6 +1,6 @@
 -- What a job gives to its run.
 use Rattle.std.specs.Prelude.{ℕ, ◌≤◌, ◌++◌, List, [], ◌∷◌, Option, Some, None, length, IfSome}
-use Rattle.fm_base.specs.declared.limits.TheConstants.{MAX_ARGUMENTS, MAX_COMMAND_LINE_VALUE_BYTES}
+use Rattle.fm_base.specs.declared.limits.TheConstants.{MAX_ARGUMENTS, MAX_COMMAND_LINE_VALUE_BYTES, MAX_MADE_WORDS}
 use Rattle.fm_code.specs.declared.class_file.ClassDef.{ClassDef}
 use Rattle.fm_files.specs.Files.{Bytes, Contents}
 use Rattle.fm_frames.specs.States.{State}
@@ -26,9 +26,9 @@ text_arguments (Some text) = arguments_of text
 abbrev pub job_arguments : Job → List (List ℕ)
 job_arguments job = text_arguments job.arguments
 
--- the budgets of the run
+-- the budgets of the run; no word of the command line says how large the store may be
 abbrev pub budgets_of : Job → Budgets
-budgets_of job = record { steps = job.steps; words = job.words; frames = job.frames }
+budgets_of job = record { steps = job.steps; words = job.words; store = MAX_MADE_WORDS; frames = job.frames }
 
 -- the file of the input, where one is named
 abbrev pub input_files : Option Bytes → List Bytes

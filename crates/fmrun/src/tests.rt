@@ -1,6 +1,9 @@
 // The program over files and sinks in memory.
 
+mod ends;
 mod rows;
+mod samples;
+mod stores;
 
 use crate::top_call::fmrun_run;
 use fm_base::NoMemory;

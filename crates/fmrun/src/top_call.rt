@@ -13,7 +13,7 @@ ghost use Rattle.fmrun.specs.TopCall.{ComesOf, ComesTo, IsTold, IsTopCall, Stays
 
 use crate::outcome::JobFail;
 use crate::running::run_classes;
-use fm_base::limits::{MAX_ARGUMENTS, MAX_CLASS_FILES};
+use fm_base::limits::{MAX_ARGUMENTS, MAX_CLASS_FILES, MAX_MADE_WORDS};
 use fm_base::{NoMemory, Units};
 use fm_code::ClassDef;
 use fm_files::{Files, Sink};
@@ -155,6 +155,7 @@ fn do_job<'a, F: Files, O: Sink>(
     let budgets = Budgets {
         steps: request.steps,
         words: request.words,
+        store: MAX_MADE_WORDS,
         frames: request.frames,
     };
     run_classes(alloc, classes, request.main, budgets, arguments, input, out)

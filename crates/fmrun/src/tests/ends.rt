@@ -1,0 +1,255 @@
+// Each end of a run on both sides of its boundary: a class file, one byte of it that decides, and the words
+// of the call.
+
+use crate::tests::samples::{
+    CALLS_ONCE, CATCHES, DIVISOR_OF_START, DUP_OF_FREED, END_OF_RANGE, EXIT_PLACE, EXITS, FREES,
+    LENGTH_PLACE, PRINTS_LENGTH, STARTS,
+};
+use crate::tests::split_words;
+use crate::top_call::fmrun_run;
+use fm_base::NoMemory;
+use fm_files::{SureFiles, SureSink};
+use std::alloc::Global;
+use std::test::Fail;
+
+// The opcodes of pushing 0, of pushing 1, of pushing null, and of doubling the word on top.
+const ICONST_0: u8 = 0x03;
+
+const ICONST_1: u8 = 0x04;
+
+const ACONST_NULL: u8 = 0x01;
+
+const DUP: u8 = 0x59;
+
+// A class file in which one byte is this one, the words of the call, and how the run ends.
+#[derive(Clone, Copy)]
+struct End<'a> {
+    words: &'a str,
+    file: &'a [u8],
+    place: usize,
+    byte: u8,
+    status: u8,
+    printed: &'a [u8],
+    reported: &'a [u8],
+}
+
+// An exit has the status that the program gives, unless it is one of a refusal or of another end.
+fn exits<'a>(file: &'a [u8]) -> [End<'a>; 6] {
+    let end = End {
+        words: "M M.class",
+        file,
+        place: EXIT_PLACE,
+        byte: 0,
+        status: 0,
+        printed: b"",
+        reported: b"exit 0; steps 2, objects 3, frees 0, freed words 0, live words 6, \
+            peak words 6, cells made 3\n",
+    };
+    [
+        end,
+        End {
+            byte: 63,
+            status: 63,
+            reported: b"exit 63; steps 2, objects 3, frees 0, freed words 0, live words 6, \
+                peak words 6, cells made 3\n",
+            ..end
+        },
+        End {
+            byte: 64,
+            status: 86,
+            reported: b"exit 64; steps 2, objects 3, frees 0, freed words 0, live words 6, \
+                peak words 6, cells made 3\n",
+            ..end
+        },
+        End {
+            byte: 85,
+            status: 86,
+            reported: b"exit 85; steps 2, objects 3, frees 0, freed words 0, live words 6, \
+                peak words 6, cells made 3\n",
+            ..end
+        },
+        End {
+            byte: 87,
+            status: 87,
+            reported: b"exit 87; steps 2, objects 3, frees 0, freed words 0, live words 6, \
+                peak words 6, cells made 3\n",
+            ..end
+        },
+        End {
+            byte: 255,
+            status: 255,
+            reported: b"exit -1; steps 2, objects 3, frees 0, freed words 0, live words 6, \
+                peak words 6, cells made 3\n",
+            ..end
+        },
+    ]
+}
+
+// What is thrown is caught or leaves main, it leaves the start of the class or isn't thrown, and an object
+// is freed once or twice.
+fn throws<'a>(catches: &'a [u8], starts: &'a [u8], frees: &'a [u8]) -> [End<'a>; 6] {
+    let caught = End {
+        words: "M M.class",
+        file: catches,
+        place: END_OF_RANGE,
+        byte: 3,
+        status: 0,
+        printed: b"",
+        reported: b"returned; steps 5, objects 4, frees 0, freed words 0, live words 9, \
+            peak words 9, cells made 4\n",
+    };
+    let started = End {
+        file: starts,
+        place: DIVISOR_OF_START,
+        byte: ICONST_1,
+        reported: b"returned; steps 6, objects 3, frees 0, freed words 0, live words 6, \
+            peak words 6, cells made 3\n",
+        ..caught
+    };
+    let freed = End {
+        file: frees,
+        place: DUP_OF_FREED,
+        byte: ACONST_NULL,
+        reported: b"returned; steps 7, objects 4, frees 1, freed words 2, live words 6, \
+            peak words 8, cells made 4\n",
+        ..caught
+    };
+    [
+        caught,
+        End {
+            byte: 2,
+            status: 1,
+            reported: b"uncaught java/lang/ArithmeticException; steps 3, objects 4, frees 0, \
+                freed words 0, live words 9, peak words 9, cells made 4\n",
+            ..caught
+        },
+        started,
+        End {
+            byte: ICONST_0,
+            status: 84,
+            reported: b"init-failed M; steps 3, objects 4, frees 0, freed words 0, \
+                live words 9, peak words 9, cells made 4\n",
+            ..started
+        },
+        freed,
+        End {
+            byte: DUP,
+            status: 83,
+            reported: b"fault M.main([Ljava/lang/String;)V 11; steps 5, objects 4, frees 1, \
+                freed words 2, live words 6, peak words 8, cells made 4\n",
+            ..freed
+        },
+    ]
+}
+
+// A call, and the start of the main class, find the frame that they need or lack it, and so do the words of
+// an array.
+fn budgets<'a>(calls: &'a [u8], starts: &'a [u8], lengths: &'a [u8]) -> [End<'a>; 6] {
+    let calls = End {
+        words: "--frames 2 M M.class",
+        file: calls,
+        place: 0,
+        byte: 0xca,
+        status: 0,
+        printed: b"",
+        reported: b"returned; steps 3, objects 3, frees 0, freed words 0, live words 6, \
+            peak words 6, cells made 3\n",
+    };
+    let starts = End {
+        file: starts,
+        place: DIVISOR_OF_START,
+        byte: ICONST_1,
+        reported: b"returned; steps 6, objects 3, frees 0, freed words 0, live words 6, \
+            peak words 6, cells made 3\n",
+        ..calls
+    };
+    let lengths = End {
+        words: "--words 13 M M.class",
+        file: lengths,
+        place: LENGTH_PLACE,
+        byte: 10,
+        status: 0,
+        printed: b"10\n",
+        reported: b"returned; steps 8, objects 4, frees 0, freed words 0, live words 13, \
+            peak words 13, cells made 4\n",
+    };
+    [
+        calls,
+        End {
+            words: "--frames 1 M M.class",
+            status: 82,
+            reported: b"deep 1; steps 0, objects 3, frees 0, freed words 0, live words 6, \
+                peak words 6, cells made 3\n",
+            ..calls
+        },
+        starts,
+        End {
+            words: "--frames 1 M M.class",
+            status: 82,
+            reported: b"deep 1; steps 0, objects 3, frees 0, freed words 0, live words 6, \
+                peak words 6, cells made 3\n",
+            ..starts
+        },
+        lengths,
+        End {
+            words: "--words 12 M M.class",
+            status: 81,
+            printed: b"",
+            reported: b"exhausted 6 needs 7; steps 1, objects 3, frees 0, freed words 0, \
+                live words 6, peak words 6, cells made 3\n",
+            ..lengths
+        },
+    ]
+}
+
+// Whether the run ends so.
+fn ends_so(alloc: Global, end: End<'_>) -> Result<bool, NoMemory> {
+    let mut file = Vec::new(alloc);
+    file.extend_from_slice(end.file)?;
+    if let Some(byte) = file.get_mut(end.place) {
+        *byte = end.byte;
+    }
+    let mut files = SureFiles::new(alloc);
+    files.add("M.class", &file)?;
+    let mut out = SureSink::new(alloc);
+    let mut report = SureSink::new(alloc);
+    let words = split_words(alloc, end.words)?;
+    let status = fmrun_run(alloc, &words, &mut files, &mut out, &mut report);
+    Ok(status == end.status && out.bytes() == end.printed && report.bytes() == end.reported)
+}
+
+#[test]
+fn an_exit_has_its_own_status_or_86(rt: HostRuntime) -> Result<(), Fail> {
+    let alloc = rt.alloc();
+    let file = EXITS.bytes(alloc)?;
+    for end in exits(&file) {
+        assert!(rt; ends_so(alloc, end)?, "{}", end.byte);
+    }
+    Ok(())
+}
+
+#[test]
+fn what_is_thrown_is_caught_and_what_is_freed_is_held_or_the_run_ends(
+    rt: HostRuntime,
+) -> Result<(), Fail> {
+    let alloc = rt.alloc();
+    let catches = CATCHES.bytes(alloc)?;
+    let starts = STARTS.bytes(alloc)?;
+    let frees = FREES.bytes(alloc)?;
+    for end in throws(&catches, &starts, &frees) {
+        assert!(rt; ends_so(alloc, end)?, "{} {}", end.place, end.byte);
+    }
+    Ok(())
+}
+
+#[test]
+fn frames_and_words_of_a_step_suffice_or_lack_one(rt: HostRuntime) -> Result<(), Fail> {
+    let alloc = rt.alloc();
+    let calls = CALLS_ONCE.bytes(alloc)?;
+    let starts = STARTS.bytes(alloc)?;
+    let lengths = PRINTS_LENGTH.bytes(alloc)?;
+    for end in budgets(&calls, &starts, &lengths) {
+        assert!(rt; ends_so(alloc, end)?, "{} {}", end.words, end.place);
+    }
+    Ok(())
+}

@@ -1,0 +1,156 @@
+// Class files of which one byte decides how their run ends. Beside an entry of the pool stands its index,
+// and beside a piece of code its offset and what it does.
+
+use fm_samples::{CALLS_ITSELF, ClassSample, MAIN, MethodSample, PRINTS_SUM, RETURNS};
+
+// Main exits with the int after the opcode of `bipush`, which is the byte at this place.
+pub const EXIT_PLACE: usize = 159;
+
+pub const EXITS: ClassSample<'static> = ClassSample {
+    pool_count: b"\0\x0e",
+    more_pool: &[
+        b"\x01\0\x10java/lang/System", // 8
+        b"\x07\0\x08", // 9: Class 8
+        b"\x01\0\x04exit", // 10
+        b"\x01\0\x04(I)V", // 11
+        b"\x0c\0\x0a\0\x0b", // 12: NameAndType 10 11
+        b"\x0a\0\x09\0\x0c", // 13: Methodref 9 12
+    ],
+    methods: &[MethodSample {
+        attribute_length: b"\0\0\0\x12",
+        max_stack: b"\0\x01",
+        code_length: b"\0\0\0\x06",
+        code: &[
+            b"\x10\x4c\xb8\0\x0d", // 0: exit(76)
+            b"\xb1", // 5: return
+        ],
+        ..MAIN
+    }],
+    ..RETURNS
+};
+
+// Main divides 1 by 0, and what is thrown is caught where the protected range ends above the division, at 3:
+// the low byte of its end is at this place.
+pub const END_OF_RANGE: usize = 124;
+
+pub const CATCHES: ClassSample<'static> = ClassSample {
+    methods: &[MethodSample {
+        attribute_length: b"\0\0\0\x1b",
+        max_stack: b"\0\x02",
+        code_length: b"\0\0\0\x07",
+        code: &[
+            b"\x04\x03\x6c\x57", // 0: 1 / 0
+            b"\xb1", // 4: return
+            b"\x57\xb1", // 5: pop; return
+        ],
+        handlers: b"\0\x01\0\0\0\x03\0\x05\0\0", // from 0 to 3, whatever is thrown: 5
+        ..MAIN
+    }],
+    ..RETURNS
+};
+
+// The start of M divides 1 by the int that the instruction at this place pushes.
+pub const DIVISOR_OF_START: usize = 157;
+
+pub const STARTS: ClassSample<'static> = ClassSample {
+    pool_count: b"\0\x0a",
+    more_pool: &[
+        b"\x01\0\x08<clinit>", // 8
+        b"\x01\0\x03()V", // 9
+    ],
+    methods_count: b"\0\x02",
+    methods: &[
+        MAIN,
+        MethodSample {
+            flags: b"\0\x08",
+            name: b"\0\x08",
+            descriptor: b"\0\x09",
+            attribute_length: b"\0\0\0\x11",
+            max_stack: b"\0\x02",
+            max_locals: b"\0\0",
+            code_length: b"\0\0\0\x05",
+            code: &[
+                b"\x04\x03\x6c\x57", // 0: 1 / 0
+                b"\xb1", // 4: return
+            ],
+            ..MAIN
+        },
+    ],
+    ..RETURNS
+};
+
+// Main frees one object twice, or null and that object where the instruction at this place is
+// `aconst_null`.
+pub const DUP_OF_FREED: usize = 197;
+
+pub const FREES: ClassSample<'static> = ClassSample {
+    pool_count: b"\0\x12",
+    more_pool: &[
+        b"\x01\0\x06<init>", // 8
+        b"\x01\0\x03()V", // 9
+        b"\x0c\0\x08\0\x09", // 10: NameAndType 8 9
+        b"\x0a\0\x04\0\x0a", // 11: Methodref 4 10
+        b"\x01\0\x06FreeMe", // 12
+        b"\x07\0\x0c", // 13: Class 12
+        b"\x01\0\x04free", // 14
+        b"\x01\0\x15(Ljava/lang/Object;)V", // 15
+        b"\x0c\0\x0e\0\x0f", // 16: NameAndType 14 15
+        b"\x0a\0\x0d\0\x10", // 17: Methodref 13 16
+    ],
+    methods: &[MethodSample {
+        attribute_length: b"\0\0\0\x1b",
+        max_stack: b"\0\x02",
+        code_length: b"\0\0\0\x0f",
+        code: &[
+            b"\xbb\0\x04\x59\xb7\0\x0b", // 0: new Object()
+            b"\x59\xb8\0\x11", // 7: free it
+            b"\xb8\0\x11", // 11: free it again
+            b"\xb1", // 14: return
+        ],
+        ..MAIN
+    }],
+    ..RETURNS
+};
+
+// Main calls f()V, and that returns.
+pub const CALLS_ONCE: ClassSample<'static> = ClassSample {
+    methods: &[
+        // main
+        MethodSample {
+            attribute_length: b"\0\0\0\x10",
+            code_length: b"\0\0\0\x04",
+            code: &[
+                b"\xb8\0\x0b", // 0: f()
+                b"\xb1", // 3: return
+            ],
+            ..MAIN
+        },
+        // f()V
+        MethodSample {
+            name: b"\0\x08",
+            descriptor: b"\0\x09",
+            max_locals: b"\0\0",
+            ..MAIN
+        },
+    ],
+    ..CALLS_ITSELF
+};
+
+// Main makes an array of ints and prints its length, which is the byte at this place.
+pub const LENGTH_PLACE: usize = 227;
+
+pub const PRINTS_LENGTH: ClassSample<'static> = ClassSample {
+    methods: &[MethodSample {
+        attribute_length: b"\0\0\0\x1a",
+        max_stack: b"\0\x02",
+        max_locals: b"\0\x02",
+        code_length: b"\0\0\0\x0e",
+        code: &[
+            b"\x10\x0a\xbc\x0a\x4c", // 0: array = new int[10]
+            b"\xb2\0\x0d\x2b\xbe\xb6\0\x13", // 5: println(array.length)
+            b"\xb1", // 13: return
+        ],
+        ..MAIN
+    }],
+    ..PRINTS_SUM
+};
