@@ -6,6 +6,7 @@ use Rattle.std.proofs.lemmas.List.Elements.{All-contains, All-from_recursion}
 use Rattle.std.proofs.lemmas.Option.{slice_get-map}
 use Rattle.std.specs.Option.{option_map}
 use Rattle.fm_analysis.specs.Analysed.{IsAccepted}
+use Rattle.fm_again.specs.Again.{SafeClassesLink}
 use Rattle.fm_base.proofs.ListFacts.{AllByRecursion-weaker}
 use Rattle.fm_base.proofs.OptionFacts.{Some-from_some_and, IsSome-from_some}
 use Rattle.fm_base.proofs.TestFacts.{same_or_other}
@@ -19,6 +20,8 @@ use Rattle.fm_tool.specs.Outside.{HasNoFault, HasWriteFault}
 use Rattle.fm_tool.specs.declared.refusal.Refusal.TheVariants as refusal
 use Rattle.fm_untyped.specs.Untyped.{AreTyped}
 use Rattle.fm_refuse.specs.Refused.{refusal_of}
+use Rattle.fm_retyped.specs.Retyped.{SafeClassesAreTyped}
+use Rattle.fm_rewrite.proofs.JudgedLemmas.{judged_spelled}
 use Rattle.fm_rewrite.specs.Rewritten.{AreJudged, AreRewritten}
 use Rattle.fm_rewrite.specs.declared.counts.Count.{Count}
 use Rattle.fm_rewrite.specs.declared.error.RewriteFail.{RewriteFail}
@@ -27,6 +30,7 @@ use Rattle.fm_world.specs.Causes.{Refusal}
 use Rattle.fm_world.specs.Linking.{refusals, IsLinked}
 use Rattle.fm_world.specs.Programs.{Program, program_of}
 use Rattle.freeme.proofs.WrittenLemmas.{one_count_each, written_accepted, written_apart, written_spelled}
+use Rattle.freeme.proofs.TakenAgain.{again_taken}
 use Rattle.freeme.proofs.UnheldLemmas.{are_still}
 use Rattle.fm_written.specs.Names.{AreNew}
 use Rattle.fm_written.specs.Changed.{IsShort}
@@ -34,7 +38,7 @@ use Rattle.fm_given.specs.Given.{IsFirstUntypedName, IsUntouched, IsNotLinked, I
 use Rattle.fm_given.specs.Changes.{RisesOnlyAt, ChangesOnlyAt}
 use Rattle.freeme.specs.Request.{Job, given_of, job_of, main_name}
 use Rattle.fm_given.specs.Taking.{AreTaken, IsSpelled}
-use Rattle.freeme.specs.TopCall.{AreFreed, IsFirstCause, IsNotFreed, StaysWithin, IsDone, ComesTo, told_name}
+use Rattle.freeme.specs.TopCall.{AreFreed, AreTakenAgain, IsFirstCause, IsNotFreed, StaysWithin, IsDone, ComesTo, told_name}
 use Rattle.freeme.specs.Writing.{HasName, class_text, written_name, class_lines, IsClassFileIn, IsFileOf, AreWritten, AllWritten}
 use Rattle.fm_given.specs.Judging.{ComesOfProgram}
 use Rattle.fm_given.specs.Reading.{ReadsAll, AreRead}
@@ -305,14 +309,20 @@ module _ {request : Request} {names : List (Bor Bytes)} {classes : List ClassDef
         are_spelled_so made.classes.items
         (written_spelled classes (main_name (job_of request)) made judged (short_classes old.contents (job_of request).files classes reads.read.taken.taken) rewritten)
 
-    freed : AreFreed (job_of request) old.contents made
-    freed = record {
+    taken_again : SafeClassesLink → SafeClassesAreTyped → AreTakenAgain classes (main_name (job_of request)) made rewritten
+    taken_again link retype =
+        again_taken classes (main_name (job_of request)) made (judged_spelled classes (program_of classes (main_name (job_of request))) judged) judged.linked rewritten
+        link retype
+
+    freed : SafeClassesLink → SafeClassesAreTyped → AreFreed (job_of request) old.contents made
+    freed link retype = record {
       classes = classes;
       checked = checked;
       rewritten = rewritten;
       spelled = made_spelled;
       profile =
           written_accepted classes (main_name (job_of request)) made judged (have_profiles old.contents (job_of request).files classes reads.read.taken.taken) rewritten;
+      again = taken_again link retype;
     }
 
     -- and by slices of both
@@ -334,15 +344,15 @@ module _ {request : Request} {names : List (Bor Bytes)} {classes : List ClassDef
     pub ends_within : (r : Result Unit JobRefusal) → ComesOfClasses request.folder.now written between new r → StaysWithin (job_of request) old new
     ends_within r comes = writes_within (job_of request) old between new reads.all keeps (writes_in request.folder.now written between new r comes)
 
-  module _ {new : Disk} (keeps : KeepsReads between new) (checked : AreChecked (given_of (job_of request)) old.contents classes) (made : Rewritten) (rewritten : AreRewritten classes (main_name (job_of request)) made) {written : List ClassDef} (lent : written ≡ made.classes.items) where
+  module _ {new : Disk} (keeps : KeepsReads between new) (link : SafeClassesLink) (retype : SafeClassesAreTyped) (checked : AreChecked (given_of (job_of request)) old.contents classes) (made : Rewritten) (rewritten : AreRewritten classes (main_name (job_of request)) made) {written : List ClassDef} (lent : written ≡ made.classes.items) where
     pub ends_done : {counts : List Count} (lines : List ℕ) → counts ≡ made.counts.items → lines ≡ class_lines written counts → AllWritten request.folder.now written between new
         → IsDone (job_of request) lines old new
     ends_done lines told is now =
         let P : List ClassDef → Type 0 = λ cs. AllWritten request.folder.now cs between new in
-        is_done (job_of request) old between new reads.all keeps made reads.read.faultless (freed checked made rewritten) lines
+        is_done (job_of request) old between new reads.all keeps made reads.read.faultless (freed checked made rewritten link retype) lines
         (is ∙ ap (class_lines written) told ∙ ap (λ (cs : List ClassDef). class_lines cs made.counts.items) lent) (subst P lent now)
 
     pub ends_unwritten : (r : JobRefusal) → ComesOfClasses request.folder.now written between new (Err r) → ComesTo (job_of request) old new (Err (free_refusal.Job r))
     ends_unwritten r now =
         let P : List ClassDef → Type 0 = λ cs. ComesOfClasses request.folder.now cs between new (Err r) in
-        write_ended (job_of request) old between new reads.all keeps made reads.read.faultless (freed checked made rewritten) r (subst P lent now)
+        write_ended (job_of request) old between new reads.all keeps made reads.read.faultless (freed checked made rewritten link retype) r (subst P lent now)

@@ -7,3 +7,4 @@ pub mod UnheldLemmas
 pub mod WovenFew
 pub mod WriteLemmas
 pub mod WrittenLemmas
+pub mod TakenAgain

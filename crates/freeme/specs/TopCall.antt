@@ -6,7 +6,9 @@ use Rattle.fm_files.specs.Files.{Bytes, Contents, Disk}
 use Rattle.fm_files.specs.Sink.{Output}
 use Rattle.fm_code.specs.Profile.{Profile}
 use Rattle.fm_code.specs.declared.class_file.ClassDef.{ClassDef}
+use Rattle.fm_place.specs.Safe.{full_plans}
 use Rattle.fm_refuse.specs.Refused.{refusal_of}
+use Rattle.fm_retyped.specs.Retyped.{NoneUnready}
 use Rattle.fm_rewrite.specs.Rewritten.{AreRewritten, ComesOfRewriting}
 use Rattle.fm_rewrite.specs.declared.counts.Count.{Count}
 use Rattle.fm_rewrite.specs.declared.error.RewriteFail.{RewriteFail}
@@ -15,8 +17,10 @@ use Rattle.fm_rewrite.specs.declared.rewriting.Rewritten.{Rewritten}
 use Rattle.fm_tool.specs.Line.{Tells}
 use Rattle.fm_tool.specs.declared.refusal.Refusal.TheVariants as refusal
 use Rattle.fm_tool.specs.declared.status.TheConstants.{DONE}
+use Rattle.fm_untyped.specs.Untyped.{AreTyped}
 use Rattle.fm_world.specs.Causes.{declared_name, method_text}
-use Rattle.fm_world.specs.Programs.{class_info, Outline}
+use Rattle.fm_world.specs.Linking.{refusals}
+use Rattle.fm_world.specs.Programs.{class_info, Outline, program_of}
 use Rattle.fm_given.specs.Given.{given_program, IsUntouched, AreMany, IsUnread, IsLong, IsRefusedFile, IsNotLinked, IsNotTyped, AreChecked}
 use Rattle.fm_given.specs.Taking.{IsSpelled}
 use Rattle.fm_given.specs.Changes.{RisesOnlyAt, ChangesOnlyAt, ReadsOnly}
@@ -37,14 +41,23 @@ pub record StaysWithin (job : Job) (old new : Disk) : Type 0 where
 
 -- ---- how a job comes out
 
+-- The classes that are written are taken again: they link, and their methods that have code are typed where no local holds an object that isn't initialised
+-- while the constructor of an object that is held is called.
+pub record AreTakenAgain (given : List ClassDef) (main : List ℕ) (made : Rewritten) (are : AreRewritten given main made) : Type 0 where
+  pub links : refusals made.classes.items main ≡ []
+  pub typed : NoneUnready (program_of given main) are.full.facts (full_plans (program_of given main) are.full.facts)
+      → AreTyped (program_of made.classes.items main)
+
 -- Its class files make a program of typed methods that calls no FreeMe, and these are its classes with a holder for each held site that is freed at all
--- places of its class, with what is told of each; no pool of them is full, and no method too long. The bytes of each class spell it, and it is of the profile.
+-- places of its class, with what is told of each; no pool of them is full, and no method too long. The bytes of each class spell it, it is of the profile, and
+-- all of them are taken again.
 pub record AreFreed (job : Job) (contents : Contents) (made : Rewritten) : Type 0 where
   pub classes : List ClassDef
   pub checked : AreChecked (given_of job) contents classes
   pub rewritten : AreRewritten classes (main_name job) made
   pub spelled : AllByRecursion IsSpelled made.classes.items
   pub profile : AllByRecursion Profile made.classes.items
+  pub again : AreTakenAgain classes (main_name job) made rewritten
 
 -- where contents are known, the name holds now what the file held before
 abbrev pub HoldsStill : (file name : Bytes) → (old new : Contents) → Type 0
