@@ -145,6 +145,45 @@ def shared_names():
     return files
 
 
+def declared_again():
+    """A class with 30 methods, 1,500 abstract classes below it that declare them again, and a class below each that has them."""
+    names = [b"m%d" % place for place in range(30)]
+    lowest = File(b"M")
+    lowest.main()
+    upper = File(b"U")
+    files = [lowest, upper]
+    for name in names:
+        upper.method(PUBLIC, name)
+    for place in range(1_500):
+        again = File(b"A%d" % place, b"U", flags=CLASS | 0x0400)
+        full = File(b"C%d" % place, again.name)
+        for name in names:
+            again.method(ABSTRACT, name)
+            full.method(PUBLIC, name)
+        files += [again, full]
+    return files
+
+
+def asked_of_each():
+    """1,000 interfaces of the same 60 methods, one that extends all of them, and 1,000 classes that list it and name each method."""
+    names = [b"m%d" % place for place in range(60)]
+    lowest = File(b"M")
+    lowest.main()
+    others = [b"I%d" % place for place in range(1_000)]
+    files = [lowest, File(b"R", interfaces=others, flags=INTERFACE)]
+    for other in others:
+        interface = File(other, flags=INTERFACE)
+        for name in names:
+            interface.method(ABSTRACT, name)
+        files.append(interface)
+    for place in range(1_000):
+        file = File(b"C%d" % place, interfaces=[b"R"], flags=CLASS | 0x0400)
+        for name in names:
+            file.pool.method(file.this_class, file.pool.pair(file.pool.text(name), file.nothing))
+        files.append(file)
+    return files
+
+
 def long_texts():
     """16 MB: a class and its superclass, each with 65,000 texts that differ in their last characters alone."""
     upper = File(b"C")
@@ -164,6 +203,8 @@ PROGRAMS = [
     left_over,
     late_interfaces,
     shared_names,
+    declared_again,
+    asked_of_each,
     long_texts,
 ]
 
