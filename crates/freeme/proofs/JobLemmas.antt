@@ -311,7 +311,7 @@ module _ {request : Request} {names : List (Bor Bytes)} {classes : List ClassDef
 
     taken_again : SafeClassesLink → SafeClassesAreTyped → AreTakenAgain classes (main_name (job_of request)) made rewritten
     taken_again link retype =
-        again_taken classes (main_name (job_of request)) made (judged_spelled classes (program_of classes (main_name (job_of request))) judged) judged.linked rewritten
+        again_taken classes (main_name (job_of request)) made (judged_spelled classes (program_of classes (main_name (job_of request))) judged) checked.linked.linked rewritten
         link retype
 
     freed : SafeClassesLink → SafeClassesAreTyped → AreFreed (job_of request) old.contents made

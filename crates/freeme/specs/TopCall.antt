@@ -6,7 +6,7 @@ use Rattle.fm_files.specs.Files.{Bytes, Contents, Disk}
 use Rattle.fm_files.specs.Sink.{Output}
 use Rattle.fm_code.specs.Profile.{Profile}
 use Rattle.fm_code.specs.declared.class_file.ClassDef.{ClassDef}
-use Rattle.fm_place.specs.Safe.{full_plans}
+use Rattle.fm_place.specs.Safe.{Safe}
 use Rattle.fm_refuse.specs.Refused.{refusal_of}
 use Rattle.fm_retyped.specs.Retyped.{NoneUnready}
 use Rattle.fm_rewrite.specs.Rewritten.{AreRewritten, ComesOfRewriting}
@@ -41,11 +41,11 @@ pub record StaysWithin (job : Job) (old new : Disk) : Type 0 where
 
 -- ---- how a job comes out
 
--- The classes that are written are taken again: they link, and their methods that have code are typed where no local holds an object that isn't initialised
--- while the constructor of an object that is held is called.
+-- The classes that are written are taken again: they link, and their methods that have code are typed where, by the facts and plans by which they are safe,
+-- no local holds an object that isn't initialised while the constructor of an object that is held is called.
 pub record AreTakenAgain (given : List ClassDef) (main : List ℕ) (made : Rewritten) (are : AreRewritten given main made) : Type 0 where
   pub links : refusals made.classes.items main ≡ []
-  pub typed : NoneUnready (program_of given main) are.full.facts (full_plans (program_of given main) are.full.facts)
+  pub typed : (safe : Safe given main made.classes.items are.marks) → NoneUnready (program_of given main) safe.facts safe.plans
       → AreTyped (program_of made.classes.items main)
 
 -- Its class files make a program of typed methods that calls no FreeMe, and these are its classes with a holder for each held site that is freed at all
