@@ -3,7 +3,7 @@
 // The locals of a frame come first, and then its operand stack, whose last value is its top. A call takes
 // the arguments off the stack of its caller by letting the callee's locals begin with them.
 
-ghost use Rattle.std.specs.Prelude.{◌≡◌, ◌<◌, ◌^◌, ◌+◌, ◌++◌, ◌-◌, [], ◌∷◌, length, drop, take, reverse, replicate, slice_get, slice_set, option_to_list, ◌≤◌, IfOk, OnOk};
+ghost use Rattle.std.specs.Prelude.{◌≡◌, ◌<◌, ◌^◌, ◌+◌, ◌++◌, ◌-◌, [], ◌∷◌, true, false, length, drop, take, reverse, replicate, slice_get, slice_set, option_to_list, ◌≤◌, IfOk, OnOk};
 ghost use Rattle.std.specs.Option.{option_map};
 ghost use Rattle.fm_frames.specs.States.{word_at};
 ghost use Rattle.fm_frames.specs.declared.values.Value.TheVariants.{Top as NoValue};
@@ -187,6 +187,40 @@ impl Frames {
             self.used += 1;
         }
         Ok(())
+    }
+
+    /// Puts a word on top of the stack, if there is room for it; tells whether there was. Takes no memory.
+    #[inline(always)]
+    pub fn push_in_room(&mut self, value: Value) -> bool
+        ensures put { result ≡ true
+            → self.new ≡ on_top (λ f. record f { stack = value ∷ f.stack }) self.old }
+        ensures same { result ≡ false → self.new ≡ self.old }
+    {
+        if self.used < self.values.len() {
+            self.values[self.used] = value;
+            self.used += 1;
+            true
+        } else {
+            false
+        }
+    }
+
+    /// Puts a word in place of so many words of the stack, one at least, if they are there; tells whether
+    /// they were. Takes no memory.
+    #[inline(always)]
+    pub fn put_over(&mut self, takes: usize, value: Value) -> bool
+        requires some { 0 < takes }
+        ensures put { result ≡ true
+            → self.new ≡ on_top (λ f. record f { stack = value ∷ drop takes f.stack }) self.old }
+        ensures same { result ≡ false → self.new ≡ self.old }
+    {
+        if takes > self.used - self.topmost.stack {
+            return false;
+        }
+        let place = self.used - takes;
+        self.values[place] = value;
+        self.used = place + 1;
+        true
     }
 
     /// Takes words off the stack.
