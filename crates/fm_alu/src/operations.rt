@@ -25,6 +25,7 @@ macro_rules! operated {
 /// The result of an operation on two ints: iadd, isub, imul, idiv, irem, iand, ior and ixor
 /// (JVMS 6.5). `None` comes for a division by 0 alone. The negation ineg is the difference of 0 and
 /// the number.
+#[inline(always)]
 pub fn int_op(op: Op, a: i32, b: i32) -> Option<i32>
     ensures value { result ≡ result_of_op op 32 a b }
     ensures law { IfSome result (Satisfies op 32 a b) }
@@ -36,6 +37,7 @@ pub fn int_op(op: Op, a: i32, b: i32) -> Option<i32>
 /// The result of an operation on two longs: ladd, lsub, lmul, ldiv, lrem, land, lor and lxor
 /// (JVMS 6.5). `None` comes for a division by 0 alone. The negation lneg is the difference of 0 and
 /// the number.
+#[inline(always)]
 pub fn long_op(op: Op, a: i64, b: i64) -> Option<i64>
     ensures value { result ≡ result_of_op op 64 a b }
     ensures law { IfSome result (Satisfies op 64 a b) }

@@ -18,6 +18,7 @@ macro_rules! shifted {
 }
 
 /// A shift of an int: ishl, ishr and iushr (JVMS 6.5). The low 5 bits of `n` say by how many bits.
+#[inline(always)]
 pub fn int_shift(s: Shift, a: i32, n: i32) -> i32
     ensures value { result ≡ result_of_shift s 32 a (low_bits 5 n) }
     ensures floor { s ≡ Shift.Right → IsFloor a (2 ^ low_bits 5 n) result }
@@ -27,6 +28,7 @@ pub fn int_shift(s: Shift, a: i32, n: i32) -> i32
 }
 
 /// A shift of a long: lshl, lshr and lushr (JVMS 6.5). The low 6 bits of `n` say by how many bits.
+#[inline(always)]
 pub fn long_shift(s: Shift, a: i64, n: i32) -> i64
     ensures value { result ≡ result_of_shift s 64 a (low_bits 6 n) }
     ensures floor { s ≡ Shift.Right → IsFloor a (2 ^ low_bits 6 n) result }
