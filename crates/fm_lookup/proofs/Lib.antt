@@ -10,4 +10,4 @@ pub mod SectionRows
 pub mod SignatureLemmas
 pub mod SignatureSteps
 pub mod StaticLemmas
-pub mod AlikeLemmas
+pub mod OwnerLemmas

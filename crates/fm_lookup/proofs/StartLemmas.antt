@@ -1,7 +1,6 @@
 -- From which place on members are looked for: no class before it declares one.
 use Rattle.std.proofs.Common.{◌≡◌, refl, sym, ◌∙◌, ap, subst, ℕ, zero, suc, ◌+◌, ◌<◌, ◌≤◌, ◌&&◌, Bool, true, false, cond, List, [], ◌∷◌, length, drop, get_or, set, replicate, nat_eq, Option, None, Some, unwrap_or, arith, ◌⊎◌, inl, inr, get_or-set_other}
-use Rattle.std.proofs.lemmas.Bool.{cases_eq, cases_lt, eqb-true}
-use Rattle.std.proofs.lemmas.List.{get_or-replicate}
+use Rattle.std.proofs.lemmas.Bool.{cases_eq, eqb-true}
 use Rattle.std.specs.BTreeMap.{is_at}
 use Rattle.std.specs.Map.{lookup}
 use Rattle.std.specs.Ordering.{nat_cmp, ordering_then}
@@ -11,20 +10,18 @@ use Rattle.fm_world.specs.declared.declarations.DeclaredClass.{DeclaredClass}
 use Rattle.fm_above.proofs.ParentTables.{list_in-row}
 use Rattle.fm_lookup.proofs.FoundLemmas.{first_found-same, row_of_own}
 use Rattle.fm_lookup.proofs.NearestLemmas.{first_found-cons}
-use Rattle.fm_lookup.proofs.SignatureLemmas.{and_left, and_right, count_of_signatures}
+use Rattle.fm_lookup.proofs.SignatureLemmas.{and_left, and_right}
 use Rattle.fm_above.specs.declared.hierarchy.Hierarchy.{Hierarchy}
 use Rattle.fm_lookup.specs.declared.members.MemberRow.{MemberRow}
 use Rattle.fm_lookup.specs.declared.members.Nearest.{Nearest}
 use Rattle.fm_lookup.specs.declared.starts.Along.TheVariants as along
-use Rattle.fm_lookup.specs.declared.starts.Finding.{Finding}
 use Rattle.fm_lookup.specs.declared.starts.Starts.{Starts}
-use Rattle.fm_lookup.specs.inner.AlikeMembers.{IsAlike}
 use Rattle.fm_lookup.specs.inner.FoundMembers.{first_along}
 use Rattle.fm_above.specs.inner.Hierarchy.{distinct_path, IsHierarchy}
 use Rattle.fm_above.specs.inner.ListTables.{list_in}
 use Rattle.fm_lookup.specs.inner.MemberTables.{number_of_key, own_by, own_in, searched_interfaces, start_in, AreStarts, AreStartsOf, IsStart}
 use Rattle.fm_lookup.specs.inner.NearestSteps.{or_else}
-use Rattle.fm_lookup.specs.inner.Starts.{list_along, place_in, ArePlaces, IsFinding}
+use Rattle.fm_lookup.specs.inner.Starts.{list_along, place_in, ArePlaces}
 
 -- ---- what is found from a place on
 
@@ -126,82 +123,6 @@ placed_one list places new left is so_far i from within = by_class (cases_eq (ge
         by_place : (left ≡ i) ⊎ (left ≡ i → ⊥) → left + 1 ≤ i
         by_place (inl same) = absurd (other (ap (λ j. get_or list j 0) (sym same)))
         by_place (inr differs) = omega (arith, from, differs)
-
--- ---- the members of a signature
-
--- the classes of the members before one have no place before the first one
-abbrev pub ArePassed : Finding → List ℕ → ℕ → ℕ → ℕ → Type 0
-ArePassed f places signature member first =
-    (k : ℕ) → k < member → k < length f.members.now.rows.items → get_or f.signatures.now.of_members.items k 0 ≡ signature
-    → first ≤ place_in f.members.now.rows.items places k
-
-signatures_long : (f : Finding) → IsFinding f → length f.signatures.now.of_members.items ≡ length f.members.now.rows.items
-signatures_long f is = count_of_signatures f.members.now.rows.items f.signatures.now is.signatures
-
-alike_at : (f : Finding) → IsFinding f → (k : ℕ) → k < length f.members.now.rows.items
-    → IsAlike f.signatures.now.of_members.items (replicate (length f.signatures.now.of_members.items) true)
-    (get_or f.signatures.now.of_members.items k 0) k
-alike_at f is k below =
-    let within : k < length f.signatures.now.of_members.items = omega (arith, below, signatures_long f is) in
-    record { within = within; is_marked = get_or-replicate (length f.signatures.now.of_members.items) k true false within; signed = refl }
-
-pub first_signed : (f : Finding) → IsFinding f → (signature member : ℕ) → member ≡ get_or f.alike.now.first.items signature 0
-    → signature < length f.members.now.rows.items → member < length f.members.now.rows.items
-    → get_or f.signatures.now.of_members.items member 0 ≡ signature
-first_signed f is signature member here below within =
-    let long = signatures_long f is in
-    ap (λ m. get_or f.signatures.now.of_members.items m 0) here
-    ∙ is.alike.first_signed signature (omega (arith, below, long)) (omega (arith, within, here, long))
-
-pub none_passed : (f : Finding) → IsFinding f → (places : List ℕ) (signature member first : ℕ)
-    → member ≡ get_or f.alike.now.first.items signature 0 → ArePassed f places signature member first
-none_passed f is places signature member first here k before below signed =
-    absurd (omega (
-      arith,
-      before,
-      here,
-      is.alike.first signature k (omega arith)
-          (subst (λ s. IsAlike f.signatures.now.of_members.items (replicate (length f.signatures.now.of_members.items) true) s k) signed
-          (alike_at f is k below)),
-    ))
-
-pub next_signed : (f : Finding) → IsFinding f → (signature member next : ℕ) → next ≡ get_or f.alike.now.next.items member 0
-    → member < length f.members.now.rows.items → next < length f.members.now.rows.items
-    → get_or f.signatures.now.of_members.items member 0 ≡ signature → get_or f.signatures.now.of_members.items next 0 ≡ signature
-next_signed f is signature member next here within next_within signed =
-    let long = signatures_long f is in
-    ap (λ m. get_or f.signatures.now.of_members.items m 0) here
-    ∙ is.alike.next_signed member (omega arith) (omega (arith, within, long)) (omega (arith, next_within, here, long)) ∙ signed
-
-pub one_passed : (f : Finding) → IsFinding f → (places : List ℕ) (signature member next first lower : ℕ)
-    → next ≡ get_or f.alike.now.next.items member 0 → member < length f.members.now.rows.items
-    → get_or f.signatures.now.of_members.items member 0 ≡ signature → lower ≤ first → lower ≤ place_in f.members.now.rows.items places member
-    → ArePassed f places signature member first → ArePassed f places signature next lower
-one_passed f is places signature member next first lower here within signed not_more low passed k before below k_signed =
-    by_before (cases_lt k member) where
-      later : k < next → member < k → ⊥
-      later h after =
-          omega (
-            arith,
-            h,
-            here,
-            is.alike.next member k (omega arith) after
-                (subst (λ s. IsAlike f.signatures.now.of_members.items (replicate (length f.signatures.now.of_members.items) true) s k)
-                (k_signed ∙ sym signed) (alike_at f is k below)),
-          )
-
-      by_same : (k ≡ member) ⊎ (k ≡ member → ⊥) → member ≤ k → lower ≤ place_in f.members.now.rows.items places k
-      by_same (inl same) h = omega (arith, low, ap (place_in f.members.now.rows.items places) same)
-      by_same (inr differs) h = absurd (later before (omega (arith, h, differs)))
-
-      by_before : (k < member) ⊎ (member ≤ k) → lower ≤ place_in f.members.now.rows.items places k
-      by_before (inl h) = omega (arith, not_more, passed k h below k_signed)
-      by_before (inr h) = by_same (cases_eq k member) h
-
-pub next_later : (f : Finding) → IsFinding f → (member next : ℕ) → next ≡ get_or f.alike.now.next.items member 0
-    → member < length f.members.now.rows.items → member < next
-next_later f is member next here within =
-    omega (arith, here, is.alike.later member (omega arith) (omega (arith, within, signatures_long f is)))
 
 -- ---- the lists are those of the classes
 

@@ -4,5 +4,5 @@ pub mod MemberTables
 pub mod NearestSteps
 pub mod FoundMembers
 pub mod MemberSteps
-pub mod AlikeMembers
+pub mod Owners
 pub mod Starts

@@ -2,6 +2,7 @@
 
 use crate::marks::is_marked;
 use crate::members::Signatures;
+use crate::owners::push_at;
 use fm_above::empty_lists;
 use fm_base::NoMemory;
 use fm_declare::{GivenFile, at};
@@ -58,18 +59,9 @@ pub(crate) fn asked_of_classes(
     for member in asked {
         if let Some(signature) = signatures.number(member.name, member.descriptor) {
             if is_marked(marks, signature) {
-                add_number(&mut of_classes, member.class, signature)?;
+                push_at(&mut of_classes, member.class, signature)?;
             }
         }
     }
     Ok(of_classes)
-}
-
-// Puts a number at the end of the list at a place; past the end there is none.
-fn add_number(lists: &mut Vec<Vec<u32>>, place: u32, number: u32) -> Result<(), NoMemory> {
-    let place = place as usize;
-    if place < lists.len() {
-        lists[place].push(number)?;
-    }
-    Ok(())
 }

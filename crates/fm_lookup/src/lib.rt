@@ -2,18 +2,18 @@
 // definitions of `fm_world` look up by name (JVMS 5.4.3, 5.4.5).
 #![tactic(auto)]
 
-mod alike;
 mod asked;
 mod lookups;
 mod marks;
 mod member_rows;
 mod members;
+mod owners;
 mod starts;
 
-pub use alike::Alike;
 pub use asked::{Asked, asked_members};
 pub use lookups::{Fields, Methods};
 pub use marks::{is_marked, mark, mark_all};
 pub use member_rows::{fields_of, methods_of};
 pub use members::{MemberRow, Members, row_at};
+pub use owners::push_at;
 pub use starts::{Along, Starts, list_along};

@@ -8,9 +8,9 @@ ghost use Rattle.std.specs.Prelude.{◌≡◌, ◌<◌, ◌≤◌, ℕ, IfOk, Li
 ghost use Rattle.fm_lookup.specs.inner.MemberTables.{start_in, AreSignatures, AreStarts};
 ghost use Rattle.fm_lookup.specs.inner.Starts.{interfaces_along, list_along, place_in, ArePlaces, IsFinding};
 
-use crate::alike::Alike;
 use crate::asked::{Asked, asked_of_classes};
-use crate::members::{Members, Signatures, add_signature, row_at};
+use crate::members::{Members, Signatures, add_signature};
+use crate::owners::owners_of;
 use fm_above::{Hierarchy, is_interface_at, list_at, number_at, put_number};
 use fm_base::NoMemory;
 use fm_declare::number_of;
@@ -54,12 +54,12 @@ pub struct Starts {
     places: BTreeMap<(u32, u32), u32>,
 }
 
-// By what places are found: the members, their signatures, and which are of one signature.
+// By what places are found: the members, their signatures, and for each of these the classes of its members.
 #[derive(Clone, Copy)]
 struct Finding<'w> {
     members: &'w Members,
     signatures: &'w Signatures,
-    alike: &'w Alike,
+    owners: &'w [Vec<u32>],
 }
 
 impl Starts {
@@ -77,12 +77,11 @@ impl Starts {
         ensures { IfOk result (AreStarts (list_along hierarchy.now along) members.now.rows.items
             signatures.now.of_members.items) }
     {
-        let all = vec![in alloc; true; signatures.of_members.len()]?;
-        let alike = Alike::of(alloc, signatures.of_members.as_slice(), all.as_slice())?;
+        let owners = owners_of(alloc, members, signatures)?;
         let finding = Finding {
             members,
             signatures,
-            alike: &alike,
+            owners: owners.as_slice(),
         };
         let count = hierarchy.classes.len();
         let of_classes = asked_of_classes(alloc, count, signatures, marks, asked)?;
@@ -199,21 +198,9 @@ fn first_place(finding: Finding, places: &[u32], signature: u32, end: u32) -> u3
         → result ≤ place_in finding.entry.members.now.rows.items places.now k }
 {
     let mut first = end;
-    let mut member = finding.alike.first(signature);
-    for _ in 0..finding.signatures.count {
-        if member >= finding.signatures.count {
-            return first;
-        }
-        first = first.min(place_of(finding, places, member));
-        member = finding.alike.next(member);
+    let owners = list_at(finding.owners, signature);
+    for class in owners {
+        first = first.min(number_at(places, *class));
     }
     first
-}
-
-// The place of a member's class.
-fn place_of(finding: Finding, places: &[u32], member: u32) -> u32
-    ensures { result ≡ place_in finding.entry.members.now.rows.items places.now member }
-{
-    let row = row_at(finding.members.rows.as_slice(), member);
-    number_at(places, row.class)
 }

@@ -7,8 +7,9 @@ use Rattle.std.specs.List.{count_by}
 use Rattle.fm_above.specs.inner.ListTables.{list_in, lists}
 use Rattle.fm_lookup.specs.declared.lookups.Methods.{Methods}
 use Rattle.fm_lookup.specs.inner.MemberRows.{AreSections}
+use Rattle.fm_lookup.specs.inner.Owners.{pushed}
 use Rattle.fm_world.specs.declared.declarations.DeclaredClass.{DeclaredClass}
-use Rattle.fm_refuse.specs.inner.LeftOver.{can_be_met, changed, counted, counted_of, is_one, pushed, with_signature, AreOwners, HasCounts}
+use Rattle.fm_refuse.specs.inner.LeftOver.{can_be_met, changed, counted, counted_of, is_one, with_signature, AreOwners, HasCounts}
 use Rattle.fm_refuse.proofs.AbstractCounts.{and_false, class_of, counted-more, counted-same, counted-zero, end_of, lt_step, start_of}
 use Rattle.fm_refuse.proofs.CountLoops.{none_at}
 

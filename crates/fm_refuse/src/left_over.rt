@@ -8,7 +8,8 @@ ghost use Rattle.std.specs.Prelude.{◌≡◌, ◌<◌, ◌≤◌, ◌+◌, ℕ,
 ghost use Rattle.std.specs.List.{slice_index_or};
 ghost use Rattle.fm_lookup.specs.inner.MemberRows.{no_row};
 ghost use Rattle.fm_above.specs.inner.ListTables.{lists};
-ghost use Rattle.fm_refuse.specs.inner.LeftOver.{can_be_met, changed, is_open, is_part_owed, is_owed, is_taken, pushed, selected_at, with_signature, AreOwners, HasCounts, IsCounting, IsLeftOver, NoneLeft};
+ghost use Rattle.fm_lookup.specs.inner.Owners.{pushed};
+ghost use Rattle.fm_refuse.specs.inner.LeftOver.{can_be_met, changed, is_open, is_part_owed, is_owed, is_taken, selected_at, with_signature, AreOwners, HasCounts, IsCounting, IsLeftOver, NoneLeft};
 ghost use Rattle.fm_refuse.specs.inner.Linking.{IsLinking};
 ghost use Rattle.fm_world.specs.Chains.{is_among};
 ghost use Rattle.fm_world.specs.declared.declarations.DeclaredClass.{DeclaredClass};
@@ -19,7 +20,7 @@ use fm_above::{empty_lists, list_at, put_list};
 use fm_base::NoMemory;
 use fm_code::{ACC_ABSTRACT, ACC_PRIVATE, has_flag};
 use fm_declare::{at, number_of};
-use fm_lookup::{is_marked, mark, row_at};
+use fm_lookup::{is_marked, mark, push_at, row_at};
 use std::alloc::Global;
 
 /// For each class how many abstract methods of each class are left over in it.
@@ -201,18 +202,6 @@ fn push_if(test: bool, table: &mut Vec<Vec<u32>>, place: u32, number: u32) -> Re
         return Ok(());
     }
     push_at(table, place, number)
-}
-
-// Puts a number at the end of the list at a place; past the end there is none.
-fn push_at(table: &mut Vec<Vec<u32>>, place: u32, number: u32) -> Result<(), NoMemory>
-    ensures { OnOk result (lists table.new.items
-        ≡ pushed (lists table.old.items) place number) }
-{
-    let place = place as usize;
-    if place < table.len() {
-        table[place].push(number)?;
-    }
-    Ok(())
 }
 
 // Whether a method is abstract and isn't private.

@@ -1,5 +1,5 @@
 -- How the places are found from which on members are looked for.
-use Rattle.std.specs.Prelude.{ℕ, ◌<◌, ◌≤◌, true, List, length, replicate, slice_index, if◌then◌else◌}
+use Rattle.std.specs.Prelude.{ℕ, ◌<◌, ◌≤◌, List, length, slice_index, if◌then◌else◌}
 use Rattle.std.specs.List.{slice_index_or}
 use Rattle.fm_world.specs.Lookups.{is_interface_at}
 use Rattle.fm_above.specs.declared.hierarchy.Hierarchy.{Hierarchy}
@@ -7,10 +7,10 @@ use Rattle.fm_lookup.specs.declared.members.MemberRow.{MemberRow}
 use Rattle.fm_lookup.specs.declared.starts.Along.{Along}
 use Rattle.fm_lookup.specs.declared.starts.Along.TheVariants as along
 use Rattle.fm_lookup.specs.declared.starts.Finding.{Finding}
-use Rattle.fm_lookup.specs.inner.AlikeMembers.{AreAlike}
 use Rattle.fm_above.specs.inner.ListTables.{list_in}
 use Rattle.fm_lookup.specs.inner.MemberRows.{no_row}
 use Rattle.fm_lookup.specs.inner.MemberTables.{AreSignatures}
+use Rattle.fm_lookup.specs.inner.Owners.{HaveOwners}
 
 -- the superinterfaces where a method of a class is looked for; of an interface those by its own list
 abbrev pub interfaces_along : Hierarchy → ℕ → List ℕ
@@ -29,7 +29,7 @@ ArePlaces list places = (i : ℕ) → i < length list → slice_index places (sl
 abbrev pub place_in : List MemberRow → List ℕ → ℕ → ℕ
 place_in rows places member = slice_index places (slice_index_or rows member no_row).class
 
--- the signatures are those of the members, and all members of one signature are linked
+-- the signatures are those of the members, and the class of each member is in the list of its signature
 pub record IsFinding (f : Finding) : Type 0 where
   pub signatures : AreSignatures f.members.now.rows.items f.signatures.now
-  pub alike : AreAlike f.signatures.now.of_members.items (replicate (length f.signatures.now.of_members.items) true) f.alike.now
+  pub owners : HaveOwners f.members.now.rows.items f.signatures.now.of_members.items (length f.members.now.rows.items) f.owners.now

@@ -1,7 +1,7 @@
 -- How many abstract methods are left over in a class, by the class that declares them.
-use Rattle.std.specs.Prelude.{◌≡◌, ℕ, zero, suc, ◌+◌, ◌-◌, ◌<◌, ◌≤◌, ◌&&◌, ◌||◌, not, Bool, true, false, List, [], ◌∷◌, ◌++◌, length, nat_eq, nat_lt, Option, Some, None, slice_index, slice_set, if◌then◌else◌}
+use Rattle.std.specs.Prelude.{◌≡◌, ℕ, zero, suc, ◌+◌, ◌-◌, ◌<◌, ◌≤◌, ◌&&◌, ◌||◌, not, Bool, true, false, List, ◌++◌, length, nat_eq, nat_lt, Option, Some, None, slice_index, if◌then◌else◌}
 use Rattle.std.specs.Global.{Vec}
-use Rattle.std.specs.List.{count_by, slice_index_or}
+use Rattle.std.specs.List.{count_by}
 use Rattle.fm_code.specs.AccessFlags.{is_private}
 use Rattle.fm_lookup.specs.declared.lookups.Methods.{Methods}
 use Rattle.fm_above.specs.inner.ListTables.{list_in}
@@ -95,10 +95,6 @@ IsLeftOver classes m found =
     (list_in found.rows.items class)
 
 -- ---- by what methods are counted
-
--- a number more at the end of the list at a place
-abbrev pub pushed : List (List ℕ) → ℕ → ℕ → List (List ℕ)
-pushed table place number = slice_set table place (slice_index_or table place [] ++ number ∷ [])
 
 -- the list of each signature has each class as often as the class has abstract methods of it below a number
 abbrev pub AreOwners : List DeclaredClass → Methods → ℕ → List (Vec ℕ) → Type 0

@@ -5,7 +5,7 @@ use Rattle.fm_declare.specs.inner.Numbering.{texts_in}
 use Rattle.fm_lookup.proofs.SectionRows.{AreSections-methods}
 use Rattle.fm_refuse.proofs.LeftOverCounts.{signed_below}
 use Rattle.fm_refuse.proofs.Owners.{length-pushed, owners-all, owners-more, owners-none}
-use Rattle.fm_refuse.specs.inner.LeftOver.{pushed}
+use Rattle.fm_lookup.specs.inner.Owners.{pushed}
 use Rattle.fm_refuse.proofs.left_over.owners_of.Goals as goal
 
 pub loop-method-init : goal.loop-method-init

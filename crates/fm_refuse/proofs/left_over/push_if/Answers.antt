@@ -1,7 +1,7 @@
 use Rattle.std.proofs.Common.{◌∙◌, sym, ap, cond}
 use Rattle.fm_above.specs.inner.ListTables.{lists}
 use Rattle.fm_refuse.proofs.FirstRefusals.{on_ok_then}
-use Rattle.fm_refuse.specs.inner.LeftOver.{pushed}
+use Rattle.fm_lookup.specs.inner.Owners.{pushed}
 use Rattle.fm_refuse.proofs.left_over.push_if.Goals as goal
 
 pub returns-then-not-test : goal.returns-then-not-test

@@ -2,7 +2,7 @@ use Rattle.std.proofs.Common.{◌∙◌, sym, ap, arith, set, List, [], ◌∷�
 use Rattle.std.proofs.lemmas.List.{get_or-map, map-set}
 use Rattle.std.specs.Global.{Vec}
 use Rattle.fm_above.specs.inner.ListTables.{lists}
-use Rattle.fm_refuse.proofs.left_over.push_at.Goals as goal
+use Rattle.fm_lookup.proofs.owners.push_at.Goals as goal
 
 pub returns-in_ok-push : goal.returns-in_ok-push
 returns-in_ok-push c =
