@@ -52,6 +52,7 @@ abbrev pub IsLeastShapeIn : Program → ℕ → Option Code → Shape → Type 0
 IsLeastShapeIn p method None shape = shape ≡ no_shape
 IsLeastShapeIn p method (Some code) shape = IsLeastShapeOf p method code shape
 
+-- of a method by its number
 abbrev pub IsLeastShape : Program → ℕ → Shape → Type 0
 IsLeastShape p method shape = IsLeastShapeIn p method (code_at p method) shape
 

@@ -24,6 +24,7 @@ pub record Parted : Type 0 where
   pub going_on : List ℕ
   pub units : List ℕ
 
+-- the bytes of a text, cut into the bytes that go on a character before them and the units after these
 abbrev pub parted : List ℕ → Parted
 parted [] = record { going_on = []; units = [] }
 parted (byte ∷ rest) = before byte (parted rest) where

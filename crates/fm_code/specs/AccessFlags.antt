@@ -6,17 +6,22 @@ use Rattle.fm_code.specs.declared.access_flags.TheConstants.{ACC_PRIVATE, ACC_ST
 abbrev pub has_flag : ℕ → ℕ → Bool
 has_flag flags mask = not (bit_and flags mask == 0)
 
+-- ACC_PRIVATE (JVMS 4.6)
 abbrev pub is_private : ℕ → Bool
 is_private flags = has_flag flags ACC_PRIVATE
 
+-- ACC_STATIC (JVMS 4.5, 4.6)
 abbrev pub is_static : ℕ → Bool
 is_static flags = has_flag flags ACC_STATIC
 
+-- ACC_NATIVE (JVMS 4.6)
 abbrev pub is_native : ℕ → Bool
 is_native flags = has_flag flags ACC_NATIVE
 
+-- ACC_INTERFACE (JVMS 4.1)
 abbrev pub is_interface : ℕ → Bool
 is_interface flags = has_flag flags ACC_INTERFACE
 
+-- ACC_ABSTRACT (JVMS 4.1, 4.6)
 abbrev pub is_abstract : ℕ → Bool
 is_abstract flags = has_flag flags ACC_ABSTRACT

@@ -40,6 +40,7 @@ entry_bytes (entry.InterfaceMethod class member) = CONSTANT_InterfaceMethodref �
 entry_bytes (entry.NameAndType name descriptor) = CONSTANT_NameAndType ∷ (two name ++ two descriptor)
 entry_bytes entry.Second = []
 
+-- a constant pool, its count first (JVMS 4.1)
 unfoldable pub pool_bytes : Pool → List ℕ
 pool_bytes pool = counted entry_bytes pool.entries
 
@@ -49,6 +50,7 @@ pool_bytes pool = counted entry_bytes pool.entries
 abbrev pub attribute_bytes : ℕ → List ℕ → List ℕ
 attribute_bytes name body = two name ++ (four (length body) ++ body)
 
+-- an attribute that is kept as its bytes (JVMS 4.7)
 unfoldable pub raw_bytes : Raw → List ℕ
 raw_bytes raw = attribute_bytes raw.name raw.bytes
 
@@ -60,15 +62,19 @@ offset_in [] end index = end
 offset_in (item ∷ items) end zero = item.offset
 offset_in (item ∷ items) end (suc index) = offset_in items end index
 
+-- where an item of the code begins, or the code ends
 abbrev pub offset_of : Code → ℕ → ℕ
 offset_of code index = offset_in code.items code.length index
 
+-- an instruction as it stands (JVMS 6.5)
 abbrev pub item_bytes : Item → List ℕ
 item_bytes item = item.bytes
 
+-- an entry of an exception table (JVMS 4.7.3)
 abbrev pub handler_bytes : Code → Handler → List ℕ
 handler_bytes code h = concat (two (offset_of code h.start) ∷ two (offset_of code h.end) ∷ two (offset_of code h.handler) ∷ two h.catch_class ∷ [])
 
+-- an entry of a LineNumberTable (JVMS 4.7.12)
 abbrev pub line_bytes : Code → Line → List ℕ
 line_bytes code l = two (offset_of code l.item) ++ two l.line
 
@@ -77,6 +83,7 @@ abbrev pub var_bytes : Code → Var → List ℕ
 var_bytes code v =
     concat (two (offset_of code v.start) ∷ two (offset_of code v.end - offset_of code v.start) ∷ two v.name ∷ two v.kind ∷ two v.index ∷ [])
 
+-- an attribute of code (JVMS 4.7)
 abbrev pub code_attribute_bytes : Code → CodeAttr → List ℕ
 code_attribute_bytes code (code_attribute.Lines name lines) = attribute_bytes name (counted (line_bytes code) lines)
 code_attribute_bytes code (code_attribute.Vars name types vars) = attribute_bytes name (counted (var_bytes code) vars)
@@ -90,11 +97,13 @@ code_bytes code =
 
 -- ---- members (JVMS 4.5, 4.6)
 
+-- an attribute of a field or a method (JVMS 4.7)
 unfoldable pub member_attribute_bytes : MemberAttr → List ℕ
 member_attribute_bytes (attribute.Constant name value) = attribute_bytes name (two value)
 member_attribute_bytes (attribute.Coded name code) = attribute_bytes name (code_bytes code)
 member_attribute_bytes (attribute.Other raw) = raw_bytes raw
 
+-- a field or a method (JVMS 4.5, 4.6)
 unfoldable pub member_bytes : Member → List ℕ
 member_bytes m = concat (two m.flags ∷ two m.name ∷ two m.descriptor ∷ counted member_attribute_bytes m.attributes ∷ [])
 
@@ -104,6 +113,7 @@ member_bytes m = concat (two m.flags ∷ two m.name ∷ two m.descriptor ∷ cou
 abbrev pub magic : List ℕ
 magic = 202 ∷ 254 ∷ 186 ∷ 190 ∷ []
 
+-- the class file of a record (JVMS 4.1)
 unfoldable pub class_bytes : ClassDef → List ℕ
 class_bytes c =
     concat (magic ∷ two c.minor ∷ two c.major ∷ pool_bytes c.pool ∷ two c.flags ∷ two c.this_class ∷ two c.super_class

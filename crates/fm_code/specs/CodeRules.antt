@@ -41,6 +41,7 @@ CodeAttrIsValid entries count (code_attribute.Vars name true vars) =
 CodeAttrIsValid entries count (code_attribute.Other raw) =
     IsSomeAnd (utf8_at entries raw.name) (λ name. (name ≢ codes "LineNumberTable") × (name ≢ codes "LocalVariableTable") × (name ≢ codes "LocalVariableTypeTable"))
 
+-- what a Code attribute has to be (JVMS 4.7.3, 4.9.1)
 pub record CodeIsValid (entries : List Entry) (code : Code) : Type 0 where
   -- the code array has at least one byte, and no more than it may have (JVMS 4.7.3)
   pub not_empty : 0 < code.length

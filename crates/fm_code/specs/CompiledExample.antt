@@ -160,11 +160,13 @@ method_part =
     ∷ (0x00 ∷ 0x00 ∷ [])
     ∷ [])
 
+-- the whole class file
 abbrev pub compiled_bytes : List ℕ
 compiled_bytes = concat (pool_part ∷ field_part ∷ constructor_part ∷ method_part ∷ [])
 
 -- ---- the record
 
+-- its constant pool
 abbrev pub compiled_entries : List Entry
 compiled_entries =
     entry.Second ∷ entry.Method 2 3 ∷ entry.Class 4 ∷ entry.NameAndType 5 6 ∷ entry.Utf8 (codes "java/lang/Object") ∷ entry.Utf8 (codes "<init>")
@@ -178,6 +180,7 @@ compiled_entries =
 abbrev pub compiled_field : Member
 compiled_field = record { flags = 24; name = 13; descriptor = 14; attributes = attribute.Constant 15 9 ∷ [] }
 
+-- the code of its constructor
 abbrev pub constructor_code : Code
 constructor_code = record {
   max_stack = 1;
@@ -193,6 +196,7 @@ constructor_code = record {
       ∷ code_attribute.Vars 18 false (record { start = 0; end = 3; name = 19; kind = 20; index = 0 } ∷ []) ∷ [];
 }
 
+-- its constructor
 abbrev pub compiled_constructor : Member
 compiled_constructor = record { flags = 0; name = 5; descriptor = 6; attributes = attribute.Coded 16 constructor_code ∷ [] }
 
@@ -221,6 +225,7 @@ method_items =
     ∷ record { offset = 39; bytes = 0x03 ∷ []; insn = insn.Const (pos 0) }
     ∷ record { offset = 40; bytes = 0xac ∷ []; insn = insn.Return (Some reg.Int) } ∷ []
 
+-- the code of its method
 abbrev pub method_code : Code
 method_code = record {
   max_stack = 4;
@@ -237,9 +242,11 @@ method_code = record {
       ∷ code_attribute.Other (record { name = 27; bytes = 0x00 ∷ 0x03 ∷ 0x1c ∷ 0x01 ∷ 0x47 ∷ 0x07 ∷ 0x00 ∷ 0x0b ∷ [] }) ∷ [];
 }
 
+-- its method
 abbrev pub compiled_method : Member
 compiled_method = record { flags = 8; name = 21; descriptor = 22; attributes = attribute.Coded 16 method_code ∷ [] }
 
+-- the record of the class file
 abbrev pub compiled_record : ClassDef
 compiled_record = record {
   minor = 0;

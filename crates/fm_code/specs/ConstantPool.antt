@@ -70,12 +70,14 @@ field_at entries index = of_field (entry_at entries index) where
   of_field (entry.Field class member) = member_named entries class member
   of_field e = None
 
+-- the method of a class at an index (JVMS 4.4.2)
 abbrev pub method_at : List Entry → ℕ → Option MemberName
 method_at entries index = of_method (entry_at entries index) where
   of_method : Entry → Option MemberName
   of_method (entry.Method class member) = member_named entries class member
   of_method e = None
 
+-- the method of an interface at an index (JVMS 4.4.2)
 abbrev pub interface_method_at : List Entry → ℕ → Option MemberName
 interface_method_at entries index = of_method (entry_at entries index) where
   of_method : Entry → Option MemberName
@@ -92,6 +94,7 @@ member_name m = record { class = m.class.now; name = m.name.now; descriptor = m.
 abbrev pub IsFieldPair : List ℕ × List ℕ → Type 0
 IsFieldPair pair = (is_unqualified pair.0 ≡ true) × IsFieldDescriptor pair.1
 
+-- the name and the descriptor of a method
 abbrev pub IsMethodPair : List ℕ × List ℕ → Type 0
 IsMethodPair pair = (is_method_name pair.0 ≡ true) × IsMethodDescriptor 0 pair.1
 

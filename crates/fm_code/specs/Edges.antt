@@ -58,6 +58,7 @@ pub record IsHandlerEdge (code : Code) (j handler : ℕ) : Type 0 where
   pub from_item : j < length code.items
   pub caught : Any (Catches j handler) code.handlers
 
+-- control may come next from one item to the other
 abbrev pub IsEdge : Code → ℕ → ℕ → Type 0
 IsEdge code j next = IsNormalEdge code j next ⊎ IsHandlerEdge code j next
 

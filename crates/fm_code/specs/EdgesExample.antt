@@ -25,6 +25,7 @@ handlers_of code j =
 abbrev pub edges_listed : Code → ℕ → List ℕ
 edges_listed code j = filter (λ next. nat_lt next (length code.items)) (onward j (insn_of code j) ++ handlers_of code j)
 
+-- an item by its offset, its bytes and its meaning
 abbrev pub item_of : ℕ → List ℕ → Insn → Item
 item_of offset bytes i = record { offset = offset; bytes = bytes; insn = i }
 
@@ -32,6 +33,7 @@ item_of offset bytes i = record { offset = offset; bytes = bytes; insn = i }
 abbrev pub switch_bytes : List ℕ
 switch_bytes = 170 ∷ 0 ∷ 0 ∷ 0 ∷ 0 ∷ 0 ∷ 31 ∷ 0 ∷ 0 ∷ 0 ∷ 0 ∷ 0 ∷ 0 ∷ 0 ∷ 1 ∷ 0 ∷ 0 ∷ 0 ∷ 23 ∷ 0 ∷ 0 ∷ 0 ∷ 25 ∷ []
 
+-- the items of the code
 abbrev pub example_items : List Item
 example_items =
     item_of 0 (27 ∷ []) (insn.Load reg.Int 1)
@@ -48,6 +50,7 @@ example_items =
     ∷ item_of 37 (191 ∷ []) insn.Throw
     ∷ []
 
+-- the code with its exception table
 abbrev pub example_code : Code
 example_code = record {
   max_stack = 1;

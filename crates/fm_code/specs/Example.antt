@@ -8,6 +8,7 @@ use Rattle.fm_code.specs.declared.class_file.MemberAttr.TheVariants as attribute
 use Rattle.fm_code.specs.declared.code_array.Code.{Code}
 use Rattle.fm_code.specs.declared.instructions.Insn.TheVariants as insn
 
+-- the class file
 abbrev pub example_bytes : List ℕ
 example_bytes =
     -- magic, version 49.0, eight slots of the pool
@@ -36,11 +37,13 @@ example_bytes =
     -- no attribute of the class
     ∷ 0x00 ∷ 0x00 ∷ []
 
+-- its constant pool
 abbrev pub example_entries : List Entry
 example_entries =
     entry.Second ∷ entry.Utf8 (codes "M") ∷ entry.Class 1 ∷ entry.Utf8 (codes "java/lang/Object") ∷ entry.Class 3 ∷ entry.Utf8 (codes "main")
     ∷ entry.Utf8 (codes "([Ljava/lang/String;)V") ∷ entry.Utf8 (codes "Code") ∷ []
 
+-- the code of its main
 abbrev pub example_code : Code
 example_code = record {
   max_stack = 0;
@@ -51,9 +54,11 @@ example_code = record {
   attributes = [];
 }
 
+-- its main
 abbrev pub example_method : Member
 example_method = record { flags = 9; name = 5; descriptor = 6; attributes = attribute.Coded 7 example_code ∷ [] }
 
+-- the record of the class file
 abbrev pub example_record : ClassDef
 example_record = record {
   minor = 0;

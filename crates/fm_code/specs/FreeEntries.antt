@@ -53,32 +53,41 @@ placed count missing e None = record { index = count + length missing; missing =
 abbrev pub sought : List Entry → List Entry → Content → Entry → Sought
 sought entries missing content e = placed (length entries) missing e (index_of entries content)
 
+-- the name of the class
 abbrev pub free_class : List ℕ
 free_class = codes "FreeMe"
 
+-- the name of its method
 abbrev pub free_name : List ℕ
 free_name = codes "free"
 
+-- the descriptor of the method
 abbrev pub free_descriptor : List ℕ
 free_descriptor = codes "(Ljava/lang/Object;)V"
 
+-- the method
 abbrev pub free_method : MemberName
 free_method = record { class = free_class; name = free_name; descriptor = free_descriptor }
 
 -- ---- the six entries in turn, each with what is missing of it and of those before
 
+-- the text of the class
 unfoldable pub sought_class_text : List Entry → Sought
 sought_class_text entries = sought entries [] (of_utf8 free_class) (entry.Utf8 free_class)
 
+-- the class
 unfoldable pub sought_class : List Entry → Sought
 sought_class entries = let text = sought_class_text entries in sought entries text.missing (of_class free_class) (entry.Class text.index)
 
+-- the name
 unfoldable pub sought_name : List Entry → Sought
 sought_name entries = sought entries (sought_class entries).missing (of_utf8 free_name) (entry.Utf8 free_name)
 
+-- the descriptor
 unfoldable pub sought_descriptor : List Entry → Sought
 sought_descriptor entries = sought entries (sought_name entries).missing (of_utf8 free_descriptor) (entry.Utf8 free_descriptor)
 
+-- the name with the descriptor
 unfoldable pub sought_pair : List Entry → Sought
 sought_pair entries =
     let descriptor = sought_descriptor entries in

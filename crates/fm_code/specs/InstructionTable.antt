@@ -18,6 +18,7 @@ use Rattle.fm_code.specs.declared.instructions.Insn.TheVariants as insn
 abbrev pub Reading : Type 0
 Reading = ℕ → List ℕ → Option Insn
 
+-- no operands are right
 abbrev pub malformed : Reading
 malformed offset operands = None
 
@@ -32,6 +33,7 @@ byte f offset [] = None
 byte f offset (a ∷ []) = Some (f a)
 byte f offset (a ∷ b ∷ rest) = None
 
+-- one byte as a signed number
 abbrev pub signed_byte : (ℤ → Insn) → Reading
 signed_byte f = byte (λ a. f (signed_one a))
 
@@ -46,6 +48,7 @@ two_bytes f offset (a ∷ b ∷ c ∷ rest) = None
 abbrev pub short : (ℕ → Insn) → Reading
 short f = two_bytes (λ a b. Some (f (number_of_two a b)))
 
+-- two bytes as a signed number
 abbrev pub signed_short : (ℤ → Insn) → Reading
 signed_short f = two_bytes (λ a b. Some (f (signed_two a b)))
 
@@ -87,6 +90,7 @@ new_array_of =
     None ∷ None ∷ None ∷ None ∷ Some (insn.NewArray elem.Boolean) ∷ Some (insn.NewArray elem.Char) ∷ Some (insn.LeftOut opcodes.NEWARRAY) ∷ Some (insn.LeftOut opcodes.NEWARRAY)
     ∷ Some (insn.NewArray elem.Byte) ∷ Some (insn.NewArray elem.Short) ∷ Some (insn.NewArray elem.Int) ∷ Some (insn.NewArray elem.Long) ∷ []
 
+-- newarray: the code of the element type
 abbrev pub new_array : Reading
 new_array offset [] = None
 new_array offset (kind ∷ []) = slice_index_or new_array_of kind None
@@ -103,6 +107,7 @@ wide_local opcode index =
     if opcode == opcodes.ASTORE then Some (insn.Store reg.Ref index) else
     if (opcode == opcodes.FLOAD) || (opcode == opcodes.DLOAD) || (opcode == opcodes.FSTORE) || (opcode == opcodes.DSTORE) || (opcode == opcodes.RET) then Some (insn.LeftOut opcodes.WIDE) else None
 
+-- wide, by the opcode that follows it
 abbrev pub wide : Reading
 wide offset (opcode ∷ a ∷ b ∷ []) = wide_local opcode (number_of_two a b)
 wide offset (opcode ∷ a ∷ b ∷ c ∷ d ∷ []) = if opcode == opcodes.IINC then Some (insn.Inc (number_of_two a b) (signed_two c d)) else None
@@ -120,11 +125,12 @@ signed_fours (a ∷ b ∷ []) = None
 signed_fours (a ∷ b ∷ c ∷ []) = None
 signed_fours (a ∷ b ∷ c ∷ d ∷ rest) = option_map (λ zs. signed_four_of a b c d ∷ zs) (signed_fours rest)
 
--- the offsets that lie so far from an offset; None where one is below 0
+-- the offset that a number is; None where it is below 0
 abbrev pub offset_from : ℤ → Option ℕ
 offset_from (pos target) = Some target
 offset_from (negsuc n) = None
 
+-- the offsets that lie so far from an offset; None where one is below 0
 abbrev pub offsets_from : ℕ → List ℤ → Option (List ℕ)
 offsets_from offset [] = Some []
 offsets_from offset (z ∷ zs) =
@@ -178,6 +184,7 @@ Row = ℕ × Reading
 abbrev pub left_out_row : ℕ → ℕ → Row
 left_out_row opcode count = (opcode, left_out opcode count)
 
+-- the opcodes from nop to saload
 abbrev pub constants_and_loads : List Row
 constants_and_loads =
     (opcodes.NOP, bare insn.Nop)
@@ -236,6 +243,7 @@ constants_and_loads =
     ∷ (opcodes.SALOAD, bare (insn.ArrayLoad elem.Short))
     ∷ []
 
+-- the opcodes from istore to swap
 abbrev pub stores_and_stack : List Row
 stores_and_stack =
     (opcodes.ISTORE, byte (insn.Store reg.Int))
@@ -282,6 +290,7 @@ stores_and_stack =
     ∷ (opcodes.SWAP, bare insn.Swap)
     ∷ []
 
+-- the opcodes from iadd to dcmpg
 abbrev pub arithmetic : List Row
 arithmetic =
     (opcodes.IADD, bare (insn.IntOp op.Add))
@@ -343,6 +352,7 @@ arithmetic =
     ∷ left_out_row opcodes.DCMPG 0
     ∷ []
 
+-- the opcodes from ifeq on
 abbrev pub control_and_objects : List Row
 control_and_objects =
     (opcodes.IFEQ, jump (insn.IfInt test.Eq))

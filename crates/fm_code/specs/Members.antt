@@ -32,6 +32,7 @@ abbrev pub Suits : List Entry → List ℕ → MemberAttr → Type 0
 Suits entries descriptor (attribute.Constant name value) = Contains (suited_descriptors (entry_at entries value)) descriptor
 Suits entries descriptor a = Unit {0}
 
+-- whether it is a ConstantValue (JVMS 4.7.2)
 abbrev pub is_constant : MemberAttr → Bool
 is_constant (attribute.Constant name value) = true
 is_constant a = false
@@ -49,6 +50,7 @@ pub record ValueSuits (entries : List Entry) (m : Member) : Type 0 where
   pub one_value : count_by is_constant m.attributes ≤ 1
   pub suits : IsSomeAnd (utf8_at entries m.descriptor) (λ descriptor. AllByRecursion (Suits entries descriptor) m.attributes)
 
+-- what a field has to be (JVMS 4.5)
 pub record FieldIsValid (in_interface : Bool) (entries : List Entry) (m : Member) : Type 0 where
   pub name : IsSomeAnd (utf8_at entries m.name) (λ name. is_unqualified name ≡ true)
   pub descriptor : IsSomeAnd (utf8_at entries m.descriptor) IsFieldDescriptor
@@ -65,6 +67,7 @@ MethodAttrIsValid entries (attribute.Constant name value) = ⊥
 MethodAttrIsValid entries (attribute.Coded name code) = (utf8_at entries name ≡ Some (codes "Code")) × CodeIsValid entries code
 MethodAttrIsValid entries (attribute.Other raw) = IsSomeAnd (utf8_at entries raw.name) (λ name. name ≢ codes "Code")
 
+-- whether it is a Code (JVMS 4.7.3)
 abbrev pub is_coded : MemberAttr → Bool
 is_coded (attribute.Coded name code) = true
 is_coded a = false
@@ -83,6 +86,7 @@ pub record IsConstructor (entries : List Entry) (m : Member) : Type 0 where
   pub not_static : is_static m.flags ≡ false
   pub not_abstract : is_abstract m.flags ≡ false
 
+-- what a method has to be (JVMS 4.6)
 pub record MethodIsValid (in_interface : Bool) (entries : List Entry) (m : Member) : Type 0 where
   pub name : IsSomeAnd (utf8_at entries m.name) (λ name. is_method_name name ≡ true)
   pub descriptor : IsSomeAnd (utf8_at entries m.descriptor) (IsMethodDescriptor (receiver_words m.flags))

@@ -50,6 +50,7 @@ abbrev pub is_primitive_letter : ℕ → Bool
 is_primitive_letter c =
     (c == BYTE_LETTER) || (c == CHAR_LETTER) || (c == DOUBLE_LETTER) || (c == FLOAT_LETTER) || (c == INT_LETTER) || (c == LONG_LETTER) || (c == SHORT_LETTER) || (c == BOOLEAN_LETTER)
 
+-- the letter of a primitive type, or the name of a class
 abbrev pub IsBaseType : BaseType → Type 0
 IsBaseType (primitive letter) = is_primitive_letter letter ≡ true
 IsBaseType (object name) = is_binary_name name ≡ true
@@ -59,6 +60,7 @@ pub record IsFieldType (t : FieldType) : Type 0 where
   pub dimensions : t.dimensions ≤ 255
   pub base : IsBaseType t.base
 
+-- the letter, or the class between L and ;
 abbrev pub base_descriptor : BaseType → List ℕ
 base_descriptor (primitive letter) = letter ∷ []
 base_descriptor (object name) = CLASS_LETTER ∷ (name ++ SEMICOLON ∷ [])
@@ -67,6 +69,7 @@ base_descriptor (object name) = CLASS_LETTER ∷ (name ++ SEMICOLON ∷ [])
 abbrev pub field_descriptor : FieldType → List ℕ
 field_descriptor t = replicate t.dimensions LEFT_BRACKET ++ base_descriptor t.base
 
+-- the descriptor of a field (JVMS 4.3.2)
 abbrev pub IsFieldDescriptor : List ℕ → Type 0
 IsFieldDescriptor descriptor = (t : FieldType) × (IsFieldType t × (descriptor ≡ field_descriptor t))
 
@@ -81,15 +84,18 @@ words_of t = words_at t.dimensions t.base where
 abbrev pub IsArrayName : List ℕ → Type 0
 IsArrayName name = (t : FieldType) × (IsFieldType t × ((0 < t.dimensions) × (name ≡ field_descriptor t)))
 
+-- what a class entry names (JVMS 4.4.1)
 abbrev pub IsClassName : List ℕ → Type 0
 IsClassName name = (is_binary_name name ≡ true) ⊎ IsArrayName name
 
 -- ---- methods' types (JVMS 4.3.3)
 
+-- the types of parameters and result
 pub record MethodType : Type 0 where
   pub parameters : List FieldType
   pub result : Option FieldType
 
+-- each of them is a type
 pub record IsMethodType (m : MethodType) : Type 0 where
   pub parameters : AllByRecursion IsFieldType m.parameters
   pub result : IfSome m.result IsFieldType
@@ -99,6 +105,7 @@ abbrev pub result_descriptor : Option FieldType → List ℕ
 result_descriptor None = VOID_LETTER ∷ []
 result_descriptor (Some t) = field_descriptor t
 
+-- the parameters between parentheses, and then the result (JVMS 4.3.3)
 abbrev pub method_descriptor : MethodType → List ℕ
 method_descriptor m = LEFT_PARENTHESIS ∷ (flat_map field_descriptor m.parameters ++ RIGHT_PARENTHESIS ∷ result_descriptor m.result)
 

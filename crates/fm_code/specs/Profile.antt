@@ -55,27 +55,33 @@ pub record IsMalformed (bytes : List ℕ) : Type 0 where
 
 -- ---- limits of methods
 
+-- the count of this kind in a code
 abbrev pub count_of : What → Code → ℕ
 count_of what.Stack code = code.max_stack
 count_of what.Locals code = code.max_locals
 count_of what.Handlers code = length code.handlers
 
+-- the limit of counts of this kind
 abbrev pub limit_of : What → ℕ
 limit_of what.Stack = MAX_STACK_WORDS
 limit_of what.Locals = MAX_LOCAL_WORDS
 limit_of what.Handlers = MAX_HANDLERS
 
+-- the count is within its limit
 abbrev pub IsWithin : What → Code → Type 0
 IsWithin kind code = count_of kind code ≤ limit_of kind
 
+-- all counts of a code are
 pub record CodeIsWithin (code : Code) : Type 0 where
   pub stack : IsWithin what.Stack code
   pub locals : IsWithin what.Locals code
   pub handlers : IsWithin what.Handlers code
 
+-- a method without code has no counts
 abbrev pub MethodIsWithin : Member → Type 0
 MethodIsWithin m = IfSome (code_of m) CodeIsWithin
 
+-- all methods of a class are within the limits
 abbrev pub IsWithinLimits : ClassDef → Type 0
 IsWithinLimits c = AllByRecursion MethodIsWithin c.methods
 
@@ -105,6 +111,7 @@ is_floating t = is_floating_base t.base where
   is_floating_base (primitive letter) = (letter == FLOAT_LETTER) || (letter == DOUBLE_LETTER)
   is_floating_base (object name) = false
 
+-- whether a result is one
 abbrev pub is_floating_result : Option FieldType → Bool
 is_floating_result None = false
 is_floating_result (Some t) = is_floating t
@@ -113,6 +120,7 @@ is_floating_result (Some t) = is_floating t
 abbrev pub IsFloatingField : List ℕ → Type 0
 IsFloatingField descriptor = (t : FieldType) × (IsFieldType t × ((descriptor ≡ field_descriptor t) × (is_floating t ≡ true)))
 
+-- the descriptor of a method with such a parameter or result
 abbrev pub IsFloatingMethod : List ℕ → Type 0
 IsFloatingMethod descriptor =
     (m : MethodType) × (IsMethodType m × ((descriptor ≡ method_descriptor m) × ((list_any is_floating m.parameters || is_floating_result m.result) ≡ true)))
@@ -123,6 +131,7 @@ IsFloatingArray name = IsArrayName name × IsFloatingField name
 
 -- ---- instructions
 
+-- whether an instruction is one that is left out
 abbrev pub is_left_out : Insn → Bool
 is_left_out (insn.LeftOut opcode) = true
 is_left_out i = false
@@ -134,6 +143,7 @@ is_supported_constant (entry.Long value) = true
 is_supported_constant (entry.Text units) = true
 is_supported_constant e = false
 
+-- whether an instruction loads no other constant
 abbrev pub loads_supported : List Entry → Insn → Bool
 loads_supported entries (insn.LoadPool index) = is_supported_constant (entry_at entries index)
 loads_supported entries i = true
@@ -155,6 +165,7 @@ class_named entries (insn.IsA index) = class_name_at entries index
 class_named entries (insn.MultiArray index dimensions) = class_name_at entries index
 class_named entries i = None
 
+-- an instruction where it stands
 pub record ItemIsSupported (entries : List Entry) (item : Item) : Type 0 where
   pub not_left_out : is_left_out item.insn ≡ false
   pub constant : loads_supported entries item.insn ≡ true
@@ -167,9 +178,11 @@ pub record IsSupportedName (name : List ℕ) : Type 0 where
   pub no_zero : list_any (λ unit. unit == 0) (units name) ≡ false
   pub whole_pairs : has_unpaired_surrogate (units name) ≡ false
 
+-- the name of the class
 abbrev pub NameIsSupported : ClassDef → Type 0
 NameIsSupported c = IsSomeAnd (class_name_at c.pool.entries c.this_class) IsSupportedName
 
+-- a field
 abbrev pub FieldIsSupported : List Entry → Member → Type 0
 FieldIsSupported entries m = IsSomeAnd (utf8_at entries m.descriptor) (λ descriptor. ¬ IsFloatingField descriptor)
 
@@ -178,10 +191,12 @@ pub record HeadIsSupported (entries : List Entry) (m : Member) : Type 0 where
   pub descriptor : IsSomeAnd (utf8_at entries m.descriptor) (λ descriptor. ¬ IsFloatingMethod descriptor)
   pub not_native : is_native m.flags ≡ false
 
+-- a method with its code
 pub record MethodIsSupported (entries : List Entry) (m : Member) : Type 0 where
   pub head : HeadIsSupported entries m
   pub items : IfSome (code_of m) (λ code. AllByRecursion (ItemIsSupported entries) code.items)
 
+-- a class in which all is supported
 pub record IsSupported (c : ClassDef) : Type 0 where
   pub name : NameIsSupported c
   pub fields : AllByRecursion (FieldIsSupported c.pool.entries) c.fields
@@ -200,17 +215,20 @@ abbrev pub FailsAt : List Entry → ℕ → Member → Type 0
 FailsAt entries offset m =
     ((¬ HeadIsSupported entries m) × (offset ≡ 0)) ⊎ (HeadIsSupported entries m × IsSomeAnd (code_of m) (IsFirstUnsupportedItem entries offset))
 
+-- the first field that is not supported
 pub record IsFirstUnsupportedField (c : ClassDef) (index : ℕ) : Type 0 where
   pub name : NameIsSupported c
   pub before : AllByRecursion (FieldIsSupported c.pool.entries) (take index c.fields)
   pub there : IsSomeAnd (slice_get c.fields index) (λ m. ¬ FieldIsSupported c.pool.entries m)
 
+-- the first method that is not supported, with the offset that is told
 pub record IsFirstUnsupportedMethod (c : ClassDef) (index offset : ℕ) : Type 0 where
   pub name : NameIsSupported c
   pub fields : AllByRecursion (FieldIsSupported c.pool.entries) c.fields
   pub before : AllByRecursion (MethodIsSupported c.pool.entries) (take index c.methods)
   pub there : IsSomeAnd (slice_get c.methods index) (FailsAt c.pool.entries offset)
 
+-- the first place that is not supported
 abbrev pub IsFirstUnsupported : ClassDef → Unsupported → Type 0
 IsFirstUnsupported c unsupported = at_place unsupported.place where
   at_place : Place → Type 0

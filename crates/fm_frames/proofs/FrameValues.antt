@@ -9,7 +9,7 @@ use Rattle.fm_frames.specs.States.{Frame}
 use Rattle.fm_frames.specs.declared.frames.Cursor.{Cursor}
 use Rattle.fm_frames.specs.declared.values.Value.{Value}
 use Rattle.fm_frames.specs.declared.values.Value.TheVariants as value
-use Rattle.fm_frames.specs.inner.Frames.{AreLaid, AreTiled, frames_at, frames_in, on_top, place, place_of, result_word, stack_in, topmost, with_called, with_result, with_words}
+use Rattle.fm_frames.specs.inner.Frames.{AreLaid, AreTiled, frames_at, frames_in, on_top, place, place_of, result_word, stack_in, with_called, with_result, with_words}
 
 -- frames are equal by their parts
 same_frame : (method item : ℕ) {l1 l2 s1 s2 : List Value} → l1 ≡ l2 → s1 ≡ s2

@@ -47,6 +47,7 @@ on_element o e s index follows =
           if int_lt i (pos 0) || not (int_lt i (pos it.len)) then thrown o (codes "java/lang/ArrayIndexOutOfBoundsException")
           else follows it (unsigned_abs i)
 
+-- what iaload, laload, aaload, baload, caload and saload do (JVMS 6.5)
 unfoldable pub array_load_effect : Outline → Elem → List Sight → Effect
 array_load_effect o e s =
     on_element o e s 0 (λ it place. let kind = element_kind it.type in words 2 (loaded kind (OfPlace 1 place kind)))
@@ -61,12 +62,14 @@ put_reference o s it place =
     on_held (put_element 1 it place) s 0
     (λ v. if is_sub o.classes v.type (element_type it.type) then put_element 1 it place else thrown o (codes "java/lang/ArrayStoreException"))
 
+-- what iastore, lastore, aastore, bastore, castore and sastore do: only aastore asks what the object is (JVMS 6.5)
 unfoldable pub array_store_effect : Outline → Elem → List Sight → Effect
 array_store_effect o e s = on_element o e s (element_words e) (stored e) where
   stored : Elem → Looks → ℕ → Effect
   stored elem.Ref it place = put_reference o s it place
   stored other it place = put_element (element_words e) it place
 
+-- what arraylength does (JVMS 6.5)
 unfoldable pub length_effect : Outline → List Sight → Effect
 length_effect o s = on_passing o (λ it. nat_lt 0 it.type.dims) s 0 (λ it. words 1 (int_word (pos it.len)))
 
@@ -81,9 +84,11 @@ abbrev pub array_made : Outline → Option TypeRef → List Sight → Effect
 array_made o None s = stuck
 array_made o (Some t) s = on_int s 0 (λ n. if int_lt n (pos 0) then thrown_negative o else making 1 (Make t (unsigned_abs n) []))
 
+-- what newarray does (JVMS 6.5)
 unfoldable pub new_array_effect : Outline → Elem → List Sight → Effect
 new_array_effect o e s = array_made o (option_map (λ (b : Base). record { dims = 1; base = b }) (base_of_elem e)) s
 
+-- what anewarray does (JVMS 6.5)
 unfoldable pub new_references_effect : Outline → Use → List Sight → Effect
 new_references_effect o u s = on_type o u (λ t. array_made o (array_of t) s)
 
@@ -132,5 +137,6 @@ arrays_of o t dimensions (Some counts) =
       magnitudes [] = []
       magnitudes (n ∷ others) = unsigned_abs n ∷ magnitudes others
 
+-- what multianewarray does, the first length lowest (JVMS 6.5)
 unfoldable pub multi_array_effect : Outline → Use → ℕ → List Sight → Effect
 multi_array_effect o u dimensions s = on_type o u (λ t. arrays_of o t dimensions (ints_at s (reverse (range_with_len 0 dimensions))))

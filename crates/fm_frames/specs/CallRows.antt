@@ -39,6 +39,7 @@ entered o words (Some method) byte s = entered_as o words method byte s (native_
 abbrev pub receiver_class : Outline → Looks → ℕ
 receiver_class o it = unwrap_or (class_of_type it.type) (object_of o.classes)
 
+-- what invokevirtual does (JVMS 6.5)
 unfoldable pub virtual_effect : Outline → Use → Option ℕ → List Sight → Effect
 virtual_effect o u byte s = on_method o u called where
   called : ℕ → TypeRef → Effect

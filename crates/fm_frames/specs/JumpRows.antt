@@ -26,9 +26,11 @@ holds Le a b = int_le a b
 abbrev pub jumps_if : Bool → Next
 jumps_if taken = if taken then Jumps 0 else Falls
 
+-- what ifeq and its like do: the int on top is compared with 0 (JVMS 6.5)
 unfoldable pub int_jump_effect : Test → List Sight → Effect
 int_jump_effect test s = on_int s 0 (λ a. going 1 (jumps_if (holds test a (pos 0))))
 
+-- what if_icmpeq and its like do: two ints are compared, the second one on top (JVMS 6.5)
 unfoldable pub pair_jump_effect : Test → List Sight → Effect
 pair_jump_effect test s = on_int s 0 (λ b. on_int s 1 (λ a. going 2 (jumps_if (holds test a b))))
 
@@ -36,6 +38,7 @@ pair_jump_effect test s = on_int s 0 (λ b. on_int s 1 (λ a. going 2 (jumps_if 
 abbrev pub same_jump_effect : Bool → Effect
 same_jump_effect same = going 2 (JumpsIfSame same)
 
+-- what ifnull and ifnonnull do (JVMS 6.5)
 unfoldable pub null_jump_effect : Bool → List Sight → Effect
 null_jump_effect null s = on_reference s 0 (λ is_null. going 1 (jumps_if (if null then is_null else not is_null)))
 
@@ -45,6 +48,7 @@ null_jump_effect null s = on_reference s 0 (λ is_null. going 1 (jumps_if (if nu
 abbrev pub table_target : ℤ → ℕ → ℤ → ℕ
 table_target low count key = if int_lt key low || int_le (low +ℤ pos count) key then 0 else unsigned_abs (key -ℤ low) + 1
 
+-- what tableswitch does (JVMS 6.5)
 unfoldable pub table_effect : ℤ → ℕ → List Sight → Effect
 table_effect low count s = on_int s 0 (λ key. going 1 (Jumps (table_target low count key)))
 
@@ -66,5 +70,6 @@ return_effect (Some reg.Int) = going 0 (Returns 1)
 return_effect (Some reg.Long) = going 0 (Returns 2)
 return_effect (Some reg.Ref) = going 0 (Returns 1)
 
+-- what athrow does (JVMS 6.5)
 unfoldable pub throw_effect : Outline → List Sight → Effect
 throw_effect o s = on_object o (throwable_type o) s 0 (λ it. going 0 (Throws (OfOperand 0)))

@@ -99,6 +99,7 @@ at_sign = 64
 abbrev pub object_text : Outline → Looks → List ℕ
 object_text o it = type_name o it.type ++ at_sign ∷ digits 16 false it.birth
 
+-- the rows of Object
 unfoldable pub object_native : Outline → Native → List Sight → Effect
 object_native o ObjectInit s = words 1 []
 object_native o ObjectHashCode s = on_any o s 0 (λ it. words 1 (int_word (hash_of it.birth)))
@@ -144,6 +145,7 @@ part_of o units begin end =
     if int_lt begin (pos 0) || int_lt end begin || int_lt (pos (length units)) end then thrown_outside o
     else making 3 (text_made o (take (unsigned_abs end - unsigned_abs begin) (drop (unsigned_abs begin) units)))
 
+-- the rows of String
 unfoldable pub string_native : Outline → Native → List Sight → Effect
 string_native o StringLength s = on_text o s 0 (λ units. words 1 (int_word (pos (length units))))
 string_native o CharAt s = on_text o s 1 (λ units. on_int s 0 (λ i. char_at o units i))
@@ -178,6 +180,7 @@ on_built o s operand follows = on_builder o s operand (λ it. on_inner o operand
 abbrev pub has_text : Outline → ℕ → List ℕ → List Action
 has_text o operand units = text_made o units ∷ Put (OfOperand operand) 0 (text_kind o) (OfMade 0) ∷ []
 
+-- the rows of StringBuilder and StringBuffer
 unfoldable pub builder_native : Outline → Native → List Sight → Effect
 builder_native o BuilderInit s = on_builder o s 0 (λ it. acting 1 (Put (OfOperand 0) 0 (text_kind o) (Plain null) ∷ []))
 builder_native o (Append shown) s =
@@ -195,6 +198,7 @@ abbrev pub byte_read : Option ℕ → Effect
 byte_read None = words 1 (int_word (negsuc 0))
 byte_read (Some byte) = record (words 1 (int_word (pos byte))) { reads = true }
 
+-- the rows of System, PrintStream and InputStream, with the next byte of the input
 unfoldable pub stream_native : Outline → Native → Option ℕ → List Sight → Effect
 stream_native o Exit byte s = on_int s 0 (λ n. going 1 (Exits n))
 stream_native o (Print shown) byte s = on_shown o shown s (λ units. printing (shown_words shown + 1) (printed_units units))
@@ -210,6 +214,7 @@ abbrev pub throwable_text : Outline → TypeRef → Option (List ℕ) → List �
 throwable_text o t None = type_name o t
 throwable_text o t (Some message) = type_name o t ++ codes ": " ++ message
 
+-- the rows of Throwable
 unfoldable pub throwable_native : Outline → Native → List Sight → Effect
 throwable_native o ThrowableInit s =
     on_object o (throwable_type o) s 0 (λ it. acting 1 (Put (OfOperand 0) 0 (text_kind o) (Plain null) ∷ []))
@@ -227,6 +232,7 @@ throwable_native o row s = stuck
 abbrev pub linked : Looks → Effect
 linked it = if it.fixed then words 2 (OfOperand 0 ∷ []) else record (acting 2 (SetChain 1 0 ∷ [])) { gives = OfOperand 1 ∷ [] }
 
+-- the rows of FreeMe
 unfoldable pub free_native : Outline → Native → List Sight → Effect
 free_native o FreeMeFree s = on_held (words 1 []) s 0 (λ it. acting 1 (Free 0 ∷ []))
 free_native o FreeMeLink s = on_held (words 2 (OfOperand 0 ∷ [])) s 1 linked

@@ -34,6 +34,7 @@ constant_effect resolved.Unused = stuck
 
 -- ---- locals
 
+-- what iload, lload and aload do (JVMS 6.5)
 unfoldable pub load_effect : Reg → ℕ → Effect
 load_effect reg.Int k = words 0 (OfLocal k ∷ [])
 load_effect reg.Long k = words 0 (Plain value.Top ∷ OfLocal k ∷ [])
@@ -56,20 +57,25 @@ abbrev pub moved_words : Option Moves → Effect
 moved_words None = stuck
 moved_words (Some m) = words m.takes (map OfOperand m.gives)
 
+-- what pop, dup, swap and their like do (JVMS 6.5)
 unfoldable pub move_effect : Insn → Effect
 move_effect i = moved_words (moves_of i)
 
 -- ---- numbers: of two operands the second one is on top
 
+-- what iadd and its like do; idiv and irem may throw (JVMS 6.5)
 unfoldable pub int_op_effect : Outline → Op → List Sight → Effect
 int_op_effect o op s = on_int s 0 (λ b. on_int s 1 (λ a. or_thrown o (result_of_op op 32 a b) (λ n. words 2 (int_word n))))
 
+-- what ladd and its like do; ldiv and lrem may throw (JVMS 6.5)
 unfoldable pub long_op_effect : Outline → Op → List Sight → Effect
 long_op_effect o op s = on_long s 1 (λ b. on_long s 3 (λ a. or_thrown o (result_of_op op 64 a b) (λ n. words 4 (long_words n))))
 
+-- what ineg does (JVMS 6.5)
 unfoldable pub int_negate_effect : List Sight → Effect
 int_negate_effect s = on_int s 0 (λ a. words 1 (int_word (signed 32 (pos 0 -ℤ a))))
 
+-- what lneg does (JVMS 6.5)
 unfoldable pub long_negate_effect : List Sight → Effect
 long_negate_effect s = on_long s 1 (λ a. words 2 (long_words (signed 64 (pos 0 -ℤ a))))
 
@@ -77,6 +83,7 @@ long_negate_effect s = on_long s 1 (λ a. words 2 (long_words (signed 64 (pos 0 
 unfoldable pub int_shift_effect : Shift → List Sight → Effect
 int_shift_effect shift s = on_int s 0 (λ n. on_int s 1 (λ a. words 2 (int_word (result_of_shift shift 32 a (low_bits 5 n)))))
 
+-- what lshl, lshr and lushr do (JVMS 6.5)
 unfoldable pub long_shift_effect : Shift → List Sight → Effect
 long_shift_effect shift s = on_int s 0 (λ n. on_long s 2 (λ a. words 3 (long_words (result_of_shift shift 64 a (low_bits 6 n)))))
 
@@ -84,6 +91,7 @@ long_shift_effect shift s = on_int s 0 (λ n. on_long s 2 (λ a. words 3 (long_w
 abbrev pub int_converted : Conv → List Sight → Effect
 int_converted to s = on_int s 0 (λ a. words 1 (int_word (result_of_conversion to a)))
 
+-- what i2l, l2i, i2b, i2c and i2s do (JVMS 6.5)
 unfoldable pub convert_effect : Conv → List Sight → Effect
 convert_effect conv.IntToLong s = on_int s 0 (λ a. words 1 (long_words (result_of_conversion conv.IntToLong a)))
 convert_effect conv.LongToInt s = on_long s 1 (λ a. words 2 (int_word (result_of_conversion conv.LongToInt a)))
@@ -91,5 +99,6 @@ convert_effect conv.IntToByte s = int_converted conv.IntToByte s
 convert_effect conv.IntToChar s = int_converted conv.IntToChar s
 convert_effect conv.IntToShort s = int_converted conv.IntToShort s
 
+-- what lcmp does (JVMS 6.5)
 unfoldable pub compare_effect : List Sight → Effect
 compare_effect s = on_long s 1 (λ b. on_long s 3 (λ a. words 4 (int_word (result_of_comparison a b))))

@@ -23,6 +23,7 @@ abbrev pub made_of : Outline → TypeRef → Option ℕ → Effect
 made_of o t None = stuck
 made_of o t (Some class) = starting class (making 0 (Make t (size_of_type o t) []))
 
+-- what new does: the class is started first (JVMS 6.5)
 unfoldable pub new_effect : Outline → Use → Effect
 new_effect o u = on_type o u (λ t. made_of o t (class_of_type t))
 
@@ -36,6 +37,7 @@ kind_of_field o field = field_kind o.classes (field_at o.classes field).field
 abbrev pub class_of_field : Outline → ℕ → ℕ
 class_of_field o field = (field_at o.classes field).class
 
+-- what getstatic does: the class that declares the field is started first (JVMS 6.5)
 unfoldable pub get_static_effect : Outline → Use → Effect
 get_static_effect o u = on_field o u read where
   read : ℕ → TypeRef → Effect
@@ -50,6 +52,7 @@ put_static_effect o u = on_field o u written where
       let n = kind_words kind in
       starting (class_of_field o f) (acting n (SetStatic (slot_of o.classes f) kind (OfOperand (n - 1)) ∷ []))
 
+-- what getfield does (JVMS 6.5)
 unfoldable pub get_field_effect : Outline → Use → List Sight → Effect
 get_field_effect o u s = on_field o u read where
   read : ℕ → TypeRef → Effect
@@ -57,6 +60,7 @@ get_field_effect o u s = on_field o u read where
       let kind = kind_of_field o f in
       on_object o named s 0 (λ it. words 1 (loaded kind (OfPlace 0 (slot_of o.classes f) kind)))
 
+-- what putfield does (JVMS 6.5)
 unfoldable pub put_field_effect : Outline → Use → List Sight → Effect
 put_field_effect o u s = on_field o u written where
   written : ℕ → TypeRef → Effect
@@ -67,6 +71,7 @@ put_field_effect o u s = on_field o u written where
 
 -- ---- casts, by the types of the run: null passes each cast, and is an instance of nothing
 
+-- what checkcast does (JVMS 6.5)
 unfoldable pub cast_effect : Outline → Use → List Sight → Effect
 cast_effect o u s = on_type o u cast where
   cast : TypeRef → Effect
@@ -74,6 +79,7 @@ cast_effect o u s = on_type o u cast where
       on_held (words 0 []) s 0
       (λ it. if is_sub o.classes it.type t then words 0 [] else thrown o (codes "java/lang/ClassCastException"))
 
+-- what instanceof does (JVMS 6.5)
 unfoldable pub is_a_effect : Outline → Use → List Sight → Effect
 is_a_effect o u s = on_type o u asked where
   asked : TypeRef → Effect

@@ -92,6 +92,7 @@ opening_frames p methods arguments = start_frames p methods ++ new_frame p p.out
 abbrev pub framed : State → List Frame → State
 framed x frames = if nat_lt x.depth (length frames) then stopped (record x { frames = [] }) (end.TooDeep 1) else record x { frames = frames }
 
+-- the state at the opening of a run, or its end
 unfoldable pub opening : Program → Choose → Job → Store → Moved
 opening p choose job store =
     let o = p.outline in

@@ -67,6 +67,7 @@ abbrev pub inner_of : Outline → Store → Object → Inner
 inner_of o store object =
     if has_hidden_field o (type_numbered o object.class) then led_to o store (slice_index_or object.elements 0 0) else NoField
 
+-- what is seen of an object
 unfoldable pub looks : Outline → Store → Object → Looks
 looks o store object = record {
   type = type_numbered o object.class;

@@ -115,6 +115,7 @@ objects_made actions = count_by is_make actions where
   is_make (Make t len content) = true
   is_make action = false
 
+-- what the next step costs: 1, or as many as it makes objects
 unfoldable pub cost : Program → State → ℕ
 cost p x = max 1 (objects_made (next_effect p x).actions)
 

@@ -15,7 +15,7 @@ use std::alloc::{AllocError, AllocFailed, Global};
 /// Why a job isn't done. Each program refuses for some of these.
 #[derive(Debug, Drop)]
 pub enum JobRefusal<'a> {
-    /// For the words, for a read, for want of memory, or since it isn't built so far.
+    /// For the words, for a read, or for want of memory.
     Shared(Refusal<'a>),
     /// There are so many class files, more than the limit.
     TooManyFiles(usize),

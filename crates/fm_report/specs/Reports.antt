@@ -14,10 +14,11 @@ use Rattle.fm_world.specs.Members.{methods_of}
 use Rattle.fm_world.specs.Programs.{Program}
 use Rattle.fm_report.specs.declared.status.TheConstants.{UNCAUGHT, EXHAUSTED, FAULT, INIT_FAILED, STORE_FULL, OTHER_EXIT}
 
--- a class and a method as text, the method with its class and its descriptor
+-- a class as text
 abbrev pub class_text : Program → ℕ → List ℕ
 class_text p class = printed (class_at p.outline.classes class).name
 
+-- a method as text, with its class and its descriptor
 abbrev pub full_method_text : Program → ℕ → List ℕ
 full_method_text p method = printed (method_text (declared_name p.outline.classes method))
 

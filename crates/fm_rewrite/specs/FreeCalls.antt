@@ -36,6 +36,7 @@ abbrev pub call_in_code : Program → ℕ → Option Code → Option ℕ
 call_in_code p method None = None
 call_in_code p method (Some code) = call_in_items p method code.items
 
+-- the offset of the first one in a method
 abbrev pub call_in_method : Program → ℕ → Option ℕ
 call_in_method p method = call_in_code p method (coded (method_info p method).body)
 

@@ -79,6 +79,7 @@ abbrev pub IsPlannedIn : Program → Summaries → ℕ → Option Code → Plann
 IsPlannedIn p summaries method None done = done ≡ planned.Same
 IsPlannedIn p summaries method (Some code) done = IsPlannedCode p summaries method code done
 
+-- what is to be done with a method of the program
 abbrev pub IsPlanned : Program → Summaries → ℕ → Planned → Type 0
 IsPlanned p summaries method done = IsPlannedIn p summaries method (code_at p method) done
 

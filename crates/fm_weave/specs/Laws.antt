@@ -25,6 +25,7 @@ pub record IsWovenAlike (free : ℕ) (code : Code) (ins : Insertions) (plan : Pl
   pub items : items_by free code plan ≡ woven free code ins
   pub code_is : code_by free code plan ≡ woven_code free code ins
 
+-- what is woven by a plan that stands for insertions is what the definitions insert
 abbrev pub PlansAreInsertions : Type 0
 PlansAreInsertions = (free : ℕ) (code : Code) (ins : Insertions) (plan : Plan) → IsWholePlan code ins plan → IsWovenAlike free code ins plan
 

@@ -44,9 +44,11 @@ abbrev pub methods_from : ℕ → List DeclaredClass → List OwnedMethod
 methods_from class [] = []
 methods_from class (c ∷ classes) = owned_methods class c ++ methods_from (class + 1) classes
 
+-- the fields of all classes, by number
 unfoldable pub fields_of : List DeclaredClass → List OwnedField
 fields_of classes = fields_from 0 classes
 
+-- the methods of all classes, by number
 unfoldable pub methods_of : List DeclaredClass → List OwnedMethod
 methods_of classes = methods_from 0 classes
 
@@ -128,6 +130,7 @@ instance_slot classes class index =
 abbrev pub static_slot : List DeclaredClass → ℕ → ℕ
 static_slot classes field = count_by (λ f. is_static f.field.flags) (take field (fields_of classes))
 
+-- the place of a field, among the static fields or in the objects of its class
 unfoldable pub slot_of : List DeclaredClass → ℕ → ℕ
 slot_of classes field =
     let owned = field_at classes field in
@@ -150,5 +153,6 @@ own_kinds classes c = hidden_kinds c.hidden ++ filter_map kind_of_instance c.fie
   kind_of_instance : DeclaredField → Option Kind
   kind_of_instance f = if is_instance f.flags then Some (field_kind classes f) else None
 
+-- the kinds of the places of a class's objects
 unfoldable pub kinds_of : List DeclaredClass → ℕ → List Kind
 kinds_of classes class = flat_map (λ above. own_kinds classes (class_at classes above)) (reverse (chain_of classes class))

@@ -136,9 +136,11 @@ uses_of o given = replicate (length built_in) [] ++ map (class_uses o) given
 
 -- ---- the program
 
+-- of each method its code, if it has one
 unfoldable pub codes_of : List ClassDef → List (Option Code)
 codes_of given = replicate (length (methods_of built_in)) None ++ flat_map (λ c. map code_of c.methods) given
 
+-- the program of class files with a main class of this name
 unfoldable pub program_of : List ClassDef → List ℕ → Program
 program_of given main =
     let o = outline_of given main in
@@ -154,6 +156,7 @@ class_id class = record { 0 = class }
 abbrev pub method_id : ℕ → MethodId
 method_id method = record { 0 = method }
 
+-- what a program tells of a class
 unfoldable pub class_info : Outline → ℕ → ClassInfo
 class_info o class =
     let c = class_at o.classes class in
@@ -182,6 +185,7 @@ body_of m code = by_row m.row where
 abbrev pub code_at : Program → ℕ → Option Code
 code_at p method = slice_index_or p.codes method None
 
+-- what a program tells of a method
 unfoldable pub method_info : Program → ℕ → MethodInfo
 method_info p method =
     let owned = method_at p.outline.classes method in
@@ -203,6 +207,7 @@ first_value o (Some (constant.Int value)) = resolved.OfInt value
 first_value o (Some (constant.Long value)) = resolved.OfLong value
 first_value o (Some (constant.Text text)) = with_number resolved.OfText (text_number o.texts (units text))
 
+-- what a program tells of a field
 unfoldable pub field_info : Outline → ℕ → FieldInfo
 field_info o field =
     let owned = field_at o.classes field in

@@ -1,4 +1,4 @@
-use Rattle.std.proofs.Common.{◌∙◌, length, take, arith}
+use Rattle.std.proofs.Common.{◌∙◌, take, arith}
 use Rattle.std.proofs.lemmas.List.{length-set, take-set-le}
 use Rattle.fm_frames.proofs.FrameValues.{cleared-next}
 use Rattle.fm_frames.proofs.frames.clear_values.Goals as goal
