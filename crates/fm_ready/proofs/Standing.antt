@@ -40,7 +40,7 @@ pub record IsStanding (p : Program) (x : State) : Type 0 where
   pub after : TypeState
   pub row : row_after p.outline frame.method frame.item (made_at p frame.method code) (use_by p frame.method insn) insn known ≡ Some after
 
-standing_by : (p : Program) (typings : Typings) (z : State) (frames : List Frame) → IsSoundBy p typings (record z { frames = frames }) → z.ended ≡ None
+pub standing_by : (p : Program) (typings : Typings) (z : State) (frames : List Frame) → IsSoundBy p typings (record z { frames = frames }) → z.ended ≡ None
     → IsStanding p (record z { frames = frames })
 standing_by p typings z [] sound goes = let some = sound.running goes in absurd (omega (arith, some))
 standing_by p typings z (f ∷ callers) sound goes =
