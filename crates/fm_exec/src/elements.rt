@@ -41,9 +41,9 @@ fn has_letter(e: Elem, base: Base) -> bool
     }
 }
 
-// Whether the type is that of an array with such elements.
+/// Whether the type is that of an array with such elements. Takes no memory.
 #[inline(always)]
-fn is_array_of(e: Elem, t: TypeRef) -> bool
+pub fn is_array_of(e: Elem, t: TypeRef) -> bool
     ensures { result ≡ is_array_of e t }
 {
     match e {
@@ -68,9 +68,9 @@ fn kind_of_base(base: Base) -> Kind
     }
 }
 
-// The kind of an array's elements.
+/// The kind of an array's elements. Takes no memory.
 #[inline(always)]
-fn element_kind(t: TypeRef) -> Kind
+pub fn element_kind(t: TypeRef) -> Kind
     ensures { result ≡ element_kind t }
 {
     let dims = t.dims.saturating_sub(1);
@@ -81,9 +81,9 @@ fn element_kind(t: TypeRef) -> Kind
     }
 }
 
-// The place that an index means, where the array has it.
+/// The place that an index means, where the array has it. Takes no memory.
 #[inline(always)]
-fn place_in(len: u32, index: i32) -> Option<u32>
+pub fn place_in(len: u32, index: i32) -> Option<u32>
     ensures { result ≡ (if int_lt index (pos 0) || not (int_lt index (pos len)) then None
         else Some (unsigned_abs index)) }
 {
@@ -127,9 +127,9 @@ pub fn array_load<M: Memory>(
     give(machine, 2, kind, value)
 }
 
-// The words of an element on a stack.
+/// The words of an element on a stack. Takes no memory.
 #[inline(always)]
-fn element_words(e: Elem) -> usize
+pub fn element_words(e: Elem) -> usize
     ensures value { result ≡ element_words e }
     ensures some { 0 < result }
     ensures few { result ≤ 2 }

@@ -22,7 +22,10 @@ pub use arrays::{array_length, len_of, new_array, new_references};
 pub use calls::{argument_words, kind_words, leave};
 pub use casts::{cast, is_instance};
 pub use constants::{int_constant, long_constant, nop, null, text_constant};
-pub use elements::{array_load, array_store, element_type, reference_store};
+pub use elements::{
+    array_load, array_store, element_kind, element_type, element_words, is_array_of, place_in,
+    reference_store,
+};
 pub use fields::{get_field, put_field};
 pub use held::{fits_named, give, refuse, type_in};
 pub use jumps::{go_to, if_int, if_null, if_pair, if_same, lookup_switch, table_switch};

@@ -1,5 +1,5 @@
 -- Frames that lie in one list: what a change of the list, or of the topmost cursor, does to them.
-use Rattle.std.proofs.Common.{◌≡◌, ℕ, Bool, ◌+◌, ◌-◌, ◌<◌, ◌≤◌, ◌⊎◌, inl, inr, List, [], ◌∷◌, ◌++◌, length, take, drop, set, reverse, Some, None, get_or, refl, ap, sym, ◌∙◌, subst, slice_get, option_map, map, zero, suc, ◌≢◌, add-one, replicate, max, take_all, option_to_list, append_assoc, true, false, leb, arith}
+use Rattle.std.proofs.Common.{◌≡◌, ℕ, Bool, ◌+◌, ◌-◌, ◌<◌, ◌≤◌, ◌⊎◌, inl, inr, List, [], ◌∷◌, ◌++◌, length, take, drop, set, reverse, Some, None, get_or, refl, ap, sym, ◌∙◌, subst, slice_get, option_map, map, zero, suc, ◌≢◌, add-one, replicate, max, take_all, option_to_list, append_assoc, true, false, leb, length-set, arith}
 use Rattle.std.proofs.Math.ListN.{drop_of_length-le}
 use Rattle.std.proofs.Math.Seq.{drop-append_seam, take-set-lt}
 use Rattle.std.proofs.lemmas.List.{replicate_more, take_more_set, drop-append-le, take-append-le, take-append-drop, drop-take, reverse-append, length-reverse, length-take, length-drop, get_or-reverse, length-append, take-set-le, drop-set-lt, drop-set-add, drop-drop, length-replicate, reverse-reverse}
@@ -151,6 +151,41 @@ swapped has values used takes kept c callers v x laid is some few much =
     (dropped has values used takes kept c callers x laid is (omega arith))
     (take_more_set values kept v (omega arith))
     ∙ given-for takes v x
+
+wide-for : (takes : ℕ) (v : Value) (x : List Frame)
+    → on_top (λ f. record f { stack = value.Top ∷ f.stack }) (on_top (λ f. record f { stack = v ∷ f.stack }) (on_top (λ f. record f { stack = drop takes f.stack }) x))
+    ≡ on_top (λ f. record f { stack = value.Top ∷ v ∷ drop takes f.stack }) x
+wide-for takes v [] = refl
+wide-for takes v (f ∷ callers) = refl
+
+-- a value that is written behind the used ones leaves these laid
+laid-behind : (has : Bool) (values : List Value) (used : ℕ) (c : Cursor) (callers : List Cursor) (v : Value) → AreLaid has values used c callers
+    → used < length values → AreLaid has (set values used v) (used + 1) c callers
+laid-behind has values used c callers v laid room =
+    let long : length (set values used v) ≡ length values = length-set values used v in
+    let P : List Value → Type 0 = λ front. AreTiled front callers in (
+      laid.0,
+      omega arith,
+      omega (arith, long),
+      (λ none. omega (arith, long, laid.3 none)),
+      subst P (sym (take-set-le c.locals values used v (omega arith))) laid.4,
+    )
+
+-- a long in place of several, with its second half on top
+pub swapped_wide : (has : Bool) (values : List Value) (used takes kept : ℕ) (c : Cursor) (callers : List Cursor) (v : Value) (x : List Frame)
+    → AreLaid has values used c callers → frames_in has values used c callers ≡ x → takes ≤ used - c.stack → kept ≡ used - takes → kept + 2 ≤ length values
+    → frames_in has (set (set values kept v) (kept + 1) value.Top) (kept + 2) c callers ≡ on_top (λ f. record f { stack = value.Top ∷ v ∷ drop takes f.stack }) x
+swapped_wide has values used takes kept c callers v x laid is few much room =
+    let half : List Value = set values kept v in
+    let below : AreLaid has values kept c callers = (laid.0, omega arith, omega arith, laid.3, laid.4) in
+    let word = pushed has values half kept (kept + 1) c callers v (on_top (λ f. record f { stack = drop takes f.stack }) x) below
+    (dropped has values used takes kept c callers x laid is (omega arith)) (take_more_set values kept v (omega arith)) in
+    let more : take (kept + 2) (set half (kept + 1) value.Top) ≡ take (kept + 1) half ++ value.Top ∷ [] =
+    ap (λ n. take n (set half (kept + 1) value.Top)) (let e : kept + 2 ≡ kept + 1 + 1 = omega arith in e)
+    ∙ take_more_set half (kept + 1) value.Top (omega (arith, length-set values kept v)) in
+    pushed has half (set half (kept + 1) value.Top) (kept + 1) (kept + 2) c callers value.Top _
+    (laid-behind has values kept c callers v below (omega arith)) word more
+    ∙ wide-for takes v x
 
 -- ---- a local is written
 

@@ -94,6 +94,15 @@ fn lengthen(values: &mut Vec<Value>, len: usize) -> Result<(), NoMemory>
     Ok(())
 }
 
+// Whether a long fits from a place on, behind which so many words lie, of so many values.
+#[inline(always)]
+fn fits_long(place: usize, words: usize, len: usize) -> bool
+    requires { place + words ≤ len }
+    ensures { result ≡ true → place + 2 ≤ len }
+{
+    if words < 2 { len - place >= 2 } else { true }
+}
+
 impl Frames {
     /// No frames. Takes no memory.
     pub fn new(alloc: Global) -> Frames
@@ -220,6 +229,27 @@ impl Frames {
         let place = self.used - takes;
         self.values[place] = value;
         self.used = place + 1;
+        true
+    }
+
+    /// Puts a long and its second half, which is on top, in place of so many words of the stack, if they are
+    /// there and there is room for both; tells whether that was done. Takes no memory.
+    #[inline(always)]
+    pub fn put_wide_over(&mut self, takes: usize, value: Value) -> bool
+        ensures put { result ≡ true → self.new
+            ≡ on_top (λ f. record f { stack = NoValue ∷ value ∷ drop takes f.stack }) self.old }
+        ensures same { result ≡ false → self.new ≡ self.old }
+    {
+        if takes > self.used - self.topmost.stack {
+            return false;
+        }
+        let place = self.used - takes;
+        if !fits_long(place, takes, self.values.len()) {
+            return false;
+        }
+        self.values[place] = value;
+        self.values[place + 1] = Value::Top;
+        self.used = place + 2;
         true
     }
 
