@@ -97,7 +97,7 @@ public class Main {
     }
     static class Told extends RuntimeException { Told(String s) { super(s); } public String getMessage() { return "told " + super.getMessage(); } public String toString() { return "Told with " + getMessage(); } }
     static void throwables() {
-        Throwable[] all = { new Throwable(), new Throwable("t"), new Exception(), new Exception("e"), new Error(), new Error("r"), new RuntimeException(), new RuntimeException("u"),
+        Throwable[] all = { new Throwable(), new Throwable("t"), new Exception(), new Exception("e"), new Error(), new Error("r"), new LinkageError(), new LinkageError("k"), new IncompatibleClassChangeError(), new IncompatibleClassChangeError("h"), new RuntimeException(), new RuntimeException("u"),
             new java.io.IOException(), new java.io.IOException("io"), new ArithmeticException(), new ArithmeticException("a"), new ArrayStoreException(), new ArrayStoreException("s"),
             new ClassCastException(), new ClassCastException("c"), new IndexOutOfBoundsException(), new IndexOutOfBoundsException("i"), new NegativeArraySizeException(), new NegativeArraySizeException("n"),
             new NullPointerException(), new NullPointerException("p"), new IllegalArgumentException(), new IllegalArgumentException("g"), new IllegalStateException(), new IllegalStateException("l"),
@@ -115,6 +115,10 @@ public class Main {
                 say("input", e == all[i]);
             } catch (Exception e) {
                 say("exception", e == all[i]);
+            } catch (IncompatibleClassChangeError e) {
+                say("change", e == all[i]);
+            } catch (LinkageError e) {
+                say("linkage", e == all[i]);
             } catch (Error e) {
                 say("error", e == all[i]);
             } catch (Throwable e) {
