@@ -16,9 +16,9 @@ use fm_code::Test;
 use fm_frames::{Look, Machine};
 use fm_world::Program;
 
-// Whether the test holds of two ints.
+/// Whether the test holds of two ints. Takes no memory.
 #[inline(always)]
-fn holds(test: Test, a: i32, b: i32) -> bool
+pub fn holds(test: Test, a: i32, b: i32) -> bool
     ensures { result ≡ holds test a b }
 {
     match test {

@@ -54,9 +54,9 @@ pub fn store<M: Memory>(machine: &mut Machine<M>, program: &Program, kind: Reg, 
     }
 }
 
-// The sum of an int and a number, which wraps.
+/// The sum of an int and a number, which wraps. Takes no memory.
 #[inline(always)]
-fn int_sum(n: i32, by: i16) -> i32
+pub fn int_sum(n: i32, by: i16) -> i32
     ensures { result ≡ signed 32 (n +ℤ by) }
 {
     n.wrapping_add(i32::from(by))
