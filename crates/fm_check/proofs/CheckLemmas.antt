@@ -1,6 +1,6 @@
 -- From the code that is walked over to the method.
 use Rattle.std.proofs.Common.{◌≡◌, sym, ◌∙◌, ℕ, List, Option, Some, None, subst}
-use Rattle.std.specs.Prelude.{Err, IfOk, IsSomeAnd, Ok, OnOk, Result}
+use Rattle.std.specs.Prelude.{Err, IfOk, IsSomeAnd, Ok, OnOk, Result, ◌<◌, length}
 use Rattle.fm_check.specs.declared.error.CheckFail.{CheckFail}
 use Rattle.fm_check.specs.declared.error.CheckFail.TheVariants as fail
 use Rattle.fm_check.specs.inner.Judgements.{Judged}
@@ -8,14 +8,14 @@ use Rattle.fm_types.specs.Typings.{states_of}
 use Rattle.fm_types.specs.declared.states.Typing.{Typing}
 use Rattle.fm_base.proofs.OptionFacts.{IsSomeAnd-at_some, IsSomeAnd-from_some, same_value, Some-from_some_and}
 use Rattle.fm_check.specs.Checking.{coded, HasCode, IsCheckable, IsLeastTyping, IsNarrow, IsTooWide}
-use Rattle.fm_check.specs.inner.Walks.{IsLeast, Untypable}
+use Rattle.fm_check.specs.inner.Steps.{IsLeast}
+use Rattle.fm_walk.specs.inner.Walks.{Untypable}
 use Rattle.fm_known.specs.inner.Tasks.{IsSound, Task}
 use Rattle.fm_code.specs.declared.code_array.Code.{Code}
 use Rattle.fm_types.specs.States.{TypeState}
 use Rattle.fm_types.specs.Typed.{IsTypingOf, Typed}
 use Rattle.fm_world.specs.Members.{methods_of}
 use Rattle.fm_world.specs.Programs.{code_at, method_info, Program}
-use Rattle.std.specs.Prelude.{◌<◌, length}
 
 abbrev pub task_of : Program → ℕ → Code → Task
 task_of p method code = record { program = p; number = method; code = code }

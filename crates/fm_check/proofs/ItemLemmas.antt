@@ -1,63 +1,36 @@
 -- What an item brings on, and what that shows of typings; and that states at which no item waits are the least typing.
-use Rattle.std.proofs.Common.{◌≡◌, ◌≢◌, refl, sym, ◌∙◌, ap, inl, inr, ⊎_elim, ℕ, zero, suc, ◌+◌, ◌<◌, ◌≤◌, ◌==◌, nat_le, Bool, true, false, List, [], ◌∷◌, ◌++◌, length, reverse, take, get_or, set, replicate, Option, Some, None, is_some, option_and_then, cond, Contains, subst, sum_by, arith, length-append, length-set}
-use Rattle.std.specs.Prelude.{Any, Err, IfOk, IsSomeAnd, MatchBool, Ok, Result, slice_get}
+use Rattle.std.proofs.Common.{◌≡◌, ◌≢◌, refl, sym, ◌∙◌, ap, inl, inr, ⊎_elim, ℕ, zero, suc, ◌+◌, ◌<◌, ◌≤◌, ◌==◌, Bool, true, false, List, [], ◌∷◌, ◌++◌, length, reverse, take, get_or, set, replicate, Option, Some, None, is_some, option_and_then, cond, Contains, subst, sum_by, arith, length-append, length-set}
+use Rattle.std.specs.Prelude.{Any, slice_get}
 use Rattle.std.specs.List.{AllByRecursion, slice_index_or}
 use Rattle.std.specs.Option.{option_map}
-use Rattle.std.proofs.lemmas.Bool.{and_from, and_parts, cases_eq, cases_lt, eqb-true, eq-eqb, false≢true, leb-true}
-use Rattle.std.proofs.lemmas.List.{append-nil, get_or-set_same, get_or-replicate, get_or-set_other, get_or_past, length-replicate, reverse-reverse, take_more}
+use Rattle.std.proofs.lemmas.Bool.{and_from, and_parts, cases_eq, cases_lt, eqb-true, eq-eqb, false≢true}
+use Rattle.std.proofs.lemmas.List.{append-nil, get_or-set_same, get_or-replicate, get_or-set_other, get_or_past, length-replicate, reverse-reverse}
 use Rattle.std.proofs.lemmas.List.Elements.{All-contains, All-from_recursion, Contains-append_left, Contains-push, Contains-push_cases}
 use Rattle.std.proofs.lemmas.Option.{slice_get_past}
-use Rattle.fm_base.proofs.ListFacts.{AllByRecursion-append, AllByRecursion-weaker}
+use Rattle.fm_catch.proofs.HandlerLemmas.{each_handler, handlers_later}
 use Rattle.fm_base.proofs.OptionFacts.{IsSomeAnd-at_some, IsSomeAnd-from_some, option_map-some, same_value, Some-from_some_and}
-use Rattle.fm_known.proofs.MergingLemmas.{fits-from, fits-parts, state-refl, state-trans}
-use Rattle.fm_check.proofs.WalkLemmas.{fits_at, fits_later, fits_one, given_at, Went-none, Went-then, with_waiting-waits}
+use Rattle.fm_known.proofs.MergingLemmas.{state-refl, state-trans}
+use Rattle.fm_walk.proofs.WalkLemmas.{fits_at, fits_later, fits_one, given_at, kept-locals, kept-stack, reachable-more, Went-none, Went-then, with_waiting-waits}
 use Rattle.fm_known.proofs.RisenLemmas.{alike-then, same_locals}
 use Rattle.fm_known.specs.declared.known.Place.{Place}
 use Rattle.fm_known.specs.inner.Ranks.{rank_at}
 use Rattle.fm_known.specs.inner.Risen.{IsAlikeBut}
-use Rattle.fm_check.specs.inner.Walks.{Brings, BringsAll, BringsCaught, BringsHandlers, BringsOn, falls_off, GoesOver, HasSettled, is_marked, IsForced, IsItem, IsKept, IsLeast, IsMet, IsMetBut, IsNearlyMet, next_items, not_begun, Pops, risen_at, Rises, Stands, Takes, Untypable, Walked, Walking, Went, with_risen, with_state, work_left}
+use Rattle.fm_walk.specs.inner.Walks.{Brings, is_marked, IsForced, IsKept, not_begun, Pops, risen_at, Rises, Stands, Untypable, Walked, Went, with_risen, with_state, work_left}
+use Rattle.fm_check.specs.inner.Steps.{BringsAll, BringsOn, falls_off, GoesOver, HasSettled, IsItem, IsLeast, IsMet, IsMetBut, IsNearlyMet, next_items, Takes, Walking}
+use Rattle.fm_catch.specs.inner.Runs.{BringsHandlers}
 use Rattle.fm_known.specs.inner.Tasks.{IsSound, is_within, Task}
-use Rattle.fm_code.specs.CodeRules.{HandlerIsValid}
-use Rattle.fm_code.specs.Edges.{Catches, falls_through, insn_of, IsEdge, IsFlowPath, IsHandlerEdge, IsNormalEdge, IsReachable, LeadsTo}
+use Rattle.fm_code.specs.Edges.{Catches, falls_through, insn_of, IsEdge, IsFlowPath, IsNormalEdge, IsReachable, LeadsTo}
 use Rattle.fm_code.specs.SpellsCode.{targets_of}
 use Rattle.fm_code.specs.declared.code_array.Code.{Code}
-use Rattle.fm_code.specs.declared.code_array.Handler.{Handler}
 use Rattle.fm_code.specs.declared.code_array.Item.{Item}
 use Rattle.fm_code.specs.declared.instructions.Insn.{Insn}
-use Rattle.fm_base.specs.declared.kinds.TypeRef.{TypeRef}
 use Rattle.fm_flow.proofs.CodeFacts.{items_counted, targets_inside}
 use Rattle.fm_flow.proofs.RisingLemmas.{Contains-take_more}
 use Rattle.fm_flow.proofs.RowFacts.{has-replicate}
-use Rattle.fm_types.proofs.Order.{fits-refl}
 use Rattle.fm_types.proofs.RowOrder.{rows-keep_order, rows-keep_whole}
 use Rattle.fm_types.specs.Rows.{row_after}
 use Rattle.fm_types.specs.States.{state_fits, TypeState}
 use Rattle.fm_types.specs.Typed.{after_item, caught_type, entry_state, FitsAt, FitsHandler, handler_state, IsTypingOf, made_at, state_at, use_by}
-use Rattle.fm_types.specs.declared.slots.Slot.TheVariants as slot
-
--- ---- what a call tells in its two cases
-
-pub ok_weaker : {E : Type 0} (A B C : Type 0) (r : Result Bool E) → (A → B) → IfOk r (λ b. MatchBool b A C) → IfOk r (λ b. MatchBool b B C)
-ok_weaker A B C (Ok true) f h = f h
-ok_weaker A B C (Ok false) f h = h
-ok_weaker A B C (Err e) f h = tt
-
-pub match_true : (A B : Type 0) (b : Bool) → b ≡ true → MatchBool b A B → A
-match_true A B true e h = h
-match_true A B false e h = absurd (false≢true e)
-
-pub match_false : (A B : Type 0) (b : Bool) → b ≡ false → MatchBool b A B → B
-match_false A B true e h = absurd (false≢true (sym e))
-match_false A B false e h = h
-
--- ---- paths
-
-IsFlowPath-more : (code : Code) (a : ℕ) (path : List ℕ) (j next : ℕ) → IsFlowPath code a path j → IsEdge code j next → IsFlowPath code a (path ++ next ∷ []) next
-IsFlowPath-more code a [] j next same edge = (subst (λ (n : ℕ). IsEdge code n next) (sym same) edge, refl)
-IsFlowPath-more code a (b ∷ path) j next (first, rest) edge = (first, IsFlowPath-more code b path j next rest edge)
-
-reachable-more : (code : Code) (j next : ℕ) → IsReachable code j → IsEdge code j next → IsReachable code next
-reachable-more code j next (path, leads) edge = (path ++ next ∷ [], IsFlowPath-more code 0 path j next leads edge)
 
 -- ---- instructions
 
@@ -169,95 +142,6 @@ off_end t j i at falls states typing =
       falls = IsSomeAnd-from_some (insn_of t.code j) (λ x. falls_through x ≡ true) i at.is parts.0;
     })
 
--- ---- handlers
-
-handler-fits : (t : Task) (caught : TypeRef) (s u : TypeState) → IsSound t → state_fits t.program.outline s u ≡ true
-    → state_fits t.program.outline (handler_state caught s) (handler_state caught u) ≡ true
-handler-fits t caught s u sound fits =
-    let parts = fits-parts t.program.outline s u fits in
-    fits-from t.program.outline (handler_state caught s) (handler_state caught u) (record {
-      locals = parts.locals;
-      stack = (fits-refl t.program.outline sound.tree (slot.Ref caught), tt);
-      built = parts.built;
-    })
-
-pub each_handler : (P : Handler → Type 0) (handlers : List Handler) (h : Handler) → Contains handlers h → AllByRecursion P handlers → P h
-each_handler P handlers h found all = All-contains P handlers h (All-from_recursion P handlers all) found
-
--- what an item brings to a handler
-pub caught_forced : (t : Task) (j : ℕ) (h : Handler) (caught : TypeRef) (s : TypeState) → IsSound t → IsForced t j s → Contains t.code.handlers h
-    → h.start ≤ j → j < h.end → caught_type t.program t.number h ≡ Some caught → IsForced t h.handler (handler_state caught s)
-caught_forced t j h caught s sound forced listed after before is =
-    let catches : Catches j h.handler h = record { after_start = after; before_end = before; handler_is = refl } in
-    let valid = each_handler (HandlerIsValid sound.rules.0 (length t.code.items)) t.code.handlers h listed (sound.rules.1).handlers in
-    let edge : IsHandlerEdge t.code j h.handler = record {
-      inside = valid.handler;
-      from_item = forced.inside;
-      caught = (listed.0, h, listed.1, listed.2, catches);
-    } in
-    record {
-      reachable = reachable-more t.code j h.handler forced.reachable (inr edge);
-      inside = valid.handler;
-      whole = refl;
-      below = λ states typing.
-          let found = fits_one t states j s (forced.below states typing) in
-          let meets = typing.items j found.state found.is in
-          let fits = each_handler (FitsHandler t.program t.number states j found.state) t.code.handlers h listed meets.handlers catches in
-          let at = fits_one t states h.handler (handler_state caught found.state)
-          (IsSomeAnd-at_some (caught_type t.program t.number h) (λ c. FitsAt t.program states h.handler (handler_state c found.state)) caught is fits) in
-          fits_at t states h.handler (handler_state caught s) at.state at.is
-          (state-trans t.program.outline sound.tree (handler_state caught s) (handler_state caught found.state) at.state
-          (handler-fits t caught s found.state sound found.fits) at.fits);
-    }
-
--- an entry whose range holds the item, and that catches nothing that is thrown
-pub uncaught : (t : Task) (j : ℕ) (h : Handler) (s : TypeState) → IsForced t j s → Contains t.code.handlers h
-    → h.start ≤ j → j < h.end → caught_type t.program t.number h ≡ None → Untypable t
-uncaught t j h s forced listed after before is states typing =
-    let catches : Catches j h.handler h = record { after_start = after; before_end = before; handler_is = refl } in
-    let found = fits_one t states j s (forced.below states typing) in
-    let meets = typing.items j found.state found.is in
-    let fits = each_handler (FitsHandler t.program t.number states j found.state) t.code.handlers h listed meets.handlers catches in
-    subst (λ (c : Option TypeRef). IsSomeAnd c (λ c. FitsAt t.program states h.handler (handler_state c found.state))) is fits
-
--- its state is brought to the handler
-pub BringsCaught-brings : (t : Task) (j : ℕ) (s : TypeState) (h : Handler) (caught : TypeRef) (old new : Walked)
-    → caught_type t.program t.number h ≡ Some caught → Brings t h.handler (handler_state caught s) old new → BringsCaught t j s h old new
-BringsCaught-brings t j s h caught old new is brings = record {
-  went = brings.went;
-  fits = λ catches.
-      IsSomeAnd-from_some (caught_type t.program t.number h) (λ c. FitsAt t.program new.states h.handler (handler_state c s)) caught is brings.fits;
-}
-
-handler_later : (t : Task) (a b : Walked) (j : ℕ) (s : TypeState) (h : Handler) → IsSound t → Rises t.program.outline a b
-    → FitsHandler t.program t.number a.states j s h → FitsHandler t.program t.number b.states j s h
-handler_later t a b j s h sound rises fits catches =
-    let found = Some-from_some_and (caught_type t.program t.number h) (λ c. FitsAt t.program a.states h.handler (handler_state c s)) (fits catches) in
-    IsSomeAnd-from_some (caught_type t.program t.number h) (λ c. FitsAt t.program b.states h.handler (handler_state c s)) found.0 found.1
-    (fits_later t a b h.handler (handler_state found.0 s) sound rises found.2)
-
-pub handlers_later : (t : Task) (a b : Walked) (j : ℕ) (s : TypeState) (handlers : List Handler) → IsSound t → Rises t.program.outline a b
-    → AllByRecursion (FitsHandler t.program t.number a.states j s) handlers → AllByRecursion (FitsHandler t.program t.number b.states j s) handlers
-handlers_later t a b j s handlers sound rises all =
-    AllByRecursion-weaker (FitsHandler t.program t.number a.states j s) (FitsHandler t.program t.number b.states j s)
-    (λ h fits. handler_later t a b j s h sound rises fits) handlers all
-
--- an entry that stands nowhere
-abbrev pub blank : Handler
-blank = record { start = 0; end = 0; handler = 0; catch_class = 0 }
-
-pub BringsHandlers-none : (t : Task) (j : ℕ) (s : TypeState) (w : Walked) → IsSound t → Stands t w → BringsHandlers t j s [] w w
-BringsHandlers-none t j s w sound stands = record { went = Went-none t w sound stands; fits = tt }
-
-pub BringsHandlers-more : (t : Task) (j : ℕ) (s : TypeState) (handlers : List Handler) (k : ℕ) (a b c : Walked) → IsSound t → k < length handlers
-    → BringsHandlers t j s (take k handlers) a b → BringsCaught t j s (get_or handlers k blank) b c → BringsHandlers t j s (take (k + 1) handlers) a c
-BringsHandlers-more t j s handlers k a b c sound inside so_far one = record {
-  went = Went-then t a b c sound so_far.went one.went;
-  fits = subst (λ (hs : List Handler). AllByRecursion (FitsHandler t.program t.number c.states j s) hs) (sym (take_more handlers k blank inside))
-      (AllByRecursion-append (FitsHandler t.program t.number c.states j s) (take k handlers) (get_or handlers k blank ∷ [])
-      (handlers_later t b c j s (take k handlers) sound one.went.rises so_far.fits) (one.fits, tt));
-}
-
 -- ---- several items
 
 pub BringsAll-none : (t : Task) (s : TypeState) (w : Walked) → IsSound t → Stands t w → BringsAll t [] s w w
@@ -326,12 +210,6 @@ BringsOn-all t j i after old new stays all = record {
 }
 
 -- ---- an item is gone over
-
-pub kept-locals : (code : Code) (s : TypeState) → is_within code s ≡ true → length s.locals ≡ code.max_locals
-kept-locals code s h = eqb-true (length s.locals) code.max_locals (and_parts (length s.locals == code.max_locals) (nat_le (length s.stack) code.max_stack) h).0
-
-pub kept-stack : (code : Code) (s : TypeState) → is_within code s ≡ true → length s.stack ≤ code.max_stack
-kept-stack code s h = leb-true (length s.stack) code.max_stack (and_parts (length s.locals == code.max_locals) (nat_le (length s.stack) code.max_stack) h).1
 
 is_met : (t : Task) (j : ℕ) (s after : TypeState) (i : Insn) (old middle new : Walked) → IsSound t → IsKept t j s → insn_of t.code j ≡ Some i
     → after_item t.program t.number t.code j s ≡ Some after → BringsHandlers t j s t.code.handlers old middle → BringsOn t j i after middle new

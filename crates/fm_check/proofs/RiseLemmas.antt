@@ -1,251 +1,41 @@
--- Slots that are carried on: what one that an item's state has no room for shows or leaves, and that an item is met of which some places were carried on.
-use Rattle.std.proofs.Common.{◌≡◌, ◌≢◌, refl, sym, ◌∙◌, ap, inl, inr, ◌⊎◌, ⊎_elim, ℕ, ◌+◌, ◌-◌, ◌<◌, ◌==◌, ◌&&◌, ◌||◌, not, Bool, true, false, List, [], ◌∷◌, length, map, take, get_or, reverse, set, All, Option, Some, None, Contains, subst, arith}
+-- Slots that are carried on: that an item is met of which some places were carried on.
+use Rattle.std.proofs.Common.{◌≡◌, refl, sym, ◌∙◌, ap, ◌⊎◌, ⊎_elim, ℕ, ◌+◌, ◌-◌, ◌<◌, ◌==◌, ◌&&◌, Bool, true, false, List, [], ◌∷◌, length, map, take, get_or, All, Option, Some, None, Contains, subst, arith}
 use Rattle.std.specs.Prelude.{IsSomeAnd}
-use Rattle.std.specs.List.{AllByRecursion, AllZip, filter}
-use Rattle.std.proofs.lemmas.Bool.{cases_eq, eqb-true, false≢true}
-use Rattle.std.proofs.lemmas.List.{get_or-set_same, length-reverse, take_more}
-use Rattle.std.proofs.lemmas.List.Elements.{All-contains, All-more, Contains-get_or, Contains-push_cases, recursion_from_All}
-use Rattle.fm_base.proofs.ContainsFacts.{Contains-cons_cases}
-use Rattle.fm_base.proofs.OptionFacts.{IsSomeAnd-at_some, IsSomeAnd-from_some, same_value, Some-from_some_and}
+use Rattle.std.specs.List.{AllByRecursion, AllZip}
+use Rattle.std.proofs.lemmas.Bool.{eqb-true}
+use Rattle.std.proofs.lemmas.List.Elements.{All-contains, Contains-get_or, recursion_from_All}
+use Rattle.fm_walk.proofs.CarryLemmas.{all_held, all_room_later, room_fits, slot_carried}
+use Rattle.fm_base.proofs.OptionFacts.{IsSomeAnd-at_some, IsSomeAnd-from_some, Some-from_some_and}
 use Rattle.fm_base.specs.declared.kinds.TypeRef.{TypeRef}
-use Rattle.fm_check.proofs.ItemLemmas.{after-row, blank, caught_forced, each_handler, item_small, kept-locals, kept-stack, leads_from, leads_to, met_later, next_forced, next_inside}
-use Rattle.fm_known.proofs.MergingLemmas.{fits-from, fits-parts}
-use Rattle.fm_known.proofs.PlaceLemmas.{lost-fits, place_wanted, same_longs, slot-fits, slot-less, with_slot-above, with_slot-alike, with_slot-below, with_slot-read, with_slot-whole, with_slot-within, zip-from, zip-turned}
+use Rattle.fm_check.proofs.ItemLemmas.{after-row, item_small, leads_from, leads_to, met_later, next_forced, next_inside}
+use Rattle.fm_catch.proofs.HandlerLemmas.{caught_alike, caught_forced, each_handler, locals_held, locals_in}
+use Rattle.fm_walk.proofs.WalkLemmas.{kept-locals, kept-stack, fits_one, Went-none, Went-then}
+use Rattle.fm_known.proofs.PlaceLemmas.{same_longs}
 use Rattle.fm_known.proofs.RowFrames.{row-carried}
-use Rattle.fm_check.proofs.WalkLemmas.{fits_at, fits_one, first_unfit, noted-tracked, Went-given, Went-none, Went-then, with_waiting-waits}
 use Rattle.fm_known.specs.declared.known.Place.{Place}
 use Rattle.fm_known.specs.declared.known.Place.TheVariants as place
 use Rattle.fm_known.specs.declared.risen.Rise.{Rise}
-use Rattle.fm_known.specs.inner.Ranks.{IsBounded, state_rank, rank_at}
-use Rattle.fm_known.specs.inner.Risen.{HasPlace, is_local, is_lost, IsAlikeBut, IsCarried, IsLeftAlone, leaves_alone, locals_of, noted, rise_of, slot_at, with_slot, words_taken}
-use Rattle.fm_check.specs.declared.runs.Level.{Level}
-use Rattle.fm_check.specs.inner.Runs.{GivesAll, has_room}
-use Rattle.fm_check.specs.inner.Walks.{CanCarry, CanCarryOne, Carries, CarriesAll, CarriesHandlers, CarriesOn, CarriesOne, falls_off, GoesOver, HandlerHasRoom, HasRoom, is_marked, IsForced, IsKept, IsMet, IsNearlyMet, IsReady, next_items, risen_at, Rises, Stands, Untypable, Walked, Went, with_state}
+use Rattle.fm_known.specs.inner.Risen.{is_local, IsAlikeBut, IsCarried, IsLeftAlone, leaves_alone, locals_of, rise_of, slot_at, words_taken}
+use Rattle.fm_catch.specs.declared.runs.Level.{Level}
+use Rattle.fm_catch.specs.inner.Runs.{GivesAll, has_room}
+use Rattle.fm_walk.specs.inner.Walks.{Carries, HasRoom, IsForced, IsKept, Stands, Walked}
+use Rattle.fm_check.specs.inner.Steps.{CarriesAll, CarriesOn, falls_off, GoesOver, HandlerHasRoom, IsMet, IsNearlyMet, IsReady, next_items}
 use Rattle.fm_known.specs.inner.Tasks.{IsSound, Task}
-use Rattle.fm_code.proofs.EdgesLemmas.{Contains-filter, Contains-from_filter, Contains-from_map, Contains-later, Contains-map}
+use Rattle.fm_code.proofs.EdgesLemmas.{Contains-filter, Contains-from_filter, Contains-map}
 use Rattle.fm_code.specs.Edges.{Catches, falls_through, insn_of, IsNormalEdge, LeadsTo}
 use Rattle.fm_code.specs.declared.code_array.Handler.{Handler}
 use Rattle.fm_code.specs.declared.instructions.Insn.{Insn}
 use Rattle.fm_flow.proofs.RisingLemmas.{Contains-take_more}
-use Rattle.fm_types.proofs.LeastJoins.{join-least}
-use Rattle.fm_types.proofs.Order.{fits-trans}
-use Rattle.fm_types.proofs.StateOrder.{Fitting, IsShaped}
-use Rattle.fm_types.proofs.Zips.{Follows, zip-length}
+use Rattle.fm_types.proofs.StateOrder.{IsShaped}
+use Rattle.fm_types.proofs.Zips.{Follows}
 use Rattle.fm_types.specs.Fits.{fits}
-use Rattle.fm_types.specs.Joins.{IsJoin, join}
 use Rattle.fm_types.specs.Rows.{row_after}
 use Rattle.fm_types.specs.States.{state_fits, TypeState}
-use Rattle.fm_types.specs.Typed.{after_item, caught_type, FitsAt, FitsHandler, handler_state, IsTypingOf, made_at, state_at, use_by}
-use Rattle.fm_types.specs.declared.slots.Slot.{Slot}
+use Rattle.fm_types.specs.Typed.{after_item, caught_type, FitsAt, FitsHandler, handler_state, made_at, state_at, use_by}
 use Rattle.fm_world.specs.Programs.{Outline}
 use Rattle.fm_world.specs.declared.uses.Use.{Use}
 
--- ---- a slot is carried to an item
-
--- the state that is given is there
-given-there : (item : ℕ) (rose : Option (List Place)) (new : TypeState) (w : Walked) → item < length w.states
-    → ((j : ℕ) → is_marked w j ≡ true → Contains w.waiting j) → state_at (with_state item rose new w).states item ≡ Some new
-given-there item rose new w inside marked =
-    let waits = with_waiting-waits item (record w { states = set w.states item (Some new); risen = set w.risen item rose }) marked in
-    ap (λ (states : List (Option TypeState)). state_at states item) waits.states ∙ get_or-set_same w.states item (Some new) None inside
-
--- its state has room
-pub carried_room : (t : Task) (item : ℕ) (rise : Rise) (state : TypeState) (w : Walked) → IsSound t → Stands t w → state_at w.states item ≡ Some state
-    → fits t.program.outline rise.slot (slot_at state rise.place) ≡ true → CarriesOne t item rise w w
-carried_room t item rise state w sound stands is fitting = record {
-  went = Went-none t w sound stands;
-  room = IsSomeAnd-from_some (state_at w.states item) (λ s. fits t.program.outline rise.slot (slot_at s rise.place) ≡ true) state is fitting;
-}
-
--- the first item's state hasn't
-pub carried_first : (t : Task) (item : ℕ) (rise : Rise) (state : TypeState) (w : Walked) → item ≡ 0 → Stands t w → CanCarryOne t w item rise
-    → state_at w.states item ≡ Some state → fits t.program.outline rise.slot (slot_at state rise.place) ≡ false → Untypable t
-carried_first t item rise state w here stands can is unfit =
-    first_unfit t w can.brought state stands (subst (λ (n : ℕ). IsForced t n can.brought) here can.forced)
-    (ap (λ (n : ℕ). state_at w.states n) (sym here) ∙ is) (by_fit (state_fits t.program.outline can.brought state) refl) where
-      by_fit : (b : Bool) → state_fits t.program.outline can.brought state ≡ b → state_fits t.program.outline can.brought state ≡ false
-      by_fit false e = e
-      by_fit true e =
-          absurd
-          (false≢true (sym unfit ∙ ap (λ x. fits t.program.outline x (slot_at state rise.place)) (sym can.slot)
-          ∙ slot-fits t.program.outline can.brought state rise.place e))
-
--- in a typing the state that both fit, which has room for the join of both
-record AboveBoth (t : Task) (states : List (Option TypeState)) (item : ℕ) (p : Place) (own brought : TypeState) : Type 0 where
-  state : TypeState
-  is : state_at states item ≡ Some state
-  below : state_fits t.program.outline own state ≡ true
-  room : fits t.program.outline (join t.program.outline (slot_at own p) (slot_at brought p)) (slot_at state p) ≡ true
-
-above_both : (t : Task) (states : List (Option TypeState)) (item : ℕ) (p : Place) (own brought : TypeState) → IsSound t → IsForced t item own
-    → IsForced t item brought → IsTypingOf t.program t.number t.code states → AboveBoth t states item p own brought
-above_both t states item p own brought sound first second typing =
-    let o = t.program.outline in
-    let above = fits_one t states item own (first.below states typing) in
-    let other = fits_one t states item brought (second.below states typing) in
-    let same : other.state ≡ above.state = same_value (state_at states item) other.state above.state other.is above.is in
-    let least = join-least o sound.tree (slot_at own p) (slot_at brought p) in
-    record {
-      state = above.state;
-      is = above.is;
-      below = above.fits;
-      room = least.least (slot_at above.state p) (slot-fits o own above.state p above.fits)
-          (slot-fits o brought above.state p (ap (state_fits o brought) (sym same) ∙ other.fits));
-    }
-
--- a word of its state would be lost
-pub carried_lost : (t : Task) (item : ℕ) (rise : Rise) (state : TypeState) (w : Walked) → IsSound t → Stands t w → CanCarryOne t w item rise
-    → state_at w.states item ≡ Some state → fits t.program.outline rise.slot (slot_at state rise.place) ≡ false
-    → is_lost rise.place (join t.program.outline (slot_at state rise.place) rise.slot) ≡ true → Untypable t
-carried_lost t item rise state w sound stands can is unfit lost states typing =
-    let o = t.program.outline in
-    let kept = stands.each item state is in
-    let above = above_both t states item rise.place state can.brought sound kept.forced can.forced typing in
-    let same : join o (slot_at state rise.place) rise.slot ≡ join o (slot_at state rise.place) (slot_at can.brought rise.place) =
-    ap (join o (slot_at state rise.place)) (sym can.slot) in
-    false≢true (sym unfit
-    ∙ lost-fits o state above.state rise.place rise.slot (join o (slot_at state rise.place) (slot_at can.brought rise.place))
-    (ap (is_lost rise.place) (sym same) ∙ lost) above.below kept.forced.whole (typing.items item above.state above.is).whole above.room)
-
--- the state with the join of both is below those of all typings
-pub raised_forced : (t : Task) (item : ℕ) (p : Place) (own brought : TypeState) (x : Slot) → IsSound t → IsForced t item own → IsForced t item brought
-    → slot_at brought p ≡ x → is_lost p (join t.program.outline (slot_at own p) x) ≡ false
-    → IsForced t item (with_slot p (join t.program.outline (slot_at own p) x) own)
-raised_forced t item p own brought x sound first second is kept = record {
-  reachable = first.reachable;
-  inside = first.inside;
-  whole = with_slot-whole o own p joined (join-least o sound.tree (slot_at own p) x).first kept first.whole;
-  below = λ states typing.
-      let above = above_both t states item p own brought sound first second typing in
-      fits_at t states item (with_slot p joined own) above.state above.is
-      (with_slot-below o own above.state p joined above.below
-      (ap (λ y. fits o (join o (slot_at own p) y) (slot_at above.state p)) (sym is) ∙ above.room));
-} where
-  o : Outline
-  o = t.program.outline
-
-  joined : Slot
-  joined = join o (slot_at own p) x
-
--- its state gets room
-pub carried_raised : (t : Task) (item most : ℕ) (rise : Rise) (state : TypeState) (w : Walked) → IsSound t → Stands t w → CanCarryOne t w item rise
-    → (item ≡ 0 → ⊥) → state_at w.states item ≡ Some state → IsBounded (slot_at state rise.place)
-    → fits t.program.outline rise.slot (slot_at state rise.place) ≡ false
-    → is_lost rise.place (join t.program.outline (slot_at state rise.place) rise.slot) ≡ false
-    → CarriesOne t item rise w
-    (with_state item (noted most (risen_at w item) (Some (rise.place ∷ [])))
-    (with_slot rise.place (join t.program.outline (slot_at state rise.place) rise.slot) state) w)
-carried_raised t item most rise state w sound stands can later is bounded unfit holds = record {
-  went = went;
-  room = IsSomeAnd-from_some (state_at now.states item) (λ s. fits o rise.slot (slot_at s rise.place) ≡ true) new there
-      (ap (fits o rise.slot) (with_slot-read rise.place joined state inside) ∙ least.second);
-} where
-  o : Outline
-  o = t.program.outline
-
-  own : Slot
-  own = slot_at state rise.place
-
-  joined : Slot
-  joined = join o own rise.slot
-
-  new : TypeState
-  new = with_slot rise.place joined state
-
-  rose : Option (List Place)
-  rose = noted most (risen_at w item) (Some (rise.place ∷ []))
-
-  now : Walked
-  now = with_state item rose new w
-
-  least : IsJoin o own rise.slot joined
-  least = join-least o sound.tree own rise.slot
-
-  inside : HasPlace state rise.place
-  inside = place_wanted o rise.slot state rise.place unfit
-
-  kept : IsKept t item state
-  kept = stands.each item state is
-
-  back : (b : Bool) → fits o joined own ≡ b → fits o joined own ≡ false
-  back false e = e
-  back true e = absurd (false≢true (sym unfit ∙ fits-trans o sound.tree rise.slot joined own least.second e))
-
-  went : Went t w now
-  went =
-      Went-given t item rose new w sound stands
-      (record {
-        forced = raised_forced t item rise.place state can.brought rise.slot sound kept.forced can.forced can.slot holds;
-        within = with_slot-within t.code rise.place joined state kept.within;
-      })
-      later
-      (λ s also.
-      let same : state ≡ s = same_value (state_at w.states item) state s is also in
-      ap (λ (x : TypeState). state_fits o x new) (sym same) ∙ with_slot-above o sound.tree state rise.place joined least.first)
-      (subst (λ (x : Option TypeState). state_rank o new < rank_at o t.code x) (sym is)
-      (slot-less o sound.tree state rise.place joined inside bounded least.first (back (fits o joined own) refl)))
-      (noted-tracked w item most (Some (rise.place ∷ [])) new state is
-      (λ places e.
-      let same : rise.place ∷ [] ≡ places = cc in
-      subst (λ (xs : List Place). IsAlikeBut xs new state) same (with_slot-alike state rise.place joined)))
-
-  there : state_at now.states item ≡ Some new
-  there = given-there item rose new w (let one = stands.one_each in let below = kept.forced.inside in omega arith) stands.marked
-
--- ---- what was carried stays
-
-room_later : (t : Task) (a b : Walked) (j : ℕ) (rise : Rise) → IsSound t → Rises t.program.outline a b → HasRoom t a.states j rise → HasRoom t b.states j rise
-room_later t a b j rise sound rises h =
-    let o = t.program.outline in
-    let Room : TypeState → Type 0 = λ s. fits o rise.slot (slot_at s rise.place) ≡ true in
-    let before = Some-from_some_and (state_at a.states j) Room h in
-    let after = fits_one t b.states j before.0 (rises.rises j before.0 before.1) in
-    IsSomeAnd-from_some (state_at b.states j) Room after.state after.is
-    (fits-trans o sound.tree rise.slot (slot_at before.0 rise.place) (slot_at after.state rise.place) before.2
-    (slot-fits o before.0 after.state rise.place after.fits))
-
-pub all_room_later : (t : Task) (a b : Walked) (j : ℕ) (rises : List Rise) → IsSound t → Rises t.program.outline a b → All (HasRoom t a.states j) rises
-    → All (HasRoom t b.states j) rises
-all_room_later t a b j rises sound rising h = λ k d below. room_later t a b j (get_or rises k d) sound rising (h k d below)
-
-can_later : (t : Task) (a b : Walked) (j : ℕ) (rises : List Rise) → Rises t.program.outline a b → CanCarry t a j rises → CanCarry t b j rises
-can_later t a b j rises rising can =
-    let found = fits_one t b.states j can.state (rising.rises j can.state can.there) in
-    record { state = found.state; there = found.is; brought = can.brought; forced = can.forced; slots = can.slots }
-
-pub can_one : (t : Task) (a b : Walked) (j k : ℕ) (d : Rise) (rises : List Rise) → Rises t.program.outline a b → CanCarry t a j rises → k < length rises
-    → CanCarryOne t b j (get_or rises k d)
-can_one t a b j k d rises rising can below =
-    let later = can_later t a b j rises rising can in
-    record { state = later.state; there = later.there; brought = can.brought; forced = can.forced; slot = can.slots k d below }
-
--- ---- several slots, handlers and items
-
-pub Carries-none : (t : Task) (item : ℕ) (w : Walked) → IsSound t → Stands t w → Carries t item [] w w
-Carries-none t item w sound stands = record { went = Went-none t w sound stands; room = λ k d below. absurd (omega arith) }
-
-pub Carries-more : (t : Task) (item : ℕ) (rises : List Rise) (k : ℕ) (d : Rise) (a b c : Walked) → IsSound t → k < length rises
-    → Carries t item (take k rises) a b → CarriesOne t item (get_or rises k d) b c → Carries t item (take (k + 1) rises) a c
-Carries-more t item rises k d a b c sound inside so_far one = record {
-  went = Went-then t a b c sound so_far.went one.went;
-  room = All-more (HasRoom t c.states item) rises k d inside (all_room_later t b c item (take k rises) sound one.went.rises so_far.room) one.room;
-}
-
-pub CarriesHandlers-none : (t : Task) (rises : List Rise) (w : Walked) → IsSound t → Stands t w → CarriesHandlers t rises [] w w
-CarriesHandlers-none t rises w sound stands =
-    record { went = Went-none t w sound stands; room = λ h found. absurd (let inside = found.1 in omega arith) }
-
-pub CarriesHandlers-more : (t : Task) (rises : List Rise) (handlers : List Handler) (k : ℕ) (a b c : Walked) → IsSound t → k < length handlers
-    → CarriesHandlers t rises (take k handlers) a b → Carries t (get_or handlers k blank).handler rises b c
-    → CarriesHandlers t rises (take (k + 1) handlers) a c
-CarriesHandlers-more t rises handlers k a b c sound inside so_far one = record {
-  went = Went-then t a b c sound so_far.went one.went;
-  room = λ h found.
-      ⊎_elim (λ (early : Contains (take k handlers) h). all_room_later t b c h.handler rises sound one.went.rises (so_far.room h early))
-      (λ (same : get_or handlers k blank ≡ h). subst (λ (x : Handler). All (HasRoom t c.states x.handler) rises) same one.room)
-      (Contains-push_cases (take k handlers) (get_or handlers k blank) h
-      (subst (λ (hs : List Handler). Contains hs h) (take_more handlers k blank inside) found));
-}
+-- ---- several items
 
 pub CarriesAll-none : (t : Task) (rises : List Rise) (w : Walked) → IsSound t → Stands t w → CarriesAll t [] rises w w
 CarriesAll-none t rises w sound stands =
@@ -260,9 +50,6 @@ CarriesAll-more t items rises k a b c sound inside so_far one = record {
       (λ (same : get_or items k 0 ≡ item). subst (λ (n : ℕ). All (HasRoom t c.states n) rises) same one.room)
       ((Contains-take_more items k item inside).0 found);
 }
-
-pub can_carry_later : (t : Task) (a b : Walked) (j : ℕ) (rises : List Rise) → Went t a b → CanCarry t a j rises → CanCarry t b j rises
-can_carry_later t a b j rises went can = can_later t a b j rises went.rises can
 
 pub CarriesOn-both : (t : Task) (item : ℕ) (i : Insn) (rises : List Rise) (given : List Level) (a b c : Walked) → IsSound t
     → GivesAll (has_room t (locals_of rises)) t item given a b → CarriesAll t (next_items i item) rises b c → CarriesOn t item i rises a c
@@ -325,103 +112,11 @@ asked-alone i below words s places asked rises given same found all enough h =
     subst (λ (n : ℕ). All (IsLeftAlone i n) (map (rise_of s) places)) enough
     (subst (λ (xs : List Rise). All (IsLeftAlone i below) xs) (same ∙ found ∙ ap (λ (ps : List Place). map (rise_of s) ps) all) h)
 
--- states that are alike have the slots that are carried
-slot_carried : (P : Place → Type 0) (v : Place → Slot) (s other : TypeState) (p : Place) → IsCarried P v s other → P p → slot_at s p ≡ v p
-slot_carried P v s other (place.Local k) h within = h.locals.among k within
-slot_carried P v s other (place.Word k) h within = h.words.among k within
-
-pub all_held : (s brought : TypeState) (places : List Place) → ((p : Place) → Contains places p → slot_at brought p ≡ slot_at s p)
-    → All (λ rise. slot_at brought rise.place ≡ rise.slot) (map (rise_of s) places)
-all_held s brought places holds = λ n d below.
-    let found = Contains-from_map (rise_of s) places (get_or (map (rise_of s) places) n d) (Contains-get_or (map (rise_of s) places) n d below) in
-    subst (λ (rise : Rise). slot_at brought rise.place ≡ rise.slot) found.2 (holds found.0 found.1)
-
--- a handler's state has those of locals
-locals_held : (s : TypeState) (caught : TypeRef) (rises : List Rise) → All (λ rise. slot_at s rise.place ≡ rise.slot) rises
-    → All (λ rise. slot_at (handler_state caught s) rise.place ≡ rise.slot) (locals_of rises)
-locals_held s caught rises all = λ n d below.
-    let rise = get_or (locals_of rises) n d in
-    let found = Contains-from_filter (λ (r : Rise). is_local r.place) rises rise (Contains-get_or (locals_of rises) n d below) in
-    by_place (rise.slot) rise.place (All-contains (λ r. slot_at s r.place ≡ r.slot) rises rise all found.0) found.1 where
-      by_place : (x : Slot) (p : Place) → slot_at s p ≡ x → is_local p ≡ true → slot_at (handler_state caught s) p ≡ x
-      by_place x (place.Local k) held local = held
-      by_place x (place.Word k) held local = absurd (false≢true local)
-
 -- those of locals are
 pub rises_local : (rises : List Rise) (rise : Rise) → Contains (locals_of rises) rise → is_local rise.place ≡ true
 rises_local rises rise found = (Contains-from_filter (λ (r : Rise). is_local r.place) rises rise found).1
 
-same_place : (p q : Place) → (p ≡ q) ⊎ (p ≢ q)
-same_place (place.Local j) (place.Local k) =
-    ⊎_elim (λ (same : j ≡ k). inl (ap (λ n. place.Local n) same)) (λ (apart : j ≢ k). inr (λ e. apart (let same : j ≡ k = cc in same))) (cases_eq j k)
-same_place (place.Word j) (place.Word k) =
-    ⊎_elim (λ (same : j ≡ k). inl (ap (λ n. place.Word n) same)) (λ (apart : j ≢ k). inr (λ e. apart (let same : j ≡ k = cc in same))) (cases_eq j k)
-same_place (place.Local j) (place.Word k) = inr (λ e. cc)
-same_place (place.Word j) (place.Local k) = inr (λ e. cc)
-
-among_or_not : (xs : List Place) (p : Place) → Contains xs p ⊎ (Contains xs p → ⊥)
-among_or_not [] p = inr (λ found. let inside = found.1 in omega arith)
-among_or_not (x ∷ xs) p =
-    ⊎_elim (λ (same : p ≡ x). inl (0, omega arith, sym same))
-    (λ (apart : p ≢ x).
-    ⊎_elim (λ (later : Contains xs p). inl (Contains-later x xs p later))
-    (λ (never : Contains xs p → ⊥). inr (λ found. ⊎_elim (λ (same : p ≡ x). apart same) never (Contains-cons_cases x xs p found)))
-    (among_or_not xs p))
-    (same_place p x)
-
--- what a state brings fits at each place
-slot_room : (o : Outline) (P : Place → Type 0) (v : Place → Slot) (a known u : TypeState) (p : Place) → IsCarried P v a known
-    → state_fits o known u ≡ true → (P p ⊎ (P p → ⊥)) → (P p → fits o (v p) (slot_at u p) ≡ true) → fits o (slot_at a p) (slot_at u p) ≡ true
-slot_room o P v a known u p carried fitting (inl within) room =
-    ap (λ x. fits o x (slot_at u p)) (slot_carried P v a known p carried within) ∙ room within
-slot_room o P v a known u (place.Local k) carried fitting (inr without) room =
-    ap (λ x. fits o x (slot_at u (place.Local k))) (carried.locals.apart k without) ∙ slot-fits o known u (place.Local k) fitting
-slot_room o P v a known u (place.Word k) carried fitting (inr without) room =
-    ap (λ x. fits o x (slot_at u (place.Word k))) (carried.words.apart k without) ∙ slot-fits o known u (place.Word k) fitting
-
--- a state fits where one that is like it fits and there is room at the other places
-carried_fits : (o : Outline) (places : List Place) (v : Place → Slot) (a known u : TypeState) → IsCarried (λ p. Contains places p) v a known
-    → state_fits o known u ≡ true → ((p : Place) → Contains places p → fits o (v p) (slot_at u p) ≡ true)
-    → state_fits o a u ≡ true
-carried_fits o places v a known u carried fitting room =
-    let parts = fits-parts o known u fitting in
-    let deep = zip-length (Fitting o) known.stack u.stack parts.stack in
-    let turned = length-reverse known.stack in
-    let other = length-reverse u.stack in
-    let words = carried.words.size in
-    let each : (p : Place) → fits o (slot_at a p) (slot_at u p) ≡ true =
-    λ p. slot_room o (λ q. Contains places q) v a known u p carried fitting (among_or_not places p) (λ found. room p found) in
-    fits-from o a u (record {
-      locals = zip-from (Fitting o) a.locals u.locals (carried.locals.size ∙ zip-length (Fitting o) known.locals u.locals parts.locals)
-          (λ k. each (place.Local k));
-      stack = zip-turned (Fitting o) a.stack u.stack
-          (zip-from (Fitting o) (reverse a.stack) (reverse u.stack) (omega (arith, words, deep, turned, other)) (λ k. each (place.Word k)));
-      built = ap (λ (b : Bool). b || not u.built) carried.built ∙ parts.built;
-    })
-
 -- ---- an item of which some places are carried on
-
--- those of the places that are locals
-abbrev pub locals_in : List Place → List Place
-locals_in places = filter is_local places
-
--- what handlers get of states that are alike
-pub caught_alike : (places : List Place) (s before : TypeState) (caught : TypeRef) → IsAlikeBut places s before
-    → IsCarried (λ p. Contains (locals_in places) p) (slot_at s) (handler_state caught s) (handler_state caught before)
-caught_alike places s before caught alike = record {
-  locals = record {
-    size = alike.locals.size;
-    among = λ k within. refl;
-    apart = λ k without.
-        alike.locals.apart k (λ found. without (Contains-filter is_local places (place.Local k) found refl));
-  };
-  words = record {
-    size = refl;
-    among = λ k within. absurd (false≢true (Contains-from_filter is_local places (place.Word k) within).1);
-    apart = λ k without. refl;
-  };
-  built = alike.built;
-}
 
 stays_inside : (t : Task) (j : ℕ) (i : Insn) → insn_of t.code j ≡ Some i
     → IsSomeAnd (insn_of t.code j) (λ i. falls_through i ≡ true → j + 1 < length t.code.items) → falls_off t.code i j ≡ false
@@ -485,16 +180,6 @@ ready t j i s places w sound stands at is nearly alone = record {
   after : AfterAlike t j places s row.0
   after = after_alike t j i places s nearly.before row.0 is nearly.alike (longs_kept t w j s nearly.before kept nearly.met nearly.below)
       (left_alone i (words_below t i s) s places alone) row.1
-
--- an item has room for what a state brings that is like one for which it has
-pub room_fits : (t : Task) (states : List (Option TypeState)) (j : ℕ) (places : List Place) (v : Place → Slot) (a known : TypeState)
-    → IsCarried (λ p. Contains places p) v a known → FitsAt t.program states j known
-    → ((p : Place) → Contains places p → HasRoom t states j (record { place = p; slot = v p })) → FitsAt t.program states j a
-room_fits t states j places v a known carried fitting room =
-    let found = fits_one t states j known fitting in
-    fits_at t states j a found.state found.is
-    (carried_fits t.program.outline places v a known found.state carried found.fits (λ p among.
-    IsSomeAnd-at_some (state_at states j) (λ u. fits t.program.outline (v p) (slot_at u p) ≡ true) found.state found.is (room p among)))
 
 -- there is room at each of the places
 room_at : (t : Task) (states : List (Option TypeState)) (j : ℕ) (s : TypeState) (places : List Place) → All (HasRoom t states j) (map (rise_of s) places)

@@ -1,4 +1,3 @@
--- What serves the proofs alone: how the walk over items stands, runs of items, and what its end says.
-pub mod Runs
-pub mod Walks
+-- What serves the proofs alone: steps of the walk over items, and what its end says.
+pub mod Steps
 pub mod Judgements

@@ -2,133 +2,74 @@
 // costs is told by the number of these places, and not by that of all locals and words.
 
 ghost use Rattle.std.specs.Prelude.{ℕ, Contains, IfOk, MatchBool};
-ghost use Rattle.fm_check.specs.inner.Runs.{CarriesOnGuarded, IsGuarded};
-ghost use Rattle.fm_check.specs.inner.Walks.{CanCarry, CanCarryOne, Carries, CarriesAll, CarriesOne, IsReady, Stands, Untypable, walked};
+ghost use Rattle.fm_check.specs.inner.Steps.{CarriesOnGuarded, CarriesAll, IsReady};
+ghost use Rattle.fm_catch.specs.inner.Runs.{IsGuarded};
+ghost use Rattle.fm_walk.specs.inner.Walks.{CanCarry, Carries, Stands, Untypable, walked};
 ghost use Rattle.fm_known.specs.inner.Tasks.{IsSound, task};
 
-use crate::catching::Giving;
-use crate::runs::Level;
 use crate::steps::next_items;
-use crate::walk::{Walk, most_noted, state_of};
 use fm_base::NoMemory;
+use fm_catch::{Giving, Level, give_to_levels};
 use fm_code::Insn;
-use fm_known::{Method, Rise, is_lost, law_bounded, locals_of};
-use fm_types::{fits, join};
+use fm_known::{Method, Rise, locals_of};
+use fm_walk::Walk;
 use std::alloc::Global;
 
-impl Walk {
-    // Carries a slot to a place of an item; false where no typing has room for it.
-    fn carry(
-        &mut self,
-        alloc: Global,
-        method: &Method<'_>,
-        item: u32,
-        rise: Rise,
-    ) -> Result<bool, NoMemory>
-        requires sound { IsSound (task method.now) }
-        requires stands { Stands (task method.now) (walked self.old) }
-        requires carried { CanCarryOne (task method.now) (walked self.old) item rise }
-        ensures { IfOk result (λ fits. MatchBool fits
-            (CarriesOne (task method.now) item rise (walked self.old) (walked self.new))
-            (Untypable (task method.now))) }
-    {
-        let Some(state) = state_of(self.states.as_slice(), item) else {
-            return Ok(true);
-        };
-        let own = state.slot_at(rise.place);
-        if fits(method.program, rise.slot, own) {
-            return Ok(true);
-        }
-        if item == 0 {
+// Carries slots to each item of the list.
+fn carry_to_all(
+    alloc: Global,
+    walk: &mut Walk,
+    method: &Method<'_>,
+    items: &[u32],
+    rises: &[Rise],
+) -> Result<bool, NoMemory>
+    requires sound { IsSound (task method.now) }
+    requires stands { Stands (task method.now) (walked walk.old) }
+    requires carried { (item : ℕ) → Contains items.now item
+        → CanCarry (task method.now) (walked walk.old) item rises.now }
+    ensures { IfOk result (λ fits. MatchBool fits
+        (CarriesAll (task method.now) items.now rises.now (walked walk.old) (walked walk.new))
+        (Untypable (task method.now))) }
+{
+    for item in items {
+        if !walk.carry_all(alloc, method, *item, rises)? {
             return Ok(false);
         }
-        law_bounded(own);
-        let joined = join(method.program, own, rise.slot);
-        if is_lost(rise.place, joined) {
-            return Ok(false);
-        }
-        self.raise_slot(alloc, item, rise.place, joined, most_noted(method.code))?;
-        Ok(true)
     }
+    Ok(true)
+}
 
-    /// Carries slots to places of an item; false where no typing has room for them.
-    pub fn carry_all(
-        &mut self,
-        alloc: Global,
-        method: &Method<'_>,
-        item: u32,
-        rises: &[Rise],
-    ) -> Result<bool, NoMemory>
-        requires sound { IsSound (task method.now) }
-        requires stands { Stands (task method.now) (walked self.old) }
-        requires carried { CanCarry (task method.now) (walked self.old) item rises.now }
-        ensures { IfOk result (λ fits. MatchBool fits
-            (Carries (task method.now) item rises.now (walked self.old) (walked self.new))
-            (Untypable (task method.now))) }
-    {
-        for rise in rises {
-            if !self.carry(alloc, method, item, *rise)? {
-                return Ok(false);
-            }
-        }
-        Ok(true)
+/// Carries what stands at places of an item, which its row leaves alone, to the items that follow it,
+/// and to its handlers where it is a local's; false where no typing has room for them.
+pub fn carry_on(
+    alloc: Global,
+    walk: &mut Walk,
+    method: &Method<'_>,
+    levels: &mut Vec<Level>,
+    item: u32,
+    insn: &Insn,
+    rises: &[Rise],
+) -> Result<bool, NoMemory>
+    requires sound { IsSound (task method.now) }
+    requires stands { Stands (task method.now) (walked walk.old) }
+    requires guarded { IsGuarded (task method.now) (walked walk.old).states levels.old.items }
+    requires ready { IsReady (task method.now) (walked walk.old) item insn.now rises.now }
+    ensures { IfOk result (λ fits. MatchBool fits
+        (CarriesOnGuarded (task method.now) item insn.now rises.now levels.new.items
+        (walked walk.old) (walked walk.new))
+        (Untypable (task method.now))) }
+{
+    let locals = locals_of(alloc, rises)?;
+    if !give_to_levels(
+        alloc,
+        walk,
+        method,
+        levels,
+        item,
+        Giving::Locals(locals.as_slice()),
+    )? {
+        return Ok(false);
     }
-
-    // Carries slots to each item of the list.
-    fn carry_to_all(
-        &mut self,
-        alloc: Global,
-        method: &Method<'_>,
-        items: &[u32],
-        rises: &[Rise],
-    ) -> Result<bool, NoMemory>
-        requires sound { IsSound (task method.now) }
-        requires stands { Stands (task method.now) (walked self.old) }
-        requires carried { (item : ℕ) → Contains items.now item
-            → CanCarry (task method.now) (walked self.old) item rises.now }
-        ensures { IfOk result (λ fits. MatchBool fits
-            (CarriesAll (task method.now) items.now rises.now (walked self.old) (walked self.new))
-            (Untypable (task method.now))) }
-    {
-        for item in items {
-            if !self.carry_all(alloc, method, *item, rises)? {
-                return Ok(false);
-            }
-        }
-        Ok(true)
-    }
-
-    /// Carries what stands at places of an item, which its row leaves alone, to the items that follow it,
-    /// and to its handlers where it is a local's; false where no typing has room for them.
-    pub fn carry_on(
-        &mut self,
-        alloc: Global,
-        method: &Method<'_>,
-        levels: &mut Vec<Level>,
-        item: u32,
-        insn: &Insn,
-        rises: &[Rise],
-    ) -> Result<bool, NoMemory>
-        requires sound { IsSound (task method.now) }
-        requires stands { Stands (task method.now) (walked self.old) }
-        requires guarded { IsGuarded (task method.now) (walked self.old).states levels.old.items }
-        requires ready { IsReady (task method.now) (walked self.old) item insn.now rises.now }
-        ensures { IfOk result (λ fits. MatchBool fits
-            (CarriesOnGuarded (task method.now) item insn.now rises.now levels.new.items
-            (walked self.old) (walked self.new))
-            (Untypable (task method.now))) }
-    {
-        let locals = locals_of(alloc, rises)?;
-        if !self.give_to_levels(
-            alloc,
-            method,
-            levels,
-            item,
-            Giving::Locals(locals.as_slice()),
-        )? {
-            return Ok(false);
-        }
-        let items = next_items(alloc, insn, item)?;
-        self.carry_to_all(alloc, method, items.as_slice(), rises)
-    }
+    let items = next_items(alloc, insn, item)?;
+    carry_to_all(alloc, walk, method, items.as_slice(), rises)
 }

@@ -5,7 +5,8 @@ ghost use Rattle.std.specs.Option.{option_copied, option_map};
 ghost use Rattle.fm_check.specs.Checking.{HasCode, IsCheckable, IsLeastTyping, IsNarrow, IsTooWide, coded};
 ghost use Rattle.fm_check.specs.inner.Judgements.{Judged};
 ghost use Rattle.fm_known.specs.inner.Risen.{known_state};
-ghost use Rattle.fm_check.specs.inner.Walks.{IsLeast, Untypable, states_seen};
+ghost use Rattle.fm_check.specs.inner.Steps.{IsLeast};
+ghost use Rattle.fm_walk.specs.inner.Walks.{Untypable, states_seen};
 ghost use Rattle.fm_known.specs.inner.Tasks.{IsSound, task};
 ghost use Rattle.fm_code.specs.AccessFlags.{is_static};
 ghost use Rattle.fm_types.specs.Typed.{Typed, entry_slots, entry_state, receiver_slots};
@@ -15,13 +16,14 @@ ghost use Rattle.fm_world.specs.Members.{method_at, methods_of};
 ghost use Rattle.fm_world.specs.Programs.{code_at, method_info};
 
 use crate::error::CheckFail;
-use crate::walk::{Walk, is_within};
+use crate::steps::run;
 use fm_base::limits::{MAX_LOCAL_WORDS, MAX_STACK_WORDS};
 use fm_base::{MethodId, NoMemory, Seq};
 use fm_code::{ACC_STATIC, Code, has_flag};
 use fm_known::{Known, Method, parameter_slots};
 use fm_rows::{class_of_method, is_constructor, type_of_class};
 use fm_types::{Slot, Stack, State, Typing};
+use fm_walk::{Walk, is_within};
 use fm_world::{Body, Program};
 use std::alloc::Global;
 
@@ -104,7 +106,7 @@ fn typing_of(alloc: Global, method: &Method<'_>) -> Result<Option<Typing>, NoMem
     }
     let mut walk = Walk::new(alloc, method.code.items.len())?;
     walk.begin(0, Known::new(alloc, &first)?)?;
-    if !walk.run(alloc, method)? {
+    if !run(alloc, &mut walk, method)? {
         return Ok(None);
     }
     Ok(Some(Typing {

@@ -3,12 +3,9 @@
 #![tactic(auto)]
 
 mod carrying;
-mod catching;
 mod checking;
 mod error;
-mod runs;
 mod steps;
-mod walk;
 
 pub use checking::check;
 pub use error::CheckFail;

@@ -1,8 +1,10 @@
 use Rattle.std.proofs.Common.{◌∙◌, sym, ap, subst, List, map, None, Option}
 use Rattle.std.specs.Option.{option_map}
-use Rattle.fm_check.proofs.ItemLemmas.{entry_forced, match_true, settled-is_least, Walking-first}
-use Rattle.fm_check.proofs.WalkLemmas.{too_large}
-use Rattle.fm_check.specs.inner.Walks.{HasSettled, IsForced, IsLeast, not_begun, Untypable, Walked, walked, Walking, with_state}
+use Rattle.fm_check.proofs.ItemLemmas.{entry_forced, settled-is_least, Walking-first}
+use Rattle.fm_walk.proofs.Outcomes.{match_true}
+use Rattle.fm_walk.proofs.WalkLemmas.{too_large}
+use Rattle.fm_check.specs.inner.Steps.{HasSettled, IsLeast, Walking}
+use Rattle.fm_walk.specs.inner.Walks.{IsForced, not_begun, Untypable, Walked, walked, with_state}
 use Rattle.fm_known.specs.inner.Tasks.{task}
 use Rattle.fm_types.specs.States.{TypeState}
 use Rattle.fm_types.specs.Typings.{type_state}
@@ -28,7 +30,7 @@ run-requires-clause-walking c =
 pub returns : goal.returns
 returns c =
     let t = task c.args.method.now in
-    let w = walked c.run.new.self in
+    let w = walked c.run.new.walk in
     let settled = match_true (HasSettled t w) (Untypable t) c.in_ok-run.field-0 c.if-not-branch.false c.in_ok-run.ensures in
     let Of : List (Option TypeState) → Type 0 = λ xs. IsLeast t xs in
     subst Of (sym (ap (λ (xs : List (Option State)). map (option_map type_state) xs) c.new-3.ensures ∙ c.in_ok-typed_states.ensures))

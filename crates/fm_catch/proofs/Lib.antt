@@ -1,0 +1,3 @@
+pub mod HandlerLemmas
+pub mod RunLemmas
+pub mod GivingLemmas

@@ -1,7 +1,0 @@
-use Rattle.std.proofs.Common.{take}
-use Rattle.fm_check.specs.inner.Walks.{CarriesAll, walked}
-use Rattle.fm_known.specs.inner.Tasks.{task}
-use Rattle.fm_check.proofs.walk.Walk.carry_to_all.Given as goal
-
-abbrev pub invariant-loop-item : goal.invariant-loop-item
-invariant-loop-item l = CarriesAll (task l.method) (take l.item-index l.items) l.rises (walked l.initial.self) (walked l.self)

@@ -1,0 +1,2 @@
+-- What serves the proofs alone: how the walk over items stands.
+pub mod Walks
