@@ -1,0 +1,20 @@
+use Rattle.std.proofs.Common.{◌≡◌, refl, ap, rules}
+use Rattle.fm_code.specs.declared.instructions.Insn.TheVariants as insn
+use Rattle.fm_exec.proofs.PlainSteps.{target-is, with-int}
+use Rattle.fm_flat.proofs.FlowSteps.{branched, seen-on}
+use Rattle.fm_flat.proofs.jumps.if_pair.Goals as goal
+use Rattle.fm_flat.specs.Flows.{on, stepped_on}
+use Rattle.fm_frames.specs.Effects.{going}
+use Rattle.fm_frames.specs.JumpRows.{holds, jumps_if, pair_jump_effect}
+use Rattle.fm_frames.specs.inner.Doings.{int_in}
+
+pub returns-clause-did : goal.returns-clause-did
+unfolding pair_jump_effect
+returns-clause-did c told p choose x at =
+    let old = c.args.frames.now in
+    let taken : holds c.args.test c.in-Some.a c.in-Some-int_operand.b ≡ c.holds.result = search rules in
+    with-int p choose (on x old) (stepped_on x c.branch-frames.new.frames) 0 c.in-Some-int_operand.b _ _ (seen-on x old 0 int_in _ c.in-Some-int_operand.ensures) refl
+    (with-int p choose (on x old) (stepped_on x c.branch-frames.new.frames) 1 c.in-Some.a _ _ (seen-on x old 1 int_in _ c.in-Some.ensures)
+    (ap (λ b. going 2 (jumps_if b)) taken)
+    (branched p choose x old c.branch-frames.new.frames 2 c.holds.result c.args.target c.requires.fits c.branch-frames.ensures
+    (target-is p (on x old) (insn.IfPair c.args.test c.args.target) 0 c.args.target refl at)))

@@ -1,0 +1,22 @@
+// Steps of simple instructions over frames that are taken out of a machine (JVMS 6.5).
+//
+// Each row does the whole step of its instruction, or tells that it did nothing: where an operand isn't what
+// the instruction asks, or where there is no room for a word. None makes or frees an object, ends the run or
+// changes how many frames there are.
+#![tactic(auto)]
+
+mod constants;
+mod jumps;
+mod locals;
+mod numbers;
+mod operands;
+mod shuffles;
+
+pub use constants::{int_constant, long_constant, null};
+pub use jumps::{go_to, if_int, if_null, if_pair, if_same};
+pub use locals::{increment, load, store};
+pub use numbers::{
+    convert, int_negate, int_op, int_shift, long_compare, long_negate, long_op, long_shift,
+};
+pub use operands::{give, give_wide, int_operand, long_operand, push};
+pub use shuffles::{dup, pop};

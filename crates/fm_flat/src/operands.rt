@@ -1,0 +1,99 @@
+// What rows do with the topmost frame.
+
+ghost use Rattle.std.specs.Prelude.{◌≡◌, ◌<◌, true, false, slice_get};
+ghost use Rattle.fm_flat.specs.Flows.{with_given, with_given_wide, with_stored, with_stored_wide};
+ghost use Rattle.fm_frames.specs.inner.Doings.{int_in, long_in, NextFits};
+ghost use Rattle.fm_frames.specs.inner.Frames.{on_top, stack_in};
+
+use fm_frames::{Frames, Value};
+
+/// The int at this place of the stack, counted from the top; none where there is no int.
+#[inline(always)]
+pub fn int_operand(frames: &Frames, place: usize) -> Option<i32>
+    ensures { result ≡ int_in (slice_get (stack_in frames.now) place) }
+{
+    match frames.operand(place) {
+        Some(Value::Int(n)) => Some(n),
+        _ => None,
+    }
+}
+
+/// The long at this place of the stack, counted from the top; none where there is no long.
+#[inline(always)]
+pub fn long_operand(frames: &Frames, place: usize) -> Option<i64>
+    ensures { result ≡ long_in (slice_get (stack_in frames.now) place) }
+{
+    match frames.operand(place) {
+        Some(Value::Long(n)) => Some(n),
+        _ => None,
+    }
+}
+
+/// Puts a word on top of the stack, if there is room for it, and goes on to the next item; tells whether that
+/// was done. Takes no memory.
+#[inline(always)]
+pub fn push(frames: &mut Frames, value: Value) -> bool
+    requires fits { NextFits frames.old }
+    ensures did { result ≡ true → frames.new ≡ on_top (with_given 0 value) frames.old }
+    ensures same { result ≡ false → frames.new ≡ frames.old }
+{
+    if !frames.push_in_room(value) {
+        return false;
+    }
+    frames.advance();
+    true
+}
+
+/// Puts a word in place of so many, if they are there, and goes on to the next item; tells whether that was
+/// done. Takes no memory.
+#[inline(always)]
+pub fn give(frames: &mut Frames, takes: usize, value: Value) -> bool
+    requires fits { NextFits frames.old }
+    requires some { 0 < takes }
+    ensures did { result ≡ true → frames.new ≡ on_top (with_given takes value) frames.old }
+    ensures same { result ≡ false → frames.new ≡ frames.old }
+{
+    if !frames.put_over(takes, value) {
+        return false;
+    }
+    frames.advance();
+    true
+}
+
+/// Puts a long and its second half in place of so many words, if they are there and there is room for both,
+/// and goes on to the next item; tells whether that was done. Takes no memory.
+#[inline(always)]
+pub fn give_wide(frames: &mut Frames, takes: usize, value: Value) -> bool
+    requires fits { NextFits frames.old }
+    ensures did { result ≡ true → frames.new ≡ on_top (with_given_wide takes value) frames.old }
+    ensures same { result ≡ false → frames.new ≡ frames.old }
+{
+    if !frames.put_wide_over(takes, value) {
+        return false;
+    }
+    frames.advance();
+    true
+}
+
+// Takes so many words off the stack, gives a local a value, and goes on to the next item.
+#[inline(always)]
+pub(crate) fn put_local(frames: &mut Frames, takes: usize, place: u16, value: Value)
+    requires { NextFits frames.old }
+    ensures { frames.new ≡ on_top (with_stored takes place value) frames.old }
+{
+    frames.advance();
+    frames.drop_words(takes);
+    frames.set_local(place as usize, value);
+}
+
+// The same with a long; the next local is its second half.
+#[inline(always)]
+pub(crate) fn put_wide_local(frames: &mut Frames, takes: usize, place: u16, value: Value)
+    requires { NextFits frames.old }
+    ensures { frames.new ≡ on_top (with_stored_wide takes place value) frames.old }
+{
+    frames.advance();
+    frames.drop_words(takes);
+    frames.set_local(place as usize, value);
+    frames.set_local(place as usize + 1, Value::Top);
+}
