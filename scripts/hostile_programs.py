@@ -129,6 +129,16 @@ def late_interfaces():
     return files + [File(b"C%d" % place, interfaces=others + chained[:1]) for place in range(1_800)]
 
 
+def listed_chains():
+    """A chain of 1,000 interfaces, and 300 classes that each list all of them, the uppermost first."""
+    chained = [b"I%d" % place for place in range(1_000)]
+    lowest = File(b"M")
+    lowest.main()
+    files = [lowest, File(chained[-1], flags=INTERFACE)]
+    files += [File(name, interfaces=[above], flags=INTERFACE) for name, above in zip(chained, chained[1:])]
+    return files + [File(b"C%d" % place, interfaces=chained[::-1]) for place in range(300)]
+
+
 def shared_names():
     """1,000 interfaces of the same 60 methods, and 1,000 classes that have them and list none."""
     names = [b"m%d" % place for place in range(60)]
@@ -202,6 +212,7 @@ PROGRAMS = [
     methods_through_interfaces,
     left_over,
     late_interfaces,
+    listed_chains,
     shared_names,
     declared_again,
     asked_of_each,
