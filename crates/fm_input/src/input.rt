@@ -16,7 +16,8 @@ pub fn read_input<'a, F: Files>(
     name: Option<&'a str>,
     files: &mut F,
 ) -> Result<Vec<u8>, JobRefusal<'a>>
-    ensures reads { ReadsInput (option_map (λ n. n.now) name.entry) (F.disk files.old) (F.disk files.new) }
+    ensures reads { ReadsInput (option_map (λ n. n.now) name.entry)
+        (F.disk files.old) (F.disk files.new) }
     ensures comes { ComesOfInput (option_map (λ n. n.now) name.entry)
         (F.disk files.old) (F.disk files.new) result }
 {

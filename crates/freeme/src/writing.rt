@@ -42,7 +42,8 @@ pub fn write_classes<'a, F: Files>(
     requires spelled { AllByRecursion IsSpelled classes.now }
     requires apart { AreApart classes.now }
     ensures keeps { KeepsReads (F.disk files.old) (F.disk files.new) }
-    ensures comes { ComesOfClasses folder.now classes.now (F.disk files.old) (F.disk files.new) result }
+    ensures comes { ComesOfClasses folder.now classes.now
+        (F.disk files.old) (F.disk files.new) result }
 {
     for class in classes {
         write_one(alloc, folder, class, files)?;

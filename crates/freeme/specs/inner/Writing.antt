@@ -30,6 +30,7 @@ pub record IsWriteFailed (name : Bytes) (old new : Disk) : Type 0 where
   pub others : OthersAreKept name old.contents new.contents
   pub fault : HasWriteFault name old new
 
+-- what comes of the write of one class
 abbrev pub ComesOfClass : Bytes → ClassDef → Disk → Disk → Result Unit JobRefusal → Type 0
 ComesOfClass folder class old new (Ok _) = IsWritten (written_name folder class) class old new
 ComesOfClass folder class old new (Err (job_refusal.Write name)) = (string_bytes name ≡ written_name folder class) × IsWriteFailed (written_name folder class) old new
