@@ -2,8 +2,8 @@
 // of the call.
 
 use crate::tests::samples::{
-    CALLS_ONCE, CATCHES, DIVISOR_OF_START, DUP_OF_FREED, END_OF_RANGE, EXIT_PLACE, EXITS, FREES,
-    LENGTH_PLACE, PRINTS_LENGTH, STARTS,
+    CALLS_ONCE, CALLS_OTHER, CATCHES, DIVISOR_OF_START, DUP_OF_FREED, END_OF_RANGE, EXIT_PLACE,
+    EXITS, FREES, KEEPS_TEXT, LENGTH_PLACE, MAKES_NEST, PRINTS_LENGTH, STARTS, with_byte,
 };
 use crate::tests::split_words;
 use crate::top_call::fmrun_run;
@@ -202,15 +202,95 @@ fn budgets<'a>(calls: &'a [u8], starts: &'a [u8], lengths: &'a [u8]) -> [End<'a>
     ]
 }
 
+// A call needs a frame and the words of a text that the start of the other class makes; what two arrays cost
+// is in one budget of steps with what went before.
+fn sums<'a>(calls_other: &'a [u8], makes_nest: &'a [u8]) -> [End<'a>; 4] {
+    let calls_other = End {
+        words: "--frames 2 --words 9 M M.class N.class",
+        file: calls_other,
+        place: 0,
+        byte: 0xca,
+        status: 0,
+        printed: b"",
+        reported: b"returned; steps 3, objects 4, frees 0, freed words 0, live words 9, \
+            peak words 9, cells made 4\n",
+    };
+    let makes_nest = End {
+        words: "--steps 4 M M.class",
+        file: makes_nest,
+        status: 80,
+        reported: b"running; steps 4, objects 5, frees 0, freed words 0, live words 12, \
+            peak words 12, cells made 5\n",
+        ..calls_other
+    };
+    [
+        calls_other,
+        End {
+            words: "--frames 2 --words 8 M M.class N.class",
+            status: 81,
+            reported: b"exhausted 6 needs 3; steps 0, objects 3, frees 0, freed words 0, \
+                live words 6, peak words 6, cells made 3\n",
+            ..calls_other
+        },
+        makes_nest,
+        End {
+            words: "--steps 3 M M.class",
+            reported: b"running; steps 2, objects 3, frees 0, freed words 0, live words 6, \
+                peak words 6, cells made 3\n",
+            ..makes_nest
+        },
+    ]
+}
+
+// Where one step lacks several things: steps are looked at first, then frames, then words; at the opening
+// words come before frames.
+fn orders<'a>(starts: &'a [u8], calls_other: &'a [u8], makes_nest: &'a [u8]) -> [End<'a>; 4] {
+    let starts = End {
+        words: "--frames 1 --words 5 M M.class",
+        file: starts,
+        place: 0,
+        byte: 0xca,
+        status: 81,
+        printed: b"",
+        reported: b"exhausted 4 needs 2; steps 0, objects 2, frees 0, freed words 0, \
+            live words 4, peak words 4, cells made 2\n",
+    };
+    let calls_other = End {
+        words: "--frames 1 --words 8 M M.class N.class",
+        file: calls_other,
+        status: 82,
+        reported: b"deep 1; steps 0, objects 3, frees 0, freed words 0, live words 6, \
+            peak words 6, cells made 3\n",
+        ..starts
+    };
+    [
+        starts,
+        calls_other,
+        End {
+            words: "--steps 0 --frames 1 --words 8 M M.class N.class",
+            status: 80,
+            reported: b"running; steps 0, objects 3, frees 0, freed words 0, live words 6, \
+                peak words 6, cells made 3\n",
+            ..calls_other
+        },
+        End {
+            words: "--steps 3 --words 11 M M.class",
+            file: makes_nest,
+            status: 80,
+            reported: b"running; steps 2, objects 3, frees 0, freed words 0, live words 6, \
+                peak words 6, cells made 3\n",
+            ..starts
+        },
+    ]
+}
+
 // Whether the run ends so.
 fn ends_so(alloc: Global, end: End<'_>) -> Result<bool, NoMemory> {
-    let mut file = Vec::new(alloc);
-    file.extend_from_slice(end.file)?;
-    if let Some(byte) = file.get_mut(end.place) {
-        *byte = end.byte;
-    }
+    let file = with_byte(alloc, end.file, end.place, end.byte)?;
     let mut files = SureFiles::new(alloc);
     files.add("M.class", &file)?;
+    let other = KEEPS_TEXT.bytes(alloc)?;
+    files.add("N.class", &other)?;
     let mut out = SureSink::new(alloc);
     let mut report = SureSink::new(alloc);
     let words = split_words(alloc, end.words)?;
@@ -250,6 +330,29 @@ fn frames_and_words_of_a_step_suffice_or_lack_one(rt: HostRuntime) -> Result<(),
     let lengths = PRINTS_LENGTH.bytes(alloc)?;
     for end in budgets(&calls, &starts, &lengths) {
         assert!(rt; ends_so(alloc, end)?, "{} {}", end.words, end.place);
+    }
+    Ok(())
+}
+
+#[test]
+fn all_that_a_step_needs_is_summed(rt: HostRuntime) -> Result<(), Fail> {
+    let alloc = rt.alloc();
+    let calls_other = CALLS_OTHER.bytes(alloc)?;
+    let makes_nest = MAKES_NEST.bytes(alloc)?;
+    for end in sums(&calls_other, &makes_nest) {
+        assert!(rt; ends_so(alloc, end)?, "{}", end.words);
+    }
+    Ok(())
+}
+
+#[test]
+fn of_several_ends_the_first_one_comes(rt: HostRuntime) -> Result<(), Fail> {
+    let alloc = rt.alloc();
+    let starts = STARTS.bytes(alloc)?;
+    let calls_other = CALLS_OTHER.bytes(alloc)?;
+    let makes_nest = MAKES_NEST.bytes(alloc)?;
+    for end in orders(&starts, &calls_other, &makes_nest) {
+        assert!(rt; ends_so(alloc, end)?, "{}", end.words);
     }
     Ok(())
 }

@@ -1,7 +1,9 @@
 // Class files of which one byte decides how their run ends. Beside an entry of the pool stands its index,
 // and beside a piece of code its offset and what it does.
 
+use fm_base::NoMemory;
 use fm_samples::{CALLS_ITSELF, ClassSample, MAIN, MethodSample, PRINTS_SUM, RETURNS};
+use std::alloc::Global;
 
 // Main exits with the int after the opcode of `bipush`, which is the byte at this place.
 pub const EXIT_PLACE: usize = 159;
@@ -154,3 +156,77 @@ pub const PRINTS_LENGTH: ClassSample<'static> = ClassSample {
     }],
     ..PRINTS_SUM
 };
+
+// Main calls f()V of N.
+pub const CALLS_OTHER: ClassSample<'static> = ClassSample {
+    pool_count: b"\0\x0e",
+    more_pool: &[
+        b"\x01\0\x01f", // 8
+        b"\x01\0\x03()V", // 9
+        b"\x0c\0\x08\0\x09", // 10: NameAndType 8 9
+        b"\x01\0\x01N", // 11
+        b"\x07\0\x0b", // 12: Class 11
+        b"\x0a\0\x0c\0\x0a", // 13: Methodref 12 10
+    ],
+    methods: &[MethodSample {
+        attribute_length: b"\0\0\0\x10",
+        code_length: b"\0\0\0\x04",
+        code: &[
+            b"\xb8\0\x0d", // 0: N.f()
+            b"\xb1", // 3: return
+        ],
+        ..MAIN
+    }],
+    ..RETURNS
+};
+
+// N has f()V, which returns, and a static field whose value is a text, which the start of N makes.
+pub const KEEPS_TEXT: ClassSample<'static> = ClassSample {
+    pool_count: b"\0\x0d",
+    class_name: b"\x01\0\x01N", // 1
+    more_pool: &[
+        b"\x01\0\x01f", // 8
+        b"\x01\0\x03()V", // 9
+        b"\x01\0\x12Ljava/lang/String;", // 10
+        b"\x01\0\x0dConstantValue", // 11
+        b"\x08\0\x08", // 12: String 8
+    ],
+    fields: b"\0\x01\0\x18\0\x08\0\x0a\0\x01\0\x0b\0\0\0\x02\0\x0c", // f = "f"
+    methods: &[MethodSample {
+        name: b"\0\x08",
+        descriptor: b"\0\x09",
+        max_locals: b"\0\0",
+        ..MAIN
+    }],
+    ..RETURNS
+};
+
+// Main makes an array of one array of one int, and drops it.
+pub const MAKES_NEST: ClassSample<'static> = ClassSample {
+    pool_count: b"\0\x0a",
+    more_pool: &[
+        b"\x01\0\x03[[I", // 8
+        b"\x07\0\x08", // 9: Class 8
+    ],
+    methods: &[MethodSample {
+        attribute_length: b"\0\0\0\x14",
+        max_stack: b"\0\x02",
+        code_length: b"\0\0\0\x08",
+        code: &[
+            b"\x04\x04\xc5\0\x09\x02\x57", // 0: new int[1][1]
+            b"\xb1", // 7: return
+        ],
+        ..MAIN
+    }],
+    ..RETURNS
+};
+
+// The file with this byte at this place.
+pub fn with_byte(alloc: Global, file: &[u8], place: usize, byte: u8) -> Result<Vec<u8>, NoMemory> {
+    let mut bytes = Vec::new(alloc);
+    bytes.extend_from_slice(file)?;
+    if let Some(changed) = bytes.get_mut(place) {
+        *changed = byte;
+    }
+    Ok(bytes)
+}
