@@ -1,0 +1,2 @@
+pub mod FlowsOver
+pub mod inner

@@ -1,0 +1,242 @@
+// The rows of arrays (JVMS 6.5.arraylength, 6.5.iaload and its like, 6.5.iastore and its like).
+//
+// What is asked of an array follows from the letter of the instruction: its elements' kind, and how many of
+// them a word holds. So each letter has code of its own, in which nothing is left to be asked.
+
+ghost use Rattle.std.specs.Prelude.{◌≡◌, ◌≢◌, ◌-◌, ◌<◌, ◌^◌, pos, true, false, Some, slice_get};
+ghost use Rattle.fm_code.specs.declared.operations.Elem.TheVariants as elem;
+ghost use Rattle.fm_exec.specs.Holding.{HoldsElements, HoldsLength, TakesElement};
+ghost use Rattle.fm_exec.specs.Steps.{seen};
+ghost use Rattle.fm_flat.specs.Flows.{on};
+ghost use Rattle.fm_flat_cells.specs.FlowsOver.{FlowsOver};
+ghost use Rattle.fm_frames.specs.ArrayRows.{array_load_effect, array_store_effect, element_words, length_effect};
+ghost use Rattle.fm_frames.specs.Runnable.{IsRunnable};
+ghost use Rattle.fm_frames.specs.inner.Doings.{NextFits};
+ghost use Rattle.fm_frames.specs.inner.Frames.{stack_in};
+
+use crate::operands::{give_kind, object_at, take};
+use fm_cells::Memory;
+use fm_code::Elem;
+use fm_exec::{element_kind, is_array_of, place_in, type_in};
+use fm_flat::{give, int_operand, long_operand};
+use fm_frames::{Frames, Machine, Value};
+use fm_world::Program;
+
+// A length as an int.
+#[inline(always)]
+fn int_of(len: u32) -> i32
+    requires { len < 2 ^ 31 }
+    ensures { result ≡ pos len }
+{
+    len as i32
+}
+
+/// arraylength; tells whether it was done. Takes no memory.
+#[inline(always)]
+pub fn array_length<M: Memory>(machine: &Machine<M>, frames: &mut Frames, program: &Program) -> bool
+    requires fits { NextFits frames.old }
+    requires holds { HoldsLength program.now (on machine.now frames.old) }
+    ensures did { result ≡ true → FlowsOver program.now M.choose machine.now frames.old
+        machine.now frames.new (λ x. length_effect program.now.outline (seen program.now x)) }
+    ensures same { result ≡ false → frames.new ≡ frames.old }
+{
+    let Some((_, head)) = object_at(machine, frames, 0) else {
+        return false;
+    };
+    let t = type_in(program, head);
+    if t.dims == 0 {
+        return false;
+    }
+    give(frames, 1, Value::Int(int_of(head.len)))
+}
+
+// How many elements of such an array a word holds.
+#[inline(always)]
+fn pack_of(e: Elem) -> u8 {
+    match e {
+        Elem::Boolean | Elem::Byte => 8,
+        Elem::Char | Elem::Short => 4,
+        Elem::Int => 2,
+        Elem::Long | Elem::Ref => 1,
+    }
+}
+
+// The load of a letter.
+#[inline(always)]
+fn load_of<M: Memory>(machine: &Machine<M>, frames: &mut Frames, program: &Program, e: Elem) -> bool
+    requires fits { NextFits frames.old }
+    requires holds { HoldsElements program.now (on machine.now frames.old) e }
+    ensures did { result ≡ true → FlowsOver program.now M.choose machine.now frames.old
+        machine.now frames.new (λ x. array_load_effect program.now.outline e (seen program.now x)) }
+    ensures same { result ≡ false → frames.new ≡ frames.old }
+{
+    let Some((cell, head)) = object_at(machine, frames, 1) else {
+        return false;
+    };
+    let Some(index) = int_operand(frames, 0) else {
+        return false;
+    };
+    let t = type_in(program, head);
+    let array = is_array_of(e, t);
+    if !array {
+        return false;
+    }
+    if head.pack != pack_of(e) {
+        return false;
+    }
+    // As a number without a sign a negative index is above all lengths: so one test is left of both.
+    if index.cast_unsigned() >= head.len {
+        return false;
+    }
+    let Some(place) = place_in(head.len, index) else {
+        return false;
+    };
+    let kind = element_kind(t);
+    let value = machine.place(cell, place, kind);
+    give_kind(frames, 2, kind, value)
+}
+
+/// baload, caload, saload, iaload, laload and aaload; tells whether it was done. Takes no memory.
+#[inline(always)]
+pub fn array_load<M: Memory>(
+    machine: &Machine<M>,
+    frames: &mut Frames,
+    program: &Program,
+    e: Elem,
+) -> bool
+    requires fits { NextFits frames.old }
+    requires holds { HoldsElements program.now (on machine.now frames.old) e }
+    ensures did { result ≡ true → FlowsOver program.now M.choose machine.now frames.old
+        machine.now frames.new (λ x. array_load_effect program.now.outline e (seen program.now x)) }
+    ensures same { result ≡ false → frames.new ≡ frames.old }
+{
+    match e {
+        Elem::Boolean => load_of(machine, frames, program, Elem::Boolean),
+        Elem::Byte => load_of(machine, frames, program, Elem::Byte),
+        Elem::Char => load_of(machine, frames, program, Elem::Char),
+        Elem::Short => load_of(machine, frames, program, Elem::Short),
+        Elem::Int => load_of(machine, frames, program, Elem::Int),
+        Elem::Long => load_of(machine, frames, program, Elem::Long),
+        Elem::Ref => load_of(machine, frames, program, Elem::Ref),
+    }
+}
+
+// Puts the value on top, which is one of the letter and has so many words, into an array.
+#[inline(always)]
+fn put_element<M: Memory>(
+    machine: &mut Machine<M>,
+    frames: &mut Frames,
+    program: &Program,
+    e: Elem,
+    words: usize,
+    value: Value,
+) -> bool
+    requires fits { NextFits frames.old }
+    requires takes { TakesElement program.now (on machine.old frames.old) e }
+    requires number { e ≢ elem.Ref }
+    requires words { words ≡ element_words e }
+    requires value { slice_get (stack_in frames.old) (words - 1) ≡ Some value }
+    ensures did { result ≡ true → FlowsOver program.now M.choose machine.old frames.old
+        machine.new frames.new (λ x. array_store_effect program.now.outline e (seen program.now x)) }
+    ensures same { result ≡ false → frames.new ≡ frames.old }
+    ensures kept { result ≡ false → machine.new ≡ machine.old }
+    ensures ended { machine.new.ended ≡ machine.old.ended }
+{
+    let Some((cell, head)) = object_at(machine, frames, words + 1) else {
+        return false;
+    };
+    let Some(index) = int_operand(frames, words) else {
+        return false;
+    };
+    let t = type_in(program, head);
+    let array = is_array_of(e, t);
+    if !array {
+        return false;
+    }
+    if head.pack != pack_of(e) {
+        return false;
+    }
+    // As a number without a sign a negative index is above all lengths: so one test is left of both.
+    if index.cast_unsigned() >= head.len {
+        return false;
+    }
+    let Some(place) = place_in(head.len, index) else {
+        return false;
+    };
+    machine.put_place(cell, place, element_kind(t), value);
+    take(frames, words + 2);
+    true
+}
+
+// The store of a letter whose values are ints.
+#[inline(always)]
+fn store_of<M: Memory>(
+    machine: &mut Machine<M>,
+    frames: &mut Frames,
+    program: &Program,
+    e: Elem,
+) -> bool
+    requires fits { NextFits frames.old }
+    requires takes { TakesElement program.now (on machine.old frames.old) e }
+    requires number { e ≢ elem.Ref }
+    requires int { e ≢ elem.Long }
+    ensures did { result ≡ true → FlowsOver program.now M.choose machine.old frames.old
+        machine.new frames.new (λ x. array_store_effect program.now.outline e (seen program.now x)) }
+    ensures same { result ≡ false → frames.new ≡ frames.old }
+    ensures kept { result ≡ false → machine.new ≡ machine.old }
+    ensures ended { machine.new.ended ≡ machine.old.ended }
+{
+    if frames.operand(2).is_none() {
+        return false;
+    }
+    let Some(n) = int_operand(frames, 0) else {
+        return false;
+    };
+    put_element(machine, frames, program, e, 1, Value::Int(n))
+}
+
+// lastore.
+#[inline(always)]
+fn store_long<M: Memory>(machine: &mut Machine<M>, frames: &mut Frames, program: &Program) -> bool
+    requires fits { NextFits frames.old }
+    requires takes { TakesElement program.now (on machine.old frames.old) elem.Long }
+    ensures did { result ≡ true → FlowsOver program.now M.choose machine.old frames.old
+        machine.new frames.new
+        (λ x. array_store_effect program.now.outline elem.Long (seen program.now x)) }
+    ensures same { result ≡ false → frames.new ≡ frames.old }
+    ensures kept { result ≡ false → machine.new ≡ machine.old }
+    ensures ended { machine.new.ended ≡ machine.old.ended }
+{
+    let Some(n) = long_operand(frames, 1) else {
+        return false;
+    };
+    put_element(machine, frames, program, Elem::Long, 2, Value::Long(n))
+}
+
+/// bastore, castore, sastore, iastore and lastore; tells whether it was done, which an aastore isn't. Takes
+/// no memory.
+#[inline(always)]
+pub fn array_store<M: Memory>(
+    machine: &mut Machine<M>,
+    frames: &mut Frames,
+    program: &Program,
+    e: Elem,
+) -> bool
+    requires fits { NextFits frames.old }
+    requires takes { TakesElement program.now (on machine.old frames.old) e }
+    ensures did { result ≡ true → FlowsOver program.now M.choose machine.old frames.old
+        machine.new frames.new (λ x. array_store_effect program.now.outline e (seen program.now x)) }
+    ensures same { result ≡ false → frames.new ≡ frames.old }
+    ensures kept { result ≡ false → machine.new ≡ machine.old }
+    ensures ended { machine.new.ended ≡ machine.old.ended }
+{
+    match e {
+        Elem::Boolean => store_of(machine, frames, program, Elem::Boolean),
+        Elem::Byte => store_of(machine, frames, program, Elem::Byte),
+        Elem::Char => store_of(machine, frames, program, Elem::Char),
+        Elem::Short => store_of(machine, frames, program, Elem::Short),
+        Elem::Int => store_of(machine, frames, program, Elem::Int),
+        Elem::Long => store_long(machine, frames, program),
+        Elem::Ref => false,
+    }
+}

@@ -1,0 +1,15 @@
+// Steps of fields and elements over frames that are taken out of a machine (JVMS 6.5).
+//
+// Each row does the whole step of its instruction, or tells that it did nothing: where an operand isn't what
+// the instruction asks, an index is outside, or there is no room for a word. None makes or frees an object,
+// ends the run or changes how many frames there are.
+#![tactic(auto)]
+
+mod arrays;
+mod constants;
+mod fields;
+mod operands;
+
+pub use arrays::{array_length, array_load, array_store};
+pub use constants::constant;
+pub use fields::{get_field, put_field};
