@@ -7,3 +7,4 @@ pub mod Ranging
 pub mod Standing
 pub mod Steadying
 pub mod CheapSteps
+pub mod FlatSteps

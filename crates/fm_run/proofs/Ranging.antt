@@ -283,6 +283,9 @@ quietly-then p choose budget x y z first second out = leads-then p choose budget
 pub quietly-keeps : (p : Program) (choose : Choose) (budget : ℕ) (x y : State) → LeadsQuietly p choose budget x y → Keeps p budget x → Keeps p budget y
 quietly-keeps p choose budget x y leads keeps = leads-keeps p choose budget x y no_output no_output (leads no_output) keeps
 
+pub quietly-left : (p : Program) (choose : Choose) (budget : ℕ) (x y : State) → LeadsQuietly p choose budget x y → left_of budget y ≤ left_of budget x
+quietly-left p choose budget x y leads = leads-left p choose budget x y no_output no_output (leads no_output)
+
 pub quietly-less : (p : Program) (choose : Choose) (budget : ℕ) (x y : State) → LeadsQuietly p choose budget x y → x.steps < y.steps
     → left_of budget y < left_of budget x
 quietly-less p choose budget x y leads rises = leads-less p choose budget x y no_output no_output (leads no_output) rises

@@ -5,7 +5,9 @@
 #![tactic(auto)]
 
 mod calls;
+mod flats;
 mod groups;
+mod indexed;
 mod named;
 mod names;
 mod plain;

@@ -9,6 +9,7 @@ ghost use Rattle.fm_run.specs.Running.{BreaksRun, CanGo, FailsRun, RunsTo};
 ghost use Rattle.fm_run.specs.inner.Going.{BreaksLater, DidCheap, DidQuietly, FailsLater, FailsNext, IsCheapNext, Keeps, Leads, LeadsQuietly, left_of};
 ghost use Rattle.fm_world.specs.Programs.{code_at};
 
+use crate::flats::do_flat_ones;
 use crate::groups::is_nest;
 use crate::plain::frequent;
 use crate::steps::{advance, do_step, quiet};
@@ -118,6 +119,7 @@ fn do_frequent_in_method<M: Memory>(
     let before = machine.steps();
     let mut goes = true;
     while goes {
+        do_flat_ones(alloc, machine, program, place.method, code, steps);
         goes = do_frequent(alloc, machine, program, place.method, code, steps)?;
     }
     Ok(before < machine.steps())

@@ -1,0 +1,179 @@
+-- Steps over frames that are taken out of the machine are steps of the run.
+use Rattle.std.proofs.Common.{◌≡◌, ℕ, ◌+◌, ◌^◌, ◌<◌, ◌≤◌, Bool, true, false, List, ◌∷◌, [], length, Option, Some, None, option_map, refl, sym, ap, ◌∙◌, subst, slice_get, arith}
+use Rattle.std.proofs.lemmas.Option.{same_Some}
+use Rattle.fm_base.proofs.OptionFacts.{option_map-some}
+use Rattle.fm_cells.specs.Choices.{IsLawful}
+use Rattle.fm_cells.specs.Soundness as cells
+use Rattle.fm_code.specs.Edges.{insn_of}
+use Rattle.fm_code.specs.declared.code_array.Code.{Code}
+use Rattle.fm_code.specs.declared.code_array.Item.{Item}
+use Rattle.fm_code.specs.declared.code_array.TheConstants.{MAX_CODE_BYTES}
+use Rattle.fm_code.specs.declared.instructions.Insn.{Insn}
+use Rattle.fm_exec.specs.Steps.{seen, Steps}
+use Rattle.fm_flat.specs.Flows.{on, resumed, stepped_on}
+use Rattle.fm_frames.specs.Acts.{Choose}
+use Rattle.fm_frames.specs.Rows.{effect_of}
+use Rattle.fm_frames.specs.States.{Frame, State}
+use Rattle.fm_frames.specs.Steps.{next_effect}
+use Rattle.fm_frames.specs.inner.Doings.{DoesIn, NextFits}
+use Rattle.fm_frames.specs.inner.Frames.{place_of, topmost}
+use Rattle.fm_nests.proofs.CostSteps.{insn-found, IsOnTop, on-top}
+use Rattle.fm_nests.specs.inner.Costs.{nest_of}
+use Rattle.fm_ready.proofs.Standing.{IsStanding, standing_by}
+use Rattle.fm_ready.specs.Ready.{CanRun}
+use Rattle.fm_run.proofs.CheapSteps.{cheap-is}
+use Rattle.fm_run.proofs.NextSteps.{named-is, own_effect, row-does}
+use Rattle.fm_run.proofs.Ranging.{went-quietly}
+use Rattle.fm_run.proofs.Standing.{item-inside}
+use Rattle.fm_run.proofs.Steadying.{did-quietly}
+use Rattle.fm_run.specs.inner.Flats.{FlowsNext, IsFlatNext}
+use Rattle.fm_run.specs.inner.Going.{IsCheapNext, Keeps, LeadsQuietly}
+use Rattle.fm_run.specs.inner.Nexts.{DoesNext, StandsAt, StandsIn}
+use Rattle.fm_types.specs.Typed.{use_by}
+use Rattle.fm_world.specs.Programs.{code_at, Program}
+use Rattle.fm_world.specs.declared.uses.Use.{Use}
+
+-- ---- the next instruction
+
+-- a sound state that goes on stands at an instruction
+pub flat-standing : (p : Program) (budget : ℕ) (x : State) → Keeps p budget x → x.ended ≡ None → IsStanding p x
+flat-standing p budget x keeps on = standing_by p keeps.sound.0 x x.frames keeps.sound.1 on
+
+place-of : (p : Program) (x : State) (s : IsStanding p x) (method item : ℕ) → Some (method, item) ≡ option_map place_of (topmost x.frames)
+    → ◌≡◌ {A = ℕ × ℕ} (method, item) (place_of s.frame)
+place-of p x s method item is = same_Some _ _ (is ∙ ap (λ (frames : List Frame). option_map place_of (topmost frames)) s.frames_is)
+
+pub flat-inside : (p : Program) (budget : ℕ) (x : State) (method item : ℕ) (code : Code) → Keeps p budget x → x.ended ≡ None
+    → Some (method, item) ≡ option_map place_of (topmost x.frames) → code_at p method ≡ Some code → item < length code.items
+flat-inside p budget x method item code keeps on place_is code_is =
+    let s = flat-standing p budget x keeps on in
+    item-inside p x s (method, item) code (place-of p x s method item place_is) code_is
+
+pub flat-fits : (p : Program) (budget : ℕ) (x : State) → CanRun p → Keeps p budget x → x.ended ≡ None → NextFits x.frames
+flat-fits p budget x run keeps on =
+    let s = flat-standing p budget x keeps on in
+    let few = run.steps.items s.frame.method s.code s.code_is in
+    let most : MAX_CODE_BYTES ≤ 65536 = omega arith in
+    let below = s.below in
+    let fits : s.frame.item + 1 < 2 ^ 64 = omega (arith, few, most, below) in
+    subst NextFits (sym s.frames_is) fits
+
+pub flat-next : (p : Program) (budget : ℕ) (x : State) (method item : ℕ) (code : Code) (i : Insn) → CanRun p → budget < 2 ^ 64 → Keeps p budget x
+    → x.ended ≡ None → x.steps < budget → Some (method, item) ≡ option_map place_of (topmost x.frames) → code_at p method ≡ Some code
+    → insn_of code item ≡ Some i → IsFlatNext p budget x method i
+flat-next p budget x method item code i run few keeps on within place_is code_is insn_is =
+    let found = option_map-some (λ (item : Item). item.insn) (slice_get code.items item) i insn_is in
+    let top : IsOnTop x.frames method item = on-top x.frames method item place_is in
+    record {
+      at = record {
+        at = record {
+          frame = top.frame;
+          callers = top.callers;
+          frames_is = top.frames_are;
+          insn_is = insn-found p x.frames method item top code found.0 (sym code_is) found.1 ∙ ap Some found.2;
+        };
+        method_is = top.method_is;
+      };
+      next =
+          λ cheap.
+          subst (IsCheapNext p budget x method) found.2
+          (cheap-is p budget x method item code found.0 run few keeps on within place_is (sym code_is) found.1 (ap nest_of found.2 ∙ cheap));
+    }
+
+pub cheap-next : (p : Program) (budget : ℕ) (x : State) (method : ℕ) (insn i : Insn) → IsFlatNext p budget x method insn → insn ≡ i → nest_of i ≡ None
+    → IsCheapNext p budget x method insn
+cheap-next p budget x method insn i next is cheap = next.next (ap nest_of is ∙ cheap)
+
+-- ---- rows
+
+-- the row for what an index stands for
+pub named-does : (p : Program) (choose : Choose) (x y : State) (method : ℕ) (i : Insn) (u : Use) → StandsIn p x method i → use_by p method i ≡ u
+    → Steps p choose x y (effect_of p.outline method u i (slice_get x.input 0) (seen p x)) → DoesNext p choose x y
+named-does p choose x y method i u stands is does = subst (DoesIn p choose x y) (sym (named-is p x method i u stands is)) does
+
+-- a row over frames alone
+pub row-flows : (p : Program) (method : ℕ) (old new : List Frame) (insn i : Insn) → insn ≡ i → nest_of i ≡ None
+    → ((choose : Choose) (x : State) (at : StandsAt p (on x old) insn) → Steps p choose (on x old) (stepped_on x new) (own_effect p (on x old) at.frame.method i))
+    → FlowsNext p method old new insn
+row-flows p method old new insn i is cheap flows = record {
+  cheap = ap nest_of is ∙ cheap;
+  does = λ choose x stands. row-does p choose (on x old) (stepped_on x new) insn i stands.at is (flows choose x stands.at);
+}
+
+-- ---- whether the next instruction was done
+
+-- where it was, it was a cheap one, and where it wasn't, the state is the same
+pub record Flowed (p : Program) (choose : Choose) (budget method : ℕ) (x y same : State) (did : Bool) : Type 0 where
+  pub done : did ≡ true → (i : Insn) × IsCheapNext p budget x method i × DoesNext p choose x y
+  pub kept : did ≡ false → same ≡ x
+  pub ended : y.ended ≡ x.ended
+
+pub does-flowed : (p : Program) (choose : Choose) (budget method : ℕ) (m : State) (old : List Frame) (counted : ℕ) (m2 : State) (new : List Frame)
+    (insn i : Insn) (did : Bool) → IsFlatNext p budget (resumed m old counted) method insn → insn ≡ i → nest_of i ≡ None
+    → (did ≡ true → IsCheapNext p budget (resumed m old counted) method insn → DoesNext p choose (resumed m old counted) (resumed m2 new (counted + 1)))
+    → (did ≡ false → new ≡ old) → (did ≡ false → m2 ≡ m) → m2.ended ≡ m.ended
+    → Flowed p choose budget method (resumed m old counted) (resumed m2 new (counted + 1)) (resumed m2 new counted) did
+does-flowed p choose budget method m old counted m2 new insn i did next is cheap does same kept ended =
+    let found = cheap-next p budget (resumed m old counted) method insn i next is cheap in
+    record {
+      done = λ told. (insn, found, does told found);
+      kept = λ told. λ j. resumed (kept told j) (same told j) counted;
+      ended = ended;
+    }
+
+-- a row over frames alone
+pub row-flowed : (p : Program) (choose : Choose) (budget method : ℕ) (m : State) (old : List Frame) (counted : ℕ) (new : List Frame) (insn i : Insn) (did : Bool)
+    → IsFlatNext p budget (resumed m old counted) method insn → insn ≡ i → nest_of i ≡ None
+    → (did ≡ true → (at : StandsAt p (resumed m old counted) insn)
+      → Steps p choose (resumed m old counted) (resumed m new (counted + 1)) (own_effect p (resumed m old counted) at.frame.method i))
+    → (did ≡ false → new ≡ old)
+    → Flowed p choose budget method (resumed m old counted) (resumed m new (counted + 1)) (resumed m new counted) did
+row-flowed p choose budget method m old counted new insn i did next is cheap flows same =
+    does-flowed p choose budget method m old counted m new insn i did next is cheap
+    (λ told found. row-does p choose (resumed m old counted) (resumed m new (counted + 1)) insn i found.at.at is (flows told found.at.at))
+    same (λ told. refl) refl
+
+-- a row of a group
+pub group-flowed : (p : Program) (choose : Choose) (budget method : ℕ) (m : State) (old : List Frame) (counted : ℕ) (new : List Frame) (insn : Insn) (did : Bool)
+    → IsFlatNext p budget (resumed m old counted) method insn → (did ≡ true → FlowsNext p method old new insn) → (did ≡ false → new ≡ old)
+    → Flowed p choose budget method (resumed m old counted) (resumed m new (counted + 1)) (resumed m new counted) did
+group-flowed p choose budget method m old counted new insn did next flows same = record {
+  done =
+      λ told.
+      let row = flows told in
+      let found = next.next row.cheap in
+      (insn, found, row.does choose (resumed m old counted) found.at);
+  kept = λ told. λ j. resumed m (same told j) counted;
+  ended = refl;
+}
+
+-- none was done
+pub not-flowed : (p : Program) (choose : Choose) (budget method : ℕ) (m : State) (old : List Frame) (counted : ℕ)
+    → Flowed p choose budget method (resumed m old counted) (resumed m old (counted + 1)) (resumed m old counted) false
+not-flowed p choose budget method m old counted = record { done = λ told. absurd (cc); kept = λ told. refl; ended = refl }
+
+-- told of what the branches leave
+pub flowed-joined : (p : Program) (choose : Choose) (budget method counted : ℕ) (x m m2 : State) (f f2 : List Frame) (d d2 : Bool) → m2 ≡ m → f2 ≡ f → d2 ≡ d
+    → Flowed p choose budget method x (resumed m f (counted + 1)) (resumed m f counted) d
+    → Flowed p choose budget method x (resumed m2 f2 (counted + 1)) (resumed m2 f2 counted) d2
+flowed-joined p choose budget method counted x m m2 f f2 d d2 m_is f_is d_is flowed =
+    subst (λ z. Flowed p choose budget method x (resumed z f2 (counted + 1)) (resumed z f2 counted) d2) (sym m_is)
+    (subst (λ z. Flowed p choose budget method x (resumed m z (counted + 1)) (resumed m z counted) d2) (sym f_is)
+    (subst (λ z. Flowed p choose budget method x (resumed m f (counted + 1)) (resumed m f counted) z) (sym d_is) flowed))
+
+-- ---- the run goes on
+
+pub flowed-on : (p : Program) (choose : Choose) (budget method : ℕ) (first x y same : State) → CanRun p → IsLawful choose → cells.IsSound y.areas.store
+    → Flowed p choose budget method x y same true → x.ended ≡ None → LeadsQuietly p choose budget first x → Keeps p budget x
+    → LeadsQuietly p choose budget first y × Keeps p budget y × (y.ended ≡ None)
+flowed-on p choose budget method first x y same run lawful sound flowed on leads keeps =
+    let done = flowed.done refl in
+    let went = went-quietly p choose budget first x y true
+    (λ told. did-quietly p choose budget x y method done.0 run done.1 done.2 lawful sound) (λ told. absurd (cc)) leads keeps in
+    (went.0, went.1, flowed.ended ∙ on)
+
+-- ---- frames that are taken out and put in again
+
+pub taken-out : (x m : State) (frames : List Frame) (steps : ℕ) → m ≡ (record x { frames = [] }) → frames ≡ x.frames → steps ≡ x.steps
+    → resumed m frames steps ≡ x
+taken-out x m frames steps m_is frames_is steps_is = λ j. resumed (m_is j) (frames_is j) (steps_is j)

@@ -1,0 +1,64 @@
+use Rattle.std.proofs.Common.{ap, refl}
+use Rattle.fm_code.specs.declared.instructions.Insn.TheVariants as insn
+use Rattle.fm_flat.specs.Flows.{on, stepped_on}
+use Rattle.fm_frames.specs.Rows.{effect_of}
+use Rattle.fm_nests.specs.inner.Costs.{nest_of}
+use Rattle.fm_run.proofs.FlatSteps.{named-does, row-flows}
+use Rattle.fm_run.proofs.NextSteps.{at-row, stands-at}
+use Rattle.fm_run.proofs.flats.do_other.Goals as goal
+use Rattle.fm_types.specs.Typed.{use_in}
+
+pub returns-in-Null-clause-did : goal.returns-in-Null-clause-did
+unfolding effect_of
+returns-in-Null-clause-did c told =
+    row-flows c.args.program.now c.args.method.0 c.args.frames.now c.null.new.frames c.args.insn.now insn.Null c.in-Null.is refl
+    (λ choose x at. c.null.ensures.did told c.args.program.now choose x)
+
+pub returns-in-LoadPool-clause-did : goal.returns-in-LoadPool-clause-did
+unfolding effect_of
+returns-in-LoadPool-clause-did c told =
+    let p = c.args.program.now in
+    let i = insn.LoadPool c.in-LoadPool.index in
+    record {
+      cheap = ap nest_of c.in-LoadPool.is;
+      does =
+          λ choose x stands.
+          named-does p choose (on x c.args.frames.now) (stepped_on x c.number.new.frames) c.args.method.0 i (use_in p c.args.method.0 c.in-LoadPool.index)
+          (stands-at p (on x c.args.frames.now) c.args.method.0 c.args.insn.now i stands c.in-LoadPool.is) refl (c.number.ensures.did told p choose x);
+    }
+
+pub returns-in-IntShift-clause-did : goal.returns-in-IntShift-clause-did
+unfolding effect_of
+returns-in-IntShift-clause-did c told =
+    row-flows c.args.program.now c.args.method.0 c.args.frames.now c.int_shift.new.frames c.args.insn.now (insn.IntShift c.in-IntShift.shift) c.in-IntShift.is refl
+    (λ choose x at. c.int_shift.ensures.did told c.args.program.now choose x)
+
+pub returns-in-LongOp-clause-did : goal.returns-in-LongOp-clause-did
+unfolding effect_of
+returns-in-LongOp-clause-did c told =
+    row-flows c.args.program.now c.args.method.0 c.args.frames.now c.long_op.new.frames c.args.insn.now (insn.LongOp c.in-LongOp.op) c.in-LongOp.is refl
+    (λ choose x at. c.long_op.ensures.did told c.args.program.now choose x)
+
+pub returns-in-Convert-clause-did : goal.returns-in-Convert-clause-did
+unfolding effect_of
+returns-in-Convert-clause-did c told =
+    row-flows c.args.program.now c.args.method.0 c.args.frames.now c.convert.new.frames c.args.insn.now (insn.Convert c.in-Convert.to) c.in-Convert.is refl
+    (λ choose x at. c.convert.ensures.did told c.args.program.now choose x)
+
+pub returns-in-IfSame-clause-did : goal.returns-in-IfSame-clause-did
+unfolding effect_of
+returns-in-IfSame-clause-did c told =
+    row-flows c.args.program.now c.args.method.0 c.args.frames.now c.if_same.new.frames c.args.insn.now (insn.IfSame c.in-IfSame.same c.in-IfSame.target) c.in-IfSame.is refl
+    (λ choose x at. c.if_same.ensures.did told c.args.program.now choose x (at-row c.args.program.now (on x c.args.frames.now) c.args.insn.now (insn.IfSame c.in-IfSame.same c.in-IfSame.target) at c.in-IfSame.is))
+
+pub returns-in-IfNull-clause-did : goal.returns-in-IfNull-clause-did
+unfolding effect_of
+returns-in-IfNull-clause-did c told =
+    row-flows c.args.program.now c.args.method.0 c.args.frames.now c.if_null.new.frames c.args.insn.now (insn.IfNull c.in-IfNull.null c.in-IfNull.target) c.in-IfNull.is refl
+    (λ choose x at. c.if_null.ensures.did told c.args.program.now choose x (at-row c.args.program.now (on x c.args.frames.now) c.args.insn.now (insn.IfNull c.in-IfNull.null c.in-IfNull.target) at c.in-IfNull.is))
+
+pub returns-in-Pop-clause-did : goal.returns-in-Pop-clause-did
+unfolding effect_of
+returns-in-Pop-clause-did c told =
+    row-flows c.args.program.now c.args.method.0 c.args.frames.now c.pop.new.frames c.args.insn.now insn.Pop c.in-Pop.is refl
+    (λ choose x at. c.pop.ensures c.args.program.now choose x)

@@ -1,0 +1,20 @@
+-- Steps over frames that are taken out of the machine.
+use Rattle.std.specs.Prelude.{◌≡◌, ℕ, None, List}
+use Rattle.fm_code.specs.declared.instructions.Insn.{Insn}
+use Rattle.fm_flat.specs.Flows.{on, stepped_on}
+use Rattle.fm_frames.specs.Acts.{Choose}
+use Rattle.fm_frames.specs.States.{Frame, State}
+use Rattle.fm_nests.specs.inner.Costs.{nest_of}
+use Rattle.fm_run.specs.inner.Going.{IsCheapNext}
+use Rattle.fm_run.specs.inner.Nexts.{DoesNext, StandsIn}
+use Rattle.fm_world.specs.Programs.{Program}
+
+-- the topmost frame stands at the instruction in the method, and its step is within the budget, if it costs 1
+pub record IsFlatNext (p : Program) (budget : ℕ) (x : State) (method : ℕ) (i : Insn) : Type 0 where
+  pub at : StandsIn p x method i
+  pub next : nest_of i ≡ None → IsCheapNext p budget x method i
+
+-- the instruction costs 1, and whatever the rest of the state, its step in the method leads from the one frames to the others
+pub record FlowsNext (p : Program) (method : ℕ) (old new : List Frame) (i : Insn) : Type 0 where
+  pub cheap : nest_of i ≡ None
+  pub does : (choose : Choose) (x : State) → StandsIn p (on x old) method i → DoesNext p choose (on x old) (stepped_on x new)
