@@ -4,15 +4,16 @@ ghost use Rattle.std.specs.Prelude.{◌≡◌, true, false, not, if◌then◌els
 ghost use Rattle.fm_code.specs.declared.instructions.Insn.TheVariants as insn;
 ghost use Rattle.fm_exec.specs.Steps.{seen};
 ghost use Rattle.fm_flat.specs.Flows.{FlowsAt, with_branched};
+ghost use Rattle.fm_flat.specs.Operands.{HasInt, HasReference};
 ghost use Rattle.fm_frames.specs.Effects.{Jumps, going};
 ghost use Rattle.fm_frames.specs.JumpRows.{int_jump_effect, null_jump_effect, pair_jump_effect, same_jump_effect};
 ghost use Rattle.fm_frames.specs.inner.Doings.{NextFits};
 ghost use Rattle.fm_frames.specs.inner.Frames.{on_top};
 
-use crate::operands::int_operand;
+use crate::operands::{cell_there, int_there};
 use fm_code::Test;
 use fm_exec::holds;
-use fm_frames::{Frames, Value};
+use fm_frames::Frames;
 
 // A test's answer, or with `false` the contrary.
 #[inline(always)]
@@ -36,68 +37,62 @@ fn branch(frames: &mut Frames, takes: usize, taken: bool, target: u32)
     frames.drop_words(takes);
 }
 
-/// ifeq and its like, of an int and 0; tells whether it was done. Takes no memory.
+/// ifeq and its like, of an int and 0; tells that it was done. Takes no memory.
 #[inline(always)]
 pub fn if_int(frames: &mut Frames, test: Test, target: u32) -> bool
     requires fits { NextFits frames.old }
+    requires int { HasInt frames.old 0 }
     ensures did { result ≡ true → FlowsAt frames.old frames.new (insn.IfInt test target)
         (λ p x. int_jump_effect test (seen p x)) }
     ensures same { result ≡ false → frames.new ≡ frames.old }
 {
-    let Some(a) = int_operand(frames, 0) else {
-        return false;
-    };
+    let a = int_there(frames, 0);
     branch(frames, 1, holds(test, a, 0), target);
     true
 }
 
-/// if_icmpeq and its like, of two ints; tells whether it was done. Takes no memory.
+/// if_icmpeq and its like, of two ints; tells that it was done. Takes no memory.
 #[inline(always)]
 pub fn if_pair(frames: &mut Frames, test: Test, target: u32) -> bool
     requires fits { NextFits frames.old }
+    requires first { HasInt frames.old 1 }
+    requires second { HasInt frames.old 0 }
     ensures did { result ≡ true → FlowsAt frames.old frames.new (insn.IfPair test target)
         (λ p x. pair_jump_effect test (seen p x)) }
     ensures same { result ≡ false → frames.new ≡ frames.old }
 {
-    let Some(a) = int_operand(frames, 1) else {
-        return false;
-    };
-    let Some(b) = int_operand(frames, 0) else {
-        return false;
-    };
+    let a = int_there(frames, 1);
+    let b = int_there(frames, 0);
     branch(frames, 2, holds(test, a, b), target);
     true
 }
 
-/// if_acmpeq, and with `false` if_acmpne; tells whether it was done. Takes no memory.
+/// if_acmpeq, and with `false` if_acmpne; tells that it was done. Takes no memory.
 #[inline(always)]
 pub fn if_same(frames: &mut Frames, same: bool, target: u32) -> bool
     requires fits { NextFits frames.old }
+    requires first { HasReference frames.old 1 }
+    requires second { HasReference frames.old 0 }
     ensures did { result ≡ true → FlowsAt frames.old frames.new (insn.IfSame same target)
         (λ p x. same_jump_effect same) }
     ensures same { result ≡ false → frames.new ≡ frames.old }
 {
-    let Some(Value::Ref(a)) = frames.operand(1) else {
-        return false;
-    };
-    let Some(Value::Ref(b)) = frames.operand(0) else {
-        return false;
-    };
+    let a = cell_there(frames, 1);
+    let b = cell_there(frames, 0);
     branch(frames, 2, as_wanted(b.0 == a.0, same), target);
     true
 }
 
-/// ifnull, and with `false` ifnonnull; tells whether it was done. Takes no memory.
+/// ifnull, and with `false` ifnonnull; tells that it was done. Takes no memory.
 #[inline(always)]
 pub fn if_null(frames: &mut Frames, null: bool, target: u32) -> bool
     requires fits { NextFits frames.old }
+    requires reference { HasReference frames.old 0 }
     ensures did { result ≡ true → FlowsAt frames.old frames.new (insn.IfNull null target)
         (λ p x. null_jump_effect null (seen p x)) }
     ensures same { result ≡ false → frames.new ≡ frames.old }
 {
-    let Some(Value::Ref(cell)) = frames.operand(0) else {
-        return false;
-    };
+    let cell = cell_there(frames, 0);
     branch(frames, 1, as_wanted(cell.0 == 0, null), target);
     true
 }

@@ -18,5 +18,7 @@ pub use locals::{increment, load, store};
 pub use numbers::{
     convert, int_negate, int_op, int_shift, long_compare, long_negate, long_op, long_shift,
 };
-pub use operands::{give, give_wide, int_operand, long_operand, push};
+pub use operands::{
+    cell_there, give, give_wide, int_operand, int_there, long_operand, push, word_there,
+};
 pub use shuffles::{dup, pop};

@@ -1,11 +1,15 @@
 // The rows of locals (JVMS 6.5.iload and its like).
 
-ghost use Rattle.std.specs.Prelude.{◌≡◌, true, false};
+ghost use Rattle.std.specs.Prelude.{◌≡◌, ◌-◌, true, false};
+ghost use Rattle.fm_exec.specs.Steps.{reg_words};
 ghost use Rattle.fm_flat.specs.Flows.{Flows};
+ghost use Rattle.fm_flat.specs.Operands.{HasIntLocal, HasLocal, HasWord};
 ghost use Rattle.fm_frames.specs.NumberRows.{increment_effect, load_effect, store_effect};
 ghost use Rattle.fm_frames.specs.inner.Doings.{NextFits};
 
-use crate::operands::{give_wide, push, put_local, put_wide_local};
+use crate::operands::{
+    give_wide, int_local, local_there, push, put_local, put_wide_local, word_there,
+};
 use fm_code::Reg;
 use fm_exec::int_sum;
 use fm_frames::{Frames, Value};
@@ -14,10 +18,11 @@ use fm_frames::{Frames, Value};
 #[inline(always)]
 pub fn load(frames: &mut Frames, kind: Reg, place: u16) -> bool
     requires fits { NextFits frames.old }
+    requires there { HasLocal frames.old place }
     ensures did { result ≡ true → Flows frames.old frames.new (λ p x. load_effect kind place) }
     ensures same { result ≡ false → frames.new ≡ frames.old }
 {
-    let value = frames.local(place as usize);
+    let value = local_there(frames, place);
     match kind {
         Reg::Int => push(frames, value),
         Reg::Long => give_wide(frames, 0, value),
@@ -25,10 +30,11 @@ pub fn load(frames: &mut Frames, kind: Reg, place: u16) -> bool
     }
 }
 
-/// istore, lstore and astore; tells whether it was done. Takes no memory.
+/// istore, lstore and astore; tells that it was done. Takes no memory.
 #[inline(always)]
 pub fn store(frames: &mut Frames, kind: Reg, place: u16) -> bool
     requires fits { NextFits frames.old }
+    requires there { HasWord frames.old (reg_words kind - 1) }
     ensures did { result ≡ true → Flows frames.old frames.new (λ p x. store_effect kind place) }
     ensures same { result ≡ false → frames.new ≡ frames.old }
 {
@@ -43,12 +49,11 @@ pub fn store(frames: &mut Frames, kind: Reg, place: u16) -> bool
 #[inline(always)]
 fn store_word(frames: &mut Frames, place: u16) -> bool
     requires fits { NextFits frames.old }
+    requires there { HasWord frames.old 0 }
     ensures did { result ≡ true → Flows frames.old frames.new (λ p x. store_effect Reg.Int place) }
     ensures same { result ≡ false → frames.new ≡ frames.old }
 {
-    let Some(value) = frames.operand(0) else {
-        return false;
-    };
+    let value = word_there(frames, 0);
     put_local(frames, 1, place, value);
     true
 }
@@ -57,28 +62,25 @@ fn store_word(frames: &mut Frames, place: u16) -> bool
 #[inline(always)]
 fn store_long(frames: &mut Frames, place: u16) -> bool
     requires fits { NextFits frames.old }
-    ensures did { result ≡ true → Flows frames.old frames.new (λ p x. store_effect Reg.Long place) }
+    requires there { HasWord frames.old 1 }
+    ensures did { result ≡ true
+        → Flows frames.old frames.new (λ p x. store_effect Reg.Long place) }
     ensures same { result ≡ false → frames.new ≡ frames.old }
 {
-    let Some(value) = frames.operand(1) else {
-        return false;
-    };
+    let value = word_there(frames, 1);
     put_wide_local(frames, 2, place, value);
     true
 }
 
-/// iinc; tells whether it was done. Takes no memory.
+/// iinc; tells that it was done. Takes no memory.
 #[inline(always)]
 pub fn increment(frames: &mut Frames, place: u16, by: i16) -> bool
     requires fits { NextFits frames.old }
+    requires int { HasIntLocal frames.old place }
     ensures did { result ≡ true → Flows frames.old frames.new (λ p x. increment_effect place by) }
     ensures same { result ≡ false → frames.new ≡ frames.old }
 {
-    match frames.local(place as usize) {
-        Value::Int(n) => {
-            put_local(frames, 0, place, Value::Int(int_sum(n, by)));
-            true
-        }
-        _ => false,
-    }
+    let n = int_local(frames, place);
+    put_local(frames, 0, place, Value::Int(int_sum(n, by)));
+    true
 }

@@ -4,11 +4,12 @@ ghost use Rattle.std.specs.Prelude.{◌≡◌, ℤ, FitsSigned, true, false};
 ghost use Rattle.std.specs.Int.{w32};
 ghost use Rattle.fm_alu.specs.Conversions.{IsOperandOf};
 ghost use Rattle.fm_flat.specs.Flows.{Flows};
+ghost use Rattle.fm_flat.specs.Operands.{HasInt};
 ghost use Rattle.fm_exec.specs.Steps.{seen};
 ghost use Rattle.fm_frames.specs.NumberRows.{compare_effect, convert_effect, int_converted, int_negate_effect, int_op_effect, int_shift_effect, long_negate_effect, long_op_effect, long_shift_effect};
 ghost use Rattle.fm_frames.specs.inner.Doings.{NextFits};
 
-use crate::operands::{give, give_wide, int_operand, long_operand};
+use crate::operands::{give, give_wide, int_operand, int_there, long_operand};
 use fm_code::{Conv, Op, Shift};
 use fm_exec::{negated_int, negated_long};
 use fm_frames::{Frames, Value};
@@ -18,16 +19,14 @@ use fm_frames::{Frames, Value};
 #[inline(always)]
 pub fn int_op(frames: &mut Frames, op: Op) -> bool
     requires fits { NextFits frames.old }
+    requires first { HasInt frames.old 1 }
+    requires second { HasInt frames.old 0 }
     ensures did { result ≡ true
         → Flows frames.old frames.new (λ p x. int_op_effect p.outline op (seen p x)) }
     ensures same { result ≡ false → frames.new ≡ frames.old }
 {
-    let Some(a) = int_operand(frames, 1) else {
-        return false;
-    };
-    let Some(b) = int_operand(frames, 0) else {
-        return false;
-    };
+    let a = int_there(frames, 1);
+    let b = int_there(frames, 0);
     match fm_alu::int_op(op, a, b) {
         Some(n) => give(frames, 2, Value::Int(n)),
         None => false,
@@ -87,16 +86,14 @@ pub fn long_negate(frames: &mut Frames) -> bool
 #[inline(always)]
 pub fn int_shift(frames: &mut Frames, shift: Shift) -> bool
     requires fits { NextFits frames.old }
+    requires first { HasInt frames.old 1 }
+    requires second { HasInt frames.old 0 }
     ensures did { result ≡ true
         → Flows frames.old frames.new (λ p x. int_shift_effect shift (seen p x)) }
     ensures same { result ≡ false → frames.new ≡ frames.old }
 {
-    let Some(a) = int_operand(frames, 1) else {
-        return false;
-    };
-    let Some(n) = int_operand(frames, 0) else {
-        return false;
-    };
+    let a = int_there(frames, 1);
+    let n = int_there(frames, 0);
     give(frames, 2, Value::Int(fm_alu::int_shift(shift, a, n)))
 }
 

@@ -1,11 +1,75 @@
 // What rows do with the topmost frame.
 
-ghost use Rattle.std.specs.Prelude.{◌≡◌, ◌<◌, true, false, slice_get};
+ghost use Rattle.std.specs.Prelude.{◌≡◌, ◌<◌, Some, true, false, slice_get};
 ghost use Rattle.fm_flat.specs.Flows.{with_given, with_given_wide, with_stored, with_stored_wide};
+ghost use Rattle.fm_flat.specs.Operands.{HasInt, HasIntLocal, HasLocal, HasReference, HasWord};
+ghost use Rattle.fm_frames.specs.States.{word_at};
 ghost use Rattle.fm_frames.specs.inner.Doings.{int_in, long_in, NextFits};
-ghost use Rattle.fm_frames.specs.inner.Frames.{on_top, stack_in};
+ghost use Rattle.fm_frames.specs.inner.Frames.{locals_in, on_top, stack_in};
 
+use fm_cells::Cell;
 use fm_frames::{Frames, Value};
+
+/// The int at this place of the stack, counted from the top. Takes no memory.
+#[inline(always)]
+pub fn int_there(frames: &Frames, place: usize) -> i32
+    requires { HasInt frames.now place }
+    ensures { Some result ≡ int_in (slice_get (stack_in frames.now) place) }
+{
+    match frames.operand(place) {
+        Some(Value::Int(n)) => n,
+        _ => unreachable!(),
+    }
+}
+
+/// The cell of the reference at this place of the stack, counted from the top. Takes no memory.
+#[inline(always)]
+pub fn cell_there(frames: &Frames, place: usize) -> Cell
+    requires { HasReference frames.now place }
+    ensures { Some (Value.Ref result) ≡ slice_get (stack_in frames.now) place }
+{
+    match frames.operand(place) {
+        Some(Value::Ref(cell)) => cell,
+        _ => unreachable!(),
+    }
+}
+
+/// The word at this place of the stack, counted from the top. Takes no memory.
+#[inline(always)]
+pub fn word_there(frames: &Frames, place: usize) -> Value
+    requires { HasWord frames.now place }
+    ensures { Some result ≡ slice_get (stack_in frames.now) place }
+{
+    match frames.operand(place) {
+        Some(value) => value,
+        None => unreachable!(),
+    }
+}
+
+// The value of a local.
+#[inline(always)]
+pub(crate) fn local_there(frames: &Frames, place: u16) -> Value
+    requires { HasLocal frames.now place }
+    ensures { result ≡ word_at (locals_in frames.now) place }
+{
+    let value = frames.local(place as usize);
+    match value {
+        Value::Top => unreachable!(),
+        _ => value,
+    }
+}
+
+// The int of a local.
+#[inline(always)]
+pub(crate) fn int_local(frames: &Frames, place: u16) -> i32
+    requires { HasIntLocal frames.now place }
+    ensures { Value.Int result ≡ word_at (locals_in frames.now) place }
+{
+    match frames.local(place as usize) {
+        Value::Int(n) => n,
+        _ => unreachable!(),
+    }
+}
 
 /// The int at this place of the stack, counted from the top; none where there is no int.
 #[inline(always)]

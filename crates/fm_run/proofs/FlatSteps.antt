@@ -10,7 +10,9 @@ use Rattle.fm_code.specs.declared.code_array.Item.{Item}
 use Rattle.fm_code.specs.declared.code_array.TheConstants.{MAX_CODE_BYTES}
 use Rattle.fm_code.specs.declared.instructions.Insn.{Insn}
 use Rattle.fm_exec.specs.Steps.{seen, Steps}
+use Rattle.fm_flat.proofs.Asked.{asked}
 use Rattle.fm_flat.specs.Flows.{on, resumed, stepped_on}
+use Rattle.fm_flat.specs.Operands.{AsksOf}
 use Rattle.fm_frames.specs.Acts.{Choose}
 use Rattle.fm_frames.specs.Rows.{effect_of}
 use Rattle.fm_frames.specs.States.{Frame, State}
@@ -24,7 +26,7 @@ use Rattle.fm_ready.specs.Ready.{CanRun}
 use Rattle.fm_run.proofs.CheapSteps.{cheap-is}
 use Rattle.fm_run.proofs.NextSteps.{named-is, own_effect, row-does}
 use Rattle.fm_run.proofs.Ranging.{went-quietly}
-use Rattle.fm_run.proofs.Standing.{item-inside}
+use Rattle.fm_run.proofs.Standing.{insn-here, item-inside}
 use Rattle.fm_run.proofs.Steadying.{did-quietly}
 use Rattle.fm_run.specs.inner.Flats.{FlowsNext, IsFlatNext}
 use Rattle.fm_run.specs.inner.Going.{IsCheapNext, Keeps, LeadsQuietly}
@@ -48,6 +50,15 @@ pub flat-inside : (p : Program) (budget : ℕ) (x : State) (method item : ℕ) (
 flat-inside p budget x method item code keeps on place_is code_is =
     let s = flat-standing p budget x keeps on in
     item-inside p x s (method, item) code (place-of p x s method item place_is) code_is
+
+-- it has what the row of its instruction asks
+flat-asks : (p : Program) (budget : ℕ) (x : State) (method item : ℕ) (code : Code) (i : Insn) → Keeps p budget x → x.ended ≡ None
+    → Some (method, item) ≡ option_map place_of (topmost x.frames) → code_at p method ≡ Some code → insn_of code item ≡ Some i → AsksOf i x.frames
+flat-asks p budget x method item code i keeps on place_is code_is insn_is =
+    let s = flat-standing p budget x keeps on in
+    let here : s.insn ≡ i = insn-here p x s (method, item) code i (place-of p x s method item place_is) code_is insn_is in
+    subst (AsksOf i) (sym s.frames_is)
+    (subst (λ i. AsksOf i (s.frame ∷ s.callers)) here (asked p.outline s.known s.frame s.callers s.kinds s.whole s.after _ _ _ _ s.insn s.row))
 
 pub flat-fits : (p : Program) (budget : ℕ) (x : State) → CanRun p → Keeps p budget x → x.ended ≡ None → NextFits x.frames
 flat-fits p budget x run keeps on =
@@ -74,6 +85,7 @@ flat-next p budget x method item code i run few keeps on within place_is code_is
         };
         method_is = top.method_is;
       };
+      asks = flat-asks p budget x method item code i keeps on place_is code_is insn_is;
       next =
           λ cheap.
           subst (IsCheapNext p budget x method) found.2
@@ -125,7 +137,7 @@ does-flowed p choose budget method m old counted m2 new insn i did next is cheap
 pub row-flowed : (p : Program) (choose : Choose) (budget method : ℕ) (m : State) (old : List Frame) (counted : ℕ) (new : List Frame) (insn i : Insn) (did : Bool)
     → IsFlatNext p budget (resumed m old counted) method insn → insn ≡ i → nest_of i ≡ None
     → (did ≡ true → (at : StandsAt p (resumed m old counted) insn)
-      → Steps p choose (resumed m old counted) (resumed m new (counted + 1)) (own_effect p (resumed m old counted) at.frame.method i))
+    → Steps p choose (resumed m old counted) (resumed m new (counted + 1)) (own_effect p (resumed m old counted) at.frame.method i))
     → (did ≡ false → new ≡ old)
     → Flowed p choose budget method (resumed m old counted) (resumed m new (counted + 1)) (resumed m new counted) did
 row-flowed p choose budget method m old counted new insn i did next is cheap flows same =

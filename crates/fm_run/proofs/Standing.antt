@@ -42,3 +42,10 @@ stands-here p x s at code i is code_is insn_is =
       at = record { frame = s.frame; callers = s.callers; frames_is = s.frames_is; insn_is = here };
       method_is = sym (ap (λ (q : ℕ × ℕ). q.0) is);
     }
+
+-- the instruction at which it stands, found in the method's code
+pub insn-here : (p : Program) (x : State) (s : IsStanding p x) (at : ℕ × ℕ) (code : Code) (i : Insn) → at ≡ place_of s.frame → code_at p at.0 ≡ Some code
+    → insn_of code at.1 ≡ Some i → s.insn ≡ i
+insn-here p x s at code i is code_is insn_is =
+    let same : s.code ≡ code = same_Some _ _ (sym s.code_is ∙ ap (λ (q : ℕ × ℕ). code_at p q.0) (sym is) ∙ code_is) in
+    same_Some _ _ (sym s.insn_is ∙ ap (λ (c : Code). insn_of c s.frame.item) same ∙ ap (λ (q : ℕ × ℕ). insn_of code q.1) (sym is) ∙ insn_is)

@@ -5,6 +5,7 @@
 
 ghost use Rattle.std.specs.Prelude.{◌≡◌, ℕ, ◌<◌, ◌^◌, length, IfSome, None, Some, true, false};
 ghost use Rattle.fm_flat.specs.Flows.{resumed};
+ghost use Rattle.fm_flat.specs.Operands.{AsksOf};
 ghost use Rattle.fm_frames.specs.inner.Doings.{NextFits};
 ghost use Rattle.fm_ready.specs.Ready.{CanRun};
 ghost use Rattle.fm_run.specs.inner.Flats.{FlowsNext, IsFlatNext};
@@ -92,6 +93,7 @@ fn do_constant(frames: &mut Frames, insn: &Insn) -> bool
 #[inline(always)]
 fn do_increment(frames: &mut Frames, insn: &Insn) -> bool
     requires fits { NextFits frames.old }
+    requires asks { AsksOf insn.now frames.old }
     ensures did { result ≡ true → (p : Program) (method : ℕ)
         → FlowsNext p method frames.old frames.new insn.now }
     ensures same { result ≡ false → frames.new ≡ frames.old }
@@ -107,6 +109,7 @@ fn do_increment(frames: &mut Frames, insn: &Insn) -> bool
 fn do_other(frames: &mut Frames, program: &Program, method: MethodId, insn: &Insn) -> bool
     requires fits { NextFits frames.old }
     requires method { method.0 < length (methods_of program.now.outline.classes) }
+    requires asks { AsksOf insn.now frames.old }
     ensures did { result ≡ true → FlowsNext program.now method.0 frames.old frames.new insn.now }
     ensures same { result ≡ false → frames.new ≡ frames.old }
 {
@@ -153,7 +156,9 @@ pub(crate) fn do_flat_ones<M: Memory>(
     let taken = machine.take_frames(alloc);
     let mut frames = taken;
     while counted < steps {
-        let next = next_in(machine, &frames, counted, program, method, code, items, steps);
+        let next = next_in(
+            machine, &frames, counted, program, method, code, items, steps,
+        );
         let Some(insn) = next else {
             put_back(machine, frames, counted);
             return;
@@ -172,10 +177,26 @@ pub(crate) fn do_flat_ones<M: Memory>(
             }
             Insn::Dup => rows::dup(&mut frames),
             Insn::GetField(index) => {
-                field_read(machine, &mut frames, counted, program, method, *index, steps)
+                field_read(
+                    machine,
+                    &mut frames,
+                    counted,
+                    program,
+                    method,
+                    *index,
+                    steps,
+                )
             }
             Insn::PutField(index) => {
-                field_written(machine, &mut frames, counted, program, method, *index, steps)
+                field_written(
+                    machine,
+                    &mut frames,
+                    counted,
+                    program,
+                    method,
+                    *index,
+                    steps,
+                )
             }
             Insn::ArrayLoad(e) => array_load(machine, &mut frames, program, *e),
             Insn::ArrayStore(e) => array_store(machine, &mut frames, program, *e),

@@ -2,6 +2,7 @@
 use Rattle.std.specs.Prelude.{◌≡◌, ℕ, None, List}
 use Rattle.fm_code.specs.declared.instructions.Insn.{Insn}
 use Rattle.fm_flat.specs.Flows.{on, stepped_on}
+use Rattle.fm_flat.specs.Operands.{AsksOf}
 use Rattle.fm_frames.specs.Acts.{Choose}
 use Rattle.fm_frames.specs.States.{Frame, State}
 use Rattle.fm_nests.specs.inner.Costs.{nest_of}
@@ -9,9 +10,10 @@ use Rattle.fm_run.specs.inner.Going.{IsCheapNext}
 use Rattle.fm_run.specs.inner.Nexts.{DoesNext, StandsIn}
 use Rattle.fm_world.specs.Programs.{Program}
 
--- the topmost frame stands at the instruction in the method, and its step is within the budget, if it costs 1
+-- the topmost frame stands at the instruction in the method and has what its row asks, and its step is within the budget, if it costs 1
 pub record IsFlatNext (p : Program) (budget : ℕ) (x : State) (method : ℕ) (i : Insn) : Type 0 where
   pub at : StandsIn p x method i
+  pub asks : AsksOf i x.frames
   pub next : nest_of i ≡ None → IsCheapNext p budget x method i
 
 -- the instruction costs 1, and whatever the rest of the state, its step in the method leads from the one frames to the others

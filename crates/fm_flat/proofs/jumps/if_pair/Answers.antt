@@ -12,9 +12,12 @@ pub returns-clause-did : goal.returns-clause-did
 unfolding pair_jump_effect
 returns-clause-did c told p choose x at =
     let old = c.args.frames.now in
-    let taken : holds c.args.test c.in-Some.a c.in-Some-int_operand.b ≡ c.holds.result = search rules in
-    with-int p choose (on x old) (stepped_on x c.branch-frames.new.frames) 0 c.in-Some-int_operand.b _ _ (seen-on x old 0 int_in _ c.in-Some-int_operand.ensures) refl
-    (with-int p choose (on x old) (stepped_on x c.branch-frames.new.frames) 1 c.in-Some.a _ _ (seen-on x old 1 int_in _ c.in-Some.ensures)
+    let new = c.branch-frames.new.frames in
+    let a = c.int_there-a.result in
+    let b = c.int_there-b.result in
+    let taken : holds c.args.test a b ≡ c.holds.result = search rules in
+    with-int p choose (on x old) (stepped_on x new) 0 b _ _ (seen-on x old 0 int_in _ c.int_there-b.ensures) refl
+    (with-int p choose (on x old) (stepped_on x new) 1 a _ _ (seen-on x old 1 int_in _ c.int_there-a.ensures)
     (ap (λ b. going 2 (jumps_if b)) taken)
-    (branched p choose x old c.branch-frames.new.frames 2 c.holds.result c.args.target c.requires.fits c.branch-frames.ensures
+    (branched p choose x old new 2 c.holds.result c.args.target c.requires.fits c.branch-frames.ensures
     (target-is p (on x old) (insn.IfPair c.args.test c.args.target) 0 c.args.target refl at)))

@@ -13,18 +13,18 @@ returns-in-Int-clause-did c told p choose x =
     carried p choose (on x c.args.frames.now) (stepped_on x c.push.new.frames) (load_effect c.args.kind c.args.place)
     (words 0 (OfLocal c.args.place ∷ [])) (load-int c.args.kind c.args.place c.in-Int.is)
     (gave p choose x c.args.frames.now c.push.new.frames 0 _ (OfLocal c.args.place) c.requires.fits (c.push.ensures.did told)
-    (local-on x c.args.frames.now c.args.place _ c.local-value.ensures))
+    (local-on x c.args.frames.now c.args.place _ c.local_there-value.ensures))
 
 pub returns-in-Long-clause-did : goal.returns-in-Long-clause-did
 returns-in-Long-clause-did c told p choose x =
     carried p choose (on x c.args.frames.now) (stepped_on x c.give_wide.new.frames) (load_effect c.args.kind c.args.place)
     (words 0 (Plain value.Top ∷ OfLocal c.args.place ∷ [])) (load-long c.args.kind c.args.place c.in-Long.is)
     (gave-wide p choose x c.args.frames.now c.give_wide.new.frames 0 _ (OfLocal c.args.place) c.requires.fits (c.give_wide.ensures.did told)
-    (local-on x c.args.frames.now c.args.place _ c.local-value.ensures))
+    (local-on x c.args.frames.now c.args.place _ c.local_there-value.ensures))
 
 pub returns-in-Ref-clause-did : goal.returns-in-Ref-clause-did
 returns-in-Ref-clause-did c told p choose x =
     carried p choose (on x c.args.frames.now) (stepped_on x c.push-in-Ref.new.frames) (load_effect c.args.kind c.args.place)
     (words 0 (OfLocal c.args.place ∷ [])) (load-ref c.args.kind c.args.place c.in-Ref.is)
     (gave p choose x c.args.frames.now c.push-in-Ref.new.frames 0 _ (OfLocal c.args.place) c.requires.fits (c.push-in-Ref.ensures.did told)
-    (local-on x c.args.frames.now c.args.place _ c.local-value.ensures))
+    (local-on x c.args.frames.now c.args.place _ c.local_there-value.ensures))

@@ -1,9 +1,20 @@
-use Rattle.std.proofs.Common.{ap}
+use Rattle.std.proofs.Common.{◌-◌, ap, subst}
 use Rattle.fm_code.specs.declared.operations.Reg.TheVariants as reg
 use Rattle.fm_exec.proofs.Seen.{carried}
+use Rattle.fm_exec.specs.Steps.{reg_words}
 use Rattle.fm_flat.proofs.locals.store.Goals as goal
 use Rattle.fm_flat.specs.Flows.{on, stepped_on}
+use Rattle.fm_flat.specs.Operands.{HasWord}
 use Rattle.fm_frames.specs.NumberRows.{store_effect}
+
+pub store_word-requires-clause-there : goal.store_word-requires-clause-there
+store_word-requires-clause-there c = subst (λ r. HasWord c.args.frames.now (reg_words r - 1)) c.in-Int.is c.requires.there
+
+pub store_long-requires-clause-there : goal.store_long-requires-clause-there
+store_long-requires-clause-there c = subst (λ r. HasWord c.args.frames.now (reg_words r - 1)) c.in-Long.is c.requires.there
+
+pub store_word-requires-in-Ref-clause-there : goal.store_word-requires-in-Ref-clause-there
+store_word-requires-in-Ref-clause-there c = subst (λ r. HasWord c.args.frames.now (reg_words r - 1)) c.in-Ref.is c.requires.there
 
 pub returns-in-Int-clause-did : goal.returns-in-Int-clause-did
 returns-in-Int-clause-did c told p choose x =

@@ -7,4 +7,4 @@ pub returns-clause-did : goal.returns-clause-did
 unfolding store_effect
 returns-clause-did c told p choose x =
     stored p choose x c.args.frames.now c.put_local.new.frames 1 c.args.place _ (OfOperand 0) c.requires.fits c.put_local.ensures
-    (word-on x c.args.frames.now 0 _ c.in-Some.ensures)
+    (word-on x c.args.frames.now 0 _ c.word_there-value.ensures)

@@ -15,8 +15,8 @@ unfolding int_shift_effect
 returns-clause-did c told p choose x =
     let old = c.args.frames.now in
     let new = stepped_on x c.give.new.frames in
-    let result : result_of_shift c.args.shift 32 c.in-Some.a (low_bits 5 c.in-Some-int_operand.n) ≡ c.int_shift.result = search rules in
-    with-int p choose (on x old) new 0 c.in-Some-int_operand.n _ _ (seen-on x old 0 int_in _ c.in-Some-int_operand.ensures) refl
-    (with-int p choose (on x old) new 1 c.in-Some.a _ _ (seen-on x old 1 int_in _ c.in-Some.ensures)
+    let result : result_of_shift c.args.shift 32 c.int_there-a.result (low_bits 5 c.int_there-n.result) ≡ c.int_shift.result = search rules in
+    with-int p choose (on x old) new 0 c.int_there-n.result _ _ (seen-on x old 0 int_in _ c.int_there-n.ensures) refl
+    (with-int p choose (on x old) new 1 c.int_there-a.result _ _ (seen-on x old 1 int_in _ c.int_there-a.ensures)
     (ap (λ n. words 2 (int_word n)) result)
     (gave p choose x old c.give.new.frames 2 _ (Plain (value.Int c.int_shift.result)) c.requires.fits (c.give.ensures.did told) (search rules)))

@@ -1,6 +1,7 @@
 use Rattle.std.proofs.Common.{◌≡◌, ◌+◌, None, true, false, refl, sym, subst, ap, ◌∙◌, rules}
 use Rattle.fm_code.specs.declared.instructions.Insn.TheVariants as insn
 use Rattle.fm_flat.specs.Flows.{resumed}
+use Rattle.fm_flat.specs.Operands.{AsksOf}
 use Rattle.fm_frames.specs.Rows.{effect_of}
 use Rattle.fm_nests.specs.inner.Costs.{nest_of}
 use Rattle.fm_ready.proofs.Heap.{holds_elements, holds_length}
@@ -108,16 +109,44 @@ loop-counted-init g c =
     let on : c.args.machine.now.ended ≡ None = search rules in
     let first =
     taken-out x c.take_frames-taken.new.self c.take_frames-taken.result c.steps-counted.result c.take_frames-taken.ensures.rest
-    c.take_frames-taken.ensures.frames c.steps-counted.ensures in
-    (subst (LeadsQuietly p choose c.args.steps x) (sym first) (λ out. leads-none p choose c.args.steps x out),
-    subst (Keeps p c.args.steps) (sym first) c.requires.keeps,
-    ap (λ z. z.ended) c.take_frames-taken.ensures.rest ∙ on)
+    c.take_frames-taken.ensures.frames c.steps-counted.ensures in (
+      subst (LeadsQuietly p choose c.args.steps x) (sym first) (λ out. leads-none p choose c.args.steps x out),
+      subst (Keeps p c.args.steps) (sym first) c.requires.keeps,
+      ap (λ z. z.ended) c.take_frames-taken.ensures.rest ∙ on,
+    )
 
 pub next_in-next-requires-clause-keeps : goal.next_in-next-requires-clause-keeps
 next_in-next-requires-clause-keeps g c = c.loop-counted.invariant.1
 
 pub next_in-next-requires-clause-on : goal.next_in-next-requires-clause-on
 next_in-next-requires-clause-on g c = c.loop-counted.invariant.2
+
+pub load-did-requires-clause-there : goal.load-did-requires-clause-there
+load-did-requires-clause-there g c = subst (λ i. AsksOf i c.loop-counted.frames) c.in-Load.is c.in-Some.ensures.next.asks
+
+pub store-did-requires-clause-there : goal.store-did-requires-clause-there
+store-did-requires-clause-there g c = subst (λ i. AsksOf i c.loop-counted.frames) c.in-Store.is c.in-Some.ensures.next.asks
+
+pub int_op-did-requires-clause-first : goal.int_op-did-requires-clause-first
+int_op-did-requires-clause-first g c = (subst (λ i. AsksOf i c.loop-counted.frames) c.in-IntOp.is c.in-Some.ensures.next.asks).0
+
+pub int_op-did-requires-clause-second : goal.int_op-did-requires-clause-second
+int_op-did-requires-clause-second g c = (subst (λ i. AsksOf i c.loop-counted.frames) c.in-IntOp.is c.in-Some.ensures.next.asks).1
+
+pub if_int-did-requires-clause-int : goal.if_int-did-requires-clause-int
+if_int-did-requires-clause-int g c = subst (λ i. AsksOf i c.loop-counted.frames) c.in-IfInt.is c.in-Some.ensures.next.asks
+
+pub if_pair-did-requires-clause-first : goal.if_pair-did-requires-clause-first
+if_pair-did-requires-clause-first g c = (subst (λ i. AsksOf i c.loop-counted.frames) c.in-IfPair.is c.in-Some.ensures.next.asks).0
+
+pub if_pair-did-requires-clause-second : goal.if_pair-did-requires-clause-second
+if_pair-did-requires-clause-second g c = (subst (λ i. AsksOf i c.loop-counted.frames) c.in-IfPair.is c.in-Some.ensures.next.asks).1
+
+pub do_increment-did-requires-clause-asks : goal.do_increment-did-requires-clause-asks
+do_increment-did-requires-clause-asks g c = c.in-Some.ensures.next.asks
+
+pub do_other-did-requires-clause-asks : goal.do_other-did-requires-clause-asks
+do_other-did-requires-clause-asks g c = c.in-Some.ensures.next.asks
 
 pub field_read-did-requires-clause-next : goal.field_read-did-requires-clause-next
 field_read-did-requires-clause-next g c =

@@ -1,10 +1,14 @@
-use Rattle.std.proofs.Common.{◌≡◌, arith, ap, refl, sym, ◌∙◌, to_z, of_z}
+use Rattle.std.proofs.Common.{◌≡◌, arith, ap, refl, sym, ◌∙◌, to_z, of_z, subst}
 use Rattle.std.proofs.lemmas.Int.{ints, to_z-of_z}
 use Rattle.std.specs.Int.{w16}
 use Rattle.fm_code.specs.declared.instructions.Insn.TheVariants as insn
+use Rattle.fm_flat.specs.Operands.{AsksOf}
 use Rattle.fm_frames.specs.Rows.{effect_of}
 use Rattle.fm_run.proofs.FlatSteps.{row-flows}
 use Rattle.fm_run.proofs.flats.do_increment.Goals as goal
+
+pub increment-requires-clause-int : goal.increment-requires-clause-int
+increment-requires-clause-int c = subst (λ i. AsksOf i c.args.frames.now) c.in-Inc.is c.requires.asks
 
 pub returns-in-Inc-clause-did : goal.returns-in-Inc-clause-did
 unfolding effect_of

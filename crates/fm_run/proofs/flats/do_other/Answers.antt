@@ -1,12 +1,28 @@
-use Rattle.std.proofs.Common.{ap, refl}
+use Rattle.std.proofs.Common.{ap, refl, subst}
 use Rattle.fm_code.specs.declared.instructions.Insn.TheVariants as insn
 use Rattle.fm_flat.specs.Flows.{on, stepped_on}
+use Rattle.fm_flat.specs.Operands.{AsksOf}
 use Rattle.fm_frames.specs.Rows.{effect_of}
 use Rattle.fm_nests.specs.inner.Costs.{nest_of}
 use Rattle.fm_run.proofs.FlatSteps.{named-does, row-flows}
 use Rattle.fm_run.proofs.NextSteps.{at-row, stands-at}
 use Rattle.fm_run.proofs.flats.do_other.Goals as goal
 use Rattle.fm_types.specs.Typed.{use_in}
+
+pub int_shift-requires-clause-first : goal.int_shift-requires-clause-first
+int_shift-requires-clause-first c = (subst (λ i. AsksOf i c.args.frames.now) c.in-IntShift.is c.requires.asks).0
+
+pub int_shift-requires-clause-second : goal.int_shift-requires-clause-second
+int_shift-requires-clause-second c = (subst (λ i. AsksOf i c.args.frames.now) c.in-IntShift.is c.requires.asks).1
+
+pub if_same-requires-clause-first : goal.if_same-requires-clause-first
+if_same-requires-clause-first c = (subst (λ i. AsksOf i c.args.frames.now) c.in-IfSame.is c.requires.asks).0
+
+pub if_same-requires-clause-second : goal.if_same-requires-clause-second
+if_same-requires-clause-second c = (subst (λ i. AsksOf i c.args.frames.now) c.in-IfSame.is c.requires.asks).1
+
+pub if_null-requires-clause-reference : goal.if_null-requires-clause-reference
+if_null-requires-clause-reference c = subst (λ i. AsksOf i c.args.frames.now) c.in-IfNull.is c.requires.asks
 
 pub returns-in-Null-clause-did : goal.returns-in-Null-clause-did
 unfolding effect_of

@@ -1,0 +1,43 @@
+-- What rows ask of the words that they look at, which typed code has there.
+use Rattle.std.specs.Prelude.{◌≡◌, ◌≢◌, ℕ, ◌-◌, ℤ, List, Some, slice_get}
+use Rattle.fm_cells.specs.declared.answers.Cell.{Cell}
+use Rattle.fm_code.specs.declared.instructions.Insn.{Insn}
+use Rattle.fm_code.specs.declared.instructions.Insn.TheVariants as insn
+use Rattle.fm_exec.specs.Steps.{reg_words}
+use Rattle.fm_frames.specs.States.{Frame, word_at}
+use Rattle.fm_frames.specs.declared.values.Value.{Value}
+use Rattle.fm_frames.specs.declared.values.Value.TheVariants as value
+use Rattle.fm_frames.specs.inner.Frames.{locals_in, stack_in}
+
+-- the word at a place of the stack, counted from the top, is an int
+abbrev pub HasInt : List Frame → (place : ℕ) → Type 0
+HasInt frames place = (n : ℤ) × (slice_get (stack_in frames) place ≡ Some (value.Int n))
+
+-- it is a reference
+abbrev pub HasReference : List Frame → (place : ℕ) → Type 0
+HasReference frames place = (cell : Cell) × (slice_get (stack_in frames) place ≡ Some (value.Ref cell))
+
+-- there is a word
+abbrev pub HasWord : List Frame → (place : ℕ) → Type 0
+HasWord frames place = (v : Value) × (slice_get (stack_in frames) place ≡ Some v)
+
+-- the local has a value of its own
+abbrev pub HasLocal : List Frame → (place : ℕ) → Type 0
+HasLocal frames place = word_at (locals_in frames) place ≢ value.Top
+
+-- the local is an int
+abbrev pub HasIntLocal : List Frame → (place : ℕ) → Type 0
+HasIntLocal frames place = (n : ℤ) × (word_at (locals_in frames) place ≡ value.Int n)
+
+-- what the row of an instruction asks of the topmost frame (JVMS 4.9.2)
+abbrev pub AsksOf : Insn → List Frame → Type 0
+AsksOf (insn.Load kind place) frames = HasLocal frames place
+AsksOf (insn.Store kind place) frames = HasWord frames (reg_words kind - 1)
+AsksOf (insn.Inc place by) frames = HasIntLocal frames place
+AsksOf (insn.IntOp op) frames = HasInt frames 1 × HasInt frames 0
+AsksOf (insn.IntShift shift) frames = HasInt frames 1 × HasInt frames 0
+AsksOf (insn.IfInt test target) frames = HasInt frames 0
+AsksOf (insn.IfPair test target) frames = HasInt frames 1 × HasInt frames 0
+AsksOf (insn.IfSame same target) frames = HasReference frames 1 × HasReference frames 0
+AsksOf (insn.IfNull null target) frames = HasReference frames 0
+AsksOf i frames = Unit {0}
