@@ -1,8 +1,8 @@
 -- Frames that lie in one list: what a change of the list, or of the topmost cursor, does to them.
 use Rattle.std.proofs.Common.{◌≡◌, ℕ, Bool, ◌+◌, ◌-◌, ◌<◌, ◌≤◌, ◌⊎◌, inl, inr, List, [], ◌∷◌, ◌++◌, length, take, drop, set, reverse, Some, None, get_or, refl, ap, sym, ◌∙◌, subst, slice_get, option_map, map, zero, suc, ◌≢◌, add-one, replicate, max, take_all, option_to_list, append_assoc, true, false, leb, length-set, arith}
 use Rattle.std.proofs.Math.ListN.{drop_of_length-le}
-use Rattle.std.proofs.Math.Seq.{drop-append_seam, take-set-lt}
-use Rattle.std.proofs.lemmas.List.{replicate_more, take_more_set, drop-append-le, take-append-le, take-append-drop, drop-take, reverse-append, length-reverse, length-take, length-drop, get_or-reverse, length-append, take-set-le, drop-set-lt, drop-set-add, drop-drop, length-replicate, reverse-reverse}
+use Rattle.std.proofs.Math.Seq.{drop-append_seam, take-append_seam, take-set-lt}
+use Rattle.std.proofs.lemmas.List.{replicate_more, take_more, take_more_set, drop-append-le, take-append-le, take-append-drop, drop-take, reverse-append, length-reverse, length-take, length-drop, get_or-reverse, length-append, take-set-le, drop-set-lt, drop-set-add, drop-drop, length-replicate, reverse-reverse}
 use Rattle.std.proofs.lemmas.Option.{slice_get-get_or, slice_get-map, slice_get_past}
 use Rattle.std.proofs.lemmas.Bool.Decides.{leb_tells}
 use Rattle.fm_frames.specs.States.{Frame}
@@ -49,16 +49,20 @@ some-there : (has : Bool) (values : List Value) (used : ℕ) (c : Cursor) (calle
     → has ≡ true → frames_in has values used c callers ≡ x → frames_at (take used values) (c ∷ callers) ≡ x
 some-there has values used c callers x there is = sym (ap (λ h. frames_in h values used c callers) there) ∙ is
 
--- ---- a value after all others
+-- ---- values after all others
+
+frames-more : (values more : List Value) (c : Cursor) (callers : List Cursor) → AreTiled values (c ∷ callers)
+    → frames_at (values ++ more) (c ∷ callers) ≡ on_top (λ f. record f { stack = reverse more ++ f.stack }) (frames_at values (c ∷ callers))
+frames-more values more c callers tiled =
+    both
+    (same_frame c.method.0 c.item
+    (ap (drop c.locals) (take-append-le c.stack values more tiled.1))
+    (ap reverse (drop-append-le c.stack values more tiled.1) ∙ reverse-append (drop c.stack values) more))
+    (ap (λ front. frames_at front callers) (take-append-le c.locals values more (omega arith)))
 
 frames-pushed : (values : List Value) (c : Cursor) (callers : List Cursor) (v : Value) → AreTiled values (c ∷ callers)
     → frames_at (values ++ v ∷ []) (c ∷ callers) ≡ on_top (λ f. record f { stack = v ∷ f.stack }) (frames_at values (c ∷ callers))
-frames-pushed values c callers v tiled =
-    both
-    (same_frame c.method.0 c.item
-    (ap (drop c.locals) (take-append-le c.stack values (v ∷ []) tiled.1))
-    (ap reverse (drop-append-le c.stack values (v ∷ []) tiled.1) ∙ reverse-append (drop c.stack values) (v ∷ [])))
-    (ap (λ front. frames_at front callers) (take-append-le c.locals values (v ∷ []) (omega arith)))
+frames-pushed values c callers v tiled = frames-more values (v ∷ []) c callers tiled
 
 pushed : (has : Bool) (values new : List Value) (used many : ℕ) (c : Cursor) (callers : List Cursor) (v : Value) (x : List Frame)
     → AreLaid has values used c callers → frames_in has values used c callers ≡ x → take many new ≡ take used values ++ v ∷ []
@@ -383,3 +387,111 @@ gave-back words frames popped moved half new few one two three four =
           ap (λ given. record caller { item = caller.item + 1; stack = given } ∷ callers)
           (sym (append_assoc (option_to_list (result_word words 0 f.stack)) (option_to_list (result_word words 1 f.stack)) caller.stack)
           ∙ ap (λ given. given ++ caller.stack) (result-words words f.stack few))
+
+-- the cursor of a caller to which a method returned
+abbrev pub gone_on : Cursor → Cursor
+gone_on caller = record caller { item = caller.item + 1 }
+
+-- the last values are the first words of the topmost frame's stack, turned round
+last-words : (all before last : List Value) (stack : ℕ) → all ≡ before ++ last → stack ≤ length before
+    → reverse last ≡ take (length last) (reverse (drop stack all))
+last-words all before last stack is within =
+    let turned : reverse (drop stack all) ≡ reverse last ++ reverse (drop stack before) =
+    ap (λ xs. reverse (drop stack xs)) is ∙ ap reverse (drop-append-le stack before last within) ∙ reverse-append (drop stack before) last in
+    sym (ap (take (length last)) turned ∙ ap (λ n. take n (reverse last ++ reverse (drop stack before))) (sym (length-reverse last))
+    ∙ take-append_seam (reverse last) (reverse (drop stack before)))
+
+-- the words of a result, which come last, stand where the locals of the frame began that is taken off
+pub given-back : (values new : List Value) (used words : ℕ) (c caller : Cursor) (callers : List Cursor) → AreLaid true values used c (caller ∷ callers)
+    → words ≤ used - c.stack → take (c.locals + words) new ≡ take c.locals values ++ drop (used - words) (take used values)
+    → frames_in true new (c.locals + words) (gone_on caller) callers ≡ with_result words (frames_in true values used c (caller ∷ callers))
+given-back values new used words c caller callers laid few made =
+    let all : List Value = take used values in
+    let front : List Value = take c.locals values in
+    let before : List Value = take (used - words) all in
+    let last : List Value = drop (used - words) all in
+    let whole : length all ≡ used = omega (arith, length-take used values) in
+    let long : length before ≡ used - words = omega (arith, length-take (used - words) all, whole) in
+    let many : length last ≡ words = omega (arith, length-drop (used - words) all, whole, few) in
+    let given : List Value → List Value → List Frame = λ more front.
+    on_top (λ f. record f { stack = more ++ f.stack }) (frames_at front (gone_on caller ∷ callers)) in
+    ap (λ xs. frames_at xs (gone_on caller ∷ callers)) made
+    ∙ frames-more front last (gone_on caller) callers laid.4
+    ∙ ap (λ more. given more front)
+    (last-words all before last c.stack (sym (take-append-drop (used - words) all)) (omega (arith, long, few))
+    ∙ ap (λ n. take n (reverse (drop c.stack all))) many)
+    ∙ ap (given (take words (reverse (drop c.stack all)))) (sym (take_take c.locals used values (omega arith) (omega arith)))
+
+-- what comes last of the values that are used
+last-is : (values last : List Value) (used : ℕ) → used ≤ length values → length last ≤ used → take used values ≡ take (used - length last) values ++ last
+    → last ≡ drop (used - length last) (take used values)
+last-is values last used within few is =
+    let before : List Value = take (used - length last) values in
+    let long : length before ≡ used - length last = omega (arith, length-take (used - length last) values) in
+    sym (ap (drop (used - length last)) is ∙ ap (λ n. drop n (before ++ last)) (sym long) ∙ drop-append_seam before last)
+
+-- two words that are copied down, as they are there
+pub copied-two : (values : List Value) (used start : ℕ) (v w : Value) → used ≤ length values → start + 2 ≤ used → v ≡ get_or values (used - 2) v
+    → w ≡ get_or values (used - 1) w
+    → take (start + 2) (set (set values start v) (start + 1) w) ≡ take start values ++ drop (used - 2) (take used values)
+copied-two values used start v w within below under top =
+    let half : used - 2 + 1 ≡ used - 1 = omega (arith, below) in
+    let whole : used - 1 + 1 ≡ used = omega (arith, below) in
+    let one : List Value = set values start v in
+    let two : start + 1 + 1 ≡ start + 2 = omega arith in
+    ap (λ n. take n (set one (start + 1) w)) (sym two)
+    ∙ take_more_set one (start + 1) w (omega (arith, length-set values start v))
+    ∙ ap (λ xs. xs ++ w ∷ []) (take_more_set values start v (omega arith))
+    ∙ append_assoc (take start values) (v ∷ []) (w ∷ [])
+    ∙ ap (λ xs. take start values ++ xs)
+    (last-is values (v ∷ w ∷ []) used within (omega arith)
+    (ap (λ n. take n values) (sym whole) ∙ take_more values (used - 1) w (omega arith)
+    ∙ ap (λ x. take (used - 1) values ++ x ∷ []) (sym top)
+    ∙ ap (λ xs. xs ++ w ∷ []) (ap (λ n. take n values) (sym half) ∙ take_more values (used - 2) v (omega arith)
+    ∙ ap (λ x. take (used - 2) values ++ x ∷ []) (sym under))
+    ∙ append_assoc (take (used - 2) values) (v ∷ []) (w ∷ [])))
+
+-- the callers with the last one apart
+last-apart : (callers left : List Cursor) (caller : Cursor) → callers ≡ left ++ caller ∷ [] → reverse callers ≡ caller ∷ reverse left
+last-apart callers left caller is = ap reverse is ∙ reverse-append left (caller ∷ [])
+
+-- as returns leave it
+pub given-down : (has : Bool) (values new : List Value) (used words : ℕ) (c caller : Cursor) (callers left : List Cursor) (x : List Frame)
+    → has ≡ true → AreLaid has values used c (reverse callers) → frames_in has values used c (reverse callers) ≡ x → callers ≡ left ++ caller ∷ []
+    → words ≤ used - c.stack → take (c.locals + words) new ≡ take c.locals values ++ drop (used - words) (take used values)
+    → frames_in has new (c.locals + words) (gone_on caller) (reverse left) ≡ with_result words x
+given-down has values new used words c caller callers left x there laid is apart few made =
+    let P : Bool → List Cursor → Type 0 = λ has below. AreLaid has values used c below → frames_in has values used c below ≡ x
+    → frames_in has new (c.locals + words) (gone_on caller) (reverse left) ≡ with_result words x in
+    subst (λ has. P has (reverse callers)) (sym there)
+    (subst (P true) (sym (last-apart callers left caller apart))
+    (λ laid is. given-back values new used words c caller (reverse left) laid few made ∙ ap (with_result words) is))
+    laid is
+
+laid-true : (values new last : List Value) (used words : ℕ) (c caller : Cursor) (callers : List Cursor) → AreLaid true values used c (caller ∷ callers)
+    → words ≤ used - c.stack → length new ≡ length values → take (c.locals + words) new ≡ take c.locals values ++ last
+    → AreLaid true new (c.locals + words) (gone_on caller) callers
+laid-true values new last used words c caller callers laid few long made =
+    let front : List Value = take c.locals values in
+    let far : length front ≡ c.locals = omega (arith, length-take c.locals values) in
+    let below = laid.4 in
+    let P : List Value → Type 0 = λ front. AreTiled front callers in (
+      below.0,
+      omega (arith, far, below.1),
+      omega (arith, long),
+      (λ none. absurd (cc)),
+      subst P
+          (sym (sym (take_take caller.locals (c.locals + words) new (omega (arith, far, below.0, below.1)) (omega (arith, far, long, below.0, below.1)))
+          ∙ ap (take caller.locals) made ∙ take-append-le caller.locals front last (omega (arith, far, below.0, below.1))))
+          below.2,
+    )
+
+pub laid-down : (has : Bool) (values new last : List Value) (used words : ℕ) (c caller : Cursor) (callers left : List Cursor)
+    → has ≡ true → AreLaid has values used c (reverse callers) → callers ≡ left ++ caller ∷ [] → words ≤ used - c.stack → length new ≡ length values
+    → take (c.locals + words) new ≡ take c.locals values ++ last → AreLaid has new (c.locals + words) (gone_on caller) (reverse left)
+laid-down has values new last used words c caller callers left there laid apart few long made =
+    let P : Bool → List Cursor → Type 0 = λ has below. AreLaid has values used c below → AreLaid has new (c.locals + words) (gone_on caller) (reverse left) in
+    subst (λ has. P has (reverse callers)) (sym there)
+    (subst (P true) (sym (last-apart callers left caller apart))
+    (λ laid. laid-true values new last used words c caller (reverse left) laid few long made))
+    laid

@@ -61,8 +61,22 @@ impl Model for Frames {
     ghost invariant = { λ a. AreLaid a.has_frames a.values.items a.used a.topmost (reverse a.callers.items) };
 }
 
-// Gives each value from a place on, up to another place, no value of its own; the values are made more where
-// there are too few.
+// Gives each value from a place on, up to another place, no value of its own.
+#[inline(always)]
+fn clear_between(values: &mut Vec<Value>, start: usize, end: usize)
+    requires in_order { start ≤ end }
+    requires within { end ≤ length values.old.items }
+    ensures front { take start values.new.items ≡ take start values.old.items }
+    ensures len { length values.new.items ≡ length values.old.items }
+    ensures cleared { take end values.new.items
+        ≡ take start values.old.items ++ replicate (end - start) NoValue }
+{
+    for place in start..end {
+        values[place] = Value::Top;
+    }
+}
+
+// The same, where the values are made more if there are too few.
 fn clear_values(values: &mut Vec<Value>, start: usize, end: usize) -> Result<(), NoMemory>
     requires in_order { start ≤ end }
     requires within { start ≤ length values.old.items }
@@ -75,9 +89,7 @@ fn clear_values(values: &mut Vec<Value>, start: usize, end: usize) -> Result<(),
     if end > values.len() {
         lengthen(values, end)?;
     }
-    for place in start..end {
-        values[place] = Value::Top;
-    }
+    clear_between(values, start, end);
     Ok(())
 }
 
@@ -92,6 +104,28 @@ fn lengthen(values: &mut Vec<Value>, len: usize) -> Result<(), NoMemory>
 {
     values.resize(len, Value::Top)?;
     Ok(())
+}
+
+// Copies the last words of those that are used, two at most, to a place that isn't above them.
+#[inline(always)]
+fn copy_down(values: &mut Vec<Value>, used: usize, words: usize, place: usize)
+    requires few { words ≤ 2 }
+    requires below { place + words ≤ used }
+    requires within { used ≤ length values.old.items }
+    ensures len { length values.new.items ≡ length values.old.items }
+    ensures copied { take (place + words) values.new.items
+        ≡ take place values.old.items ++ drop (used - words) (take used values.old.items) }
+{
+    if words == 0 {
+        return;
+    }
+    let top = values[used - 1];
+    if words == 1 {
+        values[place] = top;
+        return;
+    }
+    values[place] = values[used - 2];
+    values[place + 1] = top;
 }
 
 // Whether a long fits from a place on, behind which so many words lie, of so many values.
@@ -414,6 +448,37 @@ impl Frames {
         Ok(())
     }
 
+    /// Calls a method, as `enter` does, if there is room for its frame; tells whether there was. Takes no
+    /// memory.
+    #[inline(always)]
+    pub fn enter_in_room(&mut self, method: MethodId, max_locals: u16, words: usize) -> bool
+        ensures entered { result ≡ true → self.new ≡ with_called method.0 max_locals words self.old }
+        ensures same { result ≡ false → self.new ≡ self.old }
+    {
+        if !self.has_frames || self.callers.len() >= self.callers.capacity() {
+            return false;
+        }
+        let topmost = self.topmost;
+        let height = self.used - topmost.stack;
+        let locals = topmost.stack + height.saturating_sub(words);
+        let stack = (locals + max_locals as usize).max(self.used);
+        if stack > self.values.len() {
+            return false;
+        }
+        let Ok(()) = self.callers.push(topmost) else {
+            return false;
+        };
+        clear_between(&mut self.values, self.used, stack);
+        self.topmost = Cursor {
+            method,
+            item: 0,
+            locals,
+            stack,
+        };
+        self.used = stack;
+        true
+    }
+
     // The word of a result at this place, where the result has so many words.
     fn result_word(&self, words: usize, place: usize) -> Option<Value>
         ensures { result ≡ result_word words place (stack_in self.now) }
@@ -448,5 +513,29 @@ impl Frames {
         self.push_if(below)?;
         self.push_if(top)?;
         Ok(())
+    }
+
+    /// Takes the topmost frame off, and goes on in the one below it with the result, as `give_back` does, if
+    /// there is one below and the words of the result are there; tells whether that was done. Takes no
+    /// memory.
+    #[inline(always)]
+    pub fn give_back_in_room(&mut self, words: usize) -> bool
+        requires few { words ≤ 2 }
+        requires next_fits { NextFits (drop 1 self.old) }
+        ensures given { result ≡ true → self.new ≡ with_result words self.old }
+        ensures same { result ≡ false → self.new ≡ self.old }
+    {
+        if !self.has_frames || words > self.used - self.topmost.stack {
+            return false;
+        }
+        let Some(caller) = self.callers.pop() else {
+            return false;
+        };
+        let locals = self.topmost.locals;
+        copy_down(&mut self.values, self.used, words, locals);
+        self.used = locals + words;
+        self.topmost = caller;
+        self.topmost.item += 1;
+        true
     }
 }

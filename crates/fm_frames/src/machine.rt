@@ -131,6 +131,14 @@ impl<M: Memory> Machine<M> {
         self.steps
     }
 
+    /// How many frames may be. Takes no memory.
+    #[inline(always)]
+    pub fn depth(&self) -> u32
+        ensures { result ≡ self.now.depth }
+    {
+        self.depth
+    }
+
     /// Takes the frames out, to be worked on by themselves; the machine has none till they are put in
     /// again.
     pub fn take_frames(&mut self, alloc: Global) -> Frames

@@ -1,9 +1,9 @@
 use Rattle.std.proofs.Common.{◌≡◌, ◌-◌, ◌≤◌, ◌++◌, length, replicate, take}
-use Rattle.fm_frames.proofs.frames.clear_values.Given as goal
+use Rattle.fm_frames.proofs.frames.clear_between.Given as goal
 use Rattle.fm_frames.specs.declared.values.Value.TheVariants as value
 
 abbrev pub invariant-loop-place : goal.invariant-loop-place
 invariant-loop-place l =
-    (l.fn.start ≤ l.place) × (l.fn.end ≤ length l.values.items)
+    (l.fn.start ≤ l.place) × (length l.values.items ≡ length l.fn.values.items)
     × (take l.fn.start l.values.items ≡ take l.fn.start l.fn.values.items)
     × (take l.place l.values.items ≡ take l.fn.start l.fn.values.items ++ replicate (l.place - l.fn.start) value.Top)
