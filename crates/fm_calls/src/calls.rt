@@ -24,8 +24,9 @@ use fm_native::native;
 use fm_world::{Body, Program};
 use std::alloc::Global;
 
-// The row of a method, if it is built in.
-fn row_of(program: &Program, m: MethodId) -> Option<u16>
+/// The row of a method, if it is built in. Takes no memory.
+#[inline]
+pub fn row_of(program: &Program, m: MethodId) -> Option<u16>
     ensures { result ≡ (method_at program.now.outline.classes m.0).method.row }
 {
     if m.0 >= program.methods() {
@@ -49,8 +50,9 @@ fn words_after_receiver(kinds: &[Kind]) -> usize
     words
 }
 
-// The words of the arguments of a method with those of the receiver.
-fn words_with_receiver(program: &Program, m: MethodId) -> usize
+/// The words of the arguments of a method with those of the receiver. Takes no memory.
+#[inline]
+pub fn words_with_receiver(program: &Program, m: MethodId) -> usize
     requires { m.0 < length (methods_of program.now.outline.classes) }
     ensures { result ≡ words_of_arguments program.now.outline m.0 + 1 }
 {

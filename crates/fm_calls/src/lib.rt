@@ -12,6 +12,8 @@ mod selections;
 mod starts;
 mod words;
 
-pub use calls::{enter, interface_call, special_call, static_call, virtual_call};
+pub use calls::{
+    enter, interface_call, row_of, special_call, static_call, virtual_call, words_with_receiver,
+};
 pub use first_uses::{get_static, new_object, put_static};
-pub use selections::{interface_target, special_target, virtual_target};
+pub use selections::{interface_target, selected, special_method, special_target, virtual_target};

@@ -37,8 +37,9 @@ fn receiver_class(program: &Program, t: TypeRef) -> ClassId
     }
 }
 
-// The method that is selected for an object of the type.
-fn selected(program: &Program, t: TypeRef, m: MethodId) -> Option<MethodId>
+/// The method that is selected for an object of the type. Takes no memory.
+#[inline]
+pub fn selected(program: &Program, t: TypeRef, m: MethodId) -> Option<MethodId>
     requires inside { IsTypeIn program.now.outline.classes t }
     requires method { m.0 < length (methods_of program.now.outline.classes) }
     ensures { option_map (λ (n : ids.MethodId). n.0) result ≡ select program.now.outline.classes
@@ -115,8 +116,9 @@ pub fn interface_target<M: Memory>(
     Ok(Some(found))
 }
 
-// The method that invokespecial calls in a method of the caller's class.
-fn special_method(program: &Program, caller: MethodId, m: MethodId, named: TypeId) -> MethodId
+/// The method that invokespecial calls in a method of the caller's class. Takes no memory.
+#[inline]
+pub fn special_method(program: &Program, caller: MethodId, m: MethodId, named: TypeId) -> MethodId
     requires runnable { IsRunnable program.now }
     requires caller { caller.0 < length (methods_of program.now.outline.classes) }
     requires method { m.0 < length (methods_of program.now.outline.classes) }

@@ -13,3 +13,4 @@ mod operands;
 pub use arrays::{array_length, array_load, array_store};
 pub use constants::constant;
 pub use fields::{get_field, put_field};
+pub use operands::object_at;

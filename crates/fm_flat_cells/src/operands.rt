@@ -12,9 +12,10 @@ use fm_cells::{Cell, Head, Memory};
 use fm_flat::{give, give_wide};
 use fm_frames::{Frames, Machine, Value};
 
-// The object of the operand at this place, by its cell and its head; none where there is no object.
+/// The object of the operand at this place, by its cell and its head; none where there is no object. Takes no
+/// memory.
 #[inline(always)]
-pub(crate) fn object_at<M: Memory>(
+pub fn object_at<M: Memory>(
     machine: &Machine<M>,
     frames: &Frames,
     place: usize,
