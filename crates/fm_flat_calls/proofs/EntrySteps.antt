@@ -1,0 +1,130 @@
+-- Calls and returns over frames that are taken out of a machine.
+use Rattle.std.proofs.Common.{◌≡◌, ℕ, ◌+◌, ◌-◌, Bool, false, not, List, [], Option, Some, None, filter, length, option_and_then, option_map, slice_get, refl, ap, sym, ◌∙◌, subst, arith, ◌<◌}
+use Rattle.std.proofs.lemmas.Option.{none-some, same_Some}
+use Rattle.fm_base.specs.declared.ids.MethodId.{MethodId}
+use Rattle.fm_base.specs.declared.ids.TypeId.{TypeId}
+use Rattle.fm_base.specs.declared.kinds.TypeRef.{TypeRef}
+use Rattle.fm_calls.proofs.CallSteps.{plain-start}
+use Rattle.fm_calls.proofs.PlainEffects.{entered-plain}
+use Rattle.fm_calls.proofs.StartSteps.{no-methods}
+use Rattle.fm_calls.specs.inner.Starting.{with_first}
+use Rattle.fm_cells.specs.declared.answers.Cell.{Cell}
+use Rattle.fm_cells.specs.declared.answers.Head.{Head}
+use Rattle.fm_code.specs.declared.code_array.Code.{Code}
+use Rattle.fm_exec.proofs.HeldSteps.{Seen}
+use Rattle.fm_exec.proofs.ObjectSteps.{static-coded}
+use Rattle.fm_exec.specs.Steps.{seen, Steps}
+use Rattle.fm_flat.proofs.FlowSteps.{seen-on}
+use Rattle.fm_flat.specs.Flows.{resumed}
+use Rattle.fm_flat_calls.specs.inner.Entries.{Enters}
+use Rattle.fm_flat_cells.proofs.CellSteps.{found-over}
+use Rattle.fm_frames.proofs.Calling.{called-one, left-caller}
+use Rattle.fm_frames.specs.Acts.{Choose}
+use Rattle.fm_frames.specs.CallRows.{entered, entered_as, static_effect, words_of_arguments}
+use Rattle.fm_frames.specs.Effects.{Calls, Returns, going}
+use Rattle.fm_frames.specs.Natives.{native_of_row}
+use Rattle.fm_frames.specs.ObjectRows.{starting}
+use Rattle.fm_frames.specs.Starts.{is_started, start_actions, start_methods, to_start, with_start}
+use Rattle.fm_frames.specs.States.{Frame, State}
+use Rattle.fm_frames.specs.Steps.{is_start, max_locals_of, stack_of}
+use Rattle.fm_frames.specs.declared.looks.Look.{Look}
+use Rattle.fm_frames.specs.declared.looks.Look.TheVariants as look
+use Rattle.fm_frames.specs.inner.Doings.{DoesIn, NextFits, silent}
+use Rattle.fm_frames.specs.inner.Frames.{place_of, stack_in, topmost, with_called, with_result}
+use Rattle.fm_frames.specs.inner.Looks.{look_at, object_in}
+use Rattle.fm_types.specs.Named.{class_of_method}
+use Rattle.fm_world.specs.Chains.{chain_of}
+use Rattle.fm_world.specs.Members.{method_at}
+use Rattle.fm_world.specs.Programs.{code_at, Outline, Program}
+use Rattle.fm_world.specs.declared.uses.Use.TheVariants as used
+
+-- ---- a method is entered
+
+max-locals : (p : Program) (method : ℕ) (code : Code) → code_at p method ≡ Some code → code.max_locals ≡ max_locals_of p method
+max-locals p method code is = sym (ap of_code is) where
+  of_code : Option Code → ℕ
+  of_code None = 0
+  of_code (Some code) = code.max_locals
+
+pub entered-over : (p : Program) (choose : Choose) (x : State) (old new : List Frame) (words target count depth : ℕ) (code : Code)
+    → (method_at p.outline.classes target).method.row ≡ None → NextFits old → code_at p target ≡ Some code → count ≡ length old → count < depth
+    → depth ≡ x.depth → new ≡ with_called target code.max_locals words old → Enters p choose x old new words target
+entered-over p choose x old new words target count depth code none fits is counted room deep entered = record {
+  coded = none;
+  does =
+      λ steps.
+      called-one p choose (resumed x old steps) (resumed x old steps) words target code.max_locals new refl fits (omega (arith, counted, room, deep))
+      (max-locals p target code is) entered;
+}
+
+-- the effect of a call that enters it
+pub enters-as : (p : Program) (choose : Choose) (x : State) (old new : List Frame) (words given target : ℕ) (byte : Option ℕ) (steps : ℕ)
+    → Enters p choose x old new words target → words ≡ given
+    → Steps p choose (resumed x old steps) (resumed x new (steps + 1)) (entered p.outline given (Some target) byte (seen p (resumed x old steps)))
+enters-as p choose x old new words given target byte steps enters many =
+    let s = seen p (resumed x old steps) in
+    let same : with_start p.outline x.areas.started (entered p.outline given (Some target) byte s) ≡ going words (Calls target) =
+    plain-start p.outline x.areas.started (entered p.outline given (Some target) byte s) (entered-plain p.outline given target byte s)
+    ∙ ap (λ row. entered_as p.outline given target byte s (option_and_then native_of_row row)) enters.coded
+    ∙ ap (λ n. going n (Calls target)) (sym many) in
+    subst (DoesIn p choose (resumed x old steps) (resumed x new (steps + 1))) (sym same) (enters.does steps)
+
+-- ---- a static method, of whose class nothing is to start
+
+started-is : (o : Outline) (started : List Bool) (class words m : ℕ) → to_start o started class ≡ []
+    → with_start o started (starting class (going words (Calls m))) ≡ going words (Calls m)
+started-is o started class words m none =
+    no-methods o started class (going words (Calls m)) [] (ap (start_methods o) none) refl
+    ∙ ap (λ classes. with_first (start_actions o classes) (going words (Calls m))) none
+
+pub static-over : (p : Program) (choose : Choose) (x : State) (old new : List Frame) (words : ℕ) (m : MethodId) (named : TypeId) (t : TypeRef)
+    (class steps : ℕ) (byte : Option ℕ) → Enters p choose x old new words m.0 → words ≡ words_of_arguments p.outline m.0
+    → slice_get p.outline.types named.0 ≡ Some t → class ≡ class_of_method p.outline m.0 → to_start p.outline x.areas.started class ≡ []
+    → Steps p choose (resumed x old steps) (resumed x new (steps + 1))
+    (static_effect p.outline (used.OfMethod m named) byte (seen p (resumed x old steps)))
+static-over p choose x old new words m named t class steps byte enters many at owner none =
+    let o = p.outline in
+    let here : to_start o x.areas.started (class_of_method o m.0) ≡ [] = ap (to_start o x.areas.started) (sym owner) ∙ none in
+    subst (λ e. Steps p choose (resumed x old steps) (resumed x new (steps + 1)) e)
+    (sym (static-coded o m named t words byte (seen p (resumed x old steps)) at (ap (option_and_then native_of_row) enters.coded) many))
+    (subst (DoesIn p choose (resumed x old steps) (resumed x new (steps + 1)))
+    (sym (started-is o x.areas.started (class_of_method o m.0) words m.0 here)) (enters.does steps))
+
+-- the class's superclasses are told by their display
+pub none-starts : (o : Outline) (started : List Bool) (class : ℕ) (classes above : List ℕ) → classes ≡ above
+    → filter (λ class. not (is_started o started class)) classes ≡ [] → filter (λ class. not (is_started o started class)) above ≡ []
+none-starts o started class classes above is none = ap (filter (λ class. not (is_started o started class))) (sym is) ∙ none
+
+-- ---- a receiver
+
+-- the object that was found is seen at the place of the receiver
+pub receiver-over : (o : Outline) (x : State) (frames : List Frame) (steps words operand place : ℕ) (cell : Cell) (head : Head) → words ≡ operand + 1
+    → place ≡ words - 1 → Some (cell, head) ≡ object_in (look_at x.areas.store (slice_get (stack_in frames) place))
+    → Seen o x.areas.store (stack_of (resumed x frames steps)) operand cell head
+receiver-over o x frames steps words operand place cell head many at is =
+    let here : place ≡ operand = omega (arith, many, at) in
+    subst (λ n. Seen o x.areas.store (stack_of (resumed x frames steps)) n cell head) here (found-over o x frames steps place cell head is)
+
+-- ---- returns
+
+pub left-over : (p : Program) (choose : Choose) (x : State) (old new : List Frame) (steps words method item count : ℕ)
+    → Some (method, item) ≡ option_map place_of (topmost old) → count ≡ length old → (count ≡ 1 → ⊥) → false ≡ is_start p.outline method
+    → new ≡ with_result words old → DoesIn p choose (resumed x old steps) (resumed x new (steps + 1)) (going 0 (Returns words))
+left-over p choose x old new steps words method item count at counted more starts given =
+    left-caller p choose (resumed x old steps) (resumed x old steps) words method item new refl at (λ one. more (counted ∙ one)) starts given
+
+-- an object that is found is looked at
+object-look : (l : Look) (cell : Cell) (head : Head) → Some (cell, head) ≡ object_in l → look.Object cell head ≡ l
+object-look look.Other cell head is = absurd (none-some _ (sym is))
+object-look look.Null cell head is = absurd (none-some _ (sym is))
+object-look (look.Gone other) cell head is = absurd (none-some _ (sym is))
+object-look (look.Object c h) cell head is = ap (λ (pair : Cell × Head). look.Object pair.0 pair.1) (same_Some _ _ is)
+
+pub receiver-looked : (x : State) (frames : List Frame) (steps words operand place : ℕ) (cell : Cell) (head : Head) → words ≡ operand + 1
+    → place ≡ words - 1 → Some (cell, head) ≡ object_in (look_at x.areas.store (slice_get (stack_in frames) place))
+    → look.Object cell head ≡ look_at x.areas.store (slice_get (stack_of (resumed x frames steps)) operand)
+receiver-looked x frames steps words operand place cell head many at is =
+    let here : place ≡ operand = omega (arith, many, at) in
+    seen-on (record x { steps = steps }) frames operand (λ v. look_at x.areas.store v) (look.Object cell head)
+    (object-look (look_at x.areas.store (slice_get (stack_in frames) place)) cell head is
+    ∙ ap (λ n. look_at x.areas.store (slice_get (stack_in frames) n)) here)
