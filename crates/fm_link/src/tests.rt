@@ -1,6 +1,7 @@
 // Class files that are linked, or refused.
 
 mod causes;
+mod classes;
 mod large;
 mod members;
 

@@ -5,405 +5,21 @@ ghost use Rattle.std.specs.List.{AllByRecursion};
 ghost use Rattle.fm_code.specs.Spells.{HasSpelling};
 
 use crate::tests::add_class;
+use crate::tests::classes::{
+    A, A_ABSTRACT, A_ABSTRACT_M, A_ABSTRACT_X, A_ALONE, A_ALONE_OF_B, A_BELOW_B, A_BELOW_FREE_ME,
+    A_BELOW_I, A_BELOW_I_OF_B, A_EXTENDS_B, A_FIELD_NAMES, A_INTERFACE, A_NAMES, A_OF_B,
+    A_OF_B_AND_I, A_OF_I, A_OF_I_AND_B, A_OF_I_NAMES, A_STATIC_M, A_STATIC_X, A_WITH_M,
+    A_WITH_MAIN, A_WITH_START, A_WITH_X, B, B_ABSTRACT_M, B_BELOW_A, B_BELOW_A_ABSTRACT_M,
+    B_BELOW_A_OF_I, B_EXTENDS_A, B_EXTENDS_I, B_OF_I, B_READS, B_WITH_START, FREE_ME, I, I_BELOW_B,
+    I_OF_TWO, M, M_BELOW_A, M_BELOW_B, M_CALLS, M_CALLS_AND_READS, M_CALLS_SPECIAL, M_CALLS_START,
+    M_CALLS_STATIC_START, M_OF_OBJECT, M_READS_TWICE, NO_MAIN, NO_MAIN_BELOW_A, class_at,
+};
 use crate::{LinkFail, link};
 use fm_base::NoMemory;
 use fm_code::ClassDef;
-use fm_samples::{ClassSample, MAIN, MethodSample, RETURNS};
 use fm_world::Program;
 use std::alloc::Global;
 use std::test::Fail;
-
-// Class M, whose main returns. The classes after it have the same pool, whose further entries are these.
-const M_CLASS: ClassSample<'static> = ClassSample {
-    pool_count: b"\0\x18",
-    more_pool: &[
-        b"\x01\0\x01A", // 8
-        b"\x07\0\x08", // 9: Class A
-        b"\x01\0\x01B", // a
-        b"\x07\0\x0a", // b: Class B
-        b"\x01\0\x01I", // c
-        b"\x07\0\x0c", // d: Class I
-        b"\x01\0\x06FreeMe", // e
-        b"\x07\0\x0e", // f: Class FreeMe
-        b"\x01\0\x01m", // 10
-        b"\x01\0\x03()V", // 11
-        b"\x0c\0\x10\0\x11", // 12: NameAndType m()V
-        b"\x0a\0\x09\0\x12", // 13: Methodref A.m()V
-        b"\x01\0\x01x", // 14
-        b"\x0c\0\x14\0\x0c", // 15: NameAndType x, an int
-        b"\x09\0\x09\0\x15", // 16: Fieldref A.x
-        b"\x09\0\x0b\0\x15", // 17: Fieldref B.x
-    ],
-    ..RETURNS
-};
-
-const NO_MAIN_CLASS: ClassSample<'static> = ClassSample {
-    methods_count: b"\0\0",
-    methods: &[],
-    ..M_CLASS
-};
-
-// Main calls A.m()V.
-const M_CALLS_CLASS: ClassSample<'static> = ClassSample {
-    methods: &[MethodSample {
-        attribute_length: b"\0\0\0\x11",
-        max_stack: b"\0\x01",
-        code_length: b"\0\0\0\x05",
-        code: &[
-            b"\x01\xb6\0\x13", // 0: null.m()
-            b"\xb1", // 4: return
-        ],
-        ..MAIN
-    }],
-    ..M_CLASS
-};
-
-// Main calls A.m()V, and then reads A.x.
-const M_CALLS_AND_READS_CLASS: ClassSample<'static> = ClassSample {
-    methods: &[MethodSample {
-        attribute_length: b"\0\0\0\x16",
-        max_stack: b"\0\x01",
-        code_length: b"\0\0\0\x0a",
-        code: &[
-            b"\x01\xb6\0\x13", // 0: null.m()
-            b"\x01\xb4\0\x16\x57", // 4: null.x
-            b"\xb1", // 9: return
-        ],
-        ..MAIN
-    }],
-    ..M_CLASS
-};
-
-// Main reads B.x, and then A.x.
-const M_READS_TWICE_CLASS: ClassSample<'static> = ClassSample {
-    methods: &[MethodSample {
-        attribute_length: b"\0\0\0\x17",
-        max_stack: b"\0\x01",
-        code_length: b"\0\0\0\x0b",
-        code: &[
-            b"\x01\xb4\0\x17\x57", // 0: null.x of B
-            b"\x01\xb4\0\x16\x57", // 5: null.x of A
-            b"\xb1", // 10: return
-        ],
-        ..MAIN
-    }],
-    ..M_CLASS
-};
-
-// Classes below Object without members, and the interface I with an abstract m()V.
-const A_CLASS: ClassSample<'static> = ClassSample {
-    this_class: b"\0\x09",
-    ..NO_MAIN_CLASS
-};
-
-const B_CLASS: ClassSample<'static> = ClassSample {
-    this_class: b"\0\x0b",
-    ..NO_MAIN_CLASS
-};
-
-// Its main reads A.x.
-const B_READS_CLASS: ClassSample<'static> = ClassSample {
-    this_class: b"\0\x0b",
-    methods: &[MethodSample {
-        attribute_length: b"\0\0\0\x12",
-        max_stack: b"\0\x01",
-        code_length: b"\0\0\0\x06",
-        code: &[
-            b"\x01\xb4\0\x16\x57", // 0: null.x
-            b"\xb1", // 5: return
-        ],
-        ..MAIN
-    }],
-    ..M_CLASS
-};
-
-const FREE_ME_CLASS: ClassSample<'static> = ClassSample {
-    this_class: b"\0\x0f",
-    ..NO_MAIN_CLASS
-};
-
-// An m()V that returns, and an abstract one.
-const METHOD: MethodSample<'static> = MethodSample {
-    flags: b"\0\x01",
-    name: b"\0\x10",
-    descriptor: b"\0\x11",
-    ..MAIN
-};
-
-const ABSTRACT: MethodSample<'static> = MethodSample {
-    flags: b"\x04\x01",
-    attributes_count: b"\0\0",
-    attribute_name: b"",
-    attribute_length: b"",
-    max_stack: b"",
-    max_locals: b"",
-    code_length: b"",
-    code: &[],
-    handlers: b"",
-    code_attributes: b"",
-    ..METHOD
-};
-
-const I_CLASS: ClassSample<'static> = ClassSample {
-    this_class: b"\0\x0d",
-    flags: b"\x06\x01",
-    methods: &[ABSTRACT],
-    ..M_CLASS
-};
-
-const A_BELOW_B_CLASS: ClassSample<'static> = ClassSample {
-    super_class: b"\0\x0b",
-    ..A_CLASS
-};
-
-const B_BELOW_A_CLASS: ClassSample<'static> = ClassSample {
-    super_class: b"\0\x09",
-    ..B_CLASS
-};
-
-const A_OF_B_CLASS: ClassSample<'static> = ClassSample {
-    interfaces: b"\0\x01\0\x0b",
-    ..A_CLASS
-};
-
-const A_OF_I_CLASS: ClassSample<'static> = ClassSample {
-    interfaces: b"\0\x01\0\x0d",
-    ..A_CLASS
-};
-
-const B_OF_I_CLASS: ClassSample<'static> = ClassSample {
-    interfaces: b"\0\x01\0\x0d",
-    ..B_CLASS
-};
-
-// A abstract, with I as its interface; A with an m()V that returns; B below A, with I as its interface.
-const A_ABSTRACT_CLASS: ClassSample<'static> = ClassSample {
-    flags: b"\x04\x21",
-    ..A_OF_I_CLASS
-};
-
-const A_WITH_M_CLASS: ClassSample<'static> = ClassSample {
-    methods_count: b"\0\x01",
-    methods: &[METHOD],
-    ..A_CLASS
-};
-
-const B_BELOW_A_OF_I_CLASS: ClassSample<'static> = ClassSample {
-    super_class: b"\0\x09",
-    ..B_OF_I_CLASS
-};
-
-// Superclasses that lead into a cycle, and those that can't be ones: none, an interface, a built-in class
-// that has none below it. Interfaces that extend one another, and one whose superclass isn't Object.
-const M_BELOW_A_CLASS: ClassSample<'static> = ClassSample {
-    super_class: b"\0\x09",
-    ..M_CLASS
-};
-
-const A_ALONE_CLASS: ClassSample<'static> = ClassSample {
-    super_class: b"\0\0",
-    ..A_CLASS
-};
-
-const A_BELOW_I_CLASS: ClassSample<'static> = ClassSample {
-    super_class: b"\0\x0d",
-    ..A_CLASS
-};
-
-const A_BELOW_FREE_ME_CLASS: ClassSample<'static> = ClassSample {
-    super_class: b"\0\x0f",
-    ..A_CLASS
-};
-
-const A_EXTENDS_B_CLASS: ClassSample<'static> = ClassSample {
-    flags: b"\x06\x01",
-    ..A_OF_B_CLASS
-};
-
-const B_EXTENDS_A_CLASS: ClassSample<'static> = ClassSample {
-    flags: b"\x06\x01",
-    interfaces: b"\0\x01\0\x09",
-    ..B_CLASS
-};
-
-const I_BELOW_B_CLASS: ClassSample<'static> = ClassSample {
-    super_class: b"\0\x0b",
-    ..I_CLASS
-};
-
-// A with a field x, and with a static one; with a static m()V, with an abstract one, and as an interface.
-const A_WITH_X_CLASS: ClassSample<'static> = ClassSample {
-    fields: b"\0\x01\0\x01\0\x14\0\x0c\0\0",
-    ..A_CLASS
-};
-
-const A_STATIC_X_CLASS: ClassSample<'static> = ClassSample {
-    fields: b"\0\x01\0\x09\0\x14\0\x0c\0\0",
-    ..A_CLASS
-};
-
-const A_STATIC_M_CLASS: ClassSample<'static> = ClassSample {
-    methods: &[MethodSample {
-        flags: b"\0\x09",
-        ..METHOD
-    }],
-    ..A_WITH_M_CLASS
-};
-
-const A_ABSTRACT_M_CLASS: ClassSample<'static> = ClassSample {
-    flags: b"\x04\x21",
-    methods: &[ABSTRACT],
-    ..A_WITH_M_CLASS
-};
-
-const A_INTERFACE_CLASS: ClassSample<'static> = ClassSample {
-    flags: b"\x06\x01",
-    ..A_ABSTRACT_M_CLASS
-};
-
-// Main calls A.m()V as a superclass's method.
-const M_CALLS_SPECIAL_CLASS: ClassSample<'static> = ClassSample {
-    methods: &[MethodSample {
-        attribute_length: b"\0\0\0\x11",
-        max_stack: b"\0\x01",
-        code_length: b"\0\0\0\x05",
-        code: &[
-            b"\x01\xb7\0\x13", // 0: null.m()
-            b"\xb1", // 4: return
-        ],
-        ..MAIN
-    }],
-    ..M_CLASS
-};
-
-// M with a main that isn't static, M without one below A, and A with one.
-const M_OF_OBJECT_CLASS: ClassSample<'static> = ClassSample {
-    methods: &[MethodSample {
-        flags: b"\0\x01",
-        max_locals: b"\0\x02",
-        ..MAIN
-    }],
-    ..M_CLASS
-};
-
-const NO_MAIN_BELOW_A_CLASS: ClassSample<'static> = ClassSample {
-    super_class: b"\0\x09",
-    ..NO_MAIN_CLASS
-};
-
-const A_WITH_MAIN_CLASS: ClassSample<'static> = ClassSample {
-    this_class: b"\0\x09",
-    ..M_CLASS
-};
-
-// All of these classes, in two tables, and their places.
-const CLASSES: [ClassSample<'static>; 18] = [
-    M_CLASS,
-    NO_MAIN_CLASS,
-    M_CALLS_CLASS,
-    M_CALLS_AND_READS_CLASS,
-    M_READS_TWICE_CLASS,
-    A_CLASS,
-    B_CLASS,
-    B_READS_CLASS,
-    FREE_ME_CLASS,
-    I_CLASS,
-    A_BELOW_B_CLASS,
-    B_BELOW_A_CLASS,
-    A_OF_B_CLASS,
-    A_OF_I_CLASS,
-    B_OF_I_CLASS,
-    A_ABSTRACT_CLASS,
-    A_WITH_M_CLASS,
-    B_BELOW_A_OF_I_CLASS,
-];
-
-const OTHER_CLASSES: [ClassSample<'static>; 16] = [
-    M_BELOW_A_CLASS,
-    A_ALONE_CLASS,
-    A_BELOW_I_CLASS,
-    A_BELOW_FREE_ME_CLASS,
-    A_EXTENDS_B_CLASS,
-    B_EXTENDS_A_CLASS,
-    I_BELOW_B_CLASS,
-    A_WITH_X_CLASS,
-    A_STATIC_X_CLASS,
-    A_STATIC_M_CLASS,
-    A_ABSTRACT_M_CLASS,
-    A_INTERFACE_CLASS,
-    M_CALLS_SPECIAL_CLASS,
-    M_OF_OBJECT_CLASS,
-    NO_MAIN_BELOW_A_CLASS,
-    A_WITH_MAIN_CLASS,
-];
-
-const M: usize = 0;
-
-const NO_MAIN: usize = 1;
-
-const M_CALLS: usize = 2;
-
-const M_CALLS_AND_READS: usize = 3;
-
-const M_READS_TWICE: usize = 4;
-
-const A: usize = 5;
-
-const B: usize = 6;
-
-const B_READS: usize = 7;
-
-const FREE_ME: usize = 8;
-
-const I: usize = 9;
-
-const A_BELOW_B: usize = 10;
-
-const B_BELOW_A: usize = 11;
-
-const A_OF_B: usize = 12;
-
-const A_OF_I: usize = 13;
-
-const B_OF_I: usize = 14;
-
-const A_ABSTRACT: usize = 15;
-
-const A_WITH_M: usize = 16;
-
-const B_BELOW_A_OF_I: usize = 17;
-
-const M_BELOW_A: usize = 18;
-
-const A_ALONE: usize = 19;
-
-const A_BELOW_I: usize = 20;
-
-const A_BELOW_FREE_ME: usize = 21;
-
-const A_EXTENDS_B: usize = 22;
-
-const B_EXTENDS_A: usize = 23;
-
-const I_BELOW_B: usize = 24;
-
-const A_WITH_X: usize = 25;
-
-const A_STATIC_X: usize = 26;
-
-const A_STATIC_M: usize = 27;
-
-const A_ABSTRACT_M: usize = 28;
-
-const A_INTERFACE: usize = 29;
-
-const M_CALLS_SPECIAL: usize = 30;
-
-const M_OF_OBJECT: usize = 31;
-
-const NO_MAIN_BELOW_A: usize = 32;
-
-const A_WITH_MAIN: usize = 33;
 
 // The places of classes, and the line.
 type Row = (&'static [usize], &'static str);
@@ -442,6 +58,35 @@ const SEVERAL: [Row; 10] = [
     (&[NO_MAIN, A_BELOW_B, B_READS], "missing-field A.x in B"),
 ];
 
+// Inside a kind it is the first one of a file: classes by index, then those of fields and of
+// methods, from left to right; a superclass and interfaces by index; abstract methods of the
+// class, of its superclasses, and of its superinterfaces.
+const INSIDE: [Row; 11] = [
+    (&[M, A_OF_I_NAMES], "missing-class I in A"),
+    (&[M, A_FIELD_NAMES], "missing-class B in A"),
+    (&[M, A_NAMES], "missing-class I in A"),
+    (&[M, A_ALONE_OF_B, B], "bad-parent A in A"),
+    (&[M, A_BELOW_I_OF_B, B, I], "bad-parent B in A"),
+    (&[M, A_OF_I, I_OF_TWO], "not-implemented I.x()V in A"),
+    (
+        &[M, A_OF_I_AND_B, B_EXTENDS_I, I],
+        "not-implemented I.m()V in A",
+    ),
+    (
+        &[M, A_OF_B_AND_I, B_EXTENDS_I, I],
+        "not-implemented B.x()V in A",
+    ),
+    (&[M, A_OF_B, B_EXTENDS_I, I], "not-implemented B.x()V in A"),
+    (
+        &[M, A_ABSTRACT_X, B_BELOW_A_OF_I, I],
+        "not-implemented A.x()V in B",
+    ),
+    (
+        &[M, A_ABSTRACT_X, B_BELOW_A_ABSTRACT_M],
+        "not-implemented B.m()V in B",
+    ),
+];
+
 // I's m()V is left over in B, whose abstract superclass leaves it over, or which adds I itself; or a
 // superclass implements it.
 const LEFT_OVER: [Row; 4] = [
@@ -463,6 +108,24 @@ const PARENTS: [Row; 7] = [
     (&[M, A_BELOW_FREE_ME], "bad-parent FreeMe in A"),
     (&[M, I_BELOW_B, B], "bad-parent B in I"),
     (&[M_BELOW_A, A_BELOW_B, B], "linked"),
+];
+
+// A constructor isn't static, is looked for in the class that is named alone, and may be named
+// by any call on an object; a special call whose search begins at B, where m()V is abstract.
+const STARTS: [Row; 4] = [
+    (
+        &[M_CALLS_STATIC_START, A_WITH_START],
+        "missing-method A.<init>()V in M",
+    ),
+    (&[M_CALLS_START, A_WITH_START], "linked"),
+    (
+        &[M_CALLS_START, A_BELOW_B, B_WITH_START],
+        "missing-method A.<init>()V in M",
+    ),
+    (
+        &[M_BELOW_B, B_ABSTRACT_M, A_WITH_M],
+        "not-implemented A.m()V in M",
+    ),
 ];
 
 // Members that are static where the instruction isn't, and those of an interface that is named as a class;
@@ -523,14 +186,6 @@ fn add_class_at(alloc: Global, classes: &mut Vec<ClassDef>, place: usize) -> Res
     }
 }
 
-// The class of a place.
-fn class_at(place: usize) -> Option<&'static ClassSample<'static>> {
-    match place.checked_sub(CLASSES.len()) {
-        Some(other) => OTHER_CLASSES.get(other),
-        None => CLASSES.get(place),
-    }
-}
-
 // Whether the classes at these places are answered so.
 fn is_answered(alloc: Global, places: &[usize], line: &str) -> Result<bool, Fail> {
     let classes = classes_at(alloc, places)?;
@@ -570,6 +225,18 @@ fn members_that_do_not_serve_are_told(rt: HostRuntime) -> Result<(), Fail> {
 #[test]
 fn of_several_causes_the_first_is_told(rt: HostRuntime) -> Result<(), Fail> {
     assert_eq!(rt; first_other(rt.alloc(), &SEVERAL)?, None);
+    Ok(())
+}
+
+#[test]
+fn inside_a_kind_the_first_cause_is_told(rt: HostRuntime) -> Result<(), Fail> {
+    assert_eq!(rt; first_other(rt.alloc(), &INSIDE)?, None);
+    Ok(())
+}
+
+#[test]
+fn constructors_and_special_calls_are_judged(rt: HostRuntime) -> Result<(), Fail> {
+    assert_eq!(rt; first_other(rt.alloc(), &STARTS)?, None);
     Ok(())
 }
 

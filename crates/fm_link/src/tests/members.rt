@@ -1,6 +1,7 @@
-// What names of members are resolved to, and which methods a call can lead to: A has a field x and a
-// method m, B below it hides x and has a private m, C below B has a static m and implements I, and E below
-// C has an m again. No class that has objects implements J, and K is abstract.
+// What names of members are resolved to, and which methods a call can lead to: A has a field x
+// and a method m, B below it hides x and has a private m, C below B has a static m and
+// implements I, and E below C has an m again. No class that has objects implements J, K is
+// abstract, and T is a throwable with a field x.
 
 ghost use Rattle.std.specs.Prelude.{◌≡◌, true};
 ghost use Rattle.fm_world.specs.Programs.{IsTypeIn};
@@ -14,7 +15,7 @@ use std::test::Fail;
 
 // Main reads x of A, of B and of C, and calls what the last entries of the pool name.
 const M: ClassSample<'static> = ClassSample {
-    pool_count: b"\0\x28",
+    pool_count: b"\0\x2c",
     more_pool: &[
         b"\x01\0\x01A", // 8
         b"\x07\0\x08", // 9: Class A
@@ -48,6 +49,10 @@ const M: ClassSample<'static> = ClassSample {
         b"\x0b\0\x0f\0\x1f", // 25: InterfaceMethodref I.equals(Object)
         b"\x0a\0\x1a\0\x1f", // 26: Methodref equals(Object) of arrays of ints
         b"\x0a\0\x13\0\x1e", // 27: Methodref K.m()V
+        b"\x01\0\x13java/lang/Throwable", // 28
+        b"\x07\0\x28", // 29: Class Throwable
+        b"\x01\0\x01T", // 2a
+        b"\x07\0\x2a", // 2b: Class T
     ],
     methods: &[MethodSample {
         attribute_length: b"\0\0\0\x38",
@@ -146,12 +151,23 @@ const E: ClassSample<'static> = ClassSample {
     ..M
 };
 
+const T: ClassSample<'static> = ClassSample {
+    this_class: b"\0\x2b",
+    super_class: b"\0\x29",
+    methods_count: b"\0\0",
+    methods: &[],
+    ..A
+};
+
 // 28 classes, 86 methods and 2 fields are built in; those of the files follow, M and its main first.
-const FILES: [ClassSample<'static>; 8] = [M, A, B, C, I, J, K, E];
+const FILES: [ClassSample<'static>; 9] = [M, A, B, C, I, J, K, E, T];
 
 const MAIN_CLASS: ClassId = ClassId(28);
 
 const CLASS_E: ClassId = ClassId(35);
+
+// x of T.
+const OF_T: FieldId = FieldId(4);
 
 // equals(Object) of Object, and of String; m()V of A, B, C, I, J and E.
 const OF_OBJECT: MethodId = MethodId(2);
@@ -210,10 +226,20 @@ const K_TYPE: TypeRef = TypeRef {
     base: Base::OfClass(ClassId(34)),
 };
 
+const CLONEABLE: TypeRef = TypeRef {
+    dims: 0,
+    base: Base::OfClass(ClassId(26)),
+};
+
+const SERIALIZABLE: TypeRef = TypeRef {
+    dims: 0,
+    base: Base::OfClass(ClassId(27)),
+};
+
 // A call by its kind, the named type, the method and the caller's class, and what it can lead to.
 type Row = (CallKind, TypeRef, MethodId, ClassId, &'static [MethodId]);
 
-const CALLS: [Row; 11] = [
+const CALLS: [Row; 13] = [
     // objects of B and C have the m of A: a private and a static method don't count
     (CallKind::Virtual, A_TYPE, OF_A, MAIN_CLASS, &[OF_A, OF_E]),
     (CallKind::Virtual, C_TYPE, OF_A, MAIN_CLASS, &[OF_A, OF_E]),
@@ -237,6 +263,21 @@ const CALLS: [Row; 11] = [
         &[OF_OBJECT, OF_STRING],
     ),
     (CallKind::Virtual, INTS, OF_OBJECT, MAIN_CLASS, &[OF_OBJECT]),
+    // arrays alone are cloneable here; texts and throwables are serializable too
+    (
+        CallKind::Interface,
+        CLONEABLE,
+        OF_OBJECT,
+        MAIN_CLASS,
+        &[OF_OBJECT],
+    ),
+    (
+        CallKind::Interface,
+        SERIALIZABLE,
+        OF_OBJECT,
+        MAIN_CLASS,
+        &[OF_OBJECT, OF_STRING],
+    ),
     (CallKind::Static, C_TYPE, OF_C, MAIN_CLASS, &[OF_C]),
     // from E on upwards the m of B is the nearest that isn't static
     (CallKind::Special, A_TYPE, OF_A, CLASS_E, &[OF_B]),
@@ -328,9 +369,9 @@ fn are_resolved(program: &Program) -> bool {
 // Whether the program has these numbers.
 fn has_numbers(program: &Program) -> bool {
     // M's own class, its superclass, and what it doesn't use
-    program.classes() == 36
+    program.classes() == 37
         && program.methods() == 93
-        && program.fields() == 4
+        && program.fields() == 5
         && program.main_class() == MAIN_CLASS
         && program.main() == MethodId(86)
         && program.use_of(MAIN_CLASS, 0x02) == Use::OfType(TypeId(28))
@@ -338,10 +379,15 @@ fn has_numbers(program: &Program) -> bool {
         && program.use_of(MAIN_CLASS, 0x15) == Use::Unused
 }
 
+// Whether the field of T stands behind the hidden one of throwables, at place 1 of its objects.
+fn is_behind_hidden(program: &Program) -> bool {
+    OF_T.0 < program.fields() && program.slot_of(OF_T) == 1
+}
+
 // Whether the program of the files has the numbers, and resolves the names.
 fn is_numbered(alloc: Global) -> Result<bool, Fail> {
     let program = linked_program(alloc, &FILES)??;
-    Ok(has_numbers(&program))
+    Ok(has_numbers(&program) && is_behind_hidden(&program))
 }
 
 fn is_resolved(alloc: Global) -> Result<bool, Fail> {
