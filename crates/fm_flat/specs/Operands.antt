@@ -3,6 +3,12 @@ use Rattle.std.specs.Prelude.{◌≡◌, ◌≢◌, ℕ, ◌-◌, ℤ, List, Som
 use Rattle.fm_cells.specs.declared.answers.Cell.{Cell}
 use Rattle.fm_code.specs.declared.instructions.Insn.{Insn}
 use Rattle.fm_code.specs.declared.instructions.Insn.TheVariants as insn
+use Rattle.fm_code.specs.declared.operations.Conv.{Conv}
+use Rattle.fm_code.specs.declared.operations.Conv.TheVariants as conv
+use Rattle.fm_code.specs.declared.operations.Elem.{Elem}
+use Rattle.fm_code.specs.declared.operations.Elem.TheVariants as elem
+use Rattle.fm_code.specs.declared.operations.Reg.{Reg}
+use Rattle.fm_code.specs.declared.operations.Reg.TheVariants as reg
 use Rattle.fm_exec.specs.Steps.{reg_words}
 use Rattle.fm_frames.specs.States.{Frame, word_at}
 use Rattle.fm_frames.specs.declared.values.Value.{Value}
@@ -12,6 +18,10 @@ use Rattle.fm_frames.specs.inner.Frames.{locals_in, stack_in}
 -- the word at a place of the stack, counted from the top, is an int
 abbrev pub HasInt : List Frame → (place : ℕ) → Type 0
 HasInt frames place = (n : ℤ) × (slice_get (stack_in frames) place ≡ Some (value.Int n))
+
+-- it is a long
+abbrev pub HasLong : List Frame → (place : ℕ) → Type 0
+HasLong frames place = (n : ℤ) × (slice_get (stack_in frames) place ≡ Some (value.Long n))
 
 -- it is a reference
 abbrev pub HasReference : List Frame → (place : ℕ) → Type 0
@@ -29,15 +39,43 @@ HasLocal frames place = word_at (locals_in frames) place ≢ value.Top
 abbrev pub HasIntLocal : List Frame → (place : ℕ) → Type 0
 HasIntLocal frames place = (n : ℤ) × (word_at (locals_in frames) place ≡ value.Int n)
 
+-- the local is a reference
+abbrev pub HasReferenceLocal : List Frame → (place : ℕ) → Type 0
+HasReferenceLocal frames place = (cell : Cell) × (word_at (locals_in frames) place ≡ value.Ref cell)
+
+-- what a load of a kind asks of its local (JVMS 6.5.iload, 6.5.lload, 6.5.aload)
+abbrev pub HasLocalOf : Reg → List Frame → (place : ℕ) → Type 0
+HasLocalOf reg.Int frames place = HasIntLocal frames place
+HasLocalOf reg.Long frames place = HasLocal frames place
+HasLocalOf reg.Ref frames place = HasReferenceLocal frames place
+
+-- what a conversion asks (JVMS 6.5.i2l and its like)
+abbrev pub AsksOfConversion : Conv → List Frame → Type 0
+AsksOfConversion conv.LongToInt frames = HasLong frames 1
+AsksOfConversion to frames = HasInt frames 0
+
+-- what a store into an array asks: the array, an index and a number; of one into an array of references nothing is asked (JVMS 6.5.iastore and its like)
+abbrev pub AsksOfStore : Elem → List Frame → Type 0
+AsksOfStore elem.Long frames = HasReference frames 3 × HasInt frames 2 × HasLong frames 1
+AsksOfStore elem.Ref frames = Unit {0}
+AsksOfStore e frames = HasReference frames 2 × HasInt frames 1 × HasInt frames 0
+
 -- what the row of an instruction asks of the topmost frame (JVMS 4.9.2)
 abbrev pub AsksOf : Insn → List Frame → Type 0
-AsksOf (insn.Load kind place) frames = HasLocal frames place
+AsksOf (insn.Load kind place) frames = HasLocalOf kind frames place
 AsksOf (insn.Store kind place) frames = HasWord frames (reg_words kind - 1)
 AsksOf (insn.Inc place by) frames = HasIntLocal frames place
 AsksOf (insn.IntOp op) frames = HasInt frames 1 × HasInt frames 0
 AsksOf (insn.IntShift shift) frames = HasInt frames 1 × HasInt frames 0
+AsksOf (insn.LongOp op) frames = HasLong frames 3 × HasLong frames 1
+AsksOf (insn.Convert to) frames = AsksOfConversion to frames
+AsksOf insn.Dup frames = HasWord frames 0
 AsksOf (insn.IfInt test target) frames = HasInt frames 0
 AsksOf (insn.IfPair test target) frames = HasInt frames 1 × HasInt frames 0
 AsksOf (insn.IfSame same target) frames = HasReference frames 1 × HasReference frames 0
 AsksOf (insn.IfNull null target) frames = HasReference frames 0
+AsksOf (insn.GetField index) frames = HasReference frames 0
+AsksOf (insn.ArrayLoad e) frames = HasReference frames 1 × HasInt frames 0
+AsksOf (insn.ArrayStore e) frames = AsksOfStore e frames
+AsksOf insn.Length frames = HasReference frames 0
 AsksOf i frames = Unit {0}

@@ -1,8 +1,8 @@
 // Steps of simple instructions over frames that are taken out of a machine (JVMS 6.5).
 //
-// Each row does the whole step of its instruction, or tells that it did nothing: where an operand isn't what
-// the instruction asks, or where there is no room for a word. None makes or frees an object, ends the run or
-// changes how many frames there are.
+// Each row does the whole step of its instruction, or tells that it did nothing: where a division has no
+// result, or where there is no room for a word. What typed code has on the stack and in locals most rows ask
+// for, and don't test. None makes or frees an object, ends the run or changes how many frames there are.
 #![tactic(auto)]
 
 mod constants;
@@ -19,6 +19,7 @@ pub use numbers::{
     convert, int_negate, int_op, int_shift, long_compare, long_negate, long_op, long_shift,
 };
 pub use operands::{
-    cell_there, give, give_wide, int_operand, int_there, long_operand, push, word_there,
+    cell_there, give, give_wide, int_operand, int_there, local_cell, local_int, long_operand,
+    long_there, push, word_there,
 };
 pub use shuffles::{dup, pop};

@@ -3,12 +3,12 @@
 ghost use Rattle.std.specs.Prelude.{◌≡◌, ◌-◌, true, false};
 ghost use Rattle.fm_exec.specs.Steps.{reg_words};
 ghost use Rattle.fm_flat.specs.Flows.{Flows};
-ghost use Rattle.fm_flat.specs.Operands.{HasIntLocal, HasLocal, HasWord};
+ghost use Rattle.fm_flat.specs.Operands.{HasIntLocal, HasLocalOf, HasWord};
 ghost use Rattle.fm_frames.specs.NumberRows.{increment_effect, load_effect, store_effect};
 ghost use Rattle.fm_frames.specs.inner.Doings.{NextFits};
 
 use crate::operands::{
-    give_wide, int_local, local_there, push, put_local, put_wide_local, word_there,
+    give_wide, local_cell, local_int, local_there, push, put_local, put_wide_local, word_there,
 };
 use fm_code::Reg;
 use fm_exec::int_sum;
@@ -18,15 +18,23 @@ use fm_frames::{Frames, Value};
 #[inline(always)]
 pub fn load(frames: &mut Frames, kind: Reg, place: u16) -> bool
     requires fits { NextFits frames.old }
-    requires there { HasLocal frames.old place }
+    requires there { HasLocalOf kind frames.old place }
     ensures did { result ≡ true → Flows frames.old frames.new (λ p x. load_effect kind place) }
     ensures same { result ≡ false → frames.new ≡ frames.old }
 {
-    let value = local_there(frames, place);
     match kind {
-        Reg::Int => push(frames, value),
-        Reg::Long => give_wide(frames, 0, value),
-        Reg::Ref => push(frames, value),
+        Reg::Int => {
+            let n = local_int(frames, place);
+            push(frames, Value::Int(n))
+        }
+        Reg::Long => {
+            let value = local_there(frames, place);
+            give_wide(frames, 0, value)
+        }
+        Reg::Ref => {
+            let cell = local_cell(frames, place);
+            push(frames, Value::Ref(cell))
+        }
     }
 }
 
@@ -80,7 +88,7 @@ pub fn increment(frames: &mut Frames, place: u16, by: i16) -> bool
     ensures did { result ≡ true → Flows frames.old frames.new (λ p x. increment_effect place by) }
     ensures same { result ≡ false → frames.new ≡ frames.old }
 {
-    let n = int_local(frames, place);
+    let n = local_int(frames, place);
     put_local(frames, 0, place, Value::Int(int_sum(n, by)));
     true
 }

@@ -4,12 +4,12 @@ ghost use Rattle.std.specs.Prelude.{◌≡◌, ℤ, FitsSigned, true, false};
 ghost use Rattle.std.specs.Int.{w32};
 ghost use Rattle.fm_alu.specs.Conversions.{IsOperandOf};
 ghost use Rattle.fm_flat.specs.Flows.{Flows};
-ghost use Rattle.fm_flat.specs.Operands.{HasInt};
+ghost use Rattle.fm_flat.specs.Operands.{AsksOfConversion, HasInt, HasLong};
 ghost use Rattle.fm_exec.specs.Steps.{seen};
 ghost use Rattle.fm_frames.specs.NumberRows.{compare_effect, convert_effect, int_converted, int_negate_effect, int_op_effect, int_shift_effect, long_negate_effect, long_op_effect, long_shift_effect};
 ghost use Rattle.fm_frames.specs.inner.Doings.{NextFits};
 
-use crate::operands::{give, give_wide, int_operand, int_there, long_operand};
+use crate::operands::{give, give_wide, int_operand, int_there, long_operand, long_there};
 use fm_code::{Conv, Op, Shift};
 use fm_exec::{negated_int, negated_long};
 use fm_frames::{Frames, Value};
@@ -38,16 +38,14 @@ pub fn int_op(frames: &mut Frames, op: Op) -> bool
 #[inline(always)]
 pub fn long_op(frames: &mut Frames, op: Op) -> bool
     requires fits { NextFits frames.old }
+    requires first { HasLong frames.old 3 }
+    requires second { HasLong frames.old 1 }
     ensures did { result ≡ true
         → Flows frames.old frames.new (λ p x. long_op_effect p.outline op (seen p x)) }
     ensures same { result ≡ false → frames.new ≡ frames.old }
 {
-    let Some(a) = long_operand(frames, 3) else {
-        return false;
-    };
-    let Some(b) = long_operand(frames, 1) else {
-        return false;
-    };
+    let a = long_there(frames, 3);
+    let b = long_there(frames, 1);
     match fm_alu::long_op(op, a, b) {
         Some(n) => give_wide(frames, 4, Value::Long(n)),
         None => false,
@@ -134,13 +132,12 @@ pub fn long_compare(frames: &mut Frames) -> bool
 #[inline(always)]
 fn convert_int(frames: &mut Frames, to: Conv) -> bool
     requires fits { NextFits frames.old }
+    requires int { HasInt frames.old 0 }
     requires is_int { (n : ℤ) → FitsSigned w32 n → IsOperandOf to n }
     ensures did { result ≡ true → Flows frames.old frames.new (λ p x. int_converted to (seen p x)) }
     ensures same { result ≡ false → frames.new ≡ frames.old }
 {
-    let Some(a) = int_operand(frames, 0) else {
-        return false;
-    };
+    let a = int_there(frames, 0);
     let n = fm_alu::convert(to, i64::from(a));
     give(frames, 1, Value::Int(n as i32))
 }
@@ -149,13 +146,12 @@ fn convert_int(frames: &mut Frames, to: Conv) -> bool
 #[inline(always)]
 fn widen(frames: &mut Frames) -> bool
     requires fits { NextFits frames.old }
+    requires int { HasInt frames.old 0 }
     ensures did { result ≡ true
         → Flows frames.old frames.new (λ p x. convert_effect Conv.IntToLong (seen p x)) }
     ensures same { result ≡ false → frames.new ≡ frames.old }
 {
-    let Some(a) = int_operand(frames, 0) else {
-        return false;
-    };
+    let a = int_there(frames, 0);
     give_wide(frames, 1, Value::Long(i64::from(a)))
 }
 
@@ -163,13 +159,12 @@ fn widen(frames: &mut Frames) -> bool
 #[inline(always)]
 fn narrow(frames: &mut Frames) -> bool
     requires fits { NextFits frames.old }
+    requires long { HasLong frames.old 1 }
     ensures did { result ≡ true
         → Flows frames.old frames.new (λ p x. convert_effect Conv.LongToInt (seen p x)) }
     ensures same { result ≡ false → frames.new ≡ frames.old }
 {
-    let Some(a) = long_operand(frames, 1) else {
-        return false;
-    };
+    let a = long_there(frames, 1);
     let n = fm_alu::convert(Conv::LongToInt, a);
     give(frames, 2, Value::Int(n as i32))
 }
@@ -178,6 +173,7 @@ fn narrow(frames: &mut Frames) -> bool
 #[inline(always)]
 pub fn convert(frames: &mut Frames, to: Conv) -> bool
     requires fits { NextFits frames.old }
+    requires number { AsksOfConversion to frames.old }
     ensures did { result ≡ true
         → Flows frames.old frames.new (λ p x. convert_effect to (seen p x)) }
     ensures same { result ≡ false → frames.new ≡ frames.old }

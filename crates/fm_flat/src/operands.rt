@@ -2,7 +2,7 @@
 
 ghost use Rattle.std.specs.Prelude.{◌≡◌, ◌<◌, Some, true, false, slice_get};
 ghost use Rattle.fm_flat.specs.Flows.{with_given, with_given_wide, with_stored, with_stored_wide};
-ghost use Rattle.fm_flat.specs.Operands.{HasInt, HasIntLocal, HasLocal, HasReference, HasWord};
+ghost use Rattle.fm_flat.specs.Operands.{HasInt, HasIntLocal, HasLocal, HasLong, HasReference, HasReferenceLocal, HasWord};
 ghost use Rattle.fm_frames.specs.States.{word_at};
 ghost use Rattle.fm_frames.specs.inner.Doings.{int_in, long_in, NextFits};
 ghost use Rattle.fm_frames.specs.inner.Frames.{locals_in, on_top, stack_in};
@@ -18,6 +18,18 @@ pub fn int_there(frames: &Frames, place: usize) -> i32
 {
     match frames.operand(place) {
         Some(Value::Int(n)) => n,
+        _ => unreachable!(),
+    }
+}
+
+/// The long at this place of the stack, counted from the top. Takes no memory.
+#[inline(always)]
+pub fn long_there(frames: &Frames, place: usize) -> i64
+    requires { HasLong frames.now place }
+    ensures { Some result ≡ long_in (slice_get (stack_in frames.now) place) }
+{
+    match frames.operand(place) {
+        Some(Value::Long(n)) => n,
         _ => unreachable!(),
     }
 }
@@ -59,14 +71,26 @@ pub(crate) fn local_there(frames: &Frames, place: u16) -> Value
     }
 }
 
-// The int of a local.
+/// The int of a local. Takes no memory.
 #[inline(always)]
-pub(crate) fn int_local(frames: &Frames, place: u16) -> i32
+pub fn local_int(frames: &Frames, place: u16) -> i32
     requires { HasIntLocal frames.now place }
     ensures { Value.Int result ≡ word_at (locals_in frames.now) place }
 {
     match frames.local(place as usize) {
         Value::Int(n) => n,
+        _ => unreachable!(),
+    }
+}
+
+/// The cell of the reference of a local. Takes no memory.
+#[inline(always)]
+pub fn local_cell(frames: &Frames, place: u16) -> Cell
+    requires { HasReferenceLocal frames.now place }
+    ensures { Value.Ref result ≡ word_at (locals_in frames.now) place }
+{
+    match frames.local(place as usize) {
+        Value::Ref(cell) => cell,
         _ => unreachable!(),
     }
 }

@@ -3,23 +3,23 @@
 ghost use Rattle.std.specs.Prelude.{◌≡◌, true, false};
 ghost use Rattle.fm_code.specs.declared.instructions.Insn.TheVariants as insn;
 ghost use Rattle.fm_flat.specs.Flows.{Flows};
+ghost use Rattle.fm_flat.specs.Operands.{HasWord};
 ghost use Rattle.fm_frames.specs.NumberRows.{move_effect};
 ghost use Rattle.fm_frames.specs.inner.Doings.{NextFits};
 
-use crate::operands::push;
+use crate::operands::{push, word_there};
 use fm_frames::Frames;
 
-/// dup. Takes no memory.
+/// dup; tells whether it was done. Takes no memory.
 #[inline(always)]
 pub fn dup(frames: &mut Frames) -> bool
     requires fits { NextFits frames.old }
+    requires there { HasWord frames.old 0 }
     ensures did { result ≡ true → Flows frames.old frames.new (λ p x. move_effect insn.Dup) }
     ensures same { result ≡ false → frames.new ≡ frames.old }
 {
-    match frames.operand(0) {
-        Some(value) => push(frames, value),
-        None => false,
-    }
+    let value = word_there(frames, 0);
+    push(frames, value)
 }
 
 /// pop. Takes no memory.

@@ -1,1 +1,2 @@
 pub mod CellSteps
+pub mod Packing

@@ -1,2 +1,3 @@
 pub mod FlowsOver
+pub mod Packed
 pub mod inner

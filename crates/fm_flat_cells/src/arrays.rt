@@ -1,26 +1,38 @@
 // The rows of arrays (JVMS 6.5.arraylength, 6.5.iaload and its like, 6.5.iastore and its like).
 //
 // What is asked of an array follows from the letter of the instruction: its elements' kind, and how many of
-// them a word holds. So each letter has code of its own, in which nothing is left to be asked.
+// them a word holds. So each letter has code of its own, in which nothing is left to be asked. Of ints, and of
+// bytes and booleans, the head alone tells that an object is such an array.
 
-ghost use Rattle.std.specs.Prelude.{◌≡◌, ◌≢◌, ◌-◌, ◌<◌, ◌^◌, pos, true, false, Some, slice_get};
+ghost use Rattle.std.specs.Prelude.{◌≡◌, ◌≢◌, ◌+◌, ◌-◌, ◌<◌, ◌^◌, pos, true, false, Some, slice_get};
 ghost use Rattle.fm_code.specs.declared.operations.Elem.TheVariants as elem;
 ghost use Rattle.fm_exec.specs.Holding.{HoldsElements, HoldsLength, TakesElement};
 ghost use Rattle.fm_exec.specs.Steps.{seen};
 ghost use Rattle.fm_flat.specs.Flows.{on};
+ghost use Rattle.fm_flat.specs.Operands.{AsksOfStore, HasInt, HasLong, HasReference};
 ghost use Rattle.fm_flat_cells.specs.FlowsOver.{FlowsOver};
-ghost use Rattle.fm_frames.specs.ArrayRows.{array_load_effect, array_store_effect, element_words, length_effect};
+ghost use Rattle.fm_flat_cells.specs.Packed.{ArePacked, IsPacked};
+ghost use Rattle.fm_frames.specs.ArrayRows.{array_load_effect, array_store_effect, element_kind, element_words, length_effect};
 ghost use Rattle.fm_frames.specs.Runnable.{IsRunnable};
+ghost use Rattle.fm_frames.specs.Sights.{type_numbered};
 ghost use Rattle.fm_frames.specs.inner.Doings.{NextFits};
 ghost use Rattle.fm_frames.specs.inner.Frames.{stack_in};
+ghost use Rattle.fm_types.specs.ArrayRows.{is_array_of};
 
-use crate::operands::{give_kind, object_at, take};
-use fm_cells::Memory;
+use crate::operands::{give_kind, object_there, take};
+use fm_base::{Base, Kind, TypeId};
+use fm_cells::{Head, Memory};
 use fm_code::Elem;
 use fm_exec::{element_kind, is_array_of, place_in, type_in};
-use fm_flat::{give, int_operand, long_operand};
+use fm_flat::{give, int_there, long_there};
 use fm_frames::{Frames, Machine, Value};
 use fm_world::Program;
+
+// How many bytes or booleans a word holds.
+const BYTE_PACK: u8 = 8;
+
+// How many ints a word holds.
+const INT_PACK: u8 = 2;
 
 // A length as an int.
 #[inline(always)]
@@ -35,12 +47,13 @@ fn int_of(len: u32) -> i32
 #[inline(always)]
 pub fn array_length<M: Memory>(machine: &Machine<M>, frames: &mut Frames, program: &Program) -> bool
     requires fits { NextFits frames.old }
+    requires array { HasReference frames.old 0 }
     requires holds { HoldsLength program.now (on machine.now frames.old) }
     ensures did { result ≡ true → FlowsOver program.now M.choose machine.now frames.old
         machine.now frames.new (λ x. length_effect program.now.outline (seen program.now x)) }
     ensures same { result ≡ false → frames.new ≡ frames.old }
 {
-    let Some((_, head)) = object_at(machine, frames, 0) else {
+    let Some((_, head)) = object_there(machine, frames, 0) else {
         return false;
     };
     let t = type_in(program, head);
@@ -54,10 +67,55 @@ pub fn array_length<M: Memory>(machine: &Machine<M>, frames: &mut Frames, progra
 #[inline(always)]
 fn pack_of(e: Elem) -> u8 {
     match e {
-        Elem::Boolean | Elem::Byte => 8,
+        Elem::Boolean | Elem::Byte => BYTE_PACK,
         Elem::Char | Elem::Short => 4,
-        Elem::Int => 2,
+        Elem::Int => INT_PACK,
         Elem::Long | Elem::Ref => 1,
+    }
+}
+
+// Whether the object of this head is an array of such elements.
+#[inline(always)]
+fn is_array(program: &Program, head: Head, e: Elem) -> bool
+    requires { IsPacked program.now head.class head.pack }
+    ensures { result ≡ true
+        → is_array_of e (type_numbered program.now.outline head.class) ≡ true }
+{
+    match e {
+        Elem::Int => head.pack == INT_PACK,
+        Elem::Byte => head.pack == BYTE_PACK,
+        _ => {
+            let t = type_in(program, head);
+            let array = is_array_of(e, t);
+            array && head.pack == pack_of(e)
+        }
+    }
+}
+
+// The kind of the bytes or booleans of the array of this head.
+#[inline(always)]
+fn byte_kind(program: &Program, head: Head) -> Kind
+    requires packed { IsPacked program.now head.class head.pack }
+    requires array { is_array_of elem.Byte (type_numbered program.now.outline head.class) ≡ true }
+    ensures { result ≡ element_kind (type_numbered program.now.outline head.class) }
+{
+    match program.type_of(TypeId(head.class)).base {
+        Base::Boolean => Kind::Boolean,
+        _ => Kind::Byte,
+    }
+}
+
+// The kind of the elements of the array of this head.
+#[inline(always)]
+fn kind_of_elements(program: &Program, head: Head, e: Elem) -> Kind
+    requires packed { IsPacked program.now head.class head.pack }
+    requires array { is_array_of e (type_numbered program.now.outline head.class) ≡ true }
+    ensures { result ≡ element_kind (type_numbered program.now.outline head.class) }
+{
+    match e {
+        Elem::Int => Kind::Int,
+        Elem::Byte => byte_kind(program, head),
+        _ => element_kind(type_in(program, head)),
     }
 }
 
@@ -65,23 +123,20 @@ fn pack_of(e: Elem) -> u8 {
 #[inline(always)]
 fn load_of<M: Memory>(machine: &Machine<M>, frames: &mut Frames, program: &Program, e: Elem) -> bool
     requires fits { NextFits frames.old }
+    requires packed { ArePacked program.now machine.now }
+    requires array { HasReference frames.old 1 }
+    requires index { HasInt frames.old 0 }
     requires holds { HoldsElements program.now (on machine.now frames.old) e }
     ensures did { result ≡ true → FlowsOver program.now M.choose machine.now frames.old
         machine.now frames.new (λ x. array_load_effect program.now.outline e (seen program.now x)) }
     ensures same { result ≡ false → frames.new ≡ frames.old }
 {
-    let Some((cell, head)) = object_at(machine, frames, 1) else {
+    let Some((cell, head)) = object_there(machine, frames, 1) else {
         return false;
     };
-    let Some(index) = int_operand(frames, 0) else {
-        return false;
-    };
-    let t = type_in(program, head);
-    let array = is_array_of(e, t);
+    let index = int_there(frames, 0);
+    let array = is_array(program, head, e);
     if !array {
-        return false;
-    }
-    if head.pack != pack_of(e) {
         return false;
     }
     // As a number without a sign a negative index is above all lengths: so one test is left of both.
@@ -91,7 +146,7 @@ fn load_of<M: Memory>(machine: &Machine<M>, frames: &mut Frames, program: &Progr
     let Some(place) = place_in(head.len, index) else {
         return false;
     };
-    let kind = element_kind(t);
+    let kind = kind_of_elements(program, head, e);
     let value = machine.place(cell, place, kind);
     give_kind(frames, 2, kind, value)
 }
@@ -105,6 +160,9 @@ pub fn array_load<M: Memory>(
     e: Elem,
 ) -> bool
     requires fits { NextFits frames.old }
+    requires packed { ArePacked program.now machine.now }
+    requires array { HasReference frames.old 1 }
+    requires index { HasInt frames.old 0 }
     requires holds { HoldsElements program.now (on machine.now frames.old) e }
     ensures did { result ≡ true → FlowsOver program.now M.choose machine.now frames.old
         machine.now frames.new (λ x. array_load_effect program.now.outline e (seen program.now x)) }
@@ -132,6 +190,9 @@ fn put_element<M: Memory>(
     value: Value,
 ) -> bool
     requires fits { NextFits frames.old }
+    requires packed { ArePacked program.now machine.old }
+    requires array { HasReference frames.old (words + 1) }
+    requires index { HasInt frames.old words }
     requires takes { TakesElement program.now (on machine.old frames.old) e }
     requires number { e ≢ elem.Ref }
     requires words { words ≡ element_words e }
@@ -142,18 +203,12 @@ fn put_element<M: Memory>(
     ensures kept { result ≡ false → machine.new ≡ machine.old }
     ensures ended { machine.new.ended ≡ machine.old.ended }
 {
-    let Some((cell, head)) = object_at(machine, frames, words + 1) else {
+    let Some((cell, head)) = object_there(machine, frames, words + 1) else {
         return false;
     };
-    let Some(index) = int_operand(frames, words) else {
-        return false;
-    };
-    let t = type_in(program, head);
-    let array = is_array_of(e, t);
+    let index = int_there(frames, words);
+    let array = is_array(program, head, e);
     if !array {
-        return false;
-    }
-    if head.pack != pack_of(e) {
         return false;
     }
     // As a number without a sign a negative index is above all lengths: so one test is left of both.
@@ -163,7 +218,8 @@ fn put_element<M: Memory>(
     let Some(place) = place_in(head.len, index) else {
         return false;
     };
-    machine.put_place(cell, place, element_kind(t), value);
+    let kind = kind_of_elements(program, head, e);
+    machine.put_place(cell, place, kind, value);
     take(frames, words + 2);
     true
 }
@@ -177,6 +233,10 @@ fn store_of<M: Memory>(
     e: Elem,
 ) -> bool
     requires fits { NextFits frames.old }
+    requires packed { ArePacked program.now machine.old }
+    requires array { HasReference frames.old 2 }
+    requires index { HasInt frames.old 1 }
+    requires value { HasInt frames.old 0 }
     requires takes { TakesElement program.now (on machine.old frames.old) e }
     requires number { e ≢ elem.Ref }
     requires int { e ≢ elem.Long }
@@ -186,12 +246,7 @@ fn store_of<M: Memory>(
     ensures kept { result ≡ false → machine.new ≡ machine.old }
     ensures ended { machine.new.ended ≡ machine.old.ended }
 {
-    if frames.operand(2).is_none() {
-        return false;
-    }
-    let Some(n) = int_operand(frames, 0) else {
-        return false;
-    };
+    let n = int_there(frames, 0);
     put_element(machine, frames, program, e, 1, Value::Int(n))
 }
 
@@ -199,6 +254,10 @@ fn store_of<M: Memory>(
 #[inline(always)]
 fn store_long<M: Memory>(machine: &mut Machine<M>, frames: &mut Frames, program: &Program) -> bool
     requires fits { NextFits frames.old }
+    requires packed { ArePacked program.now machine.old }
+    requires array { HasReference frames.old 3 }
+    requires index { HasInt frames.old 2 }
+    requires value { HasLong frames.old 1 }
     requires takes { TakesElement program.now (on machine.old frames.old) elem.Long }
     ensures did { result ≡ true → FlowsOver program.now M.choose machine.old frames.old
         machine.new frames.new
@@ -207,9 +266,7 @@ fn store_long<M: Memory>(machine: &mut Machine<M>, frames: &mut Frames, program:
     ensures kept { result ≡ false → machine.new ≡ machine.old }
     ensures ended { machine.new.ended ≡ machine.old.ended }
 {
-    let Some(n) = long_operand(frames, 1) else {
-        return false;
-    };
+    let n = long_there(frames, 1);
     put_element(machine, frames, program, Elem::Long, 2, Value::Long(n))
 }
 
@@ -223,6 +280,8 @@ pub fn array_store<M: Memory>(
     e: Elem,
 ) -> bool
     requires fits { NextFits frames.old }
+    requires packed { ArePacked program.now machine.old }
+    requires asks { AsksOfStore e frames.old }
     requires takes { TakesElement program.now (on machine.old frames.old) e }
     ensures did { result ≡ true → FlowsOver program.now M.choose machine.old frames.old
         machine.new frames.new (λ x. array_store_effect program.now.outline e (seen program.now x)) }

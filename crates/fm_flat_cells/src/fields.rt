@@ -4,6 +4,7 @@ ghost use Rattle.std.specs.Prelude.{◌≡◌, ◌-◌, ◌<◌, true, false, So
 ghost use Rattle.fm_exec.specs.Holding.{HoldsField, TakesField};
 ghost use Rattle.fm_exec.specs.Steps.{seen};
 ghost use Rattle.fm_flat.specs.Flows.{on};
+ghost use Rattle.fm_flat.specs.Operands.{HasReference};
 ghost use Rattle.fm_flat_cells.specs.FlowsOver.{FlowsOver};
 ghost use Rattle.fm_frames.specs.ObjectRows.{get_field_effect, kind_of_field, put_field_effect};
 ghost use Rattle.fm_frames.specs.Runnable.{IsRunnable};
@@ -15,7 +16,7 @@ ghost use Rattle.fm_world.specs.Descriptors.{kind_words};
 ghost use Rattle.fm_world.specs.Members.{fields_of};
 ghost use Rattle.fm_world.specs.declared.uses.Use.TheVariants as used;
 
-use crate::operands::{give_kind, object_at, take};
+use crate::operands::{give_kind, object_at, object_there, take};
 use fm_base::{FieldId, Kind, TypeId};
 use fm_cells::Memory;
 use fm_flat::{int_operand, long_operand};
@@ -67,13 +68,14 @@ pub fn get_field<M: Memory>(
     requires fits { NextFits frames.old }
     requires field { f.0 < length (fields_of program.now.outline.classes) }
     requires named { named.0 < length program.now.outline.types }
+    requires object { HasReference frames.old 0 }
     requires holds { HoldsField program.now (on machine.now frames.old) f.0 named.0 }
     ensures did { result ≡ true → FlowsOver program.now M.choose machine.now frames.old
         machine.now frames.new
         (λ x. get_field_effect program.now.outline (used.OfField f named) (seen program.now x)) }
     ensures same { result ≡ false → frames.new ≡ frames.old }
 {
-    let Some((cell, head)) = object_at(machine, frames, 0) else {
+    let Some((cell, head)) = object_there(machine, frames, 0) else {
         return false;
     };
     if head.pack != FIELD_PACK {

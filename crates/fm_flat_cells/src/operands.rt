@@ -2,6 +2,7 @@
 
 ghost use Rattle.std.specs.Prelude.{◌≡◌, ◌<◌, true, false, slice_get};
 ghost use Rattle.fm_flat.specs.Flows.{with_branched};
+ghost use Rattle.fm_flat.specs.Operands.{HasReference};
 ghost use Rattle.fm_flat_cells.specs.inner.Gives.{Gives};
 ghost use Rattle.fm_frames.specs.inner.Doings.{NextFits};
 ghost use Rattle.fm_frames.specs.inner.Frames.{on_top, stack_in};
@@ -9,7 +10,7 @@ ghost use Rattle.fm_frames.specs.inner.Looks.{look_at, object_in};
 
 use fm_base::Kind;
 use fm_cells::{Cell, Head, Memory};
-use fm_flat::{give, give_wide};
+use fm_flat::{cell_there, give, give_wide};
 use fm_frames::{Frames, Machine, Value};
 
 /// The object of the operand at this place, by its cell and its head; none where there is no object. Takes no
@@ -26,6 +27,27 @@ pub fn object_at<M: Memory>(
     let Some(Value::Ref(cell)) = frames.operand(place) else {
         return None;
     };
+    if cell.0 == 0 {
+        return None;
+    }
+    match machine.head(cell) {
+        Some(head) => Some((cell, head)),
+        None => None,
+    }
+}
+
+// The object of the reference at this place, by its cell and its head; none where there is no object.
+#[inline(always)]
+pub(crate) fn object_there<M: Memory>(
+    machine: &Machine<M>,
+    frames: &Frames,
+    place: usize,
+) -> Option<(Cell, Head)>
+    requires { HasReference frames.now place }
+    ensures { result ≡ object_in (look_at machine.now.areas.store
+        (slice_get (stack_in frames.now) place)) }
+{
+    let cell = cell_there(frames, place);
     if cell.0 == 0 {
         return None;
     }

@@ -11,7 +11,7 @@ use Rattle.fm_frames.specs.inner.Doings.{int_in}
 pub returns-clause-did : goal.returns-clause-did
 returns-clause-did c told p choose x =
     let old = c.args.frames.now in
-    let result : result_of_conversion c.args.to c.in-Some.a ≡ c.convert-n.result = search rules in
-    with-int p choose (on x old) (stepped_on x c.give.new.frames) 0 c.in-Some.a _ _ (seen-on x old 0 int_in _ c.in-Some.ensures)
+    let result : result_of_conversion c.args.to c.int_there-a.result ≡ c.convert-n.result = search rules in
+    with-int p choose (on x old) (stepped_on x c.give.new.frames) 0 c.int_there-a.result _ _ (seen-on x old 0 int_in _ c.int_there-a.ensures)
     (ap (λ n. words 1 (int_word n)) result)
     (gave p choose x old c.give.new.frames 1 _ (Plain (value.Int c.convert-n.result)) c.requires.fits (c.give.ensures.did told) (search rules))

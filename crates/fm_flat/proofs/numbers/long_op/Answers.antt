@@ -10,15 +10,15 @@ use Rattle.fm_frames.specs.Operands.{or_thrown}
 use Rattle.fm_frames.specs.declared.values.Value.TheVariants as value
 use Rattle.fm_frames.specs.inner.Doings.{long_in}
 
-pub returns-in-Some-long_op-clause-did : goal.returns-in-Some-long_op-clause-did
+pub returns-in-Some-clause-did : goal.returns-in-Some-clause-did
 unfolding long_op_effect
-returns-in-Some-long_op-clause-did c told p choose x =
+returns-in-Some-clause-did c told p choose x =
     let old = c.args.frames.now in
     let new = stepped_on x c.give_wide.new.frames in
-    let a = c.in-Some.a in
-    let b = c.in-Some-long_operand.b in
-    let result : result_of_op c.args.op 64 a b ≡ Some c.in-Some-long_op.n = search rules in
-    with-long p choose (on x old) new 1 b _ _ (seen-on x old 1 long_in _ c.in-Some-long_operand.ensures) refl
-    (with-long p choose (on x old) new 3 a _ _ (seen-on x old 3 long_in _ c.in-Some.ensures)
+    let a = c.long_there-a.result in
+    let b = c.long_there-b.result in
+    let result : result_of_op c.args.op 64 a b ≡ Some c.in-Some.n = search rules in
+    with-long p choose (on x old) new 1 b _ _ (seen-on x old 1 long_in _ c.long_there-b.ensures) refl
+    (with-long p choose (on x old) new 3 a _ _ (seen-on x old 3 long_in _ c.long_there-a.ensures)
     (ap (λ r. or_thrown p.outline r (λ n. words 4 (long_words n))) result)
-    (gave-wide p choose x old c.give_wide.new.frames 4 _ (Plain (value.Long c.in-Some-long_op.n)) c.requires.fits (c.give_wide.ensures.did told) (search rules)))
+    (gave-wide p choose x old c.give_wide.new.frames 4 _ (Plain (value.Long c.in-Some.n)) c.requires.fits (c.give_wide.ensures.did told) (search rules)))

@@ -14,7 +14,7 @@ pub returns-clause-did : goal.returns-clause-did
 unfolding convert_effect
 returns-clause-did c told p choose x =
     let old = c.args.frames.now in
-    let result : result_of_conversion conv.LongToInt c.in-Some.a ≡ c.convert-n.result = search rules in
-    with-long p choose (on x old) (stepped_on x c.give.new.frames) 1 c.in-Some.a _ _ (seen-on x old 1 long_in _ c.in-Some.ensures)
+    let result : result_of_conversion conv.LongToInt c.long_there-a.result ≡ c.convert-n.result = search rules in
+    with-long p choose (on x old) (stepped_on x c.give.new.frames) 1 c.long_there-a.result _ _ (seen-on x old 1 long_in _ c.long_there-a.ensures)
     (ap (λ n. words 2 (int_word n)) result)
     (gave p choose x old c.give.new.frames 2 _ (Plain (value.Int c.convert-n.result)) c.requires.fits (c.give.ensures.did told) (search rules))

@@ -12,5 +12,5 @@ pub returns-clause-did : goal.returns-clause-did
 unfolding convert_effect
 returns-clause-did c told p choose x =
     let old = c.args.frames.now in
-    with-int p choose (on x old) (stepped_on x c.give_wide.new.frames) 0 c.in-Some.a _ _ (seen-on x old 0 int_in _ c.in-Some.ensures) refl
-    (gave-wide p choose x old c.give_wide.new.frames 1 _ (Plain (value.Long c.in-Some.a)) c.requires.fits (c.give_wide.ensures.did told) (search rules))
+    with-int p choose (on x old) (stepped_on x c.give_wide.new.frames) 0 c.int_there-a.result _ _ (seen-on x old 0 int_in _ c.int_there-a.ensures) refl
+    (gave-wide p choose x old c.give_wide.new.frames 1 _ (Plain (value.Long c.int_there-a.result)) c.requires.fits (c.give_wide.ensures.did told) (search rules))

@@ -7,5 +7,5 @@ use Rattle.fm_frames.specs.inner.Frames.{stack_in}
 
 pub put_element-requires-clause-value : goal.put_element-requires-clause-value
 put_element-requires-clause-value g c =
-    let same : to_z w64 (of_z w64 c.in-Some.n) ≡ c.in-Some.n = grind (arith, ints, to_z-of_z) in
-    long-found (slice_get (stack_in c.args.frames.now) 1) c.in-Some.n c.in-Some.ensures ∙ ap (λ n. Some (value.Long n)) (sym same)
+    let same : to_z w64 (of_z w64 c.long_there-n.result) ≡ c.long_there-n.result = grind (arith, ints, to_z-of_z) in
+    long-found (slice_get (stack_in c.args.frames.now) 1) c.long_there-n.result c.long_there-n.ensures ∙ ap (λ n. Some (value.Long n)) (sym same)

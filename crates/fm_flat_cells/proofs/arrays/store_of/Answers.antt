@@ -10,5 +10,5 @@ put_element-requires-clause-words g c = one-element-word c.args.e c.requires.int
 
 pub put_element-requires-clause-value : goal.put_element-requires-clause-value
 put_element-requires-clause-value g c =
-    let same : to_z w32 (of_z w32 c.in-Some.n) ≡ c.in-Some.n = grind (arith, ints, to_z-of_z) in
-    int-found (slice_get (stack_in c.args.frames.now) 0) c.in-Some.n c.in-Some.ensures ∙ ap (λ n. Some (value.Int n)) (sym same)
+    let same : to_z w32 (of_z w32 c.int_there-n.result) ≡ c.int_there-n.result = grind (arith, ints, to_z-of_z) in
+    int-found (slice_get (stack_in c.args.frames.now) 0) c.int_there-n.result c.int_there-n.ensures ∙ ap (λ n. Some (value.Int n)) (sym same)
