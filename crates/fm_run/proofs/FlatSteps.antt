@@ -13,6 +13,7 @@ use Rattle.fm_exec.specs.Steps.{seen, Steps}
 use Rattle.fm_flat.proofs.Asked.{asked}
 use Rattle.fm_flat.specs.Flows.{on, resumed, stepped_on}
 use Rattle.fm_flat.specs.Operands.{AsksOf}
+use Rattle.fm_flat_cells.specs.Packed.{ArePacked}
 use Rattle.fm_frames.specs.Acts.{Choose}
 use Rattle.fm_frames.specs.Rows.{effect_of}
 use Rattle.fm_frames.specs.States.{Frame, State}
@@ -31,6 +32,7 @@ use Rattle.fm_run.proofs.Steadying.{did-quietly}
 use Rattle.fm_run.specs.inner.Flats.{FlowsNext, IsFlatNext}
 use Rattle.fm_run.specs.inner.Going.{IsCheapNext, Keeps, LeadsQuietly}
 use Rattle.fm_run.specs.inner.Nexts.{DoesNext, StandsAt, StandsIn}
+use Rattle.fm_sound.specs.Sound.{IsSound}
 use Rattle.fm_types.specs.Typed.{use_by}
 use Rattle.fm_world.specs.Programs.{code_at, Program}
 use Rattle.fm_world.specs.declared.uses.Use.{Use}
@@ -59,6 +61,10 @@ flat-asks p budget x method item code i keeps on place_is code_is insn_is =
     let here : s.insn ≡ i = insn-here p x s (method, item) code i (place-of p x s method item place_is) code_is insn_is in
     subst (AsksOf i) (sym s.frames_is)
     (subst (λ i. AsksOf i (s.frame ∷ s.callers)) here (asked p.outline s.known s.frame s.callers s.kinds s.whole s.after _ _ _ _ s.insn s.row))
+
+-- objects that a sound state holds are packed as those of their types
+pub packed-in : (p : Program) (x : State) → IsSound p x → ArePacked p x
+packed-in p x sound = λ cell object held. let of_program = sound.1.areas.heap cell object held in (of_program.numbered, of_program.of_type.pack)
 
 pub flat-fits : (p : Program) (budget : ℕ) (x : State) → CanRun p → Keeps p budget x → x.ended ≡ None → NextFits x.frames
 flat-fits p budget x run keeps on =

@@ -6,7 +6,7 @@ use Rattle.fm_frames.specs.Rows.{effect_of}
 use Rattle.fm_nests.specs.inner.Costs.{nest_of}
 use Rattle.fm_ready.proofs.Heap.{holds_elements, holds_length}
 use Rattle.fm_ready.proofs.Puts.{takes_element}
-use Rattle.fm_run.proofs.FlatSteps.{cheap-next, does-flowed, Flowed, flowed-joined, flowed-on, group-flowed, row-flowed, taken-out}
+use Rattle.fm_run.proofs.FlatSteps.{cheap-next, does-flowed, Flowed, flowed-joined, flowed-on, group-flowed, packed-in, row-flowed, taken-out}
 use Rattle.fm_run.proofs.NextSteps.{at-row, here, next-at, row-does}
 use Rattle.fm_run.proofs.Ranging.{leads-none}
 use Rattle.fm_run.proofs.Resolving.{is-method}
@@ -183,6 +183,29 @@ pub do_other-did-requires-clause-method : goal.do_other-did-requires-clause-meth
 do_other-did-requires-clause-method g c =
     is-method c.args.program.now (resumed c.loop-counted.machine c.loop-counted.frames c.loop-counted.counted) c.args.method.0 c.in-Some.insn.now c.requires.run
     c.in-Some.ensures.next.at
+
+pub dup-did-requires-clause-there : goal.dup-did-requires-clause-there
+dup-did-requires-clause-there g c = subst (λ i. AsksOf i c.loop-counted.frames) c.in-Dup.is c.in-Some.ensures.next.asks
+
+pub array_load-did-requires-clause-packed : goal.array_load-did-requires-clause-packed
+array_load-did-requires-clause-packed g c =
+    packed-in c.args.program.now (resumed c.loop-counted.machine c.loop-counted.frames c.loop-counted.counted) c.loop-counted.invariant.1.sound
+
+pub array_load-did-requires-clause-array : goal.array_load-did-requires-clause-array
+array_load-did-requires-clause-array g c = (subst (λ i. AsksOf i c.loop-counted.frames) c.in-ArrayLoad.is c.in-Some.ensures.next.asks).0
+
+pub array_load-did-requires-clause-index : goal.array_load-did-requires-clause-index
+array_load-did-requires-clause-index g c = (subst (λ i. AsksOf i c.loop-counted.frames) c.in-ArrayLoad.is c.in-Some.ensures.next.asks).1
+
+pub array_store-did-requires-clause-packed : goal.array_store-did-requires-clause-packed
+array_store-did-requires-clause-packed g c =
+    packed-in c.args.program.now (resumed c.loop-counted.machine c.loop-counted.frames c.loop-counted.counted) c.loop-counted.invariant.1.sound
+
+pub array_store-did-requires-clause-asks : goal.array_store-did-requires-clause-asks
+array_store-did-requires-clause-asks g c = subst (λ i. AsksOf i c.loop-counted.frames) c.in-ArrayStore.is c.in-Some.ensures.next.asks
+
+pub array_length-did-requires-clause-array : goal.array_length-did-requires-clause-array
+array_length-did-requires-clause-array g c = subst (λ i. AsksOf i c.loop-counted.frames) c.in-Length.is c.in-Some.ensures.next.asks
 
 pub returns-then-is_some : goal.returns-then-is_some
 returns-then-is_some g c out = leads-none c.args.program.now g.M.Memory.choose c.args.steps c.args.machine.now out

@@ -24,6 +24,15 @@ if_same-requires-clause-second c = (subst (λ i. AsksOf i c.args.frames.now) c.i
 pub if_null-requires-clause-reference : goal.if_null-requires-clause-reference
 if_null-requires-clause-reference c = subst (λ i. AsksOf i c.args.frames.now) c.in-IfNull.is c.requires.asks
 
+pub long_op-requires-clause-first : goal.long_op-requires-clause-first
+long_op-requires-clause-first c = (subst (λ i. AsksOf i c.args.frames.now) c.in-LongOp.is c.requires.asks).0
+
+pub long_op-requires-clause-second : goal.long_op-requires-clause-second
+long_op-requires-clause-second c = (subst (λ i. AsksOf i c.args.frames.now) c.in-LongOp.is c.requires.asks).1
+
+pub convert-requires-clause-number : goal.convert-requires-clause-number
+convert-requires-clause-number c = subst (λ i. AsksOf i c.args.frames.now) c.in-Convert.is c.requires.asks
+
 pub returns-in-Null-clause-did : goal.returns-in-Null-clause-did
 unfolding effect_of
 returns-in-Null-clause-did c told =

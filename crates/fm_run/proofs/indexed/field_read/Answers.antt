@@ -28,6 +28,9 @@ get_field-requires-clause-named g c =
     (is-inside c.args.program.now (resumed c.args.machine.now c.args.frames.now c.args.counted) c.args.method.0 (insn.GetField c.args.index)
     (used.OfField c.field_named.result.0 c.field_named.result.1) c.requires.run c.requires.next.at c.field_named.ensures).1
 
+pub get_field-requires-clause-object : goal.get_field-requires-clause-object
+get_field-requires-clause-object g c = c.requires.next.asks
+
 pub get_field-requires-clause-holds : goal.get_field-requires-clause-holds
 get_field-requires-clause-holds g c =
     let x = resumed c.args.machine.now c.args.frames.now c.args.counted in
