@@ -1,5 +1,5 @@
 -- A frame whose words have the kinds that the checker found has what the row of its next instruction asks.
-use Rattle.std.proofs.Common.{◌≡◌, ◌≢◌, ℕ, ◌-◌, ℤ, true, false, List, [], ◌∷◌, ◌++◌, length, drop, take, zero, suc, Bool, cond, option_map, Option, Some, None, slice_get, refl, ap, sym, ◌∙◌, subst}
+use Rattle.std.proofs.Common.{◌≡◌, ◌≢◌, ℕ, ℤ, true, List, [], ◌∷◌, ◌++◌, length, drop, take, zero, suc, Bool, cond, option_map, Option, Some, None, slice_get, refl, ap, sym, ◌∙◌, subst}
 use Rattle.std.proofs.lemmas.Bool.{false≢true}
 use Rattle.std.proofs.lemmas.Option.{none-some}
 use Rattle.fm_base.proofs.OptionFacts.{cond-some_then, option_and_then-some, option_map-some}
@@ -13,12 +13,11 @@ use Rattle.fm_code.specs.declared.operations.Elem.{Elem}
 use Rattle.fm_code.specs.declared.operations.Elem.TheVariants as elem
 use Rattle.fm_code.specs.declared.operations.Reg.{Reg}
 use Rattle.fm_code.specs.declared.operations.Reg.TheVariants as reg
-use Rattle.fm_exec.specs.Steps.{reg_words}
-use Rattle.fm_flat.specs.Operands.{AsksOf, AsksOfConversion, AsksOfStore, HasInt, HasLocalOf, HasReference, HasWord}
+use Rattle.fm_flat.specs.Operands.{AsksOf, AsksOfConversion, AsksOfStore, HasInt, HasLocalOf, HasReference, HasWord, HasWordOf}
 use Rattle.fm_frames.specs.States.{Frame, word_at}
 use Rattle.fm_frames.specs.declared.values.Value.{Value}
 use Rattle.fm_frames.specs.declared.values.Value.TheVariants as value
-use Rattle.fm_sound.proofs.KindLemmas.{int_local, local_kind, local_kind_or, taken_rest, taken_words}
+use Rattle.fm_sound.proofs.KindLemmas.{as_local, int_local, local_kind, local_kind_or, taken_rest, taken_words}
 use Rattle.fm_sound.specs.Sound.{FrameHasKinds, HasKind, HaveKinds, IsReference, LocalHasKind}
 use Rattle.fm_types.specs.ArrayRows.{array_load_row, array_store_row, element_of, is_array_of, length_row, null_element, on_array}
 use Rattle.fm_types.specs.Fits.{object_of}
@@ -88,15 +87,10 @@ two-references t (v ∷ w ∷ words) h =
     let d = cell-of w h.1.0 in
     ((d.0, ap Some d.1), (c.0, ap Some c.1))
 
--- a slot on top, and one below, has a word
+-- a slot on top has a word
 first-word : (s : Slot) (stack : List Slot) (words : List Value) → HaveKinds (s ∷ stack) words → (v : Value) × (slice_get words 0 ≡ Some v)
 first-word s stack [] h = absurd h
 first-word s stack (v ∷ words) h = (v, refl)
-
-second-word : (half s : Slot) (stack : List Slot) (words : List Value) → HaveKinds (half ∷ s ∷ stack) words → (v : Value) × (slice_get words 1 ≡ Some v)
-second-word half s stack [] h = absurd h
-second-word half s stack (v ∷ []) h = absurd h.1
-second-word half s stack (v ∷ w ∷ words) h = (w, refl)
 
 -- where an array is wanted there is a reference
 array-cell : (passes : TypeRef → Bool) (null : List Slot) (given : TypeRef → List Slot) (s : Slot) (slots : List Slot) (v : Value)
@@ -112,18 +106,39 @@ top-left (suc n) (v ∷ words) = top-left n words
 
 -- ---- locals
 
+-- what may be stored as an int, as a long or as a reference is one
+stored-int : (s : Slot) (stack : List Slot) (words : List Value) → is_int s ≡ true → HaveKinds (s ∷ stack) words
+    → (n : ℤ) × (slice_get words 0 ≡ Some (value.Int n))
+stored-int s stack [] is h = absurd h
+stored-int s stack (v ∷ words) is h = let number = int_local s v is (as_local s v h.0) in (number.0, ap Some number.1)
+
+long-value : (s : Slot) (v : Value) → is_long s ≡ true → HasKind s v → (n : ℤ) × (v ≡ value.Long n)
+long-value slot.Long v is h = h
+long-value s v is h = absurd (false≢true is)
+
+stored-long : (half s : Slot) (stack : List Slot) (words : List Value) → is_long s ≡ true → HaveKinds (half ∷ s ∷ stack) words
+    → (n : ℤ) × (slice_get words 1 ≡ Some (value.Long n))
+stored-long half s stack [] is h = absurd h
+stored-long half s stack (v ∷ []) is h = absurd h.1
+stored-long half s stack (v ∷ w ∷ words) is h = let number = long-value s w is h.1.0 in (number.0, ap Some number.1)
+
 -- a long is a value of its own
 own-value : (s : Slot) (v : Value) → is_long s ≡ true → LocalHasKind s v → v ≢ value.Top
 own-value slot.Long v is h top = let number = h.1 in absurd (cc)
 own-value s v is h top = absurd (false≢true is)
 
--- what may be loaded as a reference is one
+-- what may be loaded or stored as a reference is one
 local-cell : (s : Slot) (v : Value) → is_reference s ≡ true → LocalHasKind s v → (cell : Cell) × (v ≡ value.Ref cell)
 local-cell slot.Null v is h = cell-of v h
 local-cell (slot.Ref t) v is h = cell-of v h
 local-cell (slot.Uninit item) v is h = cell-of v h
 local-cell slot.UninitThis v is h = cell-of v h
 local-cell s v is h = absurd (false≢true is)
+
+stored-cell : (s : Slot) (stack : List Slot) (words : List Value) → is_reference s ≡ true → HaveKinds (s ∷ stack) words
+    → (cell : Cell) × (slice_get words 0 ≡ Some (value.Ref cell))
+stored-cell s stack [] is h = absurd h
+stored-cell s stack (v ∷ words) is h = let c = local-cell s v is (as_local s v h.0) in (c.0, ap Some c.1)
 
 module _ (o : Outline) (s : TypeState) (f : Frame) (callers : List Frame) (h : FrameHasKinds s f.locals f.stack) (whole : is_whole s.stack ≡ true)
     (after : TypeState) where
@@ -145,15 +160,18 @@ module _ (o : Outline) (s : TypeState) (f : Frame) (callers : List Frame) (h : F
   loads reg.Ref k row = let found = local-loaded reg.Ref k row in local-cell found.0 (word_at f.locals k) found.1 found.2
 
   stores : (r : Reg) (k : ℕ) (stack : List Slot) → s.stack ≡ stack → store_row o r k (record s { stack = stack }) ≡ Some after
-      → HasWord (f ∷ callers) (reg_words r - 1)
+      → HasWordOf r (f ∷ callers)
   unfolding store_row
   stores reg.Int k [] is row = absurd (cc)
   stores reg.Ref k [] is row = absurd (cc)
   stores reg.Long k [] is row = absurd (cc)
-  stores reg.Int k (found ∷ stack) is row = first-word found stack f.stack (subst (λ xs. HaveKinds xs f.stack) is h.in_stack)
-  stores reg.Ref k (found ∷ stack) is row = first-word found stack f.stack (subst (λ xs. HaveKinds xs f.stack) is h.in_stack)
+  stores reg.Int k (found ∷ stack) is row =
+      stored-int found stack f.stack (cond-some_then (is_int found) _ after row).0 (subst (λ xs. HaveKinds xs f.stack) is h.in_stack)
+  stores reg.Ref k (found ∷ stack) is row =
+      stored-cell found stack f.stack (cond-some_then (is_reference found) _ after row).0 (subst (λ xs. HaveKinds xs f.stack) is h.in_stack)
   stores reg.Long k (half ∷ []) is row = absurd (cc)
-  stores reg.Long k (half ∷ found ∷ stack) is row = second-word half found stack f.stack (subst (λ xs. HaveKinds xs f.stack) is h.in_stack)
+  stores reg.Long k (half ∷ found ∷ stack) is row =
+      stored-long half found stack f.stack (cond-some_then (is_long found) _ after row).0 (subst (λ xs. HaveKinds xs f.stack) is h.in_stack)
 
   increments : (k : ℕ) → increment_row k s ≡ Some after → (n : ℤ) × (word_at f.locals k ≡ value.Int n)
   unfolding increment_row

@@ -1,5 +1,5 @@
 -- Steps of a state of which only the frames are known: what its topmost frame became.
-use Rattle.std.proofs.Common.{◌≡◌, ℕ, ◌+◌, not, Bool, true, false, ◌==◌, List, [], ◌∷◌, drop, Option, Some, None, slice_get, if◌then◌else◌, refl, ap, sym, ◌∙◌}
+use Rattle.std.proofs.Common.{◌≡◌, ℕ, ◌+◌, not, Bool, true, false, ◌==◌, List, [], ◌∷◌, drop, ℤ, Option, Some, None, slice_get, if◌then◌else◌, refl, ap, sym, ◌∙◌}
 use Rattle.std.proofs.lemmas.Option.{get_or_from_slice_get, none-some, same_Some}
 use Rattle.fm_cells.specs.Answers.{head_at}
 use Rattle.fm_cells.specs.Stores.{Store}
@@ -19,7 +19,7 @@ use Rattle.fm_frames.specs.Steps.{locals_of, stack_of}
 use Rattle.fm_frames.specs.declared.looks.Look.TheVariants as look
 use Rattle.fm_frames.specs.declared.values.Value.{Value}
 use Rattle.fm_frames.specs.declared.values.Value.TheVariants as value
-use Rattle.fm_frames.specs.inner.Doings.{before, DoesIn, NextFits}
+use Rattle.fm_frames.specs.inner.Doings.{before, DoesIn, int_in, long_in, NextFits}
 use Rattle.fm_frames.specs.inner.Frames.{locals_in, on_top, stack_in}
 use Rattle.fm_frames.specs.inner.Looks.{look_at, look_head}
 use Rattle.fm_frames.specs.inner.Targets.{goes_same, IsTarget}
@@ -109,6 +109,22 @@ pub doubled : (p : Program) (choose : Choose) (x : State) (old new : List Frame)
 doubled p choose x old new v fits is top =
     finished-top p choose (on x old) (on x old) new (with_given 0 v) 1 (OfOperand 0 ∷ OfOperand 0 ∷ []) [] refl fits is
     (λ f callers at. ap (λ stack. record f { item = f.item + 1; stack = stack }) (dup-stack f.stack v (top ∙ ap (λ frames. slice_get (stack_in frames) 0) at)))
+
+-- ---- words that are numbers
+
+pub int-found : (v : Option Value) (n : ℤ) → Some n ≡ int_in v → v ≡ Some (value.Int n)
+int-found None n is = absurd (none-some n (sym is))
+int-found (Some value.Top) n is = absurd (none-some n (sym is))
+int-found (Some (value.Int m)) n is = ap (λ k. Some (value.Int k)) (sym (same_Some _ _ is))
+int-found (Some (value.Long m)) n is = absurd (none-some n (sym is))
+int-found (Some (value.Ref cell)) n is = absurd (none-some n (sym is))
+
+pub long-found : (v : Option Value) (n : ℤ) → Some n ≡ long_in v → v ≡ Some (value.Long n)
+long-found None n is = absurd (none-some n (sym is))
+long-found (Some value.Top) n is = absurd (none-some n (sym is))
+long-found (Some (value.Int m)) n is = absurd (none-some n (sym is))
+long-found (Some (value.Long m)) n is = ap (λ k. Some (value.Long k)) (sym (same_Some _ _ is))
+long-found (Some (value.Ref cell)) n is = absurd (none-some n (sym is))
 
 -- ---- jumps
 

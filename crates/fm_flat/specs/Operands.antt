@@ -1,5 +1,5 @@
 -- What rows ask of the words that they look at, which typed code has there.
-use Rattle.std.specs.Prelude.{◌≡◌, ◌≢◌, ℕ, ◌-◌, ℤ, List, Some, slice_get}
+use Rattle.std.specs.Prelude.{◌≡◌, ◌≢◌, ℕ, ℤ, List, Some, slice_get}
 use Rattle.fm_cells.specs.declared.answers.Cell.{Cell}
 use Rattle.fm_code.specs.declared.instructions.Insn.{Insn}
 use Rattle.fm_code.specs.declared.instructions.Insn.TheVariants as insn
@@ -9,7 +9,6 @@ use Rattle.fm_code.specs.declared.operations.Elem.{Elem}
 use Rattle.fm_code.specs.declared.operations.Elem.TheVariants as elem
 use Rattle.fm_code.specs.declared.operations.Reg.{Reg}
 use Rattle.fm_code.specs.declared.operations.Reg.TheVariants as reg
-use Rattle.fm_exec.specs.Steps.{reg_words}
 use Rattle.fm_frames.specs.States.{Frame, word_at}
 use Rattle.fm_frames.specs.declared.values.Value.{Value}
 use Rattle.fm_frames.specs.declared.values.Value.TheVariants as value
@@ -49,6 +48,12 @@ HasLocalOf reg.Int frames place = HasIntLocal frames place
 HasLocalOf reg.Long frames place = HasLocal frames place
 HasLocalOf reg.Ref frames place = HasReferenceLocal frames place
 
+-- what a store of a kind asks of the stack (JVMS 6.5.istore, 6.5.lstore, 6.5.astore)
+abbrev pub HasWordOf : Reg → List Frame → Type 0
+HasWordOf reg.Int frames = HasInt frames 0
+HasWordOf reg.Long frames = HasLong frames 1
+HasWordOf reg.Ref frames = HasReference frames 0
+
 -- what a conversion asks (JVMS 6.5.i2l and its like)
 abbrev pub AsksOfConversion : Conv → List Frame → Type 0
 AsksOfConversion conv.LongToInt frames = HasLong frames 1
@@ -63,7 +68,7 @@ AsksOfStore e frames = HasReference frames 2 × HasInt frames 1 × HasInt frames
 -- what the row of an instruction asks of the topmost frame (JVMS 4.9.2)
 abbrev pub AsksOf : Insn → List Frame → Type 0
 AsksOf (insn.Load kind place) frames = HasLocalOf kind frames place
-AsksOf (insn.Store kind place) frames = HasWord frames (reg_words kind - 1)
+AsksOf (insn.Store kind place) frames = HasWordOf kind frames
 AsksOf (insn.Inc place by) frames = HasIntLocal frames place
 AsksOf (insn.IntOp op) frames = HasInt frames 1 × HasInt frames 0
 AsksOf (insn.IntShift shift) frames = HasInt frames 1 × HasInt frames 0

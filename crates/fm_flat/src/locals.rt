@@ -1,14 +1,14 @@
 // The rows of locals (JVMS 6.5.iload and its like).
 
-ghost use Rattle.std.specs.Prelude.{◌≡◌, ◌-◌, true, false};
-ghost use Rattle.fm_exec.specs.Steps.{reg_words};
+ghost use Rattle.std.specs.Prelude.{◌≡◌, true, false};
 ghost use Rattle.fm_flat.specs.Flows.{Flows};
-ghost use Rattle.fm_flat.specs.Operands.{HasIntLocal, HasLocalOf, HasWord};
+ghost use Rattle.fm_flat.specs.Operands.{HasInt, HasIntLocal, HasLocalOf, HasLong, HasReference, HasWordOf};
 ghost use Rattle.fm_frames.specs.NumberRows.{increment_effect, load_effect, store_effect};
 ghost use Rattle.fm_frames.specs.inner.Doings.{NextFits};
 
 use crate::operands::{
-    give_wide, local_cell, local_int, local_there, push, put_local, put_wide_local, word_there,
+    cell_there, give_wide, int_there, local_cell, local_int, local_there, long_there, push, put_local,
+    put_wide_local,
 };
 use fm_code::Reg;
 use fm_exec::int_sum;
@@ -42,27 +42,40 @@ pub fn load(frames: &mut Frames, kind: Reg, place: u16) -> bool
 #[inline(always)]
 pub fn store(frames: &mut Frames, kind: Reg, place: u16) -> bool
     requires fits { NextFits frames.old }
-    requires there { HasWord frames.old (reg_words kind - 1) }
+    requires there { HasWordOf kind frames.old }
     ensures did { result ≡ true → Flows frames.old frames.new (λ p x. store_effect kind place) }
     ensures same { result ≡ false → frames.new ≡ frames.old }
 {
     match kind {
-        Reg::Int => store_word(frames, place),
+        Reg::Int => store_int(frames, place),
         Reg::Long => store_long(frames, place),
-        Reg::Ref => store_word(frames, place),
+        Reg::Ref => store_cell(frames, place),
     }
 }
 
-// istore and astore.
+// istore.
 #[inline(always)]
-fn store_word(frames: &mut Frames, place: u16) -> bool
+fn store_int(frames: &mut Frames, place: u16) -> bool
     requires fits { NextFits frames.old }
-    requires there { HasWord frames.old 0 }
+    requires there { HasInt frames.old 0 }
     ensures did { result ≡ true → Flows frames.old frames.new (λ p x. store_effect Reg.Int place) }
     ensures same { result ≡ false → frames.new ≡ frames.old }
 {
-    let value = word_there(frames, 0);
-    put_local(frames, 1, place, value);
+    let n = int_there(frames, 0);
+    put_local(frames, 1, place, Value::Int(n));
+    true
+}
+
+// astore.
+#[inline(always)]
+fn store_cell(frames: &mut Frames, place: u16) -> bool
+    requires fits { NextFits frames.old }
+    requires there { HasReference frames.old 0 }
+    ensures did { result ≡ true → Flows frames.old frames.new (λ p x. store_effect Reg.Ref place) }
+    ensures same { result ≡ false → frames.new ≡ frames.old }
+{
+    let cell = cell_there(frames, 0);
+    put_local(frames, 1, place, Value::Ref(cell));
     true
 }
 
@@ -70,13 +83,13 @@ fn store_word(frames: &mut Frames, place: u16) -> bool
 #[inline(always)]
 fn store_long(frames: &mut Frames, place: u16) -> bool
     requires fits { NextFits frames.old }
-    requires there { HasWord frames.old 1 }
+    requires there { HasLong frames.old 1 }
     ensures did { result ≡ true
         → Flows frames.old frames.new (λ p x. store_effect Reg.Long place) }
     ensures same { result ≡ false → frames.new ≡ frames.old }
 {
-    let value = word_there(frames, 1);
-    put_wide_local(frames, 2, place, value);
+    let n = long_there(frames, 1);
+    put_wide_local(frames, 2, place, Value::Long(n));
     true
 }
 

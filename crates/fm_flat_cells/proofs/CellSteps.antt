@@ -50,22 +50,6 @@ put-over p choose x y old new steps takes object source cell place kind v fits t
     put-done p choose (resumed x old steps) (resumed y old steps) (resumed y new (steps + 1)) takes cell place kind (OfOperand object) (OfOperand source) v fits to from
     (ap (λ (m : State). resumed m old steps) is) (took p choose (record y { steps = steps }) old new takes fits taken)
 
--- ---- words that are numbers
-
-pub int-found : (v : Option Value) (n : ℤ) → Some n ≡ int_in v → v ≡ Some (value.Int n)
-int-found None n is = absurd (none-some n (sym is))
-int-found (Some value.Top) n is = absurd (none-some n (sym is))
-int-found (Some (value.Int m)) n is = ap (λ k. Some (value.Int k)) (sym (same_Some _ _ is))
-int-found (Some (value.Long m)) n is = absurd (none-some n (sym is))
-int-found (Some (value.Ref cell)) n is = absurd (none-some n (sym is))
-
-pub long-found : (v : Option Value) (n : ℤ) → Some n ≡ long_in v → v ≡ Some (value.Long n)
-long-found None n is = absurd (none-some n (sym is))
-long-found (Some value.Top) n is = absurd (none-some n (sym is))
-long-found (Some (value.Int m)) n is = absurd (none-some n (sym is))
-long-found (Some (value.Long m)) n is = ap (λ k. Some (value.Long k)) (sym (same_Some _ _ is))
-long-found (Some (value.Ref cell)) n is = absurd (none-some n (sym is))
-
 -- ---- how many words a value has
 
 pub one-kind-word : (k : Kind) → k ≢ kind.Long → 1 ≡ kind_words k

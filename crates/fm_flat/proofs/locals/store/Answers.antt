@@ -1,25 +1,24 @@
-use Rattle.std.proofs.Common.{◌-◌, ap, subst}
+use Rattle.std.proofs.Common.{ap, subst}
 use Rattle.fm_code.specs.declared.operations.Reg.TheVariants as reg
 use Rattle.fm_exec.proofs.Seen.{carried}
-use Rattle.fm_exec.specs.Steps.{reg_words}
 use Rattle.fm_flat.proofs.locals.store.Goals as goal
 use Rattle.fm_flat.specs.Flows.{on, stepped_on}
-use Rattle.fm_flat.specs.Operands.{HasWord}
+use Rattle.fm_flat.specs.Operands.{HasWordOf}
 use Rattle.fm_frames.specs.NumberRows.{store_effect}
 
-pub store_word-requires-clause-there : goal.store_word-requires-clause-there
-store_word-requires-clause-there c = subst (λ r. HasWord c.args.frames.now (reg_words r - 1)) c.in-Int.is c.requires.there
+pub store_int-requires-clause-there : goal.store_int-requires-clause-there
+store_int-requires-clause-there c = subst (λ r. HasWordOf r c.args.frames.now) c.in-Int.is c.requires.there
 
 pub store_long-requires-clause-there : goal.store_long-requires-clause-there
-store_long-requires-clause-there c = subst (λ r. HasWord c.args.frames.now (reg_words r - 1)) c.in-Long.is c.requires.there
+store_long-requires-clause-there c = subst (λ r. HasWordOf r c.args.frames.now) c.in-Long.is c.requires.there
 
-pub store_word-requires-in-Ref-clause-there : goal.store_word-requires-in-Ref-clause-there
-store_word-requires-in-Ref-clause-there c = subst (λ r. HasWord c.args.frames.now (reg_words r - 1)) c.in-Ref.is c.requires.there
+pub store_cell-requires-clause-there : goal.store_cell-requires-clause-there
+store_cell-requires-clause-there c = subst (λ r. HasWordOf r c.args.frames.now) c.in-Ref.is c.requires.there
 
 pub returns-in-Int-clause-did : goal.returns-in-Int-clause-did
 returns-in-Int-clause-did c told p choose x =
-    carried p choose (on x c.args.frames.now) (stepped_on x c.store_word.new.frames) (store_effect c.args.kind c.args.place) (store_effect reg.Int c.args.place)
-    (ap (λ r. store_effect r c.args.place) c.in-Int.is) (c.store_word.ensures.did told p choose x)
+    carried p choose (on x c.args.frames.now) (stepped_on x c.store_int.new.frames) (store_effect c.args.kind c.args.place) (store_effect reg.Int c.args.place)
+    (ap (λ r. store_effect r c.args.place) c.in-Int.is) (c.store_int.ensures.did told p choose x)
 
 pub returns-in-Long-clause-did : goal.returns-in-Long-clause-did
 returns-in-Long-clause-did c told p choose x =
@@ -29,5 +28,5 @@ returns-in-Long-clause-did c told p choose x =
 pub returns-in-Ref-clause-did : goal.returns-in-Ref-clause-did
 unfolding store_effect
 returns-in-Ref-clause-did c told p choose x =
-    carried p choose (on x c.args.frames.now) (stepped_on x c.store_word-in-Ref.new.frames) (store_effect c.args.kind c.args.place) (store_effect reg.Ref c.args.place)
-    (ap (λ r. store_effect r c.args.place) c.in-Ref.is) (c.store_word-in-Ref.ensures.did told p choose x)
+    carried p choose (on x c.args.frames.now) (stepped_on x c.store_cell.new.frames) (store_effect c.args.kind c.args.place) (store_effect reg.Ref c.args.place)
+    (ap (λ r. store_effect r c.args.place) c.in-Ref.is) (c.store_cell.ensures.did told p choose x)

@@ -1,6 +1,7 @@
 use Rattle.std.proofs.Common.{◌≡◌, Some, slice_get, ap, sym, ◌∙◌, arith, to_z, of_z, w32}
 use Rattle.std.proofs.lemmas.Int.{ints, to_z-of_z}
-use Rattle.fm_flat_cells.proofs.CellSteps.{int-found, one-element-word}
+use Rattle.fm_flat.proofs.FlowSteps.{int-found}
+use Rattle.fm_flat_cells.proofs.CellSteps.{one-element-word}
 use Rattle.fm_flat_cells.proofs.arrays.store_of.Goals as goal
 use Rattle.fm_frames.specs.declared.values.Value.TheVariants as value
 use Rattle.fm_frames.specs.inner.Frames.{stack_in}

@@ -1,7 +1,8 @@
 use Rattle.std.proofs.Common.{◌≡◌, Some, slice_get, ap, sym, ◌∙◌, arith, rules, to_z, of_z, w32, w64}
 use Rattle.std.proofs.lemmas.Int.{ints, to_z-of_z}
 use Rattle.fm_exec.proofs.FieldSteps.{field-kind}
-use Rattle.fm_flat_cells.proofs.CellSteps.{int-found, long-found, one-kind-word}
+use Rattle.fm_flat.proofs.FlowSteps.{int-found, long-found}
+use Rattle.fm_flat_cells.proofs.CellSteps.{one-kind-word}
 use Rattle.fm_flat_cells.proofs.fields.put_field.Goals as goal
 use Rattle.fm_frames.specs.declared.values.Value.TheVariants as value
 use Rattle.fm_frames.specs.inner.Frames.{stack_in}
