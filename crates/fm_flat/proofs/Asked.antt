@@ -3,6 +3,10 @@ use Rattle.std.proofs.Common.{◌≡◌, ◌≢◌, ℕ, ℤ, true, List, [], �
 use Rattle.std.proofs.lemmas.Bool.{false≢true}
 use Rattle.std.proofs.lemmas.Option.{none-some}
 use Rattle.fm_base.proofs.OptionFacts.{cond-some_then, option_and_then-some, option_map-some}
+use Rattle.fm_base.specs.declared.ids.FieldId.{FieldId}
+use Rattle.fm_base.specs.declared.ids.TypeId.{TypeId}
+use Rattle.fm_base.specs.declared.kinds.Kind.{Kind}
+use Rattle.fm_base.specs.declared.kinds.Kind.TheVariants as kind
 use Rattle.fm_base.specs.declared.kinds.TypeRef.{TypeRef}
 use Rattle.fm_cells.specs.declared.answers.Cell.{Cell}
 use Rattle.fm_code.specs.declared.instructions.Insn.{Insn}
@@ -13,21 +17,22 @@ use Rattle.fm_code.specs.declared.operations.Elem.{Elem}
 use Rattle.fm_code.specs.declared.operations.Elem.TheVariants as elem
 use Rattle.fm_code.specs.declared.operations.Reg.{Reg}
 use Rattle.fm_code.specs.declared.operations.Reg.TheVariants as reg
-use Rattle.fm_flat.specs.Operands.{AsksOf, AsksOfConversion, AsksOfStore, HasInt, HasLocalOf, HasReference, HasWord, HasWordOf}
+use Rattle.fm_flat.specs.Operands.{AsksOf, AsksOfConversion, AsksOfPut, AsksOfStore, HasInt, HasLocalOf, HasReference, HasWord, HasWordOf}
 use Rattle.fm_frames.specs.States.{Frame, word_at}
 use Rattle.fm_frames.specs.declared.values.Value.{Value}
 use Rattle.fm_frames.specs.declared.values.Value.TheVariants as value
 use Rattle.fm_sound.proofs.KindLemmas.{as_local, int_local, local_kind, local_kind_or, taken_rest, taken_words}
 use Rattle.fm_sound.specs.Sound.{FrameHasKinds, HasKind, HaveKinds, IsReference, LocalHasKind}
 use Rattle.fm_types.specs.ArrayRows.{array_load_row, array_store_row, element_of, is_array_of, length_row, null_element, on_array}
-use Rattle.fm_types.specs.Fits.{object_of}
+use Rattle.fm_types.specs.Fits.{fits, object_of}
 use Rattle.fm_types.specs.Named.{field_words, object_slot}
 use Rattle.fm_types.specs.NumberRows.{convert_row, increment_row, is_int, load_row, loaded, move_row, store_row, suits}
-use Rattle.fm_types.specs.ObjectRows.{get_field_row}
+use Rattle.fm_types.specs.ObjectRows.{get_field_row, put_field_row, takes_field}
 use Rattle.fm_types.specs.Rows.{row_after}
-use Rattle.fm_types.specs.States.{is_long, is_reference, is_whole, local_at, pushed, taken, TypeState, worked, worked_below}
+use Rattle.fm_types.specs.States.{is_long, is_reference, is_whole, local_at, pushed, stack_slots, taken, TypeState, worked, worked_below}
 use Rattle.fm_types.specs.declared.slots.Slot.{Slot}
 use Rattle.fm_types.specs.declared.slots.Slot.TheVariants as slot
+use Rattle.fm_world.specs.Members.{field_at, field_kind}
 use Rattle.fm_world.specs.Numbers.{type_of_class}
 use Rattle.fm_world.specs.Programs.{Outline}
 use Rattle.fm_world.specs.declared.uses.Use.{Use}
@@ -98,6 +103,18 @@ array-cell : (passes : TypeRef → Bool) (null : List Slot) (given : TypeRef →
 array-cell passes null given slot.Null slots v is h = cell-of v h
 array-cell passes null given (slot.Ref t) slots v is h = cell-of v h
 array-cell passes null given s slots v is h = absurd (none-some slots is)
+
+-- each slot with which something follows has a reference
+abbrev IsOfCells : (Slot → Option (List Slot)) → Type 0
+IsOfCells given = (s : Slot) (slots : List Slot) (v : Value) → given s ≡ Some slots → HasKind s v → (cell : Cell) × (v ≡ value.Ref cell)
+
+-- so it is where a field is put
+receiver-cell : (o : Outline) (method field : ℕ) (named : TypeRef) → IsOfCells (takes_field o method field named)
+unfolding fits
+receiver-cell o method field named slot.Top slots v is h = absurd (none-some slots is)
+receiver-cell o method field named slot.Int slots v is h = absurd (none-some slots is)
+receiver-cell o method field named slot.Long slots v is h = absurd (none-some slots is)
+receiver-cell o method field named s slots v is h = cell-of v h
 
 top-left : (n : ℕ) (words : List Value) → slice_get (drop n words) 0 ≡ slice_get words n
 top-left zero words = refl
@@ -205,23 +222,27 @@ module _ (o : Outline) (s : TypeState) (f : Frame) (callers : List Frame) (h : F
   below_of given [] = None
   below_of given (below ∷ stack) = option_map (λ slots. record s { stack = slots ++ stack }) (given below)
 
-  array-left : (passes : TypeRef → Bool) (null : List Slot) (given : TypeRef → List Slot) (rest : List Slot) (words : List Value)
-      → below_of (on_array passes null given) rest ≡ Some after → HaveKinds rest words → (cell : Cell) × (slice_get words 0 ≡ Some (value.Ref cell))
-  array-left passes null given [] words row kinds = absurd (none-some after row)
-  array-left passes null given (below ∷ stack) [] row kinds = absurd kinds
-  array-left passes null given (below ∷ stack) (v ∷ words) row kinds =
-      let slots = option_map-some (λ slots. record s { stack = slots ++ stack }) (on_array passes null given below) after row in
-      let c = array-cell passes null given below slots.0 v slots.1 kinds.0 in
+  left-cell : (given : Slot → Option (List Slot)) → IsOfCells given → (rest : List Slot) (words : List Value) → below_of given rest ≡ Some after
+      → HaveKinds rest words → (cell : Cell) × (slice_get words 0 ≡ Some (value.Ref cell))
+  left-cell given cells [] words row kinds = absurd (none-some after row)
+  left-cell given cells (below ∷ stack) [] row kinds = absurd kinds
+  left-cell given cells (below ∷ stack) (v ∷ words) row kinds =
+      let slots = option_map-some (λ slots. record s { stack = slots ++ stack }) (given below) after row in
+      let c = cells below slots.0 v slots.1 kinds.0 in
       (c.0, ap Some c.1)
 
-  -- the words that are taken, and the array below them
+  -- the words that are taken, and the reference below them
+  cell-below : (wanted : List Slot) (given : Slot → Option (List Slot)) → IsOfCells given → is_whole wanted ≡ true → worked_below o wanted given s ≡ Some after
+      → HasReference (f ∷ callers) (length wanted) × HaveKinds wanted (take (length wanted) f.stack)
+  cell-below wanted given cells w row =
+      let rest = option_and_then-some (below_of given) (taken o wanted s.stack) after row in
+      let c = left-cell given cells rest.0 (drop (length wanted) f.stack) rest.2 (taken_rest o wanted s.stack rest.0 f.stack rest.1 h.in_stack) in
+      ((c.0, sym (top-left (length wanted) f.stack) ∙ c.1), taken_words o wanted s.stack rest.0 f.stack w whole rest.1 h.in_stack)
+
   array-below : (wanted : List Slot) (passes : TypeRef → Bool) (null : List Slot) (given : TypeRef → List Slot) → is_whole wanted ≡ true
       → worked_below o wanted (on_array passes null given) s ≡ Some after
       → HasReference (f ∷ callers) (length wanted) × HaveKinds wanted (take (length wanted) f.stack)
-  array-below wanted passes null given w row =
-      let rest = option_and_then-some (below_of (on_array passes null given)) (taken o wanted s.stack) after row in
-      let c = array-left passes null given rest.0 (drop (length wanted) f.stack) rest.2 (taken_rest o wanted s.stack rest.0 f.stack rest.1 h.in_stack) in
-      ((c.0, sym (top-left (length wanted) f.stack) ∙ c.1), taken_words o wanted s.stack rest.0 f.stack w whole rest.1 h.in_stack)
+  array-below wanted passes null given w row = cell-below wanted (on_array passes null given) (array-cell passes null given) w row
 
   elements-loaded : (e : Elem) → array_load_row o e s ≡ Some after → HasReference (f ∷ callers) 1 × HasInt (f ∷ callers) 0
   unfolding array_load_row
@@ -252,6 +273,32 @@ module _ (o : Outline) (s : TypeState) (f : Frame) (callers : List Frame) (h : F
       let numbers = int-below f.stack found.1 in
       (found.0, numbers.0, numbers.1)
   elements-stored elem.Ref row = tt
+
+  -- ---- fields that are put
+
+  int-put : (given : Slot → Option (List Slot)) → IsOfCells given → worked_below o (slot.Int ∷ []) given s ≡ Some after
+      → HasReference (f ∷ callers) 1 × HasInt (f ∷ callers) 0
+  int-put given cells row = let found = cell-below (slot.Int ∷ []) given cells refl row in (found.0, one-int f.stack found.1)
+
+  value-put : (k : Kind) (given : Slot → Option (List Slot)) → IsOfCells given → worked_below o (stack_slots (k ∷ [])) given s ≡ Some after
+      → AsksOfPut k (f ∷ callers)
+  value-put kind.Long given cells row =
+      let found = cell-below (slot.Top ∷ slot.Long ∷ []) given cells refl row in (found.0, one-long f.stack found.1)
+  value-put (kind.Ref t) given cells row =
+      let found = cell-below (slot.Ref t ∷ []) given cells refl row in (found.0, one-reference t f.stack found.1)
+  value-put kind.Boolean given cells row = int-put given cells row
+  value-put kind.Byte given cells row = int-put given cells row
+  value-put kind.Char given cells row = int-put given cells row
+  value-put kind.Short given cells row = int-put given cells row
+  value-put kind.Int given cells row = int-put given cells row
+
+  -- where the row of putfield is met
+  pub put-asked : (method : ℕ) (g : FieldId) (t : TypeId) → put_field_row o method (resolved.OfField g t) s ≡ Some after
+      → AsksOfPut (field_kind o.classes (field_at o.classes g.0).field) (f ∷ callers)
+  unfolding put_field_row
+  put-asked method g t row =
+      let named = option_and_then-some (λ (named : TypeRef). worked_below o (field_words o g.0) (takes_field o method g.0 named) s) (slice_get o.types t.0) after row in
+      value-put (field_kind o.classes (field_at o.classes g.0).field) (takes_field o method g.0 named.0) (receiver-cell o method g.0 named.0) named.2
 
   -- where the checker's row is met
   pub asked : (method item : ℕ) (news : ℕ → Option TypeRef) (u : Use) (i : Insn) → row_after o method item news u i s ≡ Some after → AsksOf i (f ∷ callers)

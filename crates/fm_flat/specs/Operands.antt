@@ -1,5 +1,7 @@
 -- What rows ask of the words that they look at, which typed code has there.
 use Rattle.std.specs.Prelude.{◌≡◌, ◌≢◌, ℕ, ℤ, List, Some, slice_get}
+use Rattle.fm_base.specs.declared.kinds.Kind.{Kind}
+use Rattle.fm_base.specs.declared.kinds.Kind.TheVariants as kind
 use Rattle.fm_cells.specs.declared.answers.Cell.{Cell}
 use Rattle.fm_code.specs.declared.instructions.Insn.{Insn}
 use Rattle.fm_code.specs.declared.instructions.Insn.TheVariants as insn
@@ -64,6 +66,12 @@ abbrev pub AsksOfStore : Elem → List Frame → Type 0
 AsksOfStore elem.Long frames = HasReference frames 3 × HasInt frames 2 × HasLong frames 1
 AsksOfStore elem.Ref frames = Unit {0}
 AsksOfStore e frames = HasReference frames 2 × HasInt frames 1 × HasInt frames 0
+
+-- what putfield asks where the field is of the kind: an object below a value of the kind (JVMS 6.5.putfield)
+abbrev pub AsksOfPut : Kind → List Frame → Type 0
+AsksOfPut kind.Long frames = HasReference frames 2 × HasLong frames 1
+AsksOfPut (kind.Ref t) frames = HasReference frames 1 × HasReference frames 0
+AsksOfPut k frames = HasReference frames 1 × HasInt frames 0
 
 -- what the row of an instruction asks of the topmost frame (JVMS 4.9.2)
 abbrev pub AsksOf : Insn → List Frame → Type 0

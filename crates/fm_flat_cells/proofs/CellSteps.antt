@@ -1,8 +1,8 @@
 -- Steps of a machine whose frames are out, by what was found in its cells.
-use Rattle.std.proofs.Common.{◌≡◌, ◌≢◌, ℕ, ◌+◌, ℤ, List, [], ◌∷◌, Option, Some, None, slice_get, false, ap, refl, sym}
-use Rattle.std.proofs.lemmas.Option.{none-some, same_Some}
+use Rattle.std.proofs.Common.{◌≡◌, ◌≢◌, ℕ, ◌+◌, ℤ, List, [], ◌∷◌, Option, Some, slice_get, false, ap, refl}
 use Rattle.fm_base.specs.declared.kinds.Kind.{Kind}
 use Rattle.fm_base.specs.declared.kinds.Kind.TheVariants as kind
+use Rattle.fm_base.specs.declared.kinds.TypeRef.{TypeRef}
 use Rattle.fm_cells.specs.declared.answers.Cell.{Cell}
 use Rattle.fm_cells.specs.declared.answers.Head.{Head}
 use Rattle.fm_code.specs.declared.operations.Elem.{Elem}
@@ -10,6 +10,7 @@ use Rattle.fm_code.specs.declared.operations.Elem.TheVariants as elem
 use Rattle.fm_exec.proofs.HeldSteps.{object-found, Seen}
 use Rattle.fm_flat.proofs.FlowSteps.{seen-on, took, word-on}
 use Rattle.fm_flat.specs.Flows.{resumed, with_branched}
+use Rattle.fm_flat.specs.Operands.{AsksOfPut, HasInt, HasReference}
 use Rattle.fm_frames.proofs.Acting.{put-done}
 use Rattle.fm_frames.specs.Acts.{Choose, put_value}
 use Rattle.fm_frames.specs.ArrayRows.{element_words}
@@ -17,8 +18,7 @@ use Rattle.fm_frames.specs.Effects.{OfOperand, Put, acting}
 use Rattle.fm_frames.specs.States.{Frame, ref, State, word_at}
 use Rattle.fm_frames.specs.Steps.{stack_of}
 use Rattle.fm_frames.specs.declared.values.Value.{Value}
-use Rattle.fm_frames.specs.declared.values.Value.TheVariants as value
-use Rattle.fm_frames.specs.inner.Doings.{DoesIn, int_in, long_in, NextFits}
+use Rattle.fm_frames.specs.inner.Doings.{DoesIn, int_in, NextFits}
 use Rattle.fm_frames.specs.inner.Frames.{on_top, stack_in}
 use Rattle.fm_frames.specs.inner.Looks.{look_at, object_in}
 use Rattle.fm_world.specs.Descriptors.{kind_words}
@@ -69,3 +69,14 @@ one-element-word elem.Char other = refl
 one-element-word elem.Short other = refl
 one-element-word elem.Int other = refl
 one-element-word elem.Ref other = refl
+
+-- what putfield asks where the kind is neither Long nor a reference
+pub one-word-asks : (k : Kind) (frames : List Frame) → k ≢ kind.Long → ((t : TypeRef) → k ≢ kind.Ref t) → AsksOfPut k frames
+    → HasReference frames 1 × HasInt frames 0
+one-word-asks kind.Long frames long reference asks = absurd (long refl)
+one-word-asks (kind.Ref t) frames long reference asks = absurd (reference t refl)
+one-word-asks kind.Boolean frames long reference asks = asks
+one-word-asks kind.Byte frames long reference asks = asks
+one-word-asks kind.Char frames long reference asks = asks
+one-word-asks kind.Short frames long reference asks = asks
+one-word-asks kind.Int frames long reference asks = asks

@@ -4,7 +4,7 @@ ghost use Rattle.std.specs.Prelude.{◌≡◌, ◌-◌, ◌<◌, true, false, So
 ghost use Rattle.fm_exec.specs.Holding.{HoldsField, TakesField};
 ghost use Rattle.fm_exec.specs.Steps.{seen};
 ghost use Rattle.fm_flat.specs.Flows.{on};
-ghost use Rattle.fm_flat.specs.Operands.{HasReference};
+ghost use Rattle.fm_flat.specs.Operands.{AsksOfPut, HasReference};
 ghost use Rattle.fm_flat_cells.specs.FlowsOver.{FlowsOver};
 ghost use Rattle.fm_frames.specs.ObjectRows.{get_field_effect, kind_of_field, put_field_effect};
 ghost use Rattle.fm_frames.specs.Runnable.{IsRunnable};
@@ -16,10 +16,10 @@ ghost use Rattle.fm_world.specs.Descriptors.{kind_words};
 ghost use Rattle.fm_world.specs.Members.{fields_of};
 ghost use Rattle.fm_world.specs.declared.uses.Use.TheVariants as used;
 
-use crate::operands::{give_kind, object_at, object_there, take};
+use crate::operands::{give_kind, object_there, take};
 use fm_base::{FieldId, Kind, TypeId};
 use fm_cells::Memory;
-use fm_flat::{int_operand, long_operand};
+use fm_flat::{cell_there, int_there, long_there};
 use fm_frames::{Frames, Machine, Value, type_numbered};
 use fm_types::fits_type;
 use fm_world::Program;
@@ -107,6 +107,7 @@ fn put_value<M: Memory>(
     requires field { f.0 < length (fields_of program.now.outline.classes) }
     requires named { named.0 < length program.now.outline.types }
     requires takes { TakesField program.now (on machine.old frames.old) f.0 named.0 }
+    requires object { HasReference frames.old words }
     requires kind { kind ≡ kind_of_field program.now.outline f.0 }
     requires words { words ≡ kind_words kind }
     requires value { slice_get (stack_in frames.old) (words - 1) ≡ Some value }
@@ -117,7 +118,7 @@ fn put_value<M: Memory>(
     ensures kept { result ≡ false → machine.new ≡ machine.old }
     ensures ended { machine.new.ended ≡ machine.old.ended }
 {
-    let Some((cell, head)) = object_at(machine, frames, words) else {
+    let Some((cell, head)) = object_there(machine, frames, words) else {
         return false;
     };
     if head.pack != FIELD_PACK {
@@ -145,6 +146,7 @@ pub fn put_field<M: Memory>(
     requires fits { NextFits frames.old }
     requires field { f.0 < length (fields_of program.now.outline.classes) }
     requires named { named.0 < length program.now.outline.types }
+    requires asks { AsksOfPut (kind_of_field program.now.outline f.0) frames.old }
     requires takes { TakesField program.now (on machine.old frames.old) f.0 named.0 }
     ensures did { result ≡ true → FlowsOver program.now M.choose machine.old frames.old
         machine.new frames.new
@@ -156,15 +158,11 @@ pub fn put_field<M: Memory>(
     let kind = program.field(f).kind;
     match kind {
         Kind::Long => {
-            let Some(n) = long_operand(frames, 1) else {
-                return false;
-            };
+            let n = long_there(frames, 1);
             put_value(machine, frames, program, f, named, kind, 2, Value::Long(n))
         }
         Kind::Ref(_) => {
-            let Some(Value::Ref(cell)) = frames.operand(0) else {
-                return false;
-            };
+            let cell = cell_there(frames, 0);
             put_value(
                 machine,
                 frames,
@@ -177,15 +175,11 @@ pub fn put_field<M: Memory>(
             )
         }
         Kind::Int => {
-            let Some(n) = int_operand(frames, 0) else {
-                return false;
-            };
+            let n = int_there(frames, 0);
             put_value(machine, frames, program, f, named, kind, 1, Value::Int(n))
         }
         _ => {
-            let Some(n) = int_operand(frames, 0) else {
-                return false;
-            };
+            let n = int_there(frames, 0);
             put_value(machine, frames, program, f, named, kind, 1, Value::Int(n))
         }
     }

@@ -2,8 +2,8 @@
 //
 // Each row does the whole step of its instruction, or tells that it did nothing: where an object isn't there
 // or isn't of the type that the instruction asks, an index is outside, or there is no room for a word. That
-// operands are words of their kinds is asked for, and not tested, but by putfield. None makes or frees an
-// object, ends the run or changes how many frames there are.
+// operands are words of their kinds is asked for, and not tested. None makes or frees an object, ends the run
+// or changes how many frames there are.
 #![tactic(auto)]
 
 mod arrays;

@@ -1,6 +1,6 @@
 // What rows of cells do with the topmost frame.
 
-ghost use Rattle.std.specs.Prelude.{◌≡◌, ◌<◌, true, false, slice_get};
+ghost use Rattle.std.specs.Prelude.{◌≡◌, ◌<◌, true, false, Some, slice_get};
 ghost use Rattle.fm_flat.specs.Flows.{with_branched};
 ghost use Rattle.fm_flat.specs.Operands.{HasReference};
 ghost use Rattle.fm_flat_cells.specs.inner.Gives.{Gives};
@@ -13,6 +13,20 @@ use fm_cells::{Cell, Head, Memory};
 use fm_flat::{cell_there, give, give_wide};
 use fm_frames::{Frames, Machine, Value};
 
+// The object of a reference, by its cell and its head; none where there is no object.
+#[inline(always)]
+fn object_of<M: Memory>(machine: &Machine<M>, cell: Cell) -> Option<(Cell, Head)>
+    ensures { result ≡ object_in (look_at machine.now.areas.store (Some (Value.Ref cell))) }
+{
+    if cell.0 == 0 {
+        return None;
+    }
+    match machine.head(cell) {
+        Some(head) => Some((cell, head)),
+        None => None,
+    }
+}
+
 /// The object of the operand at this place, by its cell and its head; none where there is no object. Takes no
 /// memory.
 #[inline(always)]
@@ -24,19 +38,13 @@ pub fn object_at<M: Memory>(
     ensures { result ≡ object_in (look_at machine.now.areas.store
         (slice_get (stack_in frames.now) place)) }
 {
-    let Some(Value::Ref(cell)) = frames.operand(place) else {
-        return None;
-    };
-    if cell.0 == 0 {
-        return None;
-    }
-    match machine.head(cell) {
-        Some(head) => Some((cell, head)),
-        None => None,
+    match frames.operand(place) {
+        Some(Value::Ref(cell)) => object_of(machine, cell),
+        _ => None,
     }
 }
 
-// The object of the reference at this place, by its cell and its head; none where there is no object.
+// The same where the operand is a reference.
 #[inline(always)]
 pub(crate) fn object_there<M: Memory>(
     machine: &Machine<M>,
@@ -48,13 +56,7 @@ pub(crate) fn object_there<M: Memory>(
         (slice_get (stack_in frames.now) place)) }
 {
     let cell = cell_there(frames, place);
-    if cell.0 == 0 {
-        return None;
-    }
-    match machine.head(cell) {
-        Some(head) => Some((cell, head)),
-        None => None,
-    }
+    object_of(machine, cell)
 }
 
 // Puts a value of a kind in place of so many words, if they are there and there is room for it, and goes on
