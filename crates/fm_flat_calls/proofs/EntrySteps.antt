@@ -1,41 +1,48 @@
 -- Calls and returns over frames that are taken out of a machine.
 use Rattle.std.proofs.Common.{◌≡◌, ℕ, ◌+◌, ◌-◌, Bool, false, not, List, [], Option, Some, None, filter, length, option_and_then, option_map, slice_get, refl, ap, sym, ◌∙◌, subst, arith, ◌<◌}
-use Rattle.std.proofs.lemmas.Option.{none-some, same_Some}
+use Rattle.std.proofs.lemmas.Option.{none-some, same_Some, slice_get-get_or}
 use Rattle.fm_base.specs.declared.ids.MethodId.{MethodId}
 use Rattle.fm_base.specs.declared.ids.TypeId.{TypeId}
 use Rattle.fm_base.specs.declared.kinds.TypeRef.{TypeRef}
 use Rattle.fm_calls.proofs.CallSteps.{plain-start}
 use Rattle.fm_calls.proofs.PlainEffects.{entered-plain}
+use Rattle.fm_calls.proofs.SelectSteps.{special-entered, special-seen}
 use Rattle.fm_calls.proofs.StartSteps.{no-methods}
 use Rattle.fm_calls.specs.inner.Starting.{with_first}
 use Rattle.fm_cells.specs.declared.answers.Cell.{Cell}
 use Rattle.fm_cells.specs.declared.answers.Head.{Head}
 use Rattle.fm_code.specs.declared.code_array.Code.{Code}
+use Rattle.fm_code.specs.declared.instructions.Insn.TheVariants as insn
 use Rattle.fm_exec.proofs.HeldSteps.{Seen}
 use Rattle.fm_exec.proofs.ObjectSteps.{static-coded}
+use Rattle.fm_exec.proofs.Seen.{carried}
 use Rattle.fm_exec.specs.Steps.{seen, Steps}
 use Rattle.fm_flat.proofs.FlowSteps.{seen-on}
-use Rattle.fm_flat.specs.Flows.{resumed}
+use Rattle.fm_flat.specs.Flows.{Flows, resumed}
 use Rattle.fm_flat_calls.specs.inner.Entries.{Enters}
 use Rattle.fm_flat_cells.proofs.CellSteps.{found-over}
 use Rattle.fm_frames.proofs.Calling.{called-one, left-caller}
 use Rattle.fm_frames.specs.Acts.{Choose}
-use Rattle.fm_frames.specs.CallRows.{entered, entered_as, static_effect, words_of_arguments}
-use Rattle.fm_frames.specs.Effects.{Calls, Returns, going}
-use Rattle.fm_frames.specs.Natives.{native_of_row}
+use Rattle.fm_frames.specs.CallRows.{entered, entered_as, native_of, special_effect, static_effect, words_of_arguments}
+use Rattle.fm_frames.specs.Effects.{Calls, Returns, going, words}
+use Rattle.fm_frames.specs.Natives.{ObjectInit, native_of_row}
+use Rattle.fm_frames.specs.NumberRows.{move_effect}
 use Rattle.fm_frames.specs.ObjectRows.{starting}
 use Rattle.fm_frames.specs.Starts.{is_started, start_actions, start_methods, to_start, with_start}
 use Rattle.fm_frames.specs.States.{Frame, State}
 use Rattle.fm_frames.specs.Steps.{is_start, max_locals_of, stack_of}
+use Rattle.fm_frames.specs.Sights.{type_numbered}
 use Rattle.fm_frames.specs.declared.looks.Look.{Look}
 use Rattle.fm_frames.specs.declared.looks.Look.TheVariants as look
-use Rattle.fm_frames.specs.inner.Doings.{DoesIn, NextFits, silent}
+use Rattle.fm_frames.specs.inner.Doings.{DoesIn, NextFits}
 use Rattle.fm_frames.specs.inner.Frames.{place_of, stack_in, topmost, with_called, with_result}
 use Rattle.fm_frames.specs.inner.Looks.{look_at, object_in}
+use Rattle.fm_native.proofs.Rows.{init-is}
 use Rattle.fm_types.specs.Named.{class_of_method}
-use Rattle.fm_world.specs.Chains.{chain_of}
+use Rattle.fm_world.specs.Lookups.{special_target}
 use Rattle.fm_world.specs.Members.{method_at}
-use Rattle.fm_world.specs.Programs.{code_at, Outline, Program}
+use Rattle.fm_world.specs.Numbers.{type_of_class}
+use Rattle.fm_world.specs.Programs.{class_of_type, code_at, Outline, Program}
 use Rattle.fm_world.specs.declared.uses.Use.TheVariants as used
 
 -- ---- a method is entered
@@ -128,3 +135,32 @@ receiver-looked x frames steps words operand place cell head many at is =
     seen-on (record x { steps = steps }) frames operand (λ v. look_at x.areas.store v) (look.Object cell head)
     (object-look (look_at x.areas.store (slice_get (stack_in frames) place)) cell head is
     ∙ ap (λ n. look_at x.areas.store (slice_get (stack_in frames) n)) here)
+
+-- ---- invokespecial
+
+-- the method that was found is entered, whatever object the receiver is
+pub special-over : (p : Program) (x : State) (frames : List Frame) (steps caller words place : ℕ) (m target : MethodId) (named : TypeId) (cell : Cell)
+    (head : Head) (byte : Option ℕ) → named.0 < length p.outline.types → words ≡ words_of_arguments p.outline m.0 + 1 → place ≡ words - 1
+    → Some (cell, head) ≡ object_in (look_at x.areas.store (slice_get (stack_in frames) place))
+    → target.0 ≡ special_target p.outline.classes (class_of_method p.outline caller) (class_of_type (type_numbered p.outline named.0)) m.0
+    → special_effect p.outline caller (used.OfMethod m named) byte (seen p (resumed x frames steps))
+    ≡ entered p.outline (words_of_arguments p.outline m.0 + 1) (Some target.0) byte (seen p (resumed x frames steps))
+special-over p x frames steps caller words place m target named cell head byte inside many at is found =
+    let o = p.outline in
+    let a = words_of_arguments o m.0 in
+    let t = type_numbered o named.0 in
+    let s = seen p (resumed x frames steps) in
+    special-seen o x.areas.store (stack_of (resumed x frames steps)) caller m named t byte a (look.Object cell head)
+    (slice_get-get_or o.types named.0 (type_of_class 0) inside) refl (receiver-looked x frames steps words a place cell head many at is)
+    ∙ special-entered o caller m target t byte s found
+
+-- the constructor of Object takes its receiver
+pub begun-as : (p : Program) (choose : Choose) (x : State) (old new : List Frame) (given target : ℕ) (byte : Option ℕ) (steps : ℕ)
+    → native_of p.outline target ≡ Some ObjectInit → Flows old new (λ p x. move_effect insn.Pop)
+    → Steps p choose (resumed x old steps) (resumed x new (steps + 1)) (entered p.outline given (Some target) byte (seen p (resumed x old steps)))
+unfolding move_effect
+begun-as p choose x old new given target byte steps built_in popped =
+    let o = p.outline in
+    let s = seen p (resumed x old steps) in
+    carried p choose (resumed x old steps) (resumed x new (steps + 1)) (entered o given (Some target) byte s) (words 1 [])
+    (ap (entered_as o given target byte s) built_in ∙ init-is o byte s) (popped p choose (record x { steps = steps }))

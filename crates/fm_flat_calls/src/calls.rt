@@ -9,11 +9,12 @@ ghost use Rattle.fm_frames.specs.inner.Doings.{NextFits};
 ghost use Rattle.fm_world.specs.Members.{methods_of};
 ghost use Rattle.fm_world.specs.declared.uses.Use.TheVariants as used;
 
-use crate::entries::{are_started, enter};
+use crate::entries::{are_started, enter, is_object_init};
 use fm_base::{MethodId, TypeId};
 use fm_calls::{selected, special_method, words_with_receiver};
 use fm_cells::Memory;
 use fm_exec::{argument_words, fits_named, type_in};
+use fm_flat::pop;
 use fm_flat_cells::object_at;
 use fm_frames::{Frames, Machine};
 use fm_world::Program;
@@ -134,5 +135,9 @@ pub fn special_call<M: Memory>(
         return false;
     };
     let target = special_method(program, caller, m, named);
+    if is_object_init(program, target) {
+        pop(frames);
+        return true;
+    }
     enter(machine, frames, program, words, target)
 }

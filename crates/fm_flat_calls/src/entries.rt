@@ -1,7 +1,9 @@
 // Methods that have code are entered, and the classes that have to be started before.
 
-ghost use Rattle.std.specs.Prelude.{◌≡◌, true, false, [], filter, not};
+ghost use Rattle.std.specs.Prelude.{◌≡◌, true, false, [], filter, not, Some};
 ghost use Rattle.fm_flat_calls.specs.inner.Entries.{Enters};
+ghost use Rattle.fm_frames.specs.CallRows.{native_of};
+ghost use Rattle.fm_frames.specs.Natives.{ObjectInit};
 ghost use Rattle.fm_frames.specs.Runnable.{IsRunnable};
 ghost use Rattle.fm_frames.specs.Starts.{is_started};
 ghost use Rattle.fm_frames.specs.inner.Doings.{NextFits};
@@ -11,6 +13,20 @@ use fm_calls::row_of;
 use fm_cells::Memory;
 use fm_frames::{Frames, Machine, code_of};
 use fm_world::Program;
+
+// The row of the constructor of Object, the first one of the built-in methods.
+const OBJECT_INIT: u16 = 0;
+
+// Whether a method is the constructor of Object, which each object's making calls and which does nothing.
+#[inline(always)]
+pub(crate) fn is_object_init(program: &Program, m: MethodId) -> bool
+    ensures { result ≡ true → native_of program.now.outline m.0 ≡ Some ObjectInit }
+{
+    match row_of(program, m) {
+        Some(row) => row == OBJECT_INIT,
+        None => false,
+    }
+}
 
 // Whether all of the classes have started.
 pub(crate) fn are_started<M: Memory>(

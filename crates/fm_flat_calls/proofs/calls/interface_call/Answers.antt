@@ -1,4 +1,4 @@
-use Rattle.std.proofs.Common.{◌≡◌, ◌+◌, true, Some, get_or, refl, sym, subst, rules}
+use Rattle.std.proofs.Common.{◌≡◌, ◌+◌, true, Some, refl, sym, subst, rules}
 use Rattle.fm_calls.proofs.SelectSteps.{interface-selected}
 use Rattle.fm_exec.specs.Steps.{Steps}
 use Rattle.fm_flat.specs.Flows.{resumed}
