@@ -7,8 +7,8 @@ ghost use Rattle.fm_frames.specs.NumberRows.{increment_effect, load_effect, stor
 ghost use Rattle.fm_frames.specs.inner.Doings.{NextFits};
 
 use crate::operands::{
-    cell_there, give_wide, int_there, local_cell, local_int, local_there, long_there, push, put_local,
-    put_wide_local,
+    cell_there, give_wide, int_there, local_cell, local_int, local_there, long_there, push,
+    put_local, put_wide_local,
 };
 use fm_code::Reg;
 use fm_exec::int_sum;

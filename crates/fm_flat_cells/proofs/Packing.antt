@@ -1,6 +1,7 @@
 -- What the packing of an object tells of its type, and what the kinds of its elements are.
-use Rattle.std.proofs.Common.{◌≡◌, ◌≢◌, ℕ, ◌-◌, ◌==◌, ◌&&◌, Bool, true, false, Some, if◌then◌else◌, refl, ap, ◌∙◌, subst, arith}
-use Rattle.std.proofs.lemmas.Bool.{and_parts, eqb-true, false≢true}
+use Rattle.std.proofs.Common.{◌≡◌, ◌≢◌, ℕ, ◌-◌, ◌==◌, ◌&&◌, Bool, true, false, Some, if◌then◌else◌, refl, ap, ◌∙◌, subst, arith, zero, suc, ◌<◌}
+use Rattle.std.proofs.lemmas.Bool.{and_parts, eqb-true, false≢true, ltb-true, ne_eqb}
+use Rattle.fm_base.specs.declared.ids.ClassId.{ClassId}
 use Rattle.fm_base.specs.declared.kinds.Base.{Base}
 use Rattle.fm_base.specs.declared.kinds.Base.TheVariants as base
 use Rattle.fm_base.specs.declared.kinds.Kind.TheVariants as kind
@@ -15,6 +16,7 @@ use Rattle.fm_frames.specs.ArrayRows.{element_kind}
 use Rattle.fm_frames.specs.Elements.{is_text_type, pack_of, pack_of_base}
 use Rattle.fm_frames.specs.States.{State}
 use Rattle.fm_types.specs.ArrayRows.{has_letter, is_array_of}
+use Rattle.fm_types.specs.Fits.{depth_of, depth_with}
 use Rattle.fm_world.specs.Descriptors.{kind_with}
 use Rattle.fm_world.specs.Programs.{Outline, Program}
 
@@ -85,3 +87,19 @@ pub byte-elements : (t : TypeRef) → is_array_of elem.Byte t ≡ true → t.bas
 byte-elements t is other =
     ap (λ n. kind_with n t.base) (level t (has_letter elem.Byte t.base) is)
     ∙ byte-letter t.base other (and_parts (t.dims == 1) (has_letter elem.Byte t.base) is).1
+
+deep-kind : (dims : ℕ) (b : Base) → 0 < dims → kind_with dims b ≡ kind.Ref (record { dims = dims; base = b })
+deep-kind dims b deep =
+    ap (λ (none : Bool). if none then kind_with 0 b else kind.Ref (record { dims = dims; base = b })) (ne_eqb dims 0 (λ e. absurd (omega (arith, e, deep))))
+
+class-kind : (dims : ℕ) (class : ClassId) → kind_with dims (base.OfClass class) ≡ kind.Ref (record { dims = dims; base = base.OfClass class })
+class-kind zero class = refl
+class-kind (suc dims) class = deep-kind (suc dims) (base.OfClass class) (omega arith)
+
+kind-below : (dims : ℕ) (b : Base) → 0 < depth_with dims b → kind_with (dims - 1) b ≡ kind.Ref (record { dims = dims - 1; base = b })
+kind-below dims (base.OfClass class) deep = class-kind (dims - 1) class
+kind-below dims b deep = deep-kind (dims - 1) b deep
+
+-- of an array of references they are references of one dimension less
+pub reference-elements : (t : TypeRef) → is_array_of elem.Ref t ≡ true → element_kind t ≡ kind.Ref (record { dims = t.dims - 1; base = t.base })
+reference-elements t is = kind-below t.dims t.base (ltb-true 0 (depth_of t) is)

@@ -20,7 +20,7 @@ ghost use Rattle.fm_frames.specs.inner.Frames.{stack_in};
 ghost use Rattle.fm_types.specs.ArrayRows.{is_array_of};
 
 use crate::operands::{give_kind, object_there, take};
-use fm_base::{Base, Kind, TypeId};
+use fm_base::{Base, Kind, TypeId, TypeRef};
 use fm_cells::{Head, Memory};
 use fm_code::Elem;
 use fm_exec::{element_kind, is_array_of, place_in, type_in};
@@ -31,8 +31,14 @@ use fm_world::Program;
 // How many bytes or booleans a word holds.
 const BYTE_PACK: u8 = 8;
 
+// How many chars or shorts a word holds.
+const CHAR_PACK: u8 = 4;
+
 // How many ints a word holds.
 const INT_PACK: u8 = 2;
+
+// How many longs or references a word holds.
+const LONG_PACK: u8 = 1;
 
 // A length as an int.
 #[inline(always)]
@@ -68,10 +74,19 @@ pub fn array_length<M: Memory>(machine: &Machine<M>, frames: &mut Frames, progra
 fn pack_of(e: Elem) -> u8 {
     match e {
         Elem::Boolean | Elem::Byte => BYTE_PACK,
-        Elem::Char | Elem::Short => 4,
+        Elem::Char | Elem::Short => CHAR_PACK,
         Elem::Int => INT_PACK,
-        Elem::Long | Elem::Ref => 1,
+        Elem::Long | Elem::Ref => LONG_PACK,
     }
+}
+
+// The type of the object of this head.
+#[inline(always)]
+fn type_there(program: &Program, head: Head) -> TypeRef
+    requires { IsPacked program.now head.class head.pack }
+    ensures { result ≡ type_numbered program.now.outline head.class }
+{
+    program.type_of(TypeId(head.class))
 }
 
 // Whether the object of this head is an array of such elements.
@@ -85,7 +100,7 @@ fn is_array(program: &Program, head: Head, e: Elem) -> bool
         Elem::Int => head.pack == INT_PACK,
         Elem::Byte => head.pack == BYTE_PACK,
         _ => {
-            let t = type_in(program, head);
+            let t = type_there(program, head);
             let array = is_array_of(e, t);
             array && head.pack == pack_of(e)
         }
@@ -99,10 +114,22 @@ fn byte_kind(program: &Program, head: Head) -> Kind
     requires array { is_array_of elem.Byte (type_numbered program.now.outline head.class) ≡ true }
     ensures { result ≡ element_kind (type_numbered program.now.outline head.class) }
 {
-    match program.type_of(TypeId(head.class)).base {
+    match type_there(program, head).base {
         Base::Boolean => Kind::Boolean,
         _ => Kind::Byte,
     }
+}
+
+// The kind of the references of the array of this head.
+#[inline(always)]
+fn reference_kind(program: &Program, head: Head) -> Kind
+    requires packed { IsPacked program.now head.class head.pack }
+    requires array { is_array_of elem.Ref (type_numbered program.now.outline head.class) ≡ true }
+    ensures { result ≡ element_kind (type_numbered program.now.outline head.class) }
+{
+    let t = type_there(program, head);
+    let dims = t.dims.saturating_sub(1);
+    Kind::Ref(TypeRef { dims, base: t.base })
 }
 
 // The kind of the elements of the array of this head.
@@ -115,7 +142,8 @@ fn kind_of_elements(program: &Program, head: Head, e: Elem) -> Kind
     match e {
         Elem::Int => Kind::Int,
         Elem::Byte => byte_kind(program, head),
-        _ => element_kind(type_in(program, head)),
+        Elem::Ref => reference_kind(program, head),
+        _ => element_kind(type_there(program, head)),
     }
 }
 

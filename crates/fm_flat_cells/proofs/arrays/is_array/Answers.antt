@@ -23,4 +23,4 @@ returns-in-Byte c told =
 pub returns-then-array : goal.returns-then-array
 returns-then-array c told =
     let array : c.is_array_of-array.result ≡ true = search rules in
-    ap (is_array_of c.args.e) (sym c.type_in-t.ensures.value) ∙ sym c.is_array_of-array.ensures ∙ array
+    ap (is_array_of c.args.e) (sym c.type_there-t.ensures) ∙ sym c.is_array_of-array.ensures ∙ array

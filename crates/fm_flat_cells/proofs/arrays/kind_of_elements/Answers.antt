@@ -16,5 +16,10 @@ byte_kind-requires-clause-array c =
     let t = type_numbered c.args.program.now.outline c.args.head.class in
     subst (λ (e : Elem). is_array_of e t ≡ true) c.in-Byte.is c.requires.array
 
+pub reference_kind-requires-clause-array : goal.reference_kind-requires-clause-array
+reference_kind-requires-clause-array c =
+    let t = type_numbered c.args.program.now.outline c.args.head.class in
+    subst (λ (e : Elem). is_array_of e t ≡ true) c.in-Ref.is c.requires.array
+
 pub returns-in_default : goal.returns-in_default
-returns-in_default c = c.element_kind.ensures ∙ ap element_kind c.type_in.ensures.value
+returns-in_default c = c.element_kind.ensures ∙ ap element_kind c.type_there.ensures
