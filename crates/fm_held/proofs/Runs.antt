@@ -10,18 +10,31 @@ use Rattle.fm_world.specs.Programs.{Program}
 use Rattle.fm_frames.specs.Runs.{after, Job}
 use Rattle.fm_frames.specs.Starts.{to_start}
 use Rattle.fm_frames.specs.States.{Moved}
+use Rattle.fm_frames.specs.inner.Doings.{silent}
 use Rattle.fm_ready.proofs.Constants.{rows}
 use Rattle.fm_ready.specs.Ready.{CanRun}
 use Rattle.fm_held.proofs.Acts.{choice}
 use Rattle.fm_held.proofs.Counts.{Follows, Grows, held_within}
 use Rattle.fm_held.proofs.Openings.{opening_follows}
 use Rattle.fm_held.proofs.Steps.{AreSettled, step_follows}
-use Rattle.fm_held.specs.MostHeld.{first_state, MadeIsMostHeld, most_held, store_after}
+use Rattle.fm_held.specs.MostHeld.{first_state, MadeIsMostHeld, MadeSinceIsMostHeld, most_held, OpenedIsLastReused, store_after}
 
 -- made before, and made and held after
 most_then : (before made held : ℕ) → before ≤ made → held ≤ made → (made ≡ before) ⊎ (made ≡ held) → made ≡ max before held
 most_then before made held more within (inl same) = omega arith
 most_then before made held more within (inr same) = omega arith
+
+-- at first those that are held were made
+most_first : (made held : ℕ) → held ≤ made → made ≡ max made held
+most_first made held within = omega arith
+
+-- the most of three numbers
+most_joined : (before most held : ℕ) → max (max before most) held ≡ max before (max most held)
+most_joined before most held = omega arith
+
+-- what was made at first is among the most that were held, where all of it was held
+most_over : (made held most : ℕ) → made ≡ held → held ≤ most → max made most ≡ most
+most_over made held most same within = omega arith
 
 -- the classes of built-in methods have started
 settled : (p : Program) → CanRun p → AreSettled p.outline
@@ -41,15 +54,26 @@ module _ (p : Program) (ready : AreSettled p.outline) (first : Moved) where
   unfolding after
   follows_at count last = step_follows p ready (after p choice count first).state (after_last count last)
 
-  each_made : ((k : ℕ) → k < 64 → made_count (at zero) k ≡ held_count (at zero) k) → IsLastReused (at zero) → (count k : ℕ) → k < 64
-      → made_count (at count) k ≡ most_held p first count k
+  since_made : IsLastReused (at zero) → (count k : ℕ) → k < 64 → made_count (at count) k ≡ max (made_count (at zero) k) (most_held p first count k)
   unfolding most_held
-  each_made start last zero k small = start k small
-  each_made start last (suc count) k small =
+  since_made last zero k small = most_first (made_count (at zero) k) (held_count (at zero) k) (held_within (at zero) last k small)
+  since_made last (suc count) k small =
       let one : Follows (at count) (at (suc count)) = follows_at count last in
       most_then (made_count (at count) k) (made_count (at (suc count)) k) (held_count (at (suc count)) k) (one.made k small)
       (held_within (at (suc count)) one.last k small) (one.full k small)
-      ∙ ap (λ n. max n (held_count (at (suc count)) k)) (each_made start last count k small)
+      ∙ ap (λ n. max n (held_count (at (suc count)) k)) (since_made last count k small)
+      ∙ most_joined (made_count (at zero) k) (most_held p first count k) (held_count (at (suc count)) k)
+
+  -- no fewer than were held at first
+  most_more : (count k : ℕ) → held_count (at zero) k ≤ most_held p first count k
+  unfolding most_held
+  most_more zero k = omega arith
+  most_more (suc count) k = let before = most_more count k in omega (arith, before)
+
+  each_made : ((k : ℕ) → k < 64 → made_count (at zero) k ≡ held_count (at zero) k) → IsLastReused (at zero) → (count k : ℕ) → k < 64
+      → made_count (at count) k ≡ most_held p first count k
+  each_made start last count k small =
+      since_made last count k small ∙ most_over (made_count (at zero) k) (held_count (at zero) k) (most_held p first count k) (start k small) (most_more count k)
 
 -- what the run is opened with
 opening_grown : (p : Program) (job : Job) (budget : ℕ) (limit : Option ℕ)
@@ -83,3 +107,14 @@ made_is_most_held p can job budget limit count =
         by_full (inl same) =
             omega (arith, same, get_or-replicate {A = ℕ} 64 k 0 0 small, held_within (at p ready first zero) opened_last k small)
         by_full (inr full) = full
+
+pub made_since : MadeSinceIsMostHeld
+unfolding after
+made_since p can x last count = record {
+  last = after_last p (settled p can) (silent x) count last;
+  made = since_made p (settled p can) (silent x) last count;
+}
+
+pub opened_is_last_reused : OpenedIsLastReused
+unfolding after
+opened_is_last_reused p job budget limit = (opening_grown p job budget limit).last

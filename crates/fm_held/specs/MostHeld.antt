@@ -1,11 +1,13 @@
 -- What is meant by as many cells as were held at once at most: over the states of a run on memory that takes the last freed cell.
-use Rattle.std.specs.Prelude.{◌≡◌, ℕ, zero, suc, List, map, max, Option}
+use Rattle.std.specs.Prelude.{◌≡◌, ℕ, zero, suc, ◌<◌, List, map, max, Option}
 use Rattle.std.specs.List.{range_with_len}
 use Rattle.fm_cells.specs.Choices.{last_choice, lawful}
-use Rattle.fm_cells.specs.Stores.{empty_lists, held_count, opened, Store}
+use Rattle.fm_cells.specs.Soundness.{IsLastReused}
+use Rattle.fm_cells.specs.Stores.{empty_lists, held_count, made_count, opened, Store}
 use Rattle.fm_world.specs.Programs.{Program}
 use Rattle.fm_frames.specs.Runs.{after, Job, opening}
-use Rattle.fm_frames.specs.States.{Moved}
+use Rattle.fm_frames.specs.States.{Moved, State}
+use Rattle.fm_frames.specs.inner.Doings.{silent}
 use Rattle.fm_ready.specs.Ready.{CanRun}
 
 -- a run as it is opened, where nothing was made before
@@ -31,3 +33,22 @@ abbrev pub MadeIsMostHeld : Type 0
 MadeIsMostHeld =
     (p : Program) → CanRun p → (job : Job) (budget : ℕ) (limit : Option ℕ) (count : ℕ)
     → (store_after p (first_state p job budget limit) count).made ≡ all_most_held p (first_state p job budget limit) count
+
+-- ---- from any state on
+
+-- After so many steps from one state to the other memory still takes the last freed cell, and of each size class as many cells are made as were made before
+-- or held at once since.
+pub record MadeSince (p : Program) (x y : State) (count : ℕ) : Type 0 where
+  pub last : IsLastReused y.areas.store
+  pub made : (size_class : ℕ) → size_class < 64
+      → made_count y.areas.store size_class ≡ max (made_count x.areas.store size_class) (most_held p (silent x) count size_class)
+
+-- So it is after any steps from each state on such memory, whatever a program does and frees that the machine can run.
+abbrev pub MadeSinceIsMostHeld : Type 0
+MadeSinceIsMostHeld =
+    (p : Program) → CanRun p → (x : State) → IsLastReused x.areas.store → (count : ℕ)
+    → MadeSince p x (after p (lawful last_choice) count (silent x)).state count
+
+-- A run as it is opened, where nothing was made before, is on such memory.
+abbrev pub OpenedIsLastReused : Type 0
+OpenedIsLastReused = (p : Program) (job : Job) (budget : ℕ) (limit : Option ℕ) → IsLastReused (first_state p job budget limit).state.areas.store

@@ -8,3 +8,4 @@ pub mod Standing
 pub mod Steadying
 pub mod CheapSteps
 pub mod FlatSteps
+pub mod Keeping

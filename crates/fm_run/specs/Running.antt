@@ -1,16 +1,22 @@
--- What a run comes to, with what it prints: each step's bytes come to the output in one put.
+-- What a run comes to, with what it prints: each step's bytes come to the output in one put. What holds of its state still, and of the cells that it makes.
 use Rattle.std.specs.Prelude.{◌≡◌, ◌⊎◌, ℕ, zero, suc, ◌+◌, ◌^◌, ◌<◌, List, [], ◌∷◌, ◌++◌}
 use Rattle.std.specs.List.{concat}
 use Rattle.fm_calls.specs.inner.Actions.{unmade}
+use Rattle.fm_cells.specs.Choices.{last_choice, lawful}
+use Rattle.fm_cells.specs.Soundness.{IsLastReused}
 use Rattle.fm_files.specs.Sink.{FailsPut, Output, with_pieces}
+use Rattle.fm_held.specs.MostHeld.{MadeSince}
 use Rattle.fm_world.specs.Programs.{Program}
 use Rattle.fm_frames.specs.Acts.{Choose}
 use Rattle.fm_frames.specs.Runs.{after, Goes, IsRun}
 use Rattle.fm_frames.specs.States.{State}
 use Rattle.fm_frames.specs.Steps.{step}
 use Rattle.fm_frames.specs.inner.Doings.{silent}
+use Rattle.fm_same.specs.Resolved.{CallsNoFreeMe, IsResolved}
 use Rattle.fm_sound.specs.HeldCells.{HoldsCells}
-use Rattle.fm_sound.specs.Sound.{IsSound}
+use Rattle.fm_sound.specs.Sound.{IsSound, Typings}
+use Rattle.fm_whole.specs.CellsResolved.{CellsAreResolved}
+use Rattle.fm_whole.specs.Whole.{HasNoFault, IsWholeBy}
 
 -- the state after so many steps
 abbrev pub state_after : Program → Choose → ℕ → State → State
@@ -64,3 +70,15 @@ pub record CanGo (p : Program) (budget : ℕ) (x : State) : Type 0 where
   pub sound : IsSound p x
   pub cells : HoldsCells p x
   pub births : x.areas.store.births + unmade x.areas.literals + budget < 2 ^ 32
+
+-- where the program is linked and calls no FreeMe, a whole state that is no fault leads to one, wherever the run stops
+abbrev pub KeepsWhole : Program → (x y : State) → Type 0
+KeepsWhole p x y =
+    (typings : Typings) → IsResolved p → CellsAreResolved p → CallsNoFreeMe p → IsWholeBy p typings x → HasNoFault x
+    → IsWholeBy p typings y × HasNoFault y
+
+-- where memory takes the last freed cell, of each size class as many cells are made as were made before the run or held at once in its states
+abbrev pub MakesMostHeld : Program → Choose → (budget : ℕ) → (x y : State) → Type 0
+MakesMostHeld p choose budget x y =
+    choose ≡ lawful last_choice → IsLastReused x.areas.store → (printed : List ℕ)
+    → (run : IsRun p choose budget (silent x) (record { state = y; printed = printed })) → MadeSince p x y run.count

@@ -5,7 +5,7 @@ ghost use Rattle.fm_frames.specs.Reports.{report_of};
 ghost use Rattle.fm_frames.specs.Runs.{Goes};
 ghost use Rattle.fm_frames.specs.declared.turns.StepFail.TheVariants as StepFail;
 ghost use Rattle.fm_ready.specs.Ready.{CanRun};
-ghost use Rattle.fm_run.specs.Running.{BreaksRun, CanGo, FailsRun, RunsTo};
+ghost use Rattle.fm_run.specs.Running.{BreaksRun, CanGo, FailsRun, KeepsWhole, MakesMostHeld, RunsTo};
 ghost use Rattle.fm_run.specs.inner.Going.{BreaksLater, DidCheap, DidQuietly, FailsLater, FailsNext, IsCheapNext, Keeps, Leads, LeadsQuietly, left_of};
 ghost use Rattle.fm_world.specs.Programs.{code_at};
 
@@ -18,7 +18,9 @@ use fm_cells::Memory;
 use fm_code::{Code, Insn};
 use fm_files::Sink;
 use fm_frames::{Machine, Report, StepFail, code_of};
+use fm_held::law_made_since;
 use fm_nests::cost;
+use fm_whole::law_no_fault;
 use fm_world::Program;
 use std::alloc::Global;
 
@@ -205,8 +207,10 @@ fn do_cheap_ones<M: Memory, S: Sink>(
 }
 
 /// Runs the machine from its state on, as far as the budget of steps allows, with which all steps of the
-/// machine are compared, those before too; a machine that has ended stays as it is. SinkFailed comes only
-/// where the sink's faults rose; after an error the machine isn't used again.
+/// machine are compared, those before too; a machine that has ended stays as it is. From a whole state a
+/// program that calls no FreeMe comes to no fault; over memory that takes the last freed cell as many cells
+/// are made as were made before or held at once. SinkFailed comes only where the sink's faults rose; after
+/// an error the machine isn't used again.
 pub fn run<M: Memory, S: Sink>(
     alloc: Global,
     machine: &mut Machine<M>,
@@ -219,11 +223,18 @@ pub fn run<M: Memory, S: Sink>(
     ensures report { IfOk result (λ report. report ≡ report_of machine.new) }
     ensures runs { OnOk result (RunsTo program.now M.choose steps machine.old machine.new
         (S.output out.old) (S.output out.new)) }
+    ensures no_fault { OnOk result (KeepsWhole program.now machine.old machine.new) }
+    ensures most_held { OnOk result (MakesMostHeld program.now M.choose steps
+        machine.old machine.new) }
     ensures failed { IsErrOf result StepFail.SinkFailed → FailsRun program.now M.choose steps machine.old
         (S.output out.old) (S.output out.new) }
     ensures kept { IsErrOf result StepFail.NoMemory → BreaksRun program.now M.choose steps machine.old
         (S.output out.old) (S.output out.new) }
 {
+    // For no_fault and most_held: two laws, and what the memory tells of its choices.
+    law_no_fault();
+    law_made_since();
+    let _births = machine.births();
     while goes(machine, program, steps) {
         advance(alloc, machine, program, out)?;
         do_cheap_ones(alloc, machine, program, steps, out)?;

@@ -1,5 +1,6 @@
 use Rattle.std.proofs.Common.{◌≡◌, ◌<◌, ◌^◌, false, true, Err, ap, sym, ◌∙◌, arith}
 use Rattle.fm_frames.specs.declared.turns.StepFail.TheVariants as fail
+use Rattle.fm_run.proofs.Keeping.{run-keeps_whole, run-makes_most}
 use Rattle.fm_run.proofs.Ranging.{cost-some, keeps-going, leads-left, left-less, ran-breaks, ran-ends, ran-fails, ran-more, ran-none, same_error}
 use Rattle.fm_run.proofs.runs.run.Goals as goal
 
@@ -74,3 +75,12 @@ returns-clause-runs g c =
     ran-ends c.args.program.now g.M.Memory.choose c.args.steps c.args.machine.now c.loop-alloc.machine
     (g.S.Sink.output c.args.out.now) (g.S.Sink.output c.loop-alloc.out) c.loop-alloc.invariant
     (λ goes. let told : false ≡ true = sym c.loop-alloc-test.false ∙ c.goes.ensures.1 goes in absurd (cc))
+
+pub returns-clause-no_fault : goal.returns-clause-no_fault
+returns-clause-no_fault g c =
+    run-keeps_whole c.law_no_fault.ensures.steps c.args.program.now g.M.Memory.choose c.births-births.ensures.lawful c.requires.can c.args.steps
+    c.args.machine.now c.loop-alloc.machine (g.S.Sink.output c.args.out.now) (g.S.Sink.output c.loop-alloc.out) (returns-clause-runs g c)
+
+pub returns-clause-most_held : goal.returns-clause-most_held
+returns-clause-most_held g c =
+    run-makes_most c.law_made_since.ensures.since c.args.program.now g.M.Memory.choose c.requires.can c.args.steps c.args.machine.now c.loop-alloc.machine

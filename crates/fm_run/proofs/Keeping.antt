@@ -1,0 +1,46 @@
+-- What the state from which a run goes on has, the one to which it comes has too.
+use Rattle.std.proofs.Common.{◌≡◌, ℕ, zero, suc, List, sym, ap, subst}
+use Rattle.fm_cells.proofs.Choices.{lawful-is}
+use Rattle.fm_cells.specs.Choices.{IsLawful, lawful}
+use Rattle.fm_files.specs.Sink.{Output}
+use Rattle.fm_frames.specs.Acts.{Choose}
+use Rattle.fm_frames.specs.Runs.{after, IsRun}
+use Rattle.fm_frames.specs.States.{Moved, State}
+use Rattle.fm_frames.specs.inner.Doings.{silent}
+use Rattle.fm_held.specs.MostHeld.{MadeSince, MadeSinceIsMostHeld}
+use Rattle.fm_ready.specs.Ready.{CanRun}
+use Rattle.fm_run.specs.Running.{KeepsWhole, MakesMostHeld, RunsTo}
+use Rattle.fm_same.specs.Resolved.{CallsNoFreeMe, IsResolved}
+use Rattle.fm_sound.specs.Sound.{Typings}
+use Rattle.fm_whole.specs.CellsResolved.{CellsAreResolved}
+use Rattle.fm_whole.specs.Laws.{StepsKeepWhole}
+use Rattle.fm_whole.specs.Whole.{HasNoFault, IsWholeBy}
+use Rattle.fm_world.specs.Programs.{Program}
+
+module _ (law : StepsKeepWhole) (p : Program) (can : CanRun p) (typings : Typings) (linked : IsResolved p) (cells : CellsAreResolved p) (frees_none : CallsNoFreeMe p) (choose : Choose) where
+  -- so is the state after any number of steps
+  after_whole : (x : Moved) → IsWholeBy p typings x.state × HasNoFault x.state → (count : ℕ)
+      → IsWholeBy p typings (after p (lawful choose) count x).state × HasNoFault (after p (lawful choose) count x).state
+  unfolding after
+  after_whole x kept zero = kept
+  after_whole x kept (suc count) =
+      let before = after_whole x kept count in
+      law p typings linked can.steps can.makes cells frees_none choose (after p (lawful choose) count x).state before.0 before.1
+
+-- the state to which a run leads, by what its steps lead to
+ran-state : (p : Program) (choose : Choose) (budget : ℕ) (x y : State) (printed : List ℕ)
+    → (run : IsRun p choose budget (silent x) (record { state = y; printed = printed })) → (after p choose run.count (silent x)).state ≡ y
+ran-state p choose budget x y printed run = sym (ap (λ (m : Moved). m.state) run.is)
+
+pub run-keeps_whole : StepsKeepWhole → (p : Program) (choose : Choose) → IsLawful choose → CanRun p → (budget : ℕ) (x y : State) (old new : Output)
+    → RunsTo p choose budget x y old new → KeepsWhole p x y
+run-keeps_whole law p choose may can budget x y old new runs typings linked cells frees_none whole no_fault =
+    let Holds : State → Type 0 = λ z. IsWholeBy p typings z × HasNoFault z in
+    subst Holds (ran-state p choose budget x y runs.printed runs.run)
+    (subst (λ c. Holds (after p c runs.run.count (silent x)).state) (lawful-is choose may)
+    (after_whole law p can typings linked cells frees_none choose (silent x) (whole, no_fault) runs.run.count))
+
+pub run-makes_most : MadeSinceIsMostHeld → (p : Program) (choose : Choose) → CanRun p → (budget : ℕ) (x y : State) → MakesMostHeld p choose budget x y
+run-makes_most law p choose can budget x y same last printed run =
+    subst (λ z. MadeSince p x z run.count) (ran-state p choose budget x y printed run)
+    (subst (λ c. MadeSince p x (after p c run.count (silent x)).state run.count) (sym same) (law p can x last run.count))
