@@ -1,5 +1,5 @@
 -- Steps over frames that are taken out of the machine are steps of the run.
-use Rattle.std.proofs.Common.{◌≡◌, ℕ, ◌+◌, ◌^◌, ◌<◌, ◌≤◌, Bool, true, false, List, ◌∷◌, [], length, Option, Some, None, option_map, refl, sym, ap, ◌∙◌, subst, slice_get, arith}
+use Rattle.std.proofs.Common.{◌≡◌, ℕ, ◌+◌, ◌^◌, ◌<◌, ◌≤◌, Bool, true, false, List, ◌∷◌, [], length, Some, None, option_map, refl, sym, ap, ◌∙◌, subst, slice_get, arith}
 use Rattle.std.proofs.lemmas.Option.{same_Some}
 use Rattle.fm_base.proofs.OptionFacts.{option_map-some}
 use Rattle.fm_cells.specs.Choices.{IsLawful}
@@ -17,7 +17,6 @@ use Rattle.fm_flat_cells.specs.Packed.{ArePacked}
 use Rattle.fm_frames.specs.Acts.{Choose}
 use Rattle.fm_frames.specs.Rows.{effect_of}
 use Rattle.fm_frames.specs.States.{Frame, State}
-use Rattle.fm_frames.specs.Steps.{next_effect}
 use Rattle.fm_frames.specs.inner.Doings.{DoesIn, NextFits}
 use Rattle.fm_frames.specs.inner.Frames.{place_of, topmost}
 use Rattle.fm_nests.proofs.CostSteps.{insn-found, IsOnTop, on-top}
@@ -26,10 +25,10 @@ use Rattle.fm_ready.proofs.Standing.{IsStanding, standing_by}
 use Rattle.fm_ready.specs.Ready.{CanRun}
 use Rattle.fm_run.proofs.CheapSteps.{cheap-is}
 use Rattle.fm_run.proofs.NextSteps.{named-is, own_effect, row-does}
-use Rattle.fm_run.proofs.Ranging.{went-quietly}
+use Rattle.fm_run.proofs.Ranging.{quietly-then, went-quietly}
 use Rattle.fm_run.proofs.Standing.{insn-here, item-inside}
 use Rattle.fm_run.proofs.Steadying.{did-quietly}
-use Rattle.fm_run.specs.inner.Flats.{FlowsNext, IsFlatNext}
+use Rattle.fm_run.specs.inner.Flats.{DoesCall, FlowsNext, IsFlatNext, WentOn}
 use Rattle.fm_run.specs.inner.Going.{IsCheapNext, Keeps, LeadsQuietly}
 use Rattle.fm_run.specs.inner.Nexts.{DoesNext, StandsAt, StandsIn}
 use Rattle.fm_sound.specs.Sound.{IsSound}
@@ -165,6 +164,20 @@ group-flowed p choose budget method m old counted new insn did next flows same =
   ended = refl;
 }
 
+-- a call or a return
+pub call-flowed : (p : Program) (choose : Choose) (budget method : ℕ) (m : State) (old : List Frame) (counted : ℕ) (new : List Frame) (insn : Insn) (did : Bool)
+    → IsFlatNext p budget (resumed m old counted) method insn
+    → (did ≡ true → DoesCall p choose insn (resumed m old counted) (resumed m new (counted + 1))) → (did ≡ false → new ≡ old)
+    → Flowed p choose budget method (resumed m old counted) (resumed m new (counted + 1)) (resumed m new counted) did
+call-flowed p choose budget method m old counted new insn did next does same = record {
+  done =
+      λ told.
+      let call = does told in
+      (insn, next.next call.0, call.1);
+  kept = λ told. λ j. resumed m (same told j) counted;
+  ended = refl;
+}
+
 -- none was done
 pub not-flowed : (p : Program) (choose : Choose) (budget method : ℕ) (m : State) (old : List Frame) (counted : ℕ)
     → Flowed p choose budget method (resumed m old counted) (resumed m old (counted + 1)) (resumed m old counted) false
@@ -189,6 +202,21 @@ flowed-on p choose budget method first x y same run lawful sound flowed on leads
     let went = went-quietly p choose budget first x y true
     (λ told. did-quietly p choose budget x y method done.0 run done.1 done.2 lawful sound) (λ told. absurd (cc)) leads keeps in
     (went.0, went.1, flowed.ended ∙ on)
+
+-- a run that went on twice
+pub then-went : (p : Program) (choose : Choose) (budget : ℕ) (x y z : State) → WentOn p choose budget x y → WentOn p choose budget y z
+    → WentOn p choose budget x z
+then-went p choose budget x y z first then = record {
+  leads = quietly-then p choose budget x y z first.leads then.leads;
+  keeps = then.keeps;
+  on = then.on;
+}
+
+-- told of what the branches leave
+pub went-joined : (p : Program) (choose : Choose) (budget : ℕ) (x m m2 : State) (f f2 : List Frame) (n n2 : ℕ) → m2 ≡ m → f2 ≡ f → n2 ≡ n
+    → WentOn p choose budget x (resumed m f n) → WentOn p choose budget x (resumed m2 f2 n2)
+went-joined p choose budget x m m2 f f2 n n2 m_is f_is n_is went =
+    subst (WentOn p choose budget x) (sym (λ j. resumed (m_is j) (f_is j) (n_is j))) went
 
 -- ---- frames that are taken out and put in again
 

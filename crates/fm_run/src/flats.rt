@@ -3,16 +3,17 @@
 // The frames lie in a local whose address goes to no call that isn't in line, so that what each step changes
 // stays in registers; and the loop stands in the function that has the match.
 
-ghost use Rattle.std.specs.Prelude.{◌≡◌, ℕ, ◌<◌, ◌^◌, length, IfSome, None, Some, true, false};
+ghost use Rattle.std.specs.Prelude.{◌≡◌, ℕ, ◌+◌, ◌<◌, ◌≤◌, ◌^◌, length, IfSome, None, Some, true, false};
 ghost use Rattle.fm_flat.specs.Flows.{resumed};
 ghost use Rattle.fm_flat.specs.Operands.{AsksOf};
 ghost use Rattle.fm_frames.specs.inner.Doings.{NextFits};
 ghost use Rattle.fm_ready.specs.Ready.{CanRun};
-ghost use Rattle.fm_run.specs.inner.Flats.{FlowsNext, IsFlatNext};
+ghost use Rattle.fm_run.specs.inner.Flats.{FlowsNext, IsFlatNext, WentOn};
 ghost use Rattle.fm_run.specs.inner.Going.{Keeps, LeadsQuietly};
 ghost use Rattle.fm_world.specs.Members.{methods_of};
 ghost use Rattle.fm_world.specs.Programs.{code_at, Program};
 
+use crate::called::do_call;
 use crate::indexed::{field_read, field_written, number};
 use crate::names::insn_among;
 use fm_base::MethodId;
@@ -20,7 +21,7 @@ use fm_cells::Memory;
 use fm_code::{Code, Insn, Item};
 use fm_flat as rows;
 use fm_flat_cells::{array_length, array_load, array_store};
-use fm_frames::{Frames, Machine};
+use fm_frames::{Frames, Machine, code_of};
 use fm_world::Program;
 use std::alloc::Global;
 
@@ -54,25 +55,6 @@ fn next_in<'a, M: Memory>(
         return None;
     }
     Some(insn_among(items, place.item))
-}
-
-// Whether the topmost frame is one of this method.
-#[inline(always)]
-fn is_in<M: Memory>(machine: &Machine<M>, method: MethodId) -> bool {
-    match machine.topmost() {
-        Some(place) => place.method == method,
-        None => false,
-    }
-}
-
-// Puts the frames in again, with which so many steps are done. The move from one to another keeps the
-// address of the first from the call.
-#[inline(always)]
-fn put_back<M: Memory>(machine: &mut Machine<M>, frames: Frames, counted: u64)
-    ensures { machine.new ≡ resumed machine.old frames counted }
-{
-    let done = frames;
-    machine.put_frames(done, counted);
 }
 
 // Pushes an int, if that is what the instruction does; tells whether it was done.
@@ -129,39 +111,35 @@ fn do_other(frames: &mut Frames, program: &Program, method: MethodId, insn: &Ins
     }
 }
 
-// Does the simple instructions that come next in this method's code, as far as the budget of steps allows.
-#[inline(never)]
-pub(crate) fn do_flat_ones<M: Memory>(
-    alloc: Global,
+// Does the simple instructions that come next in this method's code over frames that are taken out, as far as
+// the budget of steps allows; gives the frames again, with how many steps are done then.
+fn flow<M: Memory>(
     machine: &mut Machine<M>,
+    taken: Frames,
+    before: u64,
     program: &Program,
     method: MethodId,
     code: &Code,
     steps: u64,
-)
+) -> (Frames, u64)
     requires run { CanRun program.now }
     requires code { code_at program.now method.0 ≡ Some code.now }
     requires few { steps < 2 ^ 64 }
-    requires keeps { Keeps program.now steps machine.old }
-    ensures { LeadsQuietly program.now M.choose steps machine.old machine.new }
+    requires keeps { Keeps program.now steps (resumed machine.old taken before) }
+    requires on { machine.old.ended ≡ None }
+    ensures went { WentOn program.now M.choose steps (resumed machine.old taken before)
+        (resumed machine.new result.0 result.1) }
+    ensures more { before ≤ result.1 }
 {
-    if machine.end().is_some() {
-        return;
-    }
-    if !is_in(machine, method) {
-        return;
-    }
     let items = code.items.as_slice();
-    let mut counted = machine.steps();
-    let taken = machine.take_frames(alloc);
     let mut frames = taken;
+    let mut counted = before;
     while counted < steps {
         let next = next_in(
             machine, &frames, counted, program, method, code, items, steps,
         );
         let Some(insn) = next else {
-            put_back(machine, frames, counted);
-            return;
+            return (frames, counted);
         };
         let did = match insn {
             Insn::Load(kind, place) => rows::load(&mut frames, *kind, *place),
@@ -205,10 +183,83 @@ pub(crate) fn do_flat_ones<M: Memory>(
         };
         let _births = machine.births();
         if !did {
-            put_back(machine, frames, counted);
-            return;
+            return (frames, counted);
         }
         counted += 1;
     }
-    put_back(machine, frames, counted);
+    (frames, counted)
+}
+
+// Does the next instruction, if it is a call or a return of this method; tells whether it was done.
+#[inline(never)]
+fn do_next_call<M: Memory>(
+    machine: &Machine<M>,
+    frames: &mut Frames,
+    counted: u64,
+    program: &Program,
+    method: MethodId,
+    code: &Code,
+    steps: u64,
+) -> bool
+    requires run { CanRun program.now }
+    requires code { code_at program.now method.0 ≡ Some code.now }
+    requires few { steps < 2 ^ 64 }
+    requires keeps { Keeps program.now steps (resumed machine.now frames.old counted) }
+    requires on { machine.now.ended ≡ None }
+    requires within { counted < steps }
+    ensures did { result ≡ true → WentOn program.now M.choose steps
+        (resumed machine.now frames.old counted) (resumed machine.now frames.new (counted + 1)) }
+    ensures same { result ≡ false → frames.new ≡ frames.old }
+{
+    let items = code.items.as_slice();
+    let next = next_in(
+        machine, frames, counted, program, method, code, items, steps,
+    );
+    let Some(insn) = next else {
+        return false;
+    };
+    let did = do_call(machine, frames, counted, program, method, insn, steps);
+    let _births = machine.births();
+    did
+}
+
+// Does the simple instructions, calls and returns that come next, as far as the budget of steps allows.
+#[inline(never)]
+pub(crate) fn do_flat_ones<M: Memory>(
+    alloc: Global,
+    machine: &mut Machine<M>,
+    program: &Program,
+    steps: u64,
+)
+    requires run { CanRun program.now }
+    requires few { steps < 2 ^ 64 }
+    requires keeps { Keeps program.now steps machine.old }
+    ensures { LeadsQuietly program.now M.choose steps machine.old machine.new }
+{
+    if machine.end().is_some() {
+        return;
+    }
+    let mut counted = machine.steps();
+    let mut frames = machine.take_frames(alloc);
+    while counted < steps {
+        let Some(place) = frames.topmost() else {
+            break;
+        };
+        let method = place.method;
+        let Some(code) = code_of(program, method) else {
+            break;
+        };
+        let flowed = flow(machine, frames, counted, program, method, code, steps);
+        frames = flowed.0;
+        counted = flowed.1;
+        if counted >= steps {
+            break;
+        }
+        let did = do_next_call(machine, &mut frames, counted, program, method, code, steps);
+        if !did {
+            break;
+        }
+        counted += 1;
+    }
+    machine.put_frames(frames, counted);
 }

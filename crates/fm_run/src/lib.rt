@@ -4,6 +4,7 @@
 // whole step.
 #![tactic(auto)]
 
+mod called;
 mod calls;
 mod flats;
 mod groups;

@@ -97,9 +97,9 @@ fn do_frequent<M: Memory>(
     Ok(did)
 }
 
-// Does those that come next in the topmost frame's method; tells whether there was one.
+// Does the simple ones that come next, and then one of those that most steps are; tells whether there was one.
 #[inline(always)]
-fn do_frequent_in_method<M: Memory>(
+fn do_flat_ones_and_next<M: Memory>(
     alloc: Global,
     machine: &mut Machine<M>,
     program: &Program,
@@ -112,22 +112,18 @@ fn do_frequent_in_method<M: Memory>(
     ensures less { IfOk result (λ any. any ≡ true
         → left_of steps machine.new < left_of steps machine.old) }
 {
+    do_flat_ones(alloc, machine, program, steps);
     let Some(place) = machine.topmost() else {
         return Ok(false);
     };
     let Some(code) = code_of(program, place.method) else {
         return Ok(false);
     };
-    let before = machine.steps();
-    let mut goes = true;
-    while goes {
-        do_flat_ones(alloc, machine, program, place.method, code, steps);
-        goes = do_frequent(alloc, machine, program, place.method, code, steps)?;
-    }
-    Ok(before < machine.steps())
+    let did = do_frequent(alloc, machine, program, place.method, code, steps)?;
+    Ok(did)
 }
 
-// Does those that come next, in all methods. A function of its own has the fewest values to keep.
+// Does those that come next. A function of its own has the fewest values to keep.
 #[inline(never)]
 fn do_frequent_ones<M: Memory>(
     alloc: Global,
@@ -142,7 +138,7 @@ fn do_frequent_ones<M: Memory>(
 {
     let mut goes = true;
     while goes {
-        goes = do_frequent_in_method(alloc, machine, program, steps)?;
+        goes = do_flat_ones_and_next(alloc, machine, program, steps)?;
     }
     Ok(())
 }

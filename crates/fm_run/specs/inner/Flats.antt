@@ -6,7 +6,7 @@ use Rattle.fm_flat.specs.Operands.{AsksOf}
 use Rattle.fm_frames.specs.Acts.{Choose}
 use Rattle.fm_frames.specs.States.{Frame, State}
 use Rattle.fm_nests.specs.inner.Costs.{nest_of}
-use Rattle.fm_run.specs.inner.Going.{IsCheapNext}
+use Rattle.fm_run.specs.inner.Going.{IsCheapNext, Keeps, LeadsQuietly}
 use Rattle.fm_run.specs.inner.Nexts.{DoesNext, StandsIn}
 use Rattle.fm_world.specs.Programs.{Program}
 
@@ -20,3 +20,13 @@ pub record IsFlatNext (p : Program) (budget : ℕ) (x : State) (method : ℕ) (i
 pub record FlowsNext (p : Program) (method : ℕ) (old new : List Frame) (i : Insn) : Type 0 where
   pub cheap : nest_of i ≡ None
   pub does : (choose : Choose) (x : State) → StandsIn p (on x old) method i → DoesNext p choose (on x old) (stepped_on x new)
+
+-- the instruction costs 1, and its step leads from one state to the other
+abbrev pub DoesCall : Program → Choose → Insn → (x y : State) → Type 0
+DoesCall p choose i x y = (nest_of i ≡ None) × DoesNext p choose x y
+
+-- a run that goes on led quietly from one state to another, from which it can go on
+pub record WentOn (p : Program) (choose : Choose) (budget : ℕ) (x y : State) : Type 0 where
+  pub leads : LeadsQuietly p choose budget x y
+  pub keeps : Keeps p budget y
+  pub on : y.ended ≡ None

@@ -1,13 +1,10 @@
-use Rattle.std.proofs.Common.{◌-◌, ◌≡◌, None}
+use Rattle.std.proofs.Common.{◌-◌}
 use Rattle.fm_flat.specs.Flows.{resumed}
 use Rattle.fm_run.proofs.flats.do_flat_ones.Given as goal
-use Rattle.fm_run.specs.inner.Going.{Keeps, LeadsQuietly}
+use Rattle.fm_run.specs.inner.Flats.{WentOn}
 
 abbrev pub invariant-loop-counted : goal.invariant-loop-counted
-invariant-loop-counted g l =
-    LeadsQuietly l.program g.M.Memory.choose l.steps l.fn.machine (resumed l.machine l.frames l.counted)
-    × Keeps l.program l.steps (resumed l.machine l.frames l.counted)
-    × (l.machine.ended ≡ None)
+invariant-loop-counted g l = WentOn l.program g.M.Memory.choose l.steps l.fn.machine (resumed l.machine l.frames l.counted)
 
 abbrev pub decreases-loop-counted : goal.decreases-loop-counted
 decreases-loop-counted g l = l.steps - l.counted

@@ -13,7 +13,7 @@ loop-goes-preserved g c =
     let budget = c.args.steps in
     let x = c.args.machine.now in
     let y = c.loop-goes.machine in
-    let z = c.do_frequent_in_method.new.machine in (
+    let z = c.do_flat_ones_and_next.new.machine in (
       quietly-then p choose budget x y z c.loop-goes.invariant.0 c.in_ok-goes.ensures.leads,
       quietly-keeps p choose budget y z c.in_ok-goes.ensures.leads c.loop-goes.invariant.1,
     )
@@ -21,7 +21,7 @@ loop-goes-preserved g c =
 pub loop-goes-smaller : goal.loop-goes-smaller
 loop-goes-smaller g c =
     let x = c.loop-goes.machine in
-    let y = c.do_frequent_in_method.new.machine in
+    let y = c.do_flat_ones_and_next.new.machine in
     subst (λ b. left_of c.args.steps y + (if c.in_ok-goes.goes then 1 else 0) < left_of c.args.steps x + (if b then 1 else 0)) (sym c.loop-goes-test.true)
     (quietly-goes-less c.args.program.now g.M.Memory.choose c.args.steps x y _ c.in_ok-goes.ensures.leads c.in_ok-goes.ensures.less)
 

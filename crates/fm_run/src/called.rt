@@ -1,0 +1,166 @@
+// Calls and returns over frames that are taken out of the machine (JVMS 2.6.4, 6.5).
+
+ghost use Rattle.std.specs.Prelude.{◌≡◌, ◌+◌, true, false};
+ghost use Rattle.fm_code.specs.declared.instructions.Insn.TheVariants as insn;
+ghost use Rattle.fm_flat.specs.Flows.{resumed};
+ghost use Rattle.fm_frames.specs.inner.Doings.{NextFits};
+ghost use Rattle.fm_ready.specs.Ready.{CanRun};
+ghost use Rattle.fm_run.specs.inner.Flats.{DoesCall, IsFlatNext};
+ghost use Rattle.fm_run.specs.inner.Nexts.{DoesNext};
+
+use crate::names::method_named;
+use fm_base::MethodId;
+use fm_cells::Memory;
+use fm_code::{Insn, Reg};
+use fm_flat_calls as rows;
+use fm_frames::{Frames, Machine};
+use fm_world::Program;
+
+// invokevirtual; tells whether it was done.
+#[inline(always)]
+fn virtual_called<M: Memory>(
+    machine: &Machine<M>,
+    frames: &mut Frames,
+    counted: u64,
+    program: &Program,
+    method: MethodId,
+    index: u16,
+    steps: u64,
+) -> bool
+    requires run { CanRun program.now }
+    requires fits { NextFits frames.old }
+    requires next { IsFlatNext program.now steps (resumed machine.now frames.old counted) method.0
+        (insn.Virtual index) }
+    ensures did { result ≡ true → DoesNext program.now M.choose
+        (resumed machine.now frames.old counted) (resumed machine.now frames.new (counted + 1)) }
+    ensures same { result ≡ false → frames.new ≡ frames.old }
+{
+    let (m, named) = method_named(program, method, index);
+    rows::virtual_call(machine, frames, program, m, named)
+}
+
+// invokeinterface; tells whether it was done.
+#[inline(always)]
+fn interface_called<M: Memory>(
+    machine: &Machine<M>,
+    frames: &mut Frames,
+    counted: u64,
+    program: &Program,
+    method: MethodId,
+    index: u16,
+    steps: u64,
+) -> bool
+    requires run { CanRun program.now }
+    requires fits { NextFits frames.old }
+    requires next { IsFlatNext program.now steps (resumed machine.now frames.old counted) method.0
+        (insn.Interface index) }
+    ensures did { result ≡ true → DoesNext program.now M.choose
+        (resumed machine.now frames.old counted) (resumed machine.now frames.new (counted + 1)) }
+    ensures same { result ≡ false → frames.new ≡ frames.old }
+{
+    let (m, named) = method_named(program, method, index);
+    rows::interface_call(machine, frames, program, m, named)
+}
+
+// invokespecial; tells whether it was done.
+#[inline(always)]
+fn special_called<M: Memory>(
+    machine: &Machine<M>,
+    frames: &mut Frames,
+    counted: u64,
+    program: &Program,
+    method: MethodId,
+    index: u16,
+    steps: u64,
+) -> bool
+    requires run { CanRun program.now }
+    requires fits { NextFits frames.old }
+    requires next { IsFlatNext program.now steps (resumed machine.now frames.old counted) method.0
+        (insn.Special index) }
+    ensures did { result ≡ true → DoesNext program.now M.choose
+        (resumed machine.now frames.old counted) (resumed machine.now frames.new (counted + 1)) }
+    ensures same { result ≡ false → frames.new ≡ frames.old }
+{
+    let (m, named) = method_named(program, method, index);
+    rows::special_call(machine, frames, program, method, m, named)
+}
+
+// invokestatic; tells whether it was done.
+#[inline(always)]
+fn static_called<M: Memory>(
+    machine: &Machine<M>,
+    frames: &mut Frames,
+    counted: u64,
+    program: &Program,
+    method: MethodId,
+    index: u16,
+    steps: u64,
+) -> bool
+    requires run { CanRun program.now }
+    requires fits { NextFits frames.old }
+    requires next { IsFlatNext program.now steps (resumed machine.now frames.old counted) method.0
+        (insn.Static index) }
+    ensures did { result ≡ true → DoesNext program.now M.choose
+        (resumed machine.now frames.old counted) (resumed machine.now frames.new (counted + 1)) }
+    ensures same { result ≡ false → frames.new ≡ frames.old }
+{
+    let (m, named) = method_named(program, method, index);
+    rows::static_call(machine, frames, program, m, named)
+}
+
+// return and its like; tells whether it was done.
+#[inline(always)]
+fn left<M: Memory>(
+    machine: &Machine<M>,
+    frames: &mut Frames,
+    counted: u64,
+    program: &Program,
+    method: MethodId,
+    value: Option<Reg>,
+    steps: u64,
+) -> bool
+    requires next { IsFlatNext program.now steps (resumed machine.now frames.old counted) method.0
+        (insn.Return value) }
+    ensures did { result ≡ true → DoesNext program.now M.choose
+        (resumed machine.now frames.old counted) (resumed machine.now frames.new (counted + 1)) }
+    ensures same { result ≡ false → frames.new ≡ frames.old }
+{
+    rows::leave(machine, frames, counted, program, value)
+}
+
+// Does the instruction, if it is a call or a return; tells whether it was done.
+#[inline(never)]
+pub(crate) fn do_call<M: Memory>(
+    machine: &Machine<M>,
+    frames: &mut Frames,
+    counted: u64,
+    program: &Program,
+    method: MethodId,
+    insn: &Insn,
+    steps: u64,
+) -> bool
+    requires run { CanRun program.now }
+    requires fits { NextFits frames.old }
+    requires next { IsFlatNext program.now steps (resumed machine.now frames.old counted) method.0
+        insn.now }
+    ensures did { result ≡ true → DoesCall program.now M.choose insn.now
+        (resumed machine.now frames.old counted) (resumed machine.now frames.new (counted + 1)) }
+    ensures same { result ≡ false → frames.new ≡ frames.old }
+{
+    match insn {
+        Insn::Virtual(index) => {
+            virtual_called(machine, frames, counted, program, method, *index, steps)
+        }
+        Insn::Interface(index) => {
+            interface_called(machine, frames, counted, program, method, *index, steps)
+        }
+        Insn::Special(index) => {
+            special_called(machine, frames, counted, program, method, *index, steps)
+        }
+        Insn::Static(index) => {
+            static_called(machine, frames, counted, program, method, *index, steps)
+        }
+        Insn::Return(value) => left(machine, frames, counted, program, method, *value, steps),
+        _ => false,
+    }
+}
