@@ -3,12 +3,11 @@ use Rattle.std.proofs.Common.{◌≡◌, ℕ, ◌+◌, ◌-◌, Bool, false, not
 use Rattle.std.proofs.lemmas.Option.{none-some, same_Some, slice_get-get_or}
 use Rattle.fm_base.specs.declared.ids.MethodId.{MethodId}
 use Rattle.fm_base.specs.declared.ids.TypeId.{TypeId}
+use Rattle.fm_base.specs.declared.kinds.Kind.{Kind}
 use Rattle.fm_base.specs.declared.kinds.TypeRef.{TypeRef}
 use Rattle.fm_calls.proofs.CallSteps.{plain-start}
 use Rattle.fm_calls.proofs.PlainEffects.{entered-plain}
 use Rattle.fm_calls.proofs.SelectSteps.{special-entered, special-seen}
-use Rattle.fm_calls.proofs.StartSteps.{no-methods}
-use Rattle.fm_calls.specs.inner.Starting.{with_first}
 use Rattle.fm_cells.specs.declared.answers.Cell.{Cell}
 use Rattle.fm_cells.specs.declared.answers.Head.{Head}
 use Rattle.fm_code.specs.declared.code_array.Code.{Code}
@@ -22,18 +21,19 @@ use Rattle.fm_flat.specs.Flows.{Flows, resumed}
 use Rattle.fm_flat_calls.specs.inner.Entries.{Enters}
 use Rattle.fm_flat_cells.proofs.CellSteps.{found-over}
 use Rattle.fm_frames.proofs.Calling.{called-one, left-caller}
-use Rattle.fm_frames.specs.Acts.{Choose}
+use Rattle.fm_frames.specs.Acts.{Choose, set_static}
 use Rattle.fm_frames.specs.CallRows.{entered, entered_as, native_of, special_effect, static_effect, words_of_arguments}
-use Rattle.fm_frames.specs.Effects.{Calls, Returns, going, words}
+use Rattle.fm_frames.specs.Effects.{Calls, Effect, Returns, going, words}
 use Rattle.fm_frames.specs.Natives.{ObjectInit, native_of_row}
 use Rattle.fm_frames.specs.NumberRows.{move_effect}
 use Rattle.fm_frames.specs.ObjectRows.{starting}
-use Rattle.fm_frames.specs.Starts.{is_started, start_actions, start_methods, to_start, with_start}
+use Rattle.fm_frames.specs.Starts.{is_started, started_by, to_start, with_start}
 use Rattle.fm_frames.specs.States.{Frame, State}
 use Rattle.fm_frames.specs.Steps.{is_start, max_locals_of, stack_of}
 use Rattle.fm_frames.specs.Sights.{type_numbered}
 use Rattle.fm_frames.specs.declared.looks.Look.{Look}
 use Rattle.fm_frames.specs.declared.looks.Look.TheVariants as look
+use Rattle.fm_frames.specs.declared.values.Value.{Value}
 use Rattle.fm_frames.specs.inner.Doings.{DoesIn, NextFits}
 use Rattle.fm_frames.specs.inner.Frames.{place_of, stack_in, topmost, with_called, with_result}
 use Rattle.fm_frames.specs.inner.Looks.{look_at, object_in}
@@ -76,13 +76,20 @@ enters-as p choose x old new words given target byte steps enters many =
     ∙ ap (λ n. going n (Calls target)) (sym many) in
     subst (DoesIn p choose (resumed x old steps) (resumed x new (steps + 1))) (sym same) (enters.does steps)
 
--- ---- a static method, of whose class nothing is to start
+-- ---- a class, of which nothing is to start
 
-started-is : (o : Outline) (started : List Bool) (class words m : ℕ) → to_start o started class ≡ []
-    → with_start o started (starting class (going words (Calls m))) ≡ going words (Calls m)
-started-is o started class words m none =
-    no-methods o started class (going words (Calls m)) [] (ap (start_methods o) none) refl
-    ∙ ap (λ classes. with_first (start_actions o classes) (going words (Calls m))) none
+-- the effect that starts a class is the same without it
+pub starting-none : (o : Outline) (started : List Bool) (class : ℕ) (e : Effect) → to_start o started class ≡ [] → e.starts ≡ None
+    → with_start o started (starting class e) ≡ e
+starting-none o started class e none plain =
+    ap (λ classes. started_by o classes (starting class e)) none ∙ ap (λ (s : Option ℕ). record e { starts = s }) (sym plain)
+
+-- the static field that was given a value, by the numbers of the table
+pub set-there : (x y : State) (slot place : ℕ) (kind own : Kind) (v : Value) → y ≡ record x { areas = set_static x.areas slot kind v } → slot ≡ place
+    → kind ≡ own → y ≡ record x { areas = set_static x.areas place own v }
+set-there x y slot place kind own v is at of = is ∙ (λ i. record x { areas = set_static x.areas (at i) (of i) v })
+
+-- ---- a static method of such a class
 
 pub static-over : (p : Program) (choose : Choose) (x : State) (old new : List Frame) (words : ℕ) (m : MethodId) (named : TypeId) (t : TypeRef)
     (class steps : ℕ) (byte : Option ℕ) → Enters p choose x old new words m.0 → words ≡ words_of_arguments p.outline m.0
@@ -95,7 +102,7 @@ static-over p choose x old new words m named t class steps byte enters many at o
     subst (λ e. Steps p choose (resumed x old steps) (resumed x new (steps + 1)) e)
     (sym (static-coded o m named t words byte (seen p (resumed x old steps)) at (ap (option_and_then native_of_row) enters.coded) many))
     (subst (DoesIn p choose (resumed x old steps) (resumed x new (steps + 1)))
-    (sym (started-is o x.areas.started (class_of_method o m.0) words m.0 here)) (enters.does steps))
+    (sym (starting-none o x.areas.started (class_of_method o m.0) (going words (Calls m.0)) here refl)) (enters.does steps))
 
 -- the class's superclasses are told by their display
 pub none-starts : (o : Outline) (started : List Bool) (class : ℕ) (classes above : List ℕ) → classes ≡ above
