@@ -8,7 +8,7 @@ ghost use Rattle.fm_code.specs.Profile.{Profile};
 ghost use Rattle.fm_given.specs.Taking.{IsSpelled};
 
 use crate::running::run_classes;
-use crate::tests::samples::{LENGTH_PLACE, PRINTS_LENGTH};
+use crate::tests::samples::{LENGTH_PLACE, MAKES_NEST, PRINTS_LENGTH, with_byte};
 use fm_base::NoMemory;
 use fm_code::ClassDef;
 use fm_files::{SureFiles, SureSink};
@@ -17,29 +17,37 @@ use fm_runner::Budgets;
 use std::alloc::Global;
 use std::test::Fail;
 
-// The words of a store, the length of the array that main makes, and how the run ends.
+// A class file in which one byte is this one, how many words may live and how many the store has, and how
+// the run ends.
 #[derive(Clone, Copy)]
 struct End<'a> {
+    file: &'a [u8],
+    place: usize,
+    byte: u8,
+    words: u8,
     store: u8,
-    length: u8,
     status: u8,
     printed: &'a [u8],
     reported: &'a [u8],
 }
 
-// An array of 10 ints takes a cell of 7 words, and one of 76 ints a cell of 64.
-fn ends<'a>() -> [End<'a>; 6] {
+// An array of 10 ints takes a cell of 7 words, and one of 76 ints a cell of 64. Words that may live are
+// looked at before those of the store.
+fn ends<'a>(lengths: &'a [u8]) -> [End<'a>; 7] {
     let short = End {
+        file: lengths,
+        place: LENGTH_PLACE,
+        byte: 10,
+        words: 100,
         store: 13,
-        length: 10,
         status: 0,
         printed: b"10\n",
         reported: b"returned; steps 8, objects 4, frees 0, freed words 0, live words 13, \
             peak words 13, cells made 4\n",
     };
     let long = End {
+        byte: 76,
         store: 70,
-        length: 76,
         printed: b"76\n",
         reported: b"returned; steps 8, objects 4, frees 0, freed words 0, live words 46, \
             peak words 46, cells made 4\n",
@@ -65,11 +73,43 @@ fn ends<'a>() -> [End<'a>; 6] {
         },
         long,
         End {
+            byte: 76,
             store: 69,
-            length: 76,
             reported: b"store-full 6 needs 64; steps 1, objects 3, frees 0, freed words 0, \
                 live words 6, peak words 6, cells made 3\n",
             ..full
+        },
+        End {
+            words: 12,
+            status: 81,
+            reported: b"exhausted 6 needs 7; steps 1, objects 3, frees 0, freed words 0, \
+                live words 6, peak words 6, cells made 3\n",
+            ..full
+        },
+    ]
+}
+
+// Of two arrays that one step makes the first one stays where the second one finds no room.
+fn ends_of_nests<'a>(nests: &'a [u8]) -> [End<'a>; 2] {
+    let two = End {
+        file: nests,
+        place: 0,
+        byte: 0xca,
+        words: 100,
+        store: 12,
+        status: 0,
+        printed: b"",
+        reported: b"returned; steps 6, objects 5, frees 0, freed words 0, live words 12, \
+            peak words 12, cells made 5\n",
+    };
+    [
+        two,
+        End {
+            store: 11,
+            status: 85,
+            reported: b"store-full 9 needs 3; steps 2, objects 4, frees 0, freed words 0, \
+                live words 9, peak words 9, cells made 4\n",
+            ..two
         },
     ]
 }
@@ -82,7 +122,7 @@ fn run_ends_so(alloc: Global, classes: &[ClassDef], end: End<'_>) -> Result<bool
 {
     let budgets = Budgets {
         steps: 100,
-        words: 100,
+        words: u64::from(end.words),
         store: u64::from(end.store),
         frames: 1,
     };
@@ -97,12 +137,9 @@ fn run_ends_so(alloc: Global, classes: &[ClassDef], end: End<'_>) -> Result<bool
     }
 }
 
-// Whether that of an array of so many ints does.
+// Whether that of the class file with the byte does.
 fn ends_so(alloc: Global, end: End<'_>) -> Result<bool, NoMemory> {
-    let mut file = PRINTS_LENGTH.bytes(alloc)?;
-    if let Some(byte) = file.get_mut(LENGTH_PLACE) {
-        *byte = end.length;
-    }
+    let file = with_byte(alloc, end.file, end.place, end.byte)?;
     let mut files = SureFiles::new(alloc);
     files.add("M.class", &file)?;
     match read_classes(alloc, &["M.class"], &mut files) {
@@ -114,8 +151,13 @@ fn ends_so(alloc: Global, end: End<'_>) -> Result<bool, NoMemory> {
 #[test]
 fn a_store_suffices_or_lacks_one_word(rt: HostRuntime) -> Result<(), Fail> {
     let alloc = rt.alloc();
-    for end in ends() {
-        assert!(rt; ends_so(alloc, end)?, "{} {}", end.store, end.length);
+    let lengths = PRINTS_LENGTH.bytes(alloc)?;
+    let nests = MAKES_NEST.bytes(alloc)?;
+    for end in ends(&lengths) {
+        assert!(rt; ends_so(alloc, end)?, "{} {}", end.store, end.byte);
+    }
+    for end in ends_of_nests(&nests) {
+        assert!(rt; ends_so(alloc, end)?, "{} {}", end.store, end.byte);
     }
     Ok(())
 }
