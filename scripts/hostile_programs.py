@@ -229,4 +229,5 @@ def main():
                 out.write(file.spelled())
 
 
-main()
+if __name__ == "__main__":
+    main()
