@@ -164,18 +164,18 @@ group-flowed p choose budget method m old counted new insn did next flows same =
   ended = refl;
 }
 
--- a call or a return
-pub call-flowed : (p : Program) (choose : Choose) (budget method : ℕ) (m : State) (old : List Frame) (counted : ℕ) (new : List Frame) (insn : Insn) (did : Bool)
-    → IsFlatNext p budget (resumed m old counted) method insn
-    → (did ≡ true → DoesCall p choose insn (resumed m old counted) (resumed m new (counted + 1))) → (did ≡ false → new ≡ old)
-    → Flowed p choose budget method (resumed m old counted) (resumed m new (counted + 1)) (resumed m new counted) did
-call-flowed p choose budget method m old counted new insn did next does same = record {
+-- a call, a return or another one that is done out of line
+pub call-flowed : (p : Program) (choose : Choose) (budget method : ℕ) (m : State) (old : List Frame) (counted : ℕ) (m2 : State) (new : List Frame)
+    (insn : Insn) (did : Bool) → IsFlatNext p budget (resumed m old counted) method insn
+    → (did ≡ true → DoesCall p choose insn (resumed m old counted) (resumed m2 new (counted + 1))) → (did ≡ false → new ≡ old) → (did ≡ false → m2 ≡ m)
+    → m2.ended ≡ m.ended → Flowed p choose budget method (resumed m old counted) (resumed m2 new (counted + 1)) (resumed m2 new counted) did
+call-flowed p choose budget method m old counted m2 new insn did next does same kept ended = record {
   done =
       λ told.
       let call = does told in
       (insn, next.next call.0, call.1);
-  kept = λ told. λ j. resumed m (same told j) counted;
-  ended = refl;
+  kept = λ told. λ j. resumed (kept told j) (same told j) counted;
+  ended = ended;
 }
 
 -- none was done

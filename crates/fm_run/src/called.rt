@@ -1,4 +1,5 @@
-// Calls and returns over frames that are taken out of the machine (JVMS 2.6.4, 6.5).
+// Calls, returns, casts and writes of static fields over frames that are taken out of the machine (JVMS 2.6.4,
+// 6.5): the instructions whose rows are too large to be in line.
 
 ghost use Rattle.std.specs.Prelude.{◌≡◌, ◌+◌, true, false};
 ghost use Rattle.fm_code.specs.declared.instructions.Insn.TheVariants as insn;
@@ -8,7 +9,7 @@ ghost use Rattle.fm_ready.specs.Ready.{CanRun};
 ghost use Rattle.fm_run.specs.inner.Flats.{DoesCall, IsFlatNext};
 ghost use Rattle.fm_run.specs.inner.Nexts.{DoesNext};
 
-use crate::names::method_named;
+use crate::names::{field_named, method_named, type_named};
 use fm_base::MethodId;
 use fm_cells::Memory;
 use fm_code::{Insn, Reg};
@@ -128,10 +129,58 @@ fn left<M: Memory>(
     rows::leave(machine, frames, counted, program, value)
 }
 
-// Does the instruction, if it is a call or a return; tells whether it was done.
+// checkcast of an object that passes it; tells whether it was done.
+#[inline(always)]
+fn cast_passed<M: Memory>(
+    machine: &Machine<M>,
+    frames: &mut Frames,
+    counted: u64,
+    program: &Program,
+    method: MethodId,
+    index: u16,
+    steps: u64,
+) -> bool
+    requires run { CanRun program.now }
+    requires fits { NextFits frames.old }
+    requires next { IsFlatNext program.now steps (resumed machine.now frames.old counted) method.0
+        (insn.Cast index) }
+    ensures did { result ≡ true → DoesNext program.now M.choose
+        (resumed machine.now frames.old counted) (resumed machine.now frames.new (counted + 1)) }
+    ensures same { result ≡ false → frames.new ≡ frames.old }
+{
+    let t = type_named(program, method, index);
+    rows::cast(machine, frames, program, t)
+}
+
+// putstatic; tells whether it was done.
+#[inline(always)]
+fn static_written<M: Memory>(
+    machine: &mut Machine<M>,
+    frames: &mut Frames,
+    counted: u64,
+    program: &Program,
+    method: MethodId,
+    index: u16,
+    steps: u64,
+) -> bool
+    requires run { CanRun program.now }
+    requires fits { NextFits frames.old }
+    requires next { IsFlatNext program.now steps (resumed machine.old frames.old counted) method.0
+        (insn.PutStatic index) }
+    ensures did { result ≡ true → DoesNext program.now M.choose
+        (resumed machine.old frames.old counted) (resumed machine.new frames.new (counted + 1)) }
+    ensures same { result ≡ false → frames.new ≡ frames.old }
+    ensures kept { result ≡ false → machine.new ≡ machine.old }
+    ensures ended { machine.new.ended ≡ machine.old.ended }
+{
+    let (f, named) = field_named(program, method, index);
+    rows::put_static(machine, frames, program, f, named)
+}
+
+// Does the instruction, if it is a call, a return, a checkcast or a putstatic; tells whether it was done.
 #[inline(never)]
 pub(crate) fn do_call<M: Memory>(
-    machine: &Machine<M>,
+    machine: &mut Machine<M>,
     frames: &mut Frames,
     counted: u64,
     program: &Program,
@@ -141,11 +190,13 @@ pub(crate) fn do_call<M: Memory>(
 ) -> bool
     requires run { CanRun program.now }
     requires fits { NextFits frames.old }
-    requires next { IsFlatNext program.now steps (resumed machine.now frames.old counted) method.0
+    requires next { IsFlatNext program.now steps (resumed machine.old frames.old counted) method.0
         insn.now }
     ensures did { result ≡ true → DoesCall program.now M.choose insn.now
-        (resumed machine.now frames.old counted) (resumed machine.now frames.new (counted + 1)) }
+        (resumed machine.old frames.old counted) (resumed machine.new frames.new (counted + 1)) }
     ensures same { result ≡ false → frames.new ≡ frames.old }
+    ensures kept { result ≡ false → machine.new ≡ machine.old }
+    ensures ended { machine.new.ended ≡ machine.old.ended }
 {
     match insn {
         Insn::Virtual(index) => {
@@ -159,6 +210,12 @@ pub(crate) fn do_call<M: Memory>(
         }
         Insn::Static(index) => {
             static_called(machine, frames, counted, program, method, *index, steps)
+        }
+        Insn::Cast(index) => {
+            cast_passed(machine, frames, counted, program, method, *index, steps)
+        }
+        Insn::PutStatic(index) => {
+            static_written(machine, frames, counted, program, method, *index, steps)
         }
         Insn::Return(value) => left(machine, frames, counted, program, method, *value, steps),
         _ => false,

@@ -14,7 +14,7 @@ ghost use Rattle.fm_world.specs.Members.{methods_of};
 ghost use Rattle.fm_world.specs.Programs.{code_at, Program};
 
 use crate::called::do_call;
-use crate::indexed::{field_read, field_written, number};
+use crate::indexed::{field_read, field_written, number, static_read};
 use crate::names::insn_among;
 use fm_base::MethodId;
 use fm_cells::Memory;
@@ -165,6 +165,17 @@ fn flow<M: Memory>(
                     steps,
                 )
             }
+            Insn::GetStatic(index) => {
+                static_read(
+                    machine,
+                    &mut frames,
+                    counted,
+                    program,
+                    method,
+                    *index,
+                    steps,
+                )
+            }
             Insn::PutField(index) => {
                 field_written(
                     machine,
@@ -190,10 +201,10 @@ fn flow<M: Memory>(
     (frames, counted)
 }
 
-// Does the next instruction, if it is a call or a return of this method; tells whether it was done.
+// Does the next instruction, if it is one of this method that is done out of line; tells whether it was done.
 #[inline(never)]
 fn do_next_call<M: Memory>(
-    machine: &Machine<M>,
+    machine: &mut Machine<M>,
     frames: &mut Frames,
     counted: u64,
     program: &Program,
@@ -204,12 +215,13 @@ fn do_next_call<M: Memory>(
     requires run { CanRun program.now }
     requires code { code_at program.now method.0 ≡ Some code.now }
     requires few { steps < 2 ^ 64 }
-    requires keeps { Keeps program.now steps (resumed machine.now frames.old counted) }
-    requires on { machine.now.ended ≡ None }
+    requires keeps { Keeps program.now steps (resumed machine.old frames.old counted) }
+    requires on { machine.old.ended ≡ None }
     requires within { counted < steps }
     ensures did { result ≡ true → WentOn program.now M.choose steps
-        (resumed machine.now frames.old counted) (resumed machine.now frames.new (counted + 1)) }
+        (resumed machine.old frames.old counted) (resumed machine.new frames.new (counted + 1)) }
     ensures same { result ≡ false → frames.new ≡ frames.old }
+    ensures kept { result ≡ false → machine.new ≡ machine.old }
 {
     let items = code.items.as_slice();
     let next = next_in(

@@ -1,5 +1,5 @@
 // The instructions that name something, over frames that are taken out of the machine (JVMS 6.5.ldc,
-// 6.5.getfield, 6.5.putfield).
+// 6.5.getfield, 6.5.putfield, 6.5.getstatic).
 
 ghost use Rattle.std.specs.Prelude.{◌≡◌, ◌+◌, ◌<◌, length, true, false};
 ghost use Rattle.fm_code.specs.declared.instructions.Insn.TheVariants as insn;
@@ -15,6 +15,7 @@ ghost use Rattle.fm_world.specs.Members.{methods_of};
 use crate::names::{field_named, used};
 use fm_base::MethodId;
 use fm_cells::Memory;
+use fm_flat_calls::get_static;
 use fm_flat_cells as rows;
 use fm_frames::{Frames, Machine};
 use fm_world::Program;
@@ -78,4 +79,27 @@ pub(crate) fn field_written<M: Memory>(
 {
     let (f, named) = field_named(program, method, index);
     rows::put_field(machine, frames, program, f, named)
+}
+
+// getstatic; tells whether it was done.
+#[inline(always)]
+pub(crate) fn static_read<M: Memory>(
+    machine: &Machine<M>,
+    frames: &mut Frames,
+    counted: u64,
+    program: &Program,
+    method: MethodId,
+    index: u16,
+    steps: u64,
+) -> bool
+    requires run { CanRun program.now }
+    requires fits { NextFits frames.old }
+    requires next { IsFlatNext program.now steps (resumed machine.now frames.old counted) method.0
+        (insn.GetStatic index) }
+    ensures did { result ≡ true → DoesNext program.now M.choose
+        (resumed machine.now frames.old counted) (resumed machine.now frames.new (counted + 1)) }
+    ensures same { result ≡ false → frames.new ≡ frames.old }
+{
+    let (f, named) = field_named(program, method, index);
+    get_static(machine, frames, program, f, named)
 }

@@ -36,6 +36,22 @@ static_called-requires-clause-next g c =
 pub returns-in-Static-clause-did : goal.returns-in-Static-clause-did
 returns-in-Static-clause-did g c told = (ap nest_of c.in-Static.is, c.static_called.ensures.did told)
 
+pub cast_passed-requires-clause-next : goal.cast_passed-requires-clause-next
+cast_passed-requires-clause-next g c =
+    subst (IsFlatNext c.args.program.now c.args.steps (resumed c.args.machine.now c.args.frames.now c.args.counted) c.args.method.0) c.in-Cast.is
+    c.requires.next
+
+pub returns-in-Cast-clause-did : goal.returns-in-Cast-clause-did
+returns-in-Cast-clause-did g c told = (ap nest_of c.in-Cast.is, c.cast_passed.ensures.did told)
+
+pub static_written-requires-clause-next : goal.static_written-requires-clause-next
+static_written-requires-clause-next g c =
+    subst (IsFlatNext c.args.program.now c.args.steps (resumed c.args.machine.now c.args.frames.now c.args.counted) c.args.method.0) c.in-PutStatic.is
+    c.requires.next
+
+pub returns-in-PutStatic-clause-did : goal.returns-in-PutStatic-clause-did
+returns-in-PutStatic-clause-did g c told = (ap nest_of c.in-PutStatic.is, c.static_written.ensures.did told)
+
 pub left-requires : goal.left-requires
 left-requires g c = record {
   next =

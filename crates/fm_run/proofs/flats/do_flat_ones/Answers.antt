@@ -27,7 +27,7 @@ loop-counted-preserved g c =
     let choose = g.M.Memory.choose in
     let did : c.do_next_call-did.result ≡ true = search rules in
     then-went p choose c.args.steps c.args.machine.now (resumed c.flow-flowed.new.machine c.flow-flowed.result.0 c.flow-flowed.result.1)
-    (resumed c.flow-flowed.new.machine c.do_next_call-did.new.frames (c.flow-flowed.result.1 + 1))
+    (resumed c.do_next_call-did.new.machine c.do_next_call-did.new.frames (c.flow-flowed.result.1 + 1))
     (then-went p choose c.args.steps c.args.machine.now (resumed c.loop-counted.machine c.loop-counted.frames c.loop-counted.counted)
     (resumed c.flow-flowed.new.machine c.flow-flowed.result.0 c.flow-flowed.result.1) c.loop-counted.invariant c.flow-flowed.ensures.went)
     (c.do_next_call-did.ensures.did did)
@@ -60,7 +60,7 @@ returns g c =
       | then-loop-counted-test+in-Some+in-Some-code_of+else-counted-steps+then-not-did w ↦
           let didnt : w.do_next_call-did.result ≡ false = search rules in
           went-joined p choose b x w.flow-flowed.new.machine last.machine w.flow-flowed.result.0 last.frames w.flow-flowed.result.1 last.counted
-          w.machine-is (w.frames-is ∙ w.do_next_call-did.ensures.same didnt) w.counted-is
+          (w.machine-is ∙ w.do_next_call-did.ensures.kept didnt) (w.frames-is ∙ w.do_next_call-did.ensures.same didnt) w.counted-is
           (then-went p choose b x (resumed m f n) (resumed w.flow-flowed.new.machine w.flow-flowed.result.0 w.flow-flowed.result.1) here
           w.flow-flowed.ensures.went)
     ] in

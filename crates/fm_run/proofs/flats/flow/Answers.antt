@@ -13,7 +13,7 @@ use Rattle.fm_run.proofs.Resolving.{is-method}
 use Rattle.fm_run.proofs.flats.flow.Given.{Over}
 use Rattle.fm_run.proofs.flats.flow.Goals as goal
 use Rattle.fm_run.proofs.flats.flow.Goals.{After-births-births}
-use Rattle.fm_run.proofs.flats.flow.Goals.{in-Load, in-Store, in-Const, in-Inc, in-IntOp, in-IfInt, in-IfPair, in-Goto, in-Dup, in-GetField, in-PutField, in-ArrayLoad, in-ArrayStore, in-Length, in_default-insn}
+use Rattle.fm_run.proofs.flats.flow.Goals.{in-Load, in-Store, in-Const, in-Inc, in-IntOp, in-IfInt, in-IfPair, in-Goto, in-Dup, in-GetField, in-GetStatic, in-PutField, in-ArrayLoad, in-ArrayStore, in-Length, in_default-insn}
 use Rattle.fm_run.specs.inner.Flats.{IsFlatNext, WentOn}
 use Rattle.fm_run.specs.inner.Going.{Keeps, LeadsQuietly}
 use Rattle.fm_types.specs.Typed.{use_by}
@@ -76,6 +76,10 @@ arms g c =
           flowed-joined p choose budget method n x m c.match-insn.machine w.field_read-did.new.frames c.match-insn.frames w.field_read-did.result c.match-insn.did w.machine-is w.frames-is w.did-is
           (does-flowed p choose budget method m old n m w.field_read-did.new.frames it (insn.GetField w.in-GetField.index) w.field_read-did.result next w.in-GetField.is refl
           (λ told found. w.field_read-did.ensures.did told) w.field_read-did.ensures.same (λ told. refl) refl)
+      | in-GetStatic w ↦
+          flowed-joined p choose budget method n x m c.match-insn.machine w.static_read-did.new.frames c.match-insn.frames w.static_read-did.result c.match-insn.did w.machine-is w.frames-is w.did-is
+          (does-flowed p choose budget method m old n m w.static_read-did.new.frames it (insn.GetStatic w.in-GetStatic.index) w.static_read-did.result next w.in-GetStatic.is refl
+          (λ told found. w.static_read-did.ensures.did told) w.static_read-did.ensures.same (λ told. refl) refl)
       | in-PutField w ↦
           flowed-joined p choose budget method n x w.field_written-did.new.machine c.match-insn.machine w.field_written-did.new.frames c.match-insn.frames w.field_written-did.result c.match-insn.did w.machine-is w.frames-is w.did-is
           (does-flowed p choose budget method m old n w.field_written-did.new.machine w.field_written-did.new.frames it (insn.PutField w.in-PutField.index)
@@ -146,6 +150,11 @@ do_other-did-requires-clause-asks g c = c.in-Some.ensures.next.asks
 pub field_read-did-requires-clause-next : goal.field_read-did-requires-clause-next
 field_read-did-requires-clause-next g c =
     subst (IsFlatNext c.args.program.now c.args.steps (resumed c.loop-counted.machine c.loop-counted.frames c.loop-counted.counted) c.args.method.0) c.in-GetField.is
+    c.in-Some.ensures.next
+
+pub static_read-did-requires-clause-next : goal.static_read-did-requires-clause-next
+static_read-did-requires-clause-next g c =
+    subst (IsFlatNext c.args.program.now c.args.steps (resumed c.loop-counted.machine c.loop-counted.frames c.loop-counted.counted) c.args.method.0) c.in-GetStatic.is
     c.in-Some.ensures.next
 
 pub field_written-did-requires-clause-next : goal.field_written-did-requires-clause-next
