@@ -37,6 +37,23 @@ pub fn judge_program<'a>(
     Ok(program)
 }
 
+/// The program of classes with a main class of this name, as `judge_program` gives it. The classes are dropped
+/// before the methods are checked, so both don't take memory at once.
+pub fn program_of<'a>(
+    alloc: Global,
+    classes: Vec<ClassDef>,
+    main: &str,
+) -> Result<Program, JobRefusal<'a>>
+    requires spelled { AllByRecursion IsSpelled classes.items }
+    requires within { AllByRecursion IsWithinLimits classes.items }
+    ensures { ComesOfProgram classes.items (modified main.now) result }
+{
+    let program = link_classes(alloc, classes.as_slice(), main)?;
+    drop(classes);
+    refuse_untyped(alloc, &program)?;
+    Ok(program)
+}
+
 // Refuses a program for its first method that isn't typed.
 fn refuse_untyped<'a>(alloc: Global, program: &Program) -> Result<(), JobRefusal<'a>>
     requires { AreCheckable program.now }

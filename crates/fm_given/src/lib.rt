@@ -13,7 +13,7 @@ mod linking;
 mod reading;
 mod refusal;
 
-pub use checking::{judge_program, method_text};
+pub use checking::{judge_program, method_text, program_of};
 pub use class_refusal::ClassRefusal;
 pub use reading::read_classes;
 pub use refusal::JobRefusal;

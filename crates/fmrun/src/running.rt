@@ -14,33 +14,34 @@ use crate::outcome::JobFail;
 use fm_base::Units;
 use fm_code::ClassDef;
 use fm_files::Sink;
-use fm_given::judge_program;
+use fm_given::program_of;
 use fm_resolved::{law_can_run, law_linked_no_fault};
 use fm_runner::{Budgets, Told, run_program};
 use std::alloc::Global;
 
 /// Runs the program of classes with a main class of this name, where they make one of typed methods, and
-/// tells of its run; it ends in a fault only where a method calls FreeMe.
+/// tells of its run; it ends in a fault only where a method calls FreeMe. The classes are dropped once they are
+/// linked.
 pub fn run_classes<'a, O: Sink>(
     alloc: Global,
-    classes: &[ClassDef],
+    classes: Vec<ClassDef>,
     main: &str,
     budgets: Budgets,
     arguments: &[Units],
     input: &[u8],
     out: &mut O,
 ) -> Result<Told, JobFail<'a>>
-    requires spelled { AllByRecursion IsSpelled classes.now }
-    requires accepted { AllByRecursion Profile classes.now }
-    requires few_files { length classes.now ≤ MAX_CLASS_FILES }
+    requires spelled { AllByRecursion IsSpelled classes.items }
+    requires accepted { AllByRecursion Profile classes.items }
+    requires few_files { length classes.items ≤ MAX_CLASS_FILES }
     requires within { AreWithin budgets }
     requires few { length arguments.now ≤ MAX_ARGUMENTS }
     requires given { ArgumentsFit arguments.now }
     requires short { length input.now ≤ MAX_FILE_BYTES }
-    ensures { ComesOfClasses classes.now (modified main.now) budgets arguments.now input.now
+    ensures { ComesOfClasses classes.items (modified main.now) budgets arguments.now input.now
         (O.output out.old) (O.output out.new) result }
 {
-    let program = judge_program(alloc, classes, main)?;
+    let program = program_of(alloc, classes, main)?;
     law_can_run();
     law_linked_no_fault();
     let told = run_program(alloc, &program, budgets, arguments, input, out)?;

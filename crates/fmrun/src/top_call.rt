@@ -15,7 +15,6 @@ use crate::outcome::JobFail;
 use crate::running::run_classes;
 use fm_base::limits::{MAX_ARGUMENTS, MAX_CLASS_FILES, MAX_MADE_WORDS};
 use fm_base::{NoMemory, Units};
-use fm_code::ClassDef;
 use fm_files::{Files, Sink};
 use fm_given::{JobRefusal, read_classes};
 use fm_held::law_most_held;
@@ -148,8 +147,7 @@ fn do_job<'a, F: Files, O: Sink>(
     if arguments.len() > MAX_ARGUMENTS as usize {
         return Err(JobFail::Refused(JobRefusal::TooManyArguments(arguments.len())));
     }
-    let read = read_classes(alloc, names, files)?;
-    let classes: &[ClassDef] = &read;
+    let classes = read_classes(alloc, names, files)?;
     let bytes = read_input(alloc, request.input, files)?;
     let input: &[u8] = &bytes;
     let budgets = Budgets {

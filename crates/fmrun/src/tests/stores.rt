@@ -115,10 +115,10 @@ fn ends_of_nests<'a>(nests: &'a [u8]) -> [End<'a>; 2] {
 }
 
 // Whether the run of the classes in a store of so many words ends so.
-fn run_ends_so(alloc: Global, classes: &[ClassDef], end: End<'_>) -> Result<bool, NoMemory>
-    requires spelled { AllByRecursion IsSpelled classes.now }
-    requires accepted { AllByRecursion Profile classes.now }
-    requires few { length classes.now ≤ MAX_CLASS_FILES }
+fn run_ends_so(alloc: Global, classes: Vec<ClassDef>, end: End<'_>) -> Result<bool, NoMemory>
+    requires spelled { AllByRecursion IsSpelled classes.items }
+    requires accepted { AllByRecursion Profile classes.items }
+    requires few { length classes.items ≤ MAX_CLASS_FILES }
 {
     let budgets = Budgets {
         steps: 100,
@@ -143,7 +143,7 @@ fn ends_so(alloc: Global, end: End<'_>) -> Result<bool, NoMemory> {
     let mut files = SureFiles::new(alloc);
     files.add("M.class", &file)?;
     match read_classes(alloc, &["M.class"], &mut files) {
-        Ok(read) => run_ends_so(alloc, read.as_slice(), end),
+        Ok(classes) => run_ends_so(alloc, classes, end),
         Err(_) => Ok(false),
     }
 }

@@ -1,4 +1,4 @@
-use Rattle.std.proofs.Common.{arith, subst, sym, ◌∙◌}
+use Rattle.std.proofs.Common.{refl, arith, subst, sym, ◌∙◌}
 use Rattle.std.proofs.lemmas.Result.{err_from_is_err_and}
 use Rattle.fmrun.proofs.JobLemmas.{accepted, all_of_names, both_within, classes_of, classes_within, ends_at_once, ends_run_as, ends_unread, ends_without_input, few_classes, few_of, input_of, input_short, none_within, spelled, unread_of}
 use Rattle.std.specs.List.{AllByRecursion}
@@ -19,39 +19,39 @@ returns-in_err-given-clause-comes g c =
     let handed = err_from_is_err_and c.from_residual.result c.from_residual.ensures.1 in
     rw (handed.1, handed.2) (ends_at_once (job_of c.args.request) (g.F.Files.disk c.args.files.now) (g.O.Sink.output c.args.out.now))
 
-pub returns-in_err-read-clause-within : goal.returns-in_err-read-clause-within
-returns-in_err-read-clause-within g c =
+pub returns-in_err-classes-clause-within : goal.returns-in_err-classes-clause-within
+returns-in_err-classes-clause-within g c =
     classes_within (job_of c.args.request) (g.F.Files.disk c.args.files.now) (g.F.Files.disk c.read_classes.new.files) (all_of_names c.args.request c.deref-names.ensures.value c.read_classes.ensures.within)
 
-pub returns-in_err-read-clause-comes : goal.returns-in_err-read-clause-comes
-returns-in_err-read-clause-comes g c =
+pub returns-in_err-classes-clause-comes : goal.returns-in_err-classes-clause-comes
+returns-in_err-classes-clause-comes g c =
     let few = few_of c.deref-arguments.ensures.value c.in_ok-given.ensures.given (omega (arith, c.if-arguments.false)) in
-    let handed = err_from_is_err_and c.from_residual-in_err-read.result c.from_residual-in_err-read.ensures.1 in
+    let handed = err_from_is_err_and c.from_residual-in_err-classes.result c.from_residual-in_err-classes.ensures.1 in
     rw (handed.1, handed.2)
-    (ends_unread (job_of c.args.request) (g.F.Files.disk c.args.files.now) (g.F.Files.disk c.read_classes.new.files) (g.O.Sink.output c.args.out.now) few c.in_err-read.field-0.0 (unread_of (g.F.Files.disk c.args.files.now) (g.F.Files.disk c.read_classes.new.files) c.args.request c.deref-names.ensures.value c.in_err-read.field-0.0 c.in_err-read.ensures.comes))
+    (ends_unread (job_of c.args.request) (g.F.Files.disk c.args.files.now) (g.F.Files.disk c.read_classes.new.files) (g.O.Sink.output c.args.out.now) few c.in_err-classes.field-0.0 (unread_of (g.F.Files.disk c.args.files.now) (g.F.Files.disk c.read_classes.new.files) c.args.request c.deref-names.ensures.value c.in_err-classes.field-0.0 c.in_err-classes.ensures.comes))
 
 pub returns-in_err-bytes-clause-within : goal.returns-in_err-bytes-clause-within
 returns-in_err-bytes-clause-within g c =
-    both_within (classes_of c.args.request c.deref-names.ensures.value c.deref-classes.ensures.value c.read_classes.ensures.within c.in_ok-read.ensures.comes) (few_of c.deref-arguments.ensures.value c.in_ok-given.ensures.given (omega (arith, c.if-arguments.false))) (g.F.Files.disk c.read_input.new.files) c.read_input.ensures.reads
+    both_within (classes_of c.args.request c.deref-names.ensures.value refl c.read_classes.ensures.within c.in_ok-classes.ensures.comes) (few_of c.deref-arguments.ensures.value c.in_ok-given.ensures.given (omega (arith, c.if-arguments.false))) (g.F.Files.disk c.read_input.new.files) c.read_input.ensures.reads
 
 pub returns-in_err-bytes-clause-comes : goal.returns-in_err-bytes-clause-comes
 returns-in_err-bytes-clause-comes g c =
-    let has = classes_of c.args.request c.deref-names.ensures.value c.deref-classes.ensures.value c.read_classes.ensures.within c.in_ok-read.ensures.comes in
+    let has = classes_of c.args.request c.deref-names.ensures.value refl c.read_classes.ensures.within c.in_ok-classes.ensures.comes in
     let few = few_of c.deref-arguments.ensures.value c.in_ok-given.ensures.given (omega (arith, c.if-arguments.false)) in
     let handed = err_from_is_err_and c.from_residual-in_err-bytes.result c.from_residual-in_err-bytes.ensures.1 in
     rw (handed.1, handed.2) (ends_without_input has few (g.F.Files.disk c.read_input.new.files) c.read_input.ensures.reads (g.O.Sink.output c.args.out.now) c.in_err-bytes.field-0.0 c.in_err-bytes.ensures.comes)
 
 pub run_classes-requires-clause-spelled : goal.run_classes-requires-clause-spelled
 run_classes-requires-clause-spelled g c =
-    spelled (classes_of c.args.request c.deref-names.ensures.value c.deref-classes.ensures.value c.read_classes.ensures.within c.in_ok-read.ensures.comes)
+    spelled (classes_of c.args.request c.deref-names.ensures.value refl c.read_classes.ensures.within c.in_ok-classes.ensures.comes)
 
 pub run_classes-requires-clause-accepted : goal.run_classes-requires-clause-accepted
 run_classes-requires-clause-accepted g c =
-    accepted (classes_of c.args.request c.deref-names.ensures.value c.deref-classes.ensures.value c.read_classes.ensures.within c.in_ok-read.ensures.comes)
+    accepted (classes_of c.args.request c.deref-names.ensures.value refl c.read_classes.ensures.within c.in_ok-classes.ensures.comes)
 
 pub run_classes-requires-clause-few_files : goal.run_classes-requires-clause-few_files
 run_classes-requires-clause-few_files g c =
-    few_classes (classes_of c.args.request c.deref-names.ensures.value c.deref-classes.ensures.value c.read_classes.ensures.within c.in_ok-read.ensures.comes)
+    few_classes (classes_of c.args.request c.deref-names.ensures.value refl c.read_classes.ensures.within c.in_ok-classes.ensures.comes)
 
 pub run_classes-requires-clause-within : goal.run_classes-requires-clause-within
 run_classes-requires-clause-within g c =
@@ -63,17 +63,17 @@ run_classes-requires-clause-given g c =
 
 pub run_classes-requires-clause-short : goal.run_classes-requires-clause-short
 run_classes-requires-clause-short g c =
-    let has = classes_of c.args.request c.deref-names.ensures.value c.deref-classes.ensures.value c.read_classes.ensures.within c.in_ok-read.ensures.comes in
+    let has = classes_of c.args.request c.deref-names.ensures.value refl c.read_classes.ensures.within c.in_ok-classes.ensures.comes in
     let few = few_of c.deref-arguments.ensures.value c.in_ok-given.ensures.given (omega (arith, c.if-arguments.false)) in
     input_short has few (g.F.Files.disk c.read_input.new.files) c.read_input.ensures.reads (input_of c.deref-input.ensures.value c.in_ok-bytes.ensures.comes)
 
 pub returns-clause-within : goal.returns-clause-within
 returns-clause-within g c =
-    both_within (classes_of c.args.request c.deref-names.ensures.value c.deref-classes.ensures.value c.read_classes.ensures.within c.in_ok-read.ensures.comes) (few_of c.deref-arguments.ensures.value c.in_ok-given.ensures.given (omega (arith, c.if-arguments.false))) (g.F.Files.disk c.read_input.new.files) c.read_input.ensures.reads
+    both_within (classes_of c.args.request c.deref-names.ensures.value refl c.read_classes.ensures.within c.in_ok-classes.ensures.comes) (few_of c.deref-arguments.ensures.value c.in_ok-given.ensures.given (omega (arith, c.if-arguments.false))) (g.F.Files.disk c.read_input.new.files) c.read_input.ensures.reads
 
 pub returns-clause-comes : goal.returns-clause-comes
 returns-clause-comes g c =
-    let has = classes_of c.args.request c.deref-names.ensures.value c.deref-classes.ensures.value c.read_classes.ensures.within c.in_ok-read.ensures.comes in
+    let has = classes_of c.args.request c.deref-names.ensures.value refl c.read_classes.ensures.within c.in_ok-classes.ensures.comes in
     let few = few_of c.deref-arguments.ensures.value c.in_ok-given.ensures.given (omega (arith, c.if-arguments.false)) in
     ends_run_as has few (g.F.Files.disk c.read_input.new.files) c.read_input.ensures.reads (input_of c.deref-input.ensures.value c.in_ok-bytes.ensures.comes) (c.deref-arguments.ensures.value ∙ c.in_ok-given.ensures.given)
     (g.O.Sink.output c.args.out.now) (g.O.Sink.output c.run_classes.new.out) c.run_classes.result c.run_classes.ensures
