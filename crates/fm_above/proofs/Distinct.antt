@@ -1,4 +1,4 @@
--- Numbers once each, in the order in which they first stand.
+-- Numbers once each, in the order in which they first occur.
 use Rattle.std.proofs.Common.{◌≡◌, refl, sym, ◌∙◌, ap, ℕ, ◌||◌, ◌<◌, not, Bool, true, false, cond, List, [], ◌∷◌, ◌++◌, nat_eq, filter, length, get_or, set}
 use Rattle.std.proofs.lemmas.Bool.{eqb-true, eq-eqb, false≢true}
 use Rattle.std.proofs.lemmas.List.{append-nil, get_or-set_other, get_or-set_same}

@@ -1,4 +1,4 @@
--- The order in which each class stands after its superclass; and what stands among superinterfaces.
+-- The order in which each class comes after its superclass; and what is among superinterfaces.
 use Rattle.std.proofs.Common.{◌≡◌, refl, sym, ◌∙◌, ap, subst, ℕ, zero, suc, ◌+◌, ◌<◌, ◌≤◌, ◌⊎◌, inl, inr, ◌||◌, Bool, true, false, List, [], ◌∷◌, ◌++◌, length, map, reverse, nat_eq, take, slice_get, Option, Some, None, arith}
 use Rattle.std.specs.List.{flat_map, range_with_len}
 use Rattle.std.proofs.lemmas.Bool.{cases_lt, eqb-true, eq-eqb, false≢true}
@@ -37,7 +37,7 @@ among_left x xs ys e = list_any-append (nat_eq x) xs ys ∙ ap (λ b. b || is_am
 pub among_right : (x : ℕ) (xs ys : List ℕ) → is_among x ys ≡ true → is_among x (xs ++ ys) ≡ true
 among_right x xs ys e = list_any-append (nat_eq x) xs ys ∙ or_true (is_among x xs) (is_among x ys) e
 
--- ---- lists in which each class stands before its superclass
+-- ---- lists in which each class comes before its superclass
 
 abbrev pub IsUpwards : List DeclaredClass → List ℕ → Type 0
 IsUpwards classes [] = Unit {0}

@@ -25,7 +25,7 @@ above_are classes above sound count found =
 
 -- ---- superinterfaces are interfaces
 
--- what stands in one of the lists
+-- what is in one of the lists
 abbrev pub AllIn : (ℕ → List ℕ) → List ℕ → (ℕ → Type 0) → Type 0
 AllIn f xs P = (i : ℕ) → is_among i xs ≡ true → (x : ℕ) → is_among x (f i) ≡ true → P x
 

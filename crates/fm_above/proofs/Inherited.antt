@@ -112,7 +112,7 @@ one_inherited classes own parents table all done class linear parent of_class wi
   by_case k among (inr other) =
       get_or-set_other all class k value [] other ∙ are.found k (among_done k (is_among k done) (nat_eq k class) refl other among)
 
--- where a class stands in an order, and what stands before it
+-- where a class is in an order, and what is before it
 slice_get-seam : (done rest : List ℕ) (class : ℕ) → slice_get (done ++ class ∷ rest) (length done) ≡ Some class
 slice_get-seam [] rest class = refl
 slice_get-seam (x ∷ done) rest class = slice_get-seam done rest class

@@ -166,7 +166,7 @@ found_now classes round above few is class e =
     (any_ends (goes_deep round classes) (goes_deep (length classes) classes) (λ i h. goes_deep_later classes (length classes) round i few h)
     (listed_interfaces classes class) e))
 
--- after so many classes of a round: what was found stands, and what these classes have is found
+-- after a given number of classes of a round: what was found is kept, and what these classes have is found
 pub record IsFoundBelow (classes : List DeclaredClass) (round count : ℕ) (above : List (List ℕ)) : Type 0 where
   pub so_far : IsAboveTo classes round above
   pub now : (class : ℕ) → class < count → class < length classes → goes_deep (suc round) classes class ≡ false

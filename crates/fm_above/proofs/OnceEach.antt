@@ -1,4 +1,4 @@
--- Lists that are looked through without what stands in them for a second time.
+-- Lists that are looked through without what is in them for a second time.
 use Rattle.std.proofs.Common.{◌≡◌, refl, sym, ◌∙◌, ap, ℕ, zero, suc, ◌&&◌, ◌||◌, not, Bool, true, false, cond, List, [], ◌∷◌, ◌++◌, nat_eq, filter, length, map, get_or, set, append_assoc}
 use Rattle.std.specs.Global.{Vec}
 use Rattle.std.specs.List.{flat_map, list_any}

@@ -1,4 +1,4 @@
--- The tables of superclasses answer what the definitions look up by name.
+-- The tables of superclasses return what the definitions look up by name.
 use Rattle.std.proofs.Common.{◌≡◌, refl, sym, ◌∙◌, ap, ℕ, zero, suc, ◌<◌, ◌≤◌, ◌⊎◌, inl, inr, List, [], ◌∷◌, length, map, get_or, Option, Some, None, option_and_then, arith, zero-add}
 use Rattle.std.specs.Global.{Vec}
 use Rattle.std.proofs.lemmas.Bool.{cases_lt}

@@ -19,7 +19,7 @@ none_passed marks listed passed n is class i before within = absurd (omega (arit
   by_place (inl h) = ap (λ xs. get_or xs class 0) is ∙ get_or-replicate n class 0 0 h
   by_place (inr h) = get_or_past passed class 0 (omega (arith, h, ap length is ∙ length-replicate n 0))
 
--- ---- whether some number passes the test is told by the place of the first one that does
+-- ---- whether some number passes the test is determined by the place of the first one that does
 
 some_passes : (p : ℕ → Bool) (xs : List ℕ) (i : ℕ) → i < length xs → p (get_or xs i 0) ≡ true → list_any p xs ≡ true
 some_passes p [] i h e = absurd (omega (arith, h))
@@ -67,7 +67,7 @@ one_passed marks listed old new class place is more passed c i before within = b
   by_class (inr other) =
       passed c i (omega (arith, before, ap (λ xs. get_or xs c 0) is ∙ get_or-set_other old class c place 0 other)) within
 
--- the class passes what stands before its first interface that goes on
+-- the class passes what is before its first interface that goes on
 pub class_passed : (marks : List Bool) (listed : List (List ℕ)) (old read new list : List ℕ) (class start place : ℕ) → list ≡ get_or listed class []
     → read ≡ old → start ≡ get_or read class 0 → new ≡ set old class place
     → ((i : ℕ) → start ≤ i → i < place → i < length list → is_set marks (get_or list i 0) ≡ false)

@@ -1,4 +1,4 @@
--- A superclass stands in a chain as far from its end as its own chain is long.
+-- A superclass is in a chain as far from its end as its own chain is long.
 use Rattle.std.proofs.Common.{◌≡◌, refl, sym, ◌∙◌, ap, subst, ℕ, zero, suc, ◌+◌, ◌-◌, ◌<◌, ◌≤◌, ◌&&◌, ◌||◌, Bool, true, false, List, [], ◌∷◌, ◌++◌, length, drop, get_or, nat_eq, nat_lt, Option, None, Some, slice_get, arith}
 use Rattle.std.proofs.lemmas.Bool.{eq-eqb, eqb-true, false≢true, le-ltb, lt-ltb}
 use Rattle.std.proofs.lemmas.List.{get_or_at, length-append}
@@ -13,7 +13,7 @@ use Rattle.fm_above.specs.declared.hierarchy.Hierarchy.{Hierarchy}
 use Rattle.fm_above.specs.inner.Hierarchy.{is_superclass_in, is_this, stands_above, IsHierarchy}
 use Rattle.fm_above.specs.inner.ListTables.{list_in}
 
--- a class doesn't stand among its superclasses
+-- a class isn't among its superclasses
 pub not_above : (classes : List DeclaredClass) → IsLinear classes → (class x : ℕ) → class < length classes
     → is_among x (chain_from classes (parent_of classes class)) ≡ true → nat_eq x class ≡ false
 not_above classes linear class x within among = by_parent (parent_of classes class) refl among where
@@ -54,7 +54,7 @@ chain_within classes linear (suc bound) class x short within among =
       by_same recursive true same = subst (λ y. y < length classes) (sym (eqb-true x class same)) within
       by_same recursive false differs = by_parent recursive (parent_of classes class) refl (above differs)
 
--- ---- a number that stands somewhere is among the others
+-- ---- a number that is somewhere is among the others
 
 second_holds : (a b : Bool) → (a && b) ≡ true → b ≡ true
 second_holds true b e = e
@@ -70,7 +70,7 @@ stands_among chain far number e =
           is_among_at chain (length chain - far) number (slice_get_within chain (length chain - far) n there)
           (get_or_from_slice_get chain (length chain - far) n 0 there ∙ eqb-true n number h)
 
--- a number after the first one stands above it
+-- a number after the first one is above it
 stands_after : (chain : List ℕ) (x : ℕ) (front rest : List ℕ) (number far : ℕ) → chain ≡ x ∷ (front ++ number ∷ rest)
     → far ≡ length (number ∷ rest) → stands_above chain far number ≡ true
 stands_after chain x front rest number far joined long =

@@ -110,8 +110,8 @@ impl Hierarchy<'_> {
         list_at(self.chains.as_slice(), class)
     }
 
-    /// Whether the second class is a superclass of the first, at once: it stands in the chain of the first
-    /// one as far from the end as its own chain is long.
+    /// Whether the second class is a superclass of the first, at once: it is in the chain of the
+    /// first one as far from the end as its own chain is long.
     pub fn is_superclass(&self, class: u32, other: u32) -> bool
         ensures tables { result ≡ is_superclass_in self.now class other }
         ensures is { (classes : List DeclaredClass) → IsHierarchy classes self.now

@@ -93,8 +93,8 @@ impl Superinterfaces {
     }
 }
 
-// Each list without what stands in it for a second time, so that no interface is looked at twice for one
-// class.
+// Each list without what is in it for a second time, so that no interface is looked at twice for
+// one class.
 fn each_once(alloc: Global, listed: &[Vec<u32>]) -> Result<Vec<Vec<u32>>, NoMemory>
     ensures { IfOk result (λ once. lists once.items
         ≡ map (λ (list : Vec ℕ). distinct nat_eq list.items) listed.now) }

@@ -1,5 +1,5 @@
-// The superclasses and superinterfaces of a list of classes by number, in tables that answer at once
-// what the definitions of `fm_world` find by name (JVMS 5.3.5).
+// The superclasses and superinterfaces of a list of classes by number, in tables that return at
+// once what the definitions of `fm_world` find by name (JVMS 5.3.5).
 #![tactic(auto)]
 
 mod chain_tables;

@@ -16,7 +16,7 @@ pub fn list_at(lists: &[Vec<u32>], place: u32) -> &[u32]
     }
 }
 
-/// So many lists without numbers.
+/// A vector of `count` lists without numbers.
 pub fn empty_lists(alloc: Global, count: usize) -> Result<Vec<Vec<u32>>, NoMemory>
     ensures { IfOk result (λ made. lists made.items ≡ replicate count []) }
 {

@@ -1,4 +1,4 @@
-// Numbers in the order in which they first stand, each once.
+// Numbers in the order in which they first occur, each once.
 
 ghost use Rattle.std.specs.Prelude.{◌≡◌, ◌<◌, ℕ, IfOk, length, nat_eq, not, slice_set, true, false};
 ghost use Rattle.std.specs.List.{slice_index_or};
@@ -7,7 +7,7 @@ ghost use Rattle.fm_world.specs.Chains.{distinct};
 use fm_base::NoMemory;
 use std::alloc::Global;
 
-/// Each of the numbers where it first stands.
+/// Each of the numbers where it first occurs.
 pub fn distinct(alloc: Global, numbers: &[u32]) -> Result<Vec<u32>, NoMemory>
     ensures { IfOk result (λ kept. kept.items ≡ distinct nat_eq numbers.now) }
 {

@@ -24,14 +24,14 @@ ends_paired pairs end inside =
     let there : Contains pairs (pair.0, pair.1) = Contains-get_or pairs (end / 2) (0, 0) (omega arith) in
     elim (eqb (end % 2) 0) as (λ first. ArePaired pairs (cond first pair.0 pair.1) (cond first pair.1 pair.0)) [ true ↦ inl there | false ↦ inr there ]
 
--- an end of a pair at which the one node stands, with the other node at the other end
+-- an end of a pair at which the one node is, with the other node at the other end
 pub record EndOf (pairs : List (ℕ × ℕ)) (a b : ℕ) : Type 0 where
   pub end : ℕ
   pub inside : end < 2 * length pairs
   pub node : node_at pairs end ≡ a
   pub other : other_at pairs end ≡ b
 
--- nodes that are paired stand at the ends of a pair
+-- nodes that are paired are at the ends of a pair
 pub end_of_paired : (pairs : List (ℕ × ℕ)) (a b : ℕ) → ArePaired pairs a b → EndOf pairs a b
 end_of_paired pairs a b (inl (k, within, there)) =
     let quotient : 2 * k / 2 ≡ k = omega arith in

@@ -37,7 +37,7 @@ pub AllByRecursion-fails_nowhere : {X : Type 0} (P : X → Type 0) (xs : List X)
 AllByRecursion-fails_nowhere P [] k all within fails = omega arith
 AllByRecursion-fails_nowhere P (x ∷ xs) k all within fails = fails x (All-get_or P (x ∷ xs) k x within (All-from_recursion P (x ∷ xs) all))
 
--- what `all` answers of a closure that decides P
+-- what `all` returns of a closure that decides P
 pub AllByRecursion-decides : {X : Type 0} (P : X → Type 0) (xs : List X) (r : Bool) →
     MatchBool r (AllWithin P xs 0 (length xs)) ((k : ℕ) × (k < length xs) × HoldsAt (λ x. P x → ⊥) xs k) → IsTrue r ↔ AllByRecursion P xs
 AllByRecursion-decides P xs true answer = (λ _. recursion_from_All P xs (All-from_all_within P xs answer), λ _. search rules)

@@ -1,4 +1,4 @@
--- Results: what is said of an answer whatever it is, or of one that was handed on. For every crate above.
+-- Results: what holds of a result whatever it is, or of one that was handed on. For every crate above.
 use Rattle.std.proofs.Common.{◌≡◌, Result, Ok, Err, IfOk, OnErr, OnOk, ◌⊎◌, ⊎_elim, sym, subst}
 
 -- what holds anyway holds at an error
@@ -16,7 +16,7 @@ pub IfOk-from_every : {T E : Type 0} {P : T → Type 0} (answer : Result T E) �
 IfOk-from_every (Ok x) every = every x
 IfOk-from_every (Err e) every = tt
 
--- an answer that was handed on says what it said, and else it is this error
+-- of a result that was handed on the same holds, and else it is this error
 pub IfOk-handed_on : {T E : Type 0} (P : T → Type 0) (answer result : Result T E) (error : E) → IfOk answer P → (result ≡ answer) ⊎ (result ≡ Err error) → IfOk result P
 IfOk-handed_on {T} {E} P answer result error said which =
     let Q : Result T E → Type 0 = λ r. IfOk r P in

@@ -83,7 +83,7 @@ unit_parted u rest us fits e =
       | of_three high bytes ↦ three u rest us fits bytes e
     ]
 
--- each form tells the unit's bytes
+-- each form determines the unit's bytes
 pub unit_bytes-one : (u : ℕ) → 0 < u → u < 128 → unit_bytes u ≡ u ∷ []
 unit_bytes-one u some low = rw (lt-ltb 0 u some, lt-ltb u 128 low) refl
 

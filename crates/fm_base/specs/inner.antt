@@ -1,3 +1,3 @@
--- What serves the proofs alone: how rows and graphs lie in the memory of the program.
+-- What only serves the proofs: how rows and graphs lie in the memory of the program.
 pub mod Rows
 pub mod Graph

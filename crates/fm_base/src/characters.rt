@@ -5,22 +5,22 @@ ghost use Rattle.std.specs.Prelude.{◌≡◌};
 /// Ends a line of output.
 pub const LINE_FEED: u8 = b'\n';
 
-/// Stands before a number that isn't negative, if its writer likes.
+/// The sign of a number that isn't negative, where it has one.
 pub const PLUS: u8 = b'+';
 
-/// Stands before a negative number, and twice before a word that names a setting.
+/// The sign of a negative number; two of it come before a word that names a setting.
 pub const MINUS: u8 = b'-';
 
-/// Stands before the arguments in a method's descriptor.
+/// Begins the arguments in a method's descriptor.
 pub const LEFT_PARENTHESIS: u8 = b'(';
 
-/// Stands after the arguments in a method's descriptor.
+/// Ends the arguments in a method's descriptor.
 pub const RIGHT_PARENTHESIS: u8 = b')';
 
-/// Stands between the parts of a name in the language, and in no part of a name in a class file.
+/// Separates the parts of a name in the language, and is in no part of a name in a class file.
 pub const DOT: u8 = b'.';
 
-/// Stands between the parts of a class's name in a class file, and between folders.
+/// Separates the parts of a class's name in a class file, and folders.
 pub const SLASH: u8 = b'/';
 
 /// The least of the ten digits; the others follow it.
@@ -56,7 +56,7 @@ pub const INT_LETTER: u8 = b'I';
 /// The type long in a descriptor.
 pub const LONG_LETTER: u8 = b'J';
 
-/// Stands before a class's name in a descriptor.
+/// Begins a class's name in a descriptor.
 pub const CLASS_LETTER: u8 = b'L';
 
 /// The type short in a descriptor.

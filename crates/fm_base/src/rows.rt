@@ -70,7 +70,7 @@ impl Row {
     }
 }
 
-// Joins each word with the other's, and tells whether one of them changed.
+// Joins each word with the other's, and returns whether one of them changed.
 fn unite(words: &mut [u64], other: &[u64]) -> bool
     requires { length words.old ≡ length other.now }
     ensures joined { Joins words.old other.now words.new }

@@ -1,4 +1,4 @@
-// Each public call once with ample memory, and the graphs whose answers are known.
+// Each public call once with ample memory, and the graphs whose components are known.
 
 use crate::{Name, Row, Seq, Units, components};
 use std::test::Fail;

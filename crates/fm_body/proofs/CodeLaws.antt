@@ -30,9 +30,9 @@ use Rattle.fm_body.proofs.AttributePieces.{CodeAttrIsRight, attribute_piece}
 use Rattle.fm_body.proofs.TablePieces.{HandlerIsRight, handler_piece}
 use Rattle.fm_body.proofs.PlaceLaws.{NamePlaces, NamePlaces-laid}
 
--- ---- what stands before the tables
+-- ---- what is before the tables
 
--- a code array may have so many bytes
+-- a code array may have this number of bytes
 pub record IsCodeLength (size : ℕ) : Type 0 where
   pub some : 0 < size
   pub short : size ≤ MAX_CODE_BYTES

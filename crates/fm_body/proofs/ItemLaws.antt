@@ -15,7 +15,7 @@ none_takes : (o : Option MemberName) → IsSomeAnd o (λ m. TakesWords 0 m.descr
 none_takes None takes = takes
 none_takes (Some m) takes = takes_some m.descriptor takes
 
--- an item without the byte that tells the words takes none
+-- an item without the byte for the words takes none
 pub takes_not_counted : (entries : List Entry) (item : Item) (index : ℕ) → length item.bytes ≤ 3 → TakesCounted entries item index → ⊥
 takes_not_counted entries item index short takes =
     none_takes (interface_method_at entries index)

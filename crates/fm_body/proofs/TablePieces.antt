@@ -221,7 +221,7 @@ places_before offsets code names k l within below =
       | inr ge ↦ ge
     ]
 
--- the pieces of a variable stand one after the other
+-- the pieces of a variable come one after the other
 var_parts : (offsets : List ℕ) (code : Code) → NamePlaces offsets code → (bytes r0 r1 r2 r3 rest : List ℕ) (start size : ℕ) (v : Var)
     → Takes bytes (two start) r0 → Takes r0 (two size) r1 → Takes r1 (two v.name) r2 → Takes r2 (two v.kind) r3 → Takes r3 (two v.index) rest
     → find_place offsets start ≡ Some v.start → find_place offsets (start + size) ≡ Some v.end → Takes bytes (var_bytes code v) rest × (v.start ≤ v.end) × IsPlace code v.end

@@ -60,7 +60,7 @@ pub fn code_of(alloc: Global, known: &KnownPool, bytes: &[u8]) -> Result<Code, P
     })
 }
 
-/// Whether a code array may have so many bytes.
+/// Whether a code array may have this number of bytes.
 fn is_code_length(size: u32) -> bool
     ensures { result ≡ is_code_length size }
 {

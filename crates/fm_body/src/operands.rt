@@ -64,7 +64,7 @@ fn has_constant(known: &KnownPool, item: &Item, index: u16) -> bool
     }
 }
 
-/// Whether the method of an interface at an index takes as many words as an item tells.
+/// Whether the method of an interface at an index takes as many words as an item says.
 fn has_interface_method(known: &KnownPool, item: &Item, index: u16) -> bool
     ensures { IsTrue result ↔ TakesCounted known.now.entries item.now index }
 {

@@ -29,7 +29,7 @@ impl Model for Places {
 }
 
 impl Places {
-    /// The places in a code array of these items that has so many bytes.
+    /// The places in a code array of these items and this number of bytes.
     pub(crate) fn of(alloc: Global, items: &[Item], length: u32) -> Result<Places, PieceFail>
         requires { AreRising (offsets_of items.now length) }
         ensures ok { IfOk result (λ places. places ≡ offsets_of items.now length) }

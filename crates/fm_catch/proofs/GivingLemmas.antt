@@ -157,7 +157,7 @@ can_asked t w j rises can = record {
   slots = λ rise found. All-contains (λ r. slot_at can.brought r.place ≡ r.slot) rises rise can.slots found;
 }
 
--- in its own locals a handler gets what stands in those of the item
+-- in its own locals a handler gets what is in those of the item
 local_got : (caught : TypeRef) (s : TypeState) (p : Place) → is_local p ≡ true → slot_at (handler_state caught s) p ≡ slot_at s p
 local_got caught s (place.Local k) local = refl
 local_got caught s (place.Word k) local = absurd (false≢true local)
@@ -555,7 +555,7 @@ all_brought t item s given old new gives = record {
       gives.done h (record { listed = Contains-get_or t.code.handlers n d below; after_start = catches.after_start; before_end = catches.before_end }) catches);
 }
 
--- what stands as it stood is guarded as before
+-- what is as it was is guarded as before
 pub guarded-later : (t : Task) (a b : Walked) (levels : List Level) → IsSound t → Rises t.program.outline a b → IsGuarded t a.states levels
     → IsGuarded t b.states levels
 guarded-later t a b levels sound rises guarded = record {

@@ -102,7 +102,7 @@ handlers_later t a b j s handlers sound rises all =
     AllByRecursion-weaker (FitsHandler t.program t.number a.states j s) (FitsHandler t.program t.number b.states j s)
     (λ h fits. handler_later t a b j s h sound rises fits) handlers all
 
--- an entry that stands nowhere
+-- an entry that is nowhere
 abbrev pub blank : Handler
 blank = record { start = 0; end = 0; handler = 0; catch_class = 0 }
 

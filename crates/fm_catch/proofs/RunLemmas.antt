@@ -1,4 +1,4 @@
--- How runs are laid: entries that are put at the first and the last of their runs level by level stand at a run of each item that they hold.
+-- How runs are laid: entries that are put at the first and the last of their runs level by level are at a run of each item that they hold.
 use Rattle.std.proofs.Common.{◌≡◌, ◌≢◌, refl, sym, ◌∙◌, ap, inl, inr, ◌⊎◌, ⊎_elim, ℕ, zero, suc, ◌+◌, ◌-◌, ◌*◌, ◌/◌, ◌%◌, ◌<◌, ◌≤◌, List, [], ◌∷◌, ◌++◌, length, map, take, get_or, set, All, None, Contains, subst, arith, length-append}
 use Rattle.std.specs.Prelude.{Err, IfOk, Ok, OnOk, Result}
 use Rattle.std.proofs.Math.Nat.{div-add-mod, mod-lt}
@@ -15,12 +15,12 @@ use Rattle.fm_catch.specs.inner.Runs.{AreFresh, AreMore, entries_at, entries_in,
 use Rattle.fm_code.proofs.EdgesLemmas.{Contains-from_map, Contains-map}
 use Rattle.fm_code.specs.declared.code_array.Handler.{Handler}
 
--- what a call leaves where it answers Ok
+-- what a call leaves where it returns Ok
 pub on_ok : {T E : Type 0} (A B : Type 0) (r : Result T E) → (A → B) → OnOk r A → OnOk r B
 on_ok A B (Ok x) f h = f h
 on_ok A B (Err e) f h = tt
 
--- the same of what it answers
+-- the same of what it returns
 pub if_ok : {T E : Type 0} (A B : T → Type 0) (r : Result T E) → ((x : T) → A x → B x) → IfOk r A → IfOk r B
 if_ok A B (Ok x) f h = f x h
 if_ok A B (Err e) f h = tt

@@ -1,2 +1,2 @@
--- What serves the proofs alone: runs of items, and what was given to handlers.
+-- What only serves the proofs: runs of items, and what was given to handlers.
 pub mod Runs

@@ -105,7 +105,7 @@ fn raise(
     Ok(places)
 }
 
-// What the handlers of a run's entries may have no room for, of slots of locals: what stands now where
+// What the handlers of a run's entries may have no room for, of slots of locals: what is now where
 // what was given to them rose by these, or all of the slots where nothing was given.
 fn raise_run(
     alloc: Global,

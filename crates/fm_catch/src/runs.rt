@@ -1,5 +1,5 @@
 // Runs of items, level by level, with entries of the exception table whose ranges hold all of one: an
-// entry stands at two runs of a level at most, and yet each item that it holds is in one of its runs.
+// entry is at two runs of a level at most, and yet each item that it holds is in one of its runs.
 
 ghost use Rattle.std.specs.Prelude.{◌≡◌, All, IfOk, OnOk, map};
 ghost use Rattle.fm_catch.specs.inner.Runs.{IsLaid, IsMade, IsNoted, IsOneMore, IsShort, Keeps, Puts, spans_of, wider};

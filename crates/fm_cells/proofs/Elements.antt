@@ -66,7 +66,7 @@ held_of_elements store cell place h = let found = has_object store cell place h 
 pub fits_at : (store now : Store) (cell : ℕ) (object : Object) → store ≡ now → IsSound store → object_at now cell ≡ Some object → IsObject object
 fits_at store now cell object view sound held = sound.objects_fit cell object (ap (λ s. object_at s cell) view ∙ held)
 
--- what a free answers and does: at null, at a cell that isn't held, at a fixed object, and at any other
+-- what a free returns and does: at null, at a cell that isn't held, at a fixed object, and at any other
 pub free_answer-null : (store : Store) (cell : ℕ) → cell ≡ 0 → free_answer store cell ≡ Ok Skipped
 free_answer-null store cell null = ap (λ b. cond b (Ok Skipped) (freed_answer (object_at store cell))) (ap (λ n. nat_eq n 0) null)
 

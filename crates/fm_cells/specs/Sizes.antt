@@ -21,7 +21,7 @@ packed_words len pack = 2 + body_words len pack
 abbrev pub class_words : ℕ → ℕ
 class_words size_class = (if nat_le size_class 32 then size_class else 2 ^ (size_class - 27))
 
--- the first size class, from one on and among so many more, whose cells have n words
+-- the first size class, of `from` and a given number of next ones, whose cells have n words
 abbrev pub first_class : ℕ → ℕ → ℕ → ℕ
 first_class zero from n = from
 first_class (suc more) from n = (if nat_le n (class_words from) then from else first_class more (suc from) n)

@@ -1,4 +1,4 @@
-// Cells and heads, and what the calls of a memory answer.
+// Cells and heads, and what the calls of a memory return.
 
 ghost use Rattle.std.specs.Prelude.{◌≡◌};
 ghost use Rattle.fm_cells.specs.declared.answers.MakeFail.TheVariants.{NoMemory as OutOfMemory};
@@ -11,7 +11,7 @@ use thiserror::Error;
 #[derive(Clone, Copy, Debug, PartialEq, Eq)]
 pub struct Cell(pub u32);
 
-/// What stands at the head of an object.
+/// What is at the head of an object.
 #[derive(Clone, Copy, Debug, PartialEq, Eq)]
 pub struct Head {
     /// The number of its type, below 2^28.

@@ -3,7 +3,7 @@
 ghost use Rattle.std.specs.Prelude.{◌≡◌, ◌+◌, ◌*◌, ◌^◌, ◌<◌, ◌≤◌};
 ghost use Rattle.fm_cells.specs.inner.Words as spec;
 
-/// The group of so many bits at a place of a word. Takes no memory.
+/// The group of a given number of bits at a place of a word. Takes no memory.
 #[inline(always)]
 pub fn digit(word: u64, bits: u32, place: u32) -> u64
     requires some { 0 < bits }

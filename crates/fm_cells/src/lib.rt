@@ -5,8 +5,8 @@
 // Where an object is made is a function of the store and the request, the memory's choice.
 // `PlainCells` never reuses a cell; `WordCells` keeps all cells in one vector of words, and takes the
 // last freed cell of a size class first. The layer above is written over `Memory`, and reads a store by
-// its objects, in which the birth numbers tell which objects of two runs are the same. `laws` has what
-// holds of every choice and every store.
+// its objects, in which the birth numbers show which objects of two runs are the same. `laws` has
+// what holds of every choice and every store.
 #![tactic(auto)]
 
 mod answers;

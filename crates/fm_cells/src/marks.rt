@@ -29,7 +29,7 @@ pub fn set_mark(marks: &mut [u64], cell: u32, mark: u64)
     marks[at] = with_digit(marks[at], 1, cell % 64, mark);
 }
 
-/// Makes room for the marks of so many words. Each mark stays as it was, and those that are added aren't set.
+/// Makes room for the marks of `words` words. Each mark stays as it was, and new ones aren't set.
 pub fn reserve_marks(marks: &mut Vec<u64>, words: usize) -> Result<(), AllocError>
     ensures room { OnOk result (words ≤ 64 * length marks.new.items) }
     ensures same { (k : ℕ) → slice_index marks.new.items k ≡ slice_index marks.old.items k }

@@ -22,8 +22,8 @@ pub trait Memory {
     ghost choose: { Store → Request → Choice };
 
     /// Makes an object of `len` elements that are 0, with the next birth number and the chain 0, and
-    /// answers its cell, which isn't null and wasn't held. `choose` says in which cell it is made, or
-    /// that the store is full. A refusal changes nothing.
+    /// returns its cell, which isn't null and wasn't held. `choose` says in which cell it is made,
+    /// or that the store is full. A refusal changes nothing.
     fn make(&mut self, class: u32, len: u32, pack: u8, fixed: bool) -> Result<Cell, MakeFail>
         requires class_fits { class < 2 ^ 28 }
         requires len_fits { len < 2 ^ 31 }

@@ -69,7 +69,7 @@ impl PlainCells {
     }
 }
 
-/// So many zeros.
+/// A vector of `len` zeros.
 fn zeros(alloc: Global, len: u32) -> Result<Vec<u64>, AllocError>
     ensures { IfOk result (λ elements. elements.items ≡ replicate len 0) }
 {

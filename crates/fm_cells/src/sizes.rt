@@ -3,8 +3,8 @@
 ghost use Rattle.std.specs.Prelude.{◌≡◌, ◌^◌, ◌<◌};
 ghost use Rattle.fm_cells.specs.Sizes as spec;
 
-/// The size class of so many words: up to 32 it is the number of words, and above it is 27 and the
-/// exponent of the least power of two that isn't below it. Takes no memory.
+/// The size class of a given number of words: up to 32 it is the number of words, and above it is
+/// 27 and the exponent of the least power of two that isn't below it. Takes no memory.
 pub fn size_class(words: u32) -> u8
     ensures { result ≡ spec.size_class words }
 {
@@ -32,7 +32,7 @@ pub fn class_words(size_class: u8) -> u64
     }
 }
 
-/// The words of the cell that holds so many words. Takes no memory.
+/// The words of the cell that holds a given number of words. Takes no memory.
 pub fn cell_words(words: u32) -> u64
     ensures { result ≡ spec.cell_words words }
 {
@@ -54,7 +54,8 @@ pub fn exponent(pack: u8) -> u32
     }
 }
 
-/// The words of an object of so many elements, where a word holds `pack` of them. Takes no memory.
+/// The words of an object of a given number of elements, where a word holds `pack` of them. Takes
+/// no memory.
 #[inline]
 pub fn object_words(len: u32, pack: u8) -> u32
     requires len_fits { len < 2 ^ 31 }

@@ -8,11 +8,11 @@
 //     cell + 3    room that the object doesn't use
 //
 // A freed cell keeps in its first word the next freed cell of its size class, and 0 ends the list. The heads of
-// the 64 lists stand beside the vector:
+// the 64 lists are beside the vector:
 //
 //     heads[3]  ->  cell 4  ->  cell 1  ->  0
 //
-// A bit for each word tells the first words of held cells from all others.
+// A bit for each word is set at the first words of held cells only.
 
 ghost use Rattle.std.specs.Prelude.{◌≡◌, ◌+◌, ◌-◌, ◌^◌, ◌<◌, ◌≤◌, ◌↔◌, IfOk, OnOk, OnErr, Err, Some, true, false, ℕ, List, [], ◌∷◌, max, slice_set};
 ghost use Rattle.fm_cells.specs.Sizes.{IsPack};

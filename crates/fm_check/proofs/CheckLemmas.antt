@@ -64,7 +64,7 @@ least_typing p method code states found least = record {
       least.least others (IsSomeAnd-at_some (code_at p method) (λ c. IsTypingOf p method c others) code found.at typing);
 }
 
--- ---- the clauses of the answer
+-- ---- the clauses of the result
 
 pub judged_least : (p : Program) (method : ℕ) (code : Code) → IsFound p method code → (r : Result Typing CheckFail) → Judged (task_of p method code) r
     → IfOk r (λ typing. IsLeastTyping p method (states_of typing))

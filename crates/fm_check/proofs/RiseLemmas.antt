@@ -129,7 +129,7 @@ stays_inside t j i is inside = by_tests (falls_through i) (j + 1 == length t.cod
       let last = eqb-true (j + 1) (length t.code.items) f in
       absurd (omega (arith, below, last))
 
--- the longs of a state stand where they stood
+-- the longs of a state are where they were
 longs_kept : (t : Task) (w : Walked) (j : ℕ) (s before : TypeState) → IsKept t j s → IsMet t w.states j before
     → state_fits t.program.outline before s ≡ true → AllZip IsShaped s.stack before.stack
 longs_kept t w j s before kept met below = same_longs t.program.outline s before below met.meets.whole kept.forced.whole

@@ -1,4 +1,4 @@
--- What the checker is asked and what it answers (JVMS 4.10): when counts are too large, and what the least typing of a method is.
+-- What the checker is asked and what it returns (JVMS 4.10): when counts are too large, and what the least typing of a method is.
 use Rattle.std.specs.Prelude.{◌≡◌, ℕ, ◌<◌, ◌≤◌, ◌⊎◌, true, List, length, Option, Some, None, IsSomeAnd}
 use Rattle.fm_base.specs.declared.limits.TheConstants.{MAX_LOCAL_WORDS, MAX_STACK_WORDS}
 use Rattle.fm_code.specs.Edges.{MeetsCodeRules}
@@ -24,7 +24,7 @@ abbrev pub coded : Body → Option Code
 coded (body.Coded code) = Some code
 coded b = None
 
--- the method is there and has this code, which stands in a class file
+-- the method is there and has this code, which is in a class file
 pub record HasCode (p : Program) (method : ℕ) (code : Code) : Type 0 where
   pub inside : method < length (methods_of p.outline.classes)
   pub body : coded (method_info p method).body ≡ Some code

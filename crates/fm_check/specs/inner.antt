@@ -1,3 +1,3 @@
--- What serves the proofs alone: steps of the walk over items, and what its end says.
+-- What only serves the proofs: steps of the walk over items, and what its end says.
 pub mod Steps
 pub mod Judgements

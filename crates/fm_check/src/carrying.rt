@@ -1,5 +1,5 @@
 // Carrying on what rose at places of an item that its row leaves alone, where nothing else rose: what it
-// costs is told by the number of these places, and not by that of all locals and words.
+// costs depends on the number of these places, and not on that of all locals and words.
 
 ghost use Rattle.std.specs.Prelude.{ℕ, Contains, IfOk, MatchBool};
 ghost use Rattle.fm_check.specs.inner.Steps.{CarriesOnGuarded, CarriesAll, IsReady};
@@ -39,7 +39,7 @@ fn carry_to_all(
     Ok(true)
 }
 
-/// Carries what stands at places of an item, which its row leaves alone, to the items that follow it,
+/// Carries what is at places of an item, which its row leaves alone, to the items that follow it,
 /// and to its handlers where it is a local's; false where no typing has room for them.
 pub fn carry_on(
     alloc: Global,

@@ -172,7 +172,7 @@ fn entry_slots(alloc: Global, program: &Program, method: MethodId) -> Result<Vec
     Ok(slots)
 }
 
-// Fills the locals up with `Top`, to so many.
+// Fills the locals up with `Top`, to a given number.
 fn fill(locals: &mut Vec<Slot>, count: usize) -> Result<(), NoMemory>
     ensures { OnOk result (locals.new.items
         ≡ locals.old.items ++ replicate (count - length locals.old.items) Top) }
@@ -184,7 +184,7 @@ fn fill(locals: &mut Vec<Slot>, count: usize) -> Result<(), NoMemory>
     Ok(())
 }
 
-// The state of the first item: the receiver and the parameters stand in the first locals.
+// The state of the first item: the receiver and the parameters are in the first locals.
 #[tactic(auto, unfolding(fm_types::specs::Typed::entry_state))]
 fn entry_state(alloc: Global, method: &Method<'_>) -> Result<State, NoMemory>
     requires { (task method.now).number < length (methods_of (task method.now).program.outline.classes) }

@@ -1,4 +1,4 @@
--- Numbers and their bytes: the bytes of a number that was read are the bytes that were read, and numbers that fit are told apart by their bytes.
+-- Numbers and their bytes: the bytes of a number that was read are the bytes that were read, and numbers that fit are distinguished by their bytes.
 use Rattle.std.proofs.Common.{◌≡◌, ℕ, zero, suc, ◌+◌, ◌*◌, ◌/◌, ◌%◌, ◌^◌, ◌<◌, ◌≤◌, List, [], ◌∷◌, ◌++◌, length, take, drop, ℤ, refl, ap, sym, ◌∙◌, arith}
 use Rattle.std.proofs.Math.Nat.{div-one, mul-add-div_right, mul-add-mod_self_right, mod-eq_of_lt, mod-lt, mul_assoc, mul-le-mul_right, pow-succ', one-le-pow}
 use Rattle.std.proofs.lemmas.Nat.{div-mul-add}
@@ -21,7 +21,7 @@ byte_at-pow (suc k) x = refl
 pow_pos256 : (n : ℕ) → zero < 256 ^ n
 pow_pos256 n = let least = one-le-pow n 256 (omega arith) in omega arith
 
--- what stands above the lowest k bytes doesn't show in them
+-- what is above the lowest k bytes doesn't show in them
 bytes_high_first-above : (k b r : ℕ) → bytes_high_first k (b * 256 ^ k + r) ≡ bytes_high_first k r
 bytes_high_first-above zero b r = refl
 bytes_high_first-above (suc k) b r =
@@ -157,14 +157,14 @@ pub eight-big_number : (xs : List ℕ) → 8 ≤ length xs → AreBytes xs → e
 unfolding eight
 eight-big_number xs enough bytes = big_bytes-big_number 8 xs enough bytes
 
--- what is read from so many bytes fits so many
+-- what is read from a given number of bytes fits that number
 pub FitsTwo-big_number : (xs : List ℕ) → 2 ≤ length xs → AreBytes xs → FitsTwo (big_number 2 xs)
 FitsTwo-big_number xs enough bytes = big_number-lt 2 xs enough bytes
 
 pub FitsFour-big_number : (xs : List ℕ) → 4 ≤ length xs → AreBytes xs → FitsFour (big_number 4 xs)
 FitsFour-big_number xs enough bytes = big_number-lt 4 xs enough bytes
 
--- numbers that fit are told apart by their bytes
+-- numbers that fit are distinguished by their bytes
 pub two_injective : (x y : ℕ) → FitsTwo x → FitsTwo y → two x ≡ two y → x ≡ y
 two_injective x y x_fits y_fits e =
     sym (big_number-two x [] x_fits) ∙ ap (λ (bytes : List ℕ). big_number 2 (bytes ++ [])) e ∙ big_number-two y [] y_fits

@@ -51,7 +51,7 @@ body_fits (attribute.Constant name value) fits = let size = length-two value in 
 body_fits (attribute.Coded name code) fits = fits.1.size
 body_fits (attribute.Other raw) fits = fits.size
 
--- attributes that are told by their names and their bodies are told by their bytes
+-- attributes that are determined by their names and their bodies are determined by their bytes
 Cancels-member_attribute : (Right : MemberAttr → Type 0) → ((a : MemberAttr) → Right a → MemberAttrFits a) →
     ((a b : MemberAttr) → Right a → Right b → name_of a ≡ name_of b → body_of a ≡ body_of b → a ≡ b) → Cancels member_attribute_bytes Right
 Cancels-member_attribute Right fits same a b r s a_right b_right e =
@@ -65,7 +65,7 @@ Cancels-member_attribute Right fits same a b r s a_right b_right e =
 abbrev FieldAttrIsRight : List Entry → MemberAttr → Type 0
 FieldAttrIsRight entries a = MemberAttrFits a × FieldAttrIsValid entries a
 
--- a field's attribute is told by its name and its body
+-- a field's attribute is determined by its name and its body
 same_field_attribute : (entries : List Entry) (a b : MemberAttr) → FieldAttrIsRight entries a → FieldAttrIsRight entries b →
     name_of a ≡ name_of b → body_of a ≡ body_of b → a ≡ b
 same_field_attribute entries (attribute.Constant n v) (attribute.Constant m w) (a_fits, _) (b_fits, _) names bodies =
@@ -83,7 +83,7 @@ same_field_attribute entries a (attribute.Coded m d) a_right b_right names bodie
 abbrev MethodAttrIsRight : List Entry → MemberAttr → Type 0
 MethodAttrIsRight entries a = MemberAttrFits a × MethodAttrIsValid entries a
 
--- a method's attribute is told by its name and its body
+-- a method's attribute is determined by its name and its body
 same_method_attribute : (entries : List Entry) (a b : MemberAttr) → MethodAttrIsRight entries a → MethodAttrIsRight entries b →
     name_of a ≡ name_of b → body_of a ≡ body_of b → a ≡ b
 same_method_attribute entries (attribute.Coded n c) (attribute.Coded m d) (a_fits, a_valid) (b_fits, b_valid) names bodies =
@@ -104,7 +104,7 @@ same_method_attribute entries a (attribute.Constant m w) a_right b_right names b
 abbrev MemberIsRight : (MemberAttr → Type 0) → Member → Type 0
 MemberIsRight Valid m = MemberFits m × AllByRecursion Valid m.attributes
 
--- a member is told by its bytes if its attributes are
+-- a member is determined by its bytes if its attributes are
 Cancels-member : (Valid : MemberAttr → Type 0) → Cancels member_attribute_bytes (λ a. MemberAttrFits a × Valid a) → Cancels member_bytes (MemberIsRight Valid)
 unfolding member_bytes
 Cancels-member Valid cancels x y r s (x_fits, x_valid) (y_fits, y_valid) e =
@@ -118,12 +118,12 @@ Cancels-member Valid cancels x y r s (x_fits, x_valid) (y_fits, y_valid) e =
     let ((flags, (name, (descriptor, (attributes, _)))), rest) = told.cancel r s e in
     (λ k. record { flags = flags k; name = name k; descriptor = descriptor k; attributes = attributes k }, rest)
 
--- fields are told by their bytes
+-- fields are determined by their bytes
 Cancels-field : (entries : List Entry) → Cancels member_bytes (MemberIsRight (FieldAttrIsValid entries))
 Cancels-field entries =
     Cancels-member (FieldAttrIsValid entries) (Cancels-member_attribute (FieldAttrIsRight entries) (λ a right. right.0) (same_field_attribute entries))
 
--- methods are told by their bytes
+-- methods are determined by their bytes
 Cancels-method : (entries : List Entry) → Cancels member_bytes (MemberIsRight (MethodAttrIsValid entries))
 Cancels-method entries =
     Cancels-member (MethodAttrIsValid entries) (Cancels-member_attribute (MethodAttrIsRight entries) (λ a right. right.0) (same_method_attribute entries))
@@ -164,7 +164,7 @@ tells_methods x y c d c_spells d_spells pool =
 pool_fits : (bytes : List ℕ) (c : ClassDef) → Spells bytes c → PoolFits c.pool
 pool_fits bytes c spells = record { entries = spells.pool.fits; slots = spells.pool.slots }
 
--- a class file in front of other bytes is told by the bytes alone
+-- a class file in front of other bytes is determined by the bytes alone
 pub cancel_class : (x y : List ℕ) (c d : ClassDef) (r s : List ℕ) → Spells x c → Spells y d → x ++ r ≡ y ++ s → (c ≡ d) × (r ≡ s)
 unfolding class_bytes
 cancel_class x y c d r s c_spells d_spells e =

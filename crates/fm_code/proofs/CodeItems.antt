@@ -148,7 +148,7 @@ same_offset (x ∷ xs) [] end k same = absurd same
 same_offset (x ∷ xs) (y ∷ ys) end zero (same, _) = same.0
 same_offset (x ∷ xs) (y ∷ ys) end (suc k) (_, same) = same_offset xs ys end k same
 
--- items that spell the same instructions are the same, where each target is told by its offset
+-- items that spell the same instructions are the same, where each target is determined by its offset
 same_items : (xs_all ys_all : List Item) (find : ℕ → ℕ) → ((target : ℕ) → target < length xs_all → find (offset_in xs_all zero target) ≡ target) →
     length xs_all ≡ length ys_all → offset_in xs_all zero ≡ offset_in ys_all zero →
     (xs ys : List Item) → AllZip SameSpelling xs ys → AllByRecursion (IsSpelled xs_all) xs → AllByRecursion (IsSpelled ys_all) ys → xs ≡ ys

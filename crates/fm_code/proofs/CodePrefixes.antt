@@ -35,7 +35,7 @@ place_injective place count k l places k_in l_in e =
       | inr (inr after) ↦ (let rises = places.rise l k after k_in in absurd (omega arith))
     ]
 
--- an item is told by the two bytes of its offset
+-- an item is determined by the two bytes of its offset
 tells_place : (place : ℕ → ℕ) (count k l : ℕ) → ArePlaces place count → k ≤ count → l ≤ count → Tells (two (place k)) (two (place l)) (k ≡ l)
 tells_place place count k l places k_in l_in = record {
   cancel = λ r s e.
@@ -54,7 +54,7 @@ var_by place v = concat (two (place v.start) ∷ two (place v.end - place v.star
 
 -- ---- the tables
 
--- an entry of the exception table that fits and is valid, and its bytes tell it
+-- an entry of the exception table that fits and is valid, and its bytes determine it
 abbrev HandlerIsRight : List Entry → ℕ → Handler → Type 0
 HandlerIsRight entries count h = FitsTwo h.catch_class × HandlerIsValid entries count h
 
@@ -201,7 +201,7 @@ LineFits l = FitsTwo l.line
 abbrev LineIsValid : ℕ → Line → Type 0
 LineIsValid count l = l.item < count
 
--- a table of lines is told by its bytes
+-- a table of lines is determined by its bytes
 same_lines : (place : ℕ → ℕ) (count : ℕ) → ArePlaces place count → (xs ys : List Line) → CountedFits LineFits xs → AllByRecursion (LineIsValid count) xs →
     CountedFits LineFits ys → AllByRecursion (LineIsValid count) ys → counted (line_by place) xs ≡ counted (line_by place) ys → xs ≡ ys
 same_lines place count places xs ys xs_fit xs_valid ys_fit ys_valid e =
@@ -209,7 +209,7 @@ same_lines place count places xs ys xs_fit xs_valid ys_fit ys_valid e =
     told_alone (counted (line_by place)) (CountedFits (LineIsRight count)) cancels xs ys
     (CountedFits-both LineFits (LineIsValid count) xs xs_fit xs_valid) (CountedFits-both LineFits (LineIsValid count) ys ys_fit ys_valid) e
 
--- a table of variables is told by its bytes
+-- a table of variables is determined by its bytes
 same_vars : (place : ℕ → ℕ) (entries : List Entry) (count : ℕ) → ArePlaces place count → (xs ys : List Var) → CountedFits VarFits xs → AllByRecursion (VarIsValid entries count) xs →
     CountedFits VarFits ys → AllByRecursion (VarIsValid entries count) ys → counted (var_by place) xs ≡ counted (var_by place) ys → xs ≡ ys
 same_vars place entries count places xs ys xs_fit xs_valid ys_fit ys_valid e =
@@ -217,7 +217,7 @@ same_vars place entries count places xs ys xs_fit xs_valid ys_fit ys_valid e =
     told_alone (counted (var_by place)) (CountedFits (VarIsRight entries count)) cancels xs ys
     (CountedFits-both VarFits (VarIsValid entries count) xs xs_fit xs_valid) (CountedFits-both VarFits (VarIsValid entries count) ys ys_fit ys_valid) e
 
--- the name and the body tell the attribute
+-- the name and the body determine the attribute
 same_attribute : (place : ℕ → ℕ) (entries : List Entry) (count : ℕ) → ArePlaces place count → (a b : CodeAttr) →
     CodeAttrIsRight entries count a → CodeAttrIsRight entries count b → name_of a ≡ name_of b → body_by place a ≡ body_by place b → a ≡ b
 same_attribute place entries count places (code_attribute.Lines n xs) (code_attribute.Lines m ys) (a_fits, a_valid) (b_fits, b_valid) names bodies =
@@ -253,7 +253,7 @@ same_attribute place entries count places (code_attribute.Other raw) (code_attri
 same_attribute place entries count places (code_attribute.Other raw) (code_attribute.Other other) a_right b_right names bodies =
     λ k. code_attribute.Other (record { name = names k; bytes = bodies k })
 
--- an attribute is told by its bytes
+-- an attribute is determined by its bytes
 Cancels-attribute : (place : ℕ → ℕ) (entries : List Entry) (count : ℕ) → ArePlaces place count → Cancels (attribute_by place) (CodeAttrIsRight entries count)
 Cancels-attribute place entries count places a b r s a_right b_right e =
     let parts = cancel_attribute (name_of a) (name_of b) (body_by place a) (body_by place b) r s (name_fits a a_right.0) (name_fits b b_right.0)

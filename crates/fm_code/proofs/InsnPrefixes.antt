@@ -1,4 +1,4 @@
--- The bytes of an instruction tell where it ends.
+-- The bytes of an instruction determine where it ends.
 use Rattle.std.proofs.Common.{◌≡◌, ℕ, zero, suc, ◌*◌, ◌<◌, ◌≤◌, Bool, true, false, ltb, ◌==◌, List, [], ◌∷◌, ◌++◌, map, length, drop, Option, Some, None, option_and_then, refl, ap, sym, ◌∙◌, arith, ℤ, pos, negsuc, ◌+ℤ◌, ◌-ℤ◌, if◌then◌else◌}
 use Rattle.std.proofs.lemmas.Bool.{eqb-true, ltb-false, and_parts}
 use Rattle.std.proofs.lemmas.List.{drop-append-le, length-drop}
@@ -22,15 +22,15 @@ All-mapped : {X Y : Type 0} (P : Y → Type 0) (f : X → Y) (xs : List X) → A
 All-mapped P f [] all = tt
 All-mapped P f (x ∷ xs) all = (all.0, All-mapped P f xs all.1)
 
--- operands in front of other bytes are told by the bytes alone
+-- operands in front of other bytes are determined by the bytes alone
 abbrev pub TellsEnd : Reading → Type 0
 TellsEnd read = (offset : ℕ) (x y r s : List ℕ) (i j : Insn) → read offset x ≡ Some i → read offset y ≡ Some j → x ++ r ≡ y ++ s → x ≡ y
 
--- each instruction that is read has so many operand bytes
+-- each instruction that is read has a given number of operand bytes
 abbrev pub HasLength : ℕ → Reading → Type 0
 HasLength n read = (offset : ℕ) (x : List ℕ) (i : Insn) → read offset x ≡ Some i → length x ≡ n
 
--- a known number of operand bytes tells the end
+-- a known number of operand bytes determines the end
 TellsEnd-length : (n : ℕ) (read : Reading) → HasLength n read → TellsEnd read
 TellsEnd-length n read has_length offset x y r s i j x_read y_read e =
     (split_same x y r s (has_length offset x i x_read ∙ sym (has_length offset y j y_read)) e).0
@@ -116,7 +116,7 @@ length-left_out opcode count offset x j e = eqb-true (length x) count (cond_some
 TellsEnd-left_out : (opcode count : ℕ) → TellsEnd (left_out opcode count)
 TellsEnd-left_out opcode count = TellsEnd-length count (left_out opcode count) (length-left_out opcode count)
 
--- ---- a wide instruction, whose second opcode tells its length
+-- ---- a wide instruction, whose second opcode determines its length
 
 -- iinc isn't among the wide loads and stores
 wide_local_is : (opcode index : ℕ) (i : Insn) → wide_local opcode index ≡ Some i → (opcode == 132) ≡ false
@@ -133,7 +133,7 @@ length-wide offset opcode (a ∷ b ∷ []) i e =
 length-wide offset opcode (a ∷ b ∷ c ∷ d ∷ []) i e = sym (ap (λ (t : Bool). if t then 4 else 2) (cond_some (opcode == 132) _ i e).0)
 length-wide offset opcode rest i e = cc
 
--- so its first byte tells its end
+-- so its first byte determines its end
 TellsEnd-wide : TellsEnd wide
 TellsEnd-wide offset [] y r s i j x_read y_read e = cc
 TellsEnd-wide offset (a ∷ x) [] r s i j x_read y_read e = cc
@@ -143,7 +143,7 @@ TellsEnd-wide offset (a ∷ x) (b ∷ y) r s i j x_read y_read e =
     ap suc (length-wide offset a x i x_read ∙ ap (λ (n : ℕ). if n == 132 then 4 else 2) first ∙ sym (length-wide offset b y j y_read)) in
     (split_same (a ∷ x) (b ∷ y) r s same e).0
 
--- ---- switches, whose first numbers tell how many follow
+-- ---- switches, whose first numbers determine how many follow
 
 -- where both lists have a number it is the same
 abbrev AgreeSoFar : List ℤ → List ℤ → Type 0
@@ -151,7 +151,7 @@ AgreeSoFar [] ws = Unit {0}
 AgreeSoFar (z ∷ zs) [] = Unit {0}
 AgreeSoFar (z ∷ zs) (w ∷ ws) = (z ≡ w) × AgreeSoFar zs ws
 
--- numbers in front of others tell how many there are
+-- numbers in front of others determine how many there are
 abbrev TellsCount : (ℕ → List ℤ → Option Insn) → Type 0
 TellsCount f = (offset : ℕ) (zs ws : List ℤ) (i j : Insn) → f offset zs ≡ Some i → f offset ws ≡ Some j → AgreeSoFar zs ws → length zs ≡ length ws
 
@@ -244,7 +244,7 @@ switch_is f offset x i e = go (ltb (length x) (padding_at offset)) refl e where
   go true is h = cc
   go false is h = (ltb-false (length x) (padding_at offset) is, and_then_some (f offset) (signed_fours (drop (padding_at offset) x)) i h)
 
--- a switch tells its end if its numbers tell their count
+-- a switch determines its end if its numbers determine their count
 TellsEnd-switch : (f : ℕ → List ℤ → Option Insn) → TellsCount f → TellsEnd (switch f)
 TellsEnd-switch f tells_count offset x y r s i j x_read y_read e =
     let pad = padding_at offset in
@@ -265,7 +265,7 @@ infixr 45 ◌also◌
 ◌also◌ : {A B : Type 0} → A → B → A × B
 a also b = (a, b)
 
--- what a row reads is told by the bytes alone
+-- what a row reads is determined by the bytes alone
 abbrev RowTellsEnd : Row → Type 0
 RowTellsEnd row = TellsEnd row.1
 
@@ -344,7 +344,7 @@ TellsEnd-control_and_objects =
     also TellsEnd-array_of_arrays also TellsEnd-jump (insn.IfNull true) also TellsEnd-jump (insn.IfNull false) also TellsEnd-long_jump insn.Goto
     also TellsEnd-left_out 201 4 also tt
 
--- each row of the table tells its end
+-- each row of the table determines its end
 TellsEnd-rows : AllByRecursion RowTellsEnd rows
 TellsEnd-rows =
     AllByRecursion-append RowTellsEnd ((constants_and_loads ++ stores_and_stack) ++ arithmetic) control_and_objects
@@ -355,7 +355,7 @@ TellsEnd-rows =
 TellsEnd-reading_of : (opcode : ℕ) → TellsEnd (reading_of opcode)
 TellsEnd-reading_of opcode = AllByRecursion-get_or TellsEnd (map (λ (row : Row). row.1) rows) malformed (All-mapped TellsEnd (λ (row : Row). row.1) rows TellsEnd-rows) TellsEnd-malformed opcode
 
--- an instruction in front of other bytes is told by the bytes alone
+-- an instruction in front of other bytes is determined by the bytes alone
 pub insn_at_tells_end : TellsEnd insn_at
 unfolding insn_at
 insn_at_tells_end offset [] y r s i j x_read y_read e = cc

@@ -109,7 +109,7 @@ one_again b rest fits =
 pub one_piece : IsPiece (number_at 1) (λ b. b ∷ []) IsByte
 one_piece = record { takes = one_takes; again = one_again }
 
--- so many bytes as they stand
+-- a given number of bytes, unchanged
 pub bytes_takes : (size : ℕ) (bytes : List ℕ) (x : List ℕ × List ℕ) → AreBytes bytes → bytes_at size bytes ≡ Some x → Takes bytes x.0 x.1 × (length x.0 ≡ size) × AreBytes x.0
 bytes_takes size bytes x fits e =
     let g = cond-some_else (ltb (length bytes) size) (Some (take size bytes, drop size bytes)) x e in

@@ -1,4 +1,4 @@
--- The constant pool is told by its bytes.
+-- The constant pool is determined by its bytes.
 use Rattle.std.proofs.Common.{◌≡◌, ℕ, Bool, true, false, List, [], ◌∷◌, ◌++◌, length, refl, ap, sym, ◌∙◌, arith, subst}
 use Rattle.std.specs.List.{AllByRecursion, flat_map}
 use Rattle.fm_base.proofs.ListFacts.{same_head, same_tail}
@@ -24,7 +24,7 @@ cancel_pair a b c d r s a_fits b_fits c_fits d_fits e =
     let second = Cancels-two b d r s b_fits d_fits first.1 in
     (first.0, second.0, second.1)
 
--- the tag tells the kind of an entry, and what follows tells the rest
+-- the tag determines the kind of an entry, and what follows determines the rest
 pub cancel_entry : (x y : Entry) (r s : List ℕ) → IsSpelledEntry x → IsSpelledEntry y → EntryFits x → EntryFits y →
     entry_bytes x ++ r ≡ entry_bytes y ++ s → (x ≡ y) × (r ≡ s)
 unfolding entry_bytes
@@ -97,7 +97,7 @@ pub record PoolFits (pool : Pool) : Type 0 where
   pub entries : CountedFits EntryFits pool.entries
   pub slots : AreSlots true pool.entries
 
--- a pool is told by its bytes
+-- a pool is determined by its bytes
 pub Cancels-pool : Cancels pool_bytes PoolFits
 unfolding pool_bytes
 Cancels-pool x y r s x_fits y_fits e =

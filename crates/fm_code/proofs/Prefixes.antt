@@ -1,4 +1,4 @@
--- Spellings that tell where they end: numbers, counted lists, and attributes.
+-- Spellings that determine where they end: numbers, counted lists, and attributes.
 use Rattle.std.proofs.Common.{◌≡◌, ℕ, ◌^◌, ◌<◌, List, [], ◌∷◌, ◌++◌, length, take, drop, refl, ap, sym, ◌∙◌, arith, subst, Option, None, Some, IsSomeAnd, FitsSigned}
 use Rattle.std.proofs.lemmas.List.{append_assoc, take_at, drop_at}
 use Rattle.std.specs.Int.{w32, w64}
@@ -11,11 +11,11 @@ use Rattle.fm_code.specs.declared.constant_pool.Entry.{Entry}
 use Rattle.fm_base.proofs.ListFacts.{AllByRecursion-both}
 use Rattle.fm_code.proofs.Bytes.{length-two, length-four, length-eight, length-signed_four, length-signed_eight, two_injective, four_injective, eight_injective, signed_four_injective, signed_eight_injective}
 
--- a value and what follows it are told by the bytes
+-- a value and what follows it are determined by the bytes
 abbrev pub Cancels : {X : Type 0} → (X → List ℕ) → (X → Type 0) → Type 0
 Cancels {X = X} spell Fits = (x y : X) (r s : List ℕ) → Fits x → Fits y → spell x ++ r ≡ spell y ++ s → (x ≡ y) × (r ≡ s)
 
--- a piece of a known length is told by the bytes
+-- a piece of a known length is determined by the bytes
 pub split_same : (a b r s : List ℕ) → length a ≡ length b → a ++ r ≡ b ++ s → (a ≡ b) × (r ≡ s)
 split_same a b r s same e = (
   sym (take_at a r (length b) same) ∙ ap (take (length b)) e ∙ take_at b s (length b) refl,
@@ -26,21 +26,21 @@ split_same a b r s same e = (
 pub peel : (a x r b y s : List ℕ) → (a ++ x) ++ r ≡ (b ++ y) ++ s → a ++ (x ++ r) ≡ b ++ (y ++ s)
 peel a x r b y s e = sym (append_assoc a x r) ∙ e ∙ append_assoc b y s
 
--- the equations E hold where the pieces p and q stand in front of the same bytes, and what follows is the same
+-- the equations E hold where the pieces p and q are in front of the same bytes, and what follows is the same
 pub record Tells (p q : List ℕ) (E : Type 0) : Type 0 where
   pub cancel : (r s : List ℕ) → p ++ r ≡ q ++ s → E × (r ≡ s)
 
--- a value that the bytes tell
+-- a value that the bytes determine
 pub tells : {X : Type 0} (spell : X → List ℕ) (Fits : X → Type 0) → Cancels spell Fits → (x y : X) → Fits x → Fits y → Tells (spell x) (spell y) (x ≡ y)
 tells spell Fits cancels x y x_fits y_fits = record { cancel = λ r s e. cancels x y r s x_fits y_fits e }
 
--- no piece tells nothing
+-- no piece determines nothing
 pub tells_nothing : Tells [] [] (Unit {0})
 tells_nothing = record { cancel = λ r s e. (tt, e) }
 
 infixr 45 ◌then◌
 infixr 45 ◌so◌
--- a second pair of pieces after the first, which may rest on what the first has told
+-- a second pair of pieces after the first, which may rest on what the first has determined
 pub ◌so◌ : {p q p' q' : List ℕ} {E E' : Type 0} → Tells p q E → (E → Tells p' q' E') → Tells (p ++ p') (q ++ q') (E × E')
 ◌so◌ {p = p} {q = q} {p' = p'} {q' = q'} first second = record {
   cancel = λ r s e.
@@ -141,7 +141,7 @@ CountedFits-both P Q xs fits all = record { count = fits.count; each = AllByRecu
 pub told_alone : {X : Type 0} (spell : X → List ℕ) (Fits : X → Type 0) → Cancels spell Fits → (x y : X) → Fits x → Fits y → spell x ≡ spell y → x ≡ y
 told_alone spell Fits cancels x y x_fits y_fits e = (cancels x y [] [] x_fits y_fits (ap (λ (bytes : List ℕ). bytes ++ []) e)).0
 
--- ---- texts that tell kinds apart
+-- ---- texts that distinguish kinds
 
 -- one index has one text
 one_text : (o : Option (List ℕ)) (s t : List ℕ) → o ≡ Some s → o ≡ Some t → s ≡ t
@@ -156,6 +156,6 @@ some_and P (Some y) x e h = let same : y ≡ x = cc in subst P same h
 pub same_text : (entries : List Entry) (n m : ℕ) (s t : List ℕ) → n ≡ m → utf8_at entries n ≡ Some s → utf8_at entries m ≡ Some t → s ≡ t
 same_text entries n m s t same first second = one_text (utf8_at entries n) s t first (ap (utf8_at entries) same ∙ second)
 
--- what is said of the text at an index holds of it
+-- what holds of the text at an index holds of it
 pub text_meets : (P : List ℕ → Type 0) (entries : List Entry) (n m : ℕ) (s : List ℕ) → n ≡ m → utf8_at entries n ≡ Some s → IsSomeAnd (utf8_at entries m) P → P s
 text_meets P entries n m s same first second = some_and P (utf8_at entries m) s (ap (utf8_at entries) (sym same) ∙ first) second

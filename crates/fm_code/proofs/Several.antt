@@ -10,7 +10,7 @@ pub regroup : {X : Type 0} (prefix : List X) (x : X) (reading : Option (List X �
 regroup prefix x (Some others) = ap (λ (xs : List _). Some (xs, others.1)) (simp append_assoc)
 regroup prefix x None = refl
 
--- nothing stands in front of what is read
+-- nothing is in front of what is read
 with_no_prefix : {X : Type 0} (reading : Option (List X × List ℕ)) → with_prefix [] reading ≡ reading
 with_no_prefix (Some x) = refl
 with_no_prefix None = refl

@@ -66,7 +66,7 @@ offset_in (item ∷ items) end (suc index) = offset_in items end index
 abbrev pub offset_of : Code → ℕ → ℕ
 offset_of code index = offset_in code.items code.length index
 
--- an instruction as it stands (JVMS 6.5)
+-- the bytes of an item's instruction (JVMS 6.5)
 abbrev pub item_bytes : Item → List ℕ
 item_bytes item = item.bytes
 

@@ -1,4 +1,4 @@
--- The rules of a constant pool (JVMS 4.4), what stands at its indices, and what it means that bytes are one.
+-- The rules of a constant pool (JVMS 4.4), what is at its indices, and what it means that bytes are one.
 use Rattle.std.specs.Prelude.{◌≡◌, ℕ, ◌⊎◌, Bool, true, false, List, [], ◌∷◌, Option, Some, None, IsSome, IsSomeAnd, option_and_then}
 use Rattle.std.specs.List.{slice_index_or, AllByRecursion}
 use Rattle.fm_base.specs.Texts.{IsModifiedUtf8}
@@ -18,7 +18,7 @@ takes_two (entry.Long value) = true
 takes_two (entry.Double bits) = true
 takes_two e = false
 
--- nothing is spelled at index 0, nor at the index after what takes two, and all else is; the flag tells whether nothing is due
+-- nothing is spelled at index 0, nor at the index after what takes two, and all else is; the flag: whether nothing is due
 abbrev pub AreSlots : Bool → List Entry → Type 0
 AreSlots true (entry.Second ∷ entries) = AreSlots false entries
 AreSlots true entries = ⊥
@@ -26,7 +26,7 @@ AreSlots false [] = Unit {0}
 AreSlots false (entry.Second ∷ entries) = ⊥
 AreSlots false (e ∷ entries) = AreSlots (takes_two e) entries
 
--- what stands at an index; nothing outside the pool
+-- what is at an index; nothing outside the pool
 abbrev pub entry_at : List Entry → ℕ → Entry
 entry_at entries index = slice_index_or entries index entry.Second
 

@@ -79,7 +79,7 @@ example_edges =
     ∷ []
     ∷ []
 
--- a nop, after which nothing stands
+-- a nop, which nothing follows
 abbrev pub falling_code : Code
 falling_code =
     record { max_stack = 0; max_locals = 0; items = item_of 0 (0 ∷ []) insn.Nop ∷ []; length = 1; handlers = []; attributes = [] }

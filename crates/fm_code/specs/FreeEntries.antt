@@ -44,7 +44,7 @@ pub record Sought : Type 0 where
   pub index : ℕ
   pub missing : List Entry
 
--- an entry by where it is found in a pool of so many indices; where it isn't, it is missing too, and its index is the next one
+-- an entry by where it is found in a pool of a given number of indices; where it isn't, it is missing too, and its index is the next one
 abbrev pub placed : ℕ → List Entry → Entry → Option ℕ → Sought
 placed count missing e (Some index) = record { index = index; missing = missing }
 placed count missing e None = record { index = count + length missing; missing = missing ++ e ∷ [] }

@@ -52,7 +52,7 @@ short f = two_bytes (λ a b. Some (f (number_of_two a b)))
 abbrev pub signed_short : (ℤ → Insn) → Reading
 signed_short f = two_bytes (λ a b. Some (f (signed_two a b)))
 
--- the offset that lies so far from an offset, if it isn't below 0
+-- the offset at a distance from an offset, if it isn't below 0
 abbrev pub jump_to : (ℕ → Insn) → ℤ → Option Insn
 jump_to f (pos target) = Some (f target)
 jump_to f (negsuc n) = None
@@ -66,7 +66,7 @@ abbrev pub long_jump : (ℕ → Insn) → Reading
 long_jump f offset (a ∷ b ∷ c ∷ d ∷ []) = jump_to f (pos offset +ℤ signed_four_of a b c d)
 long_jump f offset operands = None
 
--- so many operand bytes of an instruction that is left out
+-- a given number of operand bytes of an instruction that is left out
 abbrev pub left_out : ℕ → ℕ → Reading
 left_out opcode count offset operands = if length operands == count then Some (insn.LeftOut opcode) else None
 
@@ -113,7 +113,7 @@ wide offset (opcode ∷ a ∷ b ∷ []) = wide_local opcode (number_of_two a b)
 wide offset (opcode ∷ a ∷ b ∷ c ∷ d ∷ []) = if opcode == opcodes.IINC then Some (insn.Inc (number_of_two a b) (signed_two c d)) else None
 wide offset operands = None
 
--- how many bytes stand between the opcode of a switch and the next multiple of four
+-- how many bytes are between the opcode of a switch and the next multiple of four
 abbrev pub padding_at : ℕ → ℕ
 padding_at offset = 3 - offset % 4
 
@@ -130,7 +130,7 @@ abbrev pub offset_from : ℤ → Option ℕ
 offset_from (pos target) = Some target
 offset_from (negsuc n) = None
 
--- the offsets that lie so far from an offset; None where one is below 0
+-- the offsets at these distances from an offset; None where one is below 0
 abbrev pub offsets_from : ℕ → List ℤ → Option (List ℕ)
 offsets_from offset [] = Some []
 offsets_from offset (z ∷ zs) =
@@ -155,7 +155,7 @@ are_rising [] = true
 are_rising (key ∷ []) = true
 are_rising (key ∷ next ∷ keys) = int_lt key next && are_rising (next ∷ keys)
 
--- the first and the second number of each pair; None where a number stands alone
+-- the first and the second number of each pair; None where a number is left over
 abbrev pub pairs_of : List ℤ → Option (List ℤ × List ℤ)
 pairs_of [] = Some ([], [])
 pairs_of (key ∷ []) = None
@@ -180,7 +180,7 @@ switch f offset operands =
 abbrev pub Row : Type 0
 Row = ℕ × Reading
 
--- the row of an instruction that is left out, with so many operand bytes
+-- the row of an instruction that is left out, with a given number of operand bytes
 abbrev pub left_out_row : ℕ → ℕ → Row
 left_out_row opcode count = (opcode, left_out opcode count)
 

@@ -5,7 +5,7 @@ use Rattle.fm_base.specs.declared.characters.TheConstants.{BOOLEAN_LETTER, BYTE_
 
 -- ---- names (JVMS 4.2)
 
--- a character that may stand in a field's or a method's name, or in a part of a class's name: none of . ; [ /
+-- a character that may be in a field's or a method's name, or in a part of a class's name: none of . ; [ /
 abbrev pub is_name_character : ℕ → Bool
 is_name_character c = not ((c == DOT) || (c == SEMICOLON) || (c == LEFT_BRACKET) || (c == SLASH))
 
@@ -24,7 +24,7 @@ is_method_name name =
       is_text (c ∷ cs) [] = false
       is_text (c ∷ cs) (d ∷ ds) = (c == d) && is_text cs ds
 
--- parts with / between them, each with at least one character; the flag tells whether the part at hand has begun
+-- parts with / between them, each with at least one character; the flag: whether the part at hand has begun
 abbrev pub are_parts : Bool → List ℕ → Bool
 are_parts begun [] = begun
 are_parts begun (c ∷ rest) = if c == SLASH then begun && are_parts false rest else is_name_character c && are_parts true rest

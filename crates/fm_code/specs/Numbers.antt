@@ -1,4 +1,4 @@
--- Numbers as they stand in a class file: big-endian, in one, two, four or eight bytes (JVMS 4.1).
+-- The bytes of numbers in a class file: big-endian, in one, two, four or eight bytes (JVMS 4.1).
 use Rattle.std.specs.Prelude.{ℕ, ◌+◌, ◌*◌, List, ℤ, pos, nat_lt, if◌then◌else◌, ◌-ℤ◌}
 use Rattle.std.specs.Int.{w32, w64, cast_unsigned}
 use Rattle.byteorder.specs.Endian.{big_bytes}

@@ -23,7 +23,7 @@ IsConstant true (entry.Long value) = Unit {0}
 IsConstant true (entry.Double bits) = Unit {0}
 IsConstant two_words e = ⊥
 
--- the arguments of a method take so many words, with one for the receiver
+-- the arguments of a method take `words` words, with one for the receiver
 abbrev pub TakesWords : ℕ → List ℕ → Type 0
 TakesWords words descriptor = (m : MethodType) × (IsMethodType m × ((descriptor ≡ method_descriptor m) × (words ≡ sum_by words_of m.parameters + 1)))
 
@@ -31,7 +31,7 @@ TakesWords words descriptor = (m : MethodType) × (IsMethodType m × ((descripto
 abbrev pub count_of : Item → ℕ
 count_of item = slice_index item.bytes 3
 
--- the entry that an instruction names has the instruction's tag; invokeinterface tells besides how many words are taken
+-- the entry that an instruction names has the instruction's tag; invokeinterface has besides how many words are taken
 abbrev pub OperandIsValid : List Entry → Item → Type 0
 OperandIsValid entries item = asked item.insn where
   asked : Insn → Type 0

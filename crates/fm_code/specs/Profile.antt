@@ -165,7 +165,7 @@ class_named entries (insn.IsA index) = class_name_at entries index
 class_named entries (insn.MultiArray index dimensions) = class_name_at entries index
 class_named entries i = None
 
--- an instruction where it stands
+-- an instruction, with the entries that it names
 pub record ItemIsSupported (entries : List Entry) (item : Item) : Type 0 where
   pub not_left_out : is_left_out item.insn ≡ false
   pub constant : loads_supported entries item.insn ≡ true
@@ -221,7 +221,7 @@ pub record IsFirstUnsupportedField (c : ClassDef) (index : ℕ) : Type 0 where
   pub before : AllByRecursion (FieldIsSupported c.pool.entries) (take index c.fields)
   pub there : IsSomeAnd (slice_get c.fields index) (λ m. ¬ FieldIsSupported c.pool.entries m)
 
--- the first method that is not supported, with the offset that is told
+-- the first method that is not supported, with the offset that is reported
 pub record IsFirstUnsupportedMethod (c : ClassDef) (index offset : ℕ) : Type 0 where
   pub name : NameIsSupported c
   pub fields : AllByRecursion (FieldIsSupported c.pool.entries) c.fields

@@ -61,7 +61,7 @@ fn attributes_copy(alloc: Global, attributes: &[CodeAttr]) -> Result<Vec<CodeAtt
     Ok(copies)
 }
 
-/// An instruction where it stands, with the bytes that spell it there.
+/// An instruction at its offset, with the bytes that spell it there.
 #[derive(Debug, PartialEq, Eq, Drop)]
 pub struct Item {
     /// The offset of its first byte in the code array.

@@ -35,7 +35,7 @@ pub fn law_nothing_follows()
 {}
 
 /// The bytes of a code array determine its items: they are cut into instructions in one way, and
-/// each target is told by its offset.
+/// each target is determined by its offset.
 pub fn law_one_code()
     ensures { (bytes : List ℕ) (xs ys : List Item)
         → SpellsCode bytes xs → SpellsCode bytes ys → xs ≡ ys }

@@ -1,4 +1,4 @@
-// Numbers put after bytes. After `NoMemory` only some bytes of a number stand there, and the caller
+// Numbers put after bytes. After `NoMemory` only some bytes of a number are there, and the caller
 // gives the bytes up.
 
 ghost use Rattle.std.specs.Prelude.{◌≡◌, ◌++◌, OnOk};

@@ -117,7 +117,7 @@ named_member_by entries index (entry.Method class member) at = rw at (rw at refl
 named_member_by entries index (entry.InterfaceMethod class member) at = rw at (rw at refl)
 named_member_by entries index e at = rw at refl
 
--- ---- what a file answers
+-- ---- what a file returns
 
 pub member_named_is : (texts : List (List ℕ)) (k : ℕ) (c : ClassDef) (file : GivenFile) → IsFile texts k c file
     → (class member : ℕ) → IsMemberOf texts (member_named c.pool.entries class member) (member_named_in file class member)

@@ -15,7 +15,7 @@ below_or_not a b = by_test (leb_tells b a) where
   by_test (inl t) = inr t.1
   by_test (inr t) = inl t.1
 
--- ---- what stands at a place
+-- ---- what is at a place
 
 pub slice_get-append_left : {X : Type 0} (xs ys : List X) (k : ℕ) (x : X) → slice_get xs k ≡ Some x → slice_get (xs ++ ys) k ≡ Some x
 slice_get-append_left xs ys k x at =

@@ -17,7 +17,7 @@ brackets (suc n) dimensions rest =
     let same : dimensions + 1 + n ≡ dimensions + suc n = omega arith in
     brackets n (dimensions + 1) rest ∙ ap (λ k. types_from k None rest) same
 
--- no ; stands in a class's name
+-- no ; is in a class's name
 class_name : (begun : Bool) (name rest front : List ℕ) (dimensions : ℕ) → are_parts begun name ≡ true
     → types_from dimensions (Some front) (name ++ 59 ∷ rest) ≡ typed dimensions (object (front ++ name)) ∷ types_in rest
 class_name begun [] rest front dimensions ok = ap (λ n. typed dimensions (object n) ∷ types_in rest) (sym (append-nil front))

@@ -17,13 +17,13 @@ use Rattle.fm_declare.specs.inner.Numbering.{Extends, IsNumberOf, number_of_text
 
 -- ---- places of texts
 
--- a text stands at its place
+-- a text is at its place
 pub position_finds : (text : List ℕ) (texts : List (List ℕ)) (n : ℕ) → position (bytes_eq text) texts ≡ Some n → slice_get texts n ≡ Some text
 position_finds text texts n at =
     let found = position-Some (bytes_eq text) texts n [] at in
     slice_get-get_or texts n [] found.0 ∙ ap (λ (t : List ℕ). Some t) (sym ((bytes_eq-Decides text (get_or texts n [])).0 found.1))
 
--- a text that stands somewhere has a place
+-- a text that is somewhere has a place
 pub position_of_text : (text : List ℕ) (texts : List (List ℕ)) (n : ℕ) → slice_get texts n ≡ Some text → position (bytes_eq text) texts ≡ None → ⊥
 position_of_text text texts n at none = true≢false (sym ((bytes_eq-Decides text text).1 refl) ∙ position_none (bytes_eq text) texts n text none at)
 

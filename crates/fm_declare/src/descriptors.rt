@@ -61,7 +61,7 @@ pub fn class_type(name: &[u8]) -> NamedType<'_>
     }
 }
 
-// What stands for the type of a descriptor that names none.
+// The value for the type of a descriptor that names none.
 fn no_type<'a>() -> NamedType<'a>
     ensures { type_named result ≡ first_type [] }
 {

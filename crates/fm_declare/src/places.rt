@@ -5,7 +5,7 @@ ghost use Rattle.std.specs.List.{slice_index_or};
 
 use fm_base::NoMemory;
 
-/// A count as a number of 32 bits. `NoMemory` for a higher one: no table can have so many places.
+/// A count as a number of 32 bits. `NoMemory` for a higher one: no table has 2^32 places or more.
 pub fn number_of(count: usize) -> Result<u32, NoMemory>
     ensures { IfOk result (λ number. number ≡ count) }
 {

@@ -1,7 +1,7 @@
 // The texts of all pools and of the built-in classes by number, each text once.
 //
 // Members, classes and descriptors go by these numbers, so that no text is compared once for each
-// entry that names it. The texts stand in a balanced tree: no choice of texts makes it slow.
+// entry that names it. The texts are in a balanced tree: no choice of texts makes it slow.
 
 ghost use Rattle.std.specs.Prelude.{
   ◌≡◌,

@@ -40,7 +40,7 @@ begins_with_none at opcode operands s same none i (suc n) begins =
     let found = (shape_reads s).again at operands i n (omega (arith, begins.within)) read in
     none-some (i, n) (sym none ∙ found)
 
--- what stands after the first byte, as the slice from 1 on has it
+-- what follows the first byte, as the slice from 1 on has it
 abbrev pub operands_in : List ℕ → List ℕ
 operands_in bytes = take (length bytes - 1) (drop 1 bytes)
 
@@ -200,7 +200,7 @@ read_only code items at end so_far all are =
       ended [] walked = refl
       ended (item ∷ more) walked = let size = front_size at [] item walked.0 in absurd (omega (arith, size.some, size.within))
 
--- where some item is spelled after those that were read, one stands there
+-- where some item is spelled after those that were read, one is there
 pub read_next : (code : List ℕ) (items : List Item) (at : ℕ) → at < length code → IsReadUpTo code items at
     → (all : List Item) → AreDrafts code all → (item : Item) × IsFront at (drop at code) item
 read_next code items at within so_far all are =

@@ -1,4 +1,4 @@
--- What failures tell.
+-- What failures mean.
 use Rattle.std.proofs.Common.{◌≡◌, Option, Some, None, refl, sym, subst, ◌∙◌}
 use Rattle.std.specs.Prelude.{Result, Ok, Err, IfOk, MatchResult}
 use Rattle.std.proofs.lemmas.Option.{none-some, same_Some}

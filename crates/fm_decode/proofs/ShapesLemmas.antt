@@ -79,6 +79,6 @@ object_opcodes-as_listed opcode above below = between (λ k. listed_reading obje
       refl also refl also refl also refl also refl also refl also refl also refl also refl also refl also refl also refl also refl also refl also refl also refl
       also refl also refl also refl also refl also refl also refl also refl also refl also tt
 
--- from 202 on no row stands in the table
+-- from 202 on no row is in the table
 pub reading_of-past : (opcode : ℕ) → 202 ≤ opcode → malformed ≡ reading_of opcode
 reading_of-past opcode past = sym (get_or_past (map (λ (row : Row). row.1) rows) opcode malformed past)

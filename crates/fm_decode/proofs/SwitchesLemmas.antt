@@ -1,4 +1,4 @@
--- Switches are read from so many operand bytes as their numbers ask for.
+-- Switches are read from as many operand bytes as their numbers ask for.
 use Rattle.std.proofs.Common.{◌≡◌, ℕ, zero, suc, ◌+◌, ◌-◌, ◌*◌, ◌/◌, ◌≤◌, Bool, true, false, ltb, ◌&&◌, List, [], ◌∷◌, length, take, drop, Option, Some, None, option_and_then, refl, sym, ap, subst, ◌∙◌, arith, ℤ, pos, negsuc, ◌+ℤ◌, ◌-ℤ◌, length-take, length-drop, if◌then◌else◌}
 use Rattle.std.specs.Prelude.{int_le, int_lt}
 use Rattle.std.specs.Option.{option_map}
@@ -16,7 +16,7 @@ use Rattle.fm_decode.proofs.OperandsLemmas.{IsReadBy}
 
 -- ---- numbers of four bytes each
 
--- so many numbers, and what follows
+-- a given number of numbers, and what follows
 abbrev pub Numbers : Type 0
 Numbers = List ℤ × List ℕ
 
@@ -24,7 +24,7 @@ numbers_in : ℕ → List ℕ → Option Numbers
 numbers_in zero bytes = Some ([], bytes)
 numbers_in (suc m) bytes = option_and_then (λ z. option_map {U = Numbers} (λ p. (z.0 ∷ p.0, p.1)) (numbers_in m z.1)) (take_number bytes)
 
--- what is told of a number that was taken
+-- what holds of a number that was taken
 record TakesFour (bytes : List ℕ) (z : ℤ) (rest : List ℕ) : Type 0 where
   long : length bytes ≡ 4 + length rest
   rest_is : rest ≡ drop 4 bytes
@@ -45,7 +45,7 @@ takes_four (a ∷ b ∷ c ∷ d ∷ more) z rest e =
       fours = λ m zs h. ap (λ (n : ℕ). signed_fours (take n (a ∷ b ∷ c ∷ d ∷ more))) (next m) ∙ ap (option_map (λ ys. signed_four_of a b c d ∷ ys)) h;
     }))
 
--- so many numbers, with the bytes that they are read from
+-- a given number of numbers, with the bytes that they are read from
 record TakesFours (m : ℕ) (bytes : List ℕ) (zs : List ℤ) (rest : List ℕ) : Type 0 where
   count : length zs ≡ m
   long : length bytes ≡ 4 * m + length rest
@@ -124,7 +124,7 @@ offsets_step offset z zs target targets first others = rw (first, others) refl
 
 -- ---- jumps
 
--- the jumps of a switch are so many numbers, each to a target
+-- the jumps of a switch are a given number of numbers, each to a target
 jumps_take : (offset count : ℕ) (bytes targets : List ℕ) → jumps_at offset count bytes ≡ Some targets
     → (zs : List ℤ) × ((rest : List ℕ) × ((numbers_in count bytes ≡ Some (zs, rest)) × (offsets_from offset zs ≡ Some targets)))
 unfolding jumps_at numbers_in
@@ -138,7 +138,7 @@ jumps_take offset (suc count) bytes targets e =
       (rest, (numbers_step count bytes jump.0 jump.1 zs rest jump_is numbers, offsets_step offset jump.0 zs target others target_is offsets ∙ whole)),
     )
 
--- what is told of numbers when the first one is apart
+-- what holds of numbers when the first one is apart
 first_number : (m : ℕ) (bytes : List ℕ) (z : ℤ) (zs : List ℤ) (rest : List ℕ) → numbers_in (suc m) bytes ≡ Some (z ∷ zs, rest)
     → (after : List ℕ) × ((take_number bytes ≡ Some (z, after)) × (numbers_in m after ≡ Some (zs, rest)))
 unfolding numbers_in
@@ -274,7 +274,7 @@ padding_take offset operands rest e =
 padding_give : (offset : ℕ) (operands : List ℕ) → padding_at offset ≤ length operands → after_padding offset operands ≡ Some (drop (padding_at offset) operands)
 padding_give offset operands room = rw (le-ltb (length operands) (padding_at offset) room) refl
 
--- there is room for so many bytes after the padding
+-- there is room for a given number of bytes after the padding
 room_for : (pad m : ℕ) (operands rest after : List ℕ) → pad ≤ length operands → drop pad operands ≡ rest → length rest ≡ m + length after
     → (m ≤ length (drop pad operands)) × (pad + m ≤ length operands)
 room_for pad m operands rest after room is long =
@@ -293,7 +293,7 @@ switch_reads f offset operands m zs room within fours =
     let numbers : signed_fours (drop pad (take (pad + m) operands)) ≡ Some zs = ap signed_fours (drop-take pad m operands) ∙ fours in
     rw (enough, numbers) refl
 
--- a switch whose numbers stand after its padding
+-- a switch whose numbers follow its padding
 switch_takes : (f : ℕ → List ℤ → Option Insn) (offset : ℕ) (operands rest : List ℕ) (k : ℕ) (zs : List ℤ) (after : List ℕ) (made i : Insn) (size n : ℕ)
     → after_padding offset operands ≡ Some rest → numbers_in k rest ≡ Some (zs, after) → f offset zs ≡ Some made → made ≡ i → size ≡ n → size ≡ padding_at offset + 4 * k
     → (n ≤ length operands) × (switch f offset (take n operands) ≡ Some i)

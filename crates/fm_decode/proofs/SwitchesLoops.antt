@@ -22,7 +22,7 @@ pub behind-more : {X : Type 0} (front : List X) (x : X) (others : Option (List X
 behind-more front x None = refl
 behind-more front x (Some xs) = ap Some (sym (append_assoc front (x ∷ []) xs))
 
--- the rest of so many that are left
+-- the rest of those that are left
 step : (n k : ℕ) → k < n → n - k ≡ suc (n - (k + 1))
 step n k lt = omega arith
 

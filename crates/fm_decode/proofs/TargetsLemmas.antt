@@ -1,4 +1,4 @@
--- Targets that are told by offsets are told by the numbers of items, and the other way round.
+-- Targets that are determined by offsets are determined by the numbers of items, and the other way round.
 use Rattle.std.proofs.Common.{◌≡◌, ℕ, zero, suc, ◌+◌, ◌<◌, ◌≤◌, ◌⊎◌, Bool, true, false, ltb, eqb, List, [], ◌∷◌, ◌++◌, map, length, get_or, drop, drop-cons, add-one, Option, Some, None, option_and_then, refl, sym, ap, subst, ◌∙◌, arith, inl, inr, if◌then◌else◌}
 use Rattle.std.specs.Prelude.{replicate}
 use Rattle.std.specs.List.{flat_map, AllByRecursion, AllZip}
@@ -31,7 +31,7 @@ rising_le offsets (suc n) rising within =
     let above : get_or offsets n 0 < get_or offsets (suc n) 0 = rising n (suc n) (omega arith) within in
     omega arith
 
--- the first so many items stand there
+-- the first items, up to a given number, are there
 pub record AreStartsUpTo (offsets : List ℕ) (end : ℕ) (numbers : List ℕ) (k : ℕ) : Type 0 where
   pub size : length numbers ≡ end
   pub each : (n : ℕ) → n < k → get_or numbers (get_or offsets n 0) 0 ≡ n

@@ -29,7 +29,7 @@ pub(crate) fn drafts_of(alloc: Global, code: &[u8]) -> Result<Vec<Item>, DecodeF
     Ok(drafts)
 }
 
-/// The item that stands at an offset of a code array.
+/// The item at an offset of a code array.
 fn item_at(alloc: Global, code: &[u8], at: usize) -> Result<Item, DecodeFail>
     requires short { length code.now ≤ 65535 }
     requires within { at < length code.now }
@@ -60,7 +60,7 @@ fn insn_at(alloc: Global, at: usize, bytes: &[u8]) -> Result<(Insn, usize), Deco
     Ok((insn, 1 + count))
 }
 
-/// The instruction of a shape at an offset with what stands after its opcode, and how many of these
+/// The instruction of a shape at an offset with what follows its opcode, and how many of these
 /// bytes belong to it.
 fn shaped_insn(
     alloc: Global,

@@ -1,4 +1,4 @@
-// Instructions other than switches, from what stands after their opcodes.
+// Instructions other than switches, from what follows their opcodes.
 
 ghost use Rattle.std.specs.Prelude.{◌≡◌, ◌≤◌, None, pos, ◌+ℤ◌};
 ghost use Rattle.std.specs.List.{slice_index_or};
@@ -61,7 +61,7 @@ pub(crate) fn i32_of(a: u8, b: u8, c: u8, d: u8) -> i32
     number.cast_signed()
 }
 
-/// The offset that lies so far from an offset, if it isn't below 0.
+/// The offset at a distance of `jump` from an offset, if it isn't below 0.
 pub(crate) fn offset_from(at: usize, jump: i32) -> Option<u32>
     requires { at ≤ 65535 }
     ensures { result ≡ offset_from (pos at +ℤ jump) }
@@ -69,7 +69,7 @@ pub(crate) fn offset_from(at: usize, jump: i32) -> Option<u32>
     u32::try_from(at as i64 + i64::from(jump)).ok()
 }
 
-/// The instruction of a shape at an offset with what stands after its opcode, and how many of these
+/// The instruction of a shape at an offset with what follows its opcode, and how many of these
 /// bytes belong to it.
 #[tactic(auto, unfolding(crate::specs::inner::Operands::plain_at))]
 pub(crate) fn plain_insn(at: usize, shape: Shape, operands: &[u8]) -> Option<(Insn, usize)>
@@ -132,7 +132,7 @@ fn long_insn(at: usize, shape: Shape, operands: &[u8]) -> Option<(Insn, usize)>
     }
 }
 
-/// An instruction that is left out, with so many bytes after its opcode.
+/// An instruction that is left out, with a given number of bytes after its opcode.
 fn left_out(opcode: u8, count: usize, operands: &[u8]) -> Option<(Insn, usize)>
     ensures { result ≡ left_out_at opcode count operands.now }
 {
@@ -172,7 +172,7 @@ fn array_of_arrays(operands: &[u8]) -> Option<(Insn, usize)>
     }
 }
 
-/// What stands after wide: an opcode with a local of two bytes, and for iinc a signed number of two
+/// What follows wide: an opcode with a local of two bytes, and for iinc a signed number of two
 /// bytes that is added to it.
 fn wide(operands: &[u8]) -> Option<(Insn, usize)>
     ensures { result ≡ wide_at operands.now }

@@ -1,4 +1,4 @@
-// The shape of each instruction by its opcode: what stands after the opcode, and which instruction it
+// The shape of each instruction by its opcode: what follows the opcode, and which instruction it
 // makes (JVMS 6.5).
 
 ghost use Rattle.std.specs.Prelude.{◌≡◌};
@@ -7,14 +7,14 @@ ghost use Rattle.fm_decode.specs.inner.Shapes.{branch_insn, indexed_insn, listed
 
 use fm_code::{Conv, Elem, Insn, Op, Reg, Shift, Test, opcodes};
 
-/// What stands after an opcode, and which instruction it makes.
+/// What follows an opcode, and which instruction it makes.
 #[derive(Debug, Drop)]
 pub(crate) enum Shape {
     /// No instruction has the opcode.
     Unknown,
-    /// Nothing stands after it.
+    /// Nothing follows it.
     Bare(Insn),
-    /// An instruction that is left out, by its opcode, and how many bytes stand after that.
+    /// An instruction that is left out, by its opcode, and how many bytes follow that.
     LeftOut(u8, u8),
     /// An index of one byte.
     Byte(Indexed),

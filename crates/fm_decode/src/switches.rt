@@ -1,4 +1,4 @@
-// Switches, from what stands after their opcodes.
+// Switches, from what follows their opcodes.
 
 ghost use Rattle.std.specs.Prelude.{◌≡◌, ◌≤◌};
 ghost use Rattle.fm_code.specs.InstructionTable.{are_rising, padding_at};
@@ -23,7 +23,7 @@ fn take_number(bytes: &[u8]) -> Result<(i32, &[u8]), DecodeFail>
     }
 }
 
-/// How many bytes stand between the opcode of a switch and the next multiple of four.
+/// How many bytes are between the opcode of a switch and the next multiple of four.
 fn padding_at(at: usize) -> usize
     ensures { result ≡ padding_at at }
 {
@@ -40,7 +40,7 @@ fn after_padding(at: usize, operands: &[u8]) -> Result<&[u8], DecodeFail>
     }
 }
 
-/// The offset that lies so far from an offset.
+/// The offset at a distance of `jump` from an offset.
 fn target_at(at: usize, jump: i32) -> Result<u32, DecodeFail>
     requires { at ≤ 65535 }
     ensures { Gives (λ target. target) result (target_at at jump) }
@@ -77,7 +77,7 @@ fn pair_count(count: i32, left: usize) -> Result<usize, DecodeFail>
     Ok(count)
 }
 
-/// The targets of so many jumps.
+/// The targets of a given number of jumps.
 fn jumps_at(alloc: Global, at: usize, count: usize, bytes: &[u8]) -> Result<Vec<u32>, DecodeFail>
     requires { at ≤ 65535 }
     ensures { Gives (λ targets. targets.items) result (jumps_at at count bytes.now) }
@@ -92,7 +92,7 @@ fn jumps_at(alloc: Global, at: usize, count: usize, bytes: &[u8]) -> Result<Vec<
     Ok(targets)
 }
 
-/// The keys and the targets of so many pairs.
+/// The keys and the targets of a given number of pairs.
 fn pairs_at(
     alloc: Global,
     at: usize,
@@ -127,7 +127,7 @@ fn are_rising(keys: &[i32]) -> bool
     true
 }
 
-/// The tableswitch at an offset with what stands after its opcode, and how many of these bytes belong
+/// The tableswitch at an offset with what follows its opcode, and how many of these bytes belong
 /// to it. Memory is taken only for as many jumps as there are bytes for.
 #[tactic(auto, unfolding(crate::specs::inner::Switches::table_at))]
 pub(crate) fn table_switch(
@@ -149,7 +149,7 @@ pub(crate) fn table_switch(
     Ok((Insn::Table(low, others, targets), size))
 }
 
-/// The lookupswitch at an offset with what stands after its opcode, and how many of these bytes belong
+/// The lookupswitch at an offset with what follows its opcode, and how many of these bytes belong
 /// to it. Memory is taken only for as many pairs as there are bytes for.
 #[tactic(auto, unfolding(crate::specs::inner::Switches::lookup_at))]
 pub(crate) fn lookup_switch(

@@ -9,7 +9,7 @@ use crate::error::DecodeFail;
 use fm_code::{Insn, Item, SwitchList};
 use std::alloc::Global;
 
-/// What stands in `Starts` where no item starts.
+/// What is in `Starts` where no item starts.
 const NO_ITEM: u32 = 4_294_967_295;
 
 /// The number of the item that starts at each offset of a code array, or `NO_ITEM`.
@@ -19,7 +19,7 @@ pub(crate) struct Starts {
 }
 
 impl Starts {
-    /// Where these items start, in a code array of so many bytes.
+    /// Where these items start, in a code array of a given number of bytes.
     pub(crate) fn of(alloc: Global, items: &[Item], length: usize) -> Result<Starts, DecodeFail>
         requires rising { AreRising (map item_offset items.now) }
         requires within { AllWithin length (map item_offset items.now) }

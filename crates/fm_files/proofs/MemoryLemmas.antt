@@ -1,4 +1,4 @@
--- What an answer of files in memory says of the three numbers and of the contents.
+-- What a result of files in memory means for the three numbers and for the contents.
 use Rattle.std.proofs.Common.{◌≡◌, ◌≢◌, Result, Ok, Err, Vec, ℕ, Some, OnOk, refl}
 use Rattle.std.specs.FinMap.{get}
 use Rattle.fm_files.specs.Files.{Bytes}

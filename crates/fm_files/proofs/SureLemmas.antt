@@ -1,4 +1,4 @@
--- What an answer of files in memory that never fail says of the widest reads and of the contents.
+-- What a result of files in memory that never fail means for the widest reads and for the contents.
 use Rattle.std.proofs.Common.{◌≡◌, ◌≢◌, ◌+◌, ◌<◌, ◌≤◌, Result, Ok, Err, Vec, ℕ, IfOk, OnOk, OnErr, IsErrOf, vec_len, max, [], ap, ◌∙◌, arith}
 use Rattle.std.specs.FinMap.{insert}
 use Rattle.fm_files.specs.Files.{Bytes, RisesAt}

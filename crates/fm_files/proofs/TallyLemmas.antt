@@ -107,7 +107,7 @@ module _ {Y : Type 0} (old new : ByName Tally) (this : Bytes) (limit : ℕ) wher
         no_memory = λ e. (same, unseen);
       }
 
--- a name's numbers after a write, by its answer
+-- a name's numbers after a write, by its result
 abbrev pub tally_after_write : {A : Type 0} → Tally → Result A WriteFail → Tally
 tally_after_write tally (Ok _) = tally
 tally_after_write tally (Err write_fail.Failed) = tally_after_failed_write tally

@@ -10,7 +10,7 @@ pub record Attempts : Type 0 where
 abbrev pub no_attempts : List ℕ → Attempts
 no_attempts failing = record { made = 0; failing = failing }
 
--- the number of the next attempt. It stands still at the greatest `u64`, which no list of `u32` has
+-- the number of the next attempt. It stays at the greatest `u64`, which no list of `u32` has
 abbrev pub next_attempt : Attempts → ℕ
 next_attempt attempts = min (attempts.made + 1) (2 ^ 64 - 1)
 

@@ -8,7 +8,7 @@ use Rattle.fm_files.specs.declared.tally.Tally.{Tally}
 use Rattle.fm_files.specs.declared.error.WriteFail.{WriteFail}
 use Rattle.fm_files.specs.declared.error.WriteFail.TheVariants as write_fail
 
--- what a write leaves, by its answer: a name that was written is among those asked for, and all is as it was
+-- what a write leaves, by its result: a name that was written is among those asked for, and all is as it was
 -- where memory ran out
 abbrev pub after_folder_write : {A : Type 0} → ByName Tally → Bytes → Result A WriteFail → ByName Tally
 after_folder_write tallies name (Ok _) = insert tallies name (tally_of tallies name)

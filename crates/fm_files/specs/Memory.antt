@@ -1,4 +1,4 @@
--- Files and sinks in memory, and what each answer leaves there.
+-- Files and sinks in memory, and what each call leaves there, by its result.
 use Rattle.std.specs.Prelude.{◌≡◌, ◌≢◌, ◌<◌, ◌≤◌, ◌↔◌, ◌⊎◌, ℕ, ◌+◌, List, length, Result, Ok, Err, IfOk, IsErrOf, None, Some, IsSomeAnd, Vec, vec_len}
 use Rattle.std.specs.FinMap.{get, insert}
 use Rattle.fm_files.specs.Attempts.{Attempts, IsToFail, after_attempt}
@@ -20,7 +20,7 @@ pub record MemFilesState : Type 0 where
   pub tallies : ByName Tally
   pub attempts : Attempts
 
--- what a read of at most `limit` bytes answers, where memory for it can be had
+-- what a read of at most `limit` bytes returns, where memory for it can be had
 pub record AnswersRead {Y : Type 0} (files : MemFilesState) (name : Bytes) (limit : ℕ) (answer : Result (Vec ℕ Y) FileFail) : Type 0 where
   -- the bytes are what the name holds
   pub held : IfOk answer (λ bytes. get files.held name ≡ Some bytes.items)
@@ -30,14 +30,14 @@ pub record AnswersRead {Y : Type 0} (files : MemFilesState) (name : Bytes) (limi
   -- the read is to fail, or the name isn't there
   pub fails : answer ≢ Err file_fail.NoMemory → (IsErrOf answer file_fail.Failed ↔ (IsToFail files.attempts ⊎ (get files.held name ≡ None)))
 
--- what a read leaves, by its answer: it is counted, and so is what it saw. One that is out of memory leaves
+-- what a read leaves, by its result: it is counted, and so is what it saw. One that is out of memory leaves
 -- all as it was
 abbrev pub after_read : {Y : Type 0} → MemFilesState → Bytes → ℕ → Result (Vec ℕ Y) FileFail → MemFilesState
 after_read files name limit (Err file_fail.NoMemory) = files
 after_read files name limit answer =
     record files { tallies = tallies_after_read files.tallies name limit answer; attempts = after_attempt files.attempts }
 
--- what a write leaves, by its answer: where it fails the name holds what it held, and all is as it was where
+-- what a write leaves, by its result: where it fails the name holds what it held, and all is as it was where
 -- memory ran out
 abbrev pub after_write : {A : Type 0} → MemFilesState → Bytes → Bytes → Result A WriteFail → MemFilesState
 after_write files name bytes (Ok _) =
@@ -52,7 +52,7 @@ pub record MemSinkState : Type 0 where
   pub faults : ℕ
   pub attempts : Attempts
 
--- what a put of a piece leaves, by its answer: where it fails nothing of the piece came in, and all is as it
+-- what a put of a piece leaves, by its result: where it fails nothing of the piece came in, and all is as it
 -- was where memory ran out
 abbrev pub after_put : {A : Type 0} → MemSinkState → List ℕ → Result A PutFail → MemSinkState
 after_put sink piece (Ok _) =

@@ -1,4 +1,4 @@
--- Files and a sink in memory that never fail, and what each answer leaves there.
+-- Files and a sink in memory that never fail, and what each call leaves there, by its result.
 use Rattle.std.specs.Prelude.{ℕ, ◌+◌, max, [], Result, Ok, Err, Some, Vec, vec_len, unwrap_or}
 use Rattle.std.specs.FinMap.{get, insert}
 use Rattle.fm_files.specs.Files.{Bytes, Disk}
@@ -28,7 +28,7 @@ sure_disk files = record {
   contents = Some (λ name. Some (held_by files name));
 }
 
--- what a read leaves, by its answer
+-- what a read leaves, by its result
 abbrev pub after_sure_read : {Y : Type 0} → SureFilesState → Bytes → ℕ → Result (Vec ℕ Y) FileFail → SureFilesState
 after_sure_read files name limit (Ok bytes) = record files { widest = insert files.widest name (max (widest_of files name) (vec_len bytes)) }
 after_sure_read files name limit (Err file_fail.TooLong) = record files { widest = insert files.widest name (max (widest_of files name) (limit + 1)) }

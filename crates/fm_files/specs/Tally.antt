@@ -1,4 +1,4 @@
--- The three numbers of a name, and what each answer makes of them.
+-- The three numbers of a name, and what each call makes of them, by its result.
 use Rattle.std.specs.Prelude.{ℕ, ◌+◌, max, Result, Ok, Err, Vec, vec_len, unwrap_or}
 use Rattle.std.specs.FinMap.{get, insert}
 use Rattle.fm_files.specs.Files.{Bytes, Contents, Disk}
@@ -24,7 +24,7 @@ disk_of tallies contents = record {
   contents = contents;
 }
 
--- a name's numbers after a read of at most `limit` bytes, by its answer
+-- a name's numbers after a read of at most `limit` bytes, by its result
 abbrev pub tally_after_read : {Y : Type 0} → Tally → ℕ → Result (Vec ℕ Y) FileFail → Tally
 tally_after_read tally limit (Ok bytes) = record tally { widest_read = max tally.widest_read (vec_len bytes) }
 tally_after_read tally limit (Err file_fail.Failed) = record tally { read_faults = tally.read_faults + 1 }

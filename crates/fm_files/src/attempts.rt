@@ -36,7 +36,7 @@ impl CountedAttempts {
         self.failing.iter().any(|k| u64::from(*k) == number)
     }
 
-    /// Counts an attempt. The count stands still at its end.
+    /// Counts an attempt. At the greatest count it stays.
     pub(crate) fn count(&mut self)
         ensures { self.new ≡ after_attempt self.old }
     {

@@ -18,7 +18,7 @@ pub enum FileFail {
     /// The file has more bytes than were asked for.
     #[error("the file is too long")]
     TooLong,
-    /// There was no memory for the answer.
+    /// There was no memory for the result.
     #[error("out of memory")]
     NoMemory,
 }

@@ -10,7 +10,7 @@ use std::alloc::Global;
 ///
 /// The disk is read off the value alone, so code that is generic over this trait can't make a count
 /// rise by itself: the calls below are all that it has. A failure that can't be counted any more, since
-/// the count stands at its end, is answered NoMemory.
+/// the count is at its end, is returned as NoMemory.
 pub trait Files {
     /// The faults and the widest read of each name, and what it holds, where that is known.
     ghost disk: { Self → Disk };
@@ -24,7 +24,7 @@ pub trait Files {
         ensures read_faults_rise { RisesAt name.now (disk self.old).read_faults (disk self.new).read_faults }
         ensures widest_read_rises { RisesAt name.now (disk self.old).widest_read (disk self.new).widest_read }
 
-        // No more is read than tells that the name holds too many bytes.
+        // No more is read than shows that the name holds too many bytes.
         ensures widest_read_within { (disk self.new).widest_read name.now
             ≤ max ((disk self.old).widest_read name.now) (limit + 1) }
 
@@ -34,7 +34,7 @@ pub trait Files {
         ensures known { IfOk result
             (λ bytes. Holds (disk self.old).contents name.now bytes.items) }
 
-        // What each other answer says.
+        // What each other result means.
         ensures failed { IsErrOf result FileFail.Failed
             ↔ ((disk self.old).read_faults name.now < (disk self.new).read_faults name.now) }
         ensures too_long { IsErrOf result FileFail.TooLong
@@ -54,7 +54,7 @@ pub trait Files {
         ensures write_faults_rise { RisesAt name.now (disk self.old).write_faults (disk self.new).write_faults }
         ensures others_kept { OthersAreKept name.now (disk self.old).contents (disk self.new).contents }
 
-        // What each answer says.
+        // What each result means.
         ensures written { OnOk result (Holds (disk self.new).contents name.now bytes.now) }
         ensures failed { IsErrOf result WriteFail.Failed
             ↔ ((disk self.old).write_faults name.now < (disk self.new).write_faults name.now) }

@@ -1,5 +1,5 @@
-// A disk that is full after some bytes, for tests: the files of the system, of which no more than so many
-// bytes can be written.
+// A disk that is full after some bytes, for tests: the files of the system, of which no more than a
+// given number of bytes can be written.
 
 use std::alloc::Allocator;
 use std::fs::{File, Metadata, OpenFile, OpenOptions};

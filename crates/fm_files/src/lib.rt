@@ -2,8 +2,8 @@
 //
 // The traits `Files` and `Sink` show what the programs may know of it: what each name holds and what a
 // sink got, where that is known, and how many calls failed, by name or sink. The layers above are
-// generic over the traits. They use that a call answers a failure exactly where the count rose, that no
-// count falls, and that a call changes its own name alone.
+// generic over the traits. They use that a call returns a failure exactly where the count rose,
+// that no count falls, and that a call changes no name but its own.
 //
 // `MemFiles` and `MemSink` are in memory and fail at the calls that are named; `SureFiles` and
 // `SureSink` never fail. Of all four the contents are known. `FolderFiles` and `StdSink` are the files

@@ -17,7 +17,7 @@ use fm_base::{NoMemory, Seq};
 use std::alloc::Global;
 use std::marker::Model;
 
-/// Files in memory, of whose reads and writes some are to fail. One that answers NoMemory isn't
+/// Files in memory, of whose reads and writes some are to fail. One that returns NoMemory isn't
 /// counted. Contracts see what each name holds, the numbers of each name, and the reads and writes.
 #[derive(Debug, Drop)]
 pub struct MemFiles {
@@ -76,7 +76,7 @@ impl MemFiles {
         }
     }
 
-    // What a read answers. NoMemory where a copy of the bytes can't be had.
+    // What a read returns. NoMemory where a copy of the bytes can't be had.
     fn look_up(&self, alloc: Global, name: &str, limit: u32) -> Result<Vec<u8>, FileFail>
         ensures { AnswersRead self.now name.now limit result }
     {
@@ -123,7 +123,7 @@ impl Files for MemFiles {
     }
 }
 
-/// A sink in memory, of whose puts some are to fail. One that answers NoMemory isn't counted.
+/// A sink in memory, of whose puts some are to fail. One that returns NoMemory isn't counted.
 /// Contracts see what it got, how many puts failed, and the puts.
 #[derive(Debug, Drop)]
 pub struct MemSink {

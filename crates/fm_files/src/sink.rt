@@ -10,7 +10,7 @@ use std::alloc::Global;
 ///
 /// The output is read off the value alone, so code that is generic over this trait can't make the count
 /// of faults rise by itself: the call below is all that it has. A failure that can't be counted any
-/// more, since the count stands at its end, is answered NoMemory.
+/// more, since the count is at its end, is returned as NoMemory.
 pub trait Sink {
     /// How many puts failed, and what the sink got, where that is known.
     ghost output: { Self → Output };

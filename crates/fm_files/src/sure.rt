@@ -72,7 +72,7 @@ impl SureFiles {
         }
     }
 
-    // Keeps that a read of the name saw so many bytes.
+    // Keeps how many bytes a read of the name saw.
     fn keep_seen(&mut self, name: &str, seen: u64) -> Result<(), NoMemory>
         ensures ok { let widest = max (widest_of self.old name.now) seen in OnOk result
             (self.new ≡ record self.old { widest = map.insert self.old.widest name.now widest }) }

@@ -17,7 +17,7 @@ pub(crate) struct Tally {
 }
 
 impl Tally {
-    /// After a read of at most `limit` bytes with this answer. NoMemory where that was the answer,
+    /// After a read of at most `limit` bytes with this result. NoMemory where that was the result,
     /// and where a count would pass its end.
     pub(crate) fn after_read(
         mut self,

@@ -118,7 +118,7 @@ fn sure_files_and_a_sure_sink_hold_what_they_were_given(rt: HostRuntime) -> Resu
     Ok(())
 }
 
-// A writer that takes at most so many bytes at once.
+// A writer that takes at most a given number of bytes at once.
 #[derive(Drop)]
 struct Sip {
     most: usize,

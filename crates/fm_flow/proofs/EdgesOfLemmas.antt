@@ -19,7 +19,7 @@ use Rattle.fm_flow.proofs.RisingLemmas.{IsRisingListOf-same}
 use Rattle.fm_flow.specs.Tables.{IsRisingListOf, AreEdgesOf}
 use Rattle.fm_flow.specs.inner.Walks.{AreHandlersAt, IsMarked}
 
--- the instruction of an item, where a default stands behind the last one
+-- the instruction of an item, where a default follows the last one
 pub insn_of-get_or : (code : Code) (j : ℕ) (d : Item) → j < length code.items → insn_of code j ≡ Some (get_or code.items j d).insn
 insn_of-get_or code j d inside = ap (option_map (λ (item : Item). item.insn)) (slice_get-get_or code.items j d inside)
 

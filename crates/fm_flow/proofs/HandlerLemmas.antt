@@ -10,7 +10,7 @@ use Rattle.fm_flow.proofs.AnyLemmas.{Any-take_more}
 use Rattle.fm_flow.proofs.RowFacts.{has-set_kept, has-set_same}
 use Rattle.fm_flow.specs.inner.Walks.{EndsWithin, IsMarked, AreMarked}
 
--- an entry that stands nowhere
+-- an entry that is nowhere
 abbrev pub blank : Handler
 blank = record { start = 0; end = 0; handler = 0; catch_class = 0 }
 

@@ -13,7 +13,7 @@ use Rattle.fm_flow.specs.inner.LiveWalks.{IsKeptRow}
 abbrev pub stays : Reg → ℕ → List Bool → ℕ → Bool
 stays kind local after k = has after k && not (stores_over k (insn.Store kind local))
 
--- the bits below n are told
+-- the bits below n are given
 pub record Keeping (kind : Reg) (local : ℕ) (after : List Bool) (n : ℕ) (row : List Bool) : Type 0 where
   pub same_length : length row ≡ length after
   pub each : (k : ℕ) → k < n → has row k ≡ stays kind local after k

@@ -204,7 +204,7 @@ live_along code after all k (next ∷ path) j (keeps, edge, leads) =
     let onward = live_along code after all k path next leads in
     before-kept code after k j keeps (all.closed next (edge_inside code j next edge) j k edge onward)
 
--- the row at an item tells the live locals
+-- the row at an item holds the live locals
 pub live_row : (code : Code) (after : List (List Bool)) (j : ℕ) (i : Insn) (row : List Bool) → AreSettled code after → j < length code.items → insn_of code j ≡ Some i →
     LocalsFit code.max_locals i → IsRowBefore i (row_of after j) row → (length row ≡ code.max_locals) × ((k : ℕ) → (has row k ≡ true) ↔ Live code k j)
 live_row code after j i row all inside is fits before =
@@ -215,7 +215,7 @@ live_row code after j i row all inside is fits before =
       λ k. (λ set_now. Live-from_before code after k j all.sound ((tells k).0 set_now), λ live. (tells k).1 (live_along code after all k live.0 j live.1)),
     )
 
--- the rows of the items below j tell the live locals
+-- the rows of the items below j hold the live locals
 pub record Telling (code : Code) (rows : List (List Bool)) (j : ℕ) : Type 0 where
   pub one_each : length rows ≡ j
   pub bits : (t : ℕ) → t < j → length (row_of rows t) ≡ code.max_locals

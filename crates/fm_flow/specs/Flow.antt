@@ -1,4 +1,4 @@
--- What a flow tells of a code: its edges, and which of its items are reachable.
+-- What a flow holds of a code: its edges, and which of its items are reachable.
 use Rattle.std.specs.Prelude.{ℕ, Bool, List, [], length}
 use Rattle.std.specs.List.{slice_index_or}
 use Rattle.fm_base.specs.Rows.{has}
@@ -19,7 +19,7 @@ edges_at flow j = slice_index_or flow.edges j []
 abbrev pub is_reachable : Flow → ℕ → Bool
 is_reachable flow j = has flow.reached j
 
--- the flow is that of the code, which stands in a class file
+-- the flow is that of the code, which is in a class file
 pub record IsFlowOf (code : Code) (flow : Flow) : Type 0 where
   pub spelled : MeetsCodeRules code
   pub edges : AreEdgesOf code flow.edges

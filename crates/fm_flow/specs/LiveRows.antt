@@ -14,16 +14,16 @@ item_count live = length live.rows.items
 abbrev pub local_count : LiveRows → ℕ → ℕ
 local_count live j = length (slice_index_or live.rows.items j [])
 
--- whether a local is told to be live at an item
+-- whether the rows say that a local is live at an item
 abbrev pub is_live : LiveRows → ℕ → ℕ → Bool
 is_live live k j = has (slice_index_or live.rows.items j []) k
 
--- the rows have a bit for each local at each item, which tells whether it is live there
+-- the rows have a bit for each local at each item, set where it is live there
 pub record AreLiveOf (code : Code) (rows : List (List Bool)) : Type 0 where
   pub one_each : length rows ≡ length code.items
   pub bits : (j : ℕ) → j < length code.items → length (slice_index_or rows j []) ≡ code.max_locals
   pub each : (k j : ℕ) → j < length code.items → (has (slice_index_or rows j []) k ≡ true) ↔ (Live code k j)
 
--- the rows tell the live locals of the code
+-- the rows hold the live locals of the code
 abbrev pub IsLiveRowsOf : Code → LiveRows → Type 0
 IsLiveRowsOf code live = AreLiveOf code live.rows.items

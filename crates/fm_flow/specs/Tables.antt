@@ -16,7 +16,7 @@ pub record AreEdgesOf (code : Code) (edges : List (List ℕ)) : Type 0 where
   pub one_each : length edges ≡ length code.items
   pub each : (j : ℕ) → j < length code.items → IsRisingListOf (IsEdge code j) (slice_index_or edges j [])
 
--- the bits of the row tell which items of the code are reachable
+-- the set bits of the row are the items of the code that are reachable
 pub record AreReachableOf (code : Code) (reached : List Bool) : Type 0 where
   pub one_each : length reached ≡ length code.items
   pub each : (j : ℕ) → (has reached j ≡ true) ↔ (IsReachable code j)

@@ -1,4 +1,4 @@
--- What serves the proofs alone: how lists of edges lie in memory, and how the walks stand.
+-- What only serves the proofs: how lists of edges lie in memory, and the states of the walks.
 pub mod EdgeLists
 pub mod Walks
 pub mod LiveWalks

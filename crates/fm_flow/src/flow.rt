@@ -11,7 +11,7 @@ use fm_base::Row;
 use fm_code::Code;
 use std::alloc::Global;
 
-/// The flow of control of a code. Items are told by their numbers, from 0 on.
+/// The flow of control of a code. Items are numbered from 0 on.
 #[derive(Debug, Drop)]
 pub struct Flow {
     edges: EdgeLists,
@@ -22,7 +22,7 @@ pub struct Flow {
 impl Flow {
     ghost use Rattle.fm_flow.specs.Flow.{IsFlowOf, edges_at, is_reachable, item_count};
 
-    /// The flow of a code that stands in a class file and has no instruction that is left out.
+    /// The flow of a code that is in a class file and has no instruction that is left out.
     /// `FallsOff` comes exactly where the last item is reachable and control can go on past it.
     /// Takes memory for the edges and a few words for each item.
     pub fn of(alloc: Global, code: &Code) -> Result<Flow, FlowFail>

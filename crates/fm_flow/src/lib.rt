@@ -1,7 +1,7 @@
 // The flow of control between the items of a code, and live local variables.
 //
-// The layers above use that the edges of a flow are those of its code, that it tells which items are
-// reachable, and that a local is told to be live exactly where a path leads to a load of it.
+// The layers above use that the edges of a flow are those of its code, that it says which items are
+// reachable, and that a local is said to be live exactly where a path leads to a load of it.
 #![tactic(auto)]
 
 mod edge_lists;

@@ -22,7 +22,7 @@ pub struct LiveRows {
 
 impl LiveRows {
     /// Whether a path of edges leads from item j to an `aload` of the local, and nothing before it
-    /// stores over the local. Locals and items are told by their numbers, from 0 on.
+    /// stores over the local. Locals and items are numbered from 0 on.
     pub fn is_live(&self, local: u16, j: u32) -> bool
         requires item { j < item_count self.now }
         requires local { local < local_count self.now j }

@@ -83,7 +83,7 @@ fn code(alloc: Global) -> Result<Code, NoMemory>
     written_code(alloc)
 }
 
-// A nop, after which nothing stands.
+// A nop, which nothing follows.
 fn written_nop(alloc: Global) -> Result<Code, NoMemory>
     ensures { IfOk result (λ code. code ≡ falling_code) }
 {

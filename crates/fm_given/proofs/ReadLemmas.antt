@@ -84,7 +84,7 @@ same_number contents (f ∷ files) [] taken = absurd taken
 
 -- ---- what is read so far
 
--- so many files are taken, as these classes, which have so many bytes together
+-- a given number of files are taken, as these classes, which have a given number of bytes together
 pub record ReadSoFar (files : List Bytes) (i : ℕ) (classes : List ClassDef) (total : ℕ) (old new : Disk) : Type 0 where
   pub count : length classes ≡ i
   pub taken : AreTaken old.contents (take i files) classes
@@ -141,7 +141,7 @@ module _ {files : List Bytes} {i : ℕ} {file : Bytes} {classes : List ClassDef}
     all = all_next;
   })
 
-  -- the call comes to it
+  -- the call reaches it
   reaches : length files ≤ MAX_CLASS_FILES → Reaches old.contents files file classes
   reaches few =
       let At : ℕ → Type 0 = λ k. slice_get files k ≡ Some file in

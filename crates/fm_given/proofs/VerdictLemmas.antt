@@ -1,4 +1,4 @@
--- Where contents are known, class files come to one verdict, and so to one status.
+-- Where contents are known, class files have one verdict, and so one status.
 use Rattle.std.proofs.Common.{◌≡◌, ◌<◌, ◌≤◌, ℕ, ◌+◌, zero, suc, ◌⊎◌, inl, inr, ⊎_elim, List, [], ◌∷◌, length, take, Option, Some, None, IsSomeAnd, refl, sym, ap, ◌∙◌, subst, arith}
 use Rattle.std.specs.List.{slice_get}
 use Rattle.std.proofs.lemmas.Bool.{cases_lt}
@@ -24,7 +24,7 @@ use Rattle.fm_given.proofs.RefusalLemmas.{one_status, refused_not_taken}
 
 -- ---- verdicts
 
--- why a file of these bytes isn't taken, after others that have so many bytes together
+-- why a file of these bytes isn't taken, after others that have a given number of bytes together
 abbrev pub FailsAs : ℕ → ℕ → Bytes → Type 0
 FailsAs status total bytes = (IsTooLong total bytes × (status ≡ LIMIT)) ⊎ ((r : ClassRefusal) × IsRefused r total bytes × (status ≡ class_refusal_status r))
 
@@ -32,14 +32,14 @@ FailsAs status total bytes = (IsTooLong total bytes × (status ≡ LIMIT)) ⊎ (
 abbrev pub Fails : ℕ → ℕ → Option Bytes → Type 0
 Fails status total there = ((there ≡ None) × (status ≡ READ)) ⊎ IsSomeAnd there (FailsAs status total)
 
--- the call comes to a file that isn't taken
+-- the call reaches a file that isn't taken
 pub record Stops (held : Bytes → Option Bytes) (files : List Bytes) (status : ℕ) : Type 0 where
   pub file : Bytes
   pub before : List ClassDef
   pub reaches : Reaches (Some held) files file before
   pub fails : Fails status (total_bytes before) (held file)
 
--- what classes come to after all, by their status
+-- the outcome of classes after all, by their status
 abbrev pub Ends : Type 1
 Ends = List ClassDef → ℕ → Type 0
 
@@ -58,15 +58,15 @@ pub record Passes (Last : Ends) (held : Bytes → Option Bytes) (files : List By
   pub taken : AllTaken (Some held) files classes
   pub last : Last classes status
 
--- what files come to, of which there aren't too many
+-- the outcome of files, of which there aren't too many
 abbrev pub Judged : Ends → (Bytes → Option Bytes) → List Bytes → ℕ → Type 0
 Judged Last held files status = Stops held files status ⊎ Passes Last held files status
 
--- what files come to, which begins with their number
+-- the outcome of files, which begins with their number
 abbrev pub Verdict : Ends → (Bytes → Option Bytes) → List Bytes → ℕ → Type 0
 Verdict Last held files status = ((MAX_CLASS_FILES < length files) × (status ≡ LIMIT)) ⊎ Judged Last held files status
 
--- classes come to one end
+-- classes have one outcome
 abbrev pub EndsOnce : Ends → Type 0
 EndsOnce Last = (classes : List ClassDef) (s t : ℕ) → Last classes s → Last classes t → s ≡ t
 
@@ -201,7 +201,7 @@ one_pass Last once held files s t p q = once p.classes s t p.last (subst After c
   After : List ClassDef → Type 0
   After cs = Last cs t
 
--- files of which there aren't too many come to one status
+-- files of which there aren't too many have one status
 pub one_judgement : (Last : Ends) → EndsOnce Last → (held : Bytes → Option Bytes) (files : List Bytes) (s t : ℕ) → Judged Last held files s → Judged Last held files t → s ≡ t
 one_judgement Last once held files s t (inl p) (inl q) = one_stop held files s t p q
 one_judgement Last once held files s t (inl p) (inr q) = absurd (not_both Last held files s t p q)
@@ -213,7 +213,7 @@ few_judged : (Last : Ends) (held : Bytes → Option Bytes) (files : List Bytes) 
 few_judged Last held files s (inl p) = p.reaches.few
 few_judged Last held files s (inr p) = p.taken.few
 
--- files come to one verdict
+-- files have one verdict
 pub one_verdict : (Last : Ends) → EndsOnce Last → (held : Bytes → Option Bytes) (files : List Bytes) (s t : ℕ) → Verdict Last held files s → Verdict Last held files t → s ≡ t
 one_verdict Last once held files s t (inl p) (inl q) = p.1 ∙ sym q.1
 one_verdict Last once held files s t (inl p) (inr q) = absurd (let many = p.0 in let few = few_judged Last held files t q in omega arith)

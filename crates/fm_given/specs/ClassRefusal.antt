@@ -1,4 +1,4 @@
--- Why a class file is refused by its bytes, and how that is told.
+-- Why a class file is refused by its bytes, and how that is reported.
 use Rattle.std.specs.Prelude.{◌≡◌, ℕ, List, [], ◌∷◌, ◌++◌, codes, IsSome, Some, IsSomeAnd, slice_get}
 use Rattle.std.specs.Fmt.{decimal}
 use Rattle.fm_code.specs.ConstantPool.{utf8_at}
@@ -24,7 +24,7 @@ use Rattle.fm_given.specs.declared.judging.ClassFail.TheVariants as class_fail
 abbrev pub IsNameAt : List Entry → List Member → ℕ → List ℕ → Type 0
 IsNameAt entries members index name = IsSomeAnd (slice_get members index) (λ m. utf8_at entries m.name ≡ Some name)
 
--- a place is told by the name of the field or the method, and by the word class where it is the class's own name
+-- a place is reported by the name of the field or the method, and by the word class where it is the class's own name
 abbrev pub IsPlaceName : ClassDef → Place → List ℕ → Type 0
 IsPlaceName c place.OfClass name = name ≡ codes "class"
 IsPlaceName c (place.OfField index) name = IsNameAt c.pool.entries c.fields index name

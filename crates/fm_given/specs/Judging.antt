@@ -1,4 +1,4 @@
--- What judging the program of classes comes to.
+-- The outcome of judging the program of classes.
 use Rattle.std.specs.Prelude.{◌≡◌, ℕ, List, [], Result, Ok, Err, IsSomeAnd}
 use Rattle.fm_code.specs.declared.class_file.ClassDef.{ClassDef}
 use Rattle.fm_refuse.specs.Refused.{refusal_of}

@@ -1,4 +1,4 @@
--- How it is told that class files make no program.
+-- How it is reported that class files make no program.
 use Rattle.std.specs.Prelude.{ℕ, List, [], ◌∷◌, ◌++◌, codes, Option, Some, None}
 use Rattle.fm_refuse.specs.Refused.{refusal_of}
 use Rattle.fm_refuse.specs.declared.error.LinkFail.{LinkFail}
@@ -17,7 +17,7 @@ cause_word MissingMethod = codes "missing-method"
 cause_word NotImplemented = codes "not-implemented"
 cause_word NoMain = codes "no-main"
 
--- the line of a word, of a name and of the class in whose file it stands, with its line end
+-- the line of a word, of a name and of the class whose file has it, with its line end
 abbrev pub told_line : List ℕ → List ℕ → List ℕ → List ℕ
 told_line word name user = codes "refused: link " ++ (word ++ (codes " " ++ (printed name ++ (codes " in " ++ (printed user ++ 10 ∷ [])))))
 

@@ -1,4 +1,4 @@
--- What the read of class files comes to.
+-- The outcome of the read of class files.
 use Rattle.std.specs.Prelude.{◌≡◌, List, Contains, Result, Ok, Err, Vec}
 use Rattle.fm_files.specs.Files.{Bytes, Disk, AreKept}
 use Rattle.fm_code.specs.declared.class_file.ClassDef.{ClassDef}

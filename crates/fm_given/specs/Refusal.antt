@@ -1,4 +1,4 @@
--- How a job that isn't done is told.
+-- How a job that isn't done is reported.
 use Rattle.std.specs.Prelude.{ℕ, List, [], ◌∷◌, ◌++◌, codes, string_bytes}
 use Rattle.std.specs.Fmt.{decimal}
 use Rattle.fm_tool.specs.Printed.{printed}

@@ -38,14 +38,14 @@ pub record AllTaken (contents : Contents) (files : List Bytes) (classes : List C
   pub taken : AreTaken contents files classes
   pub short : total_bytes classes ≤ MAX_ALL_CLASS_FILES_BYTES
 
--- the call comes to this file: there aren't too many files, and those before it are taken as these classes
+-- the call reaches this file: there aren't too many files, and those before it are taken as these classes
 pub record Reaches (contents : Contents) (files : List Bytes) (file : Bytes) (before : List ClassDef) : Type 0 where
   pub there : slice_get files (length before) ≡ Some file
   pub few : length files ≤ MAX_CLASS_FILES
   pub taken : AreTaken contents (take (length before) files) before
   pub short : total_bytes before ≤ MAX_ALL_CLASS_FILES_BYTES
 
--- ---- class files that aren't taken, after others that have so many bytes together
+-- ---- class files that aren't taken, after others that have a given number of bytes together
 
 -- the file is too long, or those up to it are too long together
 abbrev pub IsTooLong : ℕ → Bytes → Type 0

@@ -1,4 +1,4 @@
-// Why a class file is refused by its bytes, and how that is told.
+// Why a class file is refused by its bytes, and how that is reported.
 
 ghost use Rattle.std.specs.Prelude.{◌≡◌, IfOk, string_bytes};
 ghost use Rattle.fm_given.specs.ClassRefusal.{class_refusal_line, class_refusal_status, count_word};
@@ -22,7 +22,7 @@ pub enum ClassRefusal {
 }
 
 impl ClassRefusal {
-    /// The line that tells it of a file, with its line end.
+    /// The line that reports it of a file, with its line end.
     pub fn line(&self, alloc: Global, file: &str) -> Result<String, NoMemory>
         ensures { IfOk result (λ text. string_bytes text ≡ class_refusal_line file.now self.now) }
     {
@@ -43,7 +43,7 @@ impl ClassRefusal {
         }
     }
 
-    /// The status that tells it.
+    /// The status that reports it.
     pub fn status(&self) -> u8
         ensures { result ≡ class_refusal_status self.now }
     {

@@ -67,7 +67,7 @@ fn judge(alloc: Global, class: &ClassDef) -> Result<(), ClassFail>
     Ok(())
 }
 
-// The name by which a place of a class is told.
+// The name by which a place of a class is reported.
 fn place_name(alloc: Global, class: &ClassDef, place: Place) -> Result<Name, NoMemory>
     requires { PlaceHasName class.now place }
     ensures { IfOk result (IsPlaceName class.now place) }

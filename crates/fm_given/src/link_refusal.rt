@@ -1,4 +1,4 @@
-// Why the classes of a job make no program, and how that is told.
+// Why the classes of a job make no program, and how that is reported.
 
 ghost use Rattle.std.specs.Prelude.{◌≡◌, IfOk, codes, string_bytes};
 ghost use Rattle.fm_refuse.specs.Refused.{refusal_as};
@@ -9,7 +9,7 @@ use fm_refuse::{LinkBad, LinkFail};
 use fm_tool::{Refusal, printed};
 use std::alloc::Global;
 
-/// The line that tells why there is no program, with its line end.
+/// The line that reports why there is no program, with its line end.
 pub fn link_line(alloc: Global, fail: &LinkFail) -> Result<String, NoMemory>
     ensures { IfOk result (λ text. string_bytes text ≡ link_fail_line fail.now) }
 {

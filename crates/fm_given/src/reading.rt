@@ -36,7 +36,8 @@ pub fn read_classes<'a, F: Files>(
     Ok(classes)
 }
 
-// The class of a file after others that have so many bytes together, and how many bytes it has.
+// The class of a file after others that have a given number of bytes together, and how many bytes
+// it has.
 fn read_class_file<'a, F: Files>(
     alloc: Global,
     name: &'a str,

@@ -1,4 +1,4 @@
-// Why a job isn't done, and how that is told.
+// Why a job isn't done, and how that is reported.
 
 ghost use Rattle.std.specs.Prelude.{◌≡◌, IfOk, string_bytes};
 ghost use Rattle.fm_tool.specs.declared.refusal.Refusal.TheVariants as refusal;
@@ -17,15 +17,15 @@ use std::alloc::{AllocError, AllocFailed, Global};
 pub enum JobRefusal<'a> {
     /// For the words, for a read, or for want of memory.
     Shared(Refusal<'a>),
-    /// There are so many class files, more than the limit.
+    /// This number of class files is above the limit.
     TooManyFiles(usize),
-    /// There are so many arguments, more than the limit.
+    /// This number of arguments is above the limit.
     TooManyArguments(usize),
     /// This file is too long, or the class files up to it are too long together.
     TooLong(&'a str),
     /// This class file is refused by its bytes.
     Class(&'a str, ClassRefusal),
-    /// The classes make no program; want of memory is never told so.
+    /// The classes make no program; want of memory is never reported so.
     Link(LinkFail),
     /// The method of this name, with its class and its descriptor, isn't typed.
     Check(Name),
@@ -34,7 +34,7 @@ pub enum JobRefusal<'a> {
 }
 
 impl JobRefusal<'_> {
-    /// The line that tells it, with its line end.
+    /// The line that reports it, with its line end.
     pub fn line(&self, alloc: Global) -> Result<String, NoMemory>
         ensures { IfOk result (λ text. string_bytes text ≡ refusal_line self.now) }
     {
@@ -54,7 +54,7 @@ impl JobRefusal<'_> {
         }
     }
 
-    /// The status that tells it.
+    /// The status that reports it.
     pub fn status(&self) -> u8
         ensures { result ≡ refusal_status self.now }
     {

@@ -162,7 +162,7 @@ joins-least o tree (x ∷ xs) [] (z ∷ zs) f g = absurd g
 joins-least o tree (x ∷ xs) (y ∷ ys) [] f g = absurd f
 joins-least o tree (x ∷ xs) (y ∷ ys) (z ∷ zs) f g = ((join-least o tree x y).least z f.0 g.0, joins-least o tree xs ys zs f.1 g.1)
 
--- the join of what stands level stands level
+-- the join of what is level is level
 join-shaped : (o : Outline) → AreTree o.classes → (a b c : Slot) → Stands o a c → Stands o b c → shape_of (join o a b) ≡ shape_of c
 unfolding join
 join-shaped o tree slot.Top slot.Top slot.Top f g = refl

@@ -1,4 +1,4 @@
--- Places of a state: what stands there in states that fit, and what a state has that gets another slot there.
+-- Places of a state: what is there in states that fit, and what a state has that gets another slot there.
 use Rattle.std.proofs.Common.{◌≡◌, ◌≢◌, refl, sym, ◌∙◌, ap, ⊎_elim, ℕ, zero, suc, ◌<◌, ◌≤◌, ◌==◌, ◌&&◌, nat_le, true, false, List, [], ◌∷◌, ◌++◌, length, reverse, set, Contains, subst, sum_by, arith, length-set}
 use Rattle.std.specs.List.{AllZip}
 use Rattle.std.proofs.lemmas.Bool.{cases_eq, cases_lt, false≢true}
@@ -21,7 +21,7 @@ use Rattle.fm_types.specs.declared.slots.Slot.{Slot}
 use Rattle.fm_types.specs.declared.slots.Slot.TheVariants as slot
 use Rattle.fm_world.specs.Programs.{Outline}
 
--- ---- lists that stand to each other pair by pair
+-- ---- lists that are related pair by pair
 
 pub zip-reverse : (R : Slot → Slot → Type 0) (xs ys : List Slot) → AllZip R xs ys → AllZip R (reverse xs) (reverse ys)
 zip-reverse R [] [] h = tt
@@ -78,7 +78,7 @@ raised_words-second R xs zs h y w r =
     subst (λ (us : List Slot). AllZip R us (reverse (set (reverse zs) h y))) (reverse-reverse xs)
     (zip-reverse R (reverse xs) (set (reverse zs) h y) (raised_second R (reverse xs) (reverse zs) h y (zip-reverse R xs zs w) r))
 
--- ---- what stands at a place
+-- ---- what is at a place
 
 pub slot-fits : (o : Outline) (s t : TypeState) (p : Place) → state_fits o s t ≡ true → fits o (slot_at s p) (slot_at t p) ≡ true
 slot-fits o s t (place.Local k) h = zip-at (Fitting o) (fits-top o slot.Top) s.locals t.locals k (fits-parts o s t h).locals

@@ -45,7 +45,7 @@ follows-both R S (Some a) (Some b) f g = record { first = f; second = g }
 
 -- ---- stacks that differ in words below the topmost
 
--- the word of a stack that lies on so many others, and one of those
+-- the word of a stack that lies on a given number of others, and one of those
 word-top : (x : Slot) (xs : List Slot) (n : ℕ) → length xs ≡ n → local_at (reverse (x ∷ xs)) n ≡ x
 word-top x xs n size =
     ap (λ zs. local_at zs n) (reverse-append (x ∷ []) xs) ∙ get_or_push (reverse xs) x slot.Top n (length-reverse xs ∙ size)
@@ -58,7 +58,7 @@ word-below x xs h below =
 word-past : (xs : List Slot) (h : ℕ) → length xs ≤ h → local_at (reverse xs) h ≡ slot.Top
 word-past xs h past = let size = length-reverse xs in get_or_past (reverse xs) h slot.Top (omega (arith, size, past))
 
--- the words differ at some places only, and none of them is among so many topmost words
+-- the words differ at some places only, and none of them is among a given number of topmost words
 pub record AreLow (P : Place → Type 0) (v : Place → Slot) (m : ℕ) (xs ys : List Slot) : Type 0 where
   pub words : AreCarried (λ h. P (place.Word h)) (λ h. v (place.Word h)) (reverse xs) (reverse ys)
   pub low : (h : ℕ) → P (place.Word h) → h + m < length xs

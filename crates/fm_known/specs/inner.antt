@@ -1,4 +1,4 @@
--- What serves the proofs alone: the method that is checked, the join of states, their ranks, and what rose at an item.
+-- What only serves the proofs: the method that is checked, the join of states, their ranks, and what rose at an item.
 pub mod Tasks
 pub mod Merging
 pub mod Ranks

@@ -1,4 +1,4 @@
-// Which places of a state the row of an instruction leaves alone: it neither looks at what stands there
+// Which places of a state the row of an instruction leaves alone: it neither looks at what is there
 // nor changes it.
 
 ghost use Rattle.std.specs.Prelude.{◌≡◌, All, IfOk, IsTrue};
@@ -67,7 +67,7 @@ fn stored_words(kind: Reg) -> usize
 }
 
 // The words of the stack that the row of the instruction takes at most, where neither a method nor
-// dimensions tell it.
+// dimensions determine it.
 fn own_words(insn: &Insn) -> usize
     ensures { result ≡ own_words insn.now }
 {
@@ -145,7 +145,7 @@ pub fn words_taken(alloc: Global, method: &Method<'_>, insn: &Insn) -> Result<us
     }
 }
 
-// Whether the row leaves a place alone, where it takes no word below so many.
+// Whether the row leaves a place alone, where it takes no word below `below`.
 fn leaves_alone(insn: &Insn, below: usize, rise: Rise) -> bool
     ensures { result ≡ leaves_alone insn.now below rise.place rise.slot }
 {
@@ -160,7 +160,7 @@ fn leaves_alone(insn: &Insn, below: usize, rise: Rise) -> bool
     }
 }
 
-/// Whether the row leaves each of these places alone, where it takes no word below so many.
+/// Whether the row leaves each of these places alone, where it takes no word below `below`.
 pub fn all_left_alone(insn: &Insn, below: usize, rises: &[Rise]) -> bool
     ensures { IsTrue result → All (IsLeftAlone insn.now below) rises.now }
 {

@@ -18,7 +18,7 @@ pub enum Place {
     Word(u16),
 }
 
-/// What a `State` tells, with the words of the stack as a list of which the last one is the top.
+/// What a `State` holds, with the words of the stack as a list of which the last one is the top.
 #[derive(Drop)]
 pub struct Known {
     /// As many as the method has.
@@ -40,7 +40,7 @@ pub fn slot_in(slots: &[Slot], number: u16) -> Slot
 }
 
 impl Known {
-    /// What the state tells.
+    /// What the state holds.
     pub fn new(alloc: Global, state: &State) -> Result<Known, NoMemory>
         ensures { IfOk result (λ known. known_state known ≡ type_state state.now) }
     {
@@ -51,7 +51,7 @@ impl Known {
         })
     }
 
-    /// What the state tells, but for the words of its stack.
+    /// What the state holds, but for the words of its stack.
     pub fn without_words(alloc: Global, state: &State) -> Result<Known, NoMemory>
         ensures { IfOk result (λ known. known_state known ≡ without_words (type_state state.now)) }
     {
@@ -62,7 +62,7 @@ impl Known {
         })
     }
 
-    /// A state that tells the same.
+    /// A state that holds the same.
     pub fn to_state(&self, alloc: Global) -> Result<State, NoMemory>
         ensures { IfOk result (λ state. type_state state ≡ known_state self.now) }
     {
@@ -75,7 +75,7 @@ impl Known {
         })
     }
 
-    /// The state that tells the same. Takes no memory.
+    /// The state that holds the same. Takes no memory.
     pub fn into_state(self) -> State
         ensures { type_state result ≡ known_state self }
     {
@@ -86,7 +86,7 @@ impl Known {
         }
     }
 
-    /// What stands at a place; `Top` where there is none.
+    /// What is at a place; `Top` where there is none.
     pub fn slot_at(&self, place: Place) -> Slot
         ensures { result ≡ slot_at (known_state self.now) place }
     {

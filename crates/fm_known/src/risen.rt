@@ -10,16 +10,16 @@ use fm_base::{NoMemory, Seq};
 use fm_types::{Slot, State};
 use std::alloc::Global;
 
-/// A place at which something rose, and what stands there now.
+/// A place at which something rose, and what is there now.
 #[derive(Clone, Copy)]
 pub struct Rise {
     /// Where it rose.
     pub place: Place,
-    /// What stands there.
+    /// What is there.
     pub slot: Slot,
 }
 
-/// What stands at these places, in their order.
+/// What is at these places, in their order.
 pub fn rises_of(alloc: Global, known: &Known, places: &[Place]) -> Result<Vec<Rise>, NoMemory>
     ensures { IfOk result
         (λ rises. rises.items ≡ map (rise_of (known_state known.now)) places.now) }
@@ -34,7 +34,7 @@ pub fn rises_of(alloc: Global, known: &Known, places: &[Place]) -> Result<Vec<Ri
     Ok(rises)
 }
 
-/// What stands in each of so many locals, in their order.
+/// What is in each of a given number of locals, in their order.
 pub fn local_rises(alloc: Global, state: &State, count: u16) -> Result<Vec<Rise>, NoMemory>
     ensures { IfOk result (λ rises. rises.items ≡ local_rises count (type_state state.now)) }
 {
@@ -78,7 +78,7 @@ pub fn is_lost(place: Place, slot: Slot) -> bool
     }
 }
 
-// Puts a place after the others where the slots that stand there aren't the same.
+// Puts a place after the others where the slots that are there aren't the same.
 fn push_if_other(places: &mut Vec<u16>, place: u16, slot: Slot, other: Slot) -> Result<(), NoMemory>
     ensures { OnOk result (IsPlaced place slot other places.old.items places.new.items) }
 {
@@ -149,7 +149,7 @@ pub fn risen_places(
 }
 
 /// The places at which something rose at an item in all, where at first it did at these and then at
-/// those. So many places are the most that are noted one by one.
+/// those. At most `most` places are noted one by one.
 pub fn noted(
     most: usize,
     known: Option<Seq<Place>>,

@@ -1,4 +1,4 @@
--- What layout needs of its old and new items, and what it answers.
+-- What layout needs of its old and new items, and what it returns.
 use Rattle.std.proofs.Common.{◌≡◌, ℕ, suc, [], ◌∷◌, ◌<◌, ◌≤◌, List, length, refl, ap, ◌∙◌, arith, if◌then◌else◌}
 use Rattle.std.specs.Prelude.{nat_lt}
 use Rattle.std.proofs.lemmas.Bool.{lt-ltb, le-ltb}

@@ -1,4 +1,4 @@
--- Each new item stands among the laid ones.
+-- Each new item is among the laid ones.
 use Rattle.std.proofs.Common.{◌≡◌, ℕ, zero, suc, ◌+◌, ◌<◌, ◌≤◌, ◌⊎◌, inl, inr, Bool, true, false, List, [], ◌∷◌, ◌++◌, length, refl, sym, ap, subst, ◌∙◌, arith, if◌then◌else◌, Option, Some, None, append_assoc, length-append}
 use Rattle.std.specs.Prelude.{is_some, nat_lt, slice_get, slice_index}
 use Rattle.std.proofs.lemmas.Bool.{cases_lt, lt-ltb, le-ltb}
@@ -79,7 +79,7 @@ at_first front rest first number = let same : first ≡ length front + 0 = omega
 at_second : (front rest : List Item) (first : ℕ) → length front ≡ first → insn_of (front ++ rest) (first + 1) ≡ insn_of rest 1
 at_second front rest first number = let same : first + 1 ≡ length front + 1 = omega arith in ap (λ n. insn_of (front ++ rest) n) same ∙ behind front rest 1
 
--- ---- which way it stands
+-- ---- in which form it is there
 
 -- whether a room is that of a branch that is split
 abbrev pub is_split : Room → Bool
@@ -92,7 +92,7 @@ is_split_at [] k = false
 is_split_at (r ∷ rooms) zero = is_split r
 is_split_at (r ∷ rooms) (suc k) = is_split_at rooms k
 
--- an instruction stands split, or whole
+-- an instruction is split, or whole
 abbrev pub StandsAs : Bool → List Item → List ℕ → ℕ → Bool → Insn → Type 0
 StandsAs true laid firsts number follows i = StandsSplit laid firsts number follows i
 StandsAs false laid firsts number follows i = StandsWhole laid firsts number i
@@ -161,7 +161,7 @@ stands_from old starts firsts start first (x ∷ items) (r ∷ rooms) front (suc
     subst (λ (b : Bool). StandsAs split (front ++ (here ++ rest)) firsts number_is b new.insn) last
     (subst (λ (l : List Item). StandsAs split l firsts number_is (nat_lt (k + 1) (length items)) new.insn) (append_assoc front here rest) later)
 
--- each new item stands as its room tells
+-- each new item has the form that its room says
 pub laid_stands_as : (old : List Item) (items : List NewItem) (k : ℕ) (new : NewItem) → slice_get items k ≡ Some new
     → StandsAs (is_split_at (widened_rooms (rooms_of old items)) k) (laid_of old items).items (laid_of old items).firsts (slice_index (laid_of old items).firsts k)
     (nat_lt (k + 1) (length items)) new.insn

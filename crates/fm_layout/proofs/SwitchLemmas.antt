@@ -99,7 +99,7 @@ length-new_padding start kept =
     let few = padding-le start in
     omega (arith, length-take (padding_at start) (old_padding kept ++ 0 ∷ 0 ∷ 0 ∷ []))
 
--- what stands after the padding is read
+-- what follows the padding is read
 padded : (f : ℕ → List ℤ → Option Insn) (start : ℕ) (padding rest : List ℕ) (zs : List ℤ) → length padding ≡ padding_at start → signed_fours rest ≡ Some zs
     → switch f start (padding ++ rest) ≡ f start zs
 padded f start padding rest zs size read =
@@ -191,7 +191,7 @@ length-pairs starts start (key ∷ keys) (target ∷ targets) e =
 
 -- ---- tableswitch
 
--- the bytes that are copied of an old switch stand after four others behind its padding
+-- the bytes that are copied of an old switch follow four others behind its padding
 head_is : (item : Item) (f : ℕ → List ℤ → Option Insn) (i : Insn) (old : OldSwitch item f i) (count a b c d : ℕ) (rest : List ℕ)
     → drop (padding_at item.offset) old.operands ≡ a ∷ b ∷ c ∷ d ∷ rest → switch_head (Some item) count ≡ take count rest
 head_is item f i old count a b c d rest after =

@@ -94,7 +94,7 @@ switch_new =
     ∷ kept 5 (insn.Return None)
     ∷ []
 
--- the switch stands at 15, with no padding
+-- the switch is at 15, with no padding
 abbrev pub switch_bytes : List ℕ
 switch_bytes =
     1 ∷ 76 ∷ 4 ∷ 188 ∷ 10 ∷ 89 ∷ 76 ∷ 87 ∷ 43 ∷ 184 ∷ 0 ∷ 13 ∷ 1 ∷ 76 ∷ 3
@@ -102,11 +102,11 @@ switch_bytes =
 
 -- ---- the reach of branches
 
--- a goto over so many bytes
+-- a goto over a given number of bytes
 abbrev pub goto_over : ℕ → List Room
 goto_over bytes = narrow None 2 ∷ room.Plain bytes ∷ room.Plain 1 ∷ []
 
--- a goto back over so many bytes
+-- a goto back over a given number of bytes
 abbrev pub goto_back : ℕ → List Room
 goto_back bytes = room.Plain bytes ∷ narrow None 0 ∷ []
 

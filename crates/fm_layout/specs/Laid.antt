@@ -130,7 +130,7 @@ narrow_length old items = end_from 0 (rooms_of old items)
 unfoldable pub laid_length : List Item → List NewItem → ℕ
 laid_length old items = end_from 0 (widened_rooms (rooms_of old items))
 
--- the number that a refusal tells
+-- the number in a refusal
 abbrev pub refused_length : List Item → List NewItem → ℕ
 refused_length old items = if nat_lt MAX_CODE_BYTES (narrow_length old items) then narrow_length old items else laid_length old items
 

@@ -81,7 +81,7 @@ widened_from starts start (r ∷ rooms) = widened_at starts start r ∷ widened_
 abbrev pub round_after : List Room → List Room
 round_after rooms = widened_from (starts_from 0 rooms) 0 rooms
 
--- the rooms after so many rounds
+-- the rooms after a given number of rounds
 abbrev pub rounds_after : ℕ → List Room → List Room
 rounds_after zero rooms = rooms
 rounds_after (suc rounds) rooms = rounds_after rounds (round_after rooms)

@@ -123,12 +123,12 @@ opposite (condition.Null false) = condition.Null true
 
 -- ---- switches
 
--- so many bytes of an old item from one of them on
+-- a given number of bytes of an old item from one of them on
 abbrev pub part_of : Option Item → ℕ → ℕ → List ℕ
 part_of (Some item) from count = take count (drop from item.bytes)
 part_of None from count = []
 
--- the padding of an old switch: what stands between its opcode and the next multiple of four
+-- the padding of an old switch: what is between its opcode and the next multiple of four
 abbrev pub old_padding : Option Item → List ℕ
 old_padding (Some item) = part_of (Some item) 1 (padding_at item.offset)
 old_padding None = []
@@ -137,7 +137,7 @@ old_padding None = []
 abbrev pub new_padding : ℕ → Option Item → List ℕ
 new_padding start kept = take (padding_at start) (old_padding kept ++ 0 ∷ 0 ∷ 0 ∷ [])
 
--- so many bytes of an old switch after its padding and the distance of other keys: the least and the greatest key of a tableswitch,
+-- a given number of bytes of an old switch after its padding and the distance of other keys: the least and the greatest key of a tableswitch,
 -- or the number of pairs of a lookupswitch
 abbrev pub switch_head : Option Item → ℕ → List ℕ
 switch_head (Some item) count = part_of (Some item) (5 + padding_at item.offset) count
@@ -164,7 +164,7 @@ lookup_bytes starts start kept others keys targets =
 
 -- ---- other items
 
--- the bytes of an item at an offset that is no branch of two bytes: those that stood there, but for distances and padding
+-- the bytes of an item at an offset that is no branch of two bytes: those of the old item, but for distances and padding
 abbrev pub moved_bytes : List ℕ → ℕ → Option Item → Insn → List ℕ
 moved_bytes starts start kept (insn.Goto target) = long_jump (distance start (slice_index starts target))
 moved_bytes starts start kept (insn.Table low others targets) = table_bytes starts start kept others targets

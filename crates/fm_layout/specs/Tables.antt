@@ -40,7 +40,7 @@ moved_var firsts anchors v = record {
   index = v.index;
 }
 
--- lines and variables move with their items; what else is said of the old code is dropped
+-- lines and variables move with their items; all other attributes of the old code are dropped
 abbrev pub moved_attribute : List ℕ → List ℕ → CodeAttr → Option CodeAttr
 moved_attribute firsts anchors (attribute.Lines name lines) = Some (attribute.Lines name (map (moved_line firsts anchors) lines))
 moved_attribute firsts anchors (attribute.Vars name types vars) = Some (attribute.Vars name types (map (moved_var firsts anchors) vars))
@@ -53,7 +53,7 @@ moved_tables code laid anchors = record {
   attributes = filter_map (moved_attribute laid.firsts anchors) code.attributes;
 }
 
--- the tables of code with so many items are valid (JVMS 4.7.3, 4.7.12 to 4.7.14)
+-- the tables of code with a given number of items are valid (JVMS 4.7.3, 4.7.12 to 4.7.14)
 pub record AreValid (entries : List Entry) (count : ℕ) (tables : Tables) : Type 0 where
   pub handlers : AllByRecursion (HandlerIsValid entries count) tables.handlers
   pub attributes : AllByRecursion (CodeAttrIsValid entries count) tables.attributes

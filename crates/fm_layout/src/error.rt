@@ -10,8 +10,8 @@ use thiserror::Error;
 /// Why `layout` gives no code.
 #[derive(Clone, Copy, Debug, PartialEq, Eq, Error)]
 pub enum LayFail {
-    /// The code has more bytes than a code array may have: so many while no branch is widened where
-    /// these are too many already, else so many after widening.
+    /// The code has this number of bytes, more than a code array may have: without widened branches
+    /// where these bytes are too many already, and else after widening.
     #[error("code of {0} bytes is too long")]
     TooLong(u32),
     /// Memory for the code couldn't be had.

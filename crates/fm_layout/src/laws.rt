@@ -30,7 +30,7 @@ pub fn law_spelled()
         → laid_length old items ≤ MAX_CODE_BYTES → IsCode (laid_of old items) }
 {}
 
-/// Each new item stands among the laid ones: as it is, with laid items for targets, or split into the
+/// Each new item is among the laid ones: as it is, with laid items for targets, or split into the
 /// opposite test and a goto_w. Each laid item has a mark, and those that aren't inserted are the kept
 /// items in their order.
 pub fn law_laid_items()

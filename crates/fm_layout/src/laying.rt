@@ -17,7 +17,8 @@ use fm_base::{NoMemory, Seq};
 use fm_code::{Insn, Item, MAX_CODE_BYTES};
 use std::alloc::Global;
 
-/// There are fewer new items than this, so that the bytes of any code that is asked for can be told.
+/// There are fewer new items than this, so that the bytes of any code that is asked for can be
+/// counted.
 pub const MAX_NEW_ITEMS: u32 = 600_000_000;
 
 /// Laid-out code.
@@ -111,7 +112,7 @@ fn laid_in_rooms(
     Ok(laid)
 }
 
-/// Where the laid items of a new one stand: their offset, the number of the first, whether a new item
+/// Where the laid items of a new one are: their offset, the number of the first, whether a new item
 /// follows, and their room.
 #[derive(Clone, Copy, Debug)]
 struct Place {

@@ -14,7 +14,7 @@ use crate::new_items::NewItem;
 use fm_code::opcodes::GOTO_W;
 use fm_code::{Insn, Item, Reg, Test};
 
-/// The bytes of a branch that tells its distance in two bytes.
+/// The bytes of a branch whose distance has two bytes.
 pub const SHORT_JUMP_BYTES: u32 = 3;
 
 /// The bytes of a goto_w.
@@ -40,14 +40,14 @@ pub struct Branch {
     pub target: u32,
 }
 
-/// What tells how many bytes a new item takes.
+/// How many bytes a new item takes.
 #[derive(Clone, Copy, Debug, PartialEq, Eq)]
 pub enum Room {
-    /// So many bytes, wherever it stands.
+    /// This number of bytes, at any offset.
     Plain(u32),
-    /// A switch, with so many bytes after its opcode and its padding.
+    /// A switch, with this number of bytes after its opcode and its padding.
     Switch(u32),
-    /// A branch that tells its distance in two bytes.
+    /// A branch whose distance has two bytes.
     Narrow(Branch),
     /// Such a branch widened: goto_w, after the opposite test where it has a condition.
     Wide(Branch),

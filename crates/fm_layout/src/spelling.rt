@@ -220,7 +220,7 @@ pub(crate) fn goto_w_item(alloc: Global, start: u32, to: u32, target: u32) -> Re
     })
 }
 
-/// So many bytes from one of them on, as far as there are any.
+/// A given number of bytes from one of them on, as far as there are any.
 fn part_of(bytes: &[u8], from: usize, count: usize) -> &[u8]
     ensures { result.now ≡ take count (drop from bytes.now) }
 {
@@ -248,7 +248,8 @@ fn put_padding(
     Ok(())
 }
 
-/// Appends so many bytes of an old switch after its padding and the distance of other keys.
+/// Appends a given number of bytes of an old switch after its padding and the distance of other
+/// keys.
 fn put_head(kept: Option<&Item>, count: usize, out: &mut Vec<u8>) -> Result<(), NoMemory>
     ensures { OnOk result (out.new.items ≡ out.old.items ++ switch_head (option_copied kept.entry) count) }
 {

@@ -12,7 +12,7 @@ use Rattle.fm_world.specs.Descriptors.{class_number}
 use Rattle.fm_world.specs.Programs.{classes_of}
 use Rattle.fm_world.specs.declared.declarations.DeclaredClass.{DeclaredClass}
 
--- the classes are numbered by name and by text, and their superclasses are told
+-- the classes are numbered by name and by text, and their superclasses are given
 pub record AreNamed (given : List ClassDef) (texts : List (List ℕ)) (numbers : ClassNumbers) (by_text : List (Option ℕ)) (a : Ancestors) : Type 0 where
   pub numbers_are : NumbersClasses (classes_of given) numbers.numbers
   pub by_text_is : by_text ≡ map (class_number (classes_of given)) texts

@@ -88,7 +88,7 @@ pub(crate) fn linked_classes<'w>(
     })
 }
 
-/// Judges what classes do with fields and methods, and answers the main class and its main method.
+/// Judges what classes do with fields and methods, and returns the main class and its main method.
 pub(crate) fn judged_main(
     alloc: Global,
     linking: Linking,

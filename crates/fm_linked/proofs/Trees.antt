@@ -1,4 +1,4 @@
--- The classes of files against which no cause stands are a tree below Object.
+-- The classes of files that have no cause of refusal are a tree below Object.
 use Rattle.std.proofs.Common.{◌≡◌, refl, sym, ◌∙◌, ap, ℕ, List, [], ◌∷◌, ◌++◌, Some, unwrap_or}
 use Rattle.std.specs.List.{AllByRecursion}
 use Rattle.fm_code.specs.Spells.{HasSpelling}

@@ -1,4 +1,4 @@
--- What holds of class files against which no cause stands.
+-- What holds of class files that have no cause of refusal.
 use Rattle.std.specs.Prelude.{◌≡◌, ℕ, List, []}
 use Rattle.std.specs.List.{AllByRecursion}
 use Rattle.fm_code.specs.Spells.{HasSpelling}

@@ -1,4 +1,4 @@
--- The first place at which a test passes, told by a list or by numbers alone.
+-- The first place at which a test passes, by a list or by numbers alone.
 use Rattle.std.proofs.Common.{◌≡◌, refl, sym, ◌∙◌, ap, subst, ℕ, zero, suc, ◌+◌, ◌<◌, ◌≤◌, Bool, true, false, cond, List, [], ◌∷◌, length, get_or, Option, Some, None, arith, ◌⊎◌, inl, inr}
 use Rattle.std.specs.List.{position_from}
 use Rattle.std.proofs.lemmas.Bool.{false≢true, cases_lt}
@@ -9,7 +9,7 @@ abbrev pub IsFirst : (ℕ → Bool) → ℕ → ℕ → Option ℕ → Type 0
 IsFirst p start end None = (k : ℕ) → start ≤ k → k < end → p k ≡ false
 IsFirst p start end (Some i) = (start ≤ i) × (i < end) × (p i ≡ true) × ((k : ℕ) → start ≤ k → k < i → p k ≡ false)
 
--- ---- one answer alone is the first
+-- ---- the only one that passes is the first
 
 same_place : (p q : ℕ → Bool) (start end i j : ℕ) → ((k : ℕ) → start ≤ k → k < end → p k ≡ q k) → IsFirst p start end (Some i)
     → IsFirst q start end (Some j) → Some i ≡ Some j

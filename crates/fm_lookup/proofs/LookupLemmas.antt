@@ -1,4 +1,4 @@
--- What the tables of members answer is what names are resolved to, and which method is called.
+-- What the tables of members return is what names are resolved to, and which method is called.
 use Rattle.std.proofs.Common.{◌≡◌, refl, sym, ◌∙◌, ap, subst, ℕ, ◌<◌, ◌==◌, ◌&&◌, not, Bool, true, false, cond, List, [], ◌∷◌, ◌++◌, length, map, drop, get_or, nat_eq, Option, Some, None, option_and_then, option_to_list, unwrap_or, slice_get, arith, zero-add}
 use Rattle.std.proofs.Math.ListN.{get_or-map}
 use Rattle.std.specs.Str.{bytes_eq}
@@ -315,7 +315,7 @@ methods_within texts classes m are method within =
           ∙ length-map (methods_of classes) method_alike,
     )
 
--- a table of nearest methods answers by the signature of a method what its name and descriptor are looked up for
+-- a table of nearest methods returns by the signature of a method what its name and descriptor are looked up for
 pub nearest_by_method : (texts : List (List ℕ)) (classes : List DeclaredClass) (m : Methods) → AreMethods texts classes m → (passes : ℕ → Bool)
     (n : Nearest) → AreNearest classes m.members.rows.items m.signatures.of_members.items passes n → (class method : ℕ) → class < length classes
     → method < length (methods_of classes)

@@ -142,7 +142,7 @@ room_for_signatures rows s are layers room signatures same k within =
     subst (λ n. HasRoom layers n) (sym (ap (λ xs. get_or xs k 0) same))
     (room (get_or s.of_members.items k 0) (signature_below rows s are k inside))
 
--- the tables of so many classes of the order are made
+-- the tables of a given number of classes of the order are made
 pub record IsMade (h : Hierarchy) (m : Members) (signatures : List ℕ) (passes : ℕ → Bool) (n : Nearest) (i : ℕ) : Type 0 where
   pub tables : AreTops n
   pub room : HasRooms n.layers (length m.rows.items)

@@ -1,4 +1,4 @@
--- Signatures tell apart the names and descriptors of members, so that a class's own member is found by its signature.
+-- Signatures distinguish the names and descriptors of members, so that a class's own member is found by its signature.
 use Rattle.std.proofs.Common.{◌≡◌, refl, sym, ◌∙◌, ap, subst, ℕ, ◌<◌, ◌&&◌, Bool, true, false, List, [], length, map, get_or, nat_eq, Option, Some, None, option_map, slice_get, arith}
 use Rattle.std.proofs.Math.ListN.{get_or-map}
 use Rattle.std.specs.List.{position_from}

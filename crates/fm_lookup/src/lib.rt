@@ -1,4 +1,4 @@
-// The members of a list of classes, looked up by number in tables that answer at once what the
+// The members of a list of classes, looked up by number in tables that return at once what the
 // definitions of `fm_world` look up by name (JVMS 5.4.3, 5.4.5).
 #![tactic(auto)]
 

@@ -70,7 +70,7 @@ pub fn methods_of<'a>(
     Ok(methods)
 }
 
-// Notes where the members of the next class begin. Answers the number of the class.
+// Notes where the members of the next class begin. Returns the number of the class.
 fn begin_class(members: &mut Members) -> Result<u32, NoMemory>
     ensures rows { members.new.rows ≡ members.old.rows }
     ensures number { IfOk result (λ class. class ≡ length members.old.first.items) }

@@ -1,5 +1,5 @@
-// For each signature the classes of its members, one after the other: what is asked of a signature is told
-// by one walk over numbers that lie side by side.
+// For each signature the classes of its members, one after the other: what is asked of a signature
+// is found by one walk over numbers that lie side by side.
 
 ghost use Rattle.std.specs.Prelude.{◌≡◌, IfOk, OnOk, length};
 ghost use Rattle.fm_above.specs.inner.ListTables.{lists};

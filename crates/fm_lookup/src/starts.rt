@@ -1,8 +1,8 @@
 // From which place on the classes where a member is looked for can declare it.
 //
 // Lists of superinterfaces are long, and few of their classes declare a member of one signature. What files
-// name is looked at once for each class and signature: the members of the signature tell how many classes
-// at the front of the list declare none.
+// name is looked at once for each class and signature: the members of the signature show how
+// many classes at the front of the list declare none.
 
 ghost use Rattle.std.specs.Prelude.{◌≡◌, ◌<◌, ◌≤◌, ℕ, IfOk, List, OnOk, length, slice_index};
 ghost use Rattle.fm_lookup.specs.inner.MemberTables.{start_in, AreSignatures, AreStarts};

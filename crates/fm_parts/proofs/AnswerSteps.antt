@@ -1,4 +1,4 @@
--- What is copied out for a program answers what it looks up.
+-- What is copied out for a program returns what it looks up.
 use Rattle.std.proofs.Common.{◌≡◌, ◌∙◌, ap, subst, ℕ, zero, suc, ◌+◌, ◌<◌, ◌≤◌, List, [], ◌∷◌, length, map, get_or, arith}
 use Rattle.std.specs.HashMap.{HashMap}
 use Rattle.std.proofs.Math.ListN.{get_or-map}

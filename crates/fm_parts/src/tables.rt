@@ -126,7 +126,7 @@ pub fn tables_of(
     })
 }
 
-// There is no memory for tables with more places than 32 bits tell.
+// Fails as out of memory where a table has 2^32 places or more.
 fn few_places(classes: &[DeclaredClass], named: &Named, told: &Told) -> Result<(), NoMemory>
     ensures { OnOk result (AreCounted classes.now named.now told.now) }
 {
@@ -148,7 +148,7 @@ fn few(count: usize) -> Result<(), NoMemory>
     }
 }
 
-// What is told of all classes.
+// What is recorded about all classes.
 fn told_classes(
     alloc: Global,
     hierarchy: &Hierarchy,

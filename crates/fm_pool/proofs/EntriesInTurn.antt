@@ -1,4 +1,4 @@
--- Reading what stands at the indices of a pool, as a loop does.
+-- Reading what is at the indices of a pool, as a loop does.
 use Rattle.std.proofs.Common.{◌≡◌, ℕ, suc, ◌-◌, ◌+◌, ◌≤◌, ◌<◌, Bool, true, false, List, [], ◌∷◌, ◌++◌, Option, Some, None, refl, sym, ap, ◌∙◌, arith}
 use Rattle.std.proofs.lemmas.List.{append-nil}
 use Rattle.fm_code.specs.ConstantPool.{takes_two}

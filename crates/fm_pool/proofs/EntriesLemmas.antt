@@ -172,7 +172,7 @@ entry_again (entry.InterfaceMethod n m) rest h = rw (one_piece.again CONSTANT_In
 entry_again (entry.NameAndType n m) rest h = rw (one_piece.again CONSTANT_NameAndType ((two n ++ two m) ++ rest) (omega arith), pair_again n m rest h.fits.0 h.fits.1) refl
 entry_again entry.Second rest h = absurd h.spelled
 
--- ---- what stands at the indices
+-- ---- what is at the indices
 
 second_nil : entry_bytes entry.Second ≡ []
 unfolding entry_bytes

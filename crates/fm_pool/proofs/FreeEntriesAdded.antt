@@ -66,7 +66,7 @@ tested all (of_method m) (entry.Method class member) t =
     (text_is (class_name_at all class) m.class both.0, pair_is_some (named_and_typed_at all member) m.name m.descriptor both.1)
 tested all content e t = absurd (false≢true t)
 
--- ---- what stands at an index
+-- ---- what is at an index
 
 abbrev Stands : List Entry → Content → ℕ → Type 0
 Stands all (of_utf8 text) i = utf8_at all i ≡ Some text
@@ -87,7 +87,7 @@ no_second all (of_class text) h = h
 no_second all (of_name_and_type n d) h = h
 no_second all (of_method m) h = h
 
--- what is found stands there, also where more follows
+-- what is found is there, also where more follows
 found_stands : (entries more : List Entry) (content : Content) (i : ℕ) → index_of entries content ≡ Some i → Stands (entries ++ more) content i
 found_stands entries more content i is =
     let p = position-Some (has_content entries content) entries i entry.Second is in
@@ -161,7 +161,7 @@ spelled entries more spells added few =
 
 -- ---- one entry after the other
 
--- an entry was placed: it stands at its index, and all that is missing is among the six
+-- an entry was placed: it is at its index, and all that is missing is among the six
 record Step (entries before : List Entry) (content : Content) (s : Sought) : Type 0 where
   more : List Entry
   goes_on : s.missing ≡ before ++ more
@@ -217,7 +217,7 @@ record Steps (entries : List Entry) : Type 0 where
   pair : Step entries (sought_descriptor entries).missing (of_name_and_type free_name free_descriptor) (sought_pair entries)
   method : Step entries (sought_pair entries).missing (of_method free_method) (sought_free entries)
 
--- what stood before a step stands after it
+-- what was there before a step is there after it
 class_carried : (entries before : List Entry) (content : Content) (s : Sought) (i : ℕ) → Step entries before content s → class_name_at (entries ++ before) i ≡ Some free_class → class_name_at (entries ++ s.missing) i ≡ Some free_class
 class_carried entries before content s i w h =
     subst (λ (all : List Entry). class_name_at all i ≡ Some free_class) (append_assoc entries before w.more ∙ ap (λ (m : List Entry). entries ++ m) (sym w.goes_on)) (class_kept (entries ++ before) w.more i free_class h)

@@ -94,7 +94,7 @@ with_free_size entries =
 abbrev full : ℕ → Result ℕ AddFail
 full n = Err (fail.Full n)
 
--- the answer tells that the pool would have so many indices
+-- the result shows that the pool would have a given number of indices
 pub is_full : (made count : ℕ) → made ≡ count → 65535 < made → (n : ℕ) → (full made ≡ full n) ↔ ((65535 < count) × (n ≡ count))
 is_full made count is many n = (λ e. let same : made ≡ n = cc in (omega (arith, is, many), sym same ∙ is), λ h. ap full (is ∙ sym h.1))
 
@@ -104,7 +104,7 @@ done index = Ok index
 not_full : (r : Result ℕ AddFail) (made count : ℕ) → ((m : ℕ) → r ≡ full m → ⊥) → made ≡ count → made ≤ 65535 → (n : ℕ) → (r ≡ full n) ↔ ((65535 < count) × (n ≡ count))
 not_full r made count other is few n = (λ e. absurd (other n e), λ h. absurd (omega (arith, h.0, is, few)))
 
--- there is room where an index is answered, and where memory runs out
+-- there is room where an index is returned, and where memory runs out
 pub room_if_done : (made count index : ℕ) → made ≡ count → made ≤ 65535 → (n : ℕ) → (done index ≡ full n) ↔ ((65535 < count) × (n ≡ count))
 room_if_done made count index is few n = not_full (done index) made count (λ m e. cc) is few n
 

@@ -1,10 +1,10 @@
--- What the facts of two texts tell of them as a name with a descriptor.
+-- What the facts of two texts say of them as a name with a descriptor.
 use Rattle.std.proofs.Common.{◌↔◌, ℕ, ◌⊎◌, Bool, IsTrue, IsSomeAnd, Option, Some, None, List}
 use Rattle.fm_code.specs.ConstantPool.{IsFieldPair, IsMethodPair}
 use Rattle.fm_texts.specs.Facts.{AreFactsOf, AreFactsAt}
 use Rattle.fm_texts.specs.declared.facts.TextFacts.{TextFacts}
 
--- what decides texts decides those that stand there
+-- what decides texts decides those that are there
 pub pair_decides : (o p : Option (List ℕ)) (name descriptor : TextFacts) (r : Bool) → AreFactsAt o (Some name) → AreFactsAt p (Some descriptor)
     → ((n d : List ℕ) → AreFactsOf n name → AreFactsOf d descriptor → IsTrue r ↔ (IsFieldPair (n, d) ⊎ IsMethodPair (n, d)))
     → IsTrue r ↔ IsSomeAnd o (λ n. IsSomeAnd p (λ d. IsFieldPair (n, d) ⊎ IsMethodPair (n, d)))

@@ -97,7 +97,7 @@ fn take_entry(alloc: Global, bytes: &[u8]) -> Result<(Entry, &[u8]), PieceFail>
     take_entry_of(alloc, tag, rest)
 }
 
-/// What stands at the next index: nothing where nothing is due, and an entry elsewhere.
+/// What is at the next index: nothing where nothing is due, and an entry elsewhere.
 fn take_slot(alloc: Global, is_second: bool, bytes: &[u8]) -> Result<(Entry, &[u8]), PieceFail>
     ensures { Gives (λ x. (x.0, x.1.now)) result (slot_at is_second bytes.now) }
 {
@@ -115,7 +115,7 @@ fn takes_two(entry: &Entry) -> bool
     matches!(entry, Entry::Long(_) | Entry::Double(_))
 }
 
-/// What stands at that many indices from 0 on. The last one may not be the first of two.
+/// What is at that many indices from 0 on. The last one may not be the first of two.
 fn take_slots(alloc: Global, count: u16, bytes: &[u8]) -> Result<(Vec<Entry>, &[u8]), PieceFail>
     ensures { Gives (λ x. (x.0.items, x.1.now)) result (slots_at true count bytes.now) }
 {

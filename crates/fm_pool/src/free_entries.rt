@@ -70,7 +70,7 @@ struct FreePlaces {
 }
 
 impl FreePlaces {
-    /// Where the entries stand in the pool.
+    /// Where the entries are in the pool.
     fn of(pool: &Pool) -> FreePlaces
         requires { length pool.now.entries < 2 ^ 16 }
         ensures { result ≡ places_in pool.now.entries }

@@ -1,5 +1,5 @@
-// A pool's entries with the facts of its texts, and what they tell of an index. No call here looks at a
-// text or takes memory.
+// A pool's entries with the facts of its texts, and what these say of an index. No call here looks
+// at a text or takes memory.
 
 ghost use Rattle.std.specs.Prelude.{◌↔◌, IsSome, IsTrue};
 ghost use Rattle.fm_code.specs.ConstantPool.{class_name_at, named_and_typed_at, utf8_at};
@@ -25,7 +25,7 @@ impl KnownEntries<'_> {
         *self.facts.get(usize::from(index))?
     }
 
-    /// Whether a text stands at an index.
+    /// Whether a text is at an index.
     pub fn has_text(self, index: u16) -> bool
         requires { AreFacts self.entries.now self.facts.now }
         ensures { IsTrue result ↔ IsSome (utf8_at self.entry.entries.now index) }
@@ -44,7 +44,7 @@ impl KnownEntries<'_> {
         }
     }
 
-    /// Whether a class with a name stands at an index.
+    /// Whether a class with a name is at an index.
     pub fn has_class(self, index: u16) -> bool
         requires { AreFacts self.entries.now self.facts.now }
         ensures { IsTrue result ↔ IsSome (class_name_at self.entry.entries.now index) }

@@ -68,14 +68,14 @@ impl KnownPool {
         }
     }
 
-    /// Whether a text stands at an index.
+    /// Whether a text is at an index.
     pub fn has_text(&self, index: u16) -> bool
         ensures { IsTrue result ↔ IsSome (utf8_at self.now.entries index) }
     {
         self.known().has_text(index)
     }
 
-    /// Whether this very text stands at an index.
+    /// Whether this very text is at an index.
     pub fn has_this_text(&self, index: u16, text: &[u8]) -> bool
         ensures { IsTrue result ↔ (utf8_at self.now.entries index ≡ Some text.now) }
     {
@@ -85,14 +85,14 @@ impl KnownPool {
         }
     }
 
-    /// Whether a class with a name stands at an index.
+    /// Whether a class with a name is at an index.
     pub fn has_class(&self, index: u16) -> bool
         ensures { IsTrue result ↔ IsSome (class_name_at self.now.entries index) }
     {
         self.known().has_class(index)
     }
 
-    /// Whether a class that is no array stands at an index.
+    /// Whether a class that is no array is at an index.
     pub fn has_binary_class(&self, index: u16) -> bool
         ensures { IsTrue result
             ↔ IsSomeAnd (class_name_at self.now.entries index) (λ name. is_binary_name name ≡ true) }
@@ -103,7 +103,7 @@ impl KnownPool {
         }
     }
 
-    /// Whether the entry of a field stands at an index.
+    /// Whether the entry of a field is at an index.
     pub fn has_field(&self, index: u16) -> bool
         ensures { IsTrue result ↔ IsSome (field_at self.now.entries index) }
     {
@@ -116,7 +116,7 @@ impl KnownPool {
         }
     }
 
-    /// Whether the entry of a method of a class stands at an index.
+    /// Whether the entry of a method of a class is at an index.
     pub fn has_method(&self, index: u16) -> bool
         ensures { IsTrue result ↔ IsSome (method_at self.now.entries index) }
     {
@@ -129,7 +129,7 @@ impl KnownPool {
         }
     }
 
-    /// Whether the entry of a method of an interface stands at an index, and its arguments take so many
+    /// Whether the entry of a method of an interface is at an index, and its arguments take `words`
     /// words with the receiver's (JVMS 6.5.invokeinterface).
     pub fn has_interface_method(&self, index: u16, words: u8) -> bool
         ensures { IsTrue result
@@ -177,7 +177,7 @@ impl KnownPool {
     }
 
     /// Whether the text at an index is the descriptor of a method whose arguments take at most 255 words
-    /// with so many for the receiver (JVMS 4.3.3).
+    /// with `receiver_words` for the receiver (JVMS 4.3.3).
     pub fn has_method_descriptor(&self, index: u16, receiver_words: u32) -> bool
         ensures { IsTrue result
             ↔ IsSomeAnd (utf8_at self.now.entries index) (IsMethodDescriptor receiver_words) }

@@ -1,5 +1,5 @@
-// The pieces of entries put behind bytes. After `NoMemory` only some bytes of what was to be put stand
-// there, and the caller gives the bytes up.
+// The pieces of entries put behind bytes. After `NoMemory` only some bytes of what was to be put
+// are there, and the caller gives the bytes up.
 
 ghost use Rattle.std.specs.Prelude.{◌≡◌, ◌∷◌, ◌++◌, ◌<◌, ◌^◌, length, OnOk};
 ghost use Rattle.fm_code.specs.Numbers.{two, four, eight};

@@ -269,7 +269,8 @@ fn entries_that_are_there_are_found(rt: HostRuntime) -> Result<(), Fail> {
     Ok(())
 }
 
-// A pool of so many indices, with the first bytes of the six entries and others behind them.
+// A pool of a given number of indices, with the first bytes of the six entries and others behind
+// them.
 fn with_others(
     alloc: Global,
     count: u8,
@@ -324,7 +325,7 @@ fn entries_are_found_by_their_content(rt: HostRuntime) -> Result<(), Fail> {
     Ok(())
 }
 
-// The bytes of a pool of so many indices, each with a number.
+// The bytes of a pool of a given number of indices, each with a number.
 fn numbers(alloc: Global, count: u16) -> Result<Vec<u8>, NoMemory> {
     let mut bytes = Vec::from_slice(alloc, &count.to_be_bytes())?;
     for _ in 1..count {

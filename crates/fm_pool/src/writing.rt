@@ -40,7 +40,7 @@ fn spelling_of(alloc: Global, entries: &[Entry]) -> Result<Vec<u8>, NoMemory>
     Ok(out)
 }
 
-/// Appends the bytes of an entry. After `NoMemory` only some of them stand there.
+/// Appends the bytes of an entry. After `NoMemory` only some of them are there.
 #[tactic(auto, unfolding(fm_code::specs::ClassBytes::entry_bytes, fm_code::specs::Numbers::signed_four, fm_code::specs::Numbers::signed_eight))]
 fn put_entry(entry: &Entry, out: &mut Vec<u8>) -> Result<(), NoMemory>
     requires { EntryFits entry.now }

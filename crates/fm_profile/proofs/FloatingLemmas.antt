@@ -59,7 +59,7 @@ floating_array name is begun =
 
 -- ---- the letters outside of the names of classes
 
--- no ; stands in a class's name
+-- no ; is in a class's name
 skip_name : (begun : Bool) (name rest : List ℕ) → are_parts begun name ≡ true → has_floating true (name ++ 59 ∷ rest) ≡ has_floating false rest
 skip_name begun [] rest ok = refl
 skip_name begun (c ∷ cs) rest ok =

@@ -1,4 +1,4 @@
--- Marks of the texts of a pool, one index after the other, and what the mark of a descriptor tells.
+-- Marks of the texts of a pool, one index after the other, and what the mark of a descriptor means.
 use Rattle.std.proofs.Common.{◌≡◌, ◌≢◌, ◌↔◌, ℕ, zero, suc, ◌+◌, ◌<◌, Bool, true, false, not, ◌&&◌, IsTrue, IsSomeAnd, inl, inr, replicate, set, List, [], ◌∷◌, length, take, get_or, get_or-set_same, get_or-set_other, add-one, Option, Some, None, refl, sym, ap, subst, ◌∙◌, arith}
 use Rattle.std.proofs.lemmas.Bool.{cases_eq, false≢true}
 use Rattle.std.proofs.lemmas.List.{get_or_read, get_or-take}
@@ -18,7 +18,7 @@ no_marks zero k = refl
 no_marks (suc n) zero = refl
 no_marks (suc n) (suc k) = no_marks n k
 
--- one more entry changes what stands at its own index alone
+-- one more entry changes what is at its own index alone
 elsewhere : (entries : List Entry) (i k : ℕ) → k ≢ i → entry_at (take i entries) k ≡ entry_at (take (suc i) entries) k
 elsewhere [] zero k other = refl
 elsewhere [] (suc i) k other = refl

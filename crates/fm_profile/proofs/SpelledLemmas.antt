@@ -1,4 +1,4 @@
--- What the pool of a class that is spelled tells of its texts and of the names of its classes.
+-- What the pool of a class that is spelled determines of its texts and of the names of its classes.
 use Rattle.std.proofs.Common.{◌≡◌, ℕ, Bool, List, Option, Some, None, refl, ap, subst, ◌∙◌}
 use Rattle.std.specs.List.{AllByRecursion}
 use Rattle.std.specs.Option.{option_and_then, option_map}

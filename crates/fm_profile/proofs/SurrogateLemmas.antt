@@ -81,7 +81,7 @@ whole_name name =
       λ name_is. is ∙ rw (name_is.no_zero, name_is.whole_pairs) refl,
     )
 
--- what decides is the answer
+-- what decides is the result
 pub decided : (name : List ℕ) (answer : Bool) → are_whole false (units name) ≡ answer → (IsTrue answer → IsSupportedName name) × (IsSupportedName name → IsTrue answer)
 decided name answer is = (λ t. (whole_name name).0 (is ∙ t), λ supported. sym is ∙ (whole_name name).1 supported)
 

@@ -55,7 +55,7 @@ shape text is =
       | unit_first u rest fits whole are modified ↦ shape_of_unit text u rest fits whole are modified
     ]
 
--- ---- what the first byte tells
+-- ---- what the first byte shows
 
 -- from 128 and below 224 it is the first of two
 pub record IsTwo (text : List ℕ) (a b : ℕ) (rest : List ℕ) : Type 0 where

@@ -1,7 +1,7 @@
 // What is accepted of a class file that was read, beside its version: limits, and what is supported.
 //
-// `within_limits` and `supported` tell that a record is accepted, or where it fails first. The layers above
-// use that the two together are the whole profile.
+// `within_limits` and `supported` return that a record is accepted, or where it fails first. The
+// layers above use that the two together are the whole profile.
 #![tactic(auto)]
 
 mod limits;

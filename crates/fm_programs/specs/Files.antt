@@ -1,8 +1,8 @@
--- The bytes of a class file in which a piece may stand many times.
+-- The bytes of a class file in which a piece may occur many times.
 use Rattle.std.specs.Prelude.{ℕ, zero, suc, List, [], ◌++◌}
 use Rattle.fm_programs.specs.declared.files.Repeated.{Repeated}
 
--- a piece, so often
+-- a piece, a given number of times
 abbrev pub pieces : ℕ → List ℕ → List ℕ
 pieces zero piece = []
 pieces (suc count) piece = pieces count piece ++ piece

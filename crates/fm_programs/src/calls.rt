@@ -64,7 +64,7 @@ const VIRTUAL_ESCAPE_B: ClassFile<'static> = ClassFile {
     },
 };
 
-/// Two methods call one another and answer their argument.
+/// Two methods call one another and return their argument.
 pub const MUTUAL_RECURSION: Program<'static> = Program {
     read: &[MUTUAL_RECURSION_READ],
     written: &[MUTUAL_RECURSION_WRITTEN],
@@ -242,7 +242,7 @@ const STRING_BUFFER_WRITTEN: ClassFile<'static> = ClassFile {
     },
 };
 
-/// A method answers a literal.
+/// A method returns a literal.
 pub const LITERAL_FACTORY: Program<'static> = Program {
     read: &[LITERAL_FACTORY_READ],
     written: &[LITERAL_FACTORY_WRITTEN],
@@ -400,7 +400,7 @@ const JUMP_TO_START_WRITTEN: ClassFile<'static> = ClassFile {
     },
 };
 
-/// A switch stands where its padding changes.
+/// A switch is at an offset where its padding changes.
 pub const SWITCH_PADDING: Program<'static> = Program {
     read: &[SWITCH_PADDING_READ],
     written: &[SWITCH_PADDING_WRITTEN],

@@ -6,12 +6,12 @@ ghost use Rattle.fm_programs.specs.Files.{bytes_of};
 use fm_base::NoMemory;
 use std::alloc::Global;
 
-/// Bytes in which a piece may stand many times: a start, the pieces, and an end.
+/// Bytes in which a piece may occur many times: a start, the pieces, and an end.
 #[derive(Clone, Copy)]
 pub struct Repeated<'a> {
     pub start: &'a [u8],
     pub piece: &'a [u8],
-    /// How often the piece stands there.
+    /// How often the piece occurs.
     pub count: u32,
     pub end: &'a [u8],
 }

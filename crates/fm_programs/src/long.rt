@@ -1,4 +1,5 @@
-// Long programs: branches that don't reach, and methods and pools at their limits. A piece stands many times in each.
+// Long programs: branches that don't reach, and methods and pools at their limits. A piece occurs
+// many times in each.
 
 use crate::files::{ClassFile, Program, Repeated};
 

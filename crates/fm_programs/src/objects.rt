@@ -155,7 +155,7 @@ const POINTS_IN_LOOP_POINT: ClassFile<'static> = ClassFile {
     },
 };
 
-/// A method makes the object and answers it.
+/// A method makes the object and returns it.
 pub const FACTORY: Program<'static> = Program {
     read: &[FACTORY_READ],
     written: &[FACTORY_WRITTEN],
@@ -191,7 +191,7 @@ const FACTORY_WRITTEN: ClassFile<'static> = ClassFile {
     },
 };
 
-/// A method answers its argument, so its call is no site.
+/// A method returns its argument, so its call is no site.
 pub const FACTORY_ID: Program<'static> = Program {
     read: &[FACTORY_ID_READ],
     written: &[FACTORY_ID_READ],

@@ -14,7 +14,7 @@ use Rattle.fm_read.specs.inner.MemberRules.{IsValueOf}
 
 -- ---- a value
 
--- what `is_empty` answers
+-- what `is_empty` returns
 pub nothing_left : (rest : List ℕ) (b : Bool) → b ≡ (length rest == 0) → b ≡ true → rest ≡ []
 nothing_left rest b answer none_is = let none : length rest ≡ 0 = grind arith in nil_from_length rest none
 

@@ -1,4 +1,4 @@
--- Fields and methods: what the parts of one tell of it, and which is read of them.
+-- Fields and methods: what the parts of one determine of it, and which is read of them.
 use Rattle.std.proofs.Common.{◌≡◌, ◌≢◌, ℕ, Bool, List, map, codes, length, Some, IsSomeAnd, refl, sym, ap, subst, ◌∙◌, arith}
 use Rattle.std.specs.List.{AllByRecursion}
 use Rattle.std.proofs.lemmas.List.{length-map}
@@ -21,7 +21,7 @@ use Rattle.fm_read.specs.inner.Parts.{RawMember, RawMemberFits, raw_of_attribute
 use Rattle.fm_read.specs.inner.Rules.{AreFieldsOf, AreMethodsOf}
 use Rattle.fm_read.proofs.ReadInTurn.{AreRead-same}
 
--- ---- an attribute is told by its part
+-- ---- an attribute is determined by its part
 
 -- a text isn't another one
 not_that : (entries : List Entry) (name other : ℕ) (text : List ℕ) → name ≡ other → utf8_at entries name ≡ Some text → IsSomeAnd (utf8_at entries other) (λ t. t ≢ text) → ⊥

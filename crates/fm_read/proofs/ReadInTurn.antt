@@ -60,7 +60,7 @@ AreRead-nowhere raw_of Fits Valid view parts i p d lt is none xs are =
     let found = read_at raw_of Fits Valid view parts i d xs lt are in
     none found.0 (subst (λ (q : _). IsRead raw_of Fits Valid (view q) found.0) (sym is) found.1)
 
--- ---- what is read is told by the parts
+-- ---- what is read is determined by the parts
 
 some_of_none : {R X : Type 0} (raw_of : X → R) (x : X) (xs : List X) → map raw_of (x ∷ xs) ≡ [] → ⊥
 some_of_none raw_of x xs e = cc

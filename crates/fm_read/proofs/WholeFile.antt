@@ -1,4 +1,4 @@
--- A class file tells its version, and one alone.
+-- A class file has its version, and no second one.
 use Rattle.std.proofs.Common.{◌≡◌, ℕ, List, ◌++◌, drop, take, Some, refl, sym, ap, subst, ◌∙◌, append_assoc}
 use Rattle.std.proofs.lemmas.List.{take_at}
 use Rattle.fm_code.specs.ClassBytes.{pool_bytes}
@@ -47,7 +47,7 @@ only_no_memory bytes c read.Malformed malformed version spells accepted = absurd
 only_no_memory bytes c (read.Version major minor) malformed version spells accepted = absurd (no_other_version bytes c major minor spells accepted (version major minor refl))
 only_no_memory bytes c read.NoMemory malformed version spells accepted = refl
 
--- where no version is told, there is no class file
+-- where there is no version, there is no class file
 pub is_malformed : (bytes : List ℕ) → ((major minor : ℕ) → HasVersion bytes major minor → ⊥) → IsMalformed bytes
 is_malformed bytes none = record {
   not_spelled = λ c spells. none c.major c.minor (tells_version bytes c spells);

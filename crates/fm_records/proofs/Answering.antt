@@ -1,4 +1,4 @@
--- The tables of superclasses and of methods answer what a program looks up.
+-- The tables of superclasses and of methods return what a program looks up.
 use Rattle.std.proofs.Common.{◌≡◌, refl, sym, ◌∙◌, ap, subst, ℕ, zero, suc, ◌+◌, ◌-◌, ◌<◌, ◌&&◌, Bool, cond, nat_eq, List, [], length, map, reverse, get_or, Option, Some, None, slice_get, IsSomeAnd, arith}
 use Rattle.std.specs.HashMap.{HashMap, get}
 use Rattle.std.specs.Option.{option_and_then}
@@ -31,7 +31,7 @@ use Rattle.fm_records.proofs.Assembled.{displays-all}
 
 -- ---- selected methods
 
--- tables by equal nodes answer alike
+-- tables by equal nodes return the same
 value_at-copied : (x y : Layers) (table key : ℕ) → y.nodes.items ≡ x.nodes.items → y.levels ≡ x.levels → value_at y table key ≡ value_at x table key
 value_at-copied x y table key nodes levels =
     ap (λ ns. value_of_entry (entry_of ns y.levels table key)) nodes ∙ ap (λ n. value_of_entry (entry_of x.nodes.items n table key)) levels
@@ -79,7 +79,7 @@ classes-answered texts x h m hierarchy methods only displays interfaces signatur
 
 -- ---- a class's own methods
 
--- the first of so many, told in two ways
+-- the first of a given number, written in two ways
 own_from-signed : (rows : List MemberRow) (signatures flags : List ℕ) (signature : ℕ)
     → ((k : ℕ) → get_or flags k 0 ≡ (get_or rows k no_row).flags) → (count start : ℕ)
     → own_from signatures flags signature count start ≡ first_from (is_signed rows signatures is_instance signature) count start

@@ -47,7 +47,7 @@ pub methods_by_number : (classes : List DeclaredClass) (kinds : List (Option Kin
     ≡ map (λ k. method_numbered kinds codes k (method_at classes k)) (numbers_below (length (methods_of classes)))
 methods_by_number classes kinds codes = map_from-numbers (method_numbered kinds codes) (methods_of classes) (record { class = 0; method = no_method })
 
--- the code in what is told of a method
+-- the code in what is recorded about a method
 code_in-body : (m : DeclaredMethod) (code : Option Code) → ((row : ℕ) → m.row ≡ Some row → code ≡ None) → code_in (body_of m code) ≡ code
 code_in-body m code none = by m.row code none where
   by : (row : Option ℕ) (code : Option Code) → ((r : ℕ) → row ≡ Some r → code ≡ None) → code_in (body_of (record m { row = row }) code) ≡ code
@@ -55,7 +55,7 @@ code_in-body m code none = by m.row code none where
   by None (Some c) h = refl
   by (Some row) code h = sym (h row refl)
 
--- the codes of the methods are those that they were told of
+-- the codes of the methods are those that their records were made from
 pub codes-told : (classes : List DeclaredClass) (kinds : List (Option Kinds)) (codes : List (Option Code)) → AreCodes classes codes
     → map (λ (m : MethodInfo). code_in m.body) (methods_told kinds codes 0 (methods_of classes)) ≡ codes
 codes-told classes kinds codes are =
@@ -71,7 +71,7 @@ codes-told classes kinds codes are =
           ext_get_or None (map f (numbers_below n)) xs (length-map-range_with_len f 0 n ∙ sym long)
           (λ i h. get_or-map-range_with_len f 0 n i i None (omega (arith, h, length-map-range_with_len f 0 n)) (zero-add i))
 
--- what is told of a method is what a program of these classes and codes tells of it
+-- what is recorded about a method is what a program of these classes and codes records about it
 method_is : (p : Program) (kinds : List (Option Kinds)) (codes : List (Option Code)) (k : ℕ) → AreMethodKinds p.outline.classes kinds
     → p.codes ≡ codes → k < length (methods_of p.outline.classes)
     → method_numbered kinds codes k (method_at p.outline.classes k) ≡ method_info p k

@@ -1,4 +1,4 @@
--- What is told of a class, by tables.
+-- What is recorded about a class, by tables.
 use Rattle.std.proofs.Common.{◌≡◌, refl, sym, ◌∙◌, ap, ℕ, ◌+◌, ◌<◌, ◌≤◌, true, cond, List, length, map, drop, get_or, Option, Some, None, zero-add, arith}
 use Rattle.std.specs.Global.{Vec}
 use Rattle.std.specs.List.{position_from}

@@ -182,7 +182,7 @@ Hold-at o (f ∷ fs) [] h k within = absurd h
 Hold-at o (f ∷ fs) (u ∷ us) h zero within = h.0
 Hold-at o (f ∷ fs) (u ∷ us) h (suc k) within = Hold-at o fs us h.1 k (omega (arith, within))
 
--- the fields of built-in classes hold nothing that is told
+-- the fields of built-in classes hold no first value that is recorded
 Hold-built_in : (o : Outline) → Hold o (fields_of built_in) (replicate 2 resolved.Unused)
 unfolding Hold fields_of built_in
 Hold-built_in o = (refl, (refl, tt))

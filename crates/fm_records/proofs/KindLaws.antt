@@ -43,7 +43,7 @@ kept classes texts marks kinds number descriptor are long is =
     let R : Bool → Type 0 = λ mark. IsKinds classes descriptor mark (get_or kinds number None) in
     subst R is.marked (subst Q is.text (are number (subst P (sym long) is.within)))
 
--- what stands for the k-th member
+-- the value for the k-th member
 by_descriptor : (kinds : List (Option Kinds)) (descriptors : List ℕ) (k : ℕ) → k < length descriptors
     → get_or (map (λ d. get_or kinds d None) descriptors) k None ≡ get_or kinds (get_or descriptors k 0) None
 by_descriptor kinds descriptors k within = get_or-map (λ d. get_or kinds d None) descriptors k 0 None within

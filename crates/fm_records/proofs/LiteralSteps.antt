@@ -15,7 +15,7 @@ use Rattle.fm_records.specs.inner.TextNumbers.{lent, literals_by, units_at, with
 use Rattle.fm_declare.proofs.Drops.{drop_here}
 use Rattle.fm_records.proofs.OneByOne.{distinct-all, is_some-position, numbered_step, same_sym}
 
--- ---- texts are told apart by their units
+-- ---- texts are distinguished by their units
 
 pub bytes_eq-tells : Tells (List ℕ) bytes_eq
 bytes_eq-tells = record { exact = λ a b. (bytes_eq-Decides a b).0; itself = λ a. (bytes_eq-Decides a a).1 refl }

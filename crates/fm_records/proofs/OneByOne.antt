@@ -9,7 +9,7 @@ use Rattle.std.proofs.lemmas.Map.Views.{any-filter_same}
 use Rattle.fm_world.specs.Chains.{distinct}
 use Rattle.fm_records.specs.inner.InTurn.{with_one, with_all, Tells}
 
--- ---- a test that tells elements apart
+-- ---- a test that distinguishes elements
 
 pub same_sym : {A : Type 0} {same : A → A → Bool} → Tells A same → (a b : A) → same a b ≡ same b a
 same_sym {A} {same} t a b = elim (cases_Bool (same a b)) [

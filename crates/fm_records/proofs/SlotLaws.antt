@@ -1,4 +1,4 @@
--- The places of fields that are told one after the other are those that a program has.
+-- The places of fields that are recorded one after the other are those that a program has.
 use Rattle.std.proofs.Common.{◌≡◌, refl, sym, ◌∙◌, ap, subst, ℕ, zero, suc, ◌+◌, ◌-◌, ◌<◌, not, Bool, true, false, cond, List, [], ◌∷◌, ◌++◌, length, map, take, get_or, sum_by, slice_index, zero-add, arith, append_assoc}
 use Rattle.std.specs.List.{count_by, fold, range_with_len}
 use Rattle.std.proofs.Math.Seq.{get_or-append_seam, take-append_seam}
@@ -14,14 +14,14 @@ use Rattle.fm_world.specs.inner.Tables.{numbers_below}
 use Rattle.fm_records.specs.inner.Fields.{slots_among, slots_told, static_fields}
 use Rattle.fm_records.proofs.RowSteps.{map-range}
 
--- where a field stands among all, and among those of its class
+-- where a field is among all, and among those of its class
 record StandsAt (classes : List DeclaredClass) (class : ℕ) (before : List OwnedField) (done : List DeclaredField) (f : DeclaredField) (fs : List
     DeclaredField) (more : List OwnedField) : Type 0 where
   all : fields_of classes ≡ before ++ (record { class = class; field = f }) ∷ more
   inside : (class_at classes class).fields ≡ done ++ f ∷ fs
   counted : first_field classes class + length done ≡ length before
 
--- the place of a field that stands there
+-- the place of a field that is there
 slot-here : (classes : List DeclaredClass) (class : ℕ) (before : List OwnedField) (done : List DeclaredField) (f : DeclaredField) (fs : List
     DeclaredField)
     (more : List OwnedField) → StandsAt classes class before done f fs more

@@ -1,4 +1,4 @@
--- Types are told apart by their dimensions and their bases.
+-- Types are distinguished by their dimensions and their bases.
 use Rattle.std.proofs.Common.{◌≡◌, refl, sym, ◌∙◌, ap, ℕ, ◌+◌, ◌<◌, Bool, true, false, cond, ◌==◌, Some, List, [], ◌++◌, map, length, drop, get_or, append_assoc}
 use Rattle.std.specs.List.{flat_map, range_with_len}
 use Rattle.std.proofs.lemmas.Grind.{flat_map-append}

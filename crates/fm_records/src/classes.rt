@@ -1,4 +1,4 @@
-// What a program tells of its classes.
+// What a program records about its classes.
 
 ghost use Rattle.std.specs.Prelude.{◌≡◌, ◌+◌, ◌<◌, ◌&&◌, IfOk, codes, length, map, position, reverse, slice_index, Some, None};
 ghost use Rattle.std.specs.List.{range_with_len, slice_index_or};
@@ -50,7 +50,7 @@ fn class_ids(alloc: Global, numbers: &[u32]) -> Result<Vec<ClassId>, NoMemory>
     Ok(ids)
 }
 
-// What the program tells of one class.
+// What the program records about one class.
 fn class_told(
     alloc: Global,
     class: &DeclaredClass,
@@ -77,8 +77,8 @@ fn class_told(
     })
 }
 
-/// What the program tells of each class, by the superclass, the listed interfaces, the number of the
-/// first method and the size of each.
+/// What the program records about each class, by the superclass, the listed interfaces, the number
+/// of the first method and the size of each.
 pub fn class_infos(
     alloc: Global,
     classes: &[DeclaredClass],

@@ -1,4 +1,4 @@
-// What a program tells of its fields.
+// What a program records about its fields.
 
 ghost use Rattle.std.specs.Prelude.{◌≡◌, ◌+◌, ◌++◌, None, IfOk, OnOk, length, option_copied, slice_index, sum_by, if◌then◌else◌};
 ghost use Rattle.std.specs.List.{slice_index_or};
@@ -15,8 +15,8 @@ use fm_declare::{Kinds, number_of};
 use fm_world::{DeclaredClass, DeclaredField, FieldInfo, Use};
 use std::alloc::Global;
 
-/// What the program tells of each field, by what its descriptor declares, by its place and by what it
-/// holds first.
+/// What the program records about each field, by what its descriptor declares, by its place and by
+/// what it holds first.
 pub fn field_infos(
     alloc: Global,
     classes: &[DeclaredClass],
@@ -35,7 +35,7 @@ pub fn field_infos(
     Ok(infos)
 }
 
-// Adds what the program tells of the fields of one class.
+// Adds what the program records about the fields of one class.
 fn add_fields(
     infos: &mut Vec<FieldInfo>,
     class: u32,
@@ -63,7 +63,7 @@ fn add_fields(
     Ok(())
 }
 
-// What the program tells of one field.
+// What the program records about one field.
 fn field_told(
     class: u32,
     field: &DeclaredField,

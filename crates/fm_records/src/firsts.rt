@@ -14,7 +14,7 @@ use std::alloc::Global;
 const BUILT_IN_FIELDS: usize = 2;
 
 /// What each field holds first, by what the indices of each file are resolved to; a field of a built-in
-/// class holds nothing that is told.
+/// class holds no first value that is recorded.
 pub fn firsts_of(
     alloc: Global,
     files: &[GivenFile],
@@ -71,7 +71,7 @@ fn add_firsts(firsts: &mut Vec<Use>, uses: &[Use], fields: &[Member]) -> Result<
     Ok(())
 }
 
-// What a field holds first: only a static one holds something that is told.
+// What a field holds first: only a static one holds a first value that is recorded.
 fn first_use(uses: &[Use], field: &Member) -> Use
     ensures { result ≡ first_use uses.now field.now }
 {

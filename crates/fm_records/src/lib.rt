@@ -1,4 +1,4 @@
-// What a linked program tells of its classes, methods and fields, with its types and texts by
+// What a linked program records about its classes, methods and fields, with its types and texts by
 // number.
 //
 // Each table is an equation with the definitions of `fm_world`, over lists that the linker has:

@@ -19,7 +19,7 @@ pub struct Literals {
 }
 
 impl Literals {
-    /// The texts of these numbers, in the order in which they stand, each once.
+    /// The texts of these numbers, in the order in which they occur, each once.
     pub fn of(alloc: Global, texts: &[&[u8]], named: &[u32]) -> Result<Literals, NoMemory>
         requires apart { AreApart (lent texts.now) }
         requires modified { (k : ℕ) → k < length named.now

@@ -1,4 +1,4 @@
-// What a program tells of its methods.
+// What a program records about its methods.
 
 ghost use Rattle.std.specs.Prelude.{◌≡◌, ◌++◌, IfOk, OnOk, None, length, option_copied};
 ghost use Rattle.std.specs.List.{slice_index_or};
@@ -13,7 +13,7 @@ use fm_declare::{Kinds, number_of};
 use fm_world::{Body, DeclaredClass, DeclaredMethod, MethodInfo, Shared};
 use std::alloc::Global;
 
-/// What the program tells of each method, by what its descriptor declares and by its code.
+/// What the program records about each method, by what its descriptor declares and by its code.
 pub fn method_infos(
     alloc: Global,
     classes: &[DeclaredClass],
@@ -31,7 +31,7 @@ pub fn method_infos(
     Ok(infos)
 }
 
-// Adds what the program tells of the methods of one class.
+// Adds what the program records about the methods of one class.
 fn add_methods(
     alloc: Global,
     infos: &mut Vec<MethodInfo>,
@@ -58,7 +58,7 @@ fn add_methods(
     Ok(())
 }
 
-// What the program tells of one method.
+// What the program records about one method.
 fn method_told(
     alloc: Global,
     class: u32,

@@ -18,8 +18,8 @@ pub struct Types {
 }
 
 impl Types {
-    /// The types of so many classes, those that are named, and the arrays that are made, with the
-    /// element types of all of them.
+    /// The types of a given number of classes, those that are named, and the arrays that are made,
+    /// with the element types of all of them.
     pub fn of(
         alloc: Global,
         classes: usize,
@@ -66,7 +66,7 @@ impl Types {
         Ok(())
     }
 
-    // Gives the types of so many classes a number each.
+    // Gives the types of a given number of classes a number each.
     fn add_classes(&mut self, count: usize) -> Result<(), NoMemory>
         requires { AreNumbered self.old.numbers self.old.types.items }
         ensures types { OnOk result (self.new.types.items

@@ -1,4 +1,4 @@
--- Numbers that stand in lists made of other lists.
+-- Numbers that are in lists made of other lists.
 use Rattle.std.proofs.Common.{◌≡◌, sym, ◌∙◌, ap, refl, ℕ, ◌⊎◌, inl, inr, Bool, true, false, cond, List, [], ◌∷◌, ◌++◌, nat_eq}
 use Rattle.std.specs.List.{filter, flat_map}
 use Rattle.std.proofs.lemmas.Bool.{eqb-true, false≢true}

@@ -38,7 +38,7 @@ pub sections_at : (classes : List DeclaredClass) (c : Counting) → IsCounting c
 sections_at classes c counting =
     sections_of (texts_in c.linking.texts.now) classes c.linking.methods.now counting.linking.methods
 
--- what a test of two truth values tells
+-- what a test of two truth values means
 pub same_truth : (a b : Bool) → cond a b (not b) ≡ true → a ≡ b
 same_truth true true e = refl
 same_truth true false e = absurd (false≢true e)

@@ -116,7 +116,7 @@ pub each_end : (count : ℕ) (f : ClassDef → ℕ → List Refusal) (files : Li
     ≡ each_left count f files i → all ≡ []
 each_end count f files i all past left = left ∙ ap (λ fs. each_from (count + i) f (given_in fs)) (drop_of_length-le files past)
 
--- an element of numbers, whatever stands past the end
+-- an element of numbers, whatever the value past the end
 pub get_or_self : (xs : List ℕ) (i d : ℕ) → i < length xs → get_or xs i d ≡ get_or xs i (get_or xs i d)
 get_or_self xs i d within = get_or_default xs i d (get_or xs i d) within
 

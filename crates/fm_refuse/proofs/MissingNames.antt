@@ -84,7 +84,7 @@ all_missing-some classes c (t ∷ types) name some = go (missing_name classes t)
 
 -- ---- marks by text
 
--- a mark that is set tells what its text passes
+-- a mark that is set shows what its text passes
 pub passes_marked : (test : List ℕ → Bool) (marks : List Bool) (texts : List (List ℕ)) (n : ℕ) → marks ≡ map test texts → get_or marks n false ≡ true
     → test (get_or texts n []) ≡ true
 passes_marked test marks texts n are set = go texts n (ap (λ ms. get_or ms n false) (sym are) ∙ set) where

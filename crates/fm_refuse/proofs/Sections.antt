@@ -125,7 +125,7 @@ abstract_by classes g start (m ∷ methods) at =
       by_test true = refl
       by_test false = refl
 
--- where the methods of a class stand
+-- where the methods of a class are
 pub record IsSection (classes : List DeclaredClass) (class start end : ℕ) : Type 0 where
   pub start_is : start ≡ first_method classes class
   pub count_is : end - start ≡ length (class_at classes class).methods
@@ -140,7 +140,7 @@ abstract_section classes g class start end is =
     ∙ abstract_by classes g start (class_at classes class).methods is.at
     ∙ ap (λ n. flat_map test (range_with_len start n)) (sym is.count_is)
 
--- ---- where the table of first numbers says that they stand
+-- ---- where the table of first numbers says that they are
 
 section_some : (first : List ℕ) (class a b : ℕ) → slice_get first class ≡ Some a → slice_get first (class + 1) ≡ Some b → section_of first class
     ≡ (a, b)

@@ -1,4 +1,4 @@
--- What a phase of linking answers: the first refusal of its kind, or nothing.
+-- What a phase of linking returns: the first refusal of its kind, or nothing.
 use Rattle.std.specs.Prelude.{◌≡◌, List, [], Result, Ok, Err, Option, Some, None, slice_get}
 use Rattle.fm_refuse.specs.declared.error.LinkBad.{LinkBad}
 use Rattle.fm_refuse.specs.declared.error.LinkFail.{LinkFail}

@@ -40,7 +40,8 @@ pub(crate) fn refuse_calls(
     refuse_calls_in(alloc, linking, file, called.as_slice())
 }
 
-// The same by marks that tell of each index whether a special call that names it calls an abstract method.
+// The same by marks that say of each index whether a special call that names it calls an abstract
+// method.
 fn refuse_calls_in(
     alloc: Global,
     linking: Linking,

@@ -7,7 +7,7 @@ use fm_base::{Name, NoMemory};
 use std::alloc::{AllocError, AllocFailed, Global};
 use thiserror::Error;
 
-/// What is refused, and the class in whose file its name stands.
+/// What is refused, and the class whose file has its name.
 #[derive(Debug, Drop)]
 pub struct LinkBad {
     pub name: Name,

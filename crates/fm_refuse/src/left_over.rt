@@ -1,7 +1,7 @@
 // How many abstract methods are left over in each class, by the class that declares them (JVMS 5.4.5).
 //
 // A class has the counts of its superclass, but for the abstract methods that have the signature of one
-// of its own methods. So what stands above a class is looked at once, however many classes are below.
+// of its own methods. So what is above a class is looked at once, however many classes are below.
 // Only classes with objects, or with such classes below, have counts: no others are asked for theirs.
 
 ghost use Rattle.std.specs.Prelude.{◌≡◌, ◌<◌, ◌≤◌, ◌+◌, ℕ, Bool, IfOk, List, OnOk, Some, length, not, slice_index, slice_set, true, if◌then◌else◌};

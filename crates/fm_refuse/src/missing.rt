@@ -24,7 +24,7 @@ use fm_lookup::is_marked;
 use std::alloc::Global;
 
 // What names of classes are judged by. No text is judged once for each entry that names it: the marks
-// tell whether it names no class that isn't there, as a name or as a descriptor.
+// say whether it names no class that isn't there, as a name or as a descriptor.
 #[derive(Clone, Copy)]
 struct Naming<'w, 'n, 't> {
     numbers: &'w ClassNumbers<'n>,

@@ -103,7 +103,7 @@ fn refuse_left_over(
     refuse_first(alloc, linking, file, class)
 }
 
-// The same of a class that isn't abstract, looked for among all that stand above it.
+// The same of a class that isn't abstract, looked for among all that are above it.
 fn refuse_first(
     alloc: Global,
     linking: Linking,

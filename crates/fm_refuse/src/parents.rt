@@ -127,7 +127,7 @@ fn refuse_parent_at(
     refuse_interface_at(alloc, ancestry, file, index, lists_it)
 }
 
-// Refuses the superclass, where it stands at the index.
+// Refuses the superclass, where it is at the index.
 fn refuse_superclass_at(
     alloc: Global,
     ancestry: Ancestry,

@@ -26,7 +26,7 @@ pub faults_by : (wanted app : App) (words : List (List ℕ)) (result : Result Ar
     → (is_simple_and_free app ≡ true → FailsBy (fault_of app words) result) → FailsBy (fault_of wanted words) result
 faults_by wanted app words result free is fails = subst (λ (a : App). is_simple_and_free a ≡ true → FailsBy (fault_of a words) result) is fails free
 
--- an error that isn't want of memory tells of a fault
+-- an error that isn't want of memory shows a fault
 pub is_fault : (faults : Kinds) (kind : ErrorKind) → ¬ (kind ≡ OutOfMemory) → (kind ≡ OutOfMemory) ⊎ IsAmong kind faults → ¬ (faults ≡ [])
 is_fault faults kind known (inl memory) none = absurd (known memory)
 is_fault faults kind known (inr among) none = subst (IsAmong kind) none among

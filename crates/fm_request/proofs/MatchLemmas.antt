@@ -11,7 +11,7 @@ use Rattle.clap.proofs.WalkLemmas.{first_value-rows, raw_values-rows}
 abbrev pub texts_of : List (Bor (List ℕ)) → List (List ℕ)
 texts_of = map (λ s. s.now)
 
--- the first value of an id, and that it has none, as a getter answers it
+-- the first value of an id, and that it has none, as a getter returns it
 pub first_found : (f : Found) (id : List ℕ) (answer : Option (Bor (List ℕ))) (text : Bor (List ℕ)) →
     option_map (λ s. s.now) answer ≡ first_value f id → answer ≡ Some text → first_of id (rows_of f) ≡ Some text.now
 first_found f id answer text got is = sym (first_value-rows f id) ∙ sym got ∙ ap (option_map (λ s. s.now)) is
@@ -21,7 +21,7 @@ pub first_missing : (f : Found) (id : List ℕ) (answer : Option (Bor (List ℕ)
 first_missing f id answer text got is found =
     let none : first_of id (rows_of f) ≡ None = sym (first_value-rows f id) ∙ sym got ∙ ap (option_map (λ s. s.now)) is in cc
 
--- all values of an id, and that it has none, as a getter answers them
+-- all values of an id, and that it has none, as a getter returns them
 pub all_found : (f : Found) (id : List ℕ) (answer : Option (Bor (List (Bor (List ℕ))))) (values : Bor (List (Bor (List ℕ)))) →
     option_map (λ s. texts_of s.now) answer ≡ option_map raw_values (matched_of f id) → answer ≡ Some values → all_of id (rows_of f) ≡ Some (texts_of values.now)
 all_found f id answer values got is = sym (raw_values-rows f id) ∙ sym got ∙ ap (option_map (λ s. texts_of s.now)) is
@@ -60,7 +60,7 @@ pub some_text : (texts : List (Bor (List ℕ))) → false ≡ eqb (length texts)
 some_text [] empty = absurd (false≢true empty)
 some_text (x ∷ xs) empty = omega arith
 
--- the first value of an id, if any, is what a getter answers
+-- the first value of an id, if any, is what a getter returns
 pub first_is : (f : Found) (id : List ℕ) (answer : Option (Bor (List ℕ))) → option_map (λ s. s.now) answer ≡ first_value f id → first_of id (rows_of f) ≡ option_map (λ s. s.now) answer
 first_is f id answer got = sym (first_value-rows f id) ∙ sym got
 

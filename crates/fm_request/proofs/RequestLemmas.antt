@@ -95,7 +95,7 @@ budget_default f id answer least most default got is =
     let P : Option (List ℕ) → Type 0 = λ text. IsBudget text least most default default in
     subst P (sym none) refl
 
--- a budget is within its limits where that is which stands if none is named
+-- a budget is within its limits where that is the one that holds if none is named
 budget_within : (text : Option (List ℕ)) (least most default n : ℕ) → least ≤ default → default ≤ most → IsBudget text least most default n → (least ≤ n) × (n ≤ most)
 budget_within None least most default n above within is = subst (λ (m : ℕ). (least ≤ m) × (m ≤ most)) (sym is) (above, within)
 budget_within (Some digits) least most default n above within is = (is.above, is.within)

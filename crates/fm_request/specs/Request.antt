@@ -22,7 +22,7 @@ pub record Job : Type 0 where
 abbrev pub class_rule : Rule
 class_rule = record (new_rule (codes "class")) { required = true }
 
--- what may stand among the words: the five options, the main class and the files
+-- what may be among the words: the five options, the main class and the files
 abbrev pub fmrun_rules : List Rule
 fmrun_rules = option_rule (codes "steps") ∷ option_rule (codes "words") ∷ option_rule (codes "frames") ∷ option_rule (codes "input")
     ∷ option_rule (codes "args") ∷ class_rule ∷ files_rule ∷ []

@@ -17,7 +17,7 @@ option_rule name = record (new_rule name) { long = Some name }
 abbrev pub wanted_option_rule : List ℕ → Rule
 wanted_option_rule name = record (new_rule name) { long = Some name; required = true }
 
--- the files, of which there is one or more: what stands among the words without an option before it
+-- the files, of which there is one or more: what is among the words without an option before it
 abbrev pub files_rule : Rule
 files_rule = record (new_rule (codes "file")) {
   range = Some (record { start_inclusive = 1; end_inclusive = usize_max });

@@ -127,7 +127,7 @@ fn request_in<'a>(alloc: Global, matches: &ArgMatches<'a>) -> Result<Option<Requ
     }))
 }
 
-// The budgets that were matched, or those that stand where none is named.
+// The budgets that were matched, or those that hold where none is named.
 fn budgets_in(matches: &ArgMatches<'_>) -> Option<Budgets>
     ensures { let rows = rows_of (found_of matches.now) in
         MatchOption result (HasNoBudgets rows) (HasBudgets rows) }

@@ -120,7 +120,7 @@ fn words_ask_in_the_ways_of_clap(rt: HostRuntime) -> Result<(), Fail> {
     Ok(())
 }
 
-// Whether words with a text of so many letters for the arguments ask for something.
+// Whether words with a text of a given number of letters for the arguments ask for something.
 fn asks_with_text(alloc: Global, length: u32) -> Result<bool, NoMemory> {
     let mut words = split_words(alloc, "M|A|--args")?;
     let mut text = String::new(alloc);

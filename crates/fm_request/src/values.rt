@@ -9,8 +9,8 @@ use clap::{Arg, Command};
 use fm_base::limits::MAX_COMMAND_LINE_VALUE_BYTES;
 use std::alloc::Global;
 
-/// A command without arguments so far, whose words begin after the program's name, and which answers no
-/// call for help or for a version.
+/// A command without arguments so far, whose words begin after the program's name, and which has no
+/// option for help or for a version.
 pub fn command<'a>(alloc: Global, name: &'a str) -> Command<'a>
     ensures { app_of result ≡ command_with name.entry.now [] }
 {

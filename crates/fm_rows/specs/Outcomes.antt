@@ -1,4 +1,4 @@
--- What a row in code tells: whether it was met, and the state that it left.
+-- The outcome of a row in code: whether it was met, and the state that it left.
 use Rattle.std.specs.Prelude.{ℕ, Bool, false, List, Option, Some, None, option_and_then, if◌then◌else◌}
 use Rattle.fm_types.specs.Moves.{moved}
 use Rattle.fm_types.specs.States.{is_uninit, is_uninit_this, is_whole, TypeState}
@@ -10,7 +10,7 @@ use Rattle.fm_types.specs.declared.states.State.{State}
 abbrev pub outcome : Bool → State → Option TypeState
 outcome met s = if met then Some (type_state s) else None
 
--- the stack after moves, where it is so deep and no long is split
+-- the stack after moves, where it is deep enough and no long is split
 abbrev pub moved_whole : ℕ → List ℕ → List Slot → Option (List Slot)
 moved_whole takes gives stack =
     option_and_then (λ after. if is_whole after then Some after else None) (moved (record { takes = takes; gives = gives }) stack)

@@ -239,7 +239,7 @@ pub fn new_references_row(
     work(program, state, &[Slot::Int], &[Slot::Ref(array)])
 }
 
-/// A new array of arrays, of which so many dimensions are made.
+/// A new array of arrays, of which `dimensions` dimensions are made.
 #[tactic(auto, unfolding(fm_types::specs::ArrayRows::multi_array_row))]
 pub fn multi_array_row(
     alloc: Global,
@@ -267,7 +267,7 @@ pub fn multi_array_row(
     work(program, state, lengths.as_slice(), &[Slot::Ref(named)])
 }
 
-// So many lengths of arrays, the last one uppermost.
+// The lengths of the arrays of `dimensions` dimensions, the last one uppermost.
 fn lengths(alloc: Global, dimensions: u8) -> Result<Vec<Slot>, NoMemory>
     ensures { IfOk result (λ words. reverse words.items ≡ replicate dimensions slot.Int) }
 {

@@ -1,4 +1,4 @@
-// What a method's rows are told of its program.
+// What a method's rows need of its program.
 
 ghost use Rattle.std.specs.Prelude.{◌≡◌, ◌<◌, length};
 ghost use Rattle.std.specs.Str.{bytes_eq};

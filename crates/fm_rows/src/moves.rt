@@ -56,7 +56,7 @@ pub fn is_whole(stack: &Stack) -> bool
     true
 }
 
-// The slots at these depths, where the stack is so deep.
+// The slots at these depths, where the stack is deep enough.
 fn words_at(alloc: Global, stack: &Stack, places: &[usize]) -> Result<Option<Vec<Slot>>, NoMemory>
     ensures { IfOk result (λ words. option_map (λ found. found.items) words
         ≡ words_at stack.now places.now) }
@@ -71,8 +71,8 @@ fn words_at(alloc: Global, stack: &Stack, places: &[usize]) -> Result<Option<Vec
     Ok(Some(words))
 }
 
-// Takes so many words, and puts those on top that stood at these depths, the first one uppermost. Tells
-// whether the stack is so deep and no long is split.
+// Takes `takes` words, and puts those on top that were at these depths, the first one uppermost.
+// Returns whether the stack is deep enough and no long is split.
 fn rearrange(
     alloc: Global,
     stack: &mut Stack,

@@ -112,7 +112,7 @@ fn cut_before(locals: &mut Vec<Slot>, local: usize)
     }
 }
 
-// Writes one slot from the local on, and tells whether there is that local.
+// Writes one slot from the local on, and returns whether there is that local.
 fn store_one(locals: &mut Vec<Slot>, local: usize, slot: Slot) -> bool
     ensures { (if result then Some locals.new.items else None)
         ≡ stored local (slot ∷ []) locals.old.items }
@@ -125,7 +125,7 @@ fn store_one(locals: &mut Vec<Slot>, local: usize, slot: Slot) -> bool
     true
 }
 
-// Writes a long, and tells whether there are two such locals.
+// Writes a long, and returns whether there are two such locals.
 fn store_long(locals: &mut Vec<Slot>, local: usize) -> bool
     ensures { (if result then Some locals.new.items else None)
         ≡ stored local (slot.Long ∷ slot.Top ∷ []) locals.old.items }

@@ -48,7 +48,7 @@ pub fn replaced(
     Ok(words)
 }
 
-// What stands in the place of a slot.
+// What replaces a slot.
 fn replacement(slot: Slot, mark: Option<u32>, other: Slot) -> Slot
     ensures { result ≡ (if marks mark slot then other else slot) }
 {

@@ -32,9 +32,9 @@ use fm_types::{Slot, State};
 use fm_world::Program;
 use std::alloc::Global;
 
-/// Changes the state as an item of the method's code does, and tells whether the state before it meets
-/// the row of the item's instruction; of what is no item no row is met. Where it isn't met, or memory
-/// runs out, nothing is said of the state after.
+/// Changes the state as an item of the method's code does, and returns whether the state before it
+/// meets the row of the item's instruction; of what is no item no row is met. Where it isn't met,
+/// or memory runs out, the state after is unspecified.
 pub fn apply(
     alloc: Global,
     program: &Program,

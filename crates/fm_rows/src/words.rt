@@ -11,7 +11,8 @@ use fm_types::{Slot, Stack, State, fits};
 use fm_world::Program;
 use std::alloc::Global;
 
-/// Takes words from the stack, of which the last one is wanted on top, and tells whether each fits.
+/// Takes words from the stack, of which the last one is wanted on top, and returns whether each
+/// fits.
 pub fn take(program: &Program, stack: &mut Stack, wanted: &[Slot]) -> bool
     ensures { (if result then Some stack.new else None)
         ≡ taken program.now.outline (reverse wanted.now) stack.old }

@@ -1,4 +1,4 @@
--- The parts of a class file and of a method, in the order in which they stand in the file.
+-- The parts of a class file and of a method, in the order in which they occur in the file.
 use Rattle.std.specs.Prelude.{ℕ, List, [], ◌∷◌, ◌++◌}
 use Rattle.std.specs.List.{flat_map}
 use Rattle.std.specs.Borrow.{Bor}

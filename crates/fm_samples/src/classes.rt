@@ -1,5 +1,5 @@
 // The class M with a main and what that calls, in versions that differ by what they do. Beside an entry
-// of the pool stands its index, and beside a piece of code its offset and what it does.
+// of the pool is its index, and beside a piece of code its offset and what it does.
 
 use crate::samples::{ClassSample, MethodSample};
 

@@ -1,5 +1,5 @@
 // Two classes of one program that have a part of each kind, each part as few times as serves. They are well-formed, and
-// what a test changes of them is one part alone.
+// a test changes one part of them.
 
 use crate::classes::{MAIN, RETURNS};
 use crate::samples::{ClassSample, MethodSample};

@@ -6,7 +6,7 @@ ghost use Rattle.fm_samples.specs.Samples.{joined, parts_of_method, parts_of_met
 use fm_base::NoMemory;
 use std::alloc::Global;
 
-/// A class file by its parts (JVMS 4.1). Each part is what stands in the file, also where it's wrong: a
+/// A class file by its parts (JVMS 4.1). Each part is what is in the file, also where it's wrong: a
 /// count needn't be that of what follows.
 #[derive(Clone, Copy)]
 pub struct ClassSample<'a> {
@@ -86,7 +86,7 @@ impl ClassSample<'_> {
     }
 }
 
-// Puts the parts after the bytes. After `NoMemory` only some may stand there.
+// Puts the parts after the bytes. After `NoMemory` only some may be there.
 fn append(bytes: &mut Vec<u8>, parts: &[&[u8]]) -> Result<(), NoMemory>
     ensures { OnOk result (bytes.new.items ≡ bytes.old.items ++ joined parts.now) }
 {
@@ -96,7 +96,7 @@ fn append(bytes: &mut Vec<u8>, parts: &[&[u8]]) -> Result<(), NoMemory>
     Ok(())
 }
 
-// Puts the methods after the bytes. After `NoMemory` only some may stand there.
+// Puts the methods after the bytes. After `NoMemory` only some may be there.
 fn append_methods(bytes: &mut Vec<u8>, methods: &[MethodSample]) -> Result<(), NoMemory>
     ensures { OnOk result (bytes.new.items ≡ bytes.old.items ++ joined (parts_of_methods methods.now)) }
 {
@@ -106,7 +106,7 @@ fn append_methods(bytes: &mut Vec<u8>, methods: &[MethodSample]) -> Result<(), N
     Ok(())
 }
 
-// Puts a method after the bytes. After `NoMemory` only some of it may stand there.
+// Puts a method after the bytes. After `NoMemory` only some of it may be there.
 fn append_method(bytes: &mut Vec<u8>, method: &MethodSample) -> Result<(), NoMemory>
     ensures { OnOk result (bytes.new.items ≡ bytes.old.items ++ joined (parts_of_method method.now)) }
 {

@@ -27,7 +27,7 @@ use Rattle.fm_world.specs.Numbers.{argument_array}
 use Rattle.fm_world.specs.Programs.{Outline, class_uses, classes_of, uses_of}
 use Rattle.fm_world.specs.declared.declarations.DeclaredClass.{DeclaredClass}
 
--- no text stands twice
+-- no text occurs twice
 pub apart : (t : Texts) → AreTexts t → AreApart (texts_in t)
 apart t are m n m_within n_within same =
     let texts = texts_in t in

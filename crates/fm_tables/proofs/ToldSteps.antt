@@ -1,4 +1,4 @@
--- What is told of methods and fields is what a program tells of them.
+-- What is recorded about methods and fields is what a program records about them.
 use Rattle.std.proofs.Common.{◌≡◌, refl, sym, ◌∙◌, ap, subst, ℕ, Bool, List, [], ◌∷◌, ◌++◌, length, map, drop, replicate, get_or, false, Option, None}
 use Rattle.std.specs.Borrow.{Bor}
 use Rattle.std.specs.List.{flat_map, AllByRecursion}
@@ -41,7 +41,7 @@ codes-files : (files : List GivenFile) → flat_map codes_in files ≡ flat_map 
 codes-files [] = refl
 codes-files (f ∷ files) = ap (λ cs. codes_in f ++ cs) (codes-files files)
 
--- the built-in classes have so many methods
+-- the built-in classes have a given number of methods
 methods-counted : length (methods_of built_in) ≡ 86
 unfolding methods_of built_in
 methods-counted = refl
@@ -67,7 +67,7 @@ uses-given o given uses is =
     let none : List (List Use) = replicate (length built_in) [] in
     ap (drop (length built_in)) is ∙ drop_at none (map (class_uses o) given) (length built_in) (length-replicate (length built_in) [])
 
--- what is told by kinds, codes, places and first values that are those of the files' classes
+-- the records made from kinds, codes, places and first values that are those of the files' classes
 pub told-made : (texts : List (List ℕ)) (given : List ClassDef) (files : List GivenFile) (o : Outline) (fields methods : List MemberRow)
     (kinds of_fields of_methods : List (Option Kinds)) (uses : List (List Use)) (t : Told)
     → o.classes ≡ classes_of given → AllByRecursion HasSpelling given → AreFiles texts given files

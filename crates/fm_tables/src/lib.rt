@@ -1,5 +1,5 @@
 // The tables of a program once its classes are linked: its types and texts, what indices are resolved
-// to, and what is told of methods and fields.
+// to, and what is recorded about methods and fields.
 //
 // Each part is an equation with the definitions of `fm_world`, over what the linker looks up by.
 #![tactic(auto)]

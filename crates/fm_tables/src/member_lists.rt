@@ -30,7 +30,7 @@ pub fn flags_of(alloc: Global, rows: &[MemberRow]) -> Result<Vec<u16>, NoMemory>
     Ok(flags)
 }
 
-/// For each of so many texts whether it is the descriptor of a field or of a method.
+/// For each of a given number of texts whether it is the descriptor of a field or of a method.
 pub fn descriptor_marks(
     alloc: Global,
     texts: usize,

@@ -1,4 +1,4 @@
-// What a program tells of its methods and fields.
+// What a program records about its methods and fields.
 
 ghost use Rattle.std.specs.Prelude.{◌≡◌, ◌++◌, IfOk, drop, length, map, replicate};
 ghost use Rattle.std.specs.List.{AllByRecursion};
@@ -31,21 +31,22 @@ use fm_refuse::Linking;
 use fm_world::{DeclaredClass, FieldInfo, MethodInfo, Use, built_in_classes};
 use std::alloc::Global;
 
-/// What is told of all fields, and how many of them are static.
+/// What is recorded about all fields, and how many of them are static.
 #[derive(Drop)]
 pub struct ToldFields {
     pub infos: Vec<FieldInfo>,
     pub statics: u32,
 }
 
-/// What is told of all methods and fields.
+/// What is recorded about all methods and fields.
 #[derive(Drop)]
 pub struct Told {
     pub methods: Vec<MethodInfo>,
     pub fields: ToldFields,
 }
 
-/// What is told of all methods and fields, by what the indices of all classes are resolved to.
+/// What is recorded about all methods and fields, by what the indices of all classes are resolved
+/// to.
 pub fn told_members(
     alloc: Global,
     numbers: &ClassNumbers,
@@ -83,7 +84,7 @@ pub fn told_members(
     Ok(Told { methods, fields })
 }
 
-// What is told of all methods, by what their descriptors declare.
+// What is recorded about all methods, by what their descriptors declare.
 fn told_methods(
     alloc: Global,
     classes: &[DeclaredClass],
@@ -98,8 +99,8 @@ fn told_methods(
     method_infos(alloc, classes, kinds, codes)
 }
 
-// What is told of all fields, by what their descriptors declare and by what the indices of each file are
-// resolved to.
+// What is recorded about all fields, by what their descriptors declare and by what the indices of
+// each file are resolved to.
 fn told_fields(
     alloc: Global,
     hierarchy: &Hierarchy,

@@ -38,7 +38,7 @@ is_unqualified-some (c ∷ name) some = refl
 abbrev is_before : ℕ → Bool
 is_before c = not (eqb c 59)
 
--- no ; stands in a class's name
+-- no ; is in a class's name
 prefix_len-name : (begun : Bool) (name rest : List ℕ) → are_parts begun name ≡ true → prefix_len is_before (name ++ 59 ∷ rest) ≡ length name
 prefix_len-name begun [] rest ok = refl
 prefix_len-name begun (c ∷ cs) rest ok =
@@ -50,7 +50,7 @@ prefix_len-name begun (c ∷ cs) rest ok =
       ]))
     ]
 
--- the name is what stands before the first ;
+-- the name is what is before the first ;
 pub class_parts : (bytes rest : List ℕ) (n : ℕ) → n ≡ prefix_len is_before bytes → StartsWithClass bytes rest → (is_binary_name (take n bytes) ≡ true) × (drop n bytes ≡ 59 ∷ rest)
 class_parts bytes rest n is w =
     let size : length w.name ≡ n = sym (prefix_len-name false w.name rest w.is_name) ∙ ap (prefix_len is_before) (sym w.bytes_are) ∙ sym is in
@@ -61,7 +61,7 @@ pub class_from : (bytes rest : List ℕ) (n : ℕ) → is_binary_name (take n by
 class_from bytes rest n ok remaining =
     record { name = take n bytes; is_name = ok; bytes_are = sym (take-append-drop n bytes) ∙ ap (λ (w : List ℕ). take n bytes ++ w) remaining }
 
--- what stands after the bytes before the first ; begins with it
+-- what follows the bytes before the first ; begins with it
 semicolon : (bytes : List ℕ) (n first : ℕ) (rest : List ℕ) → n ≡ prefix_len is_before bytes → drop n bytes ≡ first ∷ rest → first ≡ 59
 semicolon bytes n first rest is remaining =
     let within : n < length bytes = omega (arith, ap length remaining, length-drop n bytes) in
@@ -86,13 +86,13 @@ class_decided bytes front back remaining n first is front_is back_is split ok re
 pub class_endless : (bytes back rest : List ℕ) (n : ℕ) → n ≡ prefix_len is_before bytes → back ≡ drop n bytes → length back ≡ 0 → StartsWithClass bytes rest → ⊥
 class_endless bytes back rest n is back_is empty w = omega (arith, empty, ap length (back_is ∙ (class_parts bytes rest n is w).1))
 
--- what stands before it is no name
+-- what is before it is no name
 pub class_nameless : (bytes front rest : List ℕ) (n : ℕ) → n ≡ prefix_len is_before bytes → front ≡ take n bytes → is_binary_name front ≡ false → StartsWithClass bytes rest → ⊥
 class_nameless bytes front rest n is front_is bad w = both_ways (is_binary_name front) bad (ap is_binary_name front_is ∙ (class_parts bytes rest n is w).0)
 
 -- ---- types that aren't arrays
 
--- after an L stand a class and ;
+-- after an L come a class and ;
 pub base_class : (tail rest : List ℕ) → StartsWithBase (76 ∷ tail) rest ↔ StartsWithClass tail rest
 base_class tail rest = (λ w. there w.base w.is_base w.bytes_are, back) where
   there : (b : BaseType) → IsBaseType b → 76 ∷ tail ≡ base_descriptor b ++ rest → StartsWithClass tail rest
@@ -102,7 +102,7 @@ base_class tail rest = (λ w. there w.base w.is_base w.bytes_are, back) where
   back : StartsWithClass tail rest → StartsWithBase (76 ∷ tail) rest
   back w = record { base = object w.name; is_base = w.is_name; bytes_are = ap (λ (t : List ℕ). 76 ∷ t) (w.bytes_are ∙ sym (append_assoc w.name (59 ∷ []) rest)) }
 
--- after a primitive type's letter stands the rest
+-- after a primitive type's letter comes the rest
 pub base_letter : (c : ℕ) (tail rest : List ℕ) → is_primitive_letter c ≡ true → StartsWithBase (c ∷ tail) rest ↔ (tail ≡ rest)
 base_letter c tail rest letter = (λ w. there w.base w.is_base w.bytes_are, λ e. record { base = primitive c; is_base = letter; bytes_are = ap (λ (t : List ℕ). c ∷ t) e }) where
   there : (b : BaseType) → IsBaseType b → c ∷ tail ≡ base_descriptor b ++ rest → tail ≡ rest
@@ -150,7 +150,7 @@ prefix_len-brackets : (n : ℕ) (rest : List ℕ) → prefix_len is_bracket rest
 prefix_len-brackets zero rest none = none
 prefix_len-brackets (suc n) rest none = suc-is (prefix_len is_bracket (replicate n 91 ++ rest)) ∙ ap suc (prefix_len-brackets n rest none)
 
--- what stands at the front of a list again and again
+-- what is at the front of a list again and again
 replicate-prefix_len : (b : ℕ) (xs : List ℕ) → xs ≡ replicate (prefix_len (λ c. eqb c b) xs) b ++ drop (prefix_len (λ c. eqb c b) xs) xs
 replicate-prefix_len b [] = refl
 replicate-prefix_len b (c ∷ cs) =
@@ -185,7 +185,7 @@ field_takes bytes rest w =
       base_some (primitive letter) = omega arith
       base_some (object name) = omega arith
 
--- the first character tells the words
+-- the first character determines the words
 pub words_of-first : (t : FieldType) (rest : List ℕ) → words_of t ≡ first_words (field_descriptor t ++ rest)
 words_of-first t rest = by t.dimensions t.base where
   by : (dimensions : ℕ) (base : BaseType) → words_of (record { dimensions = dimensions; base = base }) ≡ first_words ((replicate dimensions 91 ++ base_descriptor base) ++ rest)

@@ -15,7 +15,7 @@ use Rattle.fm_texts.specs.declared.descriptors.MethodFacts.{MethodFacts}
 use Rattle.fm_base.proofs.ListFacts.{same_head, same_tail}
 use Rattle.fm_texts.proofs.DescriptorsLemmas.{words_of-first}
 
--- the rest of a method's descriptor, before it arguments of so many words
+-- the rest of a method's descriptor, before it arguments of a given number of words
 pub record IsMethodRest (facts : MethodFacts) (words : ℕ) (rest : List ℕ) : Type 0 where
   pub parameters : List FieldType
   pub result : Option FieldType
@@ -111,7 +111,7 @@ method_next facts words rest after found decides is = (λ w. there w.parameters 
         returns_nothing = w.returns_nothing;
       }
 
--- where no argument stands, ) and the result do
+-- where no argument comes, ) and the result do
 pub method_ends : (facts : MethodFacts) (words : ℕ) (rest : List ℕ) → words < 2 ^ 32 → ((r : List ℕ) → StartsWithField rest r → ⊥) → IsMethodRest facts words rest → (text : List ℕ) × (AreResultFacts words text facts × (rest ≡ 41 ∷ text))
 method_ends facts words rest fits none w = ends w.parameters w.result w.are_types w.is_type w.spelled w.argument_words w.returns_nothing where
   ends : (ps : List FieldType) (result : Option FieldType) → AllByRecursion IsFieldType ps → IfSome result IsFieldType → rest ≡ flat_map field_descriptor ps ++ 41 ∷ result_descriptor result
@@ -140,7 +140,7 @@ known facts = Some facts
 pub same_facts : (f g : MethodFacts) → known f ≡ known g → f ≡ g
 same_facts f g e = cc
 
--- V tells that nothing is returned
+-- V means that nothing is returned
 pub result_nothing : (facts : MethodFacts) (words : ℕ) (text : List ℕ) → bytes_eq text (86 ∷ []) ≡ true → (known (record { argument_words = words; returns_nothing = true }) ≡ known facts) ↔ AreResultFacts words text facts
 result_nothing facts words text v =
     let is_v : text ≡ 86 ∷ [] = (bytes_eq-Decides text (86 ∷ [])).0 v in (

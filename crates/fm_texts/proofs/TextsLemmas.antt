@@ -1,4 +1,4 @@
--- One unit of modified UTF-8 after the other: what stands at the front decides, and the rest is asked next.
+-- One unit of modified UTF-8 after the other: what is at the front decides, and the rest is asked next.
 use Rattle.std.proofs.Common.{◌≡◌, ◌↔◌, ℕ, ◌+◌, ◌-◌, ◌*◌, ◌/◌, ◌%◌, ◌<◌, ◌≤◌, ◌⊎◌, inl, inr, Bool, eqb, ltb, IsTrue, List, [], ◌∷◌, ◌++◌, length, refl, sym, ap, subst, ◌∙◌, arith}
 use Rattle.std.specs.List.{flat_map, AllByRecursion}
 use Rattle.std.proofs.lemmas.Bool.{cases_Bool, eqb-true, ltb-true, ltb-false}
@@ -64,7 +64,7 @@ triple_starts a b c rest (second, third, first) =
     let bytes : unit_bytes u ≡ a ∷ b ∷ c ∷ [] = unit_bytes-three u high ∙ (λ i. a_is i ∷ b_is i ∷ c_is i ∷ []) in
     record { unit = u; in_range = omega (arith, below, second.1, third.1); bytes_are = sym (ap (λ (us : List ℕ). us ++ rest) bytes) }
 
--- ---- what stands at the front decides
+-- ---- what is at the front decides
 
 -- the first byte of a pair or a triple
 pair_first : (a b : ℕ) → IsPair a b → (192 ≤ a) × (a < 224)
@@ -208,7 +208,7 @@ units_next bytes after decides = (λ h. there (parts bytes h.units h.in_range h.
     bytes_are = first.bytes_are ∙ ap (λ (bs : List ℕ). unit_bytes first.unit ++ bs) h.bytes_are ∙ sym (flat_map-cons unit_bytes first.unit h.units);
   }
 
--- where no unit stands at the front, nothing may be left
+-- where no unit is at the front, nothing may be left
 pub units_end : (bytes : List ℕ) (r : Bool) → r ≡ eqb (length bytes) 0 → ((rest : List ℕ) → StartsWithUnit bytes rest → ⊥) → IsTrue r ↔ HasUnits bytes
 units_end bytes r is none = (
   λ t. record { units = []; in_range = tt; bytes_are = nil_from_length bytes (eqb-true _ _ (sym is ∙ t)) },

@@ -8,7 +8,7 @@ use Rattle.fm_code.specs.declared.constant_pool.Entry.{Entry}
 use Rattle.fm_texts.specs.declared.descriptors.MethodFacts.{MethodFacts}
 use Rattle.fm_texts.specs.declared.facts.TextFacts.{TextFacts}
 
--- so many words, as far as 32 bits count them
+-- a given number of words, as far as 32 bits count them
 abbrev pub counted_words : ℕ → ℕ
 counted_words words = min words (2 ^ 32 - 1)
 

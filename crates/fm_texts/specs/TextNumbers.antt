@@ -1,4 +1,4 @@
--- Numbers that stand for texts of a constant pool.
+-- Numbers for the texts of a constant pool.
 use Rattle.std.specs.Prelude.{◌≡◌, ◌↔◌, ℕ, List, [], ◌∷◌, slice_index}
 use Rattle.std.specs.List.{AllByRecursion}
 use Rattle.fm_code.specs.ConstantPool.{utf8_at}

@@ -50,7 +50,8 @@ fn method_facts_after(bytes: &[u8]) -> Option<MethodFacts>
     }
 }
 
-/// What is known where arguments take so many words, and the bytes tell what is returned.
+/// What is known where arguments take a given number of words, and the bytes are those of what is
+/// returned.
 fn result_facts(argument_words: u32, descriptor: &[u8]) -> Option<MethodFacts>
     ensures { (m : MethodRecord) → (result ≡ Some m) ↔ AreResultFacts argument_words descriptor.now m }
 {
@@ -107,7 +108,7 @@ fn after_field(bytes: &[u8]) -> Option<&[u8]>
     after_base(&bytes[dimensions..])
 }
 
-/// How many times the byte stands at the front.
+/// How many times the byte occurs at the front.
 fn count_leading(bytes: &[u8], byte: u8) -> usize
     ensures count { result ≡ prefix_len (λ c. c == byte) bytes.now }
     ensures within { result ≤ length bytes.now }
@@ -140,7 +141,7 @@ fn after_class(bytes: &[u8]) -> Option<&[u8]>
     }
 }
 
-/// How many bytes stand before the first `;`, or how many there are.
+/// How many bytes are before the first `;`, or how many there are.
 fn count_until_semicolon(bytes: &[u8]) -> usize
     ensures count { result ≡ prefix_len (λ c. not (c == 59)) bytes.now }
     ensures within { result ≤ length bytes.now }

@@ -28,7 +28,7 @@ pub struct TextFacts {
     pub is_method_name: bool,
     /// It is the descriptor of a field (JVMS 4.3.2).
     pub is_field_descriptor: bool,
-    /// What it tells as the descriptor of a method, where it is one (JVMS 4.3.3).
+    /// What it means as the descriptor of a method, where it is one (JVMS 4.3.3).
     pub method: Option<MethodFacts>,
 }
 
@@ -40,8 +40,8 @@ impl TextFacts {
         self.is_binary_name || self.is_array_name
     }
 
-    /// Whether it is the descriptor of a method whose arguments take at most 255 words with so many for
-    /// the receiver (JVMS 4.3.3).
+    /// Whether it is the descriptor of a method whose arguments take at most 255 words with
+    /// `receiver_words` for the receiver (JVMS 4.3.3).
     pub fn is_method_descriptor(self, receiver_words: u32) -> bool
         ensures { (text : List ℕ) → AreFactsOf text self
             → IsTrue result ↔ IsMethodDescriptor receiver_words text }
@@ -55,7 +55,8 @@ impl TextFacts {
         }
     }
 
-    /// Whether it is the descriptor of a method whose arguments take so many words with the receiver's.
+    /// Whether it is the descriptor of a method whose arguments take `words` words with the
+    /// receiver's.
     pub fn takes_words(self, words: u8) -> bool
         ensures { (text : List ℕ) → AreFactsOf text self → IsTrue result ↔ TakesWords words text }
     {

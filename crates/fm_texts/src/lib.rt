@@ -1,4 +1,4 @@
-// The texts of a constant pool: judged as names and as descriptors, and told apart by numbers.
+// The texts of a constant pool: judged as names and as descriptors, and distinguished by numbers.
 //
 // Each text is judged once: its facts are kept by its index, and so is its number. The layers above use
 // that the facts are exact, and that two texts have one number exactly where they are equal.

@@ -35,7 +35,7 @@ pub(crate) fn is_method_name(name: &[u8]) -> bool
     is_unqualified(name) && (has_no_angle(name) || is_special_name(name))
 }
 
-/// Whether neither `<` nor `>` stands in a name.
+/// Whether neither `<` nor `>` occurs in a name.
 fn has_no_angle(name: &[u8]) -> bool
     ensures { result ≡ list_all is_plain name.now }
 {
@@ -56,7 +56,7 @@ pub(crate) fn is_unqualified(name: &[u8]) -> bool
     !name.is_empty() && name.iter().all(|c| is_name_character(*c))
 }
 
-/// Whether a character may stand in a name without parts.
+/// Whether a character may be in a name without parts.
 fn is_name_character(c: u8) -> bool
     ensures { result ≡ is_name_character c }
 {

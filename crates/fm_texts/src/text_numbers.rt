@@ -1,5 +1,5 @@
-// The texts of a pool told apart by numbers, and fields and methods by the numbers of their names and of
-// their descriptors.
+// The texts of a pool distinguished by numbers, and fields and methods by the numbers of their
+// names and of their descriptors.
 //
 // Equal texts get equal numbers first, so that a text is compared with few others, and not once for each
 // pair of members that names it.

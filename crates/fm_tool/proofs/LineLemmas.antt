@@ -1,4 +1,4 @@
--- What is told of a call: the status that goes with its line, or that of a failed put or of memory.
+-- What is known of a call: the status that goes with its line, or that of a failed put or of memory.
 use Rattle.std.proofs.Common.{◌≡◌, ◌≢◌, ◌<◌, ℕ, inl, inr, List, [], ◌∷◌, Contains, refl, sym, ap, ◌∙◌, subst, arith}
 use Rattle.fm_files.specs.Sink.{Output, with_piece}
 use Rattle.fm_tool.specs.Line.{Tells}

@@ -1,4 +1,4 @@
--- What the answers of the outside say of its counts and contents.
+-- What the results of the outside mean for its counts and contents.
 use Rattle.std.proofs.Common.{◌≡◌, ◌<◌, ⊎_elim, refl, sym, subst, arith, Option, Some, None, IsSomeAnd}
 use Rattle.fm_base.proofs.OptionFacts.{IsSomeAnd-weaker}
 use Rattle.std.proofs.lemmas.Bool.{cases_eq}

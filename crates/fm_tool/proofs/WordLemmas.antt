@@ -4,7 +4,7 @@ use Rattle.std.specs.Str.{bytes_eq}
 use Rattle.std.proofs.lemmas.Slice.Eq.{bytes_eq-Decides}
 use Rattle.std.proofs.lemmas.Bool.{false≢true}
 
--- two texts that `!=` doesn't tell apart
+-- two texts that `!=` finds equal
 pub same_text : (a b : List ℕ) → false ≡ not (bytes_eq a b) → a ≡ b
 same_text a b tested = (bytes_eq-Decides a b).0 (not_false (bytes_eq a b) (sym tested)) where
   not_false : (x : Bool) → not x ≡ false → x ≡ true

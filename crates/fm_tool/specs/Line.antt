@@ -1,4 +1,4 @@
--- What the put of the one line of a call comes to.
+-- The outcome of the put of the one line of a call.
 use Rattle.std.specs.Prelude.{◌≡◌, ℕ, ◌⊎◌, List}
 use Rattle.fm_files.specs.Sink.{Output, FailsPut, with_piece}
 use Rattle.fm_tool.specs.declared.status.TheConstants.{WRITE, OUT_OF_MEMORY}

@@ -4,7 +4,7 @@ use Rattle.std.specs.Char.Utf16.{utf16_chars}
 use Rattle.std.specs.Str.{encode_utf8_all}
 use Rattle.fm_base.specs.Texts.{units}
 
--- the character of one unit or of a surrogate pair; for a unit of such a pair that stands alone, `?` (63)
+-- the character of one unit or of a surrogate pair; for a unit of such a pair without the other, `?` (63)
 abbrev pub shown : Option ℕ → ℕ
 shown character = unwrap_or character 63
 

@@ -1,4 +1,4 @@
--- The line and the status that tell a refusal.
+-- The line and the status that report a refusal.
 use Rattle.std.specs.Prelude.{ℕ, List, [], ◌∷◌, ◌++◌, codes}
 use Rattle.fm_tool.specs.declared.refusal.Refusal.{Refusal}
 use Rattle.fm_tool.specs.declared.refusal.Refusal.TheVariants as refusal

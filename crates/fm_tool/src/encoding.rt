@@ -9,7 +9,7 @@ ghost use Rattle.fm_tool.specs.Encoding.{modified};
 use fm_base::{Name, NoMemory};
 use std::alloc::Global;
 
-/// The text in modified UTF-8 (JVMS 4.4.7), in which the texts of class files stand.
+/// The text in modified UTF-8 (JVMS 4.4.7), the form of the texts of class files.
 pub fn modified(alloc: Global, text: &str) -> Result<Name, NoMemory>
     ensures { IfOk result (λ name. name ≡ modified text.now) }
 {

@@ -11,7 +11,7 @@ use fm_base::{Name, NoMemory};
 use std::alloc::Global;
 
 /// The text in UTF-8 of a name in modified UTF-8 (JVMS 4.4.7), with `?` for each unit of a surrogate
-/// pair that stands alone.
+/// pair without the other.
 pub fn printed(alloc: Global, name: &Name) -> Result<String, NoMemory>
     ensures { IfOk result (λ text. string_bytes text ≡ printed name.now) }
 {
@@ -24,7 +24,7 @@ pub fn printed(alloc: Global, name: &Name) -> Result<String, NoMemory>
     Ok(text)
 }
 
-// The first character, or None in its place for a unit of a surrogate pair that stands alone, and
+// The first character, or None in its place for a unit of a surrogate pair without the other, and
 // the bytes after it.
 fn split_character(bytes: &[u8]) -> Option<(Option<char>, &[u8])>
     ensures { MatchOption result (utf16_chars (units bytes.now) ≡ [])

@@ -19,7 +19,7 @@ pub enum Refusal<'a> {
 }
 
 impl Refusal<'_> {
-    /// The line that tells it, with its line end.
+    /// The line that reports it, with its line end.
     pub fn line(self, alloc: Global) -> Result<String, NoMemory>
         ensures { IfOk result (λ text. string_bytes text ≡ refusal_line self.entry) }
     {
@@ -30,7 +30,7 @@ impl Refusal<'_> {
         }
     }
 
-    /// The status that tells it.
+    /// The status that reports it.
     pub fn status(self) -> u8
         ensures { result ≡ refusal_status self.entry }
     {

@@ -41,7 +41,7 @@ pub const RUNNING: u8 = 80;
 /// The next step of a run would pass its frames budget.
 pub const TOO_DEEP: u8 = 82;
 
-/// The value of each status, as its clauses tell.
+/// The value of each status, by the clauses.
 pub fn law_statuses()
     ensures done { DONE ≡ 0 }
     ensures words { WORDS ≡ 64 }

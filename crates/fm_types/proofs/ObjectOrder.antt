@@ -62,13 +62,13 @@ follows-on_field R o resolved.Unused f g each = tt
 
 -- ---- marks of objects that aren't initialised
 
--- a test that tells one kind of object that isn't initialised from all other slots
+-- a test that distinguishes one kind of object that isn't initialised from all other slots
 pub record IsMark (o : Outline) (test : Slot → Bool) : Type 0 where
   pub below : (a b : Slot) → fits o a b ≡ true → test b ≡ true → test a ≡ true
   pub above : (a b : Slot) → fits o a b ≡ true → test a ≡ true → test b ≡ false → b ≡ slot.Top
   pub other : (a : Slot) → test a ≡ true → shape_of a ≡ 2
 
--- on level stacks the marks stand level too
+-- on level stacks the marks are level too
 pub mark-level : (o : Outline) (test : Slot → Bool) → IsMark o test → (a b : Slot) → Stands o a b → test a ≡ test b
 mark-level o test mark a b w = by_tests (test a) (test b) refl refl where
   by_tests : (p q : Bool) → test a ≡ p → test b ≡ q → p ≡ q

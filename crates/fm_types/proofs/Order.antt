@@ -95,7 +95,7 @@ level-fits classes a b dims bases =
 pub type-refl : (classes : List DeclaredClass) → AreTree classes → (a : TypeRef) → fits_type classes a a ≡ true
 type-refl classes tree a = level-fits classes a a refl (base-refl classes (omega (arith, object-within classes tree)) a.base)
 
--- what stands level with objects is as deep as they are
+-- what is level with objects is as deep as they are
 pub level-depth : (classes : List DeclaredClass) (a b : TypeRef) → IsLevel classes a b → is_object_base classes b.base ≡ true → depth_of a ≡ b.dims
 level-depth classes a b level objects =
     depth-same classes a.dims a.base b.base level.bases ∙ object-depth classes a.dims b.base objects ∙ level.dims

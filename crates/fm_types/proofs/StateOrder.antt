@@ -1,4 +1,4 @@
--- One state under another: each slot fits, and the longs of their stacks stand level. What is taken and put on top keeps that.
+-- One state under another: each slot fits, and the longs of their stacks are level. What is taken and put on top keeps that.
 use Rattle.std.proofs.Common.{◌≡◌, refl, sym, ◌∙◌, ap, ℕ, ◌&&◌, ◌||◌, not, Bool, true, false, List, [], ◌∷◌, ◌++◌, Option, Some, None, arith}
 use Rattle.std.specs.List.{AllZip}
 use Rattle.std.specs.Option.{option_map}
@@ -104,7 +104,7 @@ pub whole-level : (o : Outline) (xs ys : List Slot) → AllZip (Stands o) xs ys 
 whole-level o xs ys h whole =
     whole-shaped xs ys (zip-implied (Stands o) IsShaped (λ x y (w : Stands o x y). w.shape) xs ys h) whole
 
--- of two whole stacks that fit the longs stand level
+-- of two whole stacks that fit the longs are level
 pub level-whole : (o : Outline) (xs ys : List Slot) → AllZip (Fitting o) xs ys → is_whole xs ≡ true → is_whole ys ≡ true → AllZip (Stands o) xs ys
 level-whole o [] [] h first second = tt
 level-whole o [] (y ∷ ys) h first second = absurd h

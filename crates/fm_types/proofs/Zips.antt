@@ -1,4 +1,4 @@
--- Lists whose elements stand to each other pair by pair, and steps that give something wherever others do.
+-- Lists whose elements are related pair by pair, and steps that give something wherever others do.
 use Rattle.std.proofs.Common.{◌≡◌, refl, ℕ, zero, suc, Bool, true, false, List, [], ◌∷◌, ◌++◌, length, map, drop, set, Option, Some, None, option_and_then, cond, ap}
 use Rattle.std.specs.List.{AllZip, slice_get}
 use Rattle.std.specs.Option.{option_map}
@@ -49,7 +49,7 @@ zip-length R [] (y ∷ ys) h = absurd h
 zip-length R (x ∷ xs) [] h = absurd h
 zip-length R (x ∷ xs) (y ∷ ys) h = ap suc (zip-length R xs ys h.1)
 
--- ---- options: where the second gives something, the first gives something that stands to it so
+-- ---- options: where the second gives something, the first gives something that is so related to it
 
 abbrev pub Follows : {A B : Type 0} → (A → B → Type 0) → Option A → Option B → Type 0
 Follows R x None = Unit {0}
@@ -72,7 +72,7 @@ follows-map R S f g x None h each = tt
 follows-map R S f g None (Some b) h each = absurd h
 follows-map R S f g (Some a) (Some b) h each = each a b h
 
--- the same, told what was found
+-- the same, given what was found
 pub follows-map_found : {A B C D : Type 0} (R : A → B → Type 0) (S : C → D → Type 0) (f : A → C) (g : B → D) (x : Option A) (y : Option B)
     → Follows R x y → ((a : A) (b : B) → y ≡ Some b → R a b → S (f a) (g b)) → Follows S (option_map f x) (option_map g y)
 follows-map_found R S f g x None h each = tt

@@ -53,7 +53,7 @@ abbrev pub is_object_base : List DeclaredClass → Base → Bool
 is_object_base classes (base.OfClass class) = is_seen_as_object classes class.0
 is_object_base classes b = false
 
--- Object, an interface, or an array of one of these, of at most so many dimensions
+-- Object, an interface, or an array of one of these, of at most a given number of dimensions
 abbrev pub is_objects_within : List DeclaredClass → ℕ → TypeRef → Bool
 is_objects_within classes depth t = nat_le t.dims depth && is_object_base classes t.base
 

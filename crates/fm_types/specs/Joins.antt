@@ -54,7 +54,7 @@ abbrev pub common_base : List DeclaredClass → Base → Base → Base
 common_base classes (base.OfClass c) (base.OfClass d) = of_class (common_class classes c.0 d.0)
 common_base classes b c = b
 
--- the array of Object of so many dimensions; with none Object itself
+-- the array of Object of a given number of dimensions; with none Object itself
 abbrev pub objects_with : List DeclaredClass → ℕ → TypeRef
 objects_with classes dims = record { dims = dims; base = of_class (object_of classes) }
 

@@ -66,7 +66,7 @@ on_method o resolved.Unused follows = None
 abbrev pub class_of_method : Outline → ℕ → ℕ
 class_of_method o method = (method_at o.classes method).class
 
--- the words of a field's value, of a method's arguments without the receiver, and of its result, as they stand on the stack
+-- the words of a field's value, of a method's arguments without the receiver, and of its result, as they are on the stack
 abbrev pub field_words : Outline → ℕ → List Slot
 field_words o field = stack_slots (field_kind o.classes (field_at o.classes field).field ∷ [])
 

@@ -13,7 +13,7 @@ use Rattle.fm_types.specs.declared.slots.Slot.TheVariants as slot
 use Rattle.fm_world.specs.Programs.{Outline}
 use Rattle.fm_world.specs.declared.uses.Use.{Use}
 
--- The state after an instruction, where the state before meets its row. It is told the outline of the program, the number of the method, that of the
+-- The state after an instruction, where the state before meets its row. Its arguments are the outline of the program, the number of the method, that of the
 -- item, the types that the `new` of items of the method name, and what the index that the instruction names is resolved to. A jump has one state for
 -- all its ends; after a return or athrow there is no item.
 unfoldable pub row_after : Outline → ℕ → ℕ → (ℕ → Option TypeRef) → Use → Insn → TypeState → Option TypeState

@@ -114,7 +114,7 @@ abbrev pub cut_before : ℕ → List Slot → List Slot
 cut_before zero locals = locals
 cut_before (suc k) locals = if is_long (local_at locals k) then slice_set locals k slot.Top else locals
 
--- the locals with these slots from local k on, where there are so many; a long of which one half is written over is none any longer
+-- the locals with these slots from local k on, where there is room for them; a long of which one half is written over is none any longer
 abbrev pub stored : ℕ → List Slot → List Slot → Option (List Slot)
 stored k slots locals = if nat_lt (length locals) (k + length slots) then None else Some (with_slots k slots (cut_before k locals)) where
   with_slots : ℕ → List Slot → List Slot → List Slot

@@ -1,5 +1,5 @@
 -- What it means that a method is typed: there is a state for each item that can be reached, such that each row is met and each edge leads to a state
--- that the one it brings fits (JVMS 4.10). Nothing is said of how the states are found.
+-- that the one it brings fits (JVMS 4.10). How the states are found is left open.
 use Rattle.std.specs.Prelude.{◌≡◌, ℕ, ◌-◌, ◌==◌, ◌≤◌, ◌↔◌, true, not, List, [], ◌∷◌, ◌++◌, length, replicate, Option, Some, None, is_some, option_and_then, IsSomeAnd, if◌then◌else◌, slice_get}
 use Rattle.std.specs.List.{flat_map, slice_index_or, AllByRecursion}
 use Rattle.fm_base.specs.declared.kinds.TypeRef.{TypeRef}
@@ -57,7 +57,7 @@ receiver_slots o method =
     if is_constructor o method then slot.UninitThis ∷ [] else
     slot.Ref (type_of_class (class_of_method o method)) ∷ []
 
--- the receiver and the parameters stand in the first locals
+-- the receiver and the parameters are in the first locals
 abbrev pub entry_slots : Outline → ℕ → List Slot
 entry_slots o method = receiver_slots o method ++ flat_map local_slots (parameters_of o method)
 

@@ -9,9 +9,9 @@ use fm_base::{Base, ClassId, TypeRef};
 use fm_code::{ACC_INTERFACE, has_flag};
 use fm_world::Program;
 
-/// Whether what holds the first can stand where the second is asked for: all can stand for `Top`, null
-/// for each type of objects, and an object for the types that its own one fits. Takes no memory, and is
-/// answered at once.
+/// Whether a value of the first can be used where the second is asked for: any for `Top`, null
+/// for each type of objects, and an object for the types that its own one fits. Takes no memory and
+/// constant time.
 #[tactic(auto, unfolding(crate::specs::Fits::fits))]
 pub fn fits(program: &Program, a: Slot, b: Slot) -> bool
     ensures { result ≡ fits program.now.outline a b }
@@ -30,7 +30,7 @@ pub fn fits(program: &Program, a: Slot, b: Slot) -> bool
 }
 
 /// Whether the first type of objects fits the second: an interface counts as Object here, and arrays go
-/// by their dimensions and their classes. Takes no memory, and is answered at once.
+/// by their dimensions and their classes. Takes no memory and constant time.
 #[tactic(auto, unfolding(crate::specs::Fits::fits_type))]
 pub fn fits_type(program: &Program, a: TypeRef, b: TypeRef) -> bool
     ensures { result ≡ fits_type program.now.outline.classes a b }
@@ -55,7 +55,7 @@ fn fits_base(program: &Program, b: Base, c: Base) -> bool
     }
 }
 
-// Object, an interface, or an array of one of these, of at most so many dimensions.
+// Object, an interface, or an array of one of these, of at most a given number of dimensions.
 fn is_objects_within(program: &Program, depth: u8, t: TypeRef) -> bool
     ensures { result ≡ is_objects_within program.now.outline.classes depth t }
 {

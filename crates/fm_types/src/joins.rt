@@ -10,7 +10,7 @@ use fm_base::{Base, ClassId, TypeRef};
 use fm_world::Program;
 
 /// The least type that both fit: `Top` where they are of different kinds. Takes no memory. The classes
-/// of two types take a step for each superclass of the first one, and all else is answered at once.
+/// of two types take a step for each superclass of the first one; all else takes constant time.
 #[tactic(auto, unfolding(crate::specs::Joins::join))]
 pub fn join(program: &Program, a: Slot, b: Slot) -> Slot
     ensures { result ≡ join program.now.outline a b }

@@ -34,9 +34,9 @@ pub fn law_example()
     ensures untyped { ¬ Typed (program_with untyped_code) 86 }
 {}
 
-/// Joins in a program whose classes are told by their numbers: of two exceptions with the superclass
-/// `RuntimeException`; of arrays of a class and of its superclass; of two interfaces, and of one with
-/// itself; of arrays that aren't level; of null and a type; of different kinds.
+/// Joins in a program whose classes are given by their numbers: of two exceptions with the
+/// superclass `RuntimeException`; of arrays of a class and of its superclass; of two interfaces,
+/// and of one with itself; of arrays that aren't level; of null and a type; of different kinds.
 pub fn law_join_examples()
     ensures related { joined (of_number 13) (of_number 18) ≡ of_number 11 }
     ensures level { joined (array 1 (of_class 30)) (array 1 (of_class 29)) ≡ array 1 (of_class 29) }

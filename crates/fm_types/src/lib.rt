@@ -1,7 +1,7 @@
 // Which type fits which, the joins of types, and what it means that a method is typed (JVMS 4.10).
 //
 // The layers above use that what fits is an order, that `join` gives the least type above two, and that
-// the rows of the instructions tell what a state is after an item and keep that order.
+// the rows of the instructions give the state after an item and keep that order.
 #![tactic(auto)]
 
 mod chains;

@@ -3,7 +3,7 @@
 
 use fm_base::TypeRef;
 
-/// What stands in a local variable or in a word of the operand stack.
+/// What a local variable or a word of the operand stack holds.
 #[derive(Clone, Copy, Debug, PartialEq, Eq, PartialOrd, Ord, Hash)]
 pub enum Slot {
     /// Anything; the second half of a long too.

@@ -52,7 +52,7 @@ impl Stack {
         self.items.len()
     }
 
-    /// The slot at this depth, 0 at the top; none where the stack isn't so deep.
+    /// The slot at this depth, 0 at the top; none where the stack isn't deep enough.
     pub fn get(&self, depth: usize) -> Option<Slot>
         ensures { result ≡ slice_get self.now depth }
     {
@@ -86,7 +86,7 @@ impl Stack {
         self.items.pop()
     }
 
-    /// Takes so many slots from the top; the stack is at least so deep.
+    /// Takes this number of slots from the top; the stack has at least as many.
     pub fn drop_top(&mut self, count: usize)
         requires { count ≤ length self.old }
         ensures { self.new ≡ drop count self.old }

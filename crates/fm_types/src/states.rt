@@ -13,7 +13,7 @@ use std::alloc::Global;
 /// same object has returned; in other methods it is true.
 #[derive(Debug, Drop)]
 pub struct State {
-    /// As many as the method has; the parameters stand first.
+    /// As many as the method has; the parameters come first.
     pub locals: Vec<Slot>,
     /// The words of the operand stack.
     pub stack: Stack,

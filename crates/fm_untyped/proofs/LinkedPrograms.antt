@@ -22,7 +22,7 @@ use Rattle.fm_world.specs.declared.declarations.DeclaredMethod.{DeclaredMethod}
 
 -- ---- the codes of files
 
--- it stands in a class file, and its counts are within their limits
+-- it is in a class file, and its counts are within their limits
 abbrev IsGood : Code → Type 0
 IsGood code = MeetsCodeRules code × IsNarrow code
 
@@ -85,7 +85,7 @@ coded_at : (m : DeclaredMethod) (row : Option ℕ) (code : Code) → ((r : ℕ) 
 coded_at m None code none = refl
 coded_at m (Some r) code none = absurd (let e = none r refl in cc)
 
--- Of accepted class files against which no cause stands: their program may be checked.
+-- Of accepted class files that have no cause of refusal: their program may be checked.
 pub are_checkable : (given : List ClassDef) (main : List ℕ) → AllByRecursion HasSpelling given → AllByRecursion IsWithinLimits given
     → refusals given main ≡ [] → AreCheckable (program_of given main)
 unfolding program_of outline_of method_info

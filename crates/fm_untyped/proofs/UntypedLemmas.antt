@@ -1,4 +1,4 @@
--- Which methods have code, and what the checker's answers say of them.
+-- Which methods have code, and what the checker's results mean for them.
 use Rattle.std.proofs.Common.{◌≡◌, refl, sym, ◌∙◌, ap, ℕ, ◌<◌, ◌≤◌, ⊎_elim, inl, inr, length, Bool, true, false, Option, Some, None, IfSome, IsSome, IsSomeAnd, MatchBool, is_some, arith}
 use Rattle.std.proofs.lemmas.Bool.{cases_lt, false≢true}
 use Rattle.fm_code.specs.declared.code_array.Code.{Code}
@@ -67,7 +67,7 @@ first_inside p method may first = at (code_at p method) (may.codes method) first
   at None may there = absurd (false≢true there)
   at (Some code) may there = may.0.inside
 
--- what was said of an answer
+-- what held of a result
 pub if_accepted : (A B : Type 0) (v : Bool) → v ≡ true → MatchBool v A B → A
 if_accepted A B true is says = says
 if_accepted A B false is says = absurd (false≢true is)

@@ -26,7 +26,7 @@ pub record IsFirstUntyped (p : Program) (method : ℕ) : Type 0 where
 
 -- ---- programs
 
--- what reading and linking make sure of: each code stands in a class file, for a method that is there, and its counts are within their limits
+-- what reading and linking make sure of: each code is in a class file, for a method that is there, and its counts are within their limits
 pub record AreCheckable (p : Program) : Type 0 where
   pub linked : IsCheckable p
   pub codes : (method : ℕ) → IfSome (code_at p method) (λ code. HasCode p method code × IsNarrow code)

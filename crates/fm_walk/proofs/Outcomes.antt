@@ -1,4 +1,4 @@
--- What a call tells in its two cases.
+-- What a call means in its two cases.
 use Rattle.std.proofs.Common.{◌≡◌, sym, Bool, true, false}
 use Rattle.std.specs.Prelude.{Err, IfOk, MatchBool, Ok, Result}
 use Rattle.std.proofs.lemmas.Bool.{false≢true}

@@ -1,2 +1,2 @@
--- What serves the proofs alone: how the walk over items stands.
+-- What only serves the proofs: the state of the walk over items.
 pub mod Walks

@@ -1,5 +1,5 @@
-// Carrying slots to places of an item: what it costs is told by the number of these places, and not by that
-// of all locals and words.
+// Carrying slots to places of an item: what it costs depends on the number of these places, and not
+// on that of all locals and words.
 
 ghost use Rattle.std.specs.Prelude.{IfOk, MatchBool};
 ghost use Rattle.fm_walk.specs.inner.Walks.{CanCarry, CanCarryOne, Carries, CarriesOne, Stands, Untypable, walked};

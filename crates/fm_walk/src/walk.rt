@@ -31,7 +31,7 @@ pub struct Walk {
     risen: Vec<Option<Seq<Place>>>,
 }
 
-// So many items without a state.
+// A vector of `items` items without a state.
 fn no_states(alloc: Global, items: usize) -> Result<Vec<Option<Known>>, NoMemory>
     ensures { IfOk result (λ states. states_seen states.items ≡ replicate items None) }
 {
@@ -62,7 +62,7 @@ fn put(states: &mut Vec<Option<Known>>, item: u32, known: Known)
     states[item as usize] = Some(known);
 }
 
-// So many items of which nothing is carried on yet.
+// A vector of `items` items of which nothing is carried on yet.
 fn nothing_noted(alloc: Global, items: usize) -> Result<Vec<Option<Seq<Place>>>, NoMemory>
     ensures { IfOk result (λ risen. risen.items ≡ replicate items None) }
 {
@@ -99,7 +99,7 @@ pub fn most_noted(code: &Code) -> usize {
     usize::from(code.max_locals) + usize::from(code.max_stack)
 }
 
-// So many words have numbers of 16 bits. It does nothing.
+// Lets the prover see that a `u16` is at most 65535. It does nothing.
 fn law_few(_words: u16)
     ensures { _words ≤ 65535 }
 {}
@@ -173,7 +173,7 @@ impl Walk {
         self.wait(item)
     }
 
-    /// Puts a slot at a place of an item's state that is above what stands there, and lets the item
+    /// Puts a slot at a place of an item's state that is above what is there, and lets the item
     /// wait.
     pub fn raise_slot(
         &mut self,

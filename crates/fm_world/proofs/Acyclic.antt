@@ -1,4 +1,4 @@
--- Where no chain leads into a cycle, superclasses and superinterfaces are told step by step. For the code that fills tables from the uppermost
+-- Where no chain leads into a cycle, superclasses and superinterfaces are computed step by step. For the code that fills tables from the uppermost
 -- class down.
 use Rattle.std.proofs.Common.{◌≡◌, refl, sym, ◌∙◌, ap, ℕ, zero, suc, ◌<◌, ◌||◌, Bool, true, false, List, [], ◌∷◌, ◌++◌, length, Option, Some, None, nat_eq}
 use Rattle.std.specs.List.{flat_map, list_any}

@@ -22,7 +22,7 @@ earlier (suc n) a k h =
     (filter (λ t. not (same_type (type_of_class k) t)) (map type_of_class (range_with_len (a + 1) n)))) differs
     ∙ ap (λ xs. type_of_class a ∷ xs) (earlier n (a + 1) k (omega (arith, h)))
 
--- each stands once where others follow, and the others after them
+-- each occurs once where others follow, and the others after them
 record BeginsWith (xs ys : List TypeRef) : Type 0 where
   rest : List TypeRef
   joined : ys ≡ xs ++ rest
@@ -40,7 +40,7 @@ distinct_types (suc n) a others =
           ∙ ap (λ ts. ts ++ filter keeps later.rest) (earlier n (a + 1) a (omega arith)));
     }
 
--- where the types of the classes stand first, that of a class is found at its number
+-- where the types of the classes come first, that of a class is found at its number
 found_first : (n class : ℕ) (rest : List TypeRef) → class < n
     → position (same_type (type_of_class class)) (map type_of_class (range_with_len 0 n) ++ rest) ≡ Some class
 found_first n class rest h =

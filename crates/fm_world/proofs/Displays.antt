@@ -1,4 +1,4 @@
--- A class is among another one's superclasses exactly where it stands in the display of the other one at its own depth.
+-- A class is among another one's superclasses exactly where it is in the display of the other one at its own depth.
 use Rattle.std.proofs.Common.{◌≡◌, refl, sym, ◌∙◌, ap, subst, ℕ, zero, suc, ◌-◌, ◌<◌, ◌≤◌, ◌||◌, Bool, true, false, List, [], ◌∷◌, ◌++◌, length, reverse, get_or, nat_eq, Option, Some, None, option_and_then, arith}
 use Rattle.std.proofs.lemmas.Bool.{eqb-true, eq-eqb, false≢true}
 use Rattle.std.proofs.lemmas.List.{reverse-append, length-reverse, length-append, append_assoc, get_or_at}
@@ -94,7 +94,7 @@ is_among_at (y ∷ ys) (suc i) x h e = ap (λ b. nat_eq x y || b) (is_among_at y
 
 -- ---- displays
 
--- where one list ends with another one, the other's first element stands in the one's reverse, as deep as it stands in its own
+-- where one list ends with another one, the other's first element is in the one's reverse, as deep as it is in its own
 pub record StandsAt (lower : List ℕ) (depth x : ℕ) : Type 0 where
   pub within : depth < length lower
   pub there : get_or lower depth 0 ≡ x
@@ -125,7 +125,7 @@ stands_in_display classes linear class other within other_within lower upper low
     ∙ ap reverse (ends.joined ∙ ap (λ ys. ends.front ++ ys) own))
     (upper_is ∙ ap reverse own)
 
--- what the code answers at the depth, and past the display's end
+-- what the code returns at the depth, and past the display's end
 pub among_at_depth : (classes : List DeclaredClass) → IsLinear classes → (class other : ℕ) → class < length classes → other < length classes
     → (lower upper : List ℕ) → lower ≡ reverse (chain_of classes class) → upper ≡ reverse (chain_of classes other) → length upper - 1 < length lower
     → nat_eq (get_or lower (length upper - 1) 0) other ≡ is_among other (chain_of classes class)

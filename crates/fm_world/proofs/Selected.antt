@@ -1,4 +1,4 @@
--- The table of a class answers which method is selected.
+-- The table of a class gives the method that is selected.
 use Rattle.std.proofs.Common.{◌≡◌, sym, ◌∙◌, ap, subst, ℕ, ◌<◌, false, List, length, get_or, nat_eq, HashMap, BuildHasherDefault, FoldHasher}
 use Rattle.std.specs.HashMap.{get}
 use Rattle.fm_code.specs.AccessFlags.{is_private}

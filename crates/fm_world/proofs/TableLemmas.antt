@@ -1,4 +1,4 @@
--- The tables of a program answer what the definitions say, read from its parts.
+-- The tables of a program return what the definitions say, read from its parts.
 use Rattle.std.proofs.Common.{◌≡◌, refl, sym, ◌∙◌, ap, subst, ℕ, ◌<◌, List, length, map, zero-add, get_or, Option, Some, None, slice_get, IsSomeAnd}
 use Rattle.std.proofs.lemmas.Option.{slice_get_within, slice_get_read}
 use Rattle.std.proofs.lemmas.List.FromFn.{length-map-range_with_len, get_or-map-range_with_len}

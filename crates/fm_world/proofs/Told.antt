@@ -1,4 +1,4 @@
--- What the records tell, field by field, and the cases of the selected method.
+-- What the records hold, field by field, and the cases of the selected method.
 use Rattle.std.proofs.Common.{length, [], ◌∷◌, filter, ◌⊎◌, inl, inr, ◌&&◌, not, Bool, unwrap_or, Option, None, nat_lt, arith, ◌≡◌, refl, ◌∙◌, ap, ℕ, ◌<◌, true, false, List, Some, if◌then◌else◌}
 use Rattle.std.specs.List.{range_with_len}
 use Rattle.std.proofs.lemmas.Bool.{eq-eqb, ne_eqb, lt-ltb, le-ltb}

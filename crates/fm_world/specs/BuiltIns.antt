@@ -86,7 +86,7 @@ string_methods =
     ∷ static_method (codes "valueOf") (codes "(Z)Ljava/lang/String;") 14
     ∷ []
 
--- the methods of a class that builds texts; its name stands in what append answers
+-- the methods of a class that builds texts; its name is in the result type of append
 abbrev pub builder_methods : List ℕ → List DeclaredMethod
 builder_methods name =
     let answer = codes ")L" ++ name ++ codes ";" in

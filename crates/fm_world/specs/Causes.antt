@@ -38,7 +38,7 @@ pub data Cause : Type 0 where
   NotImplemented : Cause
   NoMain : Cause
 
--- what is refused, by its name, and the class in whose file that name stands
+-- what is refused, by its name, and the class whose file has that name
 pub record Refusal : Type 0 where
   pub cause : Cause
   pub name : List ℕ
@@ -107,7 +107,7 @@ abbrev pub is_array_name : List ℕ → Bool
 is_array_name [] = false
 is_array_name (c ∷ rest) = c == LEFT_BRACKET
 
--- whether so many superclasses follow: with the number of all classes, whether the chain leads into a cycle
+-- whether a given number of superclasses follow: with the number of all classes, whether the chain leads into a cycle
 abbrev pub goes_up : ℕ → List DeclaredClass → Option ℕ → Bool
 goes_up bound classes None = false
 goes_up zero classes (Some class) = true

@@ -14,7 +14,7 @@ use Rattle.fm_world.specs.Descriptors.{class_number}
 
 -- ---- lists
 
--- each element once, where it stands first
+-- each element once, where it occurs first
 abbrev pub distinct : {A : Type 0} → (A → A → Bool) → List A → List A
 distinct same [] = []
 distinct same (x ∷ xs) = x ∷ filter (λ y. not (same x y)) (distinct same xs)
@@ -41,7 +41,7 @@ class_at classes class = slice_index_or classes class no_class
 abbrev pub parent_of : List DeclaredClass → ℕ → Option ℕ
 parent_of classes class = option_and_then (class_number classes) (class_at classes class).superclass
 
--- a class and its superclasses upwards, of at most so many classes
+-- a class and its superclasses upwards, of at most a given number of classes
 abbrev pub upwards : ℕ → List DeclaredClass → Option ℕ → List ℕ
 upwards zero classes class = []
 upwards (suc bound) classes None = []
@@ -61,7 +61,7 @@ superclasses_of classes class = drop 1 (chain_of classes class)
 abbrev pub listed_interfaces : List DeclaredClass → ℕ → List ℕ
 listed_interfaces classes class = filter_map (class_number classes) (class_at classes class).interfaces
 
--- each listed interface and then its own ones, each once where it is met first, down to so many levels
+-- each listed interface and then its own ones, each once where it is met first, down to a given number of levels
 abbrev pub interfaces_within : ℕ → List DeclaredClass → ℕ → List ℕ
 interfaces_within zero classes class = []
 interfaces_within (suc bound) classes class =

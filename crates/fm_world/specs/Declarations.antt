@@ -17,7 +17,7 @@ use Rattle.fm_code.specs.declared.class_file.MemberAttr.TheVariants as attribute
 
 -- ---- where there is none
 
--- what stands for a member or a class whose number is too high: none of the program is like it
+-- the value for a member or a class whose number is too high: none of the program is like it
 abbrev pub no_field : DeclaredField
 no_field = record { name = []; descriptor = []; flags = 0; value = None }
 

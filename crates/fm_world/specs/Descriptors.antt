@@ -12,12 +12,12 @@ use Rattle.fm_world.specs.declared.declarations.DeclaredClass.{DeclaredClass}
 
 -- ---- types by their names
 
--- a type of so many dimensions
+-- a type of a given number of dimensions
 abbrev pub typed : ℕ → BaseType → FieldType
 typed dimensions base = record { dimensions = dimensions; base = base }
 
 -- The types in a descriptor from left to right, V among them. At a type the dimensions so far are counted; in a class's name, its characters so
--- far are kept. Parentheses stand only between types.
+-- far are kept. Parentheses occur only between types.
 abbrev pub types_from : ℕ → Option (List ℕ) → List ℕ → List FieldType
 types_from dimensions name [] = []
 types_from dimensions None (c ∷ rest) =

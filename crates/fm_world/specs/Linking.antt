@@ -54,7 +54,7 @@ refusals given main =
     ++ refused_not_implemented given
     ++ refused_main given main
 
--- the answer: the program where nothing is refused, and else the first refusal
+-- the result: the program where nothing is refused, and else the first refusal
 abbrev pub IsLinked : List ClassDef → List ℕ → Result Program Refusal → Type 0
 IsLinked given main (Ok program) = (refusals given main ≡ []) × (program ≡ program_of given main)
 IsLinked given main (Err refusal) = slice_get (refusals given main) 0 ≡ Some refusal

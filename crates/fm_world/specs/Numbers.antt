@@ -43,7 +43,7 @@ abbrev pub arrays_in : TypeRef → List TypeRef
 arrays_in t = map (λ fewer. record { dims = t.dims - fewer; base = t.base }) (range_with_len 0 t.dims)
 
 -- The types that have a number: those of the classes; then those that uses name, in the order in which they are met; then the arrays that are
--- made and the element types of all these. Each stands once.
+-- made and the element types of all these. Each occurs once.
 unfoldable pub types_of : List DeclaredClass → List ClassDef → List TypeRef
 types_of classes given =
     let used = used_types classes given in

@@ -146,7 +146,7 @@ program_of given main =
     let o = outline_of given main in
     record { outline = o; uses = uses_of o given; codes = codes_of given; made = None }
 
--- ---- what it tells of a class, of a method and of a field
+-- ---- what it records about a class, a method and a field
 
 -- a class as the code numbers it
 abbrev pub class_id : ℕ → ClassId
@@ -156,7 +156,7 @@ class_id class = record { 0 = class }
 abbrev pub method_id : ℕ → MethodId
 method_id method = record { 0 = method }
 
--- what a program tells of a class
+-- what a program records about a class
 unfoldable pub class_info : Outline → ℕ → ClassInfo
 class_info o class =
     let c = class_at o.classes class in
@@ -185,7 +185,7 @@ body_of m code = by_row m.row where
 abbrev pub code_at : Program → ℕ → Option Code
 code_at p method = slice_index_or p.codes method None
 
--- what a program tells of a method
+-- what a program records about a method
 unfoldable pub method_info : Program → ℕ → MethodInfo
 method_info p method =
     let owned = method_at p.outline.classes method in
@@ -207,7 +207,7 @@ first_value o (Some (constant.Int value)) = resolved.OfInt value
 first_value o (Some (constant.Long value)) = resolved.OfLong value
 first_value o (Some (constant.Text text)) = with_number resolved.OfText (text_number o.texts (units text))
 
--- what a program tells of a field
+-- what a program records about a field
 unfoldable pub field_info : Outline → ℕ → FieldInfo
 field_info o field =
     let owned = field_at o.classes field in

@@ -1,4 +1,4 @@
--- Which indices of its pool a class uses, and what names stand there.
+-- Which indices of its pool a class uses, and what names are there.
 use Rattle.std.specs.Prelude.{ℕ, ◌+◌, Bool, List, [], ◌∷◌, ◌++◌, map, length, Option, Some, None, option_map, option_and_then, nat_lt, if◌then◌else◌, filter}
 use Rattle.std.specs.List.{flat_map, filter_map, range_with_len}
 use Rattle.fm_base.specs.declared.kinds.Base.{Base}

@@ -1,4 +1,4 @@
--- What serves the proofs alone: how the program lies in the memory of the code.
+-- What only serves the proofs: how the program lies in the memory of the code.
 pub mod BuiltInTable
 pub mod Layers
 pub mod Nodes

@@ -20,9 +20,9 @@ ghost use Rattle.fm_world.specs.Members.{kinds_of, methods_of, size_of, slot_of}
 ghost use Rattle.fm_world.specs.Programs.{Program, classes_of, program_of, targets};
 
 /// Facts of the built-in classes: how many there are, with how many methods; the rows are numbered
-/// without a gap in the order in which they first stand; the row of `FreeMe.free`; the constructor of
-/// the last throwable has the row of that of `Throwable`; an object of a throwable has one hidden
-/// field, which leads to a text.
+/// without a gap in the order in which they first occur; the row of `FreeMe.free`; the constructor
+/// of the last throwable has the row of that of `Throwable`; an object of a throwable has one
+/// hidden field, which leads to a text.
 pub fn law_built_in()
     ensures classes { length built_in ≡ 28 }
     ensures methods { length (methods_of built_in) ≡ 86 }
@@ -38,7 +38,7 @@ pub fn law_built_in()
         (class_number built_in (codes "java/lang/NullPointerException")) ≡ Some hidden_kinds }
 {}
 
-/// The definitions at interfaces and at private methods: superinterfaces stand in listed order, each
+/// The definitions at interfaces and at private methods: superinterfaces come in listed order, each
 /// once; an abstract method of one is missed; a private method isn't selected for another one, but for
 /// itself, and a special call finds it.
 pub fn law_lookup_examples()
@@ -77,7 +77,7 @@ pub fn law_cast_examples()
 {}
 
 /// Neighbours of these classes are refused: each with its cause, the name and the class in whose file
-/// the name stands.
+/// the name is.
 pub fn law_refused_examples()
     ensures duplicate { slice_get (refusals (example_main ∷ example) (codes "M")) 0
         ≡ Some (refusal Duplicate (codes "M") (codes "M")) }
@@ -94,7 +94,7 @@ pub fn law_refused_examples()
 
 /// Where no chain leads into a cycle, a class's superclasses are its superclass and the superclasses
 /// of that one, and its superinterfaces are each listed interface with its own ones. So both can be
-/// told from the uppermost classes down.
+/// computed from the uppermost classes down.
 pub fn law_acyclic()
     ensures superclasses { (classes : List DeclaredClass) → IsAcyclic classes → IsLinear classes }
     ensures interfaces { (classes : List DeclaredClass) → IsAcyclic classes → (class : ℕ)
@@ -102,7 +102,7 @@ pub fn law_acyclic()
         (flat_map (λ i. i ∷ superinterfaces_of classes i) (listed_interfaces classes class)) }
 {}
 
-/// Class files have one answer: a program, or one refusal.
+/// Linking has one result: a program, or one refusal.
 pub fn law_one_answer()
     ensures { (given : List ClassDef) (main : List ℕ) (a b : Result Program Refusal)
         → IsLinked given main a → IsLinked given main b → a ≡ b }

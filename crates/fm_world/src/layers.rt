@@ -85,7 +85,7 @@ impl Layers {
         self.put_below(self.levels, table, key, entry)
     }
 
-    // The node that has the entry so many levels below it.
+    // The node that has the entry a given number of levels below it.
     fn put_below(&mut self, level: u32, node: u32, key: u32, entry: u32) -> Result<u32, NoMemory>
         requires node { IsNode self.old.nodes.items level node }
         requires room { key < 8 ^ level }
@@ -110,7 +110,7 @@ impl Layers {
     }
 }
 
-// So many levels have room for keys below that count.
+// How many levels have room for keys below that count.
 fn levels_of(keys: u32) -> u32
     ensures { keys ≤ 8 ^ result }
 {

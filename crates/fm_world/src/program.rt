@@ -199,7 +199,7 @@ impl Program {
     }
 
     /// Whether the first class is the second one or below it: one of its superclasses, or an interface
-    /// that it implements. Of a class that isn't an interface it is answered at once, and else the
+    /// that it implements. For a class that isn't an interface it returns at once, and else the
     /// interfaces of the first class are gone over. Takes no memory.
     pub fn is_subclass(&self, c: ClassId, d: ClassId) -> bool
         requires first { c.0 < length self.now.outline.classes }
@@ -507,8 +507,8 @@ impl Program {
         self.parts.displays.as_slice()[c.0 as usize].as_slice()
     }
 
-    /// Whether the second class is the first one or one of its superclasses. Takes no memory, and is
-    /// answered at once: the second class stands in the display of the first one at its own depth.
+    /// Whether the second class is the first one or one of its superclasses. Takes no memory, and
+    /// returns at once: the second class is in the display of the first one at its own depth.
     pub fn is_in_chain(&self, c: ClassId, d: ClassId) -> bool
         requires first { c.0 < length self.now.outline.classes }
         requires second { d.0 < length self.now.outline.classes }

@@ -1,4 +1,4 @@
-// What a linked program tells of a class, of a method and of a field.
+// What a linked program records about a class, a method and a field.
 
 use crate::shared::Shared;
 use crate::uses::Use;

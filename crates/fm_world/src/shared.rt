@@ -1,4 +1,4 @@
-// Values with several owners, so that a text which many members have stands in memory once.
+// Values with several owners, so that a text which many members have is in memory once.
 
 ghost use Rattle.std.specs.Prelude.{◌≡◌, IfOk, length};
 ghost use Rattle.std.specs.Cmp.Lexicographic.{pointwise, lists_per, lists_equiv};

@@ -1,4 +1,5 @@
-// Attributes by their names and bytes (JVMS 4.7). After `NoMemory` only some bytes stand in `out`.
+// Attributes by their names and bytes (JVMS 4.7). After `NoMemory` `out` may hold only some of the
+// bytes.
 
 ghost use Rattle.std.specs.Prelude.{◌≡◌, ◌++◌, length, OnOk};
 ghost use Rattle.fm_code.specs.ClassBytes.{attribute_bytes, counted, raw_bytes};

@@ -44,7 +44,7 @@ fn bytes_of(alloc: Global, class: &ClassDef) -> Result<Vec<u8>, NoMemory>
     Ok(out)
 }
 
-/// Appends indices after their number. After `NoMemory` only some bytes stand in `out`.
+/// Appends indices after their number. After `NoMemory` `out` may hold only some of the bytes.
 fn put_indices(indices: &[u16], out: &mut Vec<u8>) -> Result<(), NoMemory>
     requires { FitsTwo (length indices.now) }
     ensures { OnOk result (out.new.items ≡ out.old.items ++ counted two indices.now) }

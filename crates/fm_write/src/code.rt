@@ -1,4 +1,4 @@
-// Code attributes (JVMS 4.7.3). After `NoMemory` only some bytes stand in `out`.
+// Code attributes (JVMS 4.7.3). After `NoMemory` `out` may hold only some of the bytes.
 
 ghost use Rattle.std.specs.Prelude.{◌≡◌, ◌++◌, IfOk, OnOk};
 ghost use Rattle.std.specs.List.{flat_map};

@@ -1,4 +1,4 @@
-// Fields and methods (JVMS 4.5, 4.6). After `NoMemory` only some bytes stand in `out`.
+// Fields and methods (JVMS 4.5, 4.6). After `NoMemory` `out` may hold only some of the bytes.
 
 ghost use Rattle.std.specs.Prelude.{◌≡◌, ◌++◌, OnOk};
 ghost use Rattle.fm_code.specs.ClassBytes.{counted, member_attribute_bytes, member_bytes};

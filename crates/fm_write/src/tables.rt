@@ -1,5 +1,5 @@
 // The tables of a Code attribute (JVMS 4.7.3, 4.7.13, 4.7.14). They name offsets in the code, and the
-// records name items. After `NoMemory` only some bytes stand in `out`.
+// records name items. After `NoMemory` `out` may hold only some of the bytes.
 
 ghost use Rattle.std.specs.Prelude.{◌≡◌, ◌++◌, length, IfOk, OnOk};
 ghost use Rattle.std.specs.List.{AllByRecursion};

@@ -15,7 +15,7 @@ pub record AreSound (classes : List DeclaredClass) : Type 0 where
   pub acyclic : IsAcyclic classes
   pub only_interfaces : (class : ℕ) → AreInterfaces classes (listed_interfaces classes class)
 
--- each class stands in the list, after its superclass
+-- each class is in the list, after its superclass
 pub record IsDownwards (classes : List DeclaredClass) (order : List ℕ) : Type 0 where
   pub all : (class : ℕ) → class < length classes → is_among class order ≡ true
   pub only : (class : ℕ) → is_among class order ≡ true → class < length classes
@@ -27,7 +27,7 @@ abbrev pub is_this : ℕ → Option ℕ → Bool
 is_this number None = false
 is_this number (Some n) = nat_eq n number
 
--- the number stands so far from the end of a chain, and not as the first of it
+-- the number is at this distance from the end of a chain, and isn't the first of it
 abbrev pub stands_above : List ℕ → ℕ → ℕ → Bool
 stands_above chain far number = nat_lt far (length chain) && is_this number (slice_get chain (length chain - far))
 
@@ -46,7 +46,7 @@ pub record AreAncestors (classes : List DeclaredClass) (a : Ancestors) : Type 0 
 abbrev pub distinct_path : List DeclaredClass → ℕ → List ℕ
 distinct_path classes class = distinct nat_eq (field_path classes class)
 
--- the second class stands in the chain of the first one as far from its end as its own chain is long
+-- the second class is in the chain of the first one as far from its end as its own chain is long
 abbrev pub is_superclass_in : Hierarchy → ℕ → ℕ → Bool
 is_superclass_in h class other = stands_above (list_in h.chains.items class) (length (list_in h.chains.items other)) other
 

@@ -16,7 +16,7 @@ use Rattle.fm_above.specs.inner.ParentTable.{parent_at}
 abbrev pub is_set : List Bool → ℕ → Bool
 is_set marks place = slice_index_or marks place false
 
--- of each class so many interfaces at the front of its list have no mark
+-- of each class a given number of interfaces at the front of its list have no mark
 abbrev pub HavePassed : List Bool → List (List ℕ) → List ℕ → Type 0
 HavePassed marks listed passed =
     (class i : ℕ) → i < slice_index passed class → i < length (slice_index_or listed class [])
@@ -30,7 +30,7 @@ above_by interfaces above = distinct nat_eq (flat_map (λ i. i ∷ slice_index_o
 abbrev pub settled_one : List ℕ → Bool → List (List ℕ) → ℕ → List (List ℕ)
 settled_one interfaces is_settled above class = if is_settled then slice_set above class (above_by interfaces above) else above
 
--- the table after a round over so many classes, by the marks before it and after it
+-- the table after a round over a given number of classes, by the marks before it and after it
 abbrev pub settled_to : List (List ℕ) → List Bool → List Bool → List (List ℕ) → ℕ → List (List ℕ)
 settled_to listed before after above zero = above
 settled_to listed before after above (suc class) =
@@ -71,7 +71,7 @@ pub record IsAboveTo (classes : List DeclaredClass) (round : ℕ) (above : List 
   pub found : (class : ℕ) → class < length classes → goes_deep round classes class ≡ false
       → slice_index_or above class [] ≡ superinterfaces_of classes class
 
--- what is found after so many rounds
+-- what is found after a given number of rounds
 pub record AreFoundTo (classes : List DeclaredClass) (round : ℕ) (found : Superinterfaces) : Type 0 where
   pub goes_on : found.leads_into_cycle.items ≡ map (goes_deep round classes) (numbers_below (length classes))
   pub above : IsAboveTo classes round (lists found.above.items)

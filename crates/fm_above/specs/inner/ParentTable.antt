@@ -6,13 +6,13 @@ use Rattle.std.specs.List.{slice_index_or}
 abbrev pub parent_at : List (Option ℕ) → ℕ → Option ℕ
 parent_at parents class = slice_index_or parents class None
 
--- whether so many superclasses follow
+-- whether a given number of superclasses follow
 abbrev pub climbs : ℕ → List (Option ℕ) → Option ℕ → Bool
 climbs bound parents None = false
 climbs zero parents (Some class) = true
 climbs (suc bound) parents (Some class) = climbs bound parents (parent_at parents class)
 
--- a class and its superclasses upwards, of at most so many classes
+-- a class and its superclasses upwards, of at most a given number of classes
 abbrev pub upwards_by : ℕ → List (Option ℕ) → Option ℕ → List ℕ
 upwards_by zero parents class = []
 upwards_by (suc bound) parents None = []

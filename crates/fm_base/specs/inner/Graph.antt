@@ -1,4 +1,4 @@
--- How the walk over a graph stands: the ends of the pairs as a list for each node, and the nodes reached so far.
+-- The state of the walk over a graph: the ends of the pairs as a list for each node, and the nodes reached so far.
 use Rattle.std.specs.Prelude.{◌≡◌, ◌≢◌, ℕ, ◌+◌, ◌*◌, ◌/◌, ◌%◌, ◌≤◌, ◌<◌, ◌⊎◌, ◌==◌, List, length, Contains, slice_index, count_by, if◌then◌else◌}
 use Rattle.std.specs.List.{slice_index_or}
 use Rattle.fm_base.specs.declared.graph.Adjacency.{Adjacency}

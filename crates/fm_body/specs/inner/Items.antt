@@ -7,7 +7,7 @@ use Rattle.fm_code.specs.SpellsCode.{LocalsFit, SpellsCode}
 use Rattle.fm_code.specs.declared.constant_pool.Entry.{Entry}
 use Rattle.fm_code.specs.declared.code_array.Item.{Item}
 
--- the method of an interface at an index takes as many words as the item tells
+-- the method of an interface at an index takes as many words as the item says
 abbrev pub TakesCounted : List Entry → Item → ℕ → Type 0
 TakesCounted entries item index = IsSomeAnd (interface_method_at entries index) (λ m. TakesWords (count_of item) m.descriptor)
 

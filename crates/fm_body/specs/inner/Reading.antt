@@ -18,7 +18,7 @@ use Rattle.fm_body.specs.declared.code.CodeHead.{CodeHead as HeadParts}
 use Rattle.fm_body.specs.declared.code.CodeTables.{CodeTables as TableParts}
 use Rattle.fm_body.specs.inner.Places.{find_item, find_place}
 
--- ---- what stands before the tables
+-- ---- what is before the tables
 
 -- max_stack, max_locals and the code array
 pub record CodeHead : Type 0 where

@@ -21,7 +21,7 @@ use Rattle.fm_types.specs.Typed.{caught_type, FitsAt, FitsHandler, handler_state
 
 -- ---- runs
 
--- where the run that an item stands in stands among those of a level
+-- the place of an item's run among the runs of a level
 abbrev pub halved : ℕ → ℕ → ℕ
 halved zero item = item
 halved (suc level) item = halved level item / 2
@@ -38,7 +38,7 @@ entries_in runs place = slice_index_or (entries_of runs) place []
 abbrev pub shape : List Level → List (List (List Handler))
 shape levels = map (λ (level : Level). entries_of level.runs.items) levels
 
--- those of the run of a level that an item stands in
+-- those of the run of a level that holds an item
 abbrev pub entries_at : List (List (List Handler)) → ℕ → ℕ → List Handler
 entries_at entries level item = slice_index_or (slice_index_or entries level []) (halved level item) []
 
@@ -64,18 +64,18 @@ IsShort most span = span.end - span.first ≤ most
 abbrev pub AreFresh : List Run → Type 0
 AreFresh runs = (run : Run) → Contains runs run → run.given ≡ None
 
--- more entries stand at runs: those for which this holds
+-- more entries are at runs: those for which this holds
 pub record AreMore (P : ℕ → Handler → Type 0) (old new : List Run) : Type 0 where
   pub still : (place : ℕ) (h : Handler) → Contains (entries_in old place) h → Contains (entries_in new place) h
   pub only : (place : ℕ) (h : Handler) → Contains (entries_in new place) h → Contains (entries_in old place) h ⊎ P place h
   pub fresh : AreFresh old → AreFresh new
 
--- there is a run at the place, and no more entries stand at any
+-- there is a run at the place, and no more entries are at any
 pub record IsMade (place : ℕ) (old new : List Run) : Type 0 where
   pub more : AreMore (λ other h. ⊥) old new
   pub inside : place < length new
 
--- one more entry stands at the run of this place
+-- one more entry is at the run of this place
 pub record IsOneMore (place : ℕ) (entry : Handler) (old new : List Run) : Type 0 where
   pub more : AreMore (λ other h. (other ≡ place) × (entry ≡ h)) old new
   pub there : Contains (entries_in new place) entry
@@ -85,7 +85,7 @@ pub record Spans (place : ℕ) (span : Span) : Type 0 where
   pub after_first : span.first ≤ place
   pub before_end : place < span.end
 
--- the span's entry stands at the first and the last of its runs
+-- the span's entry is at the first and the last of its runs
 pub record IsPut (span : Span) (runs : List Run) : Type 0 where
   pub first : span.first < span.end → Contains (entries_in runs span.first) span.entry
   pub last : span.first < span.end → Contains (entries_in runs (span.end - 1)) span.entry
@@ -99,7 +99,7 @@ pub record Puts (span : Span) (old new : List Run) : Type 0 where
 abbrev pub IsSpanned : List Span → ℕ → Handler → Type 0
 IsSpanned spans place h = (span : Span) × Contains spans span × (span.entry ≡ h) × Spans place span
 
--- entries stand where some spans have them: at the first and the last run of each, and at no run that none of them holds
+-- entries are where some spans have them: at the first and the last run of each, and at no run that none of them holds
 pub record IsNoted (spans : List Span) (runs : List Run) : Type 0 where
   pub put : (span : Span) → Contains spans span → IsPut span runs
   pub only : (place : ℕ) (h : Handler) → Contains (entries_in runs place) h → IsSpanned spans place h
@@ -111,11 +111,11 @@ pub record Holds (handlers : List Handler) (item : ℕ) (h : Handler) : Type 0 w
   pub after_start : h.start ≤ item
   pub before_end : item < h.end
 
--- an entry stands at one of the runs that the item stands in
+-- an entry is at one of the runs that hold the item
 abbrev pub IsMet : List (List (List Handler)) → ℕ → Handler → Type 0
 IsMet entries item h = (level : ℕ) × Contains (entries_at entries level item) h
 
--- each entry stands at a run of each item of its range, and at none of another item
+-- each entry is at a run of each item of its range, and at none of another item
 pub record IsCovered (handlers : List Handler) (entries : List (List (List Handler))) : Type 0 where
   pub covers : (item : ℕ) (h : Handler) → Holds handlers item h → IsMet entries item h
   pub holds : (level item : ℕ) (h : Handler) → Contains (entries_at entries level item) h → Holds handlers item h
@@ -227,7 +227,7 @@ pub record GivesLevel (W : Wanted) (t : Task) (place : ℕ) (runs given : List R
   pub held : AreGiven t new.states given
   pub done : (h : Handler) → Contains (entries_in runs place) h → W new.states h
 
--- the same of the runs of so many levels that an item stands in
+-- the same of the runs of a number of levels that hold an item
 pub record GivesLevels (W : Wanted) (t : Task) (item count : ℕ) (levels given : List Level) (old new : Walked) : Type 0 where
   pub went : Went t old new
   pub guarded : IsGuarded t new.states given
@@ -281,7 +281,7 @@ pub record LeavesAll (rises : List Rise) (run given : Run) (left : List Rise) : 
   pub same : given ≡ run
   pub all : left ≡ rises
 
--- what was given to it rose, and what stands where it did is left
+-- what was given to it rose, and what is where it did is left
 pub record RaisesRun (t : Task) (rises : List Rise) (run given : Run) (left : List Rise) : Type 0 where
   pub before : Known
   pub after : Known

@@ -6,7 +6,7 @@ use Rattle.fm_cells.specs.declared.headers.TheConstants.{BIRTH_BITS, CHAIN_BITS,
 use Rattle.fm_cells.specs.Sizes.{element_bits}
 use Rattle.fm_cells.specs.Objects.{Object}
 
--- the group of so many bits at a place of a word, the lowest first
+-- the group of a given number of bits at a place of a word, the lowest first
 abbrev pub digit : ℕ → ℕ → ℕ → ℕ
 digit bits place word = word / 2 ^ (bits * place) % 2 ^ bits
 

@@ -1,4 +1,4 @@
--- What the checker's answer says of the code that was walked over.
+-- What the checker's result means for the code that was walked over.
 use Rattle.std.specs.Prelude.{Ok, Err, Result}
 use Rattle.fm_check.specs.Checking.{IsNarrow, IsTooWide}
 use Rattle.fm_check.specs.declared.error.CheckFail.{CheckFail}

@@ -91,19 +91,19 @@ pub record CarriesAll (t : Task) (items : List ℕ) (rises : List Rise) (old new
 abbrev pub HandlerHasRoom : Task → List (Option TypeState) → ℕ → List Rise → Handler → Type 0
 HandlerHasRoom t states item rises h = Catches item h.handler h → All (HasRoom t states h.handler) rises
 
--- the handlers of an item can take what stands in its locals, and the items that follow it what stands at its places
+-- the handlers of an item can take what is in its locals, and the items that follow it what is at its places
 pub record IsReady (t : Task) (w : Walked) (item : ℕ) (i : Insn) (rises : List Rise) : Type 0 where
   pub small : item < 65535
   pub handlers : (h : Handler) → Contains t.code.handlers h → Catches item h.handler h → CanCarry t w h.handler (locals_of rises)
   pub items : (next : ℕ) → Contains (next_items i item) next → CanCarry t w next rises
 
--- what stands at places of an item was carried on
+-- what is at places of an item was carried on
 pub record CarriesOn (t : Task) (item : ℕ) (i : Insn) (rises : List Rise) (old new : Walked) : Type 0 where
   pub went : Went t old new
   pub handlers : AllByRecursion (HandlerHasRoom t new.states item (locals_of rises)) t.code.handlers
   pub items : (next : ℕ) → Contains (next_items i item) next → All (HasRoom t new.states next) rises
 
--- what stands at places of an item was carried on, and what was given to runs stays so
+-- what is at places of an item was carried on, and what was given to runs stays so
 pub record CarriesOnGuarded (t : Task) (item : ℕ) (i : Insn) (rises : List Rise) (given : List Level) (old new : Walked) : Type 0 where
   pub carries : CarriesOn t item i rises old new
   pub guarded : IsGuarded t new.states given

@@ -1,4 +1,4 @@
--- Reading from left to right: a piece is read to its value and the bytes after it. It serves the proofs of the parsers alone.
+-- Reading from left to right: a piece is read to its value and the bytes after it. It only serves the proofs of the parsers.
 use Rattle.std.specs.Prelude.{◌≡◌, ℕ, zero, suc, nat_lt, List, [], ◌∷◌, ◌++◌, length, take, drop, Option, Some, None, option_and_then, Result, Ok, Err, if◌then◌else◌}
 use Rattle.byteorder.specs.Endian.{big_number}
 use Rattle.fm_code.specs.declared.class_file.Raw.{Raw}
@@ -10,7 +10,7 @@ infixl 10 ◌>>=◌
 abbrev pub ◌>>=◌ : {A B : Type 0} → Option A → (A → Option B) → Option B
 o >>= f = option_and_then f o
 
--- what a failure tells of a reading: it fails too, unless memory ran out
+-- what a failure means for a reading: it fails too, unless memory ran out
 abbrev pub Fails : {Y : Type 0} → PieceFail → Option Y → Type 0
 Fails fail.Malformed reading = reading ≡ None
 Fails fail.NoMemory reading = Unit {0}
@@ -32,7 +32,7 @@ bytes_at size bytes = if nat_lt (length bytes) size then None else Some (take si
 
 -- ---- pieces one after the other
 
--- so many pieces
+-- a given number of pieces
 unfoldable pub several_at : {X : Type 0} → (List ℕ → Option (X × List ℕ)) → ℕ → List ℕ → Option (List X × List ℕ)
 several_at piece_at zero bytes = Some ([], bytes)
 several_at piece_at (suc count) bytes = do
@@ -56,7 +56,7 @@ with_prefix prefix reading = reading >>= λ x. Some (prefix ++ x.0, x.1)
 abbrev pub attribute_view : AttributeParts → Raw
 attribute_view a = record { name = a.name; bytes = a.bytes.now }
 
--- an attribute: its name, and so many bytes
+-- an attribute: its name, and a given number of bytes
 unfoldable pub raw_at : List ℕ → Option (Raw × List ℕ)
 raw_at bytes = do
   name ← number_at 2 bytes

@@ -11,7 +11,7 @@ use Rattle.fm_world.specs.declared.declarations.DeclaredClass.{DeclaredClass}
 abbrev pub text_numbered : List (List ℕ) → Option ℕ → List ℕ
 text_numbered texts number = unwrap_or (option_map (text_of texts) number) []
 
--- each text of a file's pool stands in the list under its number
+-- each text of a file's pool is in the list under its number
 abbrev pub HasTexts : List (List ℕ) → GivenFile → Type 0
 HasTexts texts file = (index : ℕ) → IsNumberOf texts (utf8_at file.class.now.pool.entries index) (text_in file index)
 

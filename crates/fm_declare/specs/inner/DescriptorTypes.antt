@@ -27,7 +27,7 @@ pub record DeclaresFewDimensions (c : DeclaredClass) : Type 0 where
   pub fields : AllByRecursion (λ (f : DeclaredField). HaveFewDimensions (types_in f.descriptor)) c.fields
   pub methods : AllByRecursion (λ (m : DeclaredMethod). HaveFewDimensions (types_in m.descriptor)) c.methods
 
--- the answer, where the dimensions fit a byte
+-- the result, where the dimensions fit a byte
 abbrev pub if_few : {A : Type 0} → FieldType → Option A → Option A
 if_few t answer = if nat_lt t.dimensions 256 then answer else None
 

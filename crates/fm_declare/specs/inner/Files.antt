@@ -24,7 +24,7 @@ class_of_entry e = None
 abbrev pub class_text_in : GivenFile → ℕ → Option ℕ
 class_text_in file index = option_and_then (text_in file) (class_of_entry (entry_at file.class.now.pool.entries index))
 
--- what stands at the two indices of a name with its descriptor, if both are there
+-- what is at the two indices of a name with its descriptor, if both are there
 abbrev pub pair_of_entry : {A : Type 0} → (ℕ → Option A) → Entry → Option (A × A)
 pair_of_entry at (entry.NameAndType name descriptor) = option_and_then (λ n. option_and_then (λ d. Some (n, d)) (at descriptor)) (at name)
 pair_of_entry at e = None

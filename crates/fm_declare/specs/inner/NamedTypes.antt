@@ -25,7 +25,7 @@ skipped c dimensions =
     if c == RIGHT_PARENTHESIS then Some 0 else
     None
 
--- the rest of a class's name and the bytes after its semicolon, whatever stands before
+-- the rest of a class's name and the bytes after its semicolon, whatever comes before
 abbrev pub SplitsClass : List ℕ → Option (Bor (List ℕ) × Bor (List ℕ)) → Type 0
 SplitsClass bytes None = (dimensions : ℕ) (name : List ℕ) → types_from dimensions (Some name) bytes ≡ []
 SplitsClass bytes (Some p) =

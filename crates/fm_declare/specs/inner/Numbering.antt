@@ -22,7 +22,7 @@ texts_in t = lent t.texts.items
 abbrev pub number_of_text : BTreeMap (Bor (List ℕ)) ℕ → List ℕ → Option ℕ
 number_of_text numbers text = get_by (λ (k : Bor (List ℕ)). slice_cmp nat_cmp text k.now) numbers
 
--- each text has the number of its place, and stands there alone
+-- each text has the number of its place, and is at no other
 pub record AreTexts (t : Texts) : Type 0 where
   pub numbered : (text : List ℕ) → number_of_text t.numbers text ≡ position (bytes_eq text) (texts_in t)
   pub once : (m n : ℕ) (text : List ℕ) → slice_get (texts_in t) m ≡ Some text → slice_get (texts_in t) n ≡ Some text → m ≡ n

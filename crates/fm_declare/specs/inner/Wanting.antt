@@ -8,7 +8,7 @@ use Rattle.fm_declare.specs.declared.wanted.Wanted.{Wanted}
 use Rattle.fm_world.specs.Causes.{wanted_at}
 use Rattle.fm_world.specs.Uses.{operand_of, pool_indices}
 
--- what flags come to that are wanted of one member, each for a static one or another one
+-- what these flags together want of one member, each flag for a static one or another one
 abbrev pub wanted_of : List Bool → Wanted
 wanted_of flags = record { in_class = list_any (λ b. b) flags; in_object = list_any not flags }
 

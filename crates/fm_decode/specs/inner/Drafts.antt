@@ -17,12 +17,12 @@ shape_at shape.TableSwitch = table_at
 shape_at shape.LookupSwitch = lookup_at
 shape_at s = plain_at s
 
--- so many of the bytes at an offset spell an instruction
+-- a given number of the bytes at an offset spell an instruction
 pub record BeginsWith (offset : ℕ) (bytes : List ℕ) (i : Insn) (count : ℕ) : Type 0 where
   pub within : count ≤ length bytes
   pub insn_is : insn_at offset (take count bytes) ≡ Some i
 
--- an item that stands in front of the bytes at an offset, with offsets for targets
+-- an item in front of the bytes at an offset, with offsets for targets
 pub record IsFront (offset : ℕ) (bytes : List ℕ) (item : Item) : Type 0 where
   pub offset_is : item.offset ≡ offset
   pub bytes_are : item.bytes ≡ take (length item.bytes) bytes

@@ -1,4 +1,4 @@
--- What a function that may run out of memory tells of a reading.
+-- What the result of a function that may run out of memory means for a reading.
 use Rattle.std.specs.Prelude.{◌≡◌, Option, Some, None, option_and_then, Result, Ok, Err}
 use Rattle.fm_decode.specs.declared.error.DecodeFail.{DecodeFail}
 use Rattle.fm_decode.specs.declared.error.DecodeFail.TheVariants as fail

@@ -1,4 +1,4 @@
--- The instructions other than switches, from what stands after their opcodes, each with the number of the bytes that belong to it.
+-- The instructions other than switches, from what follows their opcodes, each with the number of the bytes that belong to it.
 use Rattle.std.specs.Prelude.{ℕ, zero, suc, ◌==◌, nat_le, List, [], ◌∷◌, length, Option, Some, None, pos, ◌+ℤ◌, if◌then◌else◌}
 use Rattle.std.specs.List.{slice_index_or}
 use Rattle.std.specs.Option.{option_map}

@@ -1,4 +1,4 @@
--- The switches, from what stands after their opcodes, each with the number of the bytes that belong to it.
+-- The switches, from what follows their opcodes, each with the number of the bytes that belong to it.
 use Rattle.std.specs.Prelude.{ℕ, zero, suc, ◌+◌, ◌*◌, ◌/◌, nat_lt, List, [], ◌∷◌, length, drop, Option, Some, None, ℤ, pos, negsuc, ◌+ℤ◌, ◌-ℤ◌, int_lt, if◌then◌else◌}
 use Rattle.fm_code.specs.Numbers.{signed_four_of}
 use Rattle.fm_code.specs.InstructionTable.{padding_at, offset_from, are_rising}
@@ -33,7 +33,7 @@ abbrev pub pair_count : ℤ → ℕ → Option ℕ
 pair_count (pos count) left = if nat_lt (left / 8) count then None else Some count
 pair_count (negsuc n) left = None
 
--- the targets of so many jumps
+-- the targets of a given number of jumps
 unfoldable pub jumps_at : ℕ → ℕ → List ℕ → Option (List ℕ)
 jumps_at offset zero bytes = Some []
 jumps_at offset (suc count) bytes = do
@@ -42,7 +42,7 @@ jumps_at offset (suc count) bytes = do
   targets ← jumps_at offset count jump.1
   Some (target ∷ targets)
 
--- the keys and the targets of so many pairs
+-- the keys and the targets of a given number of pairs
 unfoldable pub pairs_at : ℕ → ℕ → List ℕ → Option (List ℤ × List ℕ)
 pairs_at offset zero bytes = Some ([], [])
 pairs_at offset (suc count) bytes = do

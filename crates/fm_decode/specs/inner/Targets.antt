@@ -18,12 +18,12 @@ AreRising offsets = (i j : ℕ) → i < j → j < length offsets → slice_index
 abbrev pub AllWithin : ℕ → List ℕ → Type 0
 AllWithin end offsets = (n : ℕ) → n < length offsets → slice_index offsets n < end
 
--- the number that stands in a list of numbers by offset
+-- the number at an offset in a list of numbers by offset
 abbrev pub number_in : List ℕ → ℕ → Option ℕ
 number_in numbers target =
     if nat_lt target (length numbers) then (if slice_index numbers target == NO_ITEM then None else Some (slice_index numbers target)) else None
 
--- the numbers of these items stand at their offsets, and no others stand anywhere
+-- the numbers of these items are at their offsets, and there are no others anywhere
 pub record AreStarts (offsets numbers : List ℕ) : Type 0 where
   pub each : (n : ℕ) → n < length offsets → number_in numbers (slice_index offsets n) ≡ Some n
   pub only : (target n : ℕ) → number_in numbers target ≡ Some n → (n < length offsets) × (slice_index offsets n ≡ target)

@@ -1,4 +1,4 @@
--- How the states in memory are told apart: each is stored as its fields in turn.
+-- A code for each state in memory: its fields in turn.
 use Rattle.std.specs.Prelude.{ℕ, List, refl}
 use Rattle.std.specs.Coded.{Coded, code_by, coded×, coded_ℕ, coded_list}
 use Rattle.std.specs.FinMap.{code}

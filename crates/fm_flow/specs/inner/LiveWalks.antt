@@ -1,4 +1,4 @@
--- How the walk back along the edges stands.
+-- The state of the walk back along the edges.
 use Rattle.std.specs.Prelude.{◌≡◌, ℕ, ◌+◌, ◌<◌, ◌≤◌, ◌⊎◌, ◌↔◌, ◌==◌, ◌||◌, ◌&&◌, Bool, true, false, not, List, [], length, Contains, Some, sum_by}
 use Rattle.std.specs.List.{slice_index_or}
 use Rattle.fm_base.specs.Rows.{has}
@@ -82,11 +82,11 @@ pub record IsLiveBefore (code : Code) (after : List (List Bool)) (k j : ℕ) : T
 abbrev pub IsHandedBack : Code → List (List Bool) → ℕ → Type 0
 IsHandedBack code after j = (s k : ℕ) → IsEdge code s j → IsLiveBefore code after k j → has (row_of after s) k ≡ true
 
--- what a set bit tells: the local is live at the end of some edge
+-- what a set bit means: the local is live at the end of some edge
 abbrev pub IsLiveAfter : Code → ℕ → ℕ → Type 0
 IsLiveAfter code k j = (next : ℕ) × (IsEdge code j next × Live code k next)
 
--- the rows tell what is live after each item, and all of it
+-- the rows hold what is live after each item, and all of it
 pub record AreSettled (code : Code) (after : List (List Bool)) : Type 0 where
   pub one_each : length after ≡ length code.items
   pub widths : HaveWidth code.max_locals after

@@ -1,4 +1,4 @@
--- How the walks over items stand.
+-- The states of the walks over items.
 use Rattle.std.specs.Prelude.{◌≡◌, ℕ, ◌+◌, ◌≤◌, ◌⊎◌, Bool, true, not, List, length, Contains, count_by}
 use Rattle.std.specs.List.{AllByRecursion, Any}
 use Rattle.fm_base.specs.Rows.{has}

@@ -1,4 +1,4 @@
--- What checking a program comes to.
+-- The outcome of checking a program.
 use Rattle.std.specs.Prelude.{Result, Ok, Err}
 use Rattle.fm_untyped.specs.Untyped.{AreTyped}
 use Rattle.fm_tool.specs.declared.refusal.Refusal.TheVariants as refusal

@@ -1,4 +1,4 @@
--- What the read of one class file comes to, after others that have so many bytes together.
+-- The outcome of the read of one class file, after others that have a given number of bytes together.
 use Rattle.std.specs.Prelude.{◌≡◌, ℕ, ◌+◌, ◌<◌, ◌≤◌, ◌⊎◌, length, Result, Ok, Err}
 use Rattle.fm_base.specs.declared.limits.TheConstants.{MAX_FILE_BYTES, MAX_ALL_CLASS_FILES_BYTES}
 use Rattle.fm_files.specs.Files.{Bytes, Disk}
@@ -11,7 +11,7 @@ use Rattle.fm_given.specs.declared.class_refusal.ClassRefusal.{ClassRefusal}
 use Rattle.fm_given.specs.declared.refusal.JobRefusal.{JobRefusal}
 use Rattle.fm_given.specs.declared.refusal.JobRefusal.TheVariants as job_refusal
 
--- it is taken as this class, and has so many bytes, which were seen
+-- it is taken as this class, and has a given number of bytes, which were seen
 pub record IsRead (file : Bytes) (total : ℕ) (class : ClassDef) (size : ℕ) (old new : Disk) : Type 0 where
   pub taken : IsTaken old.contents file class
   pub size_is : size ≡ length (class_bytes class)

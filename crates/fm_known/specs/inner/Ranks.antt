@@ -31,16 +31,16 @@ pub record IsBoundedState (s : TypeState) : Type 0 where
 
 -- ---- all of them, as a list
 
--- the bases of types, with classes of so many numbers
+-- the bases of types, with classes of a given number of numbers
 unfoldable pub bases_below : ℕ → List Base
 bases_below classes =
     (base.Boolean ∷ base.Byte ∷ base.Char ∷ base.Short ∷ base.Int ∷ base.Long ∷ []) ++ map of_class (range_with_len 0 classes)
 
--- the types of these bases with so many dimensions
+-- the types of these bases with a given number of dimensions
 abbrev pub types_with : List Base → ℕ → List Slot
 types_with bases dims = map (λ b. slot.Ref (record { dims = dims; base = b })) bases
 
--- the slots of less dimensions, with classes and items of so many numbers
+-- the slots of less dimensions, with classes and items of a given number of numbers
 unfoldable pub slots_below : ℕ → ℕ → List Slot
 slots_below dims numbers =
     (slot.Top ∷ slot.Int ∷ slot.Long ∷ slot.Null ∷ slot.UninitThis ∷ [])

@@ -19,7 +19,7 @@ use Rattle.fm_world.specs.declared.uses.Use.TheVariants as resolved
 
 -- ---- places of a state
 
--- what is kept of an item, as a state: its words stand with the top last
+-- what is kept of an item, as a state: its words come with the top last
 abbrev pub known_state : Known → TypeState
 known_state k = record { locals = k.locals.items; stack = reverse k.words.items; built = k.built }
 
@@ -31,7 +31,7 @@ without_words s = record s { stack = [] }
 abbrev pub word_at : List Slot → ℕ → Slot
 word_at stack h = local_at (reverse stack) h
 
--- what stands at a place
+-- what is at a place
 abbrev pub slot_at : TypeState → Place → Slot
 slot_at s (place.Local k) = local_at s.locals k
 slot_at s (place.Word h) = word_at s.stack h
@@ -90,7 +90,7 @@ stored_words reg.Int = 1
 stored_words reg.Long = 2
 stored_words reg.Ref = 1
 
--- the words of the stack that the row of the instruction takes at most, where neither method nor dimensions tell it
+-- the words of the stack that the row of the instruction takes at most, where it depends neither on the method nor on dimensions
 abbrev pub own_words : Insn → ℕ
 own_words insn.Nop = 0
 own_words insn.Null = 0
@@ -146,16 +146,16 @@ words_taken o u (insn.Static index) = called_words o u
 words_taken o u (insn.Interface index) = called_words o u
 words_taken o u i = own_words i
 
--- the row neither looks at what stands at a place nor changes it, where it takes no word below so many
+-- the row neither looks at what is at a place nor changes it, where it takes no word below this number
 abbrev pub leaves_alone : Insn → ℕ → Place → Slot → Bool
 leaves_alone i below (place.Local k) s = leaves_local i k s
 leaves_alone i below (place.Word h) s = nat_lt h below && leaves_word i s
 
--- what stands at a place of the state
+-- what is at a place of the state
 abbrev pub rise_of : TypeState → Place → Rise
 rise_of s p = record { place = p; slot = slot_at s p }
 
--- what stands in each of so many locals
+-- what is in each of a given number of locals
 abbrev pub local_rises : ℕ → TypeState → List Rise
 local_rises count s = map (λ k. rise_of s (place.Local k)) (range_with_len 0 count)
 
@@ -169,7 +169,7 @@ locals_of rises = filter (λ rise. is_local rise.place) rises
 
 -- ---- states that differ in some places
 
--- as many slots: some are what they are said to be, and the others are those at their places
+-- as many slots: some are given, and the others are those at their places
 pub record AreCarried (P : ℕ → Type 0) (holds : ℕ → Slot) (slots others : List Slot) : Type 0 where
   pub size : length slots ≡ length others
   pub among : (k : ℕ) → P k → local_at slots k ≡ holds k
@@ -194,7 +194,7 @@ pub record IsPlaced (place : ℕ) (slot other : Slot) (old new : List ℕ) : Typ
   pub still : (k : ℕ) → Contains old k → Contains new k
   pub placed : (Contains new place → ⊥) → slot ≡ other
 
--- where places are told, the states are alike but for these
+-- where places are given, the states are alike but for these
 abbrev pub IsRisenIn : Option (List Place) → TypeState → TypeState → Type 0
 IsRisenIn rose s other = (places : List Place) → rose ≡ Some places → IsAlikeBut places s other
 

@@ -56,7 +56,7 @@ is_main_in texts (Some row) = is_main_row texts row
 abbrev pub is_main_at : List (List ℕ) → List MemberRow → ℕ → Bool
 is_main_at texts rows member = is_main_in texts (slice_get rows member)
 
--- the first one among members that stand together
+-- the first one among members that are together
 abbrev pub main_between : List (List ℕ) → List MemberRow → ℕ × ℕ → Option ℕ
 main_between texts rows section = first_from (is_main_at texts rows) (section.1 - section.0) section.0
 

@@ -1,4 +1,4 @@
-// Classes that make no program, and the cause that is told.
+// Classes that make no program, and the cause that is reported.
 
 ghost use Rattle.std.specs.Prelude.{IfOk, OnOk};
 ghost use Rattle.std.specs.List.{AllByRecursion};
@@ -37,10 +37,10 @@ const ROWS: [Row; 10] = [
     (&[NO_MAIN], "no-main M in M"),
 ];
 
-// What comes first is told, in whichever file: names that two classes have, then those of built-in
-// classes, then classes that aren't there, superclasses and interfaces that can't be ones, fields, methods,
-// abstract methods that are left over, and main. Inside a kind the files come in their order, and in a file
-// the indices of its pool.
+// The first cause is reported, in whichever file: names that two classes have, then those of
+// built-in classes, then classes that aren't there, superclasses and interfaces that can't be ones,
+// fields, methods, abstract methods that are left over, and main. Inside a kind the files come in
+// their order, and in a file the indices of its pool.
 const SEVERAL: [Row; 10] = [
     (&[M, FREE_ME, FREE_ME], "duplicate FreeMe in FreeMe"),
     (&[NO_MAIN, A_OF_B, B_OF_I], "missing-class I in B"),
@@ -99,7 +99,8 @@ const LEFT_OVER: [Row; 4] = [
     (&[M, B_BELOW_A_OF_I, A_WITH_M, I], "linked"),
 ];
 
-// Superclasses and interfaces that can't be ones: the first file whose chain leads into a cycle is told.
+// Superclasses and interfaces that can't be ones: the first file whose chain leads into a cycle is
+// reported.
 const PARENTS: [Row; 7] = [
     (&[M, A_EXTENDS_B, B_EXTENDS_A], "bad-parent B in A"),
     (&[M_BELOW_A, A_BELOW_B, B_BELOW_A], "bad-parent A in M"),
@@ -145,7 +146,7 @@ const MEMBERS: [Row; 9] = [
     (&[NO_MAIN_BELOW_A, A_WITH_MAIN], "linked"),
 ];
 
-// The line of an answer.
+// The line of a result.
 fn line_of(alloc: Global, answer: Result<Program, LinkFail>) -> Result<String, NoMemory> {
     let (cause, bad) = match answer {
         Ok(_) => return Ok(String::from_str(alloc, "linked")?),
@@ -186,7 +187,7 @@ fn add_class_at(alloc: Global, classes: &mut Vec<ClassDef>, place: usize) -> Res
     }
 }
 
-// Whether the classes at these places are answered so.
+// Whether linking the classes at these places has this result.
 fn is_answered(alloc: Global, places: &[usize], line: &str) -> Result<bool, Fail> {
     let classes = classes_at(alloc, places)?;
     let answer = link(alloc, classes.as_slice(), b"M");
@@ -194,7 +195,7 @@ fn is_answered(alloc: Global, places: &[usize], line: &str) -> Result<bool, Fail
     Ok(found.as_str() == line)
 }
 
-// The number of the first row that is answered otherwise.
+// The number of the first row whose result is another one.
 fn first_other(alloc: Global, rows: &[Row]) -> Result<Option<usize>, Fail> {
     for (row, (places, line)) in rows.iter().enumerate() {
         if !is_answered(alloc, places, line)? {

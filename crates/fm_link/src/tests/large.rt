@@ -12,7 +12,8 @@ use fm_world::Program;
 use std::alloc::Global;
 use std::test::Fail;
 
-// How many classes stand between M and Object, and the uppermost level of interfaces; M lists those of 0.
+// How many classes are between M and Object, and the uppermost level of interfaces; M lists those
+// of 0.
 const CHAIN: u16 = 4_095;
 
 const UPPERMOST: u16 = 59;
@@ -140,7 +141,8 @@ fn add_level(
     add_file(alloc, classes, &second, &above, &beside, tail)
 }
 
-// Whether these classes are linked, and M, the first of them, is below the last one, with so many between.
+// Whether these classes are linked, and M, the first of them, is below the last one, with this
+// number between.
 fn is_below_last(alloc: Global, classes: &[ClassDef], others: u32) -> Result<bool, Fail>
     requires spelled { AllByRecursion HasSpelling classes.now }
     requires few { others < 5000 }
@@ -149,7 +151,7 @@ fn is_below_last(alloc: Global, classes: &[ClassDef], others: u32) -> Result<boo
     Ok(is_below(&program, others))
 }
 
-// Whether the first class of the files is below the last one of so many others.
+// Whether the first class of the files is below the last one of this number of others.
 fn is_below(program: &Program, others: u32) -> bool
     requires { others < 5000 }
 {

@@ -379,7 +379,7 @@ fn has_numbers(program: &Program) -> bool {
         && program.use_of(MAIN_CLASS, 0x15) == Use::Unused
 }
 
-// Whether the field of T stands behind the hidden one of throwables, at place 1 of its objects.
+// Whether the field of T comes after the hidden one of throwables, at place 1 of its objects.
 fn is_behind_hidden(program: &Program) -> bool {
     OF_T.0 < program.fields() && program.slot_of(OF_T) == 1
 }

@@ -1,4 +1,4 @@
--- What is found in the tables of members, by numbers alone.
+-- What is found in the tables of members, by numbers only.
 use Rattle.std.specs.Prelude.{ℕ, ◌-◌, ◌==◌, ◌&&◌, not, Bool, false, List, drop, Option, Some, None, slice_get, if◌then◌else◌}
 use Rattle.std.specs.List.{slice_index_or}
 use Rattle.std.specs.Option.{option_and_then, unwrap_or}
@@ -73,7 +73,7 @@ searches_in m h caller None method = false
 searches_in m h caller (Some named) method =
     not (is_constructor_in m method) && has_flag (class_at h.classes.now caller).flags ACC_SUPER && is_superclass_in h caller named
 
--- ---- what the public calls answer
+-- ---- what the public calls return
 
 -- the field of a name and a descriptor from a class on
 abbrev pub field_found_in : Fields → Hierarchy → Option ℕ → ℕ → ℕ → Option ℕ

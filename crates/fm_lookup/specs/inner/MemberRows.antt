@@ -23,7 +23,7 @@ field_alike f = record { class = f.class; name = f.field.name; descriptor = f.fi
 abbrev pub method_alike : OwnedMethod → Owned
 method_alike m = record { class = m.class; name = m.method.name; descriptor = m.method.descriptor; flags = m.method.flags }
 
--- what stands for a row past the end
+-- the value for a row past the end
 abbrev pub no_row : MemberRow
 no_row = record { class = 0; name = 0; descriptor = 0; flags = 0 }
 
@@ -55,7 +55,7 @@ pub record AreMethodRows (texts : List (List ℕ)) (classes : List DeclaredClass
   pub rows : AreRows texts (map method_alike (methods_of classes)) m.rows.items
   pub first : m.first.items ≡ map (first_method classes) (numbers_below (length classes + 1))
 
--- the members of each class stand together, from a number up to the next class's one
+-- the members of each class are together, from a number up to the next class's one
 pub record AreSections (classes : List DeclaredClass) (m : Members) : Type 0 where
   pub inside : (class k : ℕ) → class < length classes → (section_of m.first.items class).0 ≤ k → k < (section_of m.first.items class).1
       → (slice_index_or m.rows.items k no_row).class ≡ class

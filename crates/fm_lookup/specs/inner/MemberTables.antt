@@ -1,4 +1,4 @@
--- The tables that answer which member a class has, or inherits, of a name with a descriptor. All members of one name with one descriptor go by the
+-- The tables from which one reads which member a class has, or inherits, of a name with a descriptor. All members of one name with one descriptor go by the
 -- number of the first one of them, which is their signature.
 use Rattle.std.specs.Prelude.{◌≡◌, ℕ, zero, suc, ◌<◌, ◌&&◌, Bool, true, List, length, map, nat_eq, position, option_and_then, Option, Some, None, slice_get, slice_index, unwrap_or, if◌then◌else◌}
 use Rattle.std.specs.BTreeMap.{BTreeMap, get_by}
@@ -43,7 +43,7 @@ pub record AreSignatures (rows : List MemberRow) (s : Signatures) : Type 0 where
 
 -- ---- members by signature
 
--- the first of so many numbers from one on that passes
+-- the first of a given number of numbers from one on that passes
 abbrev pub first_from : (ℕ → Bool) → ℕ → ℕ → Option ℕ
 first_from passes zero start = None
 first_from passes (suc count) start = if passes start then Some start else first_from passes count (suc start)
@@ -121,7 +121,7 @@ searched_interfaces classes class = if is_interface_at classes class then superi
 
 -- ---- all tables
 
--- no text stands twice
+-- no text occurs twice
 abbrev pub AreDistinct : List (List ℕ) → Type 0
 AreDistinct texts = (m n : ℕ) (text : List ℕ) → slice_get texts m ≡ Some text → slice_get texts n ≡ Some text → m ≡ n
 

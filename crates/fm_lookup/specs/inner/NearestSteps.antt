@@ -22,7 +22,7 @@ top_of tops (Some class) = slice_index_or tops class 0
 abbrev pub AreTops : Nearest → Type 0
 AreTops n = (class : ℕ) → IsTable n.layers (slice_index_or n.tops.items class 0)
 
--- there is room for so many keys
+-- there is room for a given number of keys
 abbrev pub HasRooms : Layers → ℕ → Type 0
 HasRooms layers count = (signature : ℕ) → signature < count → HasRoom layers signature
 

@@ -36,7 +36,7 @@ parts_from declared t = record {
   numbers = t.named.types.numbers;
 }
 
--- numbers of 32 bits tell all classes, types, texts, methods and fields
+-- numbers of 32 bits number all classes, types, texts, methods and fields
 pub record AreCounted (classes : List DeclaredClass) (n : Named) (t : Told) : Type 0 where
   pub declared : length classes < 2 ^ 32
   pub methods : length t.methods.items < 2 ^ 32

@@ -1,4 +1,4 @@
--- Where the entries of FreeMe.free stand in a pool. It serves the proofs alone.
+-- Where the entries of FreeMe.free are in a pool. It only serves the proofs.
 use Rattle.std.specs.Prelude.{ℕ, ◌+◌, List, Option, Some, None}
 use Rattle.fm_code.specs.FreeEntries.{Content, of_utf8, of_class, of_name_and_type, of_method, index_of, free_class, free_name, free_descriptor, free_method}
 use Rattle.fm_code.specs.declared.constant_pool.Entry.{Entry}
@@ -15,7 +15,7 @@ content_of free.Descriptor = of_utf8 free_descriptor
 content_of free.NameAndType = of_name_and_type free_name free_descriptor
 content_of free.Method = of_method free_method
 
--- where each of them stands, if it does
+-- where each of them is, if it is there
 abbrev pub places_in : List Entry → FreePlaces
 places_in entries = record {
   class_text = index_of entries (content_of free.ClassText);

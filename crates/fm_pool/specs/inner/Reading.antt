@@ -1,4 +1,4 @@
--- Reading a constant pool from left to right. It serves the proofs alone.
+-- Reading a constant pool from left to right. It only serves the proofs.
 use Rattle.std.specs.Prelude.{ℕ, zero, suc, ◌==◌, Bool, true, false, List, [], ◌∷◌, Option, Some, None, if◌then◌else◌}
 use Rattle.std.specs.Int.{w32, w64, cast_signed}
 use Rattle.fm_code.specs.ConstantPool.{takes_two}
@@ -44,12 +44,12 @@ entry_at_front bytes = do
 
 -- ---- the pool
 
--- what stands at the next index; the flag tells whether nothing is due there
+-- what is at the next index; the flag: whether nothing is due there
 abbrev pub slot_at : Bool → List ℕ → Option (Entry × List ℕ)
 slot_at true bytes = Some (entry.Second, bytes)
 slot_at false bytes = entry_at_front bytes
 
--- what stands at so many indices; what takes two may not be the last of them
+-- what is at a given number of indices; what takes two may not be the last of them
 unfoldable pub slots_at : Bool → ℕ → List ℕ → Option (List Entry × List ℕ)
 slots_at due zero bytes = if due then None else Some ([], bytes)
 slots_at due (suc count) bytes = do

@@ -9,7 +9,7 @@ pub record TakesUnit (text : List ℕ) (unit : ℕ) (rest : List ℕ) : Type 0 w
   pub modified : IsModifiedUtf8 rest
   pub shorter : length rest < length text
 
--- a unit may come next; the flag tells whether the one before was the first one of a surrogate pair
+-- a unit may come next; the flag: whether the one before was the first one of a surrogate pair
 abbrev pub may_follow : Bool → ℕ → Bool
 may_follow high unit = if high then is_low_surrogate unit else not (is_low_surrogate unit)
 

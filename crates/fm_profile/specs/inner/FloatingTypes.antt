@@ -15,11 +15,11 @@ is_floating_letter c = (c == FLOAT_LETTER) || (c == DOUBLE_LETTER)
 abbrev pub last_character : List ℕ → ℕ
 last_character bytes = slice_index bytes (length bytes - 1)
 
--- whether the next character stands in a class's name, which goes from L to ;
+-- whether the next character is in a class's name, which goes from L to ;
 abbrev pub is_in_class_after : Bool → ℕ → Bool
 is_in_class_after in_class c = if in_class then not (c == SEMICOLON) else c == CLASS_LETTER
 
--- whether F or D stands outside of the names of classes; the flag tells whether a name has begun
+-- whether F or D occurs outside of the names of classes; the flag: whether a name has begun
 abbrev pub has_floating : Bool → List ℕ → Bool
 has_floating in_class [] = false
 has_floating in_class (c ∷ rest) = (not in_class && is_floating_letter c) || has_floating (is_in_class_after in_class c) rest

@@ -66,7 +66,7 @@ fn unit_of_three(first: u8, second: u8, third: u8) -> u16
     (u16::from(first) - 224) * 4096 + (u16::from(second) - 128) * 64 + (u16::from(third) - 128)
 }
 
-/// Whether a unit may come next; `high` tells whether the one before was the first one of a
+/// Whether a unit may come next; `high`: whether the one before was the first one of a
 /// surrogate pair.
 fn may_follow(high: bool, unit: u16) -> bool
     ensures { result ≡ may_follow high unit }

@@ -9,7 +9,7 @@ ghost use Rattle.fm_profile.specs.inner.FloatingTypes.{AreMarks, has_floating, i
 use fm_base::characters::{CLASS_LETTER, DOUBLE_LETTER, FLOAT_LETTER, LEFT_BRACKET, SEMICOLON};
 use fm_code::Entry;
 
-/// So many indices can be named.
+/// How many indices a number of 16 bits can name.
 const INDICES: usize = 65_536;
 
 /// For each index of a pool whether the text there has F or D outside of the names of classes, so
@@ -51,7 +51,7 @@ fn is_floating_text(entry: &Entry) -> bool
 }
 
 /// Whether a field's descriptor is that of a float, of a double or of an array of these. Its last
-/// character tells.
+/// character decides.
 pub(super) fn is_floating_field(descriptor: &[u8]) -> bool
     requires { IsFieldDescriptor descriptor.now }
     ensures { IsTrue result ↔ IsFloatingField descriptor.now }
@@ -60,7 +60,7 @@ pub(super) fn is_floating_field(descriptor: &[u8]) -> bool
 }
 
 /// Whether the name of a class entry is that of an array of floats or doubles. Its first and its
-/// last character tell.
+/// last character decide.
 pub(super) fn is_floating_array(name: &[u8]) -> bool
     requires { IsClassName name.now }
     ensures { IsTrue result ↔ IsFloatingArray name.now }
@@ -71,7 +71,7 @@ pub(super) fn is_floating_array(name: &[u8]) -> bool
     ends_floating(name)
 }
 
-/// Whether F or D stands outside of the names of classes.
+/// Whether F or D occurs outside of the names of classes.
 fn has_floating(descriptor: &[u8]) -> bool
     ensures { result ≡ has_floating false descriptor.now }
 {
@@ -85,7 +85,7 @@ fn has_floating(descriptor: &[u8]) -> bool
     false
 }
 
-/// Whether the character after this one stands in a class's name.
+/// Whether the character after this one is in a class's name.
 fn is_in_class_after(in_class: bool, c: u8) -> bool
     ensures { result ≡ is_in_class_after in_class c }
 {

@@ -1,4 +1,4 @@
--- What a program tells of a class, by tables.
+-- What a program records about a class, by tables.
 use Rattle.std.specs.Prelude.{ℕ, ◌+◌, ◌&&◌, Bool, List, [], map, codes, position, Option}
 use Rattle.std.specs.Option.{option_map}
 use Rattle.std.specs.Str.{bytes_eq}
@@ -21,7 +21,7 @@ is_start m = bytes_eq m.name (codes "<clinit>") && bytes_eq m.descriptor (codes 
 abbrev pub start_from : DeclaredClass → ℕ → Option MethodId
 start_from class first = option_map method_id (option_map (λ k. first + k) (position is_start class.methods))
 
--- what is told of a class with this superclass, these interfaces, this first method and this size
+-- what is recorded about a class with this superclass, these interfaces, this first method and this size
 abbrev pub class_told : DeclaredClass → Option ℕ → List ℕ → ℕ → ℕ → ClassInfo
 class_told class parent listed first size = record {
   name = class.name;

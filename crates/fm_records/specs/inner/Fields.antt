@@ -1,4 +1,4 @@
--- What a program tells of fields one after the other, by what their descriptors declare, by their places and by what they hold first.
+-- What a program records about fields one after the other, by what their descriptors declare, by their places and by what they hold first.
 use Rattle.std.specs.Prelude.{ℕ, ◌+◌, List, [], ◌∷◌, ◌++◌, map, slice_index, Option, Some, None, count_by, if◌then◌else◌}
 use Rattle.std.specs.List.{slice_index_or}
 use Rattle.fm_base.specs.declared.kinds.Kind.{Kind}

@@ -11,7 +11,7 @@ abbrev pub with_all : {A : Type 0} → (A → A → Bool) → List A → List A 
 with_all same xs [] = xs
 with_all same xs (y ∷ ys) = with_all same (with_one same xs y) ys
 
--- the test tells whether two are the same
+-- the test holds where two are the same
 pub record Tells (A : Type 0) (same : A → A → Bool) : Type 0 where
   pub exact : (a b : A) → same a b ≡ true → a ≡ b
   pub itself : (a : A) → same a a ≡ true

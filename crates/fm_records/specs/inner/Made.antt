@@ -34,7 +34,7 @@ pub record AreMade (x : Parts) (method_kinds field_kinds : List (Option Kinds)) 
   pub calls : AnswerForCalls x
   pub numbers : (t : TypeRef) → get same_type x.numbers t ≡ type_number x.types t
 
--- and what they are told of is what the class files declare, name and use
+-- and the declared classes, types, texts, main and uses are those of the class files
 pub record IsMadeOf (given : List ClassDef) (main : List ℕ) (x : Parts) : Type 0 where
   pub declared : x.declared ≡ classes_of given
   pub types : x.types ≡ types_of (classes_of given) given

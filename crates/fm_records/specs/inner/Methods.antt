@@ -1,4 +1,4 @@
--- What a program tells of methods one after the other, by what their descriptors declare and by their codes.
+-- What a program records about methods one after the other, by what their descriptors declare and by their codes.
 use Rattle.std.specs.Prelude.{ℕ, List, [], map, Option, Some, None}
 use Rattle.std.specs.List.{slice_index_or}
 use Rattle.fm_base.specs.declared.kinds.Kind.{Kind}

@@ -3,7 +3,7 @@ use Rattle.std.specs.Prelude.{◌≡◌, ℕ, zero, suc, ◌+◌, ◌-◌, ◌<�
 use Rattle.std.specs.HashMap.{HashMap, get}
 use Rattle.fm_world.specs.Members.{is_instance}
 
--- the first of so many methods from a number on that has the signature and isn't static
+-- the first of a given number of methods from a number on that has the signature and isn't static
 abbrev pub own_from : List ℕ → List ℕ → ℕ → ℕ → ℕ → Option ℕ
 own_from signatures flags signature zero start = None
 own_from signatures flags signature (suc count) start =

@@ -16,7 +16,7 @@ lent texts = map (λ (b : Bor (List ℕ)). b.now) texts
 abbrev pub units_at : List (List ℕ) → ℕ → List ℕ
 units_at texts n = units (slice_index_or texts n [])
 
--- no text stands twice
+-- no text occurs twice
 abbrev pub AreApart : List (List ℕ) → Type 0
 AreApart texts = (m n : ℕ) → m < length texts → n < length texts → slice_index_or texts m [] ≡ slice_index_or texts n [] → m ≡ n
 

@@ -19,6 +19,6 @@ with_type types t = with_one same_type types t
 abbrev pub with_types : List TypeRef → List TypeRef → List TypeRef
 with_types types more = with_all same_type types more
 
--- the types of so many classes, the types that are named, and the arrays that are made with the element types of all of them
+-- the types of a given number of classes, the types that are named, and the arrays that are made with the element types of all of them
 unfoldable pub types_by : ℕ → List TypeRef → List TypeRef → List TypeRef
 types_by count named made = distinct same_type (map type_of_class (range_with_len 0 count) ++ named ++ flat_map arrays_in (named ++ made))

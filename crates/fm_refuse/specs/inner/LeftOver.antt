@@ -68,7 +68,7 @@ with_signature classes m signature adds end q k = if is_one classes m signature 
 
 -- ---- counts
 
--- how many of so many numbers from one on pass
+-- how many of a given number of numbers from one on pass
 abbrev pub counted : (ℕ → Bool) → ℕ → ℕ → ℕ
 counted q zero start = 0
 counted q (suc count) start = if q start then suc (counted q count (suc start)) else counted q count (suc start)

@@ -19,7 +19,7 @@ is_name_met classes name = is_none (missing_name classes (class_type name))
 abbrev pub is_descriptor_met : List DeclaredClass → List ℕ → Bool
 is_descriptor_met classes descriptor = is_none (first_missing classes (types_in descriptor))
 
--- the classes are those that are numbered, and the marks tell of each text whether it names no class that isn't there
+-- the classes are those that are numbered, and the marks say of each text whether it names no class that isn't there
 pub record JudgesNames (classes : List DeclaredClass) (n : Naming) : Type 0 where
   pub numbers : NumbersClasses classes n.numbers.now.numbers
   pub names : n.names_met.now ≡ map (is_name_met classes) (texts_in n.texts.now)

@@ -13,7 +13,7 @@ piece_of (Some slot.Top) (Some slot.Long) = 2
 piece_of (Some slot.Top) (Some other) = 0
 piece_of (Some first) second = 1
 
--- so many slots are whole from a depth on
+-- `size` slots are whole from a depth on
 pub record IsPieceAt (stack : List Slot) (depth size : ℕ) : Type 0 where
   pub none : size ≡ 0 → is_whole (drop depth stack) ≡ false
   pub some : 0 < size → is_whole (drop depth stack) ≡ is_whole (drop (depth + size) stack)

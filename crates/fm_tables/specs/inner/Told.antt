@@ -1,4 +1,4 @@
--- What is told of methods and fields, by lists of what it is made of.
+-- What is recorded about methods and fields, by lists of what it is made of.
 use Rattle.std.specs.Prelude.{◌≡◌, List, length, map, Option}
 use Rattle.fm_code.specs.declared.class_file.ClassDef.{ClassDef}
 use Rattle.fm_declare.specs.declared.descriptors.Kinds.{Kinds}
@@ -11,7 +11,7 @@ use Rattle.fm_world.specs.Programs.{Outline, classes_of, codes_of}
 use Rattle.fm_world.specs.declared.uses.Use.{Use}
 use Rattle.fm_world.specs.inner.Tables.{numbers_below}
 
--- all is told by the kinds that descriptors declare, by codes, by places and by what fields hold first
+-- all records are made from the kinds that descriptors declare, by codes, by places and by what fields hold first
 pub record IsTold (o : Outline) (given : List ClassDef) (t : Told) : Type 0 where
   pub method_kinds : List (Option Kinds)
   pub field_kinds : List (Option Kinds)

@@ -31,7 +31,7 @@ abbrev pub first_words : List ℕ → ℕ
 first_words [] = 1
 first_words (c ∷ rest) = if (c == 74) || (c == 68) then 2 else 1
 
--- what is known where arguments of so many words stand before the ), and the text after it
+-- what is known where arguments of a given number of words come before the ), and the text after it
 pub record AreResultFacts (words : ℕ) (text : List ℕ) (facts : MethodFacts) : Type 0 where
   pub result : Option FieldType
   pub is_type : IfSome result IsFieldType

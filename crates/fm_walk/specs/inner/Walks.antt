@@ -1,4 +1,4 @@
--- How the walk over the items of a method stands, and what is brought and carried to one of them.
+-- The state of the walk over the items of a method, and what is brought and carried to one of them.
 use Rattle.std.specs.Prelude.{◌≡◌, ℕ, ◌+◌, ◌<◌, ◌≤◌, ◌⊎◌, Bool, true, false, List, [], ◌∷◌, ◌++◌, length, map, replicate, Option, Some, None, IsSomeAnd, All, Contains, slice_set, sum_by, if◌then◌else◌}
 use Rattle.std.specs.List.{slice_index_or}
 use Rattle.std.specs.Option.{option_map}

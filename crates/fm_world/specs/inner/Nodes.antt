@@ -7,12 +7,12 @@ use Rattle.std.specs.List.{slice_index_or}
 abbrev pub child_of : List (List ℕ) → ℕ → ℕ → ℕ
 child_of nodes node branch = slice_index (slice_index_or nodes node []) branch
 
--- the entry so many levels below a node
+-- the entry a given number of levels below a node
 abbrev pub entry_of : List (List ℕ) → ℕ → ℕ → ℕ → ℕ
 entry_of nodes zero node key = node
 entry_of nodes (suc level) node key = entry_of nodes level (child_of nodes node (key % 8)) (key / 8)
 
--- all nodes so many levels below are there
+-- all nodes a given number of levels below are there
 abbrev pub IsNode : List (List ℕ) → ℕ → ℕ → Type 0
 IsNode nodes zero node = Unit {0}
 IsNode nodes (suc level) node = (node < length nodes) × ((branch : ℕ) → IsNode nodes level (child_of nodes node branch))

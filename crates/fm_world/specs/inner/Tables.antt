@@ -1,4 +1,4 @@
--- How a program lies in the memory of the code: its parts, with tables that answer at once what the definitions look up.
+-- How a program lies in the memory of the code: its parts, with tables that return at once what the definitions look up.
 use Rattle.std.specs.Prelude.{◌≡◌, ℕ, ◌^◌, ◌<◌, true, List, ◌∷◌, [], length, map, reverse, nat_eq, Option, None, Some, IsSomeAnd, slice_get, slice_index}
 use Rattle.std.specs.List.{range_with_len}
 use Rattle.std.specs.HashMap.{get}
@@ -81,7 +81,7 @@ pub record AnswerForCalls (x : Parts) : Type 0 where
       get nat_eq table (slice_index x.signatures method)
       ≡ (let m = (method_at x.declared method).method in own_method x.declared is_instance m.name m.descriptor class))
 
--- the records tell of the classes, methods and fields what the definitions say, and the tables answer what they look up
+-- the records hold of the classes, methods and fields what the definitions say, and the tables return what these look up
 pub record AreTables (x : Parts) : Type 0 where
   pub few : AreFew x
   pub classes : x.classes ≡ map (class_info (outline_in x)) (numbers_below (length x.declared))

@@ -26,7 +26,7 @@ of-requires c =
       short = c.requires;
     }
 
--- what a search for the numbers of the drafts tells
+-- what a search for the numbers of the drafts finds
 starts_are : (drafts slice : List Item) (numbers : List ℕ) → slice ≡ drafts → AreStarts (map item_offset slice) numbers → AreStarts (offsets_of drafts) numbers
 starts_are drafts slice numbers same starts = subst (λ (items : List Item). AreStarts (map item_offset items) numbers) same starts
 

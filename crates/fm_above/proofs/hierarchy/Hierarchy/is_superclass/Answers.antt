@@ -5,7 +5,7 @@ use Rattle.fm_above.proofs.SuperclassLemmas.{superclass-is}
 use Rattle.fm_above.specs.inner.Hierarchy.{is_this, stands_above}
 use Rattle.fm_above.proofs.hierarchy.Hierarchy.is_superclass.Goals as goal
 
--- what is told of the chains that were read is told of those of the tables
+-- what holds of the chains that were read holds of those of the tables
 of_tables : (low up lower upper : List ℕ) (other : ℕ) (b : Bool) → low ≡ lower → up ≡ upper → b ≡ stands_above low (length up) other
     → b ≡ stands_above lower (length upper) other
 of_tables low up lower upper other b low_is up_is told =
@@ -16,14 +16,14 @@ as_short : (low up : List ℕ) (other : ℕ) → length low ≤ length up → fa
 as_short low up other short =
     sym (ap (λ b. b && is_this other (slice_get low (length low - length up))) (le-ltb (length up) (length low) short))
 
--- what stands there
+-- what is there
 is_there : (low up : List ℕ) (other x : ℕ) → length up < length low → length low - length up < length low
     → x ≡ get_or low (length low - length up) x → nat_eq x other ≡ stands_above low (length up) other
 is_there low up other x long within there =
     sym (ap (λ b. b && is_this other (slice_get low (length low - length up))) (lt-ltb (length up) (length low) long)
     ∙ ap (is_this other) (slice_get-get_or low (length low - length up) x within ∙ ap Some (sym there)))
 
--- nothing stands there
+-- nothing is there
 is_past : (low up : List ℕ) (other : ℕ) → length up < length low → length low ≤ length low - length up
     → false ≡ stands_above low (length up) other
 is_past low up other long past =
