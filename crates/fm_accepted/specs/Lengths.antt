@@ -31,7 +31,7 @@ pub record HasLengthsAlone (old : Disk) (given : Given) : Type 0 where
   pub linked : ¬ IsKnownUnlinked old given
   pub typed : ¬ IsKnownUntyped old given
 
--- so it is of class files that link and are typed
+-- the same holds of class files that link and are typed
 abbrev pub AcceptedHaveLengthsAlone : Type 0
 AcceptedHaveLengthsAlone =
     (held : Bytes → Option Bytes) (given : Given) (classes : List ClassDef) → AreHeld held given.files classes → refusals classes given.main ≡ []

@@ -5,8 +5,8 @@ ghost use Rattle.fm_accepted.specs.Written.{WrittenHaveLengthsAlone};
 
 use fm_retyped::law_typed;
 
-/// Files that hold class files with a spelling and of the profile, which link and are typed, are refused
-/// for their number or for their lengths alone, as far as their contents decide.
+/// Files that hold class files with a spelling and of the profile, which link and are typed, are
+/// refused only for their number or for their lengths, as far as their contents decide.
 pub fn law_lengths()
     ensures { AcceptedHaveLengthsAlone }
 {}

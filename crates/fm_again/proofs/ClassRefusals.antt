@@ -101,7 +101,7 @@ module _ (plans : Plans) (first : ℕ) (c : ClassDef) (bytes : List ℕ) (spells
   named : method_at (c.pool.entries ++ more) free ≡ Some free_method
   named = names_free plans first c bytes spells
 
-  -- a refusal tells the same
+  -- a refusal is the same
   told : (cause : Cause) (name : List ℕ) → refused cause new name ≡ refused cause c name
   told cause name = λ k. record { cause = cause; name = name; user = name_is plans first c bytes spells k }
 

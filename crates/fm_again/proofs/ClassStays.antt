@@ -131,7 +131,7 @@ module _ (plans : Plans) (first : ℕ) (c : ClassDef) (bytes : List ℕ) (spells
   abbrev pub more_entries : List Entry
   more_entries = (sought_free c.pool.entries).missing
 
-  -- the index of FreeMe.free stands for that method
+  -- the index of FreeMe.free refers to that method
   pub names_free : method_at (c.pool.entries ++ more_entries) (free_index c) ≡ Some free_method
   names_free = free_named c.pool.entries (with_free c.pool.entries) more_entries (free_index c) refl refl
 

@@ -1,4 +1,4 @@
--- The index of FreeMe.free stands for that method where a written class uses it.
+-- The index of FreeMe.free refers to that method where a written class uses it.
 use Rattle.std.proofs.Common.{◌≡◌, refl, sym, ◌∙◌, ap, subst, ℕ, ◌+◌, ◌<◌, ◌≤◌, ◌⊎◌, inl, inr, Bool, true, false, cond, List, ◌++◌, length, length-append, get_or, Some, option_and_then, option_map, arith}
 use Rattle.std.specs.Prelude.{slice_get}
 use Rattle.std.proofs.lemmas.Bool.{cases_lt}

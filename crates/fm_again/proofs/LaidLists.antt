@@ -1,5 +1,5 @@
--- What is told of the instructions of woven code, where it doesn't hang on targets and is told of nothing that is inserted, is what is told of
--- the old ones, in their order.
+-- A view of the instructions of woven code that doesn't depend on targets and has nothing for what
+-- is inserted is that of the old ones, in their order.
 use Rattle.std.proofs.Common.{◌≡◌, refl, sym, ◌∙◌, ap, ℕ, ◌+◌, inl, inr, Bool, true, false, List, [], ◌∷◌, ◌++◌, length, Option, Some, None}
 use Rattle.std.specs.Prelude.{nat_lt, slice_index}
 use Rattle.std.specs.List.{cons_option, filter_map, flat_map, range_with_len}
@@ -26,7 +26,7 @@ use Rattle.fm_layout.specs.declared.rooms.Room.TheVariants as room
 use Rattle.fm_place.specs.Insertions.{after_at, before_at, Insertions}
 use Rattle.fm_place.specs.Woven.{anchors_of, freed, kept, local_of, null_stored, top_stored, woven, woven_code, woven_from, woven_item}
 
--- nothing is told of instructions with targets and of what is inserted
+-- the view has nothing for instructions with targets and for what is inserted
 pub record IsView {B : Type 0} (free : ℕ) (view : Insn → Option B) : Type 0 where
   pub branches : (i : Insn) → names_target i ≡ true → view i ≡ None
   pub null : view insn.Null ≡ None
@@ -75,7 +75,7 @@ module _ {B : Type 0} (free : ℕ) (view : Insn → Option B) (is : IsView free 
   abbrev of_new : NewItem → Option B
   of_new new = view new.insn
 
-  -- what is told doesn't hang on targets
+  -- the view doesn't depend on targets
   alike : (f : ℕ → ℕ) (i : Insn) → view (with_targets f i) ≡ view i
   alike f i = by_target (names_target i) refl where
     by_target : (b : Bool) → names_target i ≡ b → view (with_targets f i) ≡ view i
@@ -162,7 +162,7 @@ module _ {B : Type 0} (free : ℕ) (view : Insn → Option B) (is : IsView free 
         filter_map-append of_new (woven_item free code plan anchors j item.insn) (woven_from free code plan anchors (j + 1) items)
         ∙ (λ k. item_listed anchors j item.insn k ++ from_listed anchors (j + 1) items k) ∙ onto (view item.insn) (filter_map of_item items)
 
-    -- what is told of all items of the woven code
+    -- the view of all items of the woven code
     pub woven_listed : filter_map of_item (woven_code free code plan).items ≡ filter_map of_item code.items
     woven_listed =
         let nulls = flat_map (λ h. null_stored (local_of code h)) (range_with_len 0 (length plan.holders)) in

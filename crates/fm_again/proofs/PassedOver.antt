@@ -138,7 +138,7 @@ module _ {A : Type 0} (same : A → A → Bool) (equal : (x y : A) → same x y 
   filter-distinct p [] = refl
   filter-distinct p (x ∷ xs) = one_filtered p x xs (filter-distinct p xs)
 
-  -- a filter over what stands once sees no element twice
+  -- a filter over what is there once sees no element twice
   filtered_behind : (p : A → Bool) (xs ys : List A) → filter p (distinct same (xs ++ ys)) ≡ filter p (distinct same (xs ++ filter p ys))
   filtered_behind p xs ys =
       filter-distinct p (xs ++ ys) ∙ ap (distinct same) (filter-append p xs ys)
@@ -155,7 +155,7 @@ module _ {A : Type 0} (same : A → A → Bool) (equal : (x y : A) → same x y 
         ap (λ l. x ∷ l) (filtered_behind (unlike x) xs ys ∙ ap (λ u. filter (unlike x) (distinct same (xs ++ filter (unlike u) ys))) (sym (equal t x alike)))
     by_test false other among = ap (λ l. x ∷ filter (unlike x) l) (later among)
 
-  -- what stands in front already may be left out behind
+  -- what is in front already may be left out behind
   pub distinct_without : (t : A) (xs ys : List A) → list_any (same t) xs ≡ true → distinct same (xs ++ ys) ≡ distinct same (xs ++ filter (unlike t) ys)
   distinct_without t [] ys there = absurd (false≢true there)
   distinct_without t (x ∷ xs) ys there = one_without t x xs ys there (distinct_without t xs ys)

@@ -1,4 +1,5 @@
--- What stands at the indices of a pool whose entries are valid, and what is resolved there, stays where more entries follow.
+-- What is at the indices of a pool whose entries are valid, and what is resolved there, stays where
+-- more entries follow.
 use Rattle.std.proofs.Common.{◌≡◌, refl, sym, ◌∙◌, ap, ℕ, ◌<◌, List, [], ◌++◌, length, Option, Some, None, IsSome, IsSomeAnd, option_map, option_and_then, unwrap_or}
 use Rattle.std.specs.List.{AllByRecursion}
 use Rattle.std.proofs.lemmas.List.{get_or_append_left}
@@ -24,7 +25,7 @@ use Rattle.fm_world.specs.declared.declarations.DeclaredClass.{DeclaredClass}
 use Rattle.fm_world.specs.declared.uses.Use.{Use}
 use Rattle.fm_world.specs.declared.uses.Use.TheVariants as resolved
 
--- ---- what stands at an index, by its entry
+-- ---- what is at an index, by its entry
 
 member_by : (entries : List Entry) (index : ℕ) (e : Entry) → entry_at entries index ≡ e → named_member entries index ≡ member_of_entry (member_named entries) e
 member_by entries index (entry.Field class member) is = rw is (rw is refl)

@@ -35,7 +35,7 @@ pub followed : {A B C : Type 0} (g : B → C) (x : Option A) (f : A → Option B
 followed g None f h same = refl
 followed g (Some a) f h same = same a
 
--- ---- slots that tell of no item
+-- ---- slots that name no item
 
 abbrev pub IsPlain : Slot → Type 0
 IsPlain (slot.Uninit item) = ⊥

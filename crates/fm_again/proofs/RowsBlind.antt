@@ -154,7 +154,7 @@ module _ (numbers : ℕ → ℕ) (more : List Slot) (apart : AreApart numbers) (
         by_local None = refl
         by_local (Some found) = one_loaded r s found
 
-  -- there is room for so many locals
+  -- there is room for this many locals
   room_kept : (k n : ℕ) (s : TypeState) → k + n ≤ length s.locals → nat_lt (length (map other s.locals ++ more)) (k + n) ≡ false
   room_kept k n s within =
       let both = length-append (map other s.locals) more in

@@ -1,4 +1,4 @@
--- What the indices of pools stand for, they stand for still.
+-- The indices of pools refer to what they referred to before.
 use Rattle.std.proofs.Common.{◌≡◌, refl, sym, ◌∙◌, ap, ℕ, ◌+◌, ◌<◌, ◌≤◌, ◌⊎◌, inl, inr, false, cond, List, [], ◌∷◌, ◌++◌, length, length-append, map, replicate, get_or, Option, Some, option_map, arith, zero-add, zero, suc}
 use Rattle.std.specs.Prelude.{slice_get}
 use Rattle.std.specs.List.{AllByRecursion}
@@ -25,7 +25,7 @@ use Rattle.fm_written.specs.Changed.{changed}
 
 -- ---- one class
 
--- what an index of a class's pool stands for, if the class uses it
+-- what an index of a class's pool refers to, if the class uses it
 abbrev pub use_in : Outline → ClassDef → ℕ → Use
 use_in o c index = cond (is_used c index) (resolved_at o c.pool.entries index) resolved.Unused
 

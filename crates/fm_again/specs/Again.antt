@@ -20,7 +20,8 @@ abbrev pub OutlinesStay : Type 0
 OutlinesStay =
     (given : List ClassDef) (main : List ℕ) (plans : Plans) → AllByRecursion HasSpelling given → outline_of (rewritten plans given) main ≡ outline_of given main
 
--- an index of the pool of a file stands for the same, unless it is that of FreeMe.free in the changed class
+-- an index of the pool of a file refers to the same, unless it is that of FreeMe.free in the
+-- changed class
 abbrev pub UsesStay : Type 0
 UsesStay =
     (given : List ClassDef) (main : List ℕ) (plans : Plans) → AllByRecursion HasSpelling given → (place : ℕ) (c : ClassDef) → slice_get given place ≡ Some c
@@ -37,7 +38,7 @@ pub record IsFree (o : Outline) (u : Use) : Type 0 where
   pub method_is : resolved_method o.classes free_method ≡ Some method
   pub use_is : u ≡ method_use type method
 
--- and that index stands for FreeMe.free, or for nothing where the written class doesn't use it
+-- and that index refers to FreeMe.free, or to nothing where the written class doesn't use it
 abbrev pub FreeStands : Type 0
 FreeStands =
     (given : List ClassDef) (main : List ℕ) (plans : Plans) → AllByRecursion HasSpelling given → (place : ℕ) (c : ClassDef) → slice_get given place ≡ Some c

@@ -17,8 +17,8 @@ pub fn law_codes()
     ensures { CodesAreWoven }
 {}
 
-/// Each index of a pool stands for what it stood for, but for that of FreeMe.free, which stands for that
-/// method where it is used.
+/// Each index of a pool refers to what it referred to before, but for that of FreeMe.free, which
+/// refers to that method where it is used.
 pub fn law_uses()
     ensures stay { UsesStay }
     ensures free { FreeStands }

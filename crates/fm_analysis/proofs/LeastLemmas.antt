@@ -70,7 +70,7 @@ words_same o s t up down =
     ∙ ap reverse (bits_same o s.stack t.stack (stack_fits o s t up) (stack_fits o t s down))
     ∙ reverse-map is_reference t.stack
 
--- what is told of states that fit each other is the same of the states of an item
+-- what is the same for states that fit each other is the same for the states of an item
 pub told_same : {X : Type 0} (told : Option TypeState → X) (p : Program) (method : ℕ) (first second : List (Option TypeState))
     → ((s t : TypeState) → state_fits p.outline s t ≡ true → state_fits p.outline t s ≡ true → told (Some s) ≡ told (Some t))
     → IsLeastTyping p method first → IsLeastTyping p method second → (j : ℕ) → told (state_at first j) ≡ told (state_at second j)

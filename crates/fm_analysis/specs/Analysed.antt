@@ -1,4 +1,4 @@
--- What the analysis asks of a program, and the shapes that it answers.
+-- What the analysis requires of a program, and the shapes that it returns.
 use Rattle.std.specs.Prelude.{◌≡◌, ℕ, List, [], Option, Some, None}
 use Rattle.std.specs.List.{AllByRecursion}
 use Rattle.fm_check.specs.Checking.{IsLeastTyping}
@@ -74,7 +74,7 @@ LeastTypingsMakeOneShape =
     (p : Program) (typings others : Typings) → AreLeastTypings p typings → AreLeastTypings p others
     → (shapes : List Shape) → AreShapesOf p typings shapes → AreShapesOf p others shapes
 
--- and summaries that tell the links by the one tell those by the other
+-- and summaries that are exact by the one typing are exact by the other
 abbrev pub LeastTypingsLinkAlike : Type 0
 LeastTypingsLinkAlike =
     (p : Program) (typings others : Typings) → AreLeastTypings p typings → AreLeastTypings p others

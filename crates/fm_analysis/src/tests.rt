@@ -1,4 +1,4 @@
-// Class files that are read, linked, checked and analysed, and what is answered of their methods.
+// Class files that are read, linked, checked and analysed, and what is returned for their methods.
 
 ghost use Rattle.std.specs.Prelude.{◌≡◌, ◌<◌, Contains, IfOk, IfSome, OnOk, length, true};
 ghost use Rattle.std.specs.List.{AllByRecursion};
@@ -48,7 +48,7 @@ enum Place {
     Global,
 }
 
-// What is asked of a method.
+// What is asked about a method.
 #[derive(Clone, Copy)]
 enum Asked {
     AreLinked(End2, End2),
@@ -59,7 +59,7 @@ enum Asked {
     LeadsTo(usize, &'static [Named]),
 }
 
-// A program, a method of it, and what is asked and answered.
+// A program, a method of it, and what is asked and returned.
 type Row = (Sources, Named, Asked, bool);
 
 const MAIN: Named = (b"M", b"main");
@@ -316,7 +316,7 @@ fn leads_to(
     }
 }
 
-// What is answered of a method of an analysable program.
+// What is returned for a method of an analysable program.
 fn answer_in(
     alloc: Global,
     program: &Program,
@@ -356,7 +356,7 @@ fn answer_if_typed(
     }
 }
 
-// What is answered of a method of the program of these files.
+// What is returned for a method of the program of these files.
 fn answer(
     alloc: Global,
     sources: Sources,
@@ -370,7 +370,7 @@ fn answer(
     }
 }
 
-// The place of the first row that isn't answered so.
+// The place of the first row whose result differs from the one listed.
 fn first_other(alloc: Global, rows: &[Row]) -> Result<Option<usize>, NoMemory> {
     for (place, row) in rows.iter().enumerate() {
         let (sources, named, asked, wanted) = *row;

@@ -142,7 +142,7 @@ super-inside : (given : List DeclaredClass) (super : Option (List ℕ)) → is_i
 super-inside given None h = tt
 super-inside given (Some name) h = named-inside given name h
 
--- a built-in class is as it is among the built-in ones alone
+-- a built-in class is as it is among only the built-in ones
 class-settled : (given : List DeclaredClass) (class : ℕ) → class < length built_in → is_settled (class_at (built_in ++ given) class) ≡ true
 class-settled given class inside =
     ap is_settled (get_or_append_left built_in given no_class class inside) ∙ settled-at built_in class table_settled inside

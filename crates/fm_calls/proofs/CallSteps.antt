@@ -34,7 +34,7 @@ use Rattle.fm_code.specs.declared.code_array.Code.{Code}
 
 -- ---- rows
 
--- the row that a body tells
+-- the row of a body, if it is built in
 abbrev pub row_in : Body → Option ℕ
 row_in (body.Coded code) = None
 row_in (body.Native row) = Some row

@@ -17,7 +17,7 @@ use Rattle.fm_world.specs.Programs.{Outline}
 abbrev pub IsPlain : Effect → Type 0
 IsPlain e = e.starts ≡ None
 
--- ---- what rows ask of their operands
+-- ---- what rows require of their operands
 
 if-plain : (b : Bool) (e f : Effect) → IsPlain e → IsPlain f → IsPlain (if b then e else f)
 if-plain true e f first second = first

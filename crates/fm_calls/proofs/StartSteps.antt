@@ -106,7 +106,7 @@ entered-starts p choose x y z first methods fits none so is =
 
 -- ---- what comes before the instruction
 
--- the start of classes makes literals alone
+-- the start of classes makes only literals
 pub first-price : (first : List StartAction) (actions : List Action) → objects_made (map action_of first ++ actions) ≡ objects_made actions
 first-price [] actions = refl
 first-price (starting_by.Start class ∷ first) actions =
@@ -313,7 +313,7 @@ start-suits p literals classes suit =
     fields-suit p literals (start_of_class p.outline) classes
     (λ class. (tt, fields-suit p literals (constant_at p.outline) (fields_at p.outline class) suit))
 
--- what an answer tells that is Ok, for each value
+-- what holds of a result that is Ok, for each value
 pub told-if : {T E : Type 0} (r : Result T E) (P Q : T → Type 0) → ((t : T) → P t → Q t) → IfOk r P → IfOk r Q
 told-if (Ok t) P Q f h = f t h
 told-if (Err e) P Q f h = tt

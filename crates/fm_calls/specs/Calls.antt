@@ -1,4 +1,5 @@
--- What the whole step of a call does, with what it prints; and that built-in methods alone have rows.
+-- What the whole step of a call does, with what it prints; and that only built-in methods have
+-- rows.
 use Rattle.std.specs.Prelude.{◌≡◌, ℕ, ◌≤◌, List, length, Option, None, slice_get}
 use Rattle.fm_exec.specs.Steps.{seen}
 use Rattle.fm_files.specs.Sink.{Output}
@@ -12,7 +13,7 @@ use Rattle.fm_world.specs.BuiltIns.{built_in}
 use Rattle.fm_world.specs.Members.{method_at, methods_of}
 use Rattle.fm_world.specs.Programs.{Outline, Program}
 
--- linking gives rows to built-in methods alone, which have the same numbers in each program
+-- linking gives rows only to built-in methods, which have the same numbers in each program
 abbrev pub AreRowsBuiltIn : Outline → Type 0
 AreRowsBuiltIn o = (method : ℕ) → length (methods_of built_in) ≤ method → (method_at o.classes method).method.row ≡ None
 
@@ -20,7 +21,7 @@ AreRowsBuiltIn o = (method : ℕ) → length (methods_of built_in) ≤ method �
 abbrev pub effect_with_start : Program → State → (Option ℕ → List Sight → Effect) → Effect
 effect_with_start p x call = with_start p.outline x.areas.started (call (slice_get x.input 0) (seen p x))
 
--- the whole step of a call is done, and what it prints came to the output
+-- the whole step of a call is done, and what it prints went to the output
 abbrev pub CallsAs : Program → Choose → (x y : State) → (old new : Output) → (Option ℕ → List Sight → Effect) → Type 0
 CallsAs p choose x y old new call = StepsTo p choose x y old new (effect_with_start p x call)
 

@@ -1,4 +1,5 @@
--- What the start of classes asks of the constants of static fields: linking makes sure of it, and each text has a place for its literal.
+-- What the start of classes requires of the constants of static fields: linking makes sure of it,
+-- and each text has a place for its literal.
 use Rattle.std.specs.Prelude.{ℕ, length}
 use Rattle.fm_calls.specs.inner.Actions.{AllSuit}
 use Rattle.fm_frames.specs.States.{State}

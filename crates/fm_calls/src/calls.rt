@@ -59,9 +59,9 @@ pub fn words_with_receiver(program: &Program, m: MethodId) -> usize
     words_after_receiver(program.method(m).params.as_slice())
 }
 
-/// Enters a method whose arguments, with the receiver, are so many words: a built-in one does its row, and
-/// another one gets a frame. SinkFailed comes only where the sink's faults rose; after an error the machine
-/// isn't used again.
+/// Enters a method whose arguments, with the receiver, are `words` words: a built-in one does its
+/// row, and another one gets a frame. SinkFailed comes only where the sink's faults rose; after an
+/// error the machine isn't used again.
 pub fn enter<M: Memory, S: Sink>(
     alloc: Global,
     machine: &mut Machine<M>,

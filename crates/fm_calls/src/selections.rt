@@ -1,7 +1,7 @@
 // Which method a call calls (JVMS 6.5.invokevirtual, 6.5.invokeinterface, 6.5.invokespecial).
 //
-// Each call either finds the method, and nothing has changed yet; or it does the whole step, since the
-// receiver isn't what is asked for.
+// Each call either finds the method, and nothing has changed yet; or it does the whole step, since
+// the receiver isn't what is required.
 
 ghost use Rattle.std.specs.Prelude.{◌≡◌, ◌+◌, ◌<◌, ℕ, length, unwrap_or, IfOk};
 ghost use Rattle.std.specs.Option.{option_map};

@@ -19,7 +19,7 @@ use fm_world::Program;
 use std::alloc::Global;
 
 // Does what the start of the classes does, where none of them has a method that starts it and the
-// instruction itself needs so many words and frames. False where the run has ended.
+// instruction itself needs this many words and frames. False where the run has ended.
 fn prepare<M: Memory>(
     alloc: Global,
     machine: &mut Machine<M>,
@@ -87,9 +87,10 @@ fn enter<M: Memory>(
     Ok(())
 }
 
-/// Starts the class of an instruction and its superclasses, those of them that haven't started, where the
-/// instruction itself needs so many words and frames. False where the step is done: the frames of methods
-/// that start classes are on top, or the run has ended; else the instruction has still to be done.
+/// Starts the class of an instruction and its superclasses, those of them that haven't started,
+/// where the instruction itself needs this many words and frames. False where the step is done: the
+/// frames of methods that start classes are on top, or the run has ended; else the instruction has
+/// still to be done.
 pub(crate) fn start<M: Memory>(
     alloc: Global,
     machine: &mut Machine<M>,

@@ -66,8 +66,8 @@ fn sum_of_words<M: Memory>(
     words
 }
 
-/// The words of all that these actions make, each literal once, and so many more; at most the greatest
-/// 64-bit number.
+/// The words of all that these actions make, each literal once, and this many more; at most the
+/// greatest 64-bit number.
 pub fn start_words<M: Memory>(
     alloc: Global,
     machine: &Machine<M>,

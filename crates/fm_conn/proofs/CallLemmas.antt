@@ -74,9 +74,9 @@ link_complete ends entries e f m n one other linked =
       other = subst (λ v. Contains (link_pairs ends entries) (n, v)) (first_with-one all k n n m second) (Contains-map pair all (k, n) second);
     }
 
--- ---- what stands for ends at a call
+-- ---- the nodes of ends at a call
 
--- a call goes on to the next item alone
+-- a call goes on only to the next item
 pub call_fits : (most : ℕ) (x : TypedMethod) (i : Insn) (called : Call) → call_of x i ≡ Some called → PlaceFits most i (Given 0)
 call_fits most x (insn.Virtual index) called some = (refl, refl)
 call_fits most x (insn.Interface index) called some = (refl, refl)

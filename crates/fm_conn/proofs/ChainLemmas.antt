@@ -94,7 +94,7 @@ joined_is linked x pairs a b lists = (
 
 -- ---- least numbers
 
--- a number past those of the nodes is joined with itself alone
+-- a number past those of the nodes is joined only with itself
 past_alone : (n : ℕ) (pairs : List (ℕ × ℕ)) (a b : ℕ) → AreNodes n pairs → NumbersPaired pairs a b → (a < n) × (b < n)
 past_alone n pairs a b nodes (inl there) = All-contains (λ (pair : ℕ × ℕ). (pair.0 < n) × (pair.1 < n)) pairs (a, b) nodes there
 past_alone n pairs a b nodes (inr there) =

@@ -1,4 +1,4 @@
--- Ends that are listed with numbers, what stands for them at a call, and the first that stands for a number.
+-- Ends that are listed with numbers, their nodes at a call, and the first node of a number.
 use Rattle.std.proofs.Common.{◌≡◌, ℕ, true, false, cond, eqb, List, [], ◌∷◌, Option, Some, None, Contains, refl, ap, sym, ◌∙◌, subst, ⊎_elim, eq-eqb, eqb-true}
 use Rattle.std.proofs.lemmas.Bool.{false≢true}
 use Rattle.fm_base.proofs.ContainsFacts.{Contains-cons_cases}
@@ -22,7 +22,7 @@ pub links-from : (entries : List (End2 × ℕ)) (a b : End2) (n : ℕ) → end_n
     links entries a b ≡ true
 links-from entries a b n first second = (λ k. same_number (first k) (second k)) ∙ eq-eqb n n refl
 
--- ---- what stands for ends
+-- ---- the nodes of ends
 
 with_number-has : (o : Option ℕ) (x m n : ℕ) → Contains (with_number o x) (m, n) → (o ≡ Some m) × (n ≡ x)
 with_number-has None x m n found = absurd (Contains-none (m, n) found)

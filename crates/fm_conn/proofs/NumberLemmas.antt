@@ -58,7 +58,7 @@ square_apart s t d e small below same =
     let three : t * (s + 1) ≤ t * t = mul-le-mul_left t (let le : s + 1 ≤ t = omega arith in le) in
     omega arith
 
--- a pair of numbers can be told from this one
+-- a pair of numbers is another than this one
 squares : (j d k e : ℕ) → (j + d) * (j + d) + d ≡ (k + e) * (k + e) + e → (j ≡ k) × (d ≡ e)
 squares j d k e same =
     let equal : j + d ≡ k + e =
@@ -91,7 +91,7 @@ slot_number t j d =
     let both = if_below d (length (words_at t j)) (first_word t j + d) (node_count t + (2 * ((j + d) * (j + d) + d) + 1)) in
     record { near = both.0; within = λ here. let below = word_below t.words j d here in omega arith; far = both.1 }
 
--- the node at which a word's number stands
+-- the node of a word's number
 words_same : (t : NodeTable) (j d k e : ℕ) → d < length (words_at t j) → e < length (words_at t k) →
     first_word t j + d ≡ first_word t k + e → (j ≡ k) × (d ≡ e)
 words_same t j d k e here there same =

@@ -31,7 +31,8 @@ use Rattle.fm_conn.specs.inner.PairLists.{at_place, caught_pairs, following, ite
 
 -- ---- what the code is known to meet
 
--- each item has a state or none, locals lie within max_locals, and the row tells which items have a state
+-- each item has a state or none, locals lie within max_locals, and the row's bits are those of the
+-- items that have a state
 pub record IsTabled (x : TypedMethod) (reached : List Bool) : Type 0 where
   pub one_each : length x.states ≡ length x.code.items
   pub locals : (j : ℕ) (i : Insn) → insn_of x.code j ≡ Some i → LocalsFit x.code.max_locals i
@@ -167,7 +168,8 @@ staying_complete x j i s next d at (inr falls) low first second =
 
 -- ---- what instructions join
 
--- the places at which instructions join words: those with a given one go on to the next item alone, and locals are within max_locals
+-- the places at which instructions join words: those with a given one go on only to the next item,
+-- and locals are within max_locals
 abbrev pub PlaceFits : ℕ → Insn → Place → Type 0
 PlaceFits most i (Taken n) = Unit {0}
 PlaceFits most i (Given n) = (targets_of i ≡ []) × (falls_through i ≡ true)
@@ -217,7 +219,7 @@ joined_fit most o u (insn.Return (Some reg.Long)) fits = tt
 joined_fit most o u (insn.Return None) fits = tt
 joined_fit most o u i fits = tt
 
--- what stands at a place
+-- what is at a place
 pub record Stands (x : TypedMethod) (j : ℕ) (i : Insn) (p : Place) (n : ℕ) : Type 0 where
   pub node : Node
   pub at : StandsAt x j i p node

@@ -72,7 +72,7 @@ starts_done locals words starts next so_far is low =
       few = omega arith;
     }
 
--- ---- what the starts tell
+-- ---- what the starts give
 
 pub starts_count : (t : NodeTable) (starts : List ℕ) → AreStarts t starts → length starts ≡ length t.words + 1
 starts_count t starts are = ap length are.places ∙ length-map-range_with_len (first_word t) 0 (length t.words + 1)

@@ -35,7 +35,7 @@ state_of_node : (o : Option TypeState) (d : ℕ) → IsSomeAnd (option_and_then 
 state_of_node None d node = absurd node
 state_of_node (Some s) d node = has-from_map is_reference (reverse s.stack) d node
 
--- a word's bit tells whether it is a node
+-- a word's bit is set exactly where it is a node
 pub node_of_word : (x : TypedMethod) (j d : ℕ) → has (words_at (table_of x) j) d ≡ true → IsNode x (Slot j d)
 node_of_word x j d set = node_of_state (state_at x.states j) d (subst (λ w. has w d ≡ true) (words_of_item x j) set)
 

@@ -1,4 +1,4 @@
--- What the classes of a method tell: a number for each node.
+-- The classes of a method: a number for each node.
 use Rattle.std.specs.Prelude.{◌≡◌, ◌↔◌, ℕ, Bool, true}
 use Rattle.fm_base.specs.Rows.{has}
 use Rattle.fm_conn.specs.Nodes.{IsNode, Node, Slot, TypedMethod}
@@ -10,7 +10,7 @@ use Rattle.fm_conn.specs.inner.NodeTables.{class_in, words_at}
 abbrev pub local_count : Classes → ℕ
 local_count c = c.nodes.locals
 
--- whether a reference stands on the stack of an item at this place
+-- whether the stack of an item has a reference at this place
 abbrev pub has_class : Classes → ℕ → ℕ → Bool
 has_class c j depth = has (words_at c.nodes j) depth
 

@@ -15,11 +15,12 @@ use Rattle.fm_conn.specs.declared.class_numbers.Classes.{Classes}
 use Rattle.fm_conn.specs.declared.ends.End2.{End2}
 use Rattle.fm_conn.specs.declared.summaries.Summaries.{Summaries}
 
--- the links that facts tell
+-- the links that facts list
 abbrev pub links_of : Facts → Linking
 links_of facts method a b = facts.linked method a b ≡ true
 
--- two nodes that an item pairs have one number; at a call these are the nodes that stand for two linked ends of a method that may be called
+-- two nodes that an item pairs have one number; at a call these are the nodes of two linked ends of
+-- a method that may be called
 abbrev pub PairsHaveOneClass : Type 0
 PairsHaveOneClass =
     (p : Program) (facts : Facts) → AreFacts p facts → (method : ℕ) (code : Code) → code_at p method ≡ Some code → (j : ℕ) (a b : Node)
@@ -34,7 +35,7 @@ EndsOfOneClassAreLinked =
 
 -- ---- classes by summaries
 
--- of two ends what is linked is told, and no more than that
+-- the summaries link two ends of a method exactly where they are linked
 pub record TellLinks (p : Program) (typings : Typings) (s : Summaries) : Type 0 where
   pub all : (method : ℕ) (a b : End2) → IsEnd p.outline method a → IsEnd p.outline method b → Linked p typings method a b → linked_by s method a b
   pub no_more : (method : ℕ) (a b : End2) → linked_by s method a b → Linked p typings method a b

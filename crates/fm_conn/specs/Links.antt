@@ -1,4 +1,5 @@
--- Which ends of a method are linked by what it does, and by what the methods that it calls do: in rounds, the first of which has built-in methods alone.
+-- Which ends of a method are linked by what it does, and by what the methods that it calls do: in
+-- rounds, the first of which has only built-in methods.
 use Rattle.std.specs.Prelude.{◌≡◌, ℕ, zero, suc, ◌<◌, ◌⊎◌, List, [], ◌∷◌, ◌++◌, length, map, codes, Option, option_to_list, IsSomeAnd, Contains}
 use Rattle.fm_code.specs.declared.code_array.Code.{Code}
 use Rattle.fm_types.specs.States.{TypeState}
@@ -12,7 +13,7 @@ use Rattle.fm_conn.specs.declared.ends.End2.TheVariants as end
 
 -- ---- built-in methods
 
--- the answer is the receiver, or what it kept
+-- the result is the receiver, or what it kept
 abbrev pub result_and_receiver : List (End2 × End2)
 result_and_receiver = (end.Return, end.Parameter 0) ∷ []
 
@@ -20,12 +21,13 @@ result_and_receiver = (end.Return, end.Parameter 0) ∷ []
 abbrev pub of_row : List ℕ → List ℕ → List ℕ → List (End2 × End2) → List (ℕ × List (End2 × End2))
 of_row class name descriptor links = map (λ row. (row, links)) (option_to_list (row_of class name descriptor))
 
--- `StringBuilder.append` of what this descriptor tells answers its receiver
+-- `StringBuilder.append` with this descriptor returns its receiver
 abbrev pub appended : List ℕ → List (ℕ × List (End2 × End2))
 appended letter =
     of_row (codes "java/lang/StringBuilder") (codes "append") (codes "(" ++ letter ++ codes ")Ljava/lang/StringBuilder;") result_and_receiver
 
--- what built-in methods link, by their rows: an answer that is the receiver or that it kept, a message that is kept, and what FreeMe chains
+-- what built-in methods link, by their rows: a result that is the receiver or that it kept, a
+-- message that is kept, and what FreeMe chains
 unfoldable pub native_links : List (ℕ × List (End2 × End2))
 native_links =
     of_row (codes "java/lang/String") (codes "toString") (codes "()Ljava/lang/String;") result_and_receiver

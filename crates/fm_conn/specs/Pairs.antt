@@ -19,7 +19,7 @@ use Rattle.fm_conn.specs.declared.ends.End2.TheVariants as end
 
 -- ---- the item
 
--- what the index of an instruction stands for in the method's class
+-- what the index of an instruction refers to in the method's class
 abbrev pub use_at : TypedMethod → Insn → Use
 use_at x i = use_by x.program x.number i
 
@@ -27,7 +27,8 @@ use_at x i = use_by x.program x.number i
 abbrev pub depth_below : TypedMethod → ℕ → Insn → ℕ
 depth_below x j i = depth_at x j - words_taken x.program.outline (use_at x i) i
 
--- the node at a place of the item: what is given stands on the stack of each item that follows, where nothing was thrown
+-- the node at a place of the item: what is given is on the stack of each item that follows, where
+-- nothing was thrown
 abbrev pub StandsAt : TypedMethod → ℕ → Insn → Place → Node → Type 0
 StandsAt x j i (Taken n) node = node ≡ Slot j (depth_at x j - 1 - n)
 StandsAt x j i (Given n) node = (next : ℕ) × (IsNormalEdge x.code j next × (node ≡ Slot next (depth_below x j i + n)))
@@ -61,7 +62,8 @@ IsEnd o method (end.Parameter k) = IsSomeAnd (slice_get (entry_slots o method) k
 IsEnd o method end.Return = IsSomeAnd (result_of o method) (λ k. is_reference_kind k ≡ true)
 IsEnd o method end.Global = Unit {0}
 
--- what stands for an end of the method that is called: the words of the arguments in the order of its locals, what is given, and Global
+-- the node of an end of the method that is called: the words of the arguments in the order of its
+-- locals, what is given, and Global
 abbrev pub StandsFor : TypedMethod → ℕ → Insn → End2 → Node → Type 0
 StandsFor x j i (end.Parameter k) node = node ≡ Slot j (depth_below x j i + k)
 StandsFor x j i end.Return node = StandsAt x j i (Given 0) node
@@ -90,7 +92,7 @@ pub record JoinedAt (x : TypedMethod) (j : ℕ) (i : Insn) (a b : Node) : Type 0
   pub first : StandsAt x j i one a
   pub second : StandsAt x j i other b
 
--- what stands for two ends that a method which may be called links
+-- the nodes of two ends that are linked by a method which may be called
 pub record CalledAt (linked : Linking) (x : TypedMethod) (j : ℕ) (i : Insn) (a b : Node) : Type 0 where
   pub called : Call
   pub is : call_of x i ≡ Some called

@@ -1,4 +1,4 @@
--- What a shape tells of a method: the classes that its own instructions make, at its ends and at its calls.
+-- The shape of a method: the classes that its own instructions make, at its ends and at its calls.
 use Rattle.std.specs.Prelude.{◌≡◌, ◌<◌, ◌↔◌, ℕ, List, Option, Some, IsSomeAnd, Contains, length, slice_get}
 use Rattle.fm_base.specs.declared.kinds.TypeRef.{TypeRef}
 use Rattle.fm_code.specs.Edges.{insn_of}
@@ -63,20 +63,21 @@ pub record MakesCall (x : TypedMethod) (j : ℕ) (insn : Insn) (called : Call) :
   pub reached : IsReached x j
   pub calls : call_of x insn ≡ Some called
 
--- what stands for an end of the methods that are called has this number
+-- the node of an end of the methods that are called has this number
 pub record HasStandIn (x : TypedMethod) (class : Node → ℕ) (j : ℕ) (insn : Insn) (e : End2) (number : ℕ) : Type 0 where
   pub node : Node
   pub stands : StandsFor x j insn e node
   pub is_node : IsNode x node
   pub is : number ≡ class node
 
--- the call of item j, with the numbers of all that stands for ends there
+-- the call of item j, with the numbers of the nodes of all ends there
 pub record IsCallShapeAt (x : TypedMethod) (class : Node → ℕ) (j : ℕ) (shape : CallShape) : Type 0 where
   pub insn : Insn
   pub makes : MakesCall x j insn shape.call
   pub ends : (e : End2) (number : ℕ) → Contains shape.ends (e, number) ↔ HasStandIn x class j insn e number
 
--- nodes have one number where the method's own pairs join them; the method's ends have the numbers of their nodes; and each call is told
+-- nodes have one number where the method's own pairs join them; the method's ends have the numbers
+-- of their nodes; and each call is listed
 pub record IsShapeOf (x : TypedMethod) (shape : Shape) : Type 0 where
   pub class : Node → ℕ
   pub same : (a b : Node) → (class a ≡ class b) ↔ Joined nothing_linked x a b

@@ -1,4 +1,4 @@
--- What summaries tell of the ends of methods.
+-- Summaries: which ends of methods are linked.
 use Rattle.std.specs.Prelude.{◌≡◌, ◌==◌, ℕ, Bool, true, false, List, [], ◌∷◌, length, Option, Some, None, IsSome, if◌then◌else◌}
 use Rattle.std.specs.List.{slice_index_or}
 use Rattle.fm_world.specs.Members.{methods_of}

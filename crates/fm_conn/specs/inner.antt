@@ -1,4 +1,5 @@
--- What serves the code and the proofs alone: the numbers of nodes, and the pairs of a method as a list of numbers.
+-- What only serves the code and the proofs: the numbers of nodes, and the pairs of a method as a
+-- list of numbers.
 pub mod NodeTables
 pub mod ListedEnds
 pub mod PairLists

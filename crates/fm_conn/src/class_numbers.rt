@@ -27,8 +27,8 @@ impl Classes {
         self.least[usize::from(k)]
     }
 
-    /// The class of a word of the stack at item j that has d words below it; none exactly where no
-    /// reference stands there. Takes no memory.
+    /// The class of a word of the stack at item j that has d words below it; none exactly where
+    /// there is no reference. Takes no memory.
     pub fn of_slot(&self, j: u32, d: u16) -> Option<u32>
         ensures some { is_some result ≡ has_class self.now j d }
         ensures class { IfSome result (λ class. class ≡ class_of self.now (node.Slot j d)) }

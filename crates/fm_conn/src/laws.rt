@@ -9,8 +9,9 @@ pub fn law_joined_example()
     ensures { Joined linked_in_example example made_word kept_in }
 {}
 
-/// Of facts that are exact: two nodes that an item pairs have one number, and two ends of a method that
-/// have one number are linked. Where summaries tell the links, the classes by them are those of facts.
+/// Of facts that are exact: two nodes that an item pairs have one number, and two ends of a method
+/// that have one number are linked. Where summaries are exact, the classes by them are those of
+/// facts.
 pub fn law_facts()
     ensures pairs { PairsHaveOneClass }
     ensures ends { EndsOfOneClassAreLinked }

@@ -1,9 +1,9 @@
 // Which objects of a method belong together: its locals and the words of its stack are nodes, and each
 // instruction joins some of them (Free-Me's connectivity).
 //
-// The layers above use that `classes` gives two nodes one number exactly where they are joined, as given
-// summaries link the ends of the methods that are called, and that a shape tells what the method's own
-// instructions join at its ends and at its calls.
+// The layers above use that `classes` gives two nodes one number exactly where they are joined, as
+// given summaries link the ends of the methods that are called, and that a shape lists what the
+// method's own instructions join at its ends and at its calls.
 #![tactic(auto)]
 
 mod class_numbers;

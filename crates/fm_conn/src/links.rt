@@ -18,7 +18,7 @@ use fm_base::{MethodId, NoMemory};
 use fm_world::Call;
 use std::alloc::Global;
 
-/// What stands for the ends of a method that is called here: the words of its arguments, what it
+/// The nodes of the ends of a method that is called here: the words of its arguments, what it
 /// gives, and Global.
 #[tactic(auto, unfolding(crate::specs::inner::PairLists::stand_ins))]
 pub fn stand_ins(alloc: Global, at: &ItemNodes<'_>) -> Result<Vec<(End2, u32)>, NoMemory>
@@ -35,7 +35,7 @@ pub fn stand_ins(alloc: Global, at: &ItemNodes<'_>) -> Result<Vec<(End2, u32)>, 
     Ok(ends)
 }
 
-// The number of a local. No stack has so many words that one has none.
+// The number of a local; `NoMemory` where it doesn't fit 16 bits, which no stack reaches.
 fn local_of(k: u32) -> Result<u16, NoMemory>
     ensures { IfOk result (λ local. local ≡ k) }
 {
@@ -45,7 +45,7 @@ fn local_of(k: u32) -> Result<u16, NoMemory>
     }
 }
 
-// Puts the end after the last one, where something stands for it.
+// Puts the end after the last one, where it has a node.
 fn push_end(ends: &mut Vec<(End2, u32)>, end: End2, number: Option<u32>) -> Result<(), NoMemory>
     ensures { OnOk result (ends.new.items ≡ ends.old.items ++ end_entry end number) }
 {

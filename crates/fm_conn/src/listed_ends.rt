@@ -1,4 +1,4 @@
-// What stands at a call for the ends that a method lists, by their numbers there.
+// The nodes at a call of the ends that a method lists, by their numbers there.
 
 ghost use Rattle.std.specs.Prelude.{◌≡◌, IfOk};
 ghost use Rattle.fm_conn.specs.inner.ListedEnds.{first_with, numbered};
@@ -8,8 +8,8 @@ use crate::summaries::end_number;
 use fm_base::NoMemory;
 use std::alloc::Global;
 
-/// For each end of a call that the method which is called lists, in the order of the call: its number
-/// among the method's entries, and the number of what stands for it.
+/// For each end of a call that the method which is called lists, in the order of the call: its
+/// number among the method's entries, and the number of its node here.
 pub fn numbered(
     alloc: Global,
     entries: &[(End2, u32)],
@@ -26,7 +26,7 @@ pub fn numbered(
     Ok(found)
 }
 
-/// What stands for the first end of this number, and `otherwise` where there is none. Takes no memory.
+/// The node of the first end of this number, and `otherwise` where there is none. Takes no memory.
 pub fn first_with(found: &[(u32, u32)], number: u32, otherwise: u32) -> u32
     ensures { result ≡ first_with found.now number otherwise }
 {

@@ -32,7 +32,7 @@ impl Method<'_> {
         self.program.method(self.number).class
     }
 
-    /// What the index that an instruction names stands for.
+    /// What the index that an instruction names refers to.
     pub fn use_at(&self, insn: &Insn) -> Use
         requires { self.now.number.0 < length (methods_of self.now.program.now.outline.classes) }
         ensures { result ≡ use_at (method_in self.now) insn.now }

@@ -34,7 +34,7 @@ impl Model for Nodes {
 }
 
 impl Nodes {
-    /// The nodes of a method with so many locals and these states.
+    /// The nodes of a method with `locals` locals and these states.
     pub fn of(alloc: Global, locals: u16, typing: &Typing) -> Result<Nodes, NoMemory>
         ensures { IfOk result (λ nodes. nodes ≡ table_with locals (states_of typing.now)) }
     {
@@ -104,7 +104,7 @@ impl Nodes {
         u32::from(self.locals) + 1
     }
 
-    /// The number of the word that has so many words below it on the stack of an item, where it is
+    /// The number of the word that has `depth` words below it on the stack of an item, where it is
     /// there and holds a reference.
     pub fn slot(&self, item: usize, depth: usize) -> Option<u32>
         ensures { result ≡ slot_number self.now item depth }
@@ -118,7 +118,7 @@ impl Nodes {
     }
 }
 
-// The sum, where it fits. A method with so many words has no table of them.
+// The sum; `NoMemory` where it doesn't fit 32 bits: such a table isn't made.
 fn sum(next: u32, words: usize) -> Result<u32, NoMemory>
     ensures sum { IfOk result (λ after. after ≡ next + words) }
     ensures few { IfOk result (λ after. after < 2 ^ 32) }

@@ -161,7 +161,7 @@ fn parameters_of(
     }
 }
 
-// The first so many locals, where they hold a reference.
+// The first `count` locals, where they hold a reference.
 fn references_of(
     alloc: Global,
     locals: &[Slot],
@@ -193,7 +193,7 @@ fn is_reference_at(locals: &[Slot], k: u16) -> bool
     }
 }
 
-// The same of what stands for ends at a call.
+// The same of the nodes of ends at a call.
 fn with_classes(
     alloc: Global,
     least: &[u32],

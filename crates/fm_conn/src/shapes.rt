@@ -4,7 +4,7 @@ use crate::ends::End2;
 use fm_base::Seq;
 use fm_world::Call;
 
-/// A call with what stands for the ends of the methods that are called, each with its number.
+/// A call with the nodes of the ends of the methods that are called, by their numbers.
 #[derive(Debug, Drop)]
 pub struct CallShape {
     pub call: Call,

@@ -1,4 +1,4 @@
-// Which ends of methods are linked, told by numbers.
+// Which ends of methods are linked, by numbers: equal ones are linked.
 
 ghost use Rattle.std.specs.Prelude.{◌≡◌, ◌<◌, length};
 ghost use Rattle.fm_conn.specs.Summaries.{end_number, is_linked, is_same_end, links};

@@ -4,7 +4,7 @@ use Rattle.std.specs.Ordering.{int_eq}
 use Rattle.fm_exec.proofs.PlainSteps.{key-found, key-missing}
 use Rattle.fm_frames.specs.JumpRows.{key_target}
 
--- the item of a key among so many keys and targets
+-- the item of a key among this many keys and targets
 abbrev Leads : List ℤ → List ℕ → ℕ → ℕ → ℤ → Type 0
 Leads keys targets others item key =
     slice_get (others ∷ targets) (key_target (position (int_eq key) (take (length targets) keys))) ≡ Some item

@@ -1,4 +1,4 @@
--- Rows that look at no object: what their effects come to by what the operands are.
+-- Rows that look at no object: their effects by what the operands are.
 use Rattle.std.proofs.Common.{◌≡◌, ℕ, ◌<◌, ◌≤◌, ℤ, pos, not, Bool, true, false, if◌then◌else◌, List, [], ◌∷◌, length, min, take, position, get_or, Option, Some, None, Result, OnOk, slice_get, refl, ap, sym, ◌∙◌, subst, arith, add-one, length-take}
 use Rattle.std.proofs.lemmas.List.Quantifiers.{position-Some}
 use Rattle.std.proofs.lemmas.List.{take_min}
@@ -110,7 +110,7 @@ cell-jumps p choose x y null found is there does =
     with-reference p choose x y 0 found (null_follows null) (going 1 (jumps_if (not null))) is
     (there (null_follows null) ∙ ap (λ b. going 1 (jumps_if b)) (turned-test null)) does
 
--- the item of a target, where the frame stands at an instruction
+-- the item of a target, where the frame is at an instruction
 abbrev target_in : Program → Frame → ℕ → Option Insn → ℕ
 target_in p f n None = f.item
 target_in p f n (Some i) = get_or (targets_of i) n f.item

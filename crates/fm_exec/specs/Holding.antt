@@ -1,5 +1,6 @@
--- What rows ask of the numbers in objects and of the values that are put there: that they are of the kinds of their places; and of the lengths of arrays.
--- Each state of a typed program is so.
+-- What rows require of the numbers in objects and of the values that are put there: that they are
+-- of the kinds of their places; and of the lengths of arrays. Each state of a typed program has
+-- them.
 use Rattle.std.specs.Prelude.{◌≡◌, ℕ, ◌+◌, ◌-◌, ◌<◌, ◌^◌, length, nat_lt, true, Some}
 use Rattle.fm_cells.specs.Objects.{Object}
 use Rattle.fm_cells.specs.Stores.{object_at}

@@ -1,4 +1,4 @@
--- What a row of the code does, told by its effect.
+-- What a row of the code does, stated by its effect.
 use Rattle.std.specs.Prelude.{ℕ}
 use Rattle.fm_code.specs.declared.operations.Reg.{Reg}
 use Rattle.fm_code.specs.declared.operations.Reg.TheVariants as reg

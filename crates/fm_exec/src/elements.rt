@@ -242,8 +242,8 @@ fn put_reference<M: Memory>(
     }
 }
 
-/// aastore. The value is asked for its type in the run, unless it is null. Takes no memory where it throws
-/// nothing.
+/// aastore. The type of the value is tested in the run, unless it is null. Takes no memory where it
+/// throws nothing.
 #[inline(always)]
 pub fn reference_store<M: Memory>(
     machine: &mut Machine<M>,

@@ -73,7 +73,7 @@ pub fn fits_named(program: &Program, head: Head, named: TypeId) -> bool
     fits_type(program, type_in(program, head), program.type_of(named))
 }
 
-/// Puts a value of a kind in place of so many words: a long takes two.
+/// Puts a value of a kind in place of `takes` words: a long takes two.
 #[inline(always)]
 pub fn give<M: Memory>(
     machine: &mut Machine<M>,

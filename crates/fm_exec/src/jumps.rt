@@ -31,7 +31,7 @@ pub fn holds(test: Test, a: i32, b: i32) -> bool
     }
 }
 
-// Takes so many words, and goes on at the instruction's one target or at the next item.
+// Takes `takes` words, and goes on at the instruction's one target or at the next item.
 #[inline(always)]
 fn branch<M: Memory>(machine: &mut Machine<M>, takes: usize, taken: bool, target: u32)
     requires { IsReady machine.old }

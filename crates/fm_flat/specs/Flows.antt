@@ -18,7 +18,7 @@ on x frames = record x { frames = frames }
 abbrev pub stepped_on : State → List Frame → State
 stepped_on x frames = record x { frames = frames; steps = x.steps + 1 }
 
--- a state with these frames, at which so many steps are done
+-- a state with these frames, at which `steps` steps are done
 abbrev pub resumed : State → List Frame → (steps : ℕ) → State
 resumed x frames steps = record x { frames = frames; steps = steps }
 
@@ -26,14 +26,14 @@ resumed x frames steps = record x { frames = frames; steps = steps }
 abbrev pub Flows : (old new : List Frame) → (Program → State → Effect) → Type 0
 Flows old new effect = (p : Program) (choose : Choose) (x : State) → Steps p choose (on x old) (stepped_on x new) (effect p (on x old))
 
--- the same in each program in which the topmost frame stands at this instruction
+-- the same in each program in which the topmost frame is at this instruction
 abbrev pub FlowsAt : (old new : List Frame) → Insn → (Program → State → Effect) → Type 0
 FlowsAt old new i effect =
     (p : Program) (choose : Choose) (x : State) → IsAtIn p old i → Steps p choose (on x old) (stepped_on x new) (effect p (on x old))
 
 -- ---- the topmost frame
 
--- it goes on to the next item, with a word in place of so many
+-- it goes on to the next item, with a word in place of `takes`
 abbrev pub with_given : (takes : ℕ) → Value → Frame → Frame
 with_given takes v f = record f { item = f.item + 1; stack = v ∷ drop takes f.stack }
 
@@ -41,7 +41,7 @@ with_given takes v f = record f { item = f.item + 1; stack = v ∷ drop takes f.
 abbrev pub with_given_wide : (takes : ℕ) → Value → Frame → Frame
 with_given_wide takes v f = record f { item = f.item + 1; stack = value.Top ∷ v ∷ drop takes f.stack }
 
--- it goes on to the next item, without so many words and with a local that has this value
+-- it goes on to the next item, without `takes` words and with a local that has this value
 abbrev pub with_stored : (takes place : ℕ) → Value → Frame → Frame
 with_stored takes place v f = record f { item = f.item + 1; locals = slice_set f.locals place v; stack = drop takes f.stack }
 
@@ -53,6 +53,6 @@ with_stored_wide takes place v f = record f {
   stack = drop takes f.stack;
 }
 
--- it goes on at an item or at the next one, without so many words
+-- it goes on at an item or at the next one, without `takes` words
 abbrev pub with_branched : (takes : ℕ) → Bool → (target : ℕ) → Frame → Frame
 with_branched takes taken target f = record f { item = (if taken then target else f.item + 1); stack = drop takes f.stack }

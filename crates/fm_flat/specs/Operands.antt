@@ -1,4 +1,4 @@
--- What rows ask of the words that they look at, which typed code has there.
+-- What rows require of the words that they look at, which typed code has there.
 use Rattle.std.specs.Prelude.{◌≡◌, ◌≢◌, ℕ, ℤ, List, Some, slice_get}
 use Rattle.fm_base.specs.declared.kinds.Kind.{Kind}
 use Rattle.fm_base.specs.declared.kinds.Kind.TheVariants as kind
@@ -44,36 +44,38 @@ HasIntLocal frames place = (n : ℤ) × (word_at (locals_in frames) place ≡ va
 abbrev pub HasReferenceLocal : List Frame → (place : ℕ) → Type 0
 HasReferenceLocal frames place = (cell : Cell) × (word_at (locals_in frames) place ≡ value.Ref cell)
 
--- what a load of a kind asks of its local (JVMS 6.5.iload, 6.5.lload, 6.5.aload)
+-- what a load of a kind requires of its local (JVMS 6.5.iload, 6.5.lload, 6.5.aload)
 abbrev pub HasLocalOf : Reg → List Frame → (place : ℕ) → Type 0
 HasLocalOf reg.Int frames place = HasIntLocal frames place
 HasLocalOf reg.Long frames place = HasLocal frames place
 HasLocalOf reg.Ref frames place = HasReferenceLocal frames place
 
--- what a store of a kind asks of the stack (JVMS 6.5.istore, 6.5.lstore, 6.5.astore)
+-- what a store of a kind requires of the stack (JVMS 6.5.istore, 6.5.lstore, 6.5.astore)
 abbrev pub HasWordOf : Reg → List Frame → Type 0
 HasWordOf reg.Int frames = HasInt frames 0
 HasWordOf reg.Long frames = HasLong frames 1
 HasWordOf reg.Ref frames = HasReference frames 0
 
--- what a conversion asks (JVMS 6.5.i2l and its like)
+-- what a conversion requires (JVMS 6.5.i2l and its like)
 abbrev pub AsksOfConversion : Conv → List Frame → Type 0
 AsksOfConversion conv.LongToInt frames = HasLong frames 1
 AsksOfConversion to frames = HasInt frames 0
 
--- what a store into an array asks: the array, an index and a number; of one into an array of references nothing is asked (JVMS 6.5.iastore and its like)
+-- what a store into an array requires: the array, an index and a number; one into an array of
+-- references requires nothing (JVMS 6.5.iastore and its like)
 abbrev pub AsksOfStore : Elem → List Frame → Type 0
 AsksOfStore elem.Long frames = HasReference frames 3 × HasInt frames 2 × HasLong frames 1
 AsksOfStore elem.Ref frames = Unit {0}
 AsksOfStore e frames = HasReference frames 2 × HasInt frames 1 × HasInt frames 0
 
--- what putfield asks where the field is of the kind: an object below a value of the kind (JVMS 6.5.putfield)
+-- what putfield requires where the field is of the kind: an object below a value of the kind (JVMS
+-- 6.5.putfield)
 abbrev pub AsksOfPut : Kind → List Frame → Type 0
 AsksOfPut kind.Long frames = HasReference frames 2 × HasLong frames 1
 AsksOfPut (kind.Ref t) frames = HasReference frames 1 × HasReference frames 0
 AsksOfPut k frames = HasReference frames 1 × HasInt frames 0
 
--- what the row of an instruction asks of the topmost frame (JVMS 4.9.2)
+-- what the row of an instruction requires of the topmost frame (JVMS 4.9.2)
 abbrev pub AsksOf : Insn → List Frame → Type 0
 AsksOf (insn.Load kind place) frames = HasLocalOf kind frames place
 AsksOf (insn.Store kind place) frames = HasWordOf kind frames

@@ -9,7 +9,7 @@ use crate::operands::{give_wide, push};
 use fm_cells::Cell;
 use fm_frames::{Frames, Value};
 
-/// An int is pushed; tells whether it was done. Takes no memory.
+/// An int is pushed; returns whether it was done. Takes no memory.
 #[inline(always)]
 pub fn int_constant(frames: &mut Frames, n: i32) -> bool
     requires fits { NextFits frames.old }
@@ -19,7 +19,7 @@ pub fn int_constant(frames: &mut Frames, n: i32) -> bool
     push(frames, Value::Int(n))
 }
 
-/// A long is pushed; tells whether it was done. Takes no memory.
+/// A long is pushed; returns whether it was done. Takes no memory.
 #[inline(always)]
 pub fn long_constant(frames: &mut Frames, n: i64) -> bool
     requires fits { NextFits frames.old }
@@ -29,7 +29,7 @@ pub fn long_constant(frames: &mut Frames, n: i64) -> bool
     give_wide(frames, 0, Value::Long(n))
 }
 
-/// aconst_null; tells whether it was done. Takes no memory.
+/// aconst_null; returns whether it was done. Takes no memory.
 #[inline(always)]
 pub fn null(frames: &mut Frames) -> bool
     requires fits { NextFits frames.old }

@@ -15,7 +15,7 @@ use fm_code::Test;
 use fm_exec::holds;
 use fm_frames::Frames;
 
-// A test's answer, or with `false` the contrary.
+// A test's result, or with `false` the contrary.
 #[inline(always)]
 fn as_wanted(test: bool, wanted: bool) -> bool
     ensures { result ≡ (if wanted then test else not test) }
@@ -23,7 +23,7 @@ fn as_wanted(test: bool, wanted: bool) -> bool
     if wanted { test } else { !test }
 }
 
-// Takes so many words, and goes on at an item or at the next one.
+// Takes `takes` words, and goes on at an item or at the next one.
 #[inline(always)]
 fn branch(frames: &mut Frames, takes: usize, taken: bool, target: u32)
     requires { NextFits frames.old }
@@ -37,7 +37,7 @@ fn branch(frames: &mut Frames, takes: usize, taken: bool, target: u32)
     frames.drop_words(takes);
 }
 
-/// ifeq and its like, of an int and 0; tells that it was done. Takes no memory.
+/// ifeq and its like, of an int and 0; always returns true. Takes no memory.
 #[inline(always)]
 pub fn if_int(frames: &mut Frames, test: Test, target: u32) -> bool
     requires fits { NextFits frames.old }
@@ -51,7 +51,7 @@ pub fn if_int(frames: &mut Frames, test: Test, target: u32) -> bool
     true
 }
 
-/// if_icmpeq and its like, of two ints; tells that it was done. Takes no memory.
+/// if_icmpeq and its like, of two ints; always returns true. Takes no memory.
 #[inline(always)]
 pub fn if_pair(frames: &mut Frames, test: Test, target: u32) -> bool
     requires fits { NextFits frames.old }
@@ -67,7 +67,7 @@ pub fn if_pair(frames: &mut Frames, test: Test, target: u32) -> bool
     true
 }
 
-/// if_acmpeq, and with `false` if_acmpne; tells that it was done. Takes no memory.
+/// if_acmpeq, and with `false` if_acmpne; always returns true. Takes no memory.
 #[inline(always)]
 pub fn if_same(frames: &mut Frames, same: bool, target: u32) -> bool
     requires fits { NextFits frames.old }
@@ -83,7 +83,7 @@ pub fn if_same(frames: &mut Frames, same: bool, target: u32) -> bool
     true
 }
 
-/// ifnull, and with `false` ifnonnull; tells that it was done. Takes no memory.
+/// ifnull, and with `false` ifnonnull; always returns true. Takes no memory.
 #[inline(always)]
 pub fn if_null(frames: &mut Frames, null: bool, target: u32) -> bool
     requires fits { NextFits frames.old }

@@ -1,8 +1,9 @@
 // Steps of simple instructions over frames that are taken out of a machine (JVMS 6.5).
 //
-// Each row does the whole step of its instruction, or tells that it did nothing: where a division has no
-// result, or where there is no room for a word. What typed code has on the stack and in locals most rows ask
-// for, and don't test. None makes or frees an object, ends the run or changes how many frames there are.
+// Each row does the whole step of its instruction, or returns false and changes nothing: where a
+// division has no result, or where there is no room for a word. Most rows require what typed code
+// has on the stack and in locals, and don't test it. None makes or frees an object, ends the run or
+// changes how many frames there are.
 #![tactic(auto)]
 
 mod constants;

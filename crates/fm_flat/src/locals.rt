@@ -14,7 +14,7 @@ use fm_code::Reg;
 use fm_exec::int_sum;
 use fm_frames::{Frames, Value};
 
-/// iload, lload and aload; tells whether it was done. Takes no memory.
+/// iload, lload and aload; returns whether it was done. Takes no memory.
 #[inline(always)]
 pub fn load(frames: &mut Frames, kind: Reg, place: u16) -> bool
     requires fits { NextFits frames.old }
@@ -38,7 +38,7 @@ pub fn load(frames: &mut Frames, kind: Reg, place: u16) -> bool
     }
 }
 
-/// istore, lstore and astore; tells that it was done. Takes no memory.
+/// istore, lstore and astore; always returns true. Takes no memory.
 #[inline(always)]
 pub fn store(frames: &mut Frames, kind: Reg, place: u16) -> bool
     requires fits { NextFits frames.old }
@@ -93,7 +93,7 @@ fn store_long(frames: &mut Frames, place: u16) -> bool
     true
 }
 
-/// iinc; tells that it was done. Takes no memory.
+/// iinc; always returns true. Takes no memory.
 #[inline(always)]
 pub fn increment(frames: &mut Frames, place: u16, by: i16) -> bool
     requires fits { NextFits frames.old }

@@ -14,8 +14,8 @@ use fm_code::{Conv, Op, Shift};
 use fm_exec::{negated_int, negated_long};
 use fm_frames::{Frames, Value};
 
-/// iadd, isub, imul, idiv, irem, iand, ior and ixor; tells whether it was done, which a division by 0 isn't.
-/// Takes no memory.
+/// iadd, isub, imul, idiv, irem, iand, ior and ixor; returns whether it was done, which a division
+/// by 0 isn't. Takes no memory.
 #[inline(always)]
 pub fn int_op(frames: &mut Frames, op: Op) -> bool
     requires fits { NextFits frames.old }
@@ -33,8 +33,8 @@ pub fn int_op(frames: &mut Frames, op: Op) -> bool
     }
 }
 
-/// ladd, lsub, lmul, ldiv, lrem, land, lor and lxor; tells whether it was done, which a division by 0 isn't.
-/// Takes no memory.
+/// ladd, lsub, lmul, ldiv, lrem, land, lor and lxor; returns whether it was done, which a division
+/// by 0 isn't. Takes no memory.
 #[inline(always)]
 pub fn long_op(frames: &mut Frames, op: Op) -> bool
     requires fits { NextFits frames.old }
@@ -52,7 +52,7 @@ pub fn long_op(frames: &mut Frames, op: Op) -> bool
     }
 }
 
-/// ineg; tells whether it was done. Takes no memory.
+/// ineg; returns whether it was done. Takes no memory.
 #[inline(always)]
 pub fn int_negate(frames: &mut Frames) -> bool
     requires fits { NextFits frames.old }
@@ -66,7 +66,7 @@ pub fn int_negate(frames: &mut Frames) -> bool
     give(frames, 1, Value::Int(negated_int(a)))
 }
 
-/// lneg; tells whether it was done. Takes no memory.
+/// lneg; returns whether it was done. Takes no memory.
 #[inline(always)]
 pub fn long_negate(frames: &mut Frames) -> bool
     requires fits { NextFits frames.old }
@@ -80,7 +80,7 @@ pub fn long_negate(frames: &mut Frames) -> bool
     give_wide(frames, 2, Value::Long(negated_long(a)))
 }
 
-/// ishl, ishr and iushr, whose count is on top; tells whether it was done. Takes no memory.
+/// ishl, ishr and iushr, whose count is on top; returns whether it was done. Takes no memory.
 #[inline(always)]
 pub fn int_shift(frames: &mut Frames, shift: Shift) -> bool
     requires fits { NextFits frames.old }
@@ -95,7 +95,7 @@ pub fn int_shift(frames: &mut Frames, shift: Shift) -> bool
     give(frames, 2, Value::Int(fm_alu::int_shift(shift, a, n)))
 }
 
-/// lshl, lshr and lushr, whose count is on top; tells whether it was done. Takes no memory.
+/// lshl, lshr and lushr, whose count is on top; returns whether it was done. Takes no memory.
 #[inline(always)]
 pub fn long_shift(frames: &mut Frames, shift: Shift) -> bool
     requires fits { NextFits frames.old }
@@ -112,7 +112,7 @@ pub fn long_shift(frames: &mut Frames, shift: Shift) -> bool
     give_wide(frames, 3, Value::Long(fm_alu::long_shift(shift, a, n)))
 }
 
-/// lcmp; tells whether it was done. Takes no memory.
+/// lcmp; returns whether it was done. Takes no memory.
 #[inline(always)]
 pub fn long_compare(frames: &mut Frames) -> bool
     requires fits { NextFits frames.old }
@@ -169,7 +169,7 @@ fn narrow(frames: &mut Frames) -> bool
     give(frames, 2, Value::Int(n as i32))
 }
 
-/// i2l, l2i, i2b, i2c and i2s; tells whether it was done. Takes no memory.
+/// i2l, l2i, i2b, i2c and i2s; returns whether it was done. Takes no memory.
 #[inline(always)]
 pub fn convert(frames: &mut Frames, to: Conv) -> bool
     requires fits { NextFits frames.old }

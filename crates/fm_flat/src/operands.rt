@@ -117,8 +117,8 @@ pub fn long_operand(frames: &Frames, place: usize) -> Option<i64>
     }
 }
 
-/// Puts a word on top of the stack, if there is room for it, and goes on to the next item; tells whether that
-/// was done. Takes no memory.
+/// Puts a word on top of the stack, if there is room for it, and goes on to the next item; returns
+/// whether that was done. Takes no memory.
 #[inline(always)]
 pub fn push(frames: &mut Frames, value: Value) -> bool
     requires fits { NextFits frames.old }
@@ -132,8 +132,8 @@ pub fn push(frames: &mut Frames, value: Value) -> bool
     true
 }
 
-/// Puts a word in place of so many, if they are there, and goes on to the next item; tells whether that was
-/// done. Takes no memory.
+/// Puts a word in place of `takes`, if they are there, and goes on to the next item; returns
+/// whether that was done. Takes no memory.
 #[inline(always)]
 pub fn give(frames: &mut Frames, takes: usize, value: Value) -> bool
     requires fits { NextFits frames.old }
@@ -148,8 +148,8 @@ pub fn give(frames: &mut Frames, takes: usize, value: Value) -> bool
     true
 }
 
-/// Puts a long and its second half in place of so many words, if they are there and there is room for both,
-/// and goes on to the next item; tells whether that was done. Takes no memory.
+/// Puts a long and its second half in place of `takes` words, if they are there and there is room
+/// for both, and goes on to the next item; returns whether that was done. Takes no memory.
 #[inline(always)]
 pub fn give_wide(frames: &mut Frames, takes: usize, value: Value) -> bool
     requires fits { NextFits frames.old }
@@ -163,7 +163,7 @@ pub fn give_wide(frames: &mut Frames, takes: usize, value: Value) -> bool
     true
 }
 
-// Takes so many words off the stack, gives a local a value, and goes on to the next item.
+// Takes `takes` words off the stack, gives a local a value, and goes on to the next item.
 #[inline(always)]
 pub(crate) fn put_local(frames: &mut Frames, takes: usize, place: u16, value: Value)
     requires { NextFits frames.old }

@@ -10,7 +10,7 @@ ghost use Rattle.fm_frames.specs.inner.Doings.{NextFits};
 use crate::operands::{push, word_there};
 use fm_frames::Frames;
 
-/// dup; tells whether it was done. Takes no memory.
+/// dup; returns whether it was done. Takes no memory.
 #[inline(always)]
 pub fn dup(frames: &mut Frames) -> bool
     requires fits { NextFits frames.old }

@@ -104,7 +104,7 @@ static-over p choose x old new words m named t class steps byte enters many at o
     (subst (DoesIn p choose (resumed x old steps) (resumed x new (steps + 1)))
     (sym (starting-none o x.areas.started (class_of_method o m.0) (going words (Calls m.0)) here refl)) (enters.does steps))
 
--- the class's superclasses are told by their display
+-- the class's superclasses are those of its display
 pub none-starts : (o : Outline) (started : List Bool) (class : ℕ) (classes above : List ℕ) → classes ≡ above
     → filter (λ class. not (is_started o started class)) classes ≡ [] → filter (λ class. not (is_started o started class)) above ≡ []
 none-starts o started class classes above is none = ap (filter (λ class. not (is_started o started class))) (sym is) ∙ none

@@ -19,7 +19,7 @@ use fm_flat_cells::object_at;
 use fm_frames::{Frames, Machine};
 use fm_world::Program;
 
-/// invokestatic of a method whose class has started; tells whether it was done. Takes no memory.
+/// invokestatic of a method whose class has started; returns whether it was done. Takes no memory.
 #[inline(always)]
 pub fn static_call<M: Memory>(
     machine: &Machine<M>,
@@ -43,7 +43,7 @@ pub fn static_call<M: Memory>(
     enter(machine, frames, program, argument_words(program, m), m)
 }
 
-/// invokevirtual of an object; tells whether it was done. Takes no memory.
+/// invokevirtual of an object; returns whether it was done. Takes no memory.
 #[inline(always)]
 pub fn virtual_call<M: Memory>(
     machine: &Machine<M>,
@@ -76,7 +76,8 @@ pub fn virtual_call<M: Memory>(
     enter(machine, frames, program, words, target)
 }
 
-/// invokeinterface of an object that implements the interface; tells whether it was done. Takes no memory.
+/// invokeinterface of an object that implements the interface; returns whether it was done. Takes
+/// no memory.
 #[inline(always)]
 pub fn interface_call<M: Memory>(
     machine: &Machine<M>,
@@ -109,7 +110,8 @@ pub fn interface_call<M: Memory>(
     enter(machine, frames, program, words, target)
 }
 
-/// invokespecial of an object in a method, the caller; tells whether it was done. Takes no memory.
+/// invokespecial of an object in a method, the caller; returns whether it was done. Takes no
+/// memory.
 #[inline(always)]
 pub fn special_call<M: Memory>(
     machine: &Machine<M>,

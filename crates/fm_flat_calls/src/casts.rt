@@ -15,7 +15,7 @@ use fm_flat_cells::object_at;
 use fm_frames::{Frames, Machine};
 use fm_world::Program;
 
-/// checkcast of an object that passes it; tells whether it was done. Takes no memory.
+/// checkcast of an object that passes it; returns whether it was done. Takes no memory.
 #[inline(always)]
 pub fn cast<M: Memory>(
     machine: &Machine<M>,

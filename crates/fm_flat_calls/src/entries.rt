@@ -45,8 +45,8 @@ pub(crate) fn are_started<M: Memory>(
     true
 }
 
-// Enters a method whose arguments, with the receiver, are so many words, if it has code and there is room for
-// its frame; tells whether that was done.
+// Enters a method whose arguments, with the receiver, are `words` words, if it has code and there
+// is room for its frame; returns whether that was done.
 #[inline(always)]
 pub(crate) fn enter<M: Memory>(
     machine: &Machine<M>,

@@ -1,9 +1,10 @@
 // Steps of calls, returns, static fields and casts over frames that are taken out of a machine (JVMS 2.6.4,
 // 6.5).
 //
-// Each row does the whole step of its instruction, or tells that it did nothing: where the method is built in
-// or a class is to be started, where the receiver is null or no object, where there is no room for a frame, or
-// where a return leaves main or the start of a class. None makes or frees an object, or ends the run.
+// Each row does the whole step of its instruction, or returns false and changes nothing: where the
+// method is built in or a class is to be started, where the receiver is null or no object, where
+// there is no room for a frame, or where a return leaves main or the start of a class. None makes
+// or frees an object, or ends the run.
 #![tactic(auto)]
 
 mod calls;

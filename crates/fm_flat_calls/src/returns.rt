@@ -28,8 +28,8 @@ fn returned_words(value: Option<Reg>) -> usize
     }
 }
 
-/// return, ireturn, lreturn and areturn of a method that another one called; tells whether it was done, with
-/// which so many steps were done before. Takes no memory.
+/// return, ireturn, lreturn and areturn of a method that another one called; returns whether it was
+/// done. `counted` steps were done before. Takes no memory.
 #[inline(always)]
 pub fn leave<M: Memory>(
     machine: &Machine<M>,

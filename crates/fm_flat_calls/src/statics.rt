@@ -22,7 +22,8 @@ use fm_flat::{give_wide, push};
 use fm_frames::{Frames, Machine, Value};
 use fm_world::Program;
 
-// Pushes a value of a kind, if there is room for it, and goes on to the next item; tells whether there was.
+// Pushes a value of a kind, if there is room for it, and goes on to the next item; returns whether
+// there was.
 #[inline(always)]
 fn push_kind(frames: &mut Frames, kind: Kind, value: Value) -> bool
     requires fits { NextFits frames.old }
@@ -35,7 +36,7 @@ fn push_kind(frames: &mut Frames, kind: Kind, value: Value) -> bool
     }
 }
 
-/// getstatic of a field whose class has started; tells whether it was done. Takes no memory.
+/// getstatic of a field whose class has started; returns whether it was done. Takes no memory.
 #[inline(always)]
 pub fn get_static<M: Memory>(
     machine: &Machine<M>,
@@ -59,7 +60,7 @@ pub fn get_static<M: Memory>(
     push_kind(frames, field.kind, value)
 }
 
-/// putstatic of a field whose class has started; tells whether it was done. Takes no memory.
+/// putstatic of a field whose class has started; returns whether it was done. Takes no memory.
 #[inline(always)]
 pub fn put_static<M: Memory>(
     machine: &mut Machine<M>,

@@ -1,4 +1,4 @@
--- What the packing of an object tells of its type, and what the kinds of its elements are.
+-- What follows from the packing of an object for its type, and what the kinds of its elements are.
 use Rattle.std.proofs.Common.{◌≡◌, ◌≢◌, ℕ, ◌-◌, ◌==◌, ◌&&◌, Bool, true, false, Some, if◌then◌else◌, refl, ap, ◌∙◌, subst, arith, zero, suc, ◌<◌}
 use Rattle.std.proofs.lemmas.Bool.{and_parts, eqb-true, false≢true, ltb-true, ne_eqb}
 use Rattle.fm_base.specs.declared.ids.ClassId.{ClassId}
@@ -25,7 +25,7 @@ pub head-packed : (p : Program) (x : State) (cell : ℕ) (object : Object) (head
     → head_of object ≡ head → IsPacked p head.class head.pack
 head-packed p x cell object head packed held is = subst (λ (h : Head). IsPacked p h.class h.pack) is (packed cell object held)
 
--- ---- what a packing tells
+-- ---- what follows from a packing
 
 abbrev packing : (one text : Bool) → Base → ℕ
 packing one text b = if one then pack_of_base b else (if text then 4 else 1)
@@ -52,7 +52,8 @@ bytes-told true text (base.OfClass class) is = absurd (omega (arith, is))
 bytes-told false true b is = absurd (omega (arith, is))
 bytes-told false false b is = absurd (omega (arith, is))
 
--- a word holds two elements of arrays of ints alone, and eight of those of bytes and of booleans
+-- a word holds two elements only of arrays of ints, and eight only of those of bytes and of
+-- booleans
 pub packed-ints : (o : Outline) (t : TypeRef) → pack_of o t ≡ 2 → is_array_of elem.Int t ≡ true
 packed-ints o t is = ints-told (t.dims == 1) (is_text_type o t) t.base is
 

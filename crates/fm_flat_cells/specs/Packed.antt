@@ -7,7 +7,8 @@ use Rattle.fm_frames.specs.Sights.{type_numbered}
 use Rattle.fm_frames.specs.States.{State}
 use Rattle.fm_world.specs.Programs.{Program}
 
--- the number is that of a type of the program, and a word holds so many elements of objects of the type
+-- the number is that of a type of the program, and a word holds `pack` elements of objects of the
+-- type
 abbrev pub IsPacked : Program → (class pack : ℕ) → Type 0
 IsPacked p class pack = (class < length p.outline.types) × (pack ≡ pack_of p.outline (type_numbered p.outline class))
 

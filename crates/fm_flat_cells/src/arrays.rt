@@ -1,8 +1,9 @@
 // The rows of arrays (JVMS 6.5.arraylength, 6.5.iaload and its like, 6.5.iastore and its like).
 //
-// What is asked of an array follows from the letter of the instruction: its elements' kind, and how many of
-// them a word holds. So each letter has code of its own, in which nothing is left to be asked. Of ints, and of
-// bytes and booleans, the head alone tells that an object is such an array.
+// What is required of an array follows from the letter of the instruction: its elements' kind, and
+// how many of them a word holds. So each letter has code of its own, in which nothing is left to be
+// tested. For ints, and for bytes and booleans, the head is enough to see that an object is such an
+// array.
 
 ghost use Rattle.std.specs.Prelude.{◌≡◌, ◌≢◌, ◌+◌, ◌-◌, ◌<◌, ◌^◌, pos, true, false, Some, slice_get};
 ghost use Rattle.fm_code.specs.declared.operations.Elem.TheVariants as elem;
@@ -49,7 +50,7 @@ fn int_of(len: u32) -> i32
     len as i32
 }
 
-/// arraylength; tells whether it was done. Takes no memory.
+/// arraylength; returns whether it was done. Takes no memory.
 #[inline(always)]
 pub fn array_length<M: Memory>(machine: &Machine<M>, frames: &mut Frames, program: &Program) -> bool
     requires fits { NextFits frames.old }
@@ -179,7 +180,7 @@ fn load_of<M: Memory>(machine: &Machine<M>, frames: &mut Frames, program: &Progr
     give_kind(frames, 2, kind, value)
 }
 
-/// baload, caload, saload, iaload, laload and aaload; tells whether it was done. Takes no memory.
+/// baload, caload, saload, iaload, laload and aaload; returns whether it was done. Takes no memory.
 #[inline(always)]
 pub fn array_load<M: Memory>(
     machine: &Machine<M>,
@@ -207,7 +208,7 @@ pub fn array_load<M: Memory>(
     }
 }
 
-// Puts the value on top, which is one of the letter and has so many words, into an array.
+// Puts the value on top, which is one of the letter and has `words` words, into an array.
 #[inline(always)]
 fn put_element<M: Memory>(
     machine: &mut Machine<M>,
@@ -298,8 +299,8 @@ fn store_long<M: Memory>(machine: &mut Machine<M>, frames: &mut Frames, program:
     put_element(machine, frames, program, Elem::Long, 2, Value::Long(n))
 }
 
-/// bastore, castore, sastore, iastore and lastore; tells whether it was done, which an aastore isn't. Takes
-/// no memory.
+/// bastore, castore, sastore, iastore and lastore; returns whether it was done, which an aastore
+/// isn't. Takes no memory.
 #[inline(always)]
 pub fn array_store<M: Memory>(
     machine: &mut Machine<M>,

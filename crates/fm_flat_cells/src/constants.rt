@@ -9,8 +9,8 @@ use fm_flat::{int_constant, long_constant};
 use fm_frames::Frames;
 use fm_world::Use;
 
-/// ldc and its like of what an index stands for, if it is a number; tells whether it was done. Takes no
-/// memory.
+/// ldc and its like of what an index refers to, if it is a number; returns whether it was done.
+/// Takes no memory.
 #[inline(always)]
 pub fn constant(frames: &mut Frames, named: Use) -> bool
     requires fits { NextFits frames.old }

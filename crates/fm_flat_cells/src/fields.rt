@@ -27,8 +27,8 @@ use fm_world::Program;
 // How many fields a word of an object holds.
 const FIELD_PACK: u8 = 1;
 
-// Whether the type of this number fits the named one, by the table of types. It is seldom asked, and so it
-// isn't in line.
+// Whether the type of this number fits the named one, by the table of types. It is seldom called,
+// and so it isn't in line.
 #[cold]
 #[inline(never)]
 fn fits_by_table(program: &Program, class: u32, named: TypeId) -> bool
@@ -55,7 +55,7 @@ fn fits_named(program: &Program, class: u32, named: TypeId) -> bool
     fits_by_table(program, class, named)
 }
 
-/// getfield; tells whether it was done. Takes no memory.
+/// getfield; returns whether it was done. Takes no memory.
 #[inline(always)]
 pub fn get_field<M: Memory>(
     machine: &Machine<M>,
@@ -90,7 +90,7 @@ pub fn get_field<M: Memory>(
     give_kind(frames, 1, kind, value)
 }
 
-// Puts the value on top, which is one of the field's kind and has so many words, into a field.
+// Puts the value on top, which is one of the field's kind and has `words` words, into a field.
 #[inline(always)]
 fn put_value<M: Memory>(
     machine: &mut Machine<M>,
@@ -133,7 +133,7 @@ fn put_value<M: Memory>(
     true
 }
 
-/// putfield; tells whether it was done. Takes no memory.
+/// putfield; returns whether it was done. Takes no memory.
 #[inline(always)]
 pub fn put_field<M: Memory>(
     machine: &mut Machine<M>,

@@ -1,9 +1,9 @@
 // Steps of fields and elements over frames that are taken out of a machine (JVMS 6.5).
 //
-// Each row does the whole step of its instruction, or tells that it did nothing: where an object isn't there
-// or isn't of the type that the instruction asks, an index is outside, or there is no room for a word. That
-// operands are words of their kinds is asked for, and not tested. None makes or frees an object, ends the run
-// or changes how many frames there are.
+// Each row does the whole step of its instruction, or returns false and changes nothing: where an
+// object isn't there or isn't of the type that the instruction requires, an index is outside, or
+// there is no room for a word. Operands are required to be words of their kinds, which isn't
+// tested. None makes or frees an object, ends the run or changes how many frames there are.
 #![tactic(auto)]
 
 mod arrays;

@@ -59,8 +59,8 @@ pub(crate) fn object_there<M: Memory>(
     object_of(machine, cell)
 }
 
-// Puts a value of a kind in place of so many words, if they are there and there is room for it, and goes on
-// to the next item; tells whether that was done.
+// Puts a value of a kind in place of `takes` words, if they are there and there is room for it, and
+// goes on to the next item; returns whether that was done.
 #[inline(always)]
 pub(crate) fn give_kind(frames: &mut Frames, takes: usize, kind: Kind, value: Value) -> bool
     requires fits { NextFits frames.old }
@@ -74,7 +74,7 @@ pub(crate) fn give_kind(frames: &mut Frames, takes: usize, kind: Kind, value: Va
     }
 }
 
-// Takes so many words off the stack, and goes on to the next item.
+// Takes `takes` words off the stack, and goes on to the next item.
 #[inline(always)]
 pub(crate) fn take(frames: &mut Frames, takes: usize)
     requires { NextFits frames.old }

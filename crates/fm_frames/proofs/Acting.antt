@@ -1,4 +1,5 @@
--- What comes of effects that change the areas alone: the frame on top goes on once the areas are changed.
+-- What comes of effects that change only the areas: the frame on top goes on once the areas are
+-- changed.
 use Rattle.std.proofs.Common.{◌≡◌, ℕ, ◌+◌, ◌≤◌, ℤ, List, [], ◌∷◌, drop, map, set, length, true, Option, Some, None, option_map, refl, ap, sym, ◌∙◌, subst, arith}
 use Rattle.std.proofs.lemmas.List.{drop-drop, map-set, set_past}
 use Rattle.std.proofs.lemmas.Option.{none-some, same_Some}

@@ -88,7 +88,7 @@ has-top [] method item at = absurd (none-some _ (sym at))
 has-top (f ∷ callers) method item at =
     record { f = f; callers = callers; is = refl; of_method = sym (ap (λ x. x.0) (same_Some _ _ at)) }
 
--- the state with its frames told
+-- the state with its frames given
 told-frames : (p : Program) (choose : Choose) (old x : State) (words : ℕ) (f : Frame) (callers : List Frame) → old ≡ x → old.frames ≡ f ∷ callers
     → silent (left_by words old f callers (is_start p.outline f.method)) ≡ attempted p choose x (going 0 (Returns words))
 told-frames p choose old x words f callers is at =

@@ -47,7 +47,7 @@ from-frame frames above f at =
     ∙ ap (λ g. g ∷ drop (suc above) frames) (get_or_from_slice_get frames above f f at)
     ∙ ap (λ n. f ∷ drop n frames) (sym (add-one above))
 
--- where so many frames aren't there, none is left
+-- where `above` frames aren't there, none is left
 past-frames : (frames : List Frame) (above : ℕ) → None ≡ option_map place_of (slice_get frames above) → length frames ≤ above
 past-frames frames above none = by_place (below_or_not above (length frames)) where
   by_place : (above < length frames) ⊎ (length frames ≤ above) → length frames ≤ above
@@ -55,7 +55,7 @@ past-frames frames above none = by_place (below_or_not above (length frames)) wh
       absurd (none-some _ (none ∙ ap (option_map place_of) (slice_get-get_or frames above (placed 0 0) within)))
   by_place (inr past) = past
 
--- what a frame with these answers does
+-- what a frame with these results does
 abbrev done_in : Program → Value → Frame → List Frame → Option ℕ → (starts : Bool) → Caught → Caught
 done_in p v f callers (Some handler) starts below = InFrames (record f { item = handler; stack = v ∷ [] } ∷ callers)
 done_in p v f callers None starts below = if starts then Leaves (end.InitFailed (record { 0 = class_of_method p.outline f.method })) else below
@@ -70,7 +70,7 @@ caught-frame p t v f callers = by_handler (handler_of p f t) where
   by_handler None = refl
   by_handler (Some handler) = refl
 
--- the frame above which so many lie, by its method and its item
+-- the frame above which this many lie, by its method and its item
 found : (method item : ℕ) (frame : Option Frame) → Some (method, item) ≡ option_map place_of frame
     → (f : Frame) × (frame ≡ Some f) × (f.method ≡ method) × (f.item ≡ item)
 found method item None at = absurd (none-some _ (sym at))

@@ -1,4 +1,4 @@
--- What carrying out an effect comes to that makes nothing: the frame on top goes on, and one step is counted.
+-- The result of an effect that makes nothing: the frame on top goes on, and one step is counted.
 use Rattle.std.proofs.Common.{◌≡◌, ℕ, ◌+◌, List, [], ◌∷◌, ◌++◌, map, drop, set, Some, None, option_map, refl, ap, sym, ◌∙◌, subst}
 use Rattle.std.proofs.lemmas.Option.{none-some, same_Some}
 use Rattle.fm_world.specs.Programs.{Program}
@@ -26,7 +26,7 @@ finishes : (p : Program) (choose : Choose) (x : State) (f : Frame) (callers : Li
 unfolding performed continued
 finishes p choose x f callers takes gives writes = refl
 
--- of a machine whose state was this one: what its frames are now is told where there is a topmost one
+-- of a machine whose state was this one: its frames now are given where there is a topmost one
 pub finished-by : (p : Program) (choose : Choose) (old x : State) (frames : List Frame) (takes : ℕ) (gives : List Source) (writes : List (ℕ × Source))
     → old ≡ x → NextFits x.frames
     → ((f : Frame) (callers : List Frame) → old.frames ≡ f ∷ callers → frames ≡ frame_after (record old { frames = f ∷ callers }) takes gives writes f ∷ callers)

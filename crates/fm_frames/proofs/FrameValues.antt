@@ -88,7 +88,7 @@ reverse-take xs count = by_count (below_or_not (length xs) count) where
       sym (ap (drop count) whole ∙ ap (λ k. drop k (reverse (drop m xs) ++ reverse (take m xs))) (sym n)
       ∙ drop-append_seam (reverse (drop m xs)) (reverse (take m xs)))
 
--- the values that are kept where so many words are taken off the topmost frame's stack
+-- the values that are kept where this many words are taken off the topmost frame's stack
 abbrev kept_by : Cursor → (used count : ℕ) → ℕ
 kept_by c used count = c.stack + (used - c.stack - count)
 
@@ -213,7 +213,7 @@ set_at true values used c callers place v x laid is within =
     ∙ frames-set (take used values) c callers place v (tiled true values used c callers laid) within
     ∙ ap (on_top (λ f. record f { locals = set f.locals place v })) is
 
--- ---- how many frames there are, and where each one stands
+-- ---- how many frames there are, and where each one lies
 
 length-frames : (values : List Value) (all : List Cursor) → length (frames_at values all) ≡ length all
 length-frames values [] = refl
@@ -401,7 +401,7 @@ last-words all before last stack is within =
     sym (ap (take (length last)) turned ∙ ap (λ n. take n (reverse last ++ reverse (drop stack before))) (sym (length-reverse last))
     ∙ take-append_seam (reverse last) (reverse (drop stack before)))
 
--- the words of a result, which come last, stand where the locals of the frame began that is taken off
+-- the words of a result, which come last, lie where the locals of the frame that is taken off began
 pub given-back : (values new : List Value) (used words : ℕ) (c caller : Cursor) (callers : List Cursor) → AreLaid true values used c (caller ∷ callers)
     → words ≤ used - c.stack → take (c.locals + words) new ≡ take c.locals values ++ drop (used - words) (take used values)
     → frames_in true new (c.locals + words) (gone_on caller) callers ≡ with_result words (frames_in true values used c (caller ∷ callers))

@@ -1,4 +1,4 @@
--- What jumps come to: the frame on top goes on at an item, and one step is counted.
+-- The result of jumps: the frame on top goes on at an item, and one step is counted.
 use Rattle.std.proofs.Common.{◌≡◌, ℕ, ◌+◌, Bool, true, false, List, [], ◌∷◌, drop, if◌then◌else◌, refl, ap, sym, ◌∙◌, subst}
 use Rattle.fm_world.specs.Programs.{Program}
 use Rattle.fm_frames.specs.Acts.{Choose, performed}

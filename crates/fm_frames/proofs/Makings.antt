@@ -1,4 +1,4 @@
--- An effect that makes one object: what comes of each answer of the memory.
+-- An effect that makes one object: what follows for each result of the memory.
 use Rattle.std.proofs.Common.{◌≡◌, ◌⊎◌, inl, inr, length, ℕ, ◌+◌, ◌<◌, ◌≤◌, Bool, true, false, cond, nat_lt, ◌&&◌, if◌then◌else◌, List, [], ◌∷◌, max, min, Some, refl, ap, sym, ◌∙◌, subst, arith}
 use Rattle.std.proofs.lemmas.Bool.{eq-eqb, lt-ltb, le-ltb}
 use Rattle.fm_cells.proofs.Changes.{object_at-made_by}
@@ -17,7 +17,7 @@ use Rattle.fm_frames.specs.inner.Doings.{MakesOne, silent}
 use Rattle.fm_frames.proofs.FrameValues.{below_or_not}
 use Rattle.fm_cells.specs.declared.answers.Cell.{Cell}
 
--- the words of one object, as they are told
+-- the words of one object, as they are reported
 abbrev told_words : ℕ → ℕ
 told_words words = min (words + 0) most_words
 

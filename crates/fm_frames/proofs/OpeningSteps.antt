@@ -1,4 +1,4 @@
--- One action of the opening: what comes of each answer of the memory.
+-- One action of the opening: what follows for each result of the memory.
 use Rattle.std.proofs.Common.{◌≡◌, ℕ, ◌+◌, ◌<◌, ◌≤◌, ◌^◌, Bool, true, false, ◌||◌, if◌then◌else◌, List, [], ◌∷◌, ◌++◌, length, min, Option, Some, None, refl, ap, sym, ◌∙◌, subst, arith}
 use Rattle.std.specs.List.{slice_index_or}
 use Rattle.std.specs.Prelude.{IfOk, IfSome, OnOk, Result, Ok, Err, unwrap_or}
@@ -205,7 +205,7 @@ grows-same x y same =
     let births = ap (λ (s : Store). s.births) same in
     record { births = omega (arith, births); budget = ap (λ (s : Store). s.budget) same }
 
--- ---- answers that are handed on
+-- ---- results that are handed on
 
 pub told-if : {T E : Type 0} (r : Result T E) (P Q : T → Type 0) → ((t : T) → P t → Q t) → IfOk r P → IfOk r Q
 told-if (Ok t) P Q f h = f t h

@@ -69,7 +69,7 @@ object-inside p runnable =
     let P : List DeclaredClass → Type 0 = λ classes. 0 < length classes in
     subst P (sym runnable.classes) (omega arith)
 
--- whether the method is the one that is told, if one is
+-- whether the method is the one that is given, if one is
 abbrev pub told_start : Option MethodId → ℕ → Bool
 told_start None method = false
 told_start (Some start) method = start.0 == method

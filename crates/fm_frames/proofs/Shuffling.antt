@@ -1,4 +1,4 @@
--- What giving several words comes to: they are pushed one by one, the last of them first.
+-- The result of giving several words: they are pushed one by one, the last of them first.
 use Rattle.std.proofs.Common.{◌≡◌, ℕ, ◌+◌, ◌-◌, ◌≤◌, List, [], ◌∷◌, ◌++◌, length, map, drop, get_or, refl, ap, sym, ◌∙◌, subst, arith, add-one, drop-cons, drop_of_length-le}
 use Rattle.fm_world.specs.Programs.{Program}
 use Rattle.fm_frames.proofs.Finishes.{finished-top, moved_on, on_top-then, with_word, without_words}

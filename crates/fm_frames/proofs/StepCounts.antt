@@ -28,7 +28,7 @@ step_going p choose x going = step_is p choose x ∙ ap (stepped p choose x) goi
 
 -- ---- what it costs
 
--- if the run goes on, so many steps were done
+-- if the run goes on, this many steps were done
 abbrev Counts : ℕ → State → Type 0
 Counts n y = y.ended ≡ None → y.steps ≡ n
 

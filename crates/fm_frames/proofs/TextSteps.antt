@@ -1,4 +1,4 @@
--- Texts are made: what is asked of the memory, and what comes of each answer.
+-- Texts are made: what is asked of the memory, and what follows for each result.
 use Rattle.std.proofs.Common.{◌≡◌, ◌≢◌, ℕ, ◌+◌, ◌<◌, ◌≤◌, min, ◌^◌, ◌==◌, Bool, false, cond, List, [], ◌∷◌, length, Option, Some, None, unwrap_or, refl, ap, sym, ◌∙◌, subst, arith}
 use Rattle.std.proofs.lemmas.Bool.{eq-eqb, ne_eqb}
 use Rattle.std.proofs.lemmas.Option.{none-some}
@@ -27,7 +27,7 @@ use Rattle.fm_frames.specs.inner.Places.{FitsIn, IsWide, TakesUnits}
 use Rattle.fm_world.specs.Numbers.{type_number, type_of_class}
 use Rattle.fm_world.specs.Programs.{Program}
 
--- ---- what is asked for
+-- ---- requests to the memory
 
 pub text-pack : (p : Program) → IsRunnable p → pack_of p.outline (text_type p.outline) ≡ 4
 text-pack p runnable =

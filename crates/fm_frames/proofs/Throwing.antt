@@ -57,7 +57,7 @@ thrown-request o name class id size pack t is same number packed =
     ap (λ t. requested o t size false) (is ∙ sym same)
     ∙ (λ i. request_of (sym number i) size (sym packed i) false)
 
--- what an answer tells that is Ok
+-- what holds of a result that is Ok
 pub told-ok : {T E : Type 0} (r : Result T E) (P Q : Type 0) → (P → Q) → OnOk r P → OnOk r Q
 told-ok (Ok x) P Q f h = f h
 told-ok (Err e) P Q f h = tt

@@ -22,7 +22,7 @@ use Rattle.fm_frames.proofs.Acting.{done-none, done-one, sources_in}
 
 -- ---- the beginning
 
--- a number of words that isn't too great is told as it is
+-- a number of words that isn't too great is reported as it is
 pub told-whole : (words : ℕ) → words ≤ most_words → min words most_words ≡ words
 told-whole words few = omega (arith, few)
 

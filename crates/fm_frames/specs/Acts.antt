@@ -52,7 +52,7 @@ pub record Sources : Type 0 where
   pub areas : Areas
   pub made : List ℕ
 
--- the value that a source stands for
+-- the value of a source
 abbrev pub value_of : Sources → Source → Value
 value_of x (Plain v) = v
 value_of x (OfOperand operand) = word_at x.stack operand
@@ -66,7 +66,7 @@ value_of x SameOperands = told_same (word_at x.stack 0) (word_at x.stack 1)
 
 -- ---- making
 
--- what is asked of the memory for an object of a type
+-- the request to the memory for an object of a type
 abbrev pub requested : Outline → TypeRef → ℕ → Bool → Request
 requested o t len fixed = request_of (unwrap_or (type_number o.types t) 0) len (pack_of o t) fixed
 
@@ -78,9 +78,10 @@ literal_text o text = slice_index_or o.texts text []
 abbrev pub is_there : Areas → ℕ → Bool
 is_there x text = nat_lt 0 (slice_index_or x.literals text 0)
 
--- ---- what came of the actions
+-- ---- the results of the actions
 
--- all were done, and made these cells; the store was full where so many words were needed; or a chain led to a cell that isn't held, or twice to one
+-- all were done, and made these cells; the store was full where this many words were needed; or a
+-- chain led to a cell that isn't held, or twice to one
 pub data Performed : Type 0 where
   Did : Areas → (made : List ℕ) → Performed
   FullAt : Areas → (needed : ℕ) → Performed
@@ -157,7 +158,7 @@ chained x cell to = record x { store = chained_by x.store cell to }
 abbrev pub class_started : Areas → ℕ → Areas
 class_started x class = record x { started = slice_set x.started class true }
 
--- the object of a text's literal stands in this cell from now on (JVMS 5.1)
+-- the object of a text's literal is in this cell from now on (JVMS 5.1)
 abbrev pub literal_made : Areas → ℕ → ℕ → Areas
 literal_made x text cell = record x { literals = slice_set x.literals text cell }
 

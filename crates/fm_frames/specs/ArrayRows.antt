@@ -56,13 +56,14 @@ array_load_effect o e s =
 abbrev pub put_element : ℕ → Looks → ℕ → Effect
 put_element n it place = acting (n + 2) (Put (OfOperand (n + 1)) place (element_kind it.type) (OfOperand (n - 1)) ∷ [])
 
--- a reference is asked for its type in the run, unless it is null
+-- the type of a reference is tested in the run, unless it is null
 abbrev pub put_reference : Outline → List Sight → Looks → ℕ → Effect
 put_reference o s it place =
     on_held (put_element 1 it place) s 0
     (λ v. if is_sub o.classes v.type (element_type it.type) then put_element 1 it place else thrown o (codes "java/lang/ArrayStoreException"))
 
--- what iastore, lastore, aastore, bastore, castore and sastore do: only aastore asks what the object is (JVMS 6.5)
+-- what iastore, lastore, aastore, bastore, castore and sastore do: only aastore tests what the
+-- object is (JVMS 6.5)
 unfoldable pub array_store_effect : Outline → Elem → List Sight → Effect
 array_store_effect o e s = on_element o e s (element_words e) (stored e) where
   stored : Elem → Looks → ℕ → Effect
@@ -79,7 +80,7 @@ length_effect o s = on_passing o (λ it. nat_lt 0 it.type.dims) s 0 (λ it. word
 abbrev pub thrown_negative : Outline → Effect
 thrown_negative o = thrown o (codes "java/lang/NegativeArraySizeException")
 
--- of so many elements as the int on top says
+-- of this many elements as the int on top says
 abbrev pub array_made : Outline → Option TypeRef → List Sight → Effect
 array_made o None s = stuck
 array_made o (Some t) s = on_int s 0 (λ n. if int_lt n (pos 0) then thrown_negative o else making 1 (Make t (unsigned_abs n) []))
@@ -112,7 +113,8 @@ array_actions t (count ∷ next ∷ counts) first =
     ++ Put (OfMade first) place (element_kind t) (OfMade (first + 1 + place * size)) ∷ [])
     (range_with_len 0 count)
 
--- the counts of so many dimensions, the outermost first; they lie on the stack with the innermost on top
+-- the counts of this many dimensions, the outermost first; they lie on the stack with the innermost
+-- on top
 abbrev pub int_at : List Sight → ℕ → Option ℤ
 int_at s operand = of_sight (slice_get s operand) where
   of_sight : Option Sight → Option ℤ

@@ -47,7 +47,7 @@ virtual_effect o u byte s = on_method o u called where
       let a = words_of_arguments o m in
       on_object o named s a (λ it. entered o (a + 1) (select o.classes (receiver_class o it) m) byte s)
 
--- whether the object implements the interface is asked in the run
+-- whether the object implements the interface is tested in the run
 unfoldable pub interface_effect : Outline → Use → Option ℕ → List Sight → Effect
 interface_effect o u byte s = on_method o u called where
   selected : ℕ → TypeRef → Looks → Effect

@@ -1,5 +1,5 @@
--- The effect of a step, as plain data: it names values by where they come from, and never a cell. Operands are counted from the top of the stack as it
--- stood before the step.
+-- The effect of a step, as plain data: it names values by where they come from, and never a cell.
+-- Operands are counted from the top of the stack as it was before the step.
 use Rattle.std.specs.Prelude.{ℕ, ℤ, Bool, false, List, [], ◌∷◌, Option, None}
 use Rattle.fm_base.specs.declared.kinds.Kind.{Kind}
 use Rattle.fm_base.specs.declared.kinds.Kind.TheVariants as kind
@@ -27,7 +27,7 @@ pub data Source : Type 0 where
 
 -- what a step does to the areas that frames share, in order
 pub data Action : Type 0 where
-  -- an object of so many elements, which are these; with none named all are 0
+  -- an object of `len` elements, which are these; with none named all are 0
   Make : (type : TypeRef) (len : ℕ) (content : List ℕ) → Action
   -- an object without elements that lives for ever: only the opening makes such
   MakeFixed : TypeRef → Action
@@ -52,7 +52,7 @@ pub data Next : Type 0 where
   JumpsIfSame : Bool → Next
   -- the method that has code; the words that are taken are its arguments
   Calls : ℕ → Next
-  -- to the caller, with so many words
+  -- to the caller, with this many words
   Returns : ℕ → Next
   Throws : Source → Next
   -- these methods start classes, the first of them at once; then the instruction is done again
@@ -61,8 +61,9 @@ pub data Next : Type 0 where
   -- the cell of the value is met in a way in which it can't be
   Faults : Source → Next
 
--- Before all else a class may have to be started. Then so many words are taken, the actions are done, the words that are given are put on top, the
--- first of them uppermost, and locals are written; bytes are printed, and a byte of the input is read.
+-- Before all else a class may have to be started. Then this many words are taken, the actions are
+-- done, the words that are given are put on top, the first of them uppermost, and locals are
+-- written; bytes are printed, and a byte of the input is read.
 pub record Effect : Type 0 where
   pub starts : Option ℕ
   pub takes : ℕ

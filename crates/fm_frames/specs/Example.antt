@@ -50,7 +50,7 @@ main_with items handlers =
           attribute.Coded 19 (record { max_stack = 2; max_locals = 3; items = items; length = 1; handlers = handlers; attributes = [] }) ∷ [];
     } ∷ [])
 
--- the program of class M alone
+-- the program of only class M
 abbrev pub program_with : List Item → List Handler → Program
 program_with items handlers = program_of (main_with items handlers ∷ []) (codes "M")
 
@@ -103,7 +103,8 @@ sum_effects =
     ∷ going 0 (Returns 0)
     ∷ []
 
--- ---- 1 is divided by 0 while an object stands in local 1; its hash is printed by the handler, which begins at item 9
+-- ---- 1 is divided by 0 while an object is in local 1; its hash is printed by the handler, which
+-- begins at item 9
 
 -- its code: the object is made, 1 is divided by 0, and the handler prints the object's hash
 abbrev pub object_items : List Item
@@ -131,7 +132,8 @@ object_seen =
     ∷ (insn.Virtual 27, Gone ∷ an_object 5 0 ∷ [])
     ∷ []
 
--- ArithmeticException is class 13 and NullPointerException 18; an exception has the hidden field alone
+-- ArithmeticException is class 13 and NullPointerException 18; an exception has only the hidden
+-- field
 abbrev pub exception_thrown : ℕ → Effect
 exception_thrown class = record (going 0 (Throws (OfMade 0))) { actions = Make (type_of_class class) 1 [] ∷ [] }
 

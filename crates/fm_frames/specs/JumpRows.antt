@@ -57,7 +57,8 @@ abbrev pub key_target : Option ℕ → ℕ
 key_target None = 0
 key_target (Some place) = place + 1
 
--- of so many targets: the key is looked for among as many of the first keys, so that none is taken that has no target
+-- of this many targets: the key is looked for among as many of the first keys, so that none is
+-- taken that has no target
 unfoldable pub lookup_effect : List ℤ → ℕ → List Sight → Effect
 lookup_effect keys count s = on_int s 0 (λ key. going 1 (Jumps (key_target (position (int_eq key) (take count keys)))))
 

@@ -50,7 +50,7 @@ base_text o base.Int = codes "I"
 base_text o base.Long = codes "J"
 base_text o (base.OfClass class) = CLASS_LETTER ∷ ((class_at o.classes class.0).name ++ SEMICOLON ∷ [])
 
--- the name of a class alone
+-- only the name of a class
 abbrev pub plain_name : Outline → Base → List ℕ
 plain_name o (base.OfClass class) = (class_at o.classes class.0).name
 plain_name o b = base_text o b
@@ -63,7 +63,7 @@ spelled_type o t = dotted (if t.dims == 0 then plain_name o t.base else (replica
 abbrev pub type_name : Outline → TypeRef → List ℕ
 type_name o t = units (spelled_type o t)
 
--- the words of what is appended, printed or told
+-- the words of what is appended, printed or given as a text
 abbrev pub shown_words : Shown → ℕ
 shown_words ShownInt = 1
 shown_words ShownLong = 2

@@ -1,7 +1,7 @@
 -- The built-in methods, by the numbers of their rows.
 use Rattle.std.specs.Prelude.{ℕ, List, [], ◌∷◌, Option, slice_get}
 
--- what is appended, printed or told as a text
+-- what is appended, printed or given as a text
 pub data Shown : Type 0 where
   ShownInt : Shown
   ShownLong : Shown

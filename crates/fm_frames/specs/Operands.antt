@@ -1,4 +1,5 @@
--- What rows ask of their operands, and what follows where an operand isn't what is asked: an exception, or a fault.
+-- What rows require of their operands, and what follows where an operand isn't what is required: an
+-- exception, or a fault.
 use Rattle.std.specs.Prelude.{ℕ, ℤ, Bool, true, false, List, [], ◌∷◌, codes, Option, Some, None, if◌then◌else◌, slice_get}
 use Rattle.fm_base.specs.declared.kinds.TypeRef.{TypeRef}
 use Rattle.fm_types.specs.Fits.{fits_type}
@@ -65,7 +66,7 @@ on_reference_of (Some Null) follows = follows true
 on_reference_of (Some (Thing it)) follows = follows false
 on_reference_of (Some Gone) follows = follows false
 
--- what follows of the reference that an operand is, told whether it is null
+-- what follows of the reference that an operand is, by whether it is null
 abbrev pub on_reference : List Sight → ℕ → (Bool → Effect) → Effect
 on_reference sights operand follows = on_reference_of (slice_get sights operand) follows
 

@@ -1,4 +1,4 @@
--- What is told of a run.
+-- The report of a run.
 use Rattle.std.specs.List.{sum}
 use Rattle.fm_cells.specs.Stores.{live_words}
 use Rattle.fm_frames.specs.Runs.{end_of}

@@ -12,8 +12,9 @@ use Rattle.fm_frames.specs.NumberRows.{compare_effect, constant_effect, convert_
 use Rattle.fm_frames.specs.ObjectRows.{cast_effect, get_field_effect, get_static_effect, is_a_effect, new_effect, put_field_effect, put_static_effect}
 use Rattle.fm_frames.specs.Sights.{Sight}
 
--- The effect of an instruction. It is told the outline of the program, the number of the method, what the index that the instruction names is resolved
--- to, the next byte of the input, and what it sees of the words of the stack; and nothing else.
+-- The effect of an instruction. It depends on the outline of the program, the number of the method,
+-- what the index that the instruction names is resolved to, the next byte of the input, and what it
+-- sees of the words of the stack; and nothing else.
 unfoldable pub effect_of : Outline → ℕ → Use → Insn → Option ℕ → List Sight → Effect
 -- constants and locals
 effect_of o method u insn.Nop byte s = words 0 []

@@ -9,7 +9,7 @@ use Rattle.fm_world.specs.declared.declarations.DeclaredClass.{DeclaredClass}
 use Rattle.fm_world.specs.declared.uses.Use.{Use}
 use Rattle.fm_world.specs.declared.uses.Use.TheVariants as resolved
 
--- what an index stands for is there: its type, field, method or text has a number (JVMS 5.4.3)
+-- what an index refers to is there: its type, field, method or text has a number (JVMS 5.4.3)
 abbrev pub IsUseIn : Outline → Use → Type 0
 IsUseIn o (resolved.OfType t) = t.0 < length o.types
 IsUseIn o (resolved.OfField f t) = (f.0 < length (fields_of o.classes)) × (t.0 < length o.types)
@@ -32,7 +32,7 @@ pub record IsRunnable (p : Program) : Type 0 where
   pub types : (n : ℕ) (t : TypeRef) → slice_get p.outline.types n ≡ Some t → IsTypeIn p.outline.classes t
   -- a method is of a class that is there
   pub owners : (method : ℕ) → (method_at p.outline.classes method).class < length p.outline.classes
-  -- what an index of a class's constant pool stands for is there
+  -- what an index of a class's constant pool refers to is there
   pub uses : (class index : ℕ) → IsUseIn p.outline (use_of p class index)
   -- each method has a place for its code
   pub codes : length p.codes ≡ length (methods_of p.outline.classes)

@@ -69,7 +69,7 @@ with_streams x made = record x { statics = slice_set (slice_set x.statics 0 (ref
 abbrev pub unopened : Program → Job → Areas → State
 unopened p job areas = record { frames = []; areas = areas; input = job.input; depth = job.depth; steps = 0; ended = None }
 
--- what follows where one action came to this
+-- what follows where this is the result of one action
 abbrev pub after_action : State → Performed → (State → List ℕ → State) → State
 after_action x (Did areas made) follows = follows (record x { areas = areas }) made
 after_action x (FullAt areas needed) follows =
@@ -107,7 +107,7 @@ opening p choose job store =
 
 -- ---- the run
 
--- the state after so many steps, with all that was printed on the way
+-- the state after this many steps, with all that was printed on the way
 unfoldable pub after : Program → Choose → ℕ → Moved → Moved
 after p choose zero x = x
 after p choose (suc k) x = onto (after p choose k x) where
@@ -122,7 +122,8 @@ pub record Goes (p : Program) (budget : ℕ) (x : State) : Type 0 where
   pub not_ended : x.ended ≡ None
   pub within : x.steps + cost p x ≤ budget
 
--- a run within a budget: so many steps go, the next one doesn't, and this is the state with what was printed
+-- a run within a budget: this many steps go, the next one doesn't, and this is the state with what
+-- was printed
 pub record IsRun (p : Program) (choose : Choose) (budget : ℕ) (opened result : Moved) : Type 0 where
   pub count : ℕ
   pub goes : (k : ℕ) → k < count → Goes p budget (after p choose k opened).state

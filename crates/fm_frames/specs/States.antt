@@ -14,8 +14,9 @@ ref cell = value.Ref (record { 0 = cell })
 abbrev pub null : Value
 null = ref 0
 
--- a frame: its method by number, the item that is next, one value for each word of the locals, and the operand stack with its top first. A frame
--- that called another one stands at the call until that one returns.
+-- a frame: its method by number, the item that is next, one value for each word of the locals, and
+-- the operand stack with its top first. A frame that called another one stays at the call until
+-- that one returns.
 pub record Frame : Type 0 where
   pub method : ℕ
   pub item : ℕ

@@ -71,7 +71,7 @@ abbrev pub words_among : Outline → Areas → List ℕ → List Action → ℕ
 words_among o x literals [] = 0
 words_among o x literals (action ∷ more) = words_of o x literals action + words_among o x (literal_of action ++ literals) more
 
--- the greatest number of words that is told
+-- the greatest number of words that is reported
 abbrev pub most_words : ℕ
 most_words = 2 ^ 64 - 1
 
@@ -217,7 +217,8 @@ pub data Caught : Type 0 where
   InFrames : List Frame → Caught
   Leaves : Ended → Caught
 
--- in a frame that has a handler for it, it alone is on the stack; the start of a class isn't left
+-- in a frame that has a handler for it, it is the only word of the stack; the start of a class
+-- isn't left
 abbrev pub caught_in : Program → Value → Frame → List Frame → Option ℕ → Caught → Caught
 caught_in p v f callers (Some handler) below = InFrames (record f { item = handler; stack = v ∷ [] } ∷ callers)
 caught_in p v f callers None below =
@@ -286,7 +287,7 @@ abbrev pub is_done : Next → Bool
 is_done (Faults source) = false
 is_done next = true
 
--- the state where the actions came to this; the step is counted unless it isn't done
+-- the state where this is the result of the actions; the step is counted unless it isn't done
 abbrev pub finished : Program → ℕ → Effect → State → Performed → State
 finished p price e x (FullAt areas needed) =
     stopped (record x { areas = areas }) (end.StoreFull areas.store.made_words (cell_words needed))

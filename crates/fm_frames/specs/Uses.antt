@@ -1,5 +1,6 @@
--- What follows from what an instruction names: from a type, a field or a method by number, with the type that the entry names. Where the index stands for
--- something else, no typed program has the instruction.
+-- What follows from what an instruction names: from a type, a field or a method by number, with the
+-- type that the entry names. Where the index refers to something else, no typed program has the
+-- instruction.
 use Rattle.std.specs.Prelude.{ℕ, Option, Some, None, slice_get}
 use Rattle.fm_base.specs.declared.kinds.TypeRef.{TypeRef}
 use Rattle.fm_world.specs.Programs.{Outline}
@@ -22,7 +23,8 @@ on_type o (resolved.OfLong n) follows = stuck
 on_type o (resolved.OfText text) follows = stuck
 on_type o resolved.Unused follows = stuck
 
--- what follows of an index that is resolved to a field, told its number and the type that the index names
+-- what follows of an index that is resolved to a field, by its number and the type that the index
+-- names
 abbrev pub on_field : Outline → Use → (ℕ → TypeRef → Effect) → Effect
 on_field o (resolved.OfType t) follows = stuck
 on_field o (resolved.OfField f t) follows = by_type (slice_get o.types t.0) (follows f.0)
@@ -32,7 +34,8 @@ on_field o (resolved.OfLong n) follows = stuck
 on_field o (resolved.OfText text) follows = stuck
 on_field o resolved.Unused follows = stuck
 
--- what follows of an index that is resolved to a method, told its number and the type that the index names
+-- what follows of an index that is resolved to a method, by its number and the type that the index
+-- names
 abbrev pub on_method : Outline → Use → (ℕ → TypeRef → Effect) → Effect
 on_method o (resolved.OfType t) follows = stuck
 on_method o (resolved.OfField f t) follows = stuck

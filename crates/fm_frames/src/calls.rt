@@ -25,8 +25,8 @@ pub(crate) fn max_locals_of(program: &Program, method: MethodId) -> u16
 }
 
 impl<M: Memory> Machine<M> {
-    /// Calls a method that has code: so many words of the stack are its arguments. The run ends where as
-    /// many frames as may be are there.
+    /// Calls a method that has code: `words` words of the stack are its arguments. The run ends
+    /// where as many frames as may be are there.
     pub fn call(
         &mut self,
         program: &Program,
@@ -48,8 +48,8 @@ impl<M: Memory> Machine<M> {
         Ok(())
     }
 
-    /// Returns with so many words: the run ends where main returns, and the frame below the start of a class
-    /// is as it was.
+    /// Returns with `words` words: the run ends where main returns, and the frame below the start
+    /// of a class is as it was.
     pub fn leave(&mut self, program: &Program, words: usize) -> Result<(), NoMemory>
         requires can { CanStep program.now self.old }
         requires few { words ≤ 2 }

@@ -1,4 +1,4 @@
-// What the code of a method tells at an item.
+// What the code of a method has at an item.
 
 ghost use Rattle.std.specs.Prelude.{◌≡◌, ◌==◌, ◌^◌, ◌<◌, if◌then◌else◌, unwrap_or};
 ghost use Rattle.std.specs.Option.{option_copied};

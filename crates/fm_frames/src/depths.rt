@@ -12,7 +12,7 @@ use crate::machine::Machine;
 use fm_cells::Memory;
 
 impl<M: Memory> Machine<M> {
-    /// Whether so many frames more may be; where they may not, the run ends. Takes no memory.
+    /// Whether `frames` frames more may be; where they may not, the run ends. Takes no memory.
     pub fn has_room(&mut self, frames: usize) -> bool
         requires { length self.old.frames ≤ self.old.depth }
         ensures kept { result ≡ true → self.new ≡ self.old }
@@ -37,7 +37,7 @@ impl<M: Memory> Machine<M> {
         self.steps += 1;
     }
 
-    /// Counts so many steps. Takes no memory.
+    /// Counts `steps` steps. Takes no memory.
     pub fn count_steps(&mut self, steps: u64)
         requires { self.old.steps + steps < 2 ^ 64 }
         ensures { self.new ≡ record self.old { steps = self.old.steps + steps } }

@@ -111,7 +111,7 @@ impl<M: Memory> Machine<M> {
         }
     }
 
-    /// Takes so many words off the stack, and puts a value at a place of the object in a cell.
+    /// Takes `takes` words off the stack, and puts a value at a place of the object in a cell.
     /// Takes no memory.
     #[inline(always)]
     pub fn put(&mut self, takes: usize, cell: Cell, place: u32, kind: Kind, value: Value)

@@ -15,7 +15,7 @@ pub enum Ended {
     Running,
     /// What a step makes would pass the budget of live words: the live words, and those that it needs.
     Exhausted(u64, u64),
-    /// So many frames stand, and one more than may be is needed.
+    /// The run has this many frames, and one more than may be is needed.
     TooDeep(u32),
     /// An exception left the `<clinit>` of this class.
     InitFailed(ClassId),

@@ -93,7 +93,7 @@ fn clear_values(values: &mut Vec<Value>, start: usize, end: usize) -> Result<(),
     Ok(())
 }
 
-// Makes the values more, up to so many.
+// Lengthens the values to `len`.
 #[cold]
 #[inline(never)]
 fn lengthen(values: &mut Vec<Value>, len: usize) -> Result<(), NoMemory>
@@ -128,7 +128,7 @@ fn copy_down(values: &mut Vec<Value>, used: usize, words: usize, place: usize)
     values[place + 1] = top;
 }
 
-// Whether a long fits from a place on, behind which so many words lie, of so many values.
+// Whether a long fits from a place on, behind which `words` words lie, of `len` values.
 #[inline(always)]
 fn fits_long(place: usize, words: usize, len: usize) -> bool
     requires { place + words ≤ len }
@@ -151,7 +151,7 @@ impl Frames {
         }
     }
 
-    /// The frame of main alone, whose first local is a value.
+    /// Only the frame of main, whose first local is a value.
     pub fn of_main(
         alloc: Global,
         method: MethodId,
@@ -232,7 +232,8 @@ impl Frames {
         Ok(())
     }
 
-    /// Puts a word on top of the stack, if there is room for it; tells whether there was. Takes no memory.
+    /// Puts a word on top of the stack, if there is room for it; returns whether there was. Takes
+    /// no memory.
     #[inline(always)]
     pub fn push_in_room(&mut self, value: Value) -> bool
         ensures put { result ≡ true
@@ -248,8 +249,8 @@ impl Frames {
         }
     }
 
-    /// Puts a word in place of so many words of the stack, one at least, if they are there; tells whether
-    /// they were. Takes no memory.
+    /// Puts a word in place of `takes` words of the stack, one at least, if they are there; returns
+    /// whether they were. Takes no memory.
     #[inline(always)]
     pub fn put_over(&mut self, takes: usize, value: Value) -> bool
         requires some { 0 < takes }
@@ -266,8 +267,8 @@ impl Frames {
         true
     }
 
-    /// Puts a long and its second half, which is on top, in place of so many words of the stack, if they are
-    /// there and there is room for both; tells whether that was done. Takes no memory.
+    /// Puts a long and its second half, which is on top, in place of `takes` words of the stack, if
+    /// they are there and there is room for both; returns whether that was done. Takes no memory.
     #[inline(always)]
     pub fn put_wide_over(&mut self, takes: usize, value: Value) -> bool
         ensures put { result ≡ true → self.new
@@ -296,7 +297,7 @@ impl Frames {
         self.used = self.topmost.stack + height.saturating_sub(count);
     }
 
-    /// Puts a word in place of so many words of the stack.
+    /// Puts a word in place of `takes` words of the stack.
     #[inline(always)]
     pub fn swap_in(&mut self, takes: usize, value: Value) -> Result<(), NoMemory>
         ensures { OnOk result (self.new
@@ -366,7 +367,7 @@ impl Frames {
         }
     }
 
-    /// The cursor of the frame above which so many frames lie; none where there are fewer.
+    /// The cursor of the frame above which `above` frames lie; none where there are fewer.
     pub fn cursor(&self, above: usize) -> Option<Cursor>
         ensures { option_map place result ≡ option_map place_of (slice_get self.now above) }
     {
@@ -411,8 +412,8 @@ impl Frames {
         self.used = self.topmost.stack;
     }
 
-    /// Takes so many frames off, and goes on at a handler in the one that is then on top, with a value as
-    /// the only word of its stack.
+    /// Takes `above` frames off, and goes on at a handler in the one that is then on top, with a
+    /// value as the only word of its stack.
     pub fn catch(&mut self, above: usize, handler: usize, value: Value) -> Result<(), NoMemory>
         ensures { OnOk result (self.new
             ≡ on_top (λ f. record f { item = handler; stack = value ∷ [] }) (drop above self.old)) }
@@ -425,7 +426,7 @@ impl Frames {
         self.push(value)
     }
 
-    /// Calls a method: so many words of the stack become the first locals of its frame.
+    /// Calls a method: `words` words of the stack become the first locals of its frame.
     pub fn enter(&mut self, method: MethodId, max_locals: u16, words: usize) -> Result<(), NoMemory>
         ensures { OnOk result (self.new ≡ with_called method.0 max_locals words self.old) }
     {
@@ -448,8 +449,8 @@ impl Frames {
         Ok(())
     }
 
-    /// Calls a method, as `enter` does, if there is room for its frame; tells whether there was. Takes no
-    /// memory.
+    /// Calls a method, as `enter` does, if there is room for its frame; returns whether there was.
+    /// Takes no memory.
     #[inline(always)]
     pub fn enter_in_room(&mut self, method: MethodId, max_locals: u16, words: usize) -> bool
         ensures entered { result ≡ true → self.new ≡ with_called method.0 max_locals words self.old }
@@ -479,7 +480,7 @@ impl Frames {
         true
     }
 
-    // The word of a result at this place, where the result has so many words.
+    // The word of a result at this place, where the result has `words` words.
     fn result_word(&self, words: usize, place: usize) -> Option<Value>
         ensures { result ≡ result_word words place (stack_in self.now) }
     {
@@ -500,7 +501,8 @@ impl Frames {
         }
     }
 
-    /// Takes the topmost frame off, and goes on in the one below it with the result of so many words.
+    /// Takes the topmost frame off, and goes on in the one below it with the result of `words`
+    /// words.
     pub fn give_back(&mut self, words: usize) -> Result<(), NoMemory>
         requires few { words ≤ 2 }
         requires next_fits { NextFits (drop 1 self.old) }
@@ -515,9 +517,9 @@ impl Frames {
         Ok(())
     }
 
-    /// Takes the topmost frame off, and goes on in the one below it with the result, as `give_back` does, if
-    /// there is one below and the words of the result are there; tells whether that was done. Takes no
-    /// memory.
+    /// Takes the topmost frame off, and goes on in the one below it with the result, as `give_back`
+    /// does, if there is one below and the words of the result are there; returns whether that was
+    /// done. Takes no memory.
     #[inline(always)]
     pub fn give_back_in_room(&mut self, words: usize) -> bool
         requires few { words ≤ 2 }

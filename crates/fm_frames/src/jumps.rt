@@ -23,8 +23,8 @@ fn cell_of(value: Value) -> Cell
 }
 
 impl<M: Memory> Machine<M> {
-    /// Takes so many words off the stack, and goes on at an item: in each program in which the item is this
-    /// target of the topmost frame's instruction. Takes no memory.
+    /// Takes `takes` words off the stack, and goes on at an item: in each program in which the item
+    /// is this target of the topmost frame's instruction. Takes no memory.
     #[inline(always)]
     pub fn jump(&mut self, takes: usize, item: usize)
         requires { self.old.steps + 1 < 2 ^ 64 }

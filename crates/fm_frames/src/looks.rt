@@ -8,7 +8,7 @@ use crate::machine::Machine;
 use crate::values::Value;
 use fm_cells::{Cell, Head, Memory};
 
-/// What an operand is, where a reference is asked for.
+/// What an operand is, where a reference is required.
 #[derive(Clone, Copy)]
 pub enum Look {
     /// No reference, or no operand at all.

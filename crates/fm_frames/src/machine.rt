@@ -114,7 +114,7 @@ impl<M: Memory> Machine<M> {
         self.frames.local(place)
     }
 
-    /// Where the topmost frame stands: its method, and the item that is next. None where there are no
+    /// Where the topmost frame is: its method, and the item that is next. None where there are no
     /// frames. Takes no memory.
     #[inline(always)]
     pub fn topmost(&self) -> Option<Cursor>
@@ -148,7 +148,7 @@ impl<M: Memory> Machine<M> {
         replace(&mut self.frames, Frames::new(alloc))
     }
 
-    /// Puts frames in, with which so many steps are done in all.
+    /// Puts frames in, with which `steps` steps are done in all.
     pub fn put_frames(&mut self, frames: Frames, steps: u64)
         ensures { self.new ≡ record self.old { frames = frames; steps = steps } }
     {

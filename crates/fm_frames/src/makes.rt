@@ -24,7 +24,7 @@ use fm_base::{NoMemory, TypeId, TypeRef};
 use fm_cells::{Cell, MakeFail, Memory, cell_words};
 use fm_world::Program;
 
-/// The words of an object of so many elements, where a word holds `pack` of them. Takes no memory.
+/// The words of an object of `len` elements, where a word holds `pack` of them. Takes no memory.
 pub fn object_words(len: u32, pack: u8) -> u32
     requires len_fits { len < 2 ^ 31 }
     requires pack_is { IsPack pack }
@@ -84,7 +84,7 @@ impl<M: Memory> Machine<M> {
         self.memory.births()
     }
 
-    /// Whether so many words more may live; where they may not, the run ends. Takes no memory.
+    /// Whether `words` words more may live; where they may not, the run ends. Takes no memory.
     pub fn reserve(&mut self, words: u64) -> bool
         ensures room { result ≡ true → 0 < words
             → live_words self.old.areas.store + words ≤ self.old.areas.store.budget }
@@ -135,8 +135,8 @@ impl<M: Memory> Machine<M> {
         }
     }
 
-    /// Makes an object of a type, whose elements are 0, and puts it in place of so many words; or the run
-    /// ends.
+    /// Makes an object of a type, whose elements are 0, and puts it in place of `takes` words; or
+    /// the run ends.
     pub fn make(
         &mut self,
         program: &Program,

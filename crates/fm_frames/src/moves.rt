@@ -15,7 +15,7 @@ use fm_base::NoMemory;
 use fm_cells::Memory;
 
 impl<M: Memory> Machine<M> {
-    /// Takes so many words off the stack. Takes no memory.
+    /// Takes `takes` words off the stack. Takes no memory.
     #[inline(always)]
     pub fn take(&mut self, takes: usize)
         requires { IsReady self.old }
@@ -26,7 +26,7 @@ impl<M: Memory> Machine<M> {
         self.steps += 1;
     }
 
-    /// Puts a value in place of so many words.
+    /// Puts a value in place of `takes` words.
     #[inline(always)]
     pub fn give(&mut self, takes: usize, value: Value) -> Result<(), NoMemory>
         requires { IsReady self.old }
@@ -39,7 +39,7 @@ impl<M: Memory> Machine<M> {
         Ok(())
     }
 
-    /// Puts a long, with its second half above it, in place of so many words.
+    /// Puts a long, with its second half above it, in place of `takes` words.
     #[inline(always)]
     pub fn give_wide(&mut self, takes: usize, value: Value) -> Result<(), NoMemory>
         requires { IsReady self.old }
@@ -53,7 +53,7 @@ impl<M: Memory> Machine<M> {
         Ok(())
     }
 
-    /// Takes so many words off the stack, and gives a local a value. Takes no memory.
+    /// Takes `takes` words off the stack, and gives a local a value. Takes no memory.
     #[inline(always)]
     pub fn store(&mut self, takes: usize, place: usize, value: Value)
         requires { IsReady self.old }
@@ -66,8 +66,8 @@ impl<M: Memory> Machine<M> {
         self.steps += 1;
     }
 
-    /// Takes so many words off the stack, and gives a local a long; the next local is its second half.
-    /// Takes no memory.
+    /// Takes `takes` words off the stack, and gives a local a long; the next local is its second
+    /// half. Takes no memory.
     #[inline(always)]
     pub fn store_wide(&mut self, takes: usize, place: u16, value: Value)
         requires { IsReady self.old }

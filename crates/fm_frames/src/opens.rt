@@ -60,7 +60,7 @@ fn first_statics(alloc: Global, program: &Program) -> Result<Vec<Value>, NoMemor
 }
 
 impl<M: Memory> Machine<M> {
-    // Makes the object of a type that the next action of the opening asks for; none where the run has ended.
+    // Makes the object of the type in the next action of the opening; none where the run has ended.
     fn open_object(
         &mut self,
         program: &Program,
@@ -86,7 +86,7 @@ impl<M: Memory> Machine<M> {
         self.make_object(id, len, pack, fixed)
     }
 
-    // Makes the text that the next action of the opening asks for; none where the run has ended.
+    // Makes the text in the next action of the opening; none where the run has ended.
     fn open_text(
         &mut self,
         program: &Program,
@@ -110,8 +110,8 @@ impl<M: Memory> Machine<M> {
         self.make_units(program, units, fixed)
     }
 
-    // Makes the text of an argument and puts it into the array of the arguments; the answer is false where
-    // the run has ended.
+    // Makes the text of an argument and puts it into the array of the arguments; returns false
+    // where the run has ended.
     fn open_argument(
         &mut self,
         program: &Program,
@@ -137,7 +137,7 @@ impl<M: Memory> Machine<M> {
         Ok(true)
     }
 
-    // Makes the literal of a text, unless it is there; the answer is false where the run has ended.
+    // Makes the literal of a text, unless it is there; returns false where the run has ended.
     fn open_literal(&mut self, program: &Program, text: u32) -> Result<bool, NoMemory>
         requires runnable { IsRunnable program.now }
         requires text { text < length program.now.outline.texts }
@@ -160,7 +160,7 @@ impl<M: Memory> Machine<M> {
         Ok(true)
     }
 
-    // Does one action of the start of a class; the answer is false where the run has ended.
+    // Does one action of the start of a class; returns false where the run has ended.
     fn open_action(&mut self, program: &Program, action: StartAction) -> Result<bool, NoMemory>
         requires runnable { IsRunnable program.now }
         requires fits { StartFits program.now.outline (action_of action) }
@@ -201,8 +201,8 @@ impl<M: Memory> Machine<M> {
         }
     }
 
-    // Makes the streams, which the first static fields get, and the array of the arguments with their
-    // texts, which it answers; none where the run has ended.
+    // Makes the streams, which the first static fields get, and the array of the arguments with
+    // their texts, and returns that array; none where the run has ended.
     fn open_objects(&mut self, program: &Program, args: &[Units]) -> Result<Option<Cell>, NoMemory>
         requires runnable { IsRunnable program.now }
         requires few { length args.now < 2 ^ 31 }
@@ -282,7 +282,7 @@ impl<M: Memory> Machine<M> {
     }
 }
 
-// Makes the texts of the arguments and puts them into their array; the answer is false where the run has
+// Makes the texts of the arguments and puts them into their array; returns false where the run has
 // ended.
 fn open_arguments<M: Memory>(
     machine: &mut Machine<M>,
@@ -308,7 +308,7 @@ fn open_arguments<M: Memory>(
     Ok(true)
 }
 
-// Does the actions that start classes, one after the other; the answer is false where the run has ended.
+// Does the actions that start classes, one after the other; returns false where the run has ended.
 fn open_starts<M: Memory>(
     machine: &mut Machine<M>,
     program: &Program,
@@ -362,8 +362,9 @@ impl<M: Memory + Drop> Machine<M> {
         })
     }
 
-    /// The machine at the opening of a run of the program with these arguments and this input, in which at
-    /// most so many frames may be, over a memory in which nothing was made. The run may have ended already.
+    /// The machine at the opening of a run of the program with these arguments and this input, in
+    /// which at most `frames` frames may be, over a memory in which nothing was made. The run may
+    /// have ended already.
     pub fn open(
         alloc: Global,
         program: &Program,

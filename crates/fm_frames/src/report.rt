@@ -1,4 +1,4 @@
-// What is told of a run.
+// The report of a run.
 
 ghost use Rattle.std.specs.Prelude.{◌≡◌, sum};
 ghost use Rattle.fm_frames.specs.Reports.{report_of};
@@ -10,7 +10,7 @@ use fm_cells::Memory;
 // The size classes of cells are numbered from 0 on.
 const SIZE_CLASSES: u8 = 64;
 
-/// What a run came to.
+/// The report of a run: how it ended, and its counts.
 #[derive(Clone, Copy, Debug, PartialEq, Eq)]
 pub struct Report {
     /// How the run ended; `Running` where it hasn't.
@@ -40,7 +40,7 @@ fn cells_made<M: Memory>(memory: &M) -> u64
 }
 
 impl<M: Memory> Machine<M> {
-    /// What the run came to so far. Takes no memory.
+    /// The report of the run so far. Takes no memory.
     pub fn report(&self) -> Report
         ensures { result ≡ report_of self.now }
     {

@@ -25,7 +25,7 @@ fn push_all(frames: &mut Frames, words: &[Value]) -> Result<(), NoMemory>
 }
 
 impl<M: Memory> Machine<M> {
-    /// Puts words, the first of them uppermost, in place of so many.
+    /// Puts words, the first of them uppermost, in place of `takes`.
     #[inline(always)]
     pub fn give_words(&mut self, takes: usize, words: &[Value]) -> Result<(), NoMemory>
         requires { IsReady self.old }

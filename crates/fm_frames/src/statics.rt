@@ -37,7 +37,7 @@ impl<M: Memory> Machine<M> {
         }
     }
 
-    /// Takes so many words off the stack, and gives a static field a value. Takes no memory.
+    /// Takes `takes` words off the stack, and gives a static field a value. Takes no memory.
     pub fn put_static(&mut self, takes: usize, slot: usize, kind: Kind, value: Value)
         requires ready { IsReady self.old }
         requires fits { IsOfKind kind (kept kind value) }

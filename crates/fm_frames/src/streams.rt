@@ -23,7 +23,8 @@ impl<M: Memory> Machine<M> {
         }
     }
 
-    /// Takes so many words off the stack, where bytes are printed: the caller prints them. Takes no memory.
+    /// Takes `takes` words off the stack, where bytes are printed: the caller prints them. Takes no
+    /// memory.
     pub fn print(&mut self, takes: usize)
         requires { IsReady self.old }
         ensures { (p : world.Program) (choose : Choose) (bytes : List ℕ)
@@ -32,7 +33,7 @@ impl<M: Memory> Machine<M> {
         self.take(takes);
     }
 
-    /// Puts a value in place of so many words, and takes a byte of the input, if one is left.
+    /// Puts a value in place of `takes` words, and takes a byte of the input, if one is left.
     pub fn read(&mut self, takes: usize, value: Value) -> Result<(), NoMemory>
         requires { IsReady self.old }
         ensures { OnOk result ((source : Source) → value_of (before self.old) source ≡ value

@@ -25,7 +25,7 @@ use fm_world::Program;
 // How many units of a text a word holds.
 const TEXT_PACK: u8 = 4;
 
-/// The words of a text of so many units. Takes no memory.
+/// The words of a text of `units` units. Takes no memory.
 pub fn text_words(units: usize) -> u64
     requires { units < 2 ^ 63 }
     ensures { result ≡ packed_words units 4 }
@@ -74,7 +74,7 @@ impl<M: Memory> Machine<M> {
         Ok(Some(cell))
     }
 
-    /// Makes a text of these units and puts it in place of so many words; or the run ends.
+    /// Makes a text of these units and puts it in place of `takes` words; or the run ends.
     pub fn give_text(
         &mut self,
         program: &Program,
@@ -106,8 +106,8 @@ impl<M: Memory> Machine<M> {
         self.put_place(cell, 0, kind, Value::Ref(Cell(text)));
     }
 
-    // Makes a text of these units and puts it into the hidden field of the object in a cell; or the run
-    // ends, and the answer is false.
+    // Makes a text of these units and puts it into the hidden field of the object in a cell; or the
+    // run ends, and it returns false.
     fn keep_units(&mut self, program: &Program, cell: Cell, units: &[u16]) -> Result<bool, NoMemory>
         requires can { CanStep program.now self.old }
         requires wide { IsWide self.old.areas.store cell.0 }
@@ -127,8 +127,8 @@ impl<M: Memory> Machine<M> {
         Ok(true)
     }
 
-    /// Makes a text of these units, puts it into the hidden field of the object in a cell, and puts that
-    /// object in place of so many words; or the run ends.
+    /// Makes a text of these units, puts it into the hidden field of the object in a cell, and puts
+    /// that object in place of `takes` words; or the run ends.
     pub fn append_text(
         &mut self,
         program: &Program,
@@ -150,8 +150,8 @@ impl<M: Memory> Machine<M> {
         self.give(takes, Value::Ref(cell))
     }
 
-    /// Takes so many words off the stack, makes a text of these units, and puts it into the hidden field
-    /// of the object in a cell; or the run ends.
+    /// Takes `takes` words off the stack, makes a text of these units, and puts it into the hidden
+    /// field of the object in a cell; or the run ends.
     pub fn keep_text(
         &mut self,
         program: &Program,

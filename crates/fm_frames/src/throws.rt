@@ -29,7 +29,7 @@ use fm_world::{Program, Use};
 /// Where an exception goes.
 #[derive(Clone, Copy)]
 pub enum Catch {
-    /// To a handler, by its item, of the frame above which so many frames lie.
+    /// To a handler, by its item, of the frame above which this many frames lie.
     InFrame(usize, usize),
     /// Out of main, or out of the start of a class: the run ends.
     Leaves(Ended),
@@ -134,7 +134,8 @@ fn class_of(t: TypeRef) -> ClassId
     }
 }
 
-// What the frame does with the exception above which so many frames lie; none where it goes on below it.
+// What the frame does with the exception above which `above` frames lie; none where it goes on
+// below it.
 fn caught_at(frames: &Frames, program: &Program, above: usize, t: TypeRef) -> Option<Catch>
     requires runnable { IsRunnable program.now }
     requires methods { AreFramesIn program.now frames.now }

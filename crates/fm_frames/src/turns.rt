@@ -1,4 +1,4 @@
-// What a step comes to.
+// The result of a step.
 
 ghost use Rattle.std.specs.Prelude.{◌≡◌};
 ghost use Rattle.fm_frames.specs.declared.turns.StepFail.TheVariants as step_fail;

@@ -44,7 +44,7 @@ pub own_content : (content : List ℕ) → HasContent (length content) content
 own_content [] = tt
 own_content (element ∷ elements) = refl
 
--- ---- what they come to
+-- ---- their results
 
 -- wherever the actions led, from this store on
 abbrev pub LeadsBy : (Store → Store → Type 0) → Store → Performed → Type 0

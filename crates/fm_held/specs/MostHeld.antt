@@ -14,11 +14,12 @@ use Rattle.fm_ready.specs.Ready.{CanRun}
 abbrev pub first_state : Program → Job → (budget : ℕ) (limit : Option ℕ) → Moved
 first_state p job budget limit = opening p (lawful last_choice) job (opened budget limit empty_lists)
 
--- its store after so many steps
+-- its store after `count` steps
 abbrev pub store_after : Program → (first : Moved) → (count : ℕ) → Store
 store_after p first count = (after p (lawful last_choice) count first).state.areas.store
 
--- the most cells of a size class that were held at once: when the run was opened, and after each of so many steps
+-- the most cells of a size class that were held at once: when the run was opened, and after each of
+-- the first `count` steps
 unfoldable pub most_held : Program → (first : Moved) → (count size_class : ℕ) → ℕ
 most_held p first zero size_class = held_count (store_after p first zero) size_class
 most_held p first (suc count) size_class =
@@ -36,8 +37,8 @@ MadeIsMostHeld =
 
 -- ---- from any state on
 
--- After so many steps from one state to the other memory still takes the last freed cell, and of each size class as many cells are made as were made before
--- or held at once since.
+-- After `count` steps from one state to the other memory still takes the last freed cell, and of
+-- each size class as many cells are made as were made before or held at once since.
 pub record MadeSince (p : Program) (x y : State) (count : ℕ) : Type 0 where
   pub last : IsLastReused y.areas.store
   pub made : (size_class : ℕ) → size_class < 64

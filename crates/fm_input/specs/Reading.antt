@@ -1,4 +1,4 @@
--- What the read of the input comes to.
+-- The result of reading the input.
 use Rattle.std.specs.Prelude.{◌≡◌, ℕ, ◌<◌, ◌≤◌, [], Option, Some, length, MatchOption, Result, Ok, Err, Vec}
 use Rattle.fm_base.specs.declared.limits.TheConstants.{MAX_FILE_BYTES}
 use Rattle.fm_files.specs.Files.{Bytes, Contents, Disk, Holds}
@@ -12,7 +12,8 @@ use Rattle.fm_tool.specs.declared.refusal.Refusal.TheVariants as refusal
 abbrev pub IsInputOf : Option Bytes → Contents → Bytes → Type 0
 IsInputOf named contents input = MatchOption named (input ≡ []) (λ file. (length input ≤ MAX_FILE_BYTES) × Holds contents file input)
 
--- the file that is named is read alone, and no content changes; where none is named nothing is touched
+-- only the file that is named is read, and no content changes; where none is named nothing is
+-- touched
 abbrev pub ReadsInput : Option Bytes → Disk → Disk → Type 0
 ReadsInput named old new = MatchOption named (new ≡ old) (λ file. ReadsAlone file old new × KeepsWrites old new)
 

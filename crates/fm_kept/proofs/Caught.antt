@@ -61,7 +61,8 @@ anchor_inside old plan t inside = go (cases_lt t (length old.items)) where
 
 -- ---- owners
 
--- a laid item is at the start, before where the first old item goes, or of the old item between whose numbers it stands
+-- a laid item is at the start, before where the first old item goes, or of the old item between
+-- whose numbers it lies
 pub data Owned (free : ℕ) (old : Code) (plan : Insertions) (n : ℕ) (r : Role) : Type 0 where
   OfStart : owner r ≡ None → n < goes_to free old plan 0 → Owned free old plan n r
   OfItem : (j : ℕ) → j < length old.items → owner r ≡ Some j → goes_to free old plan j ≤ n → n < goes_to free old plan (suc j) → Owned free old plan n r

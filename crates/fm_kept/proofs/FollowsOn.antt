@@ -47,7 +47,7 @@ target_inside old rules j i t found named =
 
 -- ---- roles at the ends
 
--- where a target goes, an entry of it stands
+-- where a target goes, there is an entry of it
 pub to_entry : (free : ℕ) (old : Code) (plan : Insertions) (t : ℕ) → t < length old.items
     → (to : Role) × (slice_get (roles_of free old plan) (goes_to free old plan t) ≡ Some to) × IsEntry old t to
 to_entry free old plan t inside =

@@ -120,7 +120,7 @@ path_reached free old plan rules can [] a n same reached = subst (λ m. IsHereRe
 path_reached free old plan rules can (next ∷ path) a n leads reached =
     path_reached free old plan rules can path next n leads.1 (edge_reached free old plan rules can a next leads.0 reached)
 
--- the first item stands at the start
+-- the first item has the role of the start
 pub begin_role : (free : ℕ) (old : Code) (plan : Insertions) → CanStand old plan → slice_get (roles_of free old plan) 0 ≡ Some (StartNull 0)
 begin_role free old plan can =
     let lay = lays free old plan in
@@ -242,7 +242,7 @@ start_reached free old plan k le inside =
     run_to free old plan 0 k (omega arith) (λ m r low high found. past-start old r None (role_start old plan m r (omega arith) found)) inside
     ([], sym (lays free old plan).begin)
 
--- from an anchor to the item and what stands before it
+-- from an anchor to the item and what comes before it
 before_reached : (free : ℕ) (old : Code) (plan : Insertions) (j k : ℕ) → j < length old.items → slice_index (anchors_of plan old.items) j ≤ k
     → k ≤ kept_new old plan j → IsReachable (woven_code free old plan) (goes_to free old plan j) → IsReachable (woven_code free old plan) (first_of free old plan k)
 before_reached free old plan j k inside low high reached =
@@ -250,7 +250,7 @@ before_reached free old plan j k inside low high reached =
     run_to free old plan (slice_index (anchors_of plan old.items) j) k low
     (λ m r from to found. past-before old r (Some j) (role_before old plan j m r inside from (omega arith) found)) (omega arith) reached
 
--- and from the item that goes on to what stands after it, and to the next anchor
+-- and from the item that goes on to what comes after it, and to the next anchor
 after_reached : (free : ℕ) (old : Code) (plan : Insertions) (j k : ℕ) → j < length old.items → FallsAt old j → kept_new old plan j ≤ k
     → k ≤ slice_index (anchors_of plan old.items) (suc j) → k < length (new_roles old plan)
     → IsReachable (woven_code free old plan) (first_of free old plan (kept_new old plan j)) → IsReachable (woven_code free old plan) (first_of free old plan k)
@@ -403,7 +403,7 @@ anchor_reached free old plan rules j inside (path, leads) =
 
 -- ---- each laid item
 
--- what keeps an object stands after an item that goes on
+-- what keeps an object comes after an item that goes on
 pub after_holder : (old : Code) (plan : Insertions) → CanStand old plan → (j : ℕ) (r : Role) → IsOf After (Some j) r → HasHolder plan r → FallsAt old j
 after_holder old plan can j (DupAfter i h) is holder = subst (λ n. FallsAt old n) (some-same is.owner_is) (can.goes_on i h holder)
 after_holder old plan can j (StoreAfter i h) is holder = subst (λ n. FallsAt old n) (some-same is.owner_is) (can.goes_on i h holder)

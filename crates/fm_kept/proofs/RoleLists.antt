@@ -144,7 +144,7 @@ length-item plan j =
     let both = length-append (flat_map (before_roles j) (before_at plan j)) (Keep j ∷ flat_map (after_roles j) (after_at plan j)) in
     omega (arith, before, after, both)
 
--- the roles of item j stand in the list from the anchor at an index on
+-- the roles of item j are in the list from the anchor at an index on
 record Part (plan : Insertions) (whole : List Role) (anchors : List ℕ) (t j : ℕ) : Type 0 where
   front : List Role
   back : List Role
@@ -278,7 +278,7 @@ after-role j (h ∷ hs) rest zero r inside found = of-same After (Some j) (DupAf
 after-role j (h ∷ hs) rest (suc zero) r inside found = of-same After (Some j) (StoreAfter j h) r found (record { phase_is = refl; owner_is = refl })
 after-role j (h ∷ hs) rest (suc (suc k)) r inside found = after-role j hs rest k r (omega arith) found
 
--- where a new item stands among those of its old item
+-- where a new item is among those of its old item
 pub data StandsAt (old : Code) (plan : Insertions) (k : ℕ) (r : Role) : Type 0 where
   InStart : k < slice_index (anchors_of plan old.items) 0 → IsOf AtStart None r → StandsAt old plan k r
   InBefore : (j : ℕ) → j < length old.items → slice_index (anchors_of plan old.items) j ≤ k → k < kept_new old plan j → IsOf Before (Some j) r
@@ -298,7 +298,7 @@ kept_role old plan j inside =
     in_part plan (new_roles old plan) (anchors_of plan old.items) j j part (kept_new old plan j) (freed_items * length (before_at plan j)) refl
     ∙ ap (λ n. slice_get (before ++ rest) n) place ∙ get_behind before rest 0
 
--- what stands before an old item, from its anchor on
+-- what comes before an old item, from its anchor on
 pub role_before : (old : Code) (plan : Insertions) (j k : ℕ) (r : Role) → j < length old.items → slice_index (anchors_of plan old.items) j ≤ k
     → k < kept_new old plan j → slice_get (new_roles old plan) k ≡ Some r → IsOf Before (Some j) r
 role_before old plan j k r inside low high found =
@@ -324,7 +324,7 @@ role_after old plan j k r inside low high found =
     ∙ ap (λ n. slice_get (before ++ (Keep j ∷ after)) n) place ∙ get_behind before (Keep j ∷ after) (suc rest)) ∙ found in
     after-role j (after_at plan j) part.back rest r (omega (arith, next)) there
 
--- what stands at the start
+-- what is at the start
 pub role_start : (old : Code) (plan : Insertions) (k : ℕ) (r : Role) → k < slice_index (anchors_of plan old.items) 0 → slice_get (new_roles old plan) k ≡ Some r
     → IsOf AtStart None r
 role_start old plan k r inside found =

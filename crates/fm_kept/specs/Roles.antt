@@ -96,7 +96,7 @@ HasHolder plan (StoreAfter j h) = Contains (after_at plan j) h
 
 -- ---- what follows
 
--- where control comes to an old item: at what frees a holder before it, or at the item itself
+-- where control enters an old item: at what frees a holder before it, or at the item itself
 abbrev pub IsEntry : Code → ℕ → Role → Type 0
 IsEntry old j r = (j < length old.items) × (((h : ℕ) × (r ≡ LoadBefore j h)) ⊎ (r ≡ Keep j))
 
@@ -147,7 +147,8 @@ abbrev pub IsOwnerReached : Code → Option ℕ → Type 0
 IsOwnerReached old None = Unit {0}
 IsOwnerReached old (Some j) = IsReachable old j
 
--- code stands as old code with these insertions, by the roles of its items, the numbers of the kept ones, and how entries of the exception table move
+-- the code is old code with these insertions, by the roles of its items, the numbers of the kept
+-- ones, and how entries of the exception table move
 pub record StandsFor (free : ℕ) (old : Code) (plan : Insertions) (new : Code) (roles : List Role) (numbers : ℕ → ℕ) (moved : Handler → Handler) : Type 0 where
   pub one_each : length roles ≡ length new.items
   pub insns : (n : ℕ) (r : Role) → slice_get roles n ≡ Some r → IsSomeAnd (insn_of new n) (HasInsn free old r)
@@ -167,7 +168,7 @@ pub record StandsFor (free : ℕ) (old : Code) (plan : Insertions) (new : Code) 
   -- two items have one number exactly where they are the same
   pub apart : (i j : ℕ) → (numbers i == numbers j) ≡ (i == j)
 
--- ---- what is asked of a plan
+-- ---- what is required of a plan
 
 -- there are holders, and after an item that gives an object for a holder control goes on
 pub record CanStand (old : Code) (plan : Insertions) : Type 0 where

@@ -1,2 +1,2 @@
--- What serves the proofs alone: the roles of all items, and their numbers.
+-- What only serves the proofs: the roles of all items, and their numbers.
 pub mod RolesOf

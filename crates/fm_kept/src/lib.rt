@@ -1,4 +1,4 @@
-// What each item of a method's new code stands for: how the new code flows by the old one's ways.
+// The role of each item of a method's new code, and that the new code flows as the old one does.
 #![tactic(auto)]
 
 mod laws;

@@ -1,4 +1,5 @@
--- What is done at kept items costs something: so no two states of one run stand for one state of another.
+-- What is done at kept items costs something: so no two states of one run match one state of
+-- another.
 use Rattle.std.proofs.Common.{◌≡◌, ℕ, zero, suc, ◌+◌, ◌-◌, ◌<◌, ◌≤◌, ◌⊎◌, Bool, true, false, List, [], ◌∷◌, nat_lt, Option, Some, None, refl, sym, ◌∙◌, ap, subst, inl, inr, if◌then◌else◌, arith}
 use Rattle.std.proofs.Math.Nat.{le-suc_iff}
 use Rattle.std.proofs.lemmas.Bool.{false≢true, ltb-false, ltb-true}
@@ -63,7 +64,7 @@ module _ (p : Program) (choose : Choose) (ys : ℕ → Moved) (steps : (l : ℕ)
       subst (λ (b : Bool). kept_cost marks ys l < kept_cost marks ys l + (if b then (ys (suc l)).state.steps - (ys l).state.steps else 0)) (sym kept)
       (omega (arith, more))
 
--- ---- one state stands for another
+-- ---- one state matches another
 
 module _ (b : Beside) (choose : Choose) (goes : SecondGoesOn b choose) (k : ℕ) where
   not_before : (l m : ℕ) → StandsFor b k l → StandsFor b k m → l < m → ⊥

@@ -1,7 +1,8 @@
--- A run of a program beside a run of its rewritten form: which states stand for each other, and how both end (JVMS 2.6, 2.10, 2.11).
+-- A run of a program beside a run of its rewritten form: which states match, and how both end (JVMS
+-- 2.6, 2.10, 2.11).
 --
--- The first program runs on memory that is never reused, the second on memory that reuses cells in any way. Marks tell of each item of the second one which
--- old item it is; an item that is none is inserted.
+-- The first program runs on memory that is never reused, the second on memory that reuses cells in
+-- any way. Marks give the old item of each item of the second one; an item without one is inserted.
 use Rattle.std.specs.Prelude.{◌≡◌, ℕ, zero, suc, ◌+◌, ◌-◌, ◌*◌, ◌^◌, ◌<◌, ◌≤◌, ◌⊎◌, Bool, true, false, List, [], ◌∷◌, length, map, max, Option, Some, None, is_some, option_and_then, if◌then◌else◌, slice_get}
 use Rattle.std.specs.List.{AllByRecursion, range_with_len, slice_index_or}
 use Rattle.fm_base.specs.declared.limits.TheConstants.{MAX_LIVE_WORDS, MAX_MADE_WORDS}
@@ -34,7 +35,8 @@ is_at_kept marks x = of_frames x.frames where
   of_frames [] = false
   of_frames (f ∷ callers) = is_some (kept_item marks f.method f.item)
 
--- What the steps at kept items cost, of so many steps from the first on. A step that ends a run before it is done costs nothing, here as in a report.
+-- What the steps at kept items cost, of this many steps from the first on. A step that ends a run
+-- before it is done costs nothing, here as in a report.
 abbrev pub kept_cost : Marks → (ℕ → Moved) → ℕ → ℕ
 kept_cost marks ys zero = 0
 kept_cost marks ys (suc l) =
@@ -73,19 +75,19 @@ pub record Beside : Type 0 where
   pub xs : ℕ → Moved
   pub ys : ℕ → Moved
 
--- a run comes to a state within a budget of steps
+-- a run reaches a state within a budget of steps
 abbrev pub Reaches : Program → (budget : ℕ) → (ℕ → Moved) → ℕ → Type 0
 Reaches p budget xs k = (j : ℕ) → j < k → Goes p budget (xs j).state
 
--- the first run comes to its k-th state
+-- the first run reaches its k-th state
 abbrev pub FirstReaches : Beside → ℕ → Type 0
 FirstReaches b k = Reaches b.one b.steps b.xs k
 
--- the second run comes to its l-th state
+-- the second run reaches its l-th state
 abbrev pub SecondReaches : Beside → ℕ → Type 0
 SecondReaches b l = Reaches b.other (steps_allowed b.one b.other b.steps) b.ys l
 
--- ---- states that stand for each other
+-- ---- states that match
 
 -- the second run goes on at a kept item, and what it did at kept items costs what the first run did
 pub record StandsFor (b : Beside) (k l : ℕ) : Type 0 where
@@ -94,7 +96,8 @@ pub record StandsFor (b : Beside) (k l : ℕ) : Type 0 where
   pub kept : is_at_kept b.marks (b.ys l).state ≡ true
   pub cost : kept_cost b.marks b.ys l ≡ (b.xs k).state.steps
 
--- Both runs go on; the same was printed and read, as many frames stand and as many objects were made; and no more words live in the second one.
+-- Both runs go on; the same was printed and read, as many frames exist and as many objects were
+-- made; and no more words live in the second one.
 pub record AreMatched (b : Beside) (k l : ℕ) : Type 0 where
   pub reached : FirstReaches b k
   pub goes_on : (b.xs k).state.ended ≡ None
@@ -117,7 +120,7 @@ pub data PrintedAsMatched (b : Beside) (printed : List ℕ) : Type 0 where
   NoneMatched : ((k l : ℕ) → ¬ AreMatched b k l) → printed ≡ [] → PrintedAsMatched b printed
   LastMatched : (k l : ℕ) → AreMatched b k l → ((later m : ℕ) → AreMatched b later m → later ≤ k) → printed ≡ (b.xs k).printed → PrintedAsMatched b printed
 
--- before it came as far as the k-th state of the first run, the second one ended for want of memory
+-- before it got as far as the k-th state of the first run, the second one ended for want of memory
 pub record EndedBefore (b : Beside) (k : ℕ) : Type 0 where
   pub l : ℕ
   pub reached : SecondReaches b l
@@ -129,7 +132,7 @@ pub record EndedBefore (b : Beside) (k : ℕ) : Type 0 where
 
 -- ---- the runs go together
 
--- exactly one state of the second run stands for the k-th of the first one, and they are matched
+-- exactly one state of the second run belongs to the k-th of the first one, and they are matched
 pub record HasMatch (b : Beside) (k : ℕ) : Type 0 where
   pub l : ℕ
   pub matched : AreMatched b k l
@@ -148,8 +151,9 @@ pub record IsAtInserted (marks : Marks) (x : State) : Type 0 where
   pub goes_on : x.ended ≡ None
   pub inserted : is_at_kept marks x ≡ false
 
--- Each state that the first run comes to has its match, and its end is that of the second run, unless that ended before for want of memory; so the second run
--- never comes to a fault before the first one ends. And few inserted steps follow one another.
+-- Each state that the first run reaches has its match, and its end is that of the second run,
+-- unless that ended before for want of memory; so the second run never ends in a fault before the
+-- first one ends. And few inserted steps follow one another.
 pub record GoTogether (b : Beside) : Type 0 where
   pub states : (k : ℕ) → FirstReaches b k → (b.xs k).state.ended ≡ None → EndedBefore b k ⊎ HasMatch b k
   pub ends : (k : ℕ) (e : Ended) → FirstReaches b k → (b.xs k).state.ended ≡ Some e → EndedBefore b k ⊎ EndsAs b k e
@@ -191,7 +195,8 @@ runs_of one other marks steps words other_words job choose free = record {
 abbrev pub HasWords : Beside → Type 0
 HasWords b = (k : ℕ) → FirstReaches b k → ¬ LacksWords (b.xs k).state
 
--- Whatever is said of two runs is so for all arguments, input, budgets and choices of cells, where the first run has words enough.
+-- The statement on two runs holds for all arguments, input, budgets and choices of cells, where the
+-- first run has words enough.
 abbrev pub InAllRuns : Program → Program → Marks → (Beside → Type 0) → Type 0
 InAllRuns one other marks IsSo =
     (job : Job) → IsGiven job → (steps words other_words : ℕ) → words ≤ most_original_words → other_words ≤ MAX_LIVE_WORDS

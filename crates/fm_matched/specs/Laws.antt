@@ -8,6 +8,6 @@ use Rattle.fm_matched.specs.Beside.{Beside, StandsFor}
 abbrev pub SecondGoesOn : Beside → Choose → Type 0
 SecondGoesOn b choose = (l : ℕ) → (b.ys (suc l)).state ≡ (step b.other choose (b.ys l).state).state
 
--- two states that stand for one are one
+-- two states that match one state are one
 abbrev pub MatchesAreOne : Type 0
 MatchesAreOne = (b : Beside) (choose : Choose) → SecondGoesOn b choose → (k l m : ℕ) → StandsFor b k l → StandsFor b k m → l ≡ m

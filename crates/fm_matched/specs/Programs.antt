@@ -75,7 +75,8 @@ pub record WholeRuns : Type 0 where
   pub x : Moved
   pub y : Moved
 
--- How the second run stands to the first one: it prints and ends the same; or its steps or its words weren't enough, and it printed the first of the bytes.
+-- How the second run compares with the first one: it prints and ends the same; or its steps or its
+-- words weren't enough, and it printed the first of the bytes.
 pub data IsAsFar (r : WholeRuns) : Type 0 where
   EndsTheSame : r.y.state.ended ≡ r.x.state.ended → r.y.printed ≡ r.x.printed → IsAsFar r
   HasFewSteps : r.y.state.ended ≡ None → r.other_steps < steps_allowed r.one r.other (r.x.state.steps + 1) → IsPrefix r.y.printed r.x.printed → IsAsFar r
@@ -97,7 +98,8 @@ pub record AreWholeRuns (r : WholeRuns) : Type 0 where
   pub ended : r.x.state.ended ≡ Some end
   pub done : is_done end ≡ true
 
--- Where the program of the files read comes to its end, that of the files written comes to the same one, given steps and words enough.
+-- Where the program of the files read reaches its end, that of the files written reaches the same
+-- one, given steps and words enough.
 abbrev pub ProgramsEndTheSame : Type 0
 ProgramsEndTheSame =
     (given : List ClassDef) (main : List ℕ) → AreTaken given main → (written : List ClassDef) (marks : Marks) → Safe given main written marks
@@ -110,7 +112,8 @@ pub record AreClear (facts : Facts) (x : TypedMethod) (plan : Insertions) (f : F
   pub clear : (number : ℕ) (h : Holder) → slice_get plan.holders number ≡ Some h → is_busy facts x h.class j ≡ false
       → word_at f.locals (local_of x.code number) ≡ null
 
--- the topmost frame stands at a kept item of a method with holders, and those of classes that aren't busy are null
+-- the topmost frame is at a kept item of a method with holders, and those of classes that aren't
+-- busy are null
 abbrev pub IsClearAt : Program → Facts → Marks → List Frame → Type 0
 IsClearAt p facts marks [] = Unit {0}
 IsClearAt p facts marks (f ∷ callers) =
@@ -130,7 +133,7 @@ abbrev pub WordsAreBalanced : Beside → (k l : ℕ) → Type 0
 WordsAreBalanced b k l =
     live_words (b.ys l).state.areas.store + (b.ys l).state.areas.freed_words ≡ live_words (b.xs k).state.areas.store
 
--- so it is at matched states
+-- this holds at matched states
 abbrev pub WordsBalance : Type 0
 WordsBalance =
     (given : List ClassDef) (main : List ℕ) → AreTaken given main → (written : List ClassDef) (marks : Marks) → Safe given main written marks

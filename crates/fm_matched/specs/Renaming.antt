@@ -35,7 +35,8 @@ pub record LeadsToRetired (Retired : ℕ → Type 0) (store : Store) (element : 
   pub held : object_at store element ≡ Some object
   pub retired : Retired object.birth
 
--- elements at a place of this kind: equal numbers, or references that stand for each other, but for one to what is retired
+-- elements at a place of this kind: equal numbers, or references that correspond to each other, but
+-- for one to what is retired
 abbrev pub SameOrRetired : (ℕ → Type 0) → Store → Store → Option Kind → ℕ → ℕ → Type 0
 SameOrRetired Retired one other (Some (kind.Ref t)) element twin = SameCell one other element twin ⊎ LeadsToRetired Retired one element
 SameOrRetired Retired one other k element twin = twin ≡ element
@@ -73,6 +74,6 @@ pub record AreRenamed (o : Outline) (facts : Facts) (Retired : ℕ → Type 0) (
   pub frames : AllZip (IsFrameRenamed facts x.areas.store y.areas.store) x.frames y.frames
   pub statics : AllZip (SameValue x.areas.store y.areas.store) x.areas.statics y.areas.statics
 
--- so it is of matched states of two runs
+-- this holds of matched states of two runs
 abbrev pub StatesAreRenamed : Facts → Beside → (k l : ℕ) → Type 0
 StatesAreRenamed facts b k l = AreRenamed b.one.outline facts (WasRetired facts b k) (b.xs k).state (b.ys l).state

@@ -2,7 +2,7 @@
 
 ghost use Rattle.fm_matched.specs.Laws.{MatchesAreOne};
 
-/// At most one state of the second run stands for a state of the first one: what is done at kept items
+/// At most one state of the second run matches a state of the first one: what is done at kept items
 /// costs something.
 pub fn law_matches()
     ensures { MatchesAreOne }

@@ -40,7 +40,7 @@ steps-as p choose x y old new e f same does = subst (StepsTo p choose x y old ne
 pub fails-as : (p : Program) (choose : Choose) (x : State) (old new : Output) (e f : Effect) → e ≡ f → FailsAt p choose x old new f → FailsAt p choose x old new e
 fails-as p choose x old new e f same fails = subst (FailsAt p choose x old new) (sym same) fails
 
--- what a quiet step tells
+-- what holds of a quiet step
 pub quiet-told : {T : Type 0} (P Q : Type 0) (done : Result T NoMemory) (result : Result T StepFail) → result ≡ quiet done → (P → Q) → OnOk done P → OnOk result Q
 quiet-told P Q (Ok u) result is f h = subst (λ r. OnOk r Q) (sym is) (f h)
 quiet-told P Q (Err e) result is f h = subst (λ r. OnOk r Q) (sym is) tt

@@ -1,4 +1,4 @@
--- What the code of a built-in method does, told by its effect.
+-- What the code of a built-in method does, stated by its effect.
 use Rattle.std.specs.Prelude.{◌≡◌, ◌⊎◌, ℕ, List, [], Option, None, Some, Result, Ok, Err, slice_get}
 use Rattle.fm_files.specs.Sink.{FailsPut, Output, with_piece}
 use Rattle.fm_world.specs.Programs.{Program}
@@ -20,11 +20,11 @@ use Rattle.fm_frames.specs.inner.Doings.{DoesIn, DoesPrinting, seen}
 abbrev pub DoesRow : Program → Choose → State → State → Native → Type 0
 DoesRow p choose x y n = (byte : Option ℕ) → DoesIn p choose x y (native_effect p.outline n byte (seen p x))
 
--- what is printed came to the output in one put; nothing came where nothing is printed
+-- what is printed went to the output in one put; nothing went to it where nothing is printed
 abbrev pub PutsOnce : (printed : List ℕ) → Output → Output → Type 0
 PutsOnce printed old new = (new ≡ with_piece printed old) ⊎ ((printed ≡ []) × (new ≡ old))
 
--- an effect leads from one state to the other, and what it prints came to the output
+-- an effect leads from one state to the other, and what it prints went to the output
 pub record StepsTo (p : Program) (choose : Choose) (x y : State) (old new : Output) (e : Effect) : Type 0 where
   pub printed : List ℕ
   pub does : DoesPrinting p choose x y e printed
@@ -53,7 +53,7 @@ turn_of x = by_end x.ended where
   by_end None = turn.Went 1
   by_end (Some e) = turn.Stopped
 
--- what comes of a step that prints nothing
+-- the result of a step that prints nothing
 abbrev pub quiet : {T : Type 0} → Result T NoMemory → Result T StepFail
 quiet (Ok done) = Ok done
 quiet (Err e) = Err fail.NoMemory

@@ -1,4 +1,5 @@
--- What built-in methods ask of all that frames share, so that the numbers in it fit those of the code; in the run of a typed program all is so.
+-- What built-in methods require of all that frames share, so that the numbers in it fit those of
+-- the code; all states of the run of a typed program have it.
 use Rattle.std.specs.Prelude.{◌≡◌, ℕ, ◌^◌, ◌<◌, ◌||◌, Bool, true, Some, codes}
 use Rattle.std.specs.List.{All, slice_index_or}
 use Rattle.fm_base.specs.declared.kinds.TypeRef.{TypeRef}
@@ -25,7 +26,7 @@ hides_text o t =
     || fits_type o.classes t (built_in_type o (codes "java/lang/StringBuffer"))
     || fits_type o.classes t (throwable_type o)
 
--- all such objects that are held are so
+-- each such object that is held has such a hidden field
 pub record HoldsHidden (o : Outline) (store : Store) : Type 0 where
   pub first : (cell : ℕ) (object : Object) → object_at store cell ≡ Some object → hides_text o (type_numbered o object.class) ≡ true → HasCellFirst object
 

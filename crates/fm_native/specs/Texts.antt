@@ -1,4 +1,5 @@
--- What built-in methods ask of the texts that are held, so that their elements are units; in the run of a typed program each text is so.
+-- What built-in methods require of the texts that are held, so that their elements are units; each
+-- text has it in the run of a typed program.
 use Rattle.std.specs.Prelude.{◌≡◌, ℕ, ◌^◌, ◌<◌, true, Some, length}
 use Rattle.std.specs.List.{All}
 use Rattle.fm_cells.specs.Objects.{Object}
@@ -12,6 +13,6 @@ pub record IsText (object : Object) : Type 0 where
   pub units : All (λ unit. unit < 2 ^ 16) object.elements
   pub short : length object.elements < 2 ^ 31
 
--- all texts that are held are so
+-- each text that is held has such elements
 pub record HoldsTexts (o : Outline) (store : Store) : Type 0 where
   pub texts : (cell : ℕ) (object : Object) → object_at store cell ≡ Some object → is_text_type o (type_numbered o object.class) ≡ true → IsText object

@@ -1,7 +1,7 @@
-// What rows ask of their operands: an object, a text, a number.
+// What rows require of their operands: an object, a text, a number.
 //
-// Operands are counted from the top of the stack. Each call answers what is there, or the refusal by
-// which the step then ends, and changes nothing.
+// Operands are counted from the top of the stack. Each call returns what is there, or the refusal
+// by which the step then ends, and changes nothing.
 
 ghost use Rattle.std.specs.Prelude.{◌≡◌, ◌<◌, ◌^◌, ℕ, IfErr, IfOk, IfSome, OnOk};
 ghost use Rattle.fm_native.specs.Texts.{HoldsTexts};
@@ -31,7 +31,7 @@ pub struct Text {
     pub len: u32,
 }
 
-/// Why an operand isn't what a row asks for.
+/// Why an operand isn't what a row requires.
 #[derive(Clone, Copy, Debug)]
 pub enum Refusal {
     /// It is of another sort than each typed program has there.
@@ -43,7 +43,7 @@ pub enum Refusal {
     Lost(Cell),
 }
 
-/// Ends the step at an operand that isn't what was asked for.
+/// Ends the step at an operand that isn't what was required.
 pub fn refuse<M: Memory>(
     machine: &mut Machine<M>,
     program: &Program,

@@ -38,8 +38,8 @@ pub fn free<M: Memory>(machine: &mut Machine<M>, program: &Program) -> Result<()
     }
 }
 
-/// link: the object below the top is chained to the one on top, and is the answer; in place of null and of
-/// what lives for ever the one on top is.
+/// link: the object below the top is chained to the one on top, and is the result; in place of null
+/// and of what lives for ever the one on top is.
 pub fn link<M: Memory>(machine: &mut Machine<M>, program: &Program) -> Result<(), NoMemory>
     requires { CanStep program.now machine.old }
     ensures { OnOk result (DoesRow program.now M.choose machine.old machine.new FreeMeLink) }

@@ -70,7 +70,7 @@ fn brackets(alloc: Global, dims: u8) -> Result<Vec<u8>, NoMemory>
     Ok(bytes)
 }
 
-// Appends the name of a class as it stands in a descriptor.
+// Appends the name of a class as it is written in a descriptor.
 fn push_class(bytes: &mut Vec<u8>, name: &[u8]) -> Result<(), NoMemory>
     ensures { OnOk result (bytes.new.items ≡ bytes.old.items ++ class_text name.now) }
 {
@@ -80,7 +80,8 @@ fn push_class(bytes: &mut Vec<u8>, name: &[u8]) -> Result<(), NoMemory>
     Ok(())
 }
 
-// Appends the name of what is no array, or of the elements of an array as it stands in a descriptor.
+// Appends the name of what is no array, or of the elements of an array as it is written in a
+// descriptor.
 fn push_base(bytes: &mut Vec<u8>, program: &Program, t: TypeRef) -> Result<(), NoMemory>
     requires { IsTypeIn program.now.outline.classes t }
     ensures { OnOk result (bytes.new.items ≡ bytes.old.items ++ base_name program.now.outline t) }

@@ -40,7 +40,7 @@ pub enum StringMethod {
     ValueOf(Primitive),
 }
 
-/// A method of StringBuilder and of StringBuffer; the last one of StringBuffer alone.
+/// A method of StringBuilder and of StringBuffer; the last one only of StringBuffer.
 #[derive(Clone, Copy, Debug)]
 pub enum BuilderMethod {
     Init,
@@ -280,7 +280,7 @@ fn stream_method<M: Memory, S: Sink>(
     }
 }
 
-// What comes of a step that prints nothing.
+// The result of a step that prints nothing.
 pub(crate) fn quiet(done: Result<(), NoMemory>) -> Result<(), StepFail>
     ensures { result ≡ quiet done }
 {
@@ -316,7 +316,7 @@ fn built_in_method<M: Memory, S: Sink>(
     }
 }
 
-// What a step of cost 1 came to.
+// The result of a step of cost 1.
 fn turn_of<M: Memory>(machine: &Machine<M>) -> Turn
     ensures { result ≡ turn_of machine.now }
 {
@@ -326,9 +326,9 @@ fn turn_of<M: Memory>(machine: &Machine<M>) -> Turn
     }
 }
 
-/// Does the built-in method of a row, at the topmost frame's call of it: its arguments stand on the stack.
-/// What it prints is one put. SinkFailed comes only where the sink's faults rose; after an error the machine
-/// isn't used again.
+/// Does the built-in method of a row, at the topmost frame's call of it: its arguments are on the
+/// stack. What it prints is one put. SinkFailed comes only where the sink's faults rose; after an
+/// error the machine isn't used again.
 pub fn native<M: Memory, S: Sink>(
     alloc: Global,
     machine: &mut Machine<M>,

@@ -38,7 +38,7 @@ fn put_piece<S: Sink>(alloc: Global, out: &mut S, bytes: &[u8]) -> Result<(), St
     }
 }
 
-// A text as it is printed, with the end of a line where one is asked for.
+// A text as it is printed, with the end of a line where one is wanted.
 fn shown_bytes(alloc: Global, units: &[u16], ends_line: bool) -> Result<Vec<u8>, NoMemory>
     ensures { IfOk result (λ bytes. bytes.items ≡ shown_bytes units.now ends_line) }
 {
@@ -49,7 +49,7 @@ fn shown_bytes(alloc: Global, units: &[u16], ends_line: bool) -> Result<Vec<u8>,
     Ok(bytes)
 }
 
-// Puts bytes into the output in one piece, and takes so many words off the stack.
+// Puts bytes into the output in one piece, and takes `takes` words off the stack.
 fn print_bytes<M: Memory, S: Sink>(
     alloc: Global,
     machine: &mut Machine<M>,
@@ -102,7 +102,7 @@ pub fn print<M: Memory, S: Sink>(
     }
 }
 
-/// println without an argument: the end of a line alone.
+/// println without an argument: only the end of a line.
 pub fn print_line_end<M: Memory, S: Sink>(
     alloc: Global,
     machine: &mut Machine<M>,

@@ -162,7 +162,7 @@ pub fn compare_to<M: Memory>(
     }
 }
 
-// Whether a text of so many units has none at the place.
+// Whether a text of `len` units has none at the place.
 fn is_outside(place: i32, len: u32) -> bool
     requires { len < 2 ^ 31 }
     ensures { result ≡ (int_lt place (pos 0) || not (int_lt place (pos len))) }
@@ -204,7 +204,7 @@ pub fn char_at<M: Memory>(machine: &mut Machine<M>, program: &Program) -> Result
     }
 }
 
-// Whether a text of so many units has no such part.
+// Whether a text of `len` units has no such part.
 fn is_no_part(begin: i32, end: i32, len: u32) -> bool
     requires { len < 2 ^ 31 }
     ensures { result ≡ (int_lt begin (pos 0) || int_lt end begin || int_lt (pos len) end) }
@@ -247,7 +247,7 @@ fn part_in<M: Memory>(
     machine.give_text(program, 3, part(&units, begin, end))
 }
 
-// The same with the end that stands on top of the stack.
+// The same with the end that is on top of the stack.
 fn part_from<M: Memory>(
     alloc: Global,
     machine: &mut Machine<M>,

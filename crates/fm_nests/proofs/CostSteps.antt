@@ -1,4 +1,4 @@
--- What the next step costs, by the instruction at which the topmost frame stands.
+-- What the next step costs, by the instruction at which the topmost frame is.
 use Rattle.std.proofs.Common.{◌≡◌, ℕ, ℤ, zero, suc, ◌+◌, ◌*◌, ◌≤◌, Bool, true, false, if◌then◌else◌, List, [], ◌∷◌, ◌++◌, length, max, Option, Some, None, option_map, option_and_then, slice_get, refl, ap, sym, ◌∙◌, subst, append_assoc, arith}
 use Rattle.std.specs.Prelude.{int_lt, pos}
 use Rattle.std.specs.List.{AllByRecursion, flat_map, list_any, range_with_len}
@@ -46,7 +46,7 @@ use Rattle.fm_world.specs.Uses.{operand_of}
 use Rattle.fm_world.specs.declared.uses.Use.{Use}
 use Rattle.fm_world.specs.declared.uses.Use.TheVariants as used
 
--- ---- the start of classes makes literals alone
+-- ---- the start of classes makes only literals
 
 -- the actions make as many objects as those that follow them, and what they make is there
 pub record IsQuiet (o : Outline) (first rest : List Action) : Type 0 where

@@ -34,7 +34,7 @@ use Rattle.fm_world.specs.Programs.{Outline, Program}
 abbrev pub counted : Areas → ℕ
 counted x = x.store.births + unmade x.literals
 
--- no more than so many were made beside the literals
+-- no more than this many were made beside the literals
 pub record IsGrown (x y : Areas) (n : ℕ) : Type 0 where
   pub few : counted y ≤ counted x + n
   pub many : length y.literals ≡ length x.literals
@@ -208,7 +208,7 @@ module _ (o : Outline) (choose : Choose) (lawful : IsLawful choose) (locals stac
 
 -- ---- a step
 
--- what is said of the state after a step that doesn't end the run
+-- what holds of the state after a step that doesn't end the run
 record IsCounted (x : State) (n : ℕ) (y : State) : Type 0 where
   few : y.ended ≡ None → counted y.areas ≤ counted x.areas + n
 

@@ -20,7 +20,7 @@ put_at t inner first place = Put (OfMade first) place (element_kind t) (OfMade (
 abbrev pub at_place : TypeRef → List ℕ → (first place : ℕ) → List Action
 at_place t inner first place = array_actions (element_type t) inner (first + 1 + place * arrays_made inner) ++ put_at t inner first place ∷ []
 
--- and for so many elements from one on
+-- and for this many elements from one on
 abbrev pub places_from : TypeRef → List ℕ → (first start count : ℕ) → List Action
 places_from t inner first start count = flat_map (at_place t inner first) (range_with_len start count)
 

@@ -90,7 +90,7 @@ pub nest-done : (p : Program) (choose : Choose) (x b y : State) (takes : ℕ) (t
 nest-done p choose x b y takes t lens array so nest =
     nest.leads x (nest_effect takes t lens) [] [] (subst (Underway p choose x b (nest_effect takes t lens) []) (sym (append-nil (array_actions t lens 0))) so)
 
--- how many arrays were made is told by the births
+-- the births give how many arrays were made
 pub nest-count : (p : Program) (choose : Choose) (b y : State) (t : TypeRef) (lens : List ℕ) (array before after : ℕ) → IsNest p choose b y t lens array
     → before ≡ b.areas.store.births → after ≡ y.areas.store.births → after - before ≡ arrays_made lens
 nest-count p choose b y t lens array before after nest old new = let births = nest.grows.births in omega (arith, old, new, births)

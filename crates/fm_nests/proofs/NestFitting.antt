@@ -1,4 +1,4 @@
--- What the row asks of the state follows from what its step costs.
+-- What the row requires of the state follows from what its step costs.
 use Rattle.std.proofs.Common.{◌≡◌, ℕ, ◌+◌, ◌<◌, ◌≤◌, ◌^◌, List, ◌∷◌, max, Some, slice_get, ap, ◌∙◌, arith}
 use Rattle.fm_base.specs.declared.ids.TypeId.{TypeId}
 use Rattle.fm_base.specs.declared.kinds.TypeRef.{TypeRef}

@@ -76,7 +76,7 @@ row-price p x t named dimensions at =
     ∙ price-by p.outline named dimensions (ints_on (stack_of x) dimensions)
     ∙ ap price_of (sym (arrays-read (stack_of x) dimensions))
 
--- as it is told
+-- as it is reported
 pub told-price : (made : ℕ) → max 1 (min made most_words) ≡ min (max 1 made) most_words
 told-price made = omega arith
 
@@ -88,7 +88,7 @@ pub none-price : (found : Option ℕ) → None ≡ option_map (λ n. min n most_
 none-price None is = refl
 none-price (Some n) is = absurd (none-some _ is)
 
--- where the index stands for no type
+-- where the index refers to no type
 pub no-type : (o : Outline) (u : Use) (dimensions : ℕ) (s : List Sight) → false ≡ is_type u
     → 1 ≡ min (max 1 (objects_made (multi_array_effect o u dimensions s).actions)) most_words
 unfolding multi_array_effect
@@ -100,7 +100,7 @@ no-type o (used.OfLong n) dimensions s is = refl
 no-type o (used.OfText text) dimensions s is = refl
 no-type o used.Unused dimensions s is = refl
 
--- and where it stands for one that is there
+-- and where it refers to one that is there
 pub type-price : (p : Program) (x : State) (u : Use) (dimensions : ℕ) → true ≡ is_type u → IsUseIn p.outline u
     → max 1 (objects_made (multi_array_effect p.outline u dimensions (seen p x)).actions) ≡ price_of (arrays_on (stack_of x) dimensions)
 type-price p x (used.OfType t) dimensions is inside =

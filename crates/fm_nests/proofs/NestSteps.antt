@@ -186,7 +186,7 @@ filling-ended p choose a y z t len inner array place some is makes so =
           (grows-then a.areas.store y.areas.store z.areas.store 1 (place * arrays_made inner) _ _ (grows-made choose a y (requested p.outline t len false) array makes) so.grows));
     }
 
--- ---- what is asked
+-- ---- what is required
 
 some-arrays : (lens : List ℕ) → 0 < length lens → 0 < arrays_made lens
 some-arrays [] some = absurd (omega (arith, some))

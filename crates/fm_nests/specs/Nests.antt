@@ -1,4 +1,4 @@
--- What the row of multianewarray asks of the state (JVMS 6.5.multianewarray).
+-- What the row of multianewarray requires of the state (JVMS 6.5.multianewarray).
 use Rattle.std.specs.Prelude.{◌≡◌, ℕ, ◌+◌, ◌^◌, ◌<◌, ◌≤◌, Some, slice_get}
 use Rattle.fm_base.specs.declared.kinds.TypeRef.{TypeRef}
 use Rattle.fm_exec.specs.Steps.{seen}

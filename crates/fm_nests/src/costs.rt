@@ -19,8 +19,8 @@ use fm_exec::len_of;
 use fm_frames::{Machine, code_of};
 use fm_world::{Program, Use};
 
-// How many arrays are made by so many counts, which lie on top of the stack, at most the greatest 64-bit
-// number; none where one of these words isn't an int, or is negative.
+// How many arrays are made by this many counts, which lie on top of the stack, at most the greatest
+// 64-bit number; none where one of these words isn't an int, or is negative.
 fn arrays_on<M: Memory>(machine: &Machine<M>, dimensions: u8) -> Option<u64>
     ensures { result ≡ option_map (λ made. min made most_words) (arrays_on (stack_of machine.now) dimensions) }
 {
@@ -43,7 +43,7 @@ fn nest_of(insn: &Insn) -> Option<(u16, u8)>
     }
 }
 
-// Whether an index stands for a type.
+// Whether an index refers to a type.
 fn is_type(resolved: Use) -> bool
     ensures { result ≡ is_type resolved }
 {

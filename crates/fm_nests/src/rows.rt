@@ -16,8 +16,8 @@ use fm_frames::{Machine, NEGATIVE_ARRAY_SIZE_EXCEPTION, Value};
 use fm_world::Program;
 use std::alloc::Global;
 
-// Makes arrays of arrays of these lengths, and puts the outer one in place of so many words; or the run
-// ends.
+// Makes arrays of arrays of these lengths, and puts the outer one in place of `takes` words; or the
+// run ends.
 fn give_nest<M: Memory>(
     machine: &mut Machine<M>,
     program: &Program,

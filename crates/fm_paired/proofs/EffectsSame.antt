@@ -17,7 +17,7 @@ use Rattle.fm_paired.specs.Hidden.{HiddenComesFirst}
 use Rattle.fm_paired.specs.Pairing.{AreasPaired, FramesPaired, StatesPaired}
 use Rattle.fm_paired.proofs.SightsSame.{sights_same}
 
--- the instruction at which a frame stands
+-- the instruction at which a frame is
 abbrev insn_with : Program → ℕ → ℕ → Option Insn
 insn_with p method item = option_and_then (λ (code : Code). insn_of code item) (code_at p method)
 

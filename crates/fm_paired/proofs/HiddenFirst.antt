@@ -1,4 +1,5 @@
--- Built-in classes alone bring a hidden field: those that build texts, and Throwable. So objects that have one have it first.
+-- Only built-in classes bring a hidden field: those that build texts, and Throwable. So objects
+-- that have one have it first.
 use Rattle.std.proofs.Common.{◌≡◌, ℕ, ◌<◌, ◌⊎◌, inl, inr, ◌==◌, ◌&&◌, ◌||◌, nat_eq, Bool, true, false, List, [], ◌∷◌, ◌++◌, length, codes, Option, Some, None, refl, sym, ◌∙◌, ap, subst, ⊎_elim}
 use Rattle.std.specs.List.{list_any}
 use Rattle.std.proofs.lemmas.Bool.{agree_below, agree_below_at, and_from, cases_lt, eq-eqb, eqb-true, false≢true, or_cases, or_left, or_right}

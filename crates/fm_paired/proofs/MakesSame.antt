@@ -1,4 +1,5 @@
--- An object that is made with its content in both stores leaves them paired, and stands for the other one.
+-- An object that is made with its content in both stores leaves them paired, and corresponds to the
+-- other one.
 use Rattle.std.proofs.Common.{◌≡◌, ℕ, Bool, List, [], ◌∷◌, Some, refl, sym, ◌∙◌, ap, subst, slice_index_or}
 use Rattle.std.proofs.lemmas.List.{length-replicate}
 use Rattle.fm_base.specs.declared.kinds.TypeRef.{TypeRef}

@@ -128,7 +128,7 @@ module _ (p : Program) (typings : Typings) (typed : AreTyped p typings) (ready :
   abbrev x : State
   x = record z { frames = f ∷ callers }
 
-  -- built-in methods alone have rows
+  -- only built-in methods have rows
   native_early : (target : ℕ) (row : Native) → native_of o target ≡ Some row → target < length (methods_of built_in)
   native_early target row native = ⊎_elim (λ early. early) (λ late. absurd (past late)) (cases_lt target (length (methods_of built_in))) where
     past : length (methods_of built_in) ≤ target → ⊥

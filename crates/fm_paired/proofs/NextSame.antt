@@ -70,7 +70,7 @@ module _ (p : Program) (one other : Store) where
   starts_same [] = tt
   starts_same (m ∷ methods) = (new_same m [] [] tt, starts_same methods)
 
-  -- a frame that stands where another one does, with its own words
+  -- a frame that is where another one is, with its own words
   abbrev standing : Frame → Frame → Frame
   standing f g = record { method = f.method; item = f.item; locals = g.locals; stack = g.stack }
 

@@ -1,5 +1,6 @@
--- All rows of the table but those of FreeMe do the same on both memories: they read numbers where no reference stands, what they throw or fault at is read
--- as it should be, and values go into static fields by their kinds.
+-- All rows of the table but those of FreeMe do the same on both memories: they read numbers where
+-- no reference is, what they throw or fault at is read as it should be, and values go into static
+-- fields by their kinds.
 use Rattle.std.proofs.Common.{◌≡◌, ℕ, ℤ, pos, ◌+◌, ◌-◌, ◌*◌, ◌<◌, ◌⊎◌, inl, inr, ◌||◌, not, int_lt, unsigned_abs, Bool, true, false, List, [], ◌∷◌, ◌++◌, length, reverse, nat_lt, Option, Some, None, codes, refl, sym, ◌∙◌, ap, subst, slice_get, ⊎_elim}
 use Rattle.std.specs.List.{AllByRecursion, list_any, range_with_len}
 use Rattle.std.proofs.lemmas.Bool.{cases_Bool, false≢true}

@@ -1,4 +1,4 @@
--- A source stands for the same value on both memories.
+-- A source has the same value on both memories.
 use Rattle.std.proofs.Common.{◌≡◌, ℕ, zero, suc, ℤ, pos, inl, inr, cond, List, [], ◌∷◌, Option, Some, refl, sym, ◌∙◌, ap, subst, slice_index_or}
 use Rattle.std.specs.List.{AllZip}
 use Rattle.std.proofs.lemmas.Option.{same_Some}

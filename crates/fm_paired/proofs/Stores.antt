@@ -276,6 +276,6 @@ module _ (o : Outline) (one other : Store) (paired : ArePaired o one other) (req
             (made_within other.made_words (live_words one) (request_words request) other_grows (paired.made_words (omega (arith, few))) (omega arith) (omega (arith, few)));
       }
 
-  -- the new objects stand for each other
+  -- the new objects correspond to each other
   pub new_twins : SameCell made_next made_following cell twin
   new_twins = inr (record { object = new; held = new_there; second = second_new; twin_held = second_there; born = paired.births })

@@ -1,4 +1,4 @@
--- Cells of two stores that stand for each other, and the values that lead there.
+-- Cells of two stores that correspond to each other, and the values that lead there.
 use Rattle.std.proofs.Common.{◌≡◌, ℕ, inl, inr, Bool, true, false, nat_eq, Some, None, refl, sym, ◌∙◌, ap, subst}
 use Rattle.std.proofs.lemmas.Bool.{eq-eqb, eqb-true, false≢true}
 use Rattle.std.proofs.lemmas.Option.{same_Some}

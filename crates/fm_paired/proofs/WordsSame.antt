@@ -55,11 +55,11 @@ needed_same o x y paired actions = ap (λ n. min n most_words) (words_same o x y
 
 -- ---- budgets
 
--- so many words pass a budget
+-- this many words pass a budget
 abbrev over_by : (making : Bool) (needed budget live : ℕ) → Bool
 over_by making needed budget live = cond making (nat_lt 0 needed && nat_lt budget (live + needed)) false
 
--- what passes the one budget and not the other tells which is less
+-- of two budgets the one that is passed is less than the one that isn't
 over_less : (making : Bool) (needed budget other live : ℕ) → over_by making needed budget live ≡ true → over_by making needed other live ≡ false
     → budget < other
 over_less false needed budget other live over within = absurd (false≢true over)

@@ -9,7 +9,8 @@ use Rattle.fm_world.specs.Programs.{kind_at, Outline, Program}
 use Rattle.fm_frames.specs.Runnable.{IsRunnable}
 use Rattle.fm_frames.specs.Sights.{has_hidden_field}
 
--- Objects that have a hidden field have it first, and it is a reference: built-in classes alone bring one, and no class above them has a field.
+-- Objects that have a hidden field have it first, and it is a reference: only built-in classes
+-- bring one, and no class above them has a field.
 abbrev pub HiddenComesFirst : Outline → Type 0
 HiddenComesFirst o = (t : TypeRef) → has_hidden_field o t ≡ true → (text : TypeRef) × (kind_at o.classes t 0 ≡ Some (kind.Ref text))
 

@@ -25,7 +25,7 @@ use Rattle.fm_paired.specs.Reading.{IsOfKind, NumberAgrees, sources_of_next}
 
 -- ---- cells
 
--- cells that stand for each other do so one to one
+-- cells that correspond to each other do so one to one
 abbrev pub CellsAreApart : Type 0
 CellsAreApart =
     (o : Outline) (one other : Store) → ArePaired o one other → (a b c d : ℕ) → SameCell one other a c → SameCell one other b d
@@ -33,7 +33,7 @@ CellsAreApart =
 
 -- ---- values
 
--- the cells of the same values stand for each other
+-- the cells of the same values correspond to each other
 abbrev pub CellsOfValues : Type 0
 CellsOfValues = (one other : Store) (v w : Value) → SameValue one other v w → SameCell one other (cell_of v) (cell_of w)
 
@@ -70,7 +70,8 @@ abbrev pub KeepsClasses : Store → Store → Type 0
 KeepsClasses store later =
     (cell : ℕ) (object now : Object) → object_at store cell ≡ Some object → object_at later cell ≡ Some now → now.class ≡ object.class
 
--- The stores after an object was made in each are paired, each keeps what it held, and the new objects stand for each other.
+-- The stores after an object was made in each are paired, each keeps what it held, and the new
+-- objects correspond to each other.
 pub record MadeAlike (o : Outline) (one other next following : Store) (cell twin : ℕ) : Type 0 where
   pub paired : ArePaired o next following
   pub stays : KeepsBirths one next
@@ -102,8 +103,9 @@ EffectsAgree =
 
 -- ---- sources
 
--- From a step's beginning on objects stay held, and of their births and classes, so that a source stands for the same value on both memories: also once
--- some of the step's actions are done, which made these cells.
+-- From a step's beginning on objects stay held, and of their births and classes, so that a source
+-- has the same value on both memories: also once some of the step's actions are done, which made
+-- these cells.
 abbrev pub SourcesAgree : Type 0
 SourcesAgree =
     (o : Outline) (one other : Store) (f g : Frame) → FramesPaired one other f g → (x y : Areas) (made others : List ℕ) → AreasPaired o x y
@@ -113,12 +115,13 @@ SourcesAgree =
 
 -- ---- what comes next
 
--- the source stands for the same value on both memories
+-- the source has the same value on both memories
 abbrev pub IsSameFrom : Store → Store → Sources → Sources → Source → Type 0
 IsSameFrom one other from second s = SameValue one other (value_of from s) (value_of second s)
 
--- Where the sources of an effect stand for the same values on both memories, what comes next after the actions leads paired states to paired ones: to the
--- next item or to a target, into a method and back, to a handler, to the start of classes, or to ends that are alike.
+-- Where the sources of an effect have the same values on both memories, what comes next after the
+-- actions leads paired states to paired ones: to the next item or to a target, into a method and
+-- back, to a handler, to the start of classes, or to ends that are alike.
 abbrev pub NextKeepsPaired : Type 0
 NextKeepsPaired =
     (p : Program) (from other : Sources) (x y : State) → AreasPaired p.outline x.areas y.areas

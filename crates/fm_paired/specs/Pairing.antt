@@ -1,5 +1,6 @@
--- Two states of one program over two memories are paired where they are the same but for the cells in which their objects lie (JVMS 2.7). An object is known
--- by its birth number: the cells of one birth stand for each other, so nobody has to number cells anew.
+-- Two states of one program over two memories are paired where they are the same but for the cells
+-- in which their objects lie (JVMS 2.7). An object is known by its birth number: the cells of one
+-- birth correspond to each other, so nobody has to number cells anew.
 use Rattle.std.specs.Prelude.{◌≡◌, ℕ, ◌*◌, ◌^◌, ◌≤◌, ◌⊎◌, true, length, Option, Some, None, slice_index_or}
 use Rattle.std.specs.List.{AllZip}
 use Rattle.fm_base.specs.declared.kinds.Kind.{Kind}
@@ -27,11 +28,11 @@ pub record AreTwins (one other : Store) (cell twin : ℕ) : Type 0 where
   pub twin_held : object_at other twin ≡ Some second
   pub born : second.birth ≡ object.birth
 
--- the cells stand for each other: both are that of null, or they hold objects of one birth
+-- the cells correspond to each other: both are that of null, or they hold objects of one birth
 abbrev pub SameCell : Store → Store → ℕ → ℕ → Type 0
 SameCell one other cell twin = ((cell ≡ 0) × (twin ≡ 0)) ⊎ AreTwins one other cell twin
 
--- numbers are equal, and references lead to cells that stand for each other
+-- numbers are equal, and references lead to cells that correspond to each other
 abbrev pub SameValue : Store → Store → Value → Value → Type 0
 SameValue one other value.Top w = w ≡ value.Top
 SameValue one other (value.Int n) w = w ≡ value.Int n
@@ -40,12 +41,14 @@ SameValue one other (value.Ref cell) w = (twin : ℕ) × (w ≡ ref twin) × Sam
 
 -- ---- objects
 
--- the elements of two objects at a place of this kind: where a reference stands their cells stand for each other, and else they are equal
+-- the elements of two objects at a place of this kind: where a reference is their cells correspond
+-- to each other, and else they are equal
 abbrev pub SameElement : Store → Store → Option Kind → ℕ → ℕ → Type 0
 SameElement one other (Some (kind.Ref t)) element twin = SameCell one other element twin
 SameElement one other k element twin = twin ≡ element
 
--- the objects are the same but for the cells to which they lead; of chains nothing is asked, as no program without frees has any
+-- the objects are the same but for the cells to which they lead; chains are left out, as no program
+-- without frees has any
 pub record AreAlike (o : Outline) (one other : Store) (object twin : Object) : Type 0 where
   pub class : twin.class ≡ object.class
   pub birth : twin.birth ≡ object.birth
@@ -74,7 +77,7 @@ pub record ArePaired (o : Outline) (one other : Store) : Type 0 where
 
 -- ---- states
 
--- the frames stand at one item, and have the same locals and the same words
+-- the frames are at one item, and have the same locals and the same words
 pub record FramesPaired (one other : Store) (f g : Frame) : Type 0 where
   pub method : g.method ≡ f.method
   pub item : g.item ≡ f.item

@@ -1,4 +1,4 @@
--- What is asked of the places that an effect reads, so that the same is read on both memories.
+-- What is required of the places that an effect reads, so that the same is read on both memories.
 use Rattle.std.specs.Prelude.{◌≡◌, ℕ, ◌<◌, List, [], ◌∷◌, length, Some}
 use Rattle.std.specs.List.{AllByRecursion}
 use Rattle.fm_base.specs.declared.kinds.Kind.{Kind}
@@ -16,7 +16,7 @@ use Rattle.fm_sound.specs.Leading.{sources_of}
 use Rattle.fm_sound.specs.Placing.{kind_in, ReadAgrees, sources_in}
 use Rattle.fm_sound.specs.Sound.{HaveKinds, IsReference, static_slots}
 
--- a number is read where no reference stands
+-- a number is read where no reference is
 abbrev pub NumberAgrees : Outline → Store → List Value → Source → Type 0
 NumberAgrees o store stack (OfPlace n place (kind.Ref t)) = Unit {0}
 NumberAgrees o store stack (OfPlace n place k) =
@@ -41,7 +41,7 @@ abbrev pub IsOfKind : Kind → Value → Type 0
 IsOfKind (kind.Ref t) v = IsReference v
 IsOfKind k v = IsNumeric v
 
--- the source stands for such a value, as long as static fields have their kinds
+-- the source has such a value, as long as static fields have their kinds
 abbrev pub StaticFits : Outline → Frame → Kind → Source → Type 0
 StaticFits o f k s =
     (areas : Areas) (made : List ℕ) → HaveKinds (static_slots o) areas.statics → IsOfKind k (value_of (sources_of f areas made) s)

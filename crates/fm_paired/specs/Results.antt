@@ -1,4 +1,5 @@
--- What comes of the actions of a step on two memories, the first of which has no limit on its store.
+-- The results of the actions of a step on two memories, the first of which has no limit on its
+-- store.
 use Rattle.std.specs.Prelude.{◌≡◌, ℕ, ◌*◌, ◌^◌, ◌<◌, ◌≤◌, false, List, [], None, Option, Some}
 use Rattle.std.specs.List.{AllByRecursion, AllZip}
 use Rattle.fm_base.specs.declared.limits.TheConstants.{MAX_LIVE_WORDS}
@@ -26,8 +27,9 @@ pub record KeepsLimits (store later : Store) : Type 0 where
   pub limit : later.limit ≡ store.limit
   pub budget : later.budget ≡ store.budget
 
--- All actions were done on both memories, and made cells that stand for each other; or the store of the second, which is named first, was full, as it may
--- have less than twice the words that may live.
+-- All actions were done on both memories, and made cells that correspond to each other; or the
+-- store of the second, which is named first, was full, as it may have less than twice the words
+-- that may live.
 abbrev pub ResultsAlike : Outline → Store → Store → Performed → Performed → Type 0
 ResultsAlike o one other (FullAt y words) result = IsTooSmall other.limit other.budget
 ResultsAlike o one other (LostAt v) result = ⊥

@@ -36,7 +36,7 @@ pub data GoAlike (o : Outline) (budget other : ℕ) (limit : Option ℕ) (x y : 
   SecondLacks : other < budget → LacksWords y.state → IsPrefix y.printed x.printed → GoAlike o budget other limit x y
   SecondIsFull : (words : ℕ) → limit ≡ Some words → words < 2 * other → IsFull y.state → IsPrefix y.printed x.printed → GoAlike o budget other limit x y
 
--- the run of a program after so many steps, over memory that reuses cells in any way
+-- the run of a program after this many steps, over memory that reuses cells in any way
 abbrev pub run_after : Program → Choose → Job → Store → ℕ → Moved
 run_after p choose job store k = after p (lawful choose) k (opening p (lawful choose) job store)
 

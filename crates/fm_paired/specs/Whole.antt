@@ -11,7 +11,7 @@ use Rattle.fm_paired.specs.Pairing.{StatesPaired}
 use Rattle.fm_paired.specs.Reading.{EffectAlike}
 use Rattle.fm_paired.specs.Runs.{GoAlike, IsWithoutFrees}
 
--- The next effect of a frame that stands does the same on both memories.
+-- The next effect of a frame does the same on both memories.
 abbrev pub NextEffectsAreAlike : Type 0
 NextEffectsAreAlike =
     (p : Program) (typings : Typings) → IsWithoutFrees p typings → (z : State) (f : Frame) (callers : List Frame) → StandsWithout p typings 0 f

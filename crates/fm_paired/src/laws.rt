@@ -1,4 +1,4 @@
-// Laws over definitions alone, each the contract of a function that does nothing.
+// Laws over definitions only, each the contract of a function that does nothing.
 
 ghost use Rattle.fm_paired.specs.Laws as law;
 ghost use Rattle.fm_paired.specs.Hidden.{HiddenFieldsComeFirst};
@@ -7,7 +7,7 @@ ghost use Rattle.fm_paired.specs.Reuses.{MemoriesServeAlike, WholeRunsServeAlike
 ghost use Rattle.fm_paired.specs.Runs.{RunsAreTheSame, RunsEndAlike, RunsGoAlike};
 ghost use Rattle.fm_paired.specs.Whole.{NextEffectsAreAlike, StepsKeepAlike};
 
-/// Cells that stand for each other do so one to one.
+/// Cells that correspond to each other do so one to one.
 pub fn law_cells()
     ensures { law.CellsAreApart }
 {}
@@ -35,7 +35,7 @@ pub fn law_effects()
     ensures { law.EffectsAgree }
 {}
 
-/// A source stands for the same value on both memories.
+/// A source has the same value on both memories.
 pub fn law_sources()
     ensures { law.SourcesAgree }
 {}

@@ -40,7 +40,8 @@ take_none (suc k) = refl
 abbrev made : (ℕ → ℕ) → ℕ → Holder
 made class j = record { site = j; class = class j; looped = false }
 
--- the number of the holder of an item before which there are so many, if there is room
+-- the number of the holder of an item before which there are `count` captured sites, if there is
+-- room
 abbrev room_for : (test : Bool) → (count room : ℕ) → List ℕ
 room_for test count room = cond (test && nat_lt count room) (count ∷ []) []
 

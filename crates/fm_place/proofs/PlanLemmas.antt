@@ -1,4 +1,5 @@
--- The plan that is made of pairs is that of the definitions, by all facts that tell of the method what its classes and its live locals tell.
+-- The plan that is made of pairs is that of the definitions, by all facts that agree on the method
+-- with its classes and its live locals.
 use Rattle.std.proofs.Common.{◌≡◌, ℕ, zero, suc, ◌+◌, ◌<◌, ◌≤◌, ◌++◌, IfOk, Result, Bool, false, cond, List, [], ◌∷◌, length, map, get_or, Option, Some, None, Contains, refl, ap, sym, ◌∙◌, subst, ⊎_elim, append_assoc, arith, length-append}
 use Rattle.std.specs.Prelude.{nat_eq}
 use Rattle.std.specs.List.{filter_map, flat_map, range_with_len, sum}

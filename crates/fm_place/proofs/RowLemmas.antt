@@ -1,4 +1,4 @@
--- Rows of all items: where classes are busy, and where control comes to from there.
+-- Rows of all items: where classes are busy, and what control reaches from there.
 use Rattle.std.proofs.Common.{◌≡◌, ◌≢◌, ℕ, zero, suc, ◌+◌, ◌<◌, ◌||◌, ◌&&◌, not, Bool, true, false, cond, List, [], ◌∷◌, ◌++◌, length, get_or, map, replicate, set, Option, Some, refl, ⊎_elim, ap, sym, ◌∙◌, subst, append-nil, eq-eqb, arith, Contains, length-set}
 use Rattle.std.specs.Prelude.{nat_eq}
 use Rattle.std.specs.Bool.{OnFalse}
@@ -103,7 +103,7 @@ adds_more items t row old mid union were inside is = record {
   within : t < length mid
   within = omega (arith, were.same_count)
 
--- ---- where control has come to
+-- ---- what control has reached
 
 -- the edges of an item, in one list or in another
 pub edges_same : (code : Code) (item : ℕ) (edges : List ℕ) (j : ℕ) → IsRisingListOf (IsEdge code item) edges
@@ -152,7 +152,7 @@ numbers_same t u n (x ∷ xs) (y ∷ ys) count same =
     ap (λ b. cond b (n ∷ numbers_by t (n + 1) xs) (numbers_by t (n + 1) xs)) (same zero (omega arith))
     ∙ ap (λ ks. cond (u y) (n ∷ ks) ks) (numbers_same t u (n + 1) xs ys (omega arith) (λ k inside. same (suc k) (omega arith)))
 
--- the group of a holder tells of its class
+-- the group of a holder gives its class
 pub freed_same : (s : Seen) (held of_holders : List ℕ) (numbers : ℕ → Option ℕ) (count j : ℕ) (busy came : List Bool)
     → IsGroupsOf held numbers of_holders → count ≡ length s.method.code.now.items
     → IsRowOf (length held) numbers (is_busy_at s j) busy → IsRowOf (length held) numbers (has_come s count j) came

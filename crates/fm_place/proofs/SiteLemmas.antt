@@ -73,7 +73,7 @@ pub parameter_listed : (o : Outline) (method k : ℕ) → Contains (reference_pa
 parameter_listed o method k found =
     (Contains-from_filter (λ n. is_reference (get_or (entry_slots o method) n slot.Top)) (range_with_len 0 (length (entry_slots o method))) k found).1
 
--- the first state tells which they are
+-- the first state gives them
 pub parameters_same : (facts : Facts) (x : TypedMethod) (class : ℕ) → IsTypingOf x.program x.number x.code x.states
     → has_parameter_in facts x class (state_at x.states 0)
     ≡ list_any (λ k. nat_eq (facts.class x.number (Local k)) class) (reference_parameters x.program.outline x.number)
@@ -201,7 +201,7 @@ kinds false true c = refl
 kinds false false true = refl
 kinds false false false = refl
 
--- an item that is reached is a site where one of the three tests tells so
+-- an item that is reached is a site where one of the three tests holds
 pub site_found : (facts : Facts) (x : TypedMethod) (j : ℕ) (i : Insn) (s : TypeState) → state_at x.states j ≡ Some s → insn_of x.code j ≡ Some i
     → (a b c : Bool) → a ≡ makes_array i → b ≡ constructs x j i → c ≡ receives_new facts x (call_of x i)
     → ((a || b) || c) ≡ is_some (site_kind facts x j)

@@ -56,7 +56,7 @@ main_number = 86
 
 -- ---- what is known of it
 
--- the arguments stand in local 0
+-- the arguments are in local 0
 abbrev pub state : List slots.Slot → Option TypeState
 state stack = Some (record { locals = slot.Ref (record { dims = 1; base = of_class 1 }) ∷ []; stack = stack; built = true })
 
@@ -122,7 +122,7 @@ popping_woven =
 
 -- ---- the files
 
--- up to the name Code: M, java/lang/Object, main and its descriptor, in a pool of so many slots
+-- up to the name Code: M, java/lang/Object, main and its descriptor, in a pool of this many slots
 abbrev pub head_bytes : ℕ → List ℕ
 head_bytes slots =
     0xca ∷ 0xfe ∷ 0xba ∷ 0xbe ∷ 0x00 ∷ 0x00 ∷ 0x00 ∷ 0x31 ∷ 0x00 ∷ slots

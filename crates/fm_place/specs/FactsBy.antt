@@ -1,4 +1,4 @@
--- Facts of one method, by what its classes and the summaries of all methods tell.
+-- Facts of one method, made of its classes and the summaries of all methods.
 use Rattle.std.specs.Prelude.{[], false}
 use Rattle.fm_conn.specs.Classes.{class_of}
 use Rattle.fm_conn.specs.Facts.{Facts}
@@ -6,7 +6,8 @@ use Rattle.fm_conn.specs.Summaries.{is_linked}
 use Rattle.fm_conn.specs.declared.class_numbers.Classes.{Classes}
 use Rattle.fm_conn.specs.declared.summaries.Summaries.{Summaries}
 
--- nothing is told of states, which sites have from the method, and of live locals, which they don't look at
+-- they have no states, which sites have from the method, and of live locals, which they don't look
+-- at
 abbrev pub facts_by : Classes → Summaries → Facts
 facts_by classes summaries = record {
   typing = λ method. [];

@@ -54,7 +54,7 @@ pub record Suits (free : ℕ) (code : Code) (plan : Insertions) : Type 0 where
   pub room : code.max_locals + length plan.holders ≤ MAX_LOCAL_WORDS
   pub before : (j number : ℕ) → Contains (before_at plan j) number → number < length plan.holders
 
--- the woven items are what layout asks for
+-- the woven items are what layout requires
 abbrev pub WovenIsLaidOut : Type 0
 WovenIsLaidOut =
     (free : ℕ) (code : Code) (plan : Insertions) → AreOldItems code.items → Suits free code plan → length (woven free code plan) < MAX_NEW_ITEMS
@@ -75,7 +75,7 @@ HoldersAreAll = (facts : Facts) (x : TypedMethod) → holders_in (sites_of facts
 abbrev pub HoldersAreFew : Type 0
 HoldersAreFew = (facts : Facts) (x : TypedMethod) → length (holders_in (sites_of facts x)) ≤ MAX_LOCAL_WORDS
 
--- facts that say what the method's classes and the summaries tell have the sites that these tell
+-- facts that agree with the method's classes and the summaries have the sites that these give
 abbrev pub SitesAreTold : Type 0
 SitesAreTold =
     (facts : Facts) (x : TypedMethod) (classes : Classes) (summaries : Summaries) → ((node : Node) → facts.class x.number node ≡ class_of classes node)

@@ -1,4 +1,5 @@
--- What is inserted into a method as pairs of an item and a holder, and the facts of one method that its classes and its live locals tell.
+-- What is inserted into a method as pairs of an item and a holder, and the facts of one method that
+-- its classes and its live locals give.
 use Rattle.std.specs.Prelude.{◌≡◌, ◌↔◌, ℕ, true, false, List, length, map, Option}
 use Rattle.std.specs.List.{filter_map, flat_map, range_with_len}
 use Rattle.std.specs.Option.{option_map}
@@ -19,7 +20,7 @@ pub record HasNodesOf (x : TypedMethod) (c : Classes) : Type 0 where
   pub locals : local_count c ≡ x.code.max_locals
   pub slots : (j depth : ℕ) → (has_class c j depth ≡ true) ↔ IsNode x (Slot j depth)
 
--- facts, maybe of a whole program, say of a method what its classes and its live locals tell
+-- facts, maybe of a whole program, agree on a method with its classes and its live locals
 pub record IsToldBy (facts : Facts) (method : ℕ) (classes : Classes) (live : LiveRows) : Type 0 where
   pub class : (node : Node) → facts.class method node ≡ class_of classes node
   pub lives : (k j : ℕ) → facts.live method k j ≡ is_live live k j

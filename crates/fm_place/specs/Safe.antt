@@ -45,7 +45,7 @@ pub record AreSafe (facts : Facts) (x : TypedMethod) (plan : Insertions) : Type 
 
 -- ---- a program
 
--- a method that has code, as the facts tell of it
+-- a method that has code, as the facts have it
 abbrev pub method_in_facts : Program → Facts → ℕ → Option TypedMethod
 method_in_facts p facts method = option_map (typed_method p facts.typing method) (code_at p method)
 
@@ -55,7 +55,8 @@ pub record IsSafeMethod (p : Program) (facts : Facts) (method : ℕ) (plan : Ins
   pub is : method_in_facts p facts method ≡ Some x
   pub safe : AreSafe facts x plan
 
--- the classes written are those given with safe insertions, and the marks tell which items are inserted
+-- the classes written are those given with safe insertions, and the marks say which items are
+-- inserted
 pub record Safe (given : List ClassDef) (main : List ℕ) (written : List ClassDef) (marks : List (List (Option ℕ))) : Type 0 where
   pub facts : Facts
   pub exact : AreFacts (program_of given main) facts

@@ -35,7 +35,8 @@ reference_parameters o method =
 
 -- ---- three kinds of sites
 
--- an array is made; a constructor of a new object is called; a method is called whose answer is new to its caller
+-- an array is made; a constructor of a new object is called; a method is called whose result is new
+-- to its caller
 pub data SiteKind : Type 0 where
   MakesArray : SiteKind
   Constructs : SiteKind
@@ -53,7 +54,7 @@ abbrev pub new_item : slots.Slot → Option ℕ
 new_item (slot.Uninit item) = Some item
 new_item s = None
 
--- the item of the `new` whose object stands in this word of the stack
+-- the item of the `new` whose object is in this word of the stack
 abbrev pub new_item_at : TypedMethod → ℕ → ℕ → Option ℕ
 new_item_at x j depth = option_and_then new_item (word_at x j depth)
 
@@ -107,7 +108,7 @@ abbrev pub site_kind : Facts → TypedMethod → ℕ → Option SiteKind
 site_kind facts x j =
     if is_some (state_at x.states j) then option_and_then (kind_of_site facts x j) (insn_of x.code j) else None
 
--- the object of a site stands on top of the stack at the next item
+-- the object of a site is on top of the stack at the next item
 abbrev pub site_node : TypedMethod → ℕ → Node
 site_node x j = Slot (j + 1) (depth_at x (j + 1) - 1)
 
@@ -144,12 +145,12 @@ held_sites facts x =
 abbrev pub holder_room : Code → ℕ
 holder_room code = if nat_lt MAX_HOLDING_STACK_WORDS code.max_stack then 0 else MAX_LOCAL_WORDS - code.max_locals
 
--- the number of the holder of an item before which there are so many captured sites
+-- the number of the holder of an item before which there are `captured` captured sites
 abbrev pub holder_after : Facts → TypedMethod → (captured j : ℕ) → Option ℕ
 holder_after facts x captured j =
     if is_captured facts x (site_class facts x j) && nat_lt captured (holder_room x.code) then Some captured else None
 
--- what is told of a site before which there are so many captured ones
+-- the site before which there are `captured` captured ones
 abbrev pub site_after : Facts → TypedMethod → (captured j : ℕ) → Site
 site_after facts x captured j = record {
   item = j;
@@ -158,7 +159,7 @@ site_after facts x captured j = record {
   holder = holder_after facts x captured j;
 }
 
--- how many captured sites stand before an item
+-- how many captured sites there are before an item
 abbrev pub captured_before : Facts → TypedMethod → ℕ → ℕ
 captured_before facts x j = length (filter (is_captured_site facts x) (range_with_len 0 j))
 

@@ -22,7 +22,7 @@ inserted i = record { insn = i; kept = None }
 abbrev pub null_stored : ℕ → List NewItem
 null_stored local = inserted insn.Null ∷ inserted (insn.Store reg.Ref local) ∷ []
 
--- it holds what stands on top of the stack, which stays there
+-- it holds what is on top of the stack, which stays there
 abbrev pub top_stored : ℕ → List NewItem
 top_stored local = inserted insn.Dup ∷ inserted (insn.Store reg.Ref local) ∷ []
 
@@ -34,7 +34,7 @@ freed free local = inserted (insn.Load reg.Ref local) ∷ inserted (insn.Static 
 abbrev pub null_stored_items : ℕ
 null_stored_items = 2
 
--- how many items keep what stands on top
+-- how many items keep what is on top
 abbrev pub top_stored_items : ℕ
 top_stored_items = 2
 
@@ -44,7 +44,7 @@ freed_items = 4
 
 -- ---- anchors
 
--- how many new items stand for an old one, with what is inserted before and after it
+-- how many new items replace an old one, with what is inserted before and after it
 abbrev pub count_at : Insertions → ℕ → ℕ
 count_at plan j = freed_items * length (before_at plan j) + 1 + top_stored_items * length (after_at plan j)
 
@@ -87,7 +87,8 @@ woven free code plan =
 
 -- ---- the code
 
--- laid out, with one more word of stack and a local for each holder; tables follow their items, and what else was said of the old code is dropped
+-- laid out, with one more word of stack and a local for each holder; tables follow their items, and
+-- all other attributes of the old code are dropped
 abbrev pub woven_code : (free : ℕ) → Code → Insertions → Code
 woven_code free code plan =
     let laid = laid_of code.items (woven free code plan) in

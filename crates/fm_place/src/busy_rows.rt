@@ -1,4 +1,4 @@
-// Where the classes that are held are busy, and where control comes to from there.
+// Where the classes that are held are busy, and what control reaches from there.
 
 ghost use Rattle.std.specs.Prelude.{◌≡◌, ◌<◌, ◌≤◌, ℕ, IfOk, Contains, Some, length};
 ghost use Rattle.std.specs.Option.{option_copied, option_map};

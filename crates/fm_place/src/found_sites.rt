@@ -102,7 +102,7 @@ fn sites_of(alloc: Global, known: &Known<'_>) -> Result<Vec<Site>, NoMemory>
     Ok(found)
 }
 
-/// The number of items. No code has so many that a word of 32 bits doesn't count them.
+/// The number of items; `NoMemory` where it doesn't fit 32 bits, which no code array reaches.
 pub fn item_count(code: &Code) -> Result<u32, NoMemory>
     ensures { IfOk result (λ count. count ≡ length code.now.items) }
 {
@@ -147,7 +147,7 @@ impl Known<'_> {
         Ok(count_after(captured, site.captured))
     }
 
-    // A site, before which there are so many captured ones.
+    // A site, before which there are `captured` captured ones.
     fn site_after(&self, captured: u32, item: u32) -> Result<Site, NoMemory>
         requires known { IsKnown self.now }
         requires inside { item < length self.now.method.code.now.items }
@@ -181,8 +181,8 @@ impl Known<'_> {
         }
     }
 
-    // The class of the object that a site gives, which stands on top of the stack at the next item.
-    // `NoMemory` where no reference stands there, which is at no site of a typed method of a linked
+    // The class of the object that a site gives, which is on top of the stack at the next item.
+    // `NoMemory` where there is no reference, which is at no site of a typed method of a linked
     // program.
     fn class_of_site(&self, item: u32) -> Result<u32, NoMemory>
         requires known { IsKnown self.now }
@@ -338,7 +338,8 @@ fn any_parameter_in(known: &Known<'_>, class: u32, locals: &[Slot]) -> bool
     false
 }
 
-// The number of the holder of a captured site before which there are so many, where there is room.
+// The number of the holder of a captured site before which there are `captured` others, where there
+// is room.
 fn holder_in(code: &Code, captured: u32) -> Option<u16>
     ensures { result ≡ (if nat_lt captured (holder_room code.now) then Some captured else None) }
 {
@@ -398,7 +399,7 @@ fn names_constructor(program: &Program, resolved: Use) -> bool
     }
 }
 
-// The item of the `new` whose object stands in this word, before its constructor has returned.
+// The item of the `new` whose object is in this word, before its constructor has returned.
 fn new_item_in(words: &[Slot], depth: usize) -> Option<u32>
     ensures { result ≡ new_item_in words.now depth }
 {

@@ -8,7 +8,7 @@ use fm_base::{NoMemory, Row};
 use std::alloc::Global;
 use std::collections::BTreeMap;
 
-/// Of each class that is held the first holder that has it, which stands for the class in rows.
+/// Of each class that is held the first holder that has it, which represents the class in rows.
 #[derive(Drop)]
 pub struct Groups<'a> {
     /// The class of each holder.

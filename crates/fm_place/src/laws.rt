@@ -20,7 +20,7 @@ pub fn law_stack()
 {}
 
 /// A class is busy where a word of the stack or a live local is in it, as long as no local past the
-/// method's own is live; by a word it is so whatever is live.
+/// method's own is live; by a word it is busy whatever is live.
 pub fn law_busy()
     ensures witness { BusyIsByWitness }
     ensures words { WordsKeepBusy }
@@ -36,7 +36,7 @@ pub fn law_full()
     ensures { FullIsSafe }
 {}
 
-/// The woven items are what layout asks for, and the tables can be moved by the anchors.
+/// The woven items are what layout requires, and the tables can be moved by the anchors.
 pub fn law_woven()
     ensures items { WovenIsLaidOut }
     ensures anchors { AnchorsAreAnchors }
@@ -50,7 +50,7 @@ pub fn law_holders()
     ensures few { HoldersAreFew }
 {}
 
-/// What a plan tells of all that is inserted: whether it is anything, that it suits the method's
+/// What a plan says of all that is inserted: whether it is anything, that it suits the method's
 /// code, and how many frees there are.
 pub fn law_plans()
     ensures full { HoldersTellFull }

@@ -35,7 +35,7 @@ use std::alloc::Global;
 pub struct Plan {
     /// How many locals are added, one for each site that is held.
     pub holders: u16,
-    /// After which items a holder takes the object that stands on top of the stack.
+    /// After which items a holder takes the object that is on top of the stack.
     pub after: Vec<(u32, u16)>,
     /// Before which items a holder is freed.
     pub before: Vec<(u32, u16)>,
@@ -199,8 +199,8 @@ fn all_freed(
     Ok(found)
 }
 
-// Puts the holders that are freed before an item after the last pair. Where none is, words of the
-// rows tell so, and no holder is asked for.
+// Puts the holders that are freed before an item after the last pair. Where none is, whole words of
+// the rows show it, and no holder is looked at.
 fn push_freed(
     alloc: Global,
     found: &mut Vec<(u32, u16)>,
@@ -243,7 +243,7 @@ fn copied(alloc: Global, row: &Row) -> Result<Row, NoMemory>
     Ok(copy)
 }
 
-// The same holders, each of them asked for.
+// The same holders, by a look at each of them.
 fn push_each_freed(
     found: &mut Vec<(u32, u16)>,
     groups: &[u32],
@@ -276,7 +276,7 @@ fn is_freed(busy: &Row, came: &Row, group: u32) -> bool
     came.get(group)
 }
 
-// Puts the pair after the last one, if the test tells so.
+// Puts the pair after the last one, if the test holds.
 fn push_if(found: &mut Vec<(u32, u16)>, test: bool, item: u32, holder: u16) -> Result<(), NoMemory>
     ensures { OnOk result (found.new.items
         ≡ found.old.items ++ (if test then (item, holder) ∷ [] else [])) }

@@ -1,4 +1,5 @@
--- What the start of classes asks of the constants of static fields; and that built-in methods alone have rows.
+-- What the start of classes requires of the constants of static fields; and that only built-in
+-- methods have rows.
 use Rattle.std.proofs.Common.{◌≡◌, ℕ, ◌<◌, ◌≤◌, List, [], length, Option, Some, None, refl, sym, subst, arith}
 use Rattle.std.specs.List.{AllByRecursion}
 use Rattle.std.specs.Str.{bytes_eq}
@@ -48,7 +49,7 @@ pub suit : (p : Program) (x : State) → CanRun p → IsGoing p x → ConstantsS
 suit p x can going = λ field.
     constant_suits p can (length x.areas.literals) going.sound.1.areas.literals field (field_at p.outline.classes field).field.value refl
 
--- built-in methods alone have rows
+-- only built-in methods have rows
 pub rows : (p : Program) → CanRun p → AreRowsBuiltIn p.outline
 rows p can = can.steps.calls.rows
 

@@ -52,7 +52,7 @@ literal_inside p x i text can going next =
     let inside : text < length p.outline.texts = use_inside p x i (resolved.OfText text) can next in
     let same = going.sound.1.areas.literals in omega (arith, inside, same)
 
--- the instruction stands in a method that has code
+-- the instruction is in a method that has code
 pub named_at : (p : Program) (x : State) (i : Insn) (u : Use) → (next : IsNext p x i u) → IsNamed p next.frame.method i u
 named_at p x i u next =
     let parts = option_and_then-some (λ code. insn_of code next.frame.item) (code_at p next.frame.method) i next.insn_is in

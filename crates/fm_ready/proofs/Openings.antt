@@ -45,7 +45,7 @@ IsFirst o (SetChain operand to) = ⊥
 IsFirst o (FreeChain operand) = ⊥
 IsFirst o action = Unit {0}
 
--- at most so many objects were made, with the literals that aren't made yet
+-- at most this many objects were made, with the literals that aren't made yet
 record Counts (p : Program) (n : ℕ) (x : State) : Type 0 where
   births : x.areas.store.births + unmade x.areas.literals ≤ n
   literals : length x.areas.literals ≡ length p.outline.texts

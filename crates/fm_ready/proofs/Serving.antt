@@ -1,4 +1,4 @@
--- What built-in methods ask of all that frames share.
+-- What built-in methods require of all that frames share.
 use Rattle.std.proofs.Common.{◌≡◌, ℕ, ◌^◌, ◌<◌, ◌-◌, ◌==◌, ◌⊎◌, inl, inr, Bool, false, true, cond, Some, refl, sym, ◌∙◌, ap, slice_get, arith}
 use Rattle.std.specs.List.{All}
 use Rattle.std.proofs.lemmas.Bool.{eqb-true, or_cases}

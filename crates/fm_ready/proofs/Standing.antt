@@ -1,4 +1,4 @@
--- Where the frames of a state that goes on stand, and what that gives to each step.
+-- Where the frames of a state that goes on are, and what that gives to each step.
 use Rattle.std.proofs.Common.{◌≡◌, ℕ, zero, suc, ◌+◌, ◌-◌, ◌^◌, ◌<◌, ◌≤◌, ◌⊎◌, inl, inr, true, List, [], ◌∷◌, length, Option, Some, None, refl, sym, subst, slice_get, arith}
 use Rattle.std.specs.List.{slice_index_or}
 use Rattle.fm_base.proofs.OptionFacts.{option_and_then-some, Some-from_some_and}
@@ -24,7 +24,7 @@ use Rattle.fm_world.specs.declared.uses.Use.{Use}
 
 -- ---- the topmost frame
 
--- it stands at an instruction of its method's code, and meets the row of the checker for it
+-- it is at an instruction of its method's code, and meets the row of the checker for it
 pub record IsStanding (p : Program) (x : State) : Type 0 where
   pub frame : Frame
   pub callers : List Frame
@@ -68,7 +68,7 @@ standing_by p typings z (f ∷ callers) sound goes =
       row = parts.2;
     }
 
--- a state that goes on stands at an instruction
+-- a state that goes on is at an instruction
 pub standing : (p : Program) (x : State) → CanRun p → IsGoing p x → IsStanding p x
 standing p x can going = standing_by p going.sound.0 x x.frames going.sound.1 going.goes
 
@@ -152,7 +152,7 @@ can_step p x can going =
 at_frames : (p : Program) (frames : List Frame) (f : Frame) (callers : List Frame) (i : Insn) → frames ≡ f ∷ callers → insn_at p f ≡ Some i → IsAtIn p frames i
 at_frames p frames f callers i is at = subst (λ all. IsAtIn p all i) (sym is) at
 
--- a jump stands where its targets are told
+-- a jump is where its targets are listed
 pub at_insn : (p : Program) (x : State) (i : Insn) (u : Use) → IsNext p x i u → IsAt p x i
 at_insn p x i u next = at_frames p x.frames next.frame next.callers i next.frames_is next.insn_is
 

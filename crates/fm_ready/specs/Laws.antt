@@ -1,4 +1,5 @@
--- The laws that the functions of `laws` prove: what the code of each instruction asks, of each state from which a run goes on.
+-- The laws that the functions of `laws` prove: what the code of each instruction requires, of each
+-- state from which a run goes on.
 use Rattle.std.specs.Prelude.{◌≡◌, ℕ, ◌+◌, ◌-◌, ◌^◌, ◌<◌, ◌≤◌, true, List, length, Option, Some, slice_get}
 use Rattle.std.specs.List.{AllByRecursion}
 use Rattle.fm_base.specs.declared.ids.FieldId.{FieldId}
@@ -99,7 +100,7 @@ StaticsTakeValues =
 
 -- ---- built-in methods, and the start of classes
 
--- what frames share is as the built-in methods ask it, which alone have rows
+-- what frames share is as the built-in methods require it, and only these have rows
 abbrev pub BuiltInsAreServed : Type 0
 BuiltInsAreServed = (p : Program) → CanRun p → AreRowsBuiltIn p.outline × ((x : State) → IsGoing p x → ServesNatives p.outline x.areas)
 

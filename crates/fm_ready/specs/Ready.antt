@@ -1,4 +1,5 @@
--- What a step asks of its program and of the state before it, so that the code of its instruction can do it.
+-- What a step requires of its program and of the state before it, so that the code of its
+-- instruction can do it.
 use Rattle.std.specs.Prelude.{◌≡◌, ℕ, ◌+◌, ◌^◌, ◌<◌, ◌≤◌, Bool, true, false, List, ◌∷◌, length, None, Some}
 use Rattle.fm_base.specs.declared.kinds.Kind.TheVariants as kind
 use Rattle.fm_base.specs.declared.kinds.TypeRef.{TypeRef}
@@ -52,7 +53,7 @@ pub record IsGoing (p : Program) (x : State) : Type 0 where
   pub births : x.areas.store.births + unmade x.areas.literals + cost p x < 2 ^ 32
   pub steps : x.steps + cost p x < 2 ^ 64
 
--- the topmost frame stands at this instruction, and what the instruction names is resolved to this
+-- the topmost frame is at this instruction, and what the instruction names is resolved to this
 pub record IsNext (p : Program) (x : State) (i : Insn) (u : Use) : Type 0 where
   pub frame : Frame
   pub callers : List Frame

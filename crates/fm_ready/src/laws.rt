@@ -1,4 +1,4 @@
-// Laws over definitions alone, each the contract of a function that does nothing.
+// Laws over definitions only, each the contract of a function that does nothing.
 
 ghost use Rattle.fm_ready.specs.Laws as law;
 

@@ -1,8 +1,8 @@
-// What the code of each instruction asks, of each state of a linked and typed program.
+// What the code of each instruction requires, of each state of a linked and typed program.
 //
-// A step of the machine matches on the instruction that is next and calls the function of its row. What that
-// one asks of the program and of the state follows from what linking makes sure of and from what holds of
-// each state of a run.
+// A step of the machine matches on the instruction that is next and calls the function of its row.
+// What that one requires of the program and of the state follows from what linking makes sure of
+// and from what holds of each state of a run.
 #![tactic(auto)]
 
 mod laws;

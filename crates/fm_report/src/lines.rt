@@ -101,7 +101,8 @@ pub fn end_status(end: Ended) -> u8
     }
 }
 
-// The status of a program that exits with a number: its lowest 8 bits, unless they tell something else.
+// The status of a program that exits with a number: its lowest 8 bits, unless they are a status
+// with another meaning.
 fn exit_status(n: i32) -> u8
     ensures { result ≡ exit_status n }
 {

@@ -1,5 +1,5 @@
-// The exit statuses of the ends of a run, but that of a main that returned, of a run that could go on and
-// of one whose frames were too many, which stand beside those of refusals.
+// The exit statuses of the ends of a run, but that of a main that returned, of a run that could go
+// on and of one whose frames were too many, which are listed with those of refusals.
 
 ghost use Rattle.std.specs.Prelude.{◌≡◌};
 
@@ -21,7 +21,7 @@ pub const STORE_FULL: u8 = 85;
 /// The program exited with a number whose lowest 8 bits are the status of a refusal or of another end.
 pub const OTHER_EXIT: u8 = 86;
 
-/// The value of each status, as its clauses tell.
+/// The value of each status, as its clauses say.
 pub fn law_end_statuses()
     ensures uncaught { UNCAUGHT ≡ 1 }
     ensures exhausted { EXHAUSTED ≡ 81 }

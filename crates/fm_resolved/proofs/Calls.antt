@@ -148,7 +148,8 @@ method_by o entries index m t e is = no_method_used m t resolved.Unused refl is
 
 -- ---- what a call names
 
--- the file of a call, in a method of the class that calls, the index that it names, and what stands there
+-- the file of a call, in a method of the class that calls, the index that it names, and what is
+-- there
 pub record IsCall (given : List ClassDef) (o : Outline) (code : Code) (caller index method type : ℕ) (wanted : Bool) : Type 0 where
   pub place : ℕ
   pub file : ClassDef

@@ -173,7 +173,7 @@ each_parent given spelled no_bad no_missing class within other = by_place (cases
   by_place (inl own) = (built_in_parent (declared_from 0 given) class own other).0
   by_place (inr later) = file (class - length built_in) (omega (arith, later)) (slice_get given (class - length built_in)) refl
 
--- along a chain of at most so many classes
+-- along a chain of at most this many classes
 ends_in : (classes : List DeclaredClass) (top : ℕ) → IsLinear classes → ((class : ℕ) → class < length classes → nat_eq class top ≡ false → HasParent classes class)
     → (bound class : ℕ) → length (chain_of classes class) ≤ bound → class < length classes → is_among top (chain_of classes class) ≡ true
 ends_in classes top linear parents zero class few within = absurd (let long = ap length (linear class within) in omega (arith, few, long))

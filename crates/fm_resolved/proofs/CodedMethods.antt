@@ -24,7 +24,7 @@ use Rattle.fm_world.specs.Uses.{class_items, is_used, items_of}
 use Rattle.fm_world.specs.declared.uses.Use.{Use}
 use Rattle.fm_world.specs.declared.uses.Use.TheVariants as resolved
 
--- ---- where code stands
+-- ---- where code is
 
 -- the code is that of a method of the file at this place, whose class has this number
 pub record IsCodeOf (given : List ClassDef) (class : ℕ) (code : Code) : Type 0 where

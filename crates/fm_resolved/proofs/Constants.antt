@@ -28,7 +28,8 @@ use Rattle.fm_world.specs.declared.declarations.Constant.TheVariants as constant
 use Rattle.fm_world.specs.declared.declarations.DeclaredClass.{DeclaredClass}
 use Rattle.fm_records.proofs.FirstLaws.{constant_by}
 
--- what the constants of fields tell of the kinds of the fields, where it holds of each entry and the descriptors that suit it, and of no constant at all
+-- what the constants of fields give for the kinds of the fields, where it holds of each entry and
+-- the descriptors that suit it, and of no constant at all
 pub record Tells (classes : List DeclaredClass) (Q : Option Constant → Kind → Type 0) : Type 0 where
   pub none : (k : Kind) → Q None k
   pub entry : (entries : List Entry) (descriptor : List ℕ) (e : Entry) → Contains (suited_descriptors e) descriptor
@@ -93,7 +94,7 @@ pub all_fields : (given : List ClassDef) → fields_of (classes_of given) ≡ fi
 unfolding fields_of classes_of
 all_fields given = fields_from-append 0 built_in (declared_from 0 given)
 
--- it is told of each field of class files
+-- it holds of each field of class files
 told_constants : (given : List ClassDef) → AllByRecursion HasSpelling given → (Q : Option Constant → Kind → Type 0) → Tells (classes_of given) Q → (field : ℕ)
     → Q (field_at (classes_of given) field).field.value (field_kind (classes_of given) (field_at (classes_of given) field).field)
 told_constants given spelled Q tells field =

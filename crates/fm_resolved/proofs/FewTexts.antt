@@ -33,7 +33,7 @@ filter_map_few : {X Y : Type 0} (f : X → Option Y) (xs : List X) → length (f
 filter_map_few f [] = omega arith
 filter_map_few f (x ∷ xs) = given_few (f x) (filter_map f xs) (length xs) (filter_map_few f xs)
 
--- where each gives no more than so many
+-- where each gives no more than this many
 pub flat_few : {A B : Type 0} (g : A → List B) (bound : ℕ) → ((x : A) → length (g x) ≤ bound) → (xs : List A)
     → length (flat_map g xs) ≤ length xs * bound
 flat_few g bound each [] = omega arith

@@ -117,7 +117,7 @@ field_by o entries index f t e at is = no_field_used f t resolved.Unused refl is
 
 -- ---- the field of an instruction
 
--- the file of the instruction, and what stands at its index
+-- the file of the instruction, and what is at its index
 pub record IsAccess (given : List ClassDef) (o : Outline) (index field type : ℕ) (wanted : Bool) : Type 0 where
   pub place : ℕ
   pub file : ClassDef

@@ -1,5 +1,5 @@
--- Superinterfaces of classes: those of a superclass and of a superinterface are ones of the class itself, and built-in classes have built-in ones alone, which
--- declare no method.
+-- Superinterfaces of classes: those of a superclass and of a superinterface are ones of the class
+-- itself, and built-in classes have only built-in ones, which declare no method.
 use Rattle.std.proofs.Common.{◌≡◌, refl, sym, ◌∙◌, ap, ℕ, zero, suc, ◌<◌, ◌≤◌, ◌⊎◌, inl, inr, ◌&&◌, Bool, true, false, List, [], ◌∷◌, ◌++◌, length, map, replicate, nat_eq, nat_lt, Option, Some, None, is_none, arith, ⊎_elim}
 use Rattle.std.specs.List.{cons_option, filter_map, flat_map, list_any}
 use Rattle.std.proofs.lemmas.Bool.{cases_lt, eqb-true, false≢true, lt-ltb}
@@ -162,7 +162,7 @@ pub low_supers : (given : List ClassDef) (class x : ℕ) → class < length buil
 unfolding superinterfaces_of
 low_supers given class x within among = low_within given (suc (length (classes_of given))) class x within among
 
--- a built-in class has built-in interfaces alone
+-- a built-in class has only built-in interfaces
 pub low_interfaces : (given : List ClassDef) → AreSound (classes_of given) → (class x : ℕ) → class < length built_in
     → is_among x (interfaces_of (classes_of given) class) ≡ true → x < length built_in
 low_interfaces given sound class x within among =

@@ -1,4 +1,5 @@
--- Main of a linked program: a static method of a class file, which has code and takes the array of the arguments alone.
+-- Main of a linked program: a static method of a class file, which has code and takes only the
+-- array of the arguments.
 use Rattle.std.proofs.Common.{◌≡◌, refl, sym, ◌∙◌, ap, ℕ, ◌<◌, ◌≤◌, ◌⊎◌, inl, inr, not, Bool, true, false, cond, List, [], ◌∷◌, ◌++◌, length, codes, get_or, Option, Some, None, is_some, option_and_then, option_map, unwrap_or, arith}
 use Rattle.std.specs.List.{AllByRecursion, flat_map, list_all}
 use Rattle.std.specs.Str.{bytes_eq}
@@ -119,7 +120,7 @@ main_takes o given method classes static descriptor =
 
 -- ---- main of linked programs
 
--- main takes the array of the arguments alone
+-- main takes only the array of the arguments
 pub main_slots : (given : List ClassDef) (main : List ℕ) → refusals given main ≡ []
     → entry_slots (outline_of given main) (outline_of given main).main ≡ slot.Ref (arguments_type (outline_of given main)) ∷ []
 unfolding outline_of classes_of arguments_array

@@ -151,7 +151,7 @@ both_there o (resolved.OfLong n) member number = tt
 both_there o (resolved.OfText text) member number = number
 both_there o resolved.Unused member number = tt
 
--- what an index of a class's constant pool stands for is there
+-- what an index of a class's constant pool refers to is there
 pub use_there : (given : List ClassDef) (main : List ℕ) (class index : ℕ) → IsUseIn (program_of given main).outline (use_of (program_of given main) class index)
 unfolding program_of
 use_there given main class index =

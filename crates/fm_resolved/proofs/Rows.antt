@@ -1,4 +1,4 @@
--- Methods of class files have no rows: built-in ones alone do.
+-- Methods of class files have no rows: only built-in ones do.
 use Rattle.std.proofs.Common.{◌≡◌, refl, sym, ◌∙◌, ap, ℕ, ◌+◌, ◌-◌, ◌≤◌, List, [], ◌∷◌, ◌++◌, length, map, get_or, None, append_assoc, arith}
 use Rattle.std.specs.List.{AllByRecursion}
 use Rattle.std.proofs.lemmas.List.{get_or-append_right}
@@ -36,7 +36,7 @@ methods_from-append class (c ∷ classes) more =
     ap (λ ms. own ++ ms) (methods_from-append (class + 1) classes more ∙ ap (λ k. methods_from (class + 1) classes ++ methods_from k more) same)
     ∙ sym (append_assoc own (methods_from (class + 1) classes) (methods_from (class + length (c ∷ classes)) more))
 
--- the methods of the files stand behind the built-in ones
+-- the methods of the files come behind the built-in ones
 pub all_methods : (given : List ClassDef) → methods_of (classes_of given) ≡ methods_of built_in ++ methods_from (length built_in) (declared_from 0 given)
 unfolding methods_of classes_of
 all_methods given = methods_from-append 0 built_in (declared_from 0 given) ∙ ap (λ k. methods_from 0 built_in ++ methods_from k (declared_from 0 given)) (omega arith)

@@ -159,7 +159,7 @@ within_count classes n step (suc bound) (Some k) below above among =
       by_first later (inl same) = let is = eqb-true above k same in omega (arith, is, below)
       by_first later (inr rest) = later rest
 
--- above a built-in class are built-in classes alone
+-- above a built-in class are only built-in classes
 pub built_in_chain : (given : List ClassDef) (class above : ℕ) → class < length built_in → is_among above (chain_of (classes_of given) class) ≡ true
     → above < length built_in
 unfolding chain_of classes_of
@@ -275,7 +275,7 @@ selected_concrete given spelled none_refused class method target objects is = by
       let path = found_among (own_method classes is_selectable m.name m.descriptor) (chain_of classes class) target found in
       found_concrete given none_refused m.name m.descriptor class path.0 target objects path.1.0 path.1.1 found
 
--- what is asked of the class of a type, if it has one
+-- what is required of the class of a type, if it has one
 abbrev pub OfClass : List DeclaredClass → Option ℕ → Type 0
 OfClass classes None = Unit {0}
 OfClass classes (Some class) = ClassHasObjects classes class

@@ -1,4 +1,5 @@
--- What linking makes sure of, so that each cell of a run fits where it stands: of the program of class files against which no cause stands.
+-- What linking makes sure of, so that each cell of a run fits its place: of the program of class
+-- files against which there is no cause.
 use Rattle.std.specs.Prelude.{◌≡◌, ℕ, ◌≤◌, List, [], length}
 use Rattle.std.specs.List.{AllByRecursion}
 use Rattle.fm_base.specs.declared.limits.TheConstants.{MAX_CLASS_FILES}
@@ -8,14 +9,16 @@ use Rattle.fm_whole.specs.CellsResolved.{BuiltInsFit, CellsAreResolved, PlacesFi
 use Rattle.fm_world.specs.Linking.{refusals}
 use Rattle.fm_world.specs.Programs.{program_of}
 
--- Built-in classes and methods are what is asked of them, and so are the places of references: what can be cast to a type fits it, no class is below String,
--- hidden fields and constants are texts, and main takes the array of the arguments.
+-- Built-in classes and methods are as required, and so are the places of references: what can be
+-- cast to a type fits it, no class is below String, hidden fields and constants are texts, and main
+-- takes the array of the arguments.
 abbrev pub PlacesOfProgramsFit : Type 0
 PlacesOfProgramsFit =
     (given : List ClassDef) (main : List ℕ) → AllByRecursion HasSpelling given → refusals given main ≡ [] → length given ≤ MAX_CLASS_FILES
     → BuiltInsFit (program_of given main) × PlacesFit (program_of given main)
 
--- So are the methods that are called: it is all that is asked of a program so that each cell fits where it stands.
+-- So are the methods that are called: it is all that a program needs so that each cell fits its
+-- place.
 abbrev pub CellsOfProgramsAreResolved : Type 0
 CellsOfProgramsAreResolved =
     (given : List ClassDef) (main : List ℕ) → AllByRecursion HasSpelling given → refusals given main ≡ [] → length given ≤ MAX_CLASS_FILES

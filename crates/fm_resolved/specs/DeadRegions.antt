@@ -11,7 +11,8 @@ use Rattle.fm_same.specs.Resolved.{CallsNoFreeMe}
 use Rattle.fm_world.specs.Linking.{refusals}
 use Rattle.fm_world.specs.Programs.{program_of}
 
--- In each run of the program of accepted class files, as many as one call takes, against which no cause stands, where methods are typed and none calls FreeMe.
+-- In each run of the program of accepted class files, as many as one call takes, against which
+-- there is no cause, where methods are typed and none calls FreeMe.
 abbrev pub LinkedRegionsDie : Type 0
 LinkedRegionsDie =
     (given : List ClassDef) (main : List ℕ) → AllByRecursion HasSpelling given → AllByRecursion IsSupported given → refusals given main ≡ []

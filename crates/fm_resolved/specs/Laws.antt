@@ -1,4 +1,4 @@
--- What linking makes sure of, of the program of class files against which no cause stands.
+-- What linking makes sure of, of the program of class files against which there is no cause.
 use Rattle.std.specs.Prelude.{◌≡◌, ℕ, ◌<◌, ◌≤◌, Bool, true, false, List, [], ◌++◌, length, None, Some, slice_get, unwrap_or}
 use Rattle.std.specs.List.{AllByRecursion}
 use Rattle.fm_base.specs.declared.ids.FieldId.{FieldId}
@@ -50,14 +50,14 @@ pub record IsLinkedWell (p : Program) : Type 0 where
   pub types : (n : ℕ) (t : TypeRef) → slice_get p.outline.types n ≡ Some t → IsTypeIn p.outline.classes t
   -- a method is of a class that is there
   pub owners : (method : ℕ) → (method_at p.outline.classes method).class < length p.outline.classes
-  -- what an index of a class's constant pool stands for is there (JVMS 5.4.3)
+  -- what an index of a class's constant pool refers to is there (JVMS 5.4.3)
   pub uses : (class index : ℕ) → IsUseIn p.outline (use_of p class index)
   -- each method has a place for its code, and one that has code has no row
   pub codes : length p.codes ≡ length (methods_of p.outline.classes)
   pub no_row : (method : ℕ) (code : Code) → code_at p method ≡ Some code → (method_at p.outline.classes method).method.row ≡ None
   -- the types of the classes are numbered first, in the order of the classes
   pub class_types : (class : ℕ) → class < length p.outline.classes → type_number p.outline.types (type_of_class class) ≡ Some class
-  -- built-in methods alone have rows
+  -- only built-in methods have rows
   pub rows : (method : ℕ) → length (methods_of built_in) ≤ method → (method_at p.outline.classes method).method.row ≡ None
   -- invokestatic names a static method, and each other call names another one (JVMS 6.5.invokestatic)
   pub calls : (method : ℕ) (i : Insn) (m : MethodId) (t : TypeId) (wanted : Bool) → IsNamed p method i (resolved.OfMethod m t)
@@ -80,7 +80,7 @@ pub record IsLinkedWell (p : Program) : Type 0 where
   -- a number is the constant of a field of numbers (JVMS 4.7.2)
   pub constants : (field : ℕ) → IsNumber (field_at p.outline.classes field).field.value → IsPlainKind (kind_of_field p.outline field)
 
--- the program of spelled class files against which no cause stands
+-- the program of spelled class files against which there is no cause
 abbrev pub ProgramsAreLinkedWell : Type 0
 ProgramsAreLinkedWell =
     (given : List ClassDef) (main : List ℕ) → AllByRecursion HasSpelling given → refusals given main ≡ [] → IsLinkedWell (program_of given main)
@@ -116,18 +116,18 @@ pub record StepsAreLinked (p : Program) : Type 0 where
   -- a field with a constant is static (JVMS 4.7.2)
   pub constants : ConstantsAreStatic p.outline
 
--- of spelled class files against which no cause stands
+-- of spelled class files against which there is no cause
 abbrev pub StepsOfProgramsAreLinked : Type 0
 StepsOfProgramsAreLinked =
     (given : List ClassDef) (main : List ℕ) → AllByRecursion HasSpelling given → refusals given main ≡ [] → StepsAreLinked (program_of given main)
 
--- Where the files are accepted, it is all that each step asks of calls, fields and targets.
+-- Where the files are accepted, it is all that each step requires of calls, fields and targets.
 abbrev pub StepsOfProgramsAreResolved : Type 0
 StepsOfProgramsAreResolved =
     (given : List ClassDef) (main : List ℕ) → AllByRecursion HasSpelling given → AllByRecursion IsSupported given → refusals given main ≡ []
     → length given ≤ MAX_CLASS_FILES → StepsAreResolved (program_of given main)
 
--- And its main has code, and takes the array of the arguments alone.
+-- And its main has code, and takes only the array of the arguments.
 abbrev pub MainOfProgramsIsReady : Type 0
 MainOfProgramsIsReady =
     (given : List ClassDef) (main : List ℕ) → AllByRecursion HasSpelling given → AllByRecursion IsSupported given → refusals given main ≡ []

@@ -28,7 +28,7 @@ pub record MakesAreLinked (p : Program) : Type 0 where
   -- arrays that instructions make have numbers, and the fields that they put are where the objects have them
   pub made : (method : ℕ) (i : Insn) (u : Use) → IsNamed p method i u → NamesMade p.outline u i
 
--- of spelled class files against which no cause stands
+-- of spelled class files against which there is no cause
 abbrev pub MakesOfProgramsAreLinked : Type 0
 MakesOfProgramsAreLinked =
     (given : List ClassDef) (main : List ℕ) → AllByRecursion HasSpelling given → refusals given main ≡ [] → MakesAreLinked (program_of given main)

@@ -18,8 +18,8 @@ use Rattle.fm_sound.specs.Sound.{AreTyped, Typings}
 use Rattle.fm_world.specs.Linking.{refusals}
 use Rattle.fm_world.specs.Programs.{Program, program_of}
 
--- The program of accepted class files, as many as one call takes, against which no cause stands, where methods are typed and none calls FreeMe, is linked as
--- the law asks.
+-- The program of accepted class files, as many as one call takes, against which there is no cause,
+-- where methods are typed and none calls FreeMe, is linked as the law requires.
 abbrev pub LinkedIsWithoutFrees : Type 0
 LinkedIsWithoutFrees =
     (given : List ClassDef) (main : List ℕ) → AllByRecursion HasSpelling given → AllByRecursion IsSupported given → refusals given main ≡ []

@@ -1,4 +1,5 @@
-// What linking makes sure of, of the program of class files against which no cause stands (JVMS 5.3.5, 5.4.3).
+// What linking makes sure of, of the program of class files against which there is no cause (JVMS
+// 5.3.5, 5.4.3).
 #![tactic(auto)]
 
 ghost use Rattle.fm_resolved.specs.Cells.{CellsOfProgramsAreResolved, PlacesOfProgramsFit};
@@ -43,14 +44,14 @@ pub fn law_resolved()
     law_linking();
 }
 
-/// Where nothing is refused, the program of spelled class files has what each step asks of static
-/// methods, constructors, fields, targets and constants.
+/// Where nothing is refused, the program of spelled class files has what each step requires of
+/// static methods, constructors, fields, targets and constants.
 pub fn law_steps()
     ensures { StepsOfProgramsAreLinked }
 {}
 
-/// Where nothing is refused of supported files, the program of spelled class files, as many as one call
-/// takes, is all that each step of the machine asks of calls, fields and targets.
+/// Where nothing is refused of supported files, the program of spelled class files, as many as one
+/// call takes, is all that each step of the machine requires of calls, fields and targets.
 pub fn law_sound_steps()
     ensures { StepsOfProgramsAreResolved }
 {
@@ -75,8 +76,8 @@ pub fn law_makeable()
     law_makes();
 }
 
-/// Where nothing is refused of supported files, main of the program has code, and takes the array of the
-/// arguments alone.
+/// Where nothing is refused of supported files, main of the program has code, and takes only the
+/// array of the arguments.
 pub fn law_main()
     ensures { MainOfProgramsIsReady }
 {}
@@ -91,8 +92,8 @@ pub fn law_can_run()
     law_main();
 }
 
-/// Where nothing is refused, built-in classes and the places of references are as the program of spelled
-/// class files, as many as one call takes, needs them so that each cell fits where it stands.
+/// Where nothing is refused, built-in classes and the places of references are as the program of
+/// spelled class files, as many as one call takes, needs them so that each cell fits its place.
 pub fn law_cell_places()
     ensures { PlacesOfProgramsFit }
 {
@@ -100,17 +101,18 @@ pub fn law_cell_places()
     law_built_ins();
 }
 
-/// And a method is selected for each object that a call meets, invokespecial leads to methods of the own class
-/// and above, and constructors are of exactly the class that is named: so each cell fits where it stands.
+/// And a method is selected for each object that a call meets, invokespecial leads to methods of
+/// the own class and above, and constructors are of exactly the class that is named: so each cell
+/// fits its place.
 pub fn law_cells()
     ensures { CellsOfProgramsAreResolved }
 {
     law_cell_places();
 }
 
-/// No accepted program without FreeMe ever ends in a fault: each state of each run of the program of accepted
-/// class files against which no cause stands, which is typed and calls no FreeMe, is whole, whatever the memory
-/// chooses.
+/// No accepted program without FreeMe ever ends in a fault: each state of each run of the program
+/// of accepted class files against which there is no cause, which is typed and calls no FreeMe, is
+/// whole, whatever the memory chooses.
 pub fn law_linked_no_fault()
     ensures { LinkedProgramsNeverFault }
 {
@@ -123,8 +125,8 @@ pub fn law_linked_no_fault()
 }
 
 /// The law of dead regions of linked programs: in each run of the program of accepted class files
-/// against which no cause stands, which is typed and calls no FreeMe, what a captured class led to is dead
-/// once the class isn't busy or its activation is gone.
+/// against which there is no cause, which is typed and calls no FreeMe, what a captured class led
+/// to is dead once the class isn't busy or its activation is gone.
 pub fn law_linked_regions()
     ensures { LinkedRegionsDie }
 {
@@ -136,8 +138,8 @@ pub fn law_linked_regions()
     law_dead_regions();
 }
 
-/// The program of accepted class files against which no cause stands, as many as one call takes, which is
-/// typed and calls no FreeMe, is linked as the law of two memories asks.
+/// The program of accepted class files against which there is no cause, as many as one call takes,
+/// which is typed and calls no FreeMe, is linked as the law of two memories requires.
 pub fn law_without_frees()
     ensures { LinkedIsWithoutFrees }
 {

@@ -1,4 +1,4 @@
--- The row of a call of FreeMe.free takes whatever reference stands on top.
+-- The row of a call of FreeMe.free takes whatever reference is on top.
 use Rattle.std.proofs.Common.{◌≡◌, refl, ◌∙◌, ap, ℕ, ◌==◌, Bool, true, false, ◌||◌, cond, List, [], ◌∷◌, Option, Some, None, option_and_then, option_map, codes, arith}
 use Rattle.std.specs.Prelude.{option_to_list, unwrap_or}
 use Rattle.std.specs.Str.{bytes_eq}

@@ -46,7 +46,7 @@ module _ (own holders : List Slot) where
       let place : length own + h - length own ≡ h = omega arith in
       set-append_right own holders (length own) (length own + h) x refl (omega arith) ∙ ap (λ n. own ++ set holders n x) place
 
-  -- what stands before a holder is no first half of a long
+  -- what comes before a holder is no first half of a long
   short_before : trimmed own ≡ own → AllByRecursion IsShort holders → (h k : ℕ) → length own + h ≡ suc k → is_long (local_at both k) ≡ false
   short_before same short zero k is =
       ap is_long (get_or_append_left own holders slot.Top k (omega (arith, is))) ∙ last_short own same k (omega (arith, is))

@@ -20,7 +20,7 @@ use Rattle.fm_world.specs.Programs.{Outline, Program}
 use Rattle.fm_world.specs.Uses.{operand_of}
 use Rattle.fm_world.specs.declared.uses.Use.{Use}
 
--- what is asked of an instruction that keeps another one
+-- what is required of an instruction that keeps another one
 pub record IsSameRow (i kept : Insn) : Type 0 where
   pub row : (o : Outline) (method item : ℕ) (news : ℕ → Option TypeRef) (u : Use) (s : TypeState)
       → row_after o method item news u kept s ≡ row_after o method item news u i s

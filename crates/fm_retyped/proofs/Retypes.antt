@@ -1,4 +1,5 @@
--- Code that stands as typed code with insertions is typed: the states written out, by what each item is for, are a typing of it.
+-- Typed code with insertions is typed: the states written out, by what each item is for, are a
+-- typing of it.
 use Rattle.std.proofs.Common.{◌≡◌, refl, sym, ◌∙◌, ap, subst, ℕ, zero, suc, ◌+◌, ◌<◌, ◌≤◌, ◌==◌, ◌⊎◌, ◌↔◌, inl, inr, true, cond, List, [], ◌∷◌, ◌++◌, length, length-append, map, replicate, Option, Some, None, is_some, option_and_then, option_map, IsSomeAnd, Contains, arith}
 use Rattle.std.specs.Prelude.{slice_get}
 use Rattle.std.specs.List.{AllByRecursion}

@@ -47,7 +47,7 @@ held_slots types = map (λ t. slot.Ref t) types
 abbrev pub held_slot : Retyping → ℕ → Slot
 held_slot w h = local_at (held_slots w.types) h
 
--- so many holders hold something, the later ones nothing yet
+-- this many holders hold something, the later ones nothing yet
 abbrev pub begun : ℕ → List TypeRef → List Slot
 begun holders [] = []
 begun zero (t ∷ types) = slot.Top ∷ begun zero types
@@ -59,7 +59,7 @@ begun (suc holders) (t ∷ types) = slot.Ref t ∷ begun holders types
 abbrev pub kept_state : Retyping → TypeState → TypeState
 kept_state w s = state_with w.numbers (held_slots w.types) s
 
--- at the start, where so many holders do
+-- at the start, where this many holders do
 abbrev pub start_state : Retyping → ℕ → List Slot → TypeState
 start_state w holders stack =
     let entry = entry_state w.given.outline w.method w.code in
@@ -92,7 +92,8 @@ abbrev pub made_by : Program → ℕ → Insn → Option TypeRef
 made_by p method (insn.New index) = type_of_use p.outline (use_in p method index)
 made_by p method i = None
 
--- after an item that gives an object to a holder: it stands on top, and nothing but the stack has changed
+-- after an item that gives an object to a holder: it is on top, and nothing but the stack has
+-- changed
 pub record IsHeld (w : Retyping) (h : ℕ) (s after : TypeState) : Type 0 where
   pub rest : List Slot
   pub top : after.stack ≡ held_slot w h ∷ rest

@@ -1,4 +1,4 @@
--- A typing of code stays one in another program of the same outline, where what is named stands for the same.
+-- A typing of code stays one in another program of the same outline, where names refer to the same.
 use Rattle.std.proofs.Common.{◌≡◌, refl, sym, ◌∙◌, subst, ℕ, List, [], ◌∷◌, Option, Some, None, option_and_then, IsSomeAnd, Contains, true}
 use Rattle.std.specs.List.{AllByRecursion}
 use Rattle.fm_base.proofs.OptionFacts.{IsSomeAnd-from_some, Some-from_some_and}

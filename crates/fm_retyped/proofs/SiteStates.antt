@@ -1,4 +1,5 @@
--- After a site its object stands on top, by a type; and where no local holds an object that isn't initialised nothing but the stack has changed.
+-- After a site its object is on top, by a type; and where no local holds an object that isn't
+-- initialised nothing but the stack has changed.
 use Rattle.std.proofs.Common.{◌≡◌, refl, ap, sym, ◌∙◌, ℕ, zero, suc, ◌+◌, ◌-◌, ◌&&◌, Bool, true, false, not, cond, List, [], ◌∷◌, ◌++◌, length, length-append, reverse, replicate, Option, Some, None, is_some, option_and_then, option_map, slice_get, append_assoc, arith}
 use Rattle.std.specs.Prelude.{nat_le, nat_lt, option_to_list}
 use Rattle.std.specs.List.{list_any}
@@ -45,7 +46,7 @@ use Rattle.fm_world.specs.declared.calls.CallKind.TheVariants as call
 use Rattle.fm_world.specs.declared.uses.Use.{Use}
 use Rattle.fm_world.specs.declared.uses.Use.TheVariants as resolved
 
--- a reference stands on top, and nothing but the stack has changed
+-- a reference is on top, and nothing but the stack has changed
 pub record GivesObject (s after : TypeState) : Type 0 where
   pub type : TypeRef
   pub rest : List Slot
@@ -177,7 +178,7 @@ built-gives o method news named (slot.Uninit item) (slot.Uninit other) rest s af
 built-gives o method news named (slot.Uninit item) below rest s after none same there = absurd (false≢true same)
 built-gives o method news named receiver below rest s after none same there = absurd (false≢true same)
 
--- the word under which so many lie
+-- the word under which this many lie
 word_above : (xs ys : List Slot) (v : Slot) → slice_get (reverse (xs ++ v ∷ ys)) (length ys) ≡ Some v
 word_above xs ys v =
     let size : length ys ≡ length (reverse ys) + 0 = omega (arith, length-reverse ys) in

@@ -1,4 +1,5 @@
--- What instructions and entries of exception tables name stands for the same in the written classes, and what is inserted calls FreeMe.free.
+-- The indices of instructions and of entries of exception tables refer to the same in the written
+-- classes, and what is inserted calls FreeMe.free.
 use Rattle.std.proofs.Common.{◌≡◌, refl, sym, ◌∙◌, ap, ℕ, zero, suc, ◌+◌, ◌<◌, ◌≤◌, ◌⊎◌, inl, inr, ⊎_elim, true, cond, List, [], ◌∷◌, ◌++◌, length, map, get_or, Option, Some, None, Contains, arith}
 use Rattle.std.specs.List.{AllByRecursion, cons_option, filter_map, flat_map}
 use Rattle.std.proofs.lemmas.Bool.{cases_eq, cases_lt, false≢true}

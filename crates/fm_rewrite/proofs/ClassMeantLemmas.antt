@@ -1,4 +1,5 @@
--- What is told of a class by what is to be done with its methods is what the definitions tell by what is inserted.
+-- The counts of a class by what is to be done with its methods are those of the definitions by what
+-- is inserted.
 use Rattle.std.proofs.Common.{◌≡◌, refl, sym, ◌∙◌, ap, ℕ, ◌+◌, ◌||◌, Bool, true, false, cond, List, [], ◌∷◌, length, map, Option, Some, None}
 use Rattle.std.specs.Prelude.{is_some, sum}
 use Rattle.std.specs.List.{AllByRecursion, list_any, range_with_len}

@@ -49,7 +49,7 @@ numbers_few test n (h ∷ holders) = by_test (test h) (numbers_few test (n + 1) 
   by_test true rest = omega (arith, rest)
   by_test false rest = omega (arith, rest)
 
--- so many items with a few numbers each
+-- this many items with a few numbers each
 pub pairs_few : (f : ℕ → List ℕ) (a n : ℕ) → ((j : ℕ) → length (f j) ≤ MAX_LOCAL_WORDS)
     → length (flat_map (paired f) (range_with_len a n)) ≤ MAX_LOCAL_WORDS * n
 pairs_few f a zero each = omega arith

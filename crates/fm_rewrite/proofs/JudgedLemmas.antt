@@ -73,7 +73,7 @@ parts_of given p done judged are =
     (parts_of_given given judged.main done (judged_spelled given p judged) (given_analysable given p judged) (given_old given p judged)
     (subst (λ q. ArePlanned q done) judged.program_is are))
 
--- ---- what stands behind the methods of the built-in classes
+-- ---- what comes behind the methods of the built-in classes
 
 pub own_done : (done : List Planned) (k : ℕ) → k ≡ first_given → take (length done - k) (drop k done) ≡ drop first_given done
 own_done done k is = take_all (length done - k) (drop k done) (let left = length-drop k done in omega (arith, left)) ∙ ap (λ n. drop n done) is

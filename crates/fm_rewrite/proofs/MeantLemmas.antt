@@ -53,7 +53,7 @@ plans_in : (code : Code) (ins : Insertions) (plan : Plan) → IsWholePlan code i
 plans_in code ins plan is [] all = tt
 plans_in code ins plan is (a ∷ attributes) all = (plan_in code ins plan is a all.0, plans_in code ins plan is attributes all.1)
 
--- the words of a method's flags tell that it has at most one code
+-- by the words of a method's flags it has at most one code
 at_most_one : (b : Bool) (n : ℕ) → n ≡ cond b 0 1 → n ≤ 1
 at_most_one true n is = omega (arith, is)
 at_most_one false n is = omega (arith, is)
@@ -99,7 +99,7 @@ or_none : (o : Option ℕ) → option_or o None ≡ o
 or_none None = refl
 or_none (Some n) = refl
 
--- what is told of each code is the same, or nothing at all
+-- the result for each code is the same, or there is none at all
 long_rest : (free : ℕ) (plan : Plan) (code : Code) (attributes : List MemberAttr) → AllByRecursion (IsOwnCode code) attributes
     → option_or (long_attribute free plan (attribute.Coded 0 code)) (long_attributes free plan attributes) ≡ long_attribute free plan (attribute.Coded 0 code)
 long_rest free plan code [] all = or_none (long_attribute free plan (attribute.Coded 0 code))
@@ -122,7 +122,7 @@ long_first free plan code (attribute.Other raw ∷ rest) all is = long_first fre
 abbrev long_items : Code → List NewItem → Option ℕ
 long_items code items = cond (nat_lt MAX_CODE_BYTES (laid_length code.items items)) (Some (refused_length code.items items)) None
 
--- a refusal tells of its cause
+-- a refusal names its cause
 long_told : (code : Code) (items : List NewItem) (n : ℕ) → IsCause code.items items (fail.TooLong n) → long_items code items ≡ Some n
 long_told code items n cause =
     ap (λ b. cond b (Some (refused_length code.items items)) None) (lt-ltb MAX_CODE_BYTES (laid_length code.items items) cause.0) ∙ ap Some (sym cause.1)

@@ -20,7 +20,7 @@ use Rattle.fm_weave.specs.ByPlan.{narrow_by}
 use Rattle.fm_weave.specs.Conditions.{HasRoom}
 use Rattle.fm_world.specs.Programs.{code_at, Program}
 
--- facts that tell of a method what is answered of it
+-- facts that agree on a method with what is returned for it
 abbrev told_facts : Summaries → LiveRows → Classes → Facts
 told_facts summaries live classes = record {
   typing = λ method. [];

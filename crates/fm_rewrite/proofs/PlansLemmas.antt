@@ -22,7 +22,8 @@ use Rattle.fm_types.specs.States.{TypeState}
 use Rattle.fm_world.specs.Programs.{Program}
 
 module _ (p : Program) (summaries : Summaries) (method : ℕ) (code : Code) (states : List (Option TypeState)) (live : LiveRows) (classes : Classes) where
-  -- the plan of the sites that are found by the summaries is that of the sites by all facts that tell the same
+  -- the plan of the sites that are found by the summaries is that of the sites by all facts that
+  -- agree with them
   pub full_plan_is : {E : Type 0} → IsLeastTyping p method states → IsLiveRowsOf code live
       → AreClassesOf (linked_by summaries) (method_with p method code states) classes → (sites : List Site)
       → sites ≡ sites_of (facts_by classes summaries) (method_with p method code states) → (answer : Result Plan E)

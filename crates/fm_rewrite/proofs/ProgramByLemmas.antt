@@ -1,4 +1,5 @@
--- What is told of all classes by what is to be done with their methods is what the definitions tell by what is inserted.
+-- The counts of all classes by what is to be done with their methods are those of the definitions
+-- by what is inserted.
 use Rattle.std.proofs.Common.{◌≡◌, refl, ℕ, ◌+◌, ◌&&◌, Bool, cond, List, [], ◌∷◌, length, Option, Some, None}
 use Rattle.std.specs.Prelude.{nat_lt}
 use Rattle.std.specs.Option.{option_map, option_or}

@@ -32,7 +32,7 @@ use Rattle.fm_weave.specs.declared.planned.Planned.TheVariants as planned
 use Rattle.fm_world.specs.Programs.{code_at, Program}
 
 module _ (p : Program) (s : Summaries) where
-  -- ---- what is answered of one method, with other answers where it has no code
+  -- ---- what is returned for one method, with other results where it has no code
 
   abbrev states_in : (method : ℕ) (o : Option Code) (d : Planned) → IsPlannedIn p s method o d → List (Option TypeState)
   states_in method None d is = []
@@ -104,7 +104,7 @@ module _ (p : Program) (s : Summaries) where
       summaries = s;
     }
 
-    -- there are answers on some method
+    -- there are results for some method
     with_answers : (other : LiveRows) (others : Classes) (typings : Typings) → AreLeastTypings p typings → AreExact p typings s → ArePlanned p done
     with_answers other others typings least exact = record {
       facts = facts_of (answers_with other others);

@@ -10,7 +10,7 @@ use Rattle.fm_weave.specs.ClassByPlan.{first_long, long_method}
 use Rattle.fm_weave.specs.declared.classes.FreePool.{FreePool}
 use Rattle.fm_weave.specs.declared.planned.Planned.{Planned}
 
--- so many methods later
+-- this many methods later
 abbrev pub later_by : ℕ → ℕ × ℕ → ℕ × ℕ
 later_by first long = (first + long.0, long.1)
 

@@ -1,4 +1,5 @@
--- The plans of all that can be inserted into the methods of a program, each by what the analysis answers of its method.
+-- The plans of all that can be inserted into the methods of a program, each by what the analysis
+-- returns for its method.
 use Rattle.std.specs.Prelude.{◌≡◌, ◌<◌, ℕ, List, length, Option, Some, None}
 use Rattle.std.specs.List.{AllByRecursion, slice_index_or}
 use Rattle.fm_analysis.specs.Analysed.{AreAnalysable, AreLeastTypings}
@@ -48,8 +49,9 @@ ProgramsHaveOldItems =
 abbrev pub LinkAlike : Facts → Summaries → Type 0
 LinkAlike facts summaries = (method : ℕ) (a b : End2) → facts.linked method a b ≡ is_linked summaries method a b
 
--- The plan of all that can be inserted into a method with this code: by a least typing, by its live locals, and by its classes as the summaries link the ends
--- of methods, whatever facts tell the same of the method.
+-- The plan of all that can be inserted into a method with this code: by a least typing, by its live
+-- locals, and by its classes as the summaries link the ends of methods, the same by all facts that
+-- agree with these on the method.
 pub record IsFullPlan (p : Program) (summaries : Summaries) (method : ℕ) (code : Code) (plan : Plan) : Type 0 where
   pub states : List (Option TypeState)
   pub live : LiveRows

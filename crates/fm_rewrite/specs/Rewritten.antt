@@ -26,7 +26,7 @@ use Rattle.fm_world.specs.BuiltIns.{built_in}
 use Rattle.fm_world.specs.Linking.{refusals}
 use Rattle.fm_world.specs.Programs.{Program, program_of}
 
--- ---- what is asked
+-- ---- what is required
 
 -- the program is that of these class files, which are accepted and make one, and its methods are typed: what reading, linking and checking make sure of
 pub record AreJudged (given : List ClassDef) (p : Program) : Type 0 where
@@ -97,11 +97,11 @@ first_long plans given = long_from plans first_given given
 
 -- ---- causes
 
--- the pool of the class of this number would have so many indices
+-- the pool of the class of this number would have this many indices
 abbrev pub pool_full : ℕ × ℕ → RewriteFail
 pool_full full = fail.PoolFull (record { 0 = full.0 }) full.1
 
--- the method of this number would have so many bytes
+-- the method of this number would have this many bytes
 abbrev pub method_too_long : ℕ × ℕ → RewriteFail
 method_too_long long = fail.MethodTooLong (record { 0 = long.0 }) long.1
 
@@ -111,8 +111,8 @@ first_cause plans given = option_or (option_map pool_full (first_full plans give
 
 -- ---- what becomes of the classes
 
--- the program doesn't call FreeMe, and they are written with all held sites and all places, with what is told of each, by facts over least
--- typings; and by these nothing stands against it
+-- the program doesn't call FreeMe, and they are written with all held sites and all places, with
+-- the counts of each, by facts over least typings; and by these there is no cause against it
 pub record AreRewritten (given : List ClassDef) (main : List ℕ) (made : Rewritten) : Type 0 where
   pub no_call : first_call (program_of given main) ≡ None
   pub marks : List (List (Option ℕ))
@@ -129,7 +129,7 @@ pub record AreRefused (given : List ClassDef) (main : List ℕ) (cause : Rewrite
   pub least : AreLeastTypings (program_of given main) facts.typing
   pub first : first_cause (full_plans (program_of given main) facts) given ≡ Some cause
 
--- one of the two, or the first call of FreeMe; want of memory tells nothing
+-- one of the two, or the first call of FreeMe; want of memory says nothing
 abbrev pub ComesOfRewriting : List ClassDef → List ℕ → Result Rewritten RewriteFail → Type 0
 ComesOfRewriting given main (Ok made) = AreRewritten given main made
 ComesOfRewriting given main (Err (fail.CallsFree method offset)) = first_call (program_of given main) ≡ Some (method.0, offset)

@@ -1,3 +1,3 @@
--- What serves the code and the proofs alone: classes by what is to be done with their methods.
+-- What only serves the code and the proofs: classes by what is to be done with their methods.
 pub mod ByPlans
 pub mod Meant

@@ -1,4 +1,4 @@
-// What is told of each class.
+// The counts that are reported for each class.
 
 ghost use Rattle.std.specs.Prelude.{◌≡◌, ◌<◌, ◌^◌, IfOk, length};
 ghost use Rattle.fm_rewrite.specs.inner.ByPlans.{HasCounts, HaveCounts, counts_by, frees_by, frees_of_one, method_count, sites_by, sites_of_one};
@@ -32,7 +32,7 @@ impl Count {
     }
 }
 
-/// What is told of each class, by what is to be done with the methods of all.
+/// The counts that are reported for each class, by what is to be done with the methods of all.
 pub(crate) fn counts_of(
     alloc: Global,
     classes: &[ClassDef],

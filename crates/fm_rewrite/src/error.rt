@@ -13,10 +13,10 @@ pub enum RewriteFail {
     /// The method has at this offset a call of a method of FreeMe.
     #[error("method {0:?} calls FreeMe at {1}")]
     CallsFree(MethodId, u16),
-    /// The class has a held site, and its pool would have so many indices, more than 65,535.
+    /// The class has a held site, and its pool would have this many indices, more than 65,535.
     #[error("class {0:?} would have a constant pool of {1} indices")]
     PoolFull(ClassId, u32),
-    /// The method would have so many bytes of code, more than 65,535.
+    /// The method would have this many bytes of code, more than 65,535.
     #[error("method {0:?} would have {1} bytes")]
     MethodTooLong(MethodId, u32),
     /// Memory couldn't be had.

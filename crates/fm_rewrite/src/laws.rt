@@ -10,7 +10,7 @@ pub fn law_old_items()
 {}
 
 /// Where a site is held, a method may be woven by the plan of all that can be inserted: there are
-/// locals for its holders and a word of stack, and fewer items come of it than may be laid out.
+/// locals for its holders and a word of stack, and fewer items result than may be laid out.
 pub fn law_full_plans()
     ensures { FullPlansMayBeWoven }
 {}

@@ -1,7 +1,7 @@
 // Free-Me over a whole program: its classes written again, with calls that free their dead objects.
 //
-// Each method gets its plan by what the analysis answers of it, and classes are woven by these plans.
-// The layer above uses that the classes are those of all held sites and all places.
+// Each method gets its plan by what the analysis returns for it, and classes are woven by these
+// plans. The layer above uses that the classes are those of all held sites and all places.
 #![tactic(auto)]
 
 mod counts;

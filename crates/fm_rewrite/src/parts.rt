@@ -18,7 +18,7 @@ pub(crate) fn method_count(classes: &[ClassDef]) -> u32
     count
 }
 
-/// The plans of a class's methods, which stand before all others.
+/// The plans of a class's methods, which come before all others.
 pub(crate) fn own<'a>(class: &ClassDef, planned: &'a [Planned]) -> &'a [Planned]
     requires { length class.now.methods ≤ length planned.now }
     ensures { result.now ≡ own class.now planned.now }

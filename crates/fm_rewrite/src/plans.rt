@@ -18,9 +18,9 @@ use fm_weave::Planned;
 use fm_world::{Body, Program};
 use std::alloc::Global;
 
-/// All that can be inserted into a method with this code, as the summaries link the ends of methods: a
-/// holder for each held site, freed at all places of its class. Takes memory for the plan, and for what
-/// the analysis answers of the method.
+/// All that can be inserted into a method with this code, as the summaries link the ends of
+/// methods: a holder for each held site, freed at all places of its class. Takes memory for the
+/// plan, and for what the analysis returns for the method.
 pub fn full_plan(
     alloc: Global,
     program: &Program,
@@ -95,8 +95,8 @@ pub fn planned_method(
     }
 }
 
-/// The same of all methods in their order. Takes memory for all plans but those of methods that become
-/// too long, and for what the analysis answers of one method at a time.
+/// The same of all methods in their order. Takes memory for all plans but those of methods that
+/// become too long, and for what the analysis returns for one method at a time.
 pub fn planned_by(
     alloc: Global,
     program: &Program,

@@ -22,7 +22,8 @@ use fm_weave::Planned;
 use fm_world::Program;
 use std::alloc::Global;
 
-/// The classes of a program with what frees their dead objects, and what is told of each.
+/// The classes of a program with what frees their dead objects, and the counts that are reported
+/// for each.
 #[derive(Debug, Drop)]
 pub struct Rewritten {
     /// In their order.

@@ -19,7 +19,7 @@ use Rattle.fm_types.specs.Typed.{use_by}
 use Rattle.fm_world.specs.Programs.{Program}
 use Rattle.fm_world.specs.declared.uses.Use.{Use}
 
--- the effect of the call that the index stands for is the next one
+-- the effect of the call that the index refers to is the next one
 call-is : (p : Program) (x : State) (method : ℕ) (i : Insn) (u : Use) (call : Option ℕ → List Sight → Effect) → StandsIn p x method i → use_by p method i ≡ u
     → effect_of p.outline method u i (slice_get x.input 0) (seen p x) ≡ call (slice_get x.input 0) (seen p x)
     → next_effect p x ≡ with_start p.outline x.areas.started (call (slice_get x.input 0) (seen p x))

@@ -1,4 +1,4 @@
--- A step of a run that goes on, as the code tells of it.
+-- A step of a run that goes on, as the code computes it.
 use Rattle.std.proofs.Common.{◌≡◌, ℕ, ◌-◌, Option, Some, None, refl, sym, ◌∙◌, ap, subst, arith}
 use Rattle.fm_frames.specs.Acts.{Choose}
 use Rattle.fm_frames.specs.States.{Moved, State}

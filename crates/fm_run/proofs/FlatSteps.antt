@@ -38,7 +38,7 @@ use Rattle.fm_world.specs.declared.uses.Use.{Use}
 
 -- ---- the next instruction
 
--- a sound state that goes on stands at an instruction
+-- a sound state that goes on is at an instruction
 pub flat-standing : (p : Program) (budget : ℕ) (x : State) → Keeps p budget x → x.ended ≡ None → IsStanding p x
 flat-standing p budget x keeps on = standing_by p keeps.sound.0 x x.frames keeps.sound.1 on
 
@@ -103,12 +103,12 @@ cheap-next p budget x method insn i next is cheap = next.next (ap nest_of is ∙
 
 -- ---- rows
 
--- the row for what an index stands for
+-- the row for what an index refers to
 pub named-does : (p : Program) (choose : Choose) (x y : State) (method : ℕ) (i : Insn) (u : Use) → StandsIn p x method i → use_by p method i ≡ u
     → Steps p choose x y (effect_of p.outline method u i (slice_get x.input 0) (seen p x)) → DoesNext p choose x y
 named-does p choose x y method i u stands is does = subst (DoesIn p choose x y) (sym (named-is p x method i u stands is)) does
 
--- a row over frames alone
+-- a row over only frames
 pub row-flows : (p : Program) (method : ℕ) (old new : List Frame) (insn i : Insn) → insn ≡ i → nest_of i ≡ None
     → ((choose : Choose) (x : State) (at : StandsAt p (on x old) insn) → Steps p choose (on x old) (stepped_on x new) (own_effect p (on x old) at.frame.method i))
     → FlowsNext p method old new insn
@@ -138,7 +138,7 @@ does-flowed p choose budget method m old counted m2 new insn i did next is cheap
       ended = ended;
     }
 
--- a row over frames alone
+-- a row over only frames
 pub row-flowed : (p : Program) (choose : Choose) (budget method : ℕ) (m : State) (old : List Frame) (counted : ℕ) (new : List Frame) (insn i : Insn) (did : Bool)
     → IsFlatNext p budget (resumed m old counted) method insn → insn ≡ i → nest_of i ≡ None
     → (did ≡ true → (at : StandsAt p (resumed m old counted) insn)
@@ -183,7 +183,7 @@ pub not-flowed : (p : Program) (choose : Choose) (budget method : ℕ) (m : Stat
     → Flowed p choose budget method (resumed m old counted) (resumed m old (counted + 1)) (resumed m old counted) false
 not-flowed p choose budget method m old counted = record { done = λ told. absurd (cc); kept = λ told. refl; ended = refl }
 
--- told of what the branches leave
+-- the same for what the branches leave
 pub flowed-joined : (p : Program) (choose : Choose) (budget method counted : ℕ) (x m m2 : State) (f f2 : List Frame) (d d2 : Bool) → m2 ≡ m → f2 ≡ f → d2 ≡ d
     → Flowed p choose budget method x (resumed m f (counted + 1)) (resumed m f counted) d
     → Flowed p choose budget method x (resumed m2 f2 (counted + 1)) (resumed m2 f2 counted) d2
@@ -212,7 +212,7 @@ then-went p choose budget x y z first then = record {
   on = then.on;
 }
 
--- told of what the branches leave
+-- the same for what the branches leave
 pub went-joined : (p : Program) (choose : Choose) (budget : ℕ) (x m m2 : State) (f f2 : List Frame) (n n2 : ℕ) → m2 ≡ m → f2 ≡ f → n2 ≡ n
     → WentOn p choose budget x (resumed m f n) → WentOn p choose budget x (resumed m2 f2 n2)
 went-joined p choose budget x m m2 f f2 n n2 m_is f_is n_is went =

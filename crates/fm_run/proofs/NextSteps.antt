@@ -59,7 +59,7 @@ pub row-done : (p : Program) (choose : Choose) (x y : State) (insn i : Insn) (re
 row-done p choose x y insn i result at is does =
     told-ok result (Steps p choose x y (own_effect p x at.frame.method i)) (DoesNext p choose x y) (row-does p choose x y insn i at is) does
 
--- a row for what its index stands for
+-- a row for what its index refers to
 pub named-is : (p : Program) (x : State) (method : ℕ) (i : Insn) (u : Use) → StandsIn p x method i → use_by p method i ≡ u
     → next_effect p x ≡ with_start p.outline x.areas.started (effect_of p.outline method u i (slice_get x.input 0) (seen p x))
 named-is p x method i u stands is =
@@ -73,7 +73,7 @@ pub named-done : (p : Program) (choose : Choose) (x y : State) (method : ℕ) (i
 named-done p choose x y method i u result stands is does =
     subst (λ e. OnOk result (DoesIn p choose x y e)) (sym (named-is p x method i u stands is)) does
 
--- what the index of the instruction stands for
+-- what the index of the instruction refers to
 abbrev pub next-of : (p : Program) (x : State) (method : ℕ) (i : Insn) (u : Use) → StandsIn p x method i → use_by p method i ≡ u → IsNext p x i u
 next-of p x method i u stands is = record {
   frame = stands.at.frame;
@@ -89,7 +89,7 @@ next-at p x i at = record { frame = at.frame; callers = at.callers; frames_is = 
 pub at-row : (p : Program) (x : State) (insn i : Insn) → StandsAt p x insn → insn ≡ i → IsAt p x i
 at-row p x insn i at is = subst (IsAt p x) is (at_insn p x insn (use_by p at.frame.method insn) (next-at p x insn at))
 
--- it stands at the instruction that was matched
+-- it is at the instruction that was matched
 pub stands-at : (p : Program) (x : State) (method : ℕ) (insn i : Insn) → StandsIn p x method insn → insn ≡ i → StandsIn p x method i
 stands-at p x method insn i stands is = subst (StandsIn p x method) is stands
 

@@ -252,7 +252,7 @@ went-less p choose budget x y mid new true done same =
 went-less p choose budget x y mid new false done same =
     let is : left_of budget y ≡ left_of budget x = ap (left_of budget) (same refl).0 in omega (arith, is)
 
--- nothing came to it, as far as is known
+-- nothing went to it, as far as is known
 abbrev no_output : Output
 no_output = record { faults = 0; got = None }
 
@@ -331,7 +331,7 @@ pub same_error : {T E : Type 0} (r : Result T E) (met wanted : E) → IsErrAnd r
 same_error (Ok x) met wanted handed is = absurd handed
 same_error (Err e) met wanted handed is = let same : e ≡ wanted = cc in sym handed ∙ same
 
--- what is told of a call that prints nothing, once it has ended well
+-- what holds of a call that prints nothing, once it has ended well
 pub quiet-ok : {T : Type 0} (P : Type 0) (done : Result T NoMemory) (u : T) → Ok u ≡ quiet done → OnOk done P → P
 quiet-ok P (Ok v) u is h = h
 quiet-ok P (Err e) u is h = absurd (cc)

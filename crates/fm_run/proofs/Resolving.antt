@@ -18,7 +18,7 @@ use Rattle.fm_world.specs.Programs.{Program}
 use Rattle.fm_world.specs.declared.uses.Use.{Use}
 use Rattle.fm_world.specs.declared.uses.Use.TheVariants as used
 
--- the index stands for what the instruction wants
+-- the index refers to what the instruction wants
 pub is-wanted : (p : Program) (x : State) (method : ℕ) (i : Insn) → CanRun p → IsGoing p x → StandsIn p x method i → is_wanted i (use_by p method i) ≡ true
 is-wanted p x method i run going stands = wanted p x i (use_by p method i) run going (next-of p x method i (use_by p method i) stands refl)
 
@@ -28,7 +28,7 @@ is-method p x method i run stands =
     subst (λ m. m < length (methods_of p.outline.classes)) stands.method_is
     (caller_inside p x i (use_by p method i) run (next-of p x method i (use_by p method i) stands refl))
 
--- what the index stands for is there
+-- what the index refers to is there
 pub is-inside : (p : Program) (x : State) (method : ℕ) (i : Insn) (u : Use) → CanRun p → StandsIn p x method i → use_by p method i ≡ u → IsUseIn p.outline u
 is-inside p x method i u run stands is = use_inside p x i u run (next-of p x method i u stands is)
 

@@ -1,4 +1,4 @@
--- Where the topmost frame stands, told by its place.
+-- Where the topmost frame is, by its place.
 use Rattle.std.proofs.Common.{◌≡◌, ℕ, ◌<◌, List, ◌∷◌, length, Some, None, option_map, option_and_then, sym, ◌∙◌, ap, subst}
 use Rattle.std.proofs.lemmas.Option.{none-some, same_Some}
 use Rattle.fm_code.specs.Edges.{insn_of}
@@ -43,7 +43,7 @@ stands-here p x s at code i is code_is insn_is =
       method_is = sym (ap (λ (q : ℕ × ℕ). q.0) is);
     }
 
--- the instruction at which it stands, found in the method's code
+-- the instruction at which it is, found in the method's code
 pub insn-here : (p : Program) (x : State) (s : IsStanding p x) (at : ℕ × ℕ) (code : Code) (i : Insn) → at ≡ place_of s.frame → code_at p at.0 ≡ Some code
     → insn_of code at.1 ≡ Some i → s.insn ≡ i
 insn-here p x s at code i is code_is insn_is =

@@ -1,4 +1,5 @@
--- What a run comes to, with what it prints: each step's bytes come to the output in one put. What holds of its state still, and of the cells that it makes.
+-- The result of a run, with what it prints: each step's bytes go to the output in one put. What
+-- holds of its state still, and of the cells that it makes.
 use Rattle.std.specs.Prelude.{◌≡◌, ◌⊎◌, ℕ, zero, suc, ◌+◌, ◌^◌, ◌<◌, List, [], ◌∷◌, ◌++◌}
 use Rattle.std.specs.List.{concat}
 use Rattle.fm_calls.specs.inner.Actions.{unmade}
@@ -18,11 +19,11 @@ use Rattle.fm_sound.specs.Sound.{IsSound, Typings}
 use Rattle.fm_whole.specs.CellsResolved.{CellsAreResolved}
 use Rattle.fm_whole.specs.Whole.{HasNoFault, IsWholeBy}
 
--- the state after so many steps
+-- the state after this many steps
 abbrev pub state_after : Program → Choose → ℕ → State → State
 state_after p choose count x = (after p choose count (silent x)).state
 
--- what the step after so many steps prints
+-- what the step after this many steps prints
 abbrev pub printed_at : Program → Choose → ℕ → State → List ℕ
 printed_at p choose count x = (step p choose (state_after p choose count x)).printed
 
@@ -36,11 +37,12 @@ ArePieces p choose x zero pieces = pieces ≡ []
 ArePieces p choose x (suc count) pieces =
     (before : List (List ℕ)) × ArePieces p choose x count before × OnePieceMore (printed_at p choose count x) before pieces
 
--- so many steps are within the budget
+-- this many steps are within the budget
 abbrev pub GoFirst : Program → Choose → (budget : ℕ) → State → ℕ → Type 0
 GoFirst p choose budget x count = (k : ℕ) → k < count → Goes p budget (state_after p choose k x)
 
--- the run within the budget leads from one state to the other, and what it printed came to the output, each step's bytes in one put
+-- the run within the budget leads from one state to the other, and what it printed went to the
+-- output, each step's bytes in one put
 pub record RunsTo (p : Program) (choose : Choose) (budget : ℕ) (x y : State) (old new : Output) : Type 0 where
   pub printed : List ℕ
   pub run : IsRun p choose budget (silent x) (record { state = y; printed = printed })
@@ -49,7 +51,7 @@ pub record RunsTo (p : Program) (choose : Choose) (budget : ℕ) (x y : State) (
   pub joined : concat pieces ≡ printed
   pub put : new ≡ with_pieces pieces old
 
--- the put of what one step prints failed; what the steps before it printed came
+-- the put of what one step prints failed; what the steps before it printed went out
 pub record FailsRun (p : Program) (choose : Choose) (budget : ℕ) (x : State) (old new : Output) : Type 0 where
   pub count : ℕ
   pub goes : GoFirst p choose budget x (count + 1)
@@ -57,7 +59,7 @@ pub record FailsRun (p : Program) (choose : Choose) (budget : ℕ) (x : State) (
   pub are : ArePieces p choose x count pieces
   pub fails : FailsPut (printed_at p choose count x) (with_pieces pieces old) new
 
--- the first steps were done, and what they printed came
+-- the first steps were done, and what they printed went out
 pub record BreaksRun (p : Program) (choose : Choose) (budget : ℕ) (x : State) (old new : Output) : Type 0 where
   pub count : ℕ
   pub goes : GoFirst p choose budget x count
@@ -65,7 +67,8 @@ pub record BreaksRun (p : Program) (choose : Choose) (budget : ℕ) (x : State) 
   pub are : ArePieces p choose x count pieces
   pub put : new ≡ with_pieces pieces old
 
--- what a run asks of the state from which it goes on: it is sound, and as many objects can be numbered as steps may be done and texts have no literal yet
+-- what a run requires of the state from which it goes on: it is sound, and as many objects can be
+-- numbered as steps may be done and texts have no literal yet
 pub record CanGo (p : Program) (budget : ℕ) (x : State) : Type 0 where
   pub sound : IsSound p x
   pub cells : HoldsCells p x

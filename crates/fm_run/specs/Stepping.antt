@@ -1,4 +1,4 @@
--- What one step comes to, with what it prints.
+-- The result of one step, with what it prints.
 use Rattle.std.specs.Prelude.{◌≡◌, ℕ, List, Option, None, Some}
 use Rattle.fm_files.specs.Sink.{FailsPut, Output}
 use Rattle.fm_native.specs.Doing.{PutsOnce}
@@ -10,7 +10,8 @@ use Rattle.fm_frames.specs.declared.ends.Ended.{Ended}
 use Rattle.fm_frames.specs.declared.turns.Turn.{Turn}
 use Rattle.fm_frames.specs.declared.turns.Turn.TheVariants as turn
 
--- one step leads from one state to the other, and what it prints came to the output in one put; nothing came where it prints nothing
+-- one step leads from one state to the other, and what it prints went to the output in one put;
+-- nothing went to it where it prints nothing
 pub record DoesStep (p : Program) (choose : Choose) (x y : State) (old new : Output) : Type 0 where
   pub printed : List ℕ
   pub is : step p choose x ≡ record { state = y; printed = printed }
@@ -20,7 +21,7 @@ pub record DoesStep (p : Program) (choose : Choose) (x y : State) (old new : Out
 abbrev pub FailsStep : Program → Choose → State → (old new : Output) → Type 0
 FailsStep p choose x old new = FailsPut (step p choose x).printed old new
 
--- what a step of this cost came to: the run has ended, or it goes on
+-- the result of a step of this cost: the run has ended, or it goes on
 abbrev pub turn_of : ℕ → State → Turn
 turn_of price y = by_end y.ended where
   by_end : Option Ended → Turn

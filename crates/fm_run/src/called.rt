@@ -17,7 +17,7 @@ use fm_flat_calls as rows;
 use fm_frames::{Frames, Machine};
 use fm_world::Program;
 
-// invokevirtual; tells whether it was done.
+// invokevirtual; returns whether it was done.
 #[inline(always)]
 fn virtual_called<M: Memory>(
     machine: &Machine<M>,
@@ -40,7 +40,7 @@ fn virtual_called<M: Memory>(
     rows::virtual_call(machine, frames, program, m, named)
 }
 
-// invokeinterface; tells whether it was done.
+// invokeinterface; returns whether it was done.
 #[inline(always)]
 fn interface_called<M: Memory>(
     machine: &Machine<M>,
@@ -63,7 +63,7 @@ fn interface_called<M: Memory>(
     rows::interface_call(machine, frames, program, m, named)
 }
 
-// invokespecial; tells whether it was done.
+// invokespecial; returns whether it was done.
 #[inline(always)]
 fn special_called<M: Memory>(
     machine: &Machine<M>,
@@ -86,7 +86,7 @@ fn special_called<M: Memory>(
     rows::special_call(machine, frames, program, method, m, named)
 }
 
-// invokestatic; tells whether it was done.
+// invokestatic; returns whether it was done.
 #[inline(always)]
 fn static_called<M: Memory>(
     machine: &Machine<M>,
@@ -109,7 +109,7 @@ fn static_called<M: Memory>(
     rows::static_call(machine, frames, program, m, named)
 }
 
-// return and its like; tells whether it was done.
+// return and its like; returns whether it was done.
 #[inline(always)]
 fn left<M: Memory>(
     machine: &Machine<M>,
@@ -129,7 +129,7 @@ fn left<M: Memory>(
     rows::leave(machine, frames, counted, program, value)
 }
 
-// checkcast of an object that passes it; tells whether it was done.
+// checkcast of an object that passes it; returns whether it was done.
 #[inline(always)]
 fn cast_passed<M: Memory>(
     machine: &Machine<M>,
@@ -152,7 +152,7 @@ fn cast_passed<M: Memory>(
     rows::cast(machine, frames, program, t)
 }
 
-// putstatic; tells whether it was done.
+// putstatic; returns whether it was done.
 #[inline(always)]
 fn static_written<M: Memory>(
     machine: &mut Machine<M>,
@@ -177,7 +177,8 @@ fn static_written<M: Memory>(
     rows::put_static(machine, frames, program, f, named)
 }
 
-// Does the instruction, if it is a call, a return, a checkcast or a putstatic; tells whether it was done.
+// Does the instruction, if it is a call, a return, a checkcast or a putstatic; returns whether it
+// was done.
 #[inline(never)]
 pub(crate) fn do_call<M: Memory>(
     machine: &mut Machine<M>,

@@ -1,7 +1,7 @@
 // Runs of simple instructions over frames that are taken out of the machine.
 //
-// The frames lie in a local whose address goes to no call that isn't in line, so that what each step changes
-// stays in registers; and the loop stands in the function that has the match.
+// The frames lie in a local whose address goes to no call that isn't in line, so that what each
+// step changes stays in registers; and the loop is in the function that has the match.
 
 ghost use Rattle.std.specs.Prelude.{◌≡◌, ℕ, ◌+◌, ◌<◌, ◌≤◌, ◌^◌, length, IfSome, None, Some, true, false};
 ghost use Rattle.fm_flat.specs.Flows.{resumed};
@@ -57,7 +57,7 @@ fn next_in<'a, M: Memory>(
     Some(insn_among(items, place.item))
 }
 
-// Pushes an int, if that is what the instruction does; tells whether it was done.
+// Pushes an int, if that is what the instruction does; returns whether it was done.
 #[inline(always)]
 fn do_constant(frames: &mut Frames, insn: &Insn) -> bool
     requires fits { NextFits frames.old }
@@ -71,7 +71,7 @@ fn do_constant(frames: &mut Frames, insn: &Insn) -> bool
     }
 }
 
-// Adds to a local, if that is what the instruction does; tells whether it was done.
+// Adds to a local, if that is what the instruction does; returns whether it was done.
 #[inline(always)]
 fn do_increment(frames: &mut Frames, insn: &Insn) -> bool
     requires fits { NextFits frames.old }
@@ -86,7 +86,8 @@ fn do_increment(frames: &mut Frames, insn: &Insn) -> bool
     }
 }
 
-// Does the instruction, if it is one of the other simple ones over frames alone; tells whether it was done.
+// Does the instruction, if it is one of the other simple ones over only frames; returns whether it
+// was done.
 #[inline(always)]
 fn do_other(frames: &mut Frames, program: &Program, method: MethodId, insn: &Insn) -> bool
     requires fits { NextFits frames.old }
@@ -201,7 +202,8 @@ fn flow<M: Memory>(
     (frames, counted)
 }
 
-// Does the next instruction, if it is one of this method that is done out of line; tells whether it was done.
+// Does the next instruction, if it is one of this method that is done out of line; returns whether
+// it was done.
 #[inline(never)]
 fn do_next_call<M: Memory>(
     machine: &mut Machine<M>,

@@ -20,7 +20,7 @@ use fm_flat_cells as rows;
 use fm_frames::{Frames, Machine};
 use fm_world::Program;
 
-// The number that an index stands for is pushed; tells whether it was done.
+// The number that an index refers to is pushed; returns whether it was done.
 #[inline(always)]
 pub(crate) fn number(frames: &mut Frames, program: &Program, method: MethodId, index: u16) -> bool
     requires fits { NextFits frames.old }
@@ -33,7 +33,7 @@ pub(crate) fn number(frames: &mut Frames, program: &Program, method: MethodId, i
     rows::constant(frames, named)
 }
 
-// getfield; tells whether it was done.
+// getfield; returns whether it was done.
 #[inline(always)]
 pub(crate) fn field_read<M: Memory>(
     machine: &Machine<M>,
@@ -56,7 +56,7 @@ pub(crate) fn field_read<M: Memory>(
     rows::get_field(machine, frames, program, f, named)
 }
 
-// putfield; tells whether it was done.
+// putfield; returns whether it was done.
 #[inline(always)]
 pub(crate) fn field_written<M: Memory>(
     machine: &mut Machine<M>,
@@ -81,7 +81,7 @@ pub(crate) fn field_written<M: Memory>(
     rows::put_field(machine, frames, program, f, named)
 }
 
-// getstatic; tells whether it was done.
+// getstatic; returns whether it was done.
 #[inline(always)]
 pub(crate) fn static_read<M: Memory>(
     machine: &Machine<M>,

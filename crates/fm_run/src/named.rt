@@ -18,7 +18,7 @@ use fm_nests::multi_array;
 use fm_world::{Program, Use};
 use std::alloc::Global;
 
-// The constant that an index stands for is pushed.
+// The constant that an index refers to is pushed.
 #[inline(always)]
 fn constant_of<M: Memory>(
     machine: &mut Machine<M>,

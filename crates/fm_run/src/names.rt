@@ -1,4 +1,4 @@
-// The next instruction, and what its index stands for (JVMS 2.6, 5.4.3).
+// The next instruction, and what its index refers to (JVMS 2.6, 5.4.3).
 
 ghost use Rattle.std.specs.Prelude.{◌≡◌, ◌<◌, ◌∷◌, List, Some, length, slice_get, true};
 ghost use Rattle.std.specs.Option.{option_map};
@@ -20,7 +20,7 @@ use fm_code::{Code, Insn, Item};
 use fm_frames::{Cursor, Machine, code_of};
 use fm_world::{Program, Use};
 
-// The place where the topmost frame stands.
+// The place where the topmost frame is.
 #[inline(always)]
 pub(crate) fn next_place<M: Memory>(machine: &Machine<M>) -> Cursor
     requires { HasFrame machine.now }
@@ -64,7 +64,7 @@ pub(crate) fn insn_among(items: &[Item], item: usize) -> &Insn
     &items[item].insn
 }
 
-// What an index of a method's class stands for.
+// What an index of a method's class refers to.
 #[inline(always)]
 pub(crate) fn used(program: &Program, method: MethodId, index: u16) -> Use
     requires { method.0 < length (methods_of program.now.outline.classes) }
@@ -73,7 +73,7 @@ pub(crate) fn used(program: &Program, method: MethodId, index: u16) -> Use
     program.use_of(program.method(method).class, index)
 }
 
-// The type that an index stands for.
+// The type that an index refers to.
 #[inline(always)]
 pub(crate) fn type_named(program: &Program, method: MethodId, index: u16) -> TypeId
     requires method { method.0 < length (methods_of program.now.outline.classes) }
@@ -86,7 +86,7 @@ pub(crate) fn type_named(program: &Program, method: MethodId, index: u16) -> Typ
     }
 }
 
-// The field that an index stands for, with the type that is named.
+// The field that an index refers to, with the type that is named.
 #[inline(always)]
 pub(crate) fn field_named(program: &Program, method: MethodId, index: u16) -> (FieldId, TypeId)
     requires method { method.0 < length (methods_of program.now.outline.classes) }
@@ -99,7 +99,7 @@ pub(crate) fn field_named(program: &Program, method: MethodId, index: u16) -> (F
     }
 }
 
-// The method that an index stands for, with the type that is named.
+// The method that an index refers to, with the type that is named.
 #[inline(always)]
 pub(crate) fn method_named(program: &Program, method: MethodId, index: u16) -> (MethodId, TypeId)
     requires method { method.0 < length (methods_of program.now.outline.classes) }

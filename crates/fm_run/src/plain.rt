@@ -38,7 +38,7 @@ fn element_put<M: Memory>(
     }
 }
 
-// Does the instruction, if it is one of those that most steps are; tells whether it was done.
+// Does the instruction, if it is one of those that most steps are; returns whether it was done.
 #[inline(always)]
 pub(crate) fn frequent<M: Memory>(
     alloc: Global,

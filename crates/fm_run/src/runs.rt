@@ -71,7 +71,8 @@ fn cheap_next<'a, M: Memory>(
     }
 }
 
-// Does the next instruction, if it is such a cheap one that most steps are; tells whether it was done.
+// Does the next instruction, if it is such a cheap one that most steps are; returns whether it was
+// done.
 #[inline(always)]
 fn do_frequent<M: Memory>(
     alloc: Global,
@@ -97,7 +98,8 @@ fn do_frequent<M: Memory>(
     Ok(did)
 }
 
-// Does the simple ones that come next, and then one of those that most steps are; tells whether there was one.
+// Does the simple ones that come next, and then one of those that most steps are; returns whether
+// there was one.
 #[inline(always)]
 fn do_flat_ones_and_next<M: Memory>(
     alloc: Global,
@@ -143,7 +145,7 @@ fn do_frequent_ones<M: Memory>(
     Ok(())
 }
 
-// Does the next instruction, if it is a cheap one; tells whether it was done.
+// Does the next instruction, if it is a cheap one; returns whether it was done.
 #[inline(always)]
 fn do_cheap<M: Memory, S: Sink>(
     alloc: Global,
@@ -202,11 +204,11 @@ fn do_cheap_ones<M: Memory, S: Sink>(
     Ok(())
 }
 
-/// Runs the machine from its state on, as far as the budget of steps allows, with which all steps of the
-/// machine are compared, those before too; a machine that has ended stays as it is. From a whole state a
-/// program that calls no FreeMe comes to no fault; over memory that takes the last freed cell as many cells
-/// are made as were made before or held at once. SinkFailed comes only where the sink's faults rose; after
-/// an error the machine isn't used again.
+/// Runs the machine from its state on, as far as the budget of steps allows, with which all steps
+/// of the machine are compared, those before too; a machine that has ended stays as it is. From a
+/// whole state a program that calls no FreeMe never ends in a fault; over memory that takes the
+/// last freed cell as many cells are made as were made before or held at once. SinkFailed comes
+/// only where the sink's faults rose; after an error the machine isn't used again.
 pub fn run<M: Memory, S: Sink>(
     alloc: Global,
     machine: &mut Machine<M>,
@@ -227,7 +229,7 @@ pub fn run<M: Memory, S: Sink>(
     ensures kept { IsErrOf result StepFail.NoMemory → BreaksRun program.now M.choose steps machine.old
         (S.output out.old) (S.output out.new) }
 {
-    // For no_fault and most_held: two laws, and what the memory tells of its choices.
+    // For no_fault and most_held: two laws, and what the memory promises of its choices.
     law_no_fault();
     law_made_since();
     let _births = machine.births();

@@ -21,7 +21,7 @@ use fm_frames::{Machine, StepFail, Turn};
 use fm_world::Program;
 use std::alloc::Global;
 
-// What comes of an instruction that prints nothing.
+// The result of an instruction that prints nothing.
 #[inline(always)]
 pub(crate) fn quiet(done: Result<(), NoMemory>) -> Result<(), StepFail>
     ensures { result ≡ quiet done }
@@ -63,7 +63,7 @@ fn do_insn<M: Memory, S: Sink>(
     }
 }
 
-// Does the step of the instruction that is next, and tells what is known of the state after it.
+// Does the step of the instruction that is next, and ensures what is known of the state after it.
 pub(crate) fn do_step<M: Memory, S: Sink>(
     alloc: Global,
     machine: &mut Machine<M>,
@@ -114,7 +114,7 @@ pub(crate) fn advance<M: Memory, S: Sink>(
     do_step(alloc, machine, program, place.method, insn, out)
 }
 
-// What became of the machine, which had done so many steps.
+// What became of the machine, which had done `before` steps.
 fn turn_from<M: Memory>(machine: &Machine<M>, before: u64) -> Turn
     ensures { result ≡ turn_of (machine.now.steps - before) machine.now }
 {

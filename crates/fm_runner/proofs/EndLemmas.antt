@@ -224,7 +224,7 @@ in_codes [] n code is = absurd cc
 in_codes (c ∷ codes) zero code is = omega arith
 in_codes (c ∷ codes) (suc n) code is = let rest = in_codes codes n code is in omega arith
 
--- frames that stand are of methods that have code
+-- frames as the laws require are of methods that have code
 stand_there : (p : Program) (runnable : IsRunnable p) (typings : Typings) (x : State) → IsSoundBy p typings x → x.ended ≡ None → HaveMethods p runnable x.frames
 stand_there p runnable typings x sound going = record { some = sound.running going; there = there } where
   there : (f : Frame) (callers : List Frame) → x.frames ≡ f ∷ callers → f.method < length (methods_of p.outline.classes)

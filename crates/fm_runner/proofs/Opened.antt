@@ -1,4 +1,4 @@
--- The opening of a run: from it the run can go on, and each end of the run can be told.
+-- The opening of a run: from it the run can go on, and each end of the run can be reported.
 use Rattle.std.proofs.Common.{◌≡◌, ◌<◌, ◌≤◌, ◌^◌, ℕ, zero, List, [], length, Option, Some, None, refl, sym, ap, subst, arith, ◌∙◌}
 use Rattle.std.specs.Prelude.{IsSome}
 use Rattle.std.specs.List.{AllByRecursion}
@@ -97,7 +97,7 @@ end_told p b arguments input can typed within given short last before later runs
 
 -- ---- what is left undone
 
--- the run came to its end, so its steps were done
+-- the run reached its end, so its steps were done
 pub ends-breaks : (p : Program) (b : Budgets) (x last : State) (before later : Output) → RunsTo p choice b.steps x last before later
     → BreaksRun p choice b.steps x before later
 ends-breaks p b x last before later runs = record {

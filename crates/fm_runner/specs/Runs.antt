@@ -1,4 +1,4 @@
--- What the run of a program comes to, from its opening on, and what is told of it.
+-- The result of the run of a program, from its opening on, and its report.
 use Rattle.std.specs.Prelude.{◌≡◌, ℕ, ◌≤◌, List, Some, Result, Ok, Err, string_bytes}
 use Rattle.fm_base.specs.declared.limits.TheConstants.{MAX_LIVE_WORDS, MAX_MADE_WORDS, MAX_STEPS}
 use Rattle.fm_cells.specs.Choices.{last_choice, lawful}
@@ -31,14 +31,15 @@ abbrev pub opened_run : Program → Budgets → (arguments : List (List ℕ)) �
 opened_run p b arguments input =
     (opening p choice (record { arguments = arguments; input = input; depth = b.frames }) (opened b.words (Some b.store) empty_lists)).state
 
--- the run came to its end, and this is told: the line of its report, and the status of its end
+-- the run reached its end, and this is reported: the line of its report, and the status of its end
 pub record IsToldOf (p : Program) (b : Budgets) (arguments : List (List ℕ)) (input : List ℕ) (told : Told) (before after : Output) : Type 0 where
   pub last : State
   pub runs : RunsTo p choice b.steps (opened_run p b arguments input) last before after
   pub line_is : string_bytes told.line ≡ report_line p (report_of last)
   pub status_is : told.status ≡ end_status (report_of last).end
 
--- it came to its end; or the put of what a step prints failed; or memory couldn't be had after its first steps, which may be none
+-- it reached its end; or the put of what a step prints failed; or memory couldn't be had after its
+-- first steps, which may be none
 abbrev pub ComesOfRun : Program → Budgets → (arguments : List (List ℕ)) → (input : List ℕ) → (before after : Output) → Result Told StepFail → Type 0
 ComesOfRun p b arguments input before after (Ok told) = IsToldOf p b arguments input told before after
 ComesOfRun p b arguments input before after (Err fail.SinkFailed) = FailsRun p choice b.steps (opened_run p b arguments input) before after

@@ -29,7 +29,7 @@ pub struct Budgets {
     pub frames: u32,
 }
 
-/// What is told of a run.
+/// The report of a run.
 #[derive(Debug, Drop)]
 pub struct Told {
     /// The line of the report, with its line end.
@@ -38,9 +38,9 @@ pub struct Told {
     pub status: u8,
 }
 
-/// Runs a linked and typed program with these arguments and this input, as far as the budgets allow, in
-/// cells that serve again once they are freed, and tells of it. SinkFailed comes only where the sink's
-/// faults rose.
+/// Runs a linked and typed program with these arguments and this input, as far as the budgets
+/// allow, in cells that serve again once they are freed, and returns its report. SinkFailed comes
+/// only where the sink's faults rose.
 pub fn run_program<O: Sink>(
     alloc: Global,
     program: &Program,

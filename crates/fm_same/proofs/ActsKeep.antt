@@ -65,7 +65,8 @@ NoEdge o store stack place (OfOperand n) =
     (object : Object) → object_at store (cell_of (word_at stack n)) ≡ Some object → (t : TypeRef) → kind_in o object place ≡ Some (kind.Ref t) → ⊥
 NoEdge o store stack place other = ⊥
 
--- what is put and the object that it is put into have one region; or a number is put where no reference stands
+-- what is put and the object that it is put into have one region; or a number is put where no
+-- reference is
 abbrev pub PutHas : Outline → Store → Colour → List Value → Region → Source → ℕ → Source → Kind → Type 0
 PutHas o store colour stack home object place v (kind.Ref t) =
     (r : Region) × (r ≢ Retired) × SourceHas store colour stack home r object × SourceHas store colour stack home r v × SourceLeads stack v
@@ -437,7 +438,7 @@ module _ (o : Outline) (store : Store) (colour : Colour) (home : Region) (new : 
       (λ that. subst (λ c. IsOf x.store colour (colour old.birth) c) (sym that) before.even)
       (set_cases old.elements place (kept (kind.Ref t) v) other 0))
 
-  -- a number is put where no reference stands
+  -- a number is put where no reference is
   number_goes : (x : Areas) (made : List ℕ) (r : Region) (object : Value) (place element : ℕ) → r ≢ Retired → Went o store colour home x made
       → HasColour x.store colour r object
       → ((old : Object) → object_at x.store (cell_of object) ≡ Some old → (t : TypeRef) → kind_in o old place ≡ Some (kind.Ref t) → ⊥)

@@ -23,7 +23,7 @@ state_found (Some t ∷ states) zero s h = tt
 state_found (found ∷ states) (suc j) s h = state_found states j s h
 
 module _ (p : Program) (facts : Facts) (exact : AreFacts p facts) (f g : Frame) (code : Code) (code_is : code_at p f.method ≡ Some code) (h : Called p facts f g) where
-  -- two ends of the method that is called, with what stands for them at the call
+  -- two ends of the method that is called, with their nodes at the call
   call_pair : (one other : End2) (a b : Node) → IsEnd p.outline f.method one → IsEnd p.outline f.method other
       → Linked p facts.typing f.method one other
       → StandsFor (method_of p facts g h.at.code) g.item h.at.insn one a → StandsFor (method_of p facts g h.at.code) g.item h.at.insn other b
@@ -50,7 +50,7 @@ module _ (p : Program) (facts : Facts) (exact : AreFacts p facts) (f g : Frame) 
     })));
   }
 
-  -- where they are in one class, so is what stands for them
+  -- where they are in one class, so are their nodes
   call_class : (one other : End2) (a b : Node) → IsEnd p.outline f.method one → IsEnd p.outline f.method other
       → StandsFor (method_of p facts g h.at.code) g.item h.at.insn one a → StandsFor (method_of p facts g h.at.code) g.item h.at.insn other b
       → IsNode (method_of p facts g h.at.code) a → IsNode (method_of p facts g h.at.code) b

@@ -97,7 +97,7 @@ alike_other o (slot.Uninit i) (slot.Uninit j) h e = refl
 alike_other o slot.UninitThis slot.UninitThis h e = refl
 alike_other o a b h e = absurd (false≢true h)
 
--- of the topmost words of a whole stack the longs stand level with those that are wanted
+-- of the topmost words of a whole stack the longs are level with those that are wanted
 level_above : (o : Outline) (xs ys rest : Slots) → AllZip (Fitting o) xs ys → is_whole (xs ++ rest) ≡ true → is_whole ys ≡ true → AllZip IsAlike xs ys
 level_above o [] [] rest h first second = tt
 level_above o [] (y ∷ ys) rest h first second = absurd h

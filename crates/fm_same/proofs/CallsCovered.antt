@@ -156,6 +156,6 @@ module _ (p : Program) (facts : Facts) (exact : AreFacts p facts) (ready : IsRes
     places = places;
   }
 
-  -- a state whose frames stand, and whose calls lead to targets
+  -- a state whose frames are as the laws require, and whose calls lead to targets
   pub state_covers : (x : State) → Stand p facts x.frames → Covers p facts x → PlacesAgreeAt p x x.frames → CoversAt p facts x x.frames
   state_covers x stand covers places = frames_cover x x.frames stand covers places

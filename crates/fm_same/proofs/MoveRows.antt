@@ -48,7 +48,7 @@ two_given P g other first second (suc (suc q)) s at = absurd (cc)
 -- ---- what is given
 
 module _ (p : Program) (facts : Facts) (exact : AreFacts p facts) (f : Frame) (i : Insn) (h : AtInsn p facts f i) where
-  -- a word that is given stands where the pairs have it
+  -- a word that is given is where the pairs have it
   pub given_stands : (e : Effect) (next q n : ℕ) → IsNormalEdge h.code f.item next → e.takes ≡ pairs.words_taken p.outline (used p facts exact f i h) i
       → q + suc n ≡ length e.gives
       → StandsAt (x p facts exact f i h) f.item i (pairs.Given n) (given (point p facts exact f i h) e next q)

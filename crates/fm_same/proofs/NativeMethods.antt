@@ -65,7 +65,7 @@ argument_words-alike cs ds descriptor = sums_alike cs ds (parameter_types descri
 
 -- ---- the table
 
--- the classes that built-in methods with links answer: texts, and those that build them
+-- the classes that built-in methods with links return: texts, and those that build them
 abbrev names_text : BaseType → Bool
 names_text (primitive letter) = false
 names_text (object name) =

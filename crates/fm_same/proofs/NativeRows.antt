@@ -241,7 +241,7 @@ module _ (p : Program) (facts : Facts) (exact : AreFacts p facts) (f : Frame) (i
       (λ next edge there node. receiver_given e home next n edge refl place place result receiver link there node))
       tt (λ k unwritten. keeps k) (omega (arith, taken, place))
 
-  -- ---- what rows ask of operands
+  -- ---- what rows require of operands
 
   nulls : Row (thrown_null p.outline)
   nulls = null_obeys p facts exact f i h keeps

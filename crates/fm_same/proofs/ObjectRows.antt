@@ -152,7 +152,7 @@ module _ (p : Program) (facts : Facts) (exact : AreFacts p facts) (f : Frame) (i
     ends = owes.ends;
   }
 
--- ---- what rows ask of slots
+-- ---- what rows require of slots
 
 pub bound_some : {X Y : Type 0} (k : X → Option Y) (o : Option X) (y : Y) → option_and_then k o ≡ Some y → (x : X) × (o ≡ Some x) × (k x ≡ Some y)
 bound_some k None y h = absurd (cc)

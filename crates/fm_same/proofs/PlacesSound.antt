@@ -31,6 +31,6 @@ module _ (p : Program) (facts : Facts) (ready : IsResolved p) where
       subst (λ (i : Option Insn). PlacesAgree p.outline y.areas.store f.stack (effect_by p (record y { frames = f ∷ callers }) f i))
       (sym (insn_here p f stand.0.at.code stand.0.at.insn stand.0.at.code_is stand.0.at.insn_is)) (frame_agrees y f callers stand.0.at)
 
-  -- where frames stand
+  -- where frames are as the laws require
   pub places_agree : (x : State) → Stand p facts x.frames → PlacesAgreeAt p x x.frames
   places_agree x stand = frames_agree x x.frames stand

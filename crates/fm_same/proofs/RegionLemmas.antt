@@ -1,4 +1,5 @@
--- Regions of classes: which there are, that they go along calls and returns, and that a frame's own regions are told apart by its classes.
+-- Regions of classes: which there are, that they go along calls and returns, and that a frame's own
+-- regions are distinguished by its classes.
 use Rattle.std.proofs.Common.{◌≡◌, ◌≢◌, ℕ, zero, suc, ◌+◌, ◌≤◌, ◌⊎◌, ◌==◌, ◌&&◌, cond, Bool, true, false, List, [], ◌∷◌, length, Option, Some, None, IsSomeAnd, refl, sym, ◌∙◌, ap, subst, inl, inr, slice_get, arith, eqb-true, eq-eqb, ⊎_elim}
 use Rattle.std.proofs.lemmas.Bool.{and_from, and_parts, cases_Bool, eqb-false, false≢true}
 use Rattle.fm_types.specs.States.{is_reference}

@@ -1,5 +1,5 @@
--- The law of dead regions, along a run: what a captured class leads to keeps the class's own region while the activation stands, is retired when the class
--- isn't busy, and is dead from then on.
+-- The law of dead regions, along a run: what a captured class leads to keeps the class's own region
+-- while the activation lasts, is retired when the class isn't busy, and is dead from then on.
 use Rattle.std.proofs.Common.{◌≡◌, refl, ℕ, zero, suc, ◌+◌, ◌-◌, ◌<◌, ◌≤◌, ◌⊎◌, true, List, [], ◌∷◌, length, sym, ◌∙◌, ap, subst, inl, inr, arith}
 use Rattle.fm_cells.specs.Choices.{lawful, MayReuse}
 use Rattle.fm_cells.specs.Objects.{Request}

@@ -80,7 +80,8 @@ frame-mapped o facts store colour f g callers stays h = record {
       (has-mapped store colour f (region o facts g.method callers (facts.class g.method (node_of_word g n))) v (h.words n v at));
 }
 
--- all frames that stand on no more than so many others, where own regions of deeper frames alone change
+-- all frames that have no more than `depth` others below them, where only own regions of deeper
+-- frames change
 pub frames-mapped : (o : Outline) (facts : Facts) (store : Store) (colour : Colour) (f : Region → Region) (depth : ℕ)
     → ((lower class : ℕ) (r : Region) → lower < depth → IsWithin lower class r → f r ≡ r) → (frames : List Frame) → length frames ≤ depth
     → AreFramesColoured o facts store colour frames → AreFramesColoured o facts store (mapped f colour) frames

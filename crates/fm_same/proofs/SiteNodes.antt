@@ -1,4 +1,4 @@
--- The object of a site is a node: a reference stands on top of the stack at the next item.
+-- The object of a site is a node: a reference is on top of the stack at the next item.
 use Rattle.std.proofs.Common.{◌≡◌, ℕ, zero, suc, ◌+◌, ◌-◌, ◌<◌, ◌≤◌, ◌&&◌, not, Bool, true, false, cond, List, [], ◌∷◌, ◌++◌, length, reverse, replicate, Option, Some, None, option_and_then, IsSomeAnd, refl, ap, sym, ◌∙◌, subst, ⊎_elim, slice_get, append_assoc, arith}
 use Rattle.std.specs.Prelude.{is_some, nat_le, nat_lt, option_map, option_to_list}
 use Rattle.std.specs.List.{list_any, AllZip}
@@ -53,7 +53,7 @@ use Rattle.fm_same.proofs.CallWords.{alike_other, arguments_length, slice_after,
 use Rattle.fm_same.proofs.EdgesKeep.{edge_to_next, item_with_insn}
 use Rattle.fm_same.specs.Laws.{SitesAreNodes, SitesMakeBusy}
 
--- ---- what stands on top
+-- ---- what is on top
 
 abbrev heads : List slots.Slot → Bool
 heads [] = false
@@ -136,7 +136,7 @@ method-heads facts x k after u follows each is there = absurd (none-some after t
 
 -- ---- calls of constructors
 
--- the word under which so many lie
+-- the word under which this many lie
 word_above : (xs ys : List slots.Slot) (v : slots.Slot) → slice_get (reverse (xs ++ v ∷ ys)) (length ys) ≡ Some v
 word_above xs ys v =
     let size : length ys ≡ length (reverse ys) + 0 = omega (arith, length-reverse ys) in

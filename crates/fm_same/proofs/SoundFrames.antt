@@ -1,4 +1,5 @@
--- Frames of a sound state stand as the laws have them: at an item with its words, and a frame that waits is at the call of the one above it.
+-- Frames of a sound state are as the laws require: at an item with its words, and a frame that
+-- waits is at the call of the one above it.
 use Rattle.std.proofs.Common.{◌≡◌, ℕ, zero, suc, ◌+◌, ◌-◌, ◌↔◌, not, Bool, true, false, List, [], ◌∷◌, length, drop, reverse, Option, Some, None, option_and_then, IsSomeAnd, Contains, refl, sym, ◌∙◌, ap, subst, inl, inr, slice_get, arith, ⊎_elim}
 use Rattle.std.specs.List.{AllZip}
 use Rattle.std.proofs.lemmas.Bool.{false≢true}
@@ -252,7 +253,8 @@ module _ (p : Program) (facts : Facts) (exact : AreFacts p facts) (ready : IsRes
     stand_below f callers h.1 covered.1,
   )
 
-  -- the frames of a sound state stand as the laws have them, where each called method is among the targets
+  -- the frames of a sound state are as the laws require, where each called method is among the
+  -- targets
   pub stand_soundly : (frames : List Frame) → sound.Stand p facts.typing frames → AreCovered p facts frames → Stand p facts frames
   stand_soundly [] h covered = tt
   stand_soundly (f ∷ callers) h covered = (goes_on p facts exact f h.0, stand_below f callers h.1 covered)

@@ -175,7 +175,7 @@ changed-extends store later cell old object h = record {
 
 -- ---- lists
 
--- what stands in a list after one place of it was set
+-- what is in a list after one place of it was set
 pub set_cases : {X : Type 0} (xs : List X) (i : ℕ) (x : X) (k : ℕ) (d : X)
     → (slice_index_or (slice_set xs i x) k d ≡ x) ⊎ (slice_index_or (slice_set xs i x) k d ≡ slice_index_or xs k d)
 set_cases [] i x k d = inr refl

@@ -78,7 +78,7 @@ module _ (p : Program) (facts : Facts) (exact : AreFacts p facts) (f : Frame) (c
 -- ---- unwinding
 
 module _ (p : Program) (facts : Facts) (exact : AreFacts p facts) (store : Store) (colour : Colour) (t : TypeRef) (v : Value) (has : HasColour store colour Everywhere v) where
-  -- the frames after a look at one of them, where those below come to this
+  -- the frames after a look at one of them, where this is the result for those below
   caught_one : (f : Frame) (callers : List Frame) (at : StandsAt p facts f) → ((k : ℕ) → stores_over k at.insn ≡ false)
       → AreFramesColoured p.outline facts store colour (f ∷ callers) → (found : Option ℕ) → handler_of p f t ≡ found
       → (below : Caught) (after : List Frame)

@@ -14,7 +14,7 @@ use Rattle.fm_same.specs.Evenness.{Obeys, Point}
 use Rattle.fm_same.specs.Regions.{Own, Region, Retired}
 use Rattle.fm_same.specs.Standing.{method_of, StandsAt}
 
--- the point at which a frame stands
+-- the point at which a frame is
 abbrev pub point_of : Program → Facts → Frame → Code → Point
 point_of p facts f code = record {
   method = method_of p facts f code;
@@ -24,7 +24,7 @@ point_of p facts f code = record {
   live = facts.live f.method;
 }
 
--- what the effect of a state's topmost frame owes to the classes, and asks of places
+-- what the effect of a state's topmost frame owes to the classes, and requires of places
 abbrev pub OwesAt : Program → Facts → Store → Effect → List Frame → Type 0
 OwesAt p facts store e [] = e.actions ≡ []
 OwesAt p facts store e (f ∷ callers) =

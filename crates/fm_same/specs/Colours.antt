@@ -45,7 +45,7 @@ HasColour store colour r (value.Ref cell) = IsOf store colour r cell.0
 abbrev pub node_of_word : Frame → ℕ → Node
 node_of_word f n = Slot f.item (length f.stack - 1 - n)
 
--- the region of a node of the frame that stands on these
+-- the region of a node of the frame that lies on these
 abbrev pub region_of : Outline → Facts → Frame → List Frame → Node → Region
 region_of o facts f callers node = region o facts f.method callers (facts.class f.method node)
 

@@ -1,4 +1,5 @@
--- What is asked of calls: the method that a call leads to is among its targets, and a built-in method has the words and the ends that its row works on.
+-- What is required of calls: the method that a call leads to is among its targets, and a built-in
+-- method has the words and the ends that its row works on.
 use Rattle.std.specs.Prelude.{◌≡◌, ℕ, ◌+◌, ◌-◌, ◌≤◌, Bool, true, false, Some, List, [], ◌∷◌, length, Contains, slice_get}
 use Rattle.fm_base.specs.declared.ids.MethodId.{MethodId}
 use Rattle.fm_base.specs.declared.ids.TypeId.{TypeId}
@@ -134,7 +135,7 @@ pub record CallsNative (p : Program) (facts : Facts) (f : Frame) (code : Code) (
   pub arguments : (k : ℕ) → IsEnd p.outline target (end.Parameter k)
       → IsNode (method_of p facts f code) (Slot f.item (length f.stack - native_words row + k))
 
--- ---- what is asked at a state
+-- ---- what is required at a state
 
 -- a method that a call leads to is among the targets, and a built-in one is as its row wants it
 pub record MeetsTarget (p : Program) (facts : Facts) (f : Frame) (code : Code) (i : Insn) (target : ℕ) : Type 0 where
@@ -146,7 +147,8 @@ abbrev pub CoversTargets : Program → Facts → Frame → Code → Insn → Lis
 CoversTargets p facts f code i s =
     (target : ℕ) → Enters p.outline f.method (use_by p f.method i) s i target → MeetsTarget p facts f code i target
 
--- what is asked of the instruction of the topmost frame: of its calls, and of the places that it reads and writes
+-- what is required of the instruction of the topmost frame: of its calls, and of the places that it
+-- reads and writes
 pub record MeetsCalls (p : Program) (facts : Facts) (x : State) (f : Frame) (code : Code) (i : Insn) : Type 0 where
   pub calls : CoversTargets p facts f code i (sights p.outline x.areas.store f.stack)
   pub places : PlacesAgree p.outline x.areas.store f.stack (effect_at p x)

@@ -70,14 +70,14 @@ pub data IsHeldIn (facts : Facts) (class : ℕ) (f : Frame) (v : Value) : Type 0
       → IsHeldIn facts class f v
   InWordOf : (n : ℕ) → slice_get f.stack n ≡ Some v → facts.class f.method (node_of_word f n) ≡ class → IsHeldIn facts class f v
 
--- of the frame that stands on so many others
+-- of the frame that has `depth` others below it
 abbrev pub IsHeldAt : Facts → (depth class : ℕ) → List Frame → Value → Type 0
 IsHeldAt facts depth class [] v = ⊥
 IsHeldAt facts depth class (f ∷ callers) v = ((length callers ≡ depth) × IsHeldIn facts class f v) ⊎ IsHeldAt facts depth class callers v
 
 -- ---- activations
 
--- the frame that stands on so many others is one of the method
+-- the frame that has `depth` others below it is one of the method
 abbrev pub IsMethodAt : (method depth : ℕ) → List Frame → Type 0
 IsMethodAt method depth [] = ⊥
 IsMethodAt method depth (f ∷ callers) = ((length callers ≡ depth) × (f.method ≡ method)) ⊎ IsMethodAt method depth callers
@@ -101,8 +101,8 @@ pub record IsDead (p : Program) (facts : Facts) (birth : ℕ) (x next : State) :
   pub still : (cell : ℕ) (object : Object) → object_at x.areas.store cell ≡ Some object → object.fixed ≡ false → object.birth ≡ birth
       → object_at next.areas.store cell ≡ Some object
 
--- An activation of the method stands from one state to another; meanwhile a holder in a captured class leads to an object; and then the activation is gone,
--- or the class isn't busy.
+-- An activation of the method lasts from one state to another; meanwhile a holder in a captured
+-- class leads to an object; and then the activation is gone, or the class isn't busy.
 pub record IsRetired (p : Program) (facts : Facts) (xs : ℕ → State) (method depth class birth first count : ℕ) : Type 0 where
   pub code : Code
   pub code_is : code_at p method ≡ Some code
@@ -127,7 +127,7 @@ AreSteps p choose xs = (k : ℕ) → xs (suc k) ≡ (step p choose (xs k)).state
 abbrev pub states_of : Program → Choose → Job → Store → ℕ → State
 states_of p choose job store k = (after p (lawful choose) k (opening p (lawful choose) job store)).state
 
--- it is so of the states of each run within the limits of a run
+-- this holds of the states of each run within the limits of a run
 abbrev pub InEachRun : Program → ((ℕ → State) → Type 0) → Type 0
 InEachRun p IsSo =
     (choose : Choose) (job : Job) → length job.input ≤ MAX_FILE_BYTES → ArgumentsFit job.arguments

@@ -29,7 +29,8 @@ use Rattle.fm_sound.specs.Placing.{IsPlain, kind_in}
 
 -- ---- where values come from
 
--- an item of a method whose stack has so many words, with the numbers of nodes and the locals that are live
+-- an item of a method whose stack has this many words, with the numbers of nodes and the locals
+-- that are live
 pub record Point : Type 0 where
   pub method : TypedMethod
   pub item : ℕ
@@ -61,7 +62,7 @@ WritesFrom x class (OfOperand n) = IsNode x.method (word x n) → x.class (word 
 WritesFrom x class (LocalPlus k by) = Unit {0}
 WritesFrom x class other = ⊥
 
--- a value that may be put where a reference stands: it is one
+-- a value that may be put where a reference is wanted: it is one
 abbrev pub LeadsOn : Point → Source → Type 0
 LeadsOn x (Plain v) = v ≡ value.Ref (record { 0 = 0 })
 LeadsOn x (OfOperand n) = IsNode x.method (word x n) × (n < x.depth)
@@ -86,7 +87,7 @@ IsObjectSource (OfOperand n) = Unit {0}
 IsObjectSource (OfMade n) = Unit {0}
 IsObjectSource other = ⊥
 
--- an operand alone
+-- only an operand
 abbrev pub IsOperand : Source → Type 0
 IsOperand (OfOperand n) = Unit {0}
 IsOperand other = ⊥

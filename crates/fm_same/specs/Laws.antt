@@ -50,7 +50,8 @@ PairsAreInOneClass =
 
 -- ---- sites
 
--- the object of each site of a typed method is a node: a reference stands on top of the stack at the next item
+-- the object of each site of a typed method is a node: a reference is on top of the stack at the
+-- next item
 abbrev pub SitesAreNodes : Type 0
 SitesAreNodes =
     (p : Program) (facts : Facts) (method : ℕ) (code : Code) (states : List (Option TypeState)) → StepsAreResolved p → code_at p method ≡ Some code
@@ -66,7 +67,8 @@ SitesMakeBusy =
 
 -- ---- regions
 
--- an own region is of a frame that stands no higher; of the frame itself it is that of the class alone; and no class has the region of what is retired
+-- an own region is of a frame that is no higher; of the frame itself it is only that of the class;
+-- and no class has the region of what is retired
 pub record IsWithin (depth class : ℕ) (r : Region) : Type 0 where
   pub not_retired : r ≢ Retired
   pub below : (d c : ℕ) → r ≡ Own d c → d ≤ depth
@@ -111,7 +113,8 @@ StepsKeepColours =
     → Stand p facts (step p (lawful choose) x).state.frames
     → GoesOver p facts x (step p (lawful choose) x).state colour
 
--- the next effect of a state whose frames stand as a sound machine has them owes to the classes what it should, by the pairs of its item
+-- the next effect of a state whose frames are as a sound machine has them does to the classes what
+-- the laws require, by the pairs of its item
 abbrev pub EffectsOwe : Type 0
 EffectsOwe =
     (p : Program) (facts : Facts) → AreFacts p facts → HoldsNumbers p.outline → (x : State) → Stand p facts x.frames → CoversAt p facts x x.frames
@@ -128,19 +131,21 @@ QuietClassesRetire =
 abbrev pub ResolvedHoldsNumbers : Type 0
 ResolvedHoldsNumbers = (p : Program) → IsResolved p → HoldsNumbers p.outline
 
--- where frames stand and calls lead to targets, each method that a call leads to is as its row wants it; built-in ones by computation over their table
+-- where frames are as the laws require and calls lead to targets, each method that a call leads to
+-- is as its row wants it; built-in ones by computation over their table
 abbrev pub CallsAreCovered : Type 0
 CallsAreCovered =
     (p : Program) (facts : Facts) → AreFacts p facts → IsResolved p → CallsNoFreeMe p → (x : State) → Stand p facts x.frames → Covers p facts x
     → PlacesAgreeAt p x x.frames → CoversAt p facts x x.frames
 
--- the frames of a sound state stand as the laws have them, where each called method is among the targets
+-- the frames of a sound state are as the laws require, where each called method is among the
+-- targets
 abbrev pub SoundFramesStand : Type 0
 SoundFramesStand =
     (p : Program) (facts : Facts) → AreFacts p facts → IsResolved p → (x : State) → IsSoundBy p facts.typing x → AreCovered p facts x.frames
     → Stand p facts x.frames
 
--- where frames stand, places are read and put by their kinds
+-- where frames are as the laws require, places are read and put by their kinds
 abbrev pub PlacesAreByKinds : Type 0
 PlacesAreByKinds = (p : Program) (facts : Facts) → IsResolved p → (x : State) → Stand p facts x.frames → PlacesAgreeAt p x x.frames
 
@@ -175,7 +180,7 @@ RegionsDie =
     → AreSteps p (lawful choose) xs → AreSound p facts xs → ((k : ℕ) → Covers p facts (xs k))
     → AreCovered p facts (xs 0).frames → (colour : Colour) → Coloured p facts (xs 0) colour → RegionsDieIn p facts xs
 
--- so it is in each run of sound states, from its opening on
+-- this holds in each run of sound states, from its opening on
 abbrev pub DeadRegionsOfSoundRuns : Type 0
 DeadRegionsOfSoundRuns =
     (p : Program) (facts : Facts) → AreFacts p facts → IsResolved p → CallsNoFreeMe p

@@ -1,5 +1,6 @@
--- Regions: where the objects of a class of nodes belong, while methods call one another. A class of nodes that no one outside of a frame can reach has a
--- region of its own for as long as the frame stands.
+-- Regions: where the objects of a class of nodes belong, while methods call one another. A class of
+-- nodes that no one outside of a frame can reach has a region of its own for as long as the frame
+-- exists.
 use Rattle.std.specs.Prelude.{ℕ, suc, ◌+◌, ◌==◌, ◌&&◌, Bool, true, false, List, [], ◌∷◌, length, Option, Some, None, if◌then◌else◌}
 use Rattle.fm_types.specs.States.{is_reference}
 use Rattle.fm_types.specs.Typed.{entry_slots}
@@ -9,8 +10,8 @@ use Rattle.fm_conn.specs.Facts.{Facts}
 use Rattle.fm_conn.specs.Nodes.{Node, Local, Slot, Global}
 use Rattle.fm_frames.specs.States.{Frame}
 
--- what static fields and thrown objects lead to; what main was given; a class of nodes, by its number, of the frame that stands on so many others; and
--- what nothing leads to any longer
+-- what static fields and thrown objects lead to; what main was given; a class of nodes, by its
+-- number, of the frame that has this many others below it; and what nothing leads to any longer
 pub data Region : Type 0 where
   Everywhere : Region
   Given : Region
@@ -41,8 +42,8 @@ region_by false (Some k) own given = given k
 abbrev pub argument : Frame → ℕ → Node
 argument caller k = Slot caller.item (length caller.stack + k)
 
--- That of a class of a method whose frame stands on these. A class with a parameter has the region of what the caller handed over: a caller stands at its
--- call, and its stack has lost the arguments.
+-- That of a class of a method whose frame lies on these. A class with a parameter has the region of
+-- what the caller handed over: a caller is at its call, and its stack has lost the arguments.
 unfoldable pub region : Outline → Facts → ℕ → List Frame → ℕ → Region
 region o facts method [] class =
     region_by (facts.class method Global == class) (parameter_in o facts method class) (Own 0 class) (λ k. Given)

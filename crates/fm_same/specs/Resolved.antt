@@ -1,4 +1,5 @@
--- What linking makes sure of, as the law of dead regions uses it (JVMS 5.3.5, 5.4.3, 6.5): what numbers stand for, and what instructions name.
+-- What linking makes sure of, as the law of dead regions uses it (JVMS 5.3.5, 5.4.3, 6.5): what
+-- numbers refer to, and what instructions name.
 use Rattle.std.specs.Prelude.{◌≡◌, ℕ, ◌<◌, ◌≤◌, Bool, true, false, length, Some, None, slice_get}
 use Rattle.fm_base.specs.declared.ids.FieldId.{FieldId}
 use Rattle.fm_base.specs.declared.ids.MethodId.{MethodId}
@@ -32,7 +33,7 @@ pub record IsResolved (p : Program) : Type 0 where
   pub runnable : IsRunnable p
   -- the types of the classes are numbered first, in the order of the classes
   pub class_types : (class : ℕ) → class < length p.outline.classes → type_number p.outline.types (type_of_class class) ≡ Some class
-  -- built-in methods alone have rows
+  -- only built-in methods have rows
   pub rows : (method : ℕ) → length (methods_of built_in) ≤ method → (method_at p.outline.classes method).method.row ≡ None
   -- invokestatic names a static method, and each other call names another one (JVMS 6.5.invokestatic)
   pub calls : (method : ℕ) (i : Insn) (m : MethodId) (t : TypeId) (wanted : Bool) → IsNamed p method i (resolved.OfMethod m t)

@@ -1,5 +1,6 @@
--- What the law of dead regions uses of the soundness of the machine: each frame stands at an item that can be reached, its stack is as deep as the item's
--- state, words are references where their slots are, and a frame that waits is at the call of the frame above it, or that one starts a class.
+-- What the law of dead regions uses of the soundness of the machine: each frame is at an item that
+-- can be reached, its stack is as deep as the item's state, words are references where their slots
+-- are, and a frame that waits is at the call of the frame above it, or that one starts a class.
 use Rattle.std.specs.Prelude.{◌≡◌, ℕ, ◌≤◌, ◌⊎◌, ◌↔◌, true, false, List, [], ◌∷◌, length, Some, Contains, slice_get}
 use Rattle.fm_code.specs.Edges.{insn_of}
 use Rattle.fm_code.specs.declared.code_array.Code.{Code}

@@ -1,4 +1,5 @@
--- That calls lead to targets: the one thing that the law of dead regions asks of a call, beside what the checker knows.
+-- That calls lead to targets: the one thing that the law of dead regions requires of a call, beside
+-- what the checker knows.
 use Rattle.std.specs.Prelude.{◌≡◌, ℕ, false, List, [], ◌∷◌, Some, Contains}
 use Rattle.fm_code.specs.Edges.{insn_of}
 use Rattle.fm_code.specs.declared.code_array.Code.{Code}

@@ -1,4 +1,4 @@
-// Laws over definitions alone, each the contract of a function that does nothing.
+// Laws over definitions only, each the contract of a function that does nothing.
 
 ghost use Rattle.fm_same.specs.Laws as law;
 
@@ -9,15 +9,15 @@ pub fn law_classes()
     ensures paired { law.PairsAreInOneClass }
 {}
 
-/// The object of each site of a typed method of a linked program is a node: a reference stands on top of
-/// the stack at the next item, where its class is busy.
+/// The object of each site of a typed method of a linked program is a node: a reference is on top
+/// of the stack at the next item, where its class is busy.
 pub fn law_sites()
     ensures nodes { law.SitesAreNodes }
     ensures busy { law.SitesMakeBusy }
 {}
 
-/// Regions of classes: a frame's own regions are told apart by its classes and end with it, and what is
-/// handed over by a call or given back by a return has one region on both sides.
+/// Regions of classes: a frame's own regions are distinguished by its classes and end with it, and
+/// what is handed over by a call or given back by a return has one region on both sides.
 pub fn law_regions()
     ensures within { law.RegionsAreWithin }
     ensures captured { law.CapturedIsOwn }
@@ -40,9 +40,9 @@ pub fn law_colours()
     ensures retire { law.QuietClassesRetire }
 {}
 
-/// What linking makes sure of, and that calls lead to targets, is all that is asked of calls: built-in
-/// methods then have the words and the ends of their rows, a called method stays among the targets of
-/// its call while it runs, and the frames of a sound state stand as the laws have them.
+/// What linking makes sure of, and that calls lead to targets, is all that calls require: built-in
+/// methods then have the words and the ends of their rows, a called method stays among the targets
+/// of its call while it runs, and the frames of a sound state are as the laws require.
 pub fn law_calls()
     ensures numbers { law.ResolvedHoldsNumbers }
     ensures stand { law.SoundFramesStand }
@@ -51,7 +51,8 @@ pub fn law_calls()
     ensures opening { law.OpeningIsCovered }
 {}
 
-/// Every effect of the table reads and puts places by their kinds, at each state whose frames stand.
+/// Every effect of the table reads and puts places by their kinds, at each state whose frames are
+/// as the laws require.
 pub fn law_place_kinds()
     ensures { law.PlacesAreByKinds }
 {}

@@ -32,7 +32,7 @@ use Rattle.fm_sound.specs.Sound.{HasKind, HaveKinds}
 
 -- ---- slots whose types are left out
 
--- what is asked of a reference is the same whatever its type
+-- what is required of a reference is the same whatever its type
 abbrev pub plain : Slot → Slot
 plain slot.Top = slot.Top
 plain slot.Int = slot.Int

@@ -1,4 +1,5 @@
--- What holds of each effect that a call can come to holds of the effect of the call: it leads to a method that has code, or to the row of a built-in one.
+-- What holds of each effect that a call can have holds of the effect of the call: it leads to a
+-- method that has code, or to the row of a built-in one.
 use Rattle.std.proofs.Common.{◌≡◌, ℕ, ◌+◌, ◌<◌, ◌||◌, cond, Bool, true, false, List, [], ◌∷◌, ◌++◌, length, map, take, Option, Some, None, codes, option_to_list, refl, sym, ◌∙◌, ap, subst, slice_get, arith, ⊎_elim}
 use Rattle.std.specs.Str.{bytes_eq}
 use Rattle.std.proofs.lemmas.Bool.{false≢true}
@@ -132,7 +133,7 @@ pub record CallsRow (p : Program) (f : Frame) (i : Insn) (row : Native) : Type 0
   pub have : HaveKinds (native_slots row) (take (length (native_slots row)) f.stack)
   pub result : map plain (result_words p.outline named) ≡ native_result row
 
--- what has to hold of each effect that a call comes to
+-- what has to hold of each effect that a call can have
 pub record HoldsOfCalls (p : Program) (f : Frame) (i : Insn) (byte : Option ℕ) (s : List Sight) (P : Effect → Type 0) : Type 0 where
   pub none : P stuck
   pub gone : (operand : ℕ) → P (faulty operand)

@@ -1,4 +1,5 @@
--- The frame of a method that is called, or that starts a class, stands at its first item, and the frame below it stands without the words of the call.
+-- The frame of a method that is called, or that starts a class, is at its first item, and the frame
+-- below it is without the words of the call.
 use Rattle.std.proofs.Common.{◌≡◌, ℕ, zero, suc, ◌+◌, ◌-◌, Bool, true, false, cond, List, [], ◌∷◌, ◌++◌, length, drop, take, replicate, reverse, Option, Some, None, option_and_then, refl, sym, ◌∙◌, ap, subst, inl, inr, arith}
 use Rattle.std.specs.List.{AllByRecursion, flat_map}
 use Rattle.std.proofs.lemmas.Bool.{false≢true}

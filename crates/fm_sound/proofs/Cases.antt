@@ -1,4 +1,5 @@
--- What holds of each effect that a row can come to holds of the row: one lemma for each way in which rows ask of their operands.
+-- What holds of each effect that a row can have holds of the row: one lemma for each way in which
+-- rows require of their operands.
 use Rattle.std.proofs.Common.{◌≡◌, ℕ, ℤ, Bool, true, false, cond, List, codes, Option, Some, None, refl, slice_get}
 use Rattle.fm_base.specs.declared.kinds.TypeRef.{TypeRef}
 use Rattle.fm_base.specs.declared.ids.FieldId.{FieldId}

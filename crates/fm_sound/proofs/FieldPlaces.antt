@@ -159,7 +159,7 @@ module _ (classes : List DeclaredClass) where
   abbrev none : OwnedField
   none = record { class = 0; field = no_field }
 
-  -- where a field stands in its class, of those that these classes have
+  -- where a field is in its class, of those that these classes have
   record IsOwned (number : ℕ) (cs : List DeclaredClass) (index : ℕ) : Type 0 where
     ahead : ℕ
     class_is : (get_or (fields_from number cs) index none).class ≡ number + ahead
@@ -220,7 +220,7 @@ module _ (classes : List DeclaredClass) where
   owned_at number [] index within = absurd (omega (arith, within))
   owned_at number (c ∷ cs) index within = here_or_later number c cs index within (λ i inside. owned_at (number + 1) cs i inside)
 
-  -- a field by its number stands at its index in its class
+  -- a field by its number is at its index in its class
   field_in_class : (field : ℕ) → field < length (fields_of classes)
       → slice_get (class_at classes (field_at classes field).class).fields (field - first_field classes (field_at classes field).class)
       ≡ Some (field_at classes field).field

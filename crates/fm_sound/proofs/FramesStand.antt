@@ -1,4 +1,5 @@
--- Frames stand where the frame on top goes on, and where an exception is caught.
+-- Frames have what the checker knows where the frame on top goes on, and where an exception is
+-- caught.
 use Rattle.std.proofs.Common.{◌≡◌, ◌≢◌, ℕ, zero, suc, ◌+◌, ◌<◌, ◌≤◌, ◌&&◌, not, Bool, true, false, cond, List, [], ◌∷◌, length, nat_le, nat_lt, Option, Some, None, option_and_then, is_some, refl, sym, ◌∙◌, ap, subst, inl, inr, slice_get, slice_index_or, arith, ⊎_elim}
 use Rattle.std.specs.List.{AllByRecursion}
 use Rattle.std.proofs.lemmas.Bool.{and_parts, cases_eq, false≢true}
@@ -35,7 +36,7 @@ use Rattle.fm_sound.proofs.KindLemmas.{kinds_along}
 
 -- ---- the frames below
 
--- they stand below a frame of the same method alike
+-- they are below any frame of the same method alike
 calling_same : (p : Program) (typings : Typings) (f other g : Frame) → f.method ≡ other.method → Calling p typings f g → Calling p typings other g
 calling_same p typings f other g same h = record {
   called = h.called;
@@ -72,7 +73,7 @@ pub item_within : (code : Code) (j : ℕ) (i : Insn) → insn_of code j ≡ Some
 item_within code j i is =
     let found = option_map-some (λ (item : Item). item.insn) (slice_get code.items j) i is in slice_get_within code.items j found.0 found.1
 
--- what is brought to an item with its kinds stands there
+-- what is brought to an item with its kinds has what the checker knows there
 pub fits_stands : (p : Program) (typings : Typings) → AreTyped p typings → (method : ℕ) (code : Code) → code_at p method ≡ Some code
     → (item : ℕ) (brought : TypeState) → is_whole brought.stack ≡ true → FitsAt p (typings method) item brought
     → (locals stack : List Value) → FrameHasKinds brought locals stack

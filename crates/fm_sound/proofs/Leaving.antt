@@ -70,7 +70,7 @@ reference_below o slot.Null t v is h = h
 reference_below o (slot.Ref other) t v is h = h
 reference_below o s t v is h = absurd (false≢true is)
 
--- the topmost word is a reference, and may stand for one of any type
+-- the topmost word is a reference, and may count as one of any type
 pub reference_taken : (o : Outline) (t other : TypeRef) (stack rest : List Slot) (words : List Value) → taken o (slot.Ref t ∷ []) stack ≡ Some rest
     → HaveKinds stack words → IsReference (word_at words 0) × HaveKinds (slot.Ref other ∷ rest) words
 reference_taken o t other [] rest words is h = absurd (cc)

@@ -120,7 +120,8 @@ not_true : (b : Bool) → not b ≡ true → b ≡ false
 not_true true is = absurd (false≢true is)
 not_true false is = refl
 
--- the class of a base, what is asked of the class of a type, and how many elements its objects have
+-- the class of a base, what is required of the class of a type, and how many elements its objects
+-- have
 abbrev class_of_base : Base → Option ℕ
 class_of_base (base.OfClass class) = Some class.0
 class_of_base b = None

@@ -1,4 +1,5 @@
--- The actions that make arrays of arrays fit: each is made before it is put where it stands in the one that was made before.
+-- The actions that make arrays of arrays fit: each is made before it is put at its place in the one
+-- that was made before.
 use Rattle.std.proofs.Common.{◌≡◌, ℕ, zero, suc, ◌+◌, ◌*◌, ◌<◌, ◌≤◌, ◌&&◌, false, cond, List, [], ◌∷◌, ◌++◌, length, Some, option_and_then, refl, sym, ◌∙◌, ap, subst, slice_get, append_assoc, arith}
 use Rattle.std.specs.List.{AllByRecursion, flat_map, range_with_len}
 use Rattle.std.proofs.Math.Nat.{suc-mul}
@@ -65,7 +66,7 @@ module _ (p : Program) (ready : IsMakeable p) (store : Store) (f : Frame) where
   abbrev Fits : List TypeRef → List Action → Type 0
   Fits types actions = ActsFit o store f types actions
 
-  -- all that follows fits, whichever so many objects were made
+  -- all that follows fits, whichever objects were made, if they are this many
   abbrev FitsAfter : List TypeRef → ℕ → List Action → Type 0
   FitsAfter types n rest = (made : List TypeRef) → length made ≡ n → Fits (types ++ made) rest
 

@@ -1,5 +1,5 @@
--- What is asked of the actions of a step, so that what the frames share stays sound: objects are made of types that have a number, values go to places of
--- their kinds.
+-- What is required of the actions of a step, so that what the frames share stays sound: objects are
+-- made of types that have a number, values go to places of their kinds.
 use Rattle.std.specs.Prelude.{◌≡◌, ℕ, ◌^◌, ◌<◌, false, List, [], ◌∷◌, ◌++◌, length, Some, None, slice_get}
 use Rattle.std.specs.List.{AllByRecursion}
 use Rattle.fm_base.specs.declared.kinds.Kind.{Kind}
@@ -49,7 +49,8 @@ abbrev pub ValueFits : Outline → Frame → Kind → Source → Type 0
 ValueFits o f k s =
     (areas : Areas) (made : List ℕ) → HaveKinds (static_slots o) areas.statics → HasKind (field_slot k) (value_of (sources_of f areas made) s)
 
--- one after the other, where objects of these types were made before; what frees or chains stands alone
+-- one after the other, where objects of these types were made before; what frees or chains is the
+-- only action
 abbrev pub ActsFit : Outline → Store → Frame → List TypeRef → List Action → Type 0
 ActsFit o store f types [] = Unit {0}
 ActsFit o store f types (Make t len content ∷ more) = MakeFits o t len content × ActsFit o store f (types ++ t ∷ []) more

@@ -27,8 +27,9 @@ IsGoingOn (Jumps n) = Unit {0}
 IsGoingOn (JumpsIfSame same) = Unit {0}
 IsGoingOn next = ⊥
 
--- A frame stands at an item of a method that has code, with the state before it and the one that the row gives; and the targets that the instruction names
--- are items, as they are in each code array that is read (JVMS 4.9.1).
+-- A frame is at an item of a method that has code, with the state before it and the one that the
+-- row gives; and the targets that the instruction names are items, as they are in each code array
+-- that is read (JVMS 4.9.1).
 pub record StandsAtRow (p : Program) (typings : Typings) (f : Frame) (i : Insn) (after : TypeState) : Type 0 where
   pub code : Code
   pub code_is : code_at p f.method ≡ Some code
@@ -47,8 +48,9 @@ abbrev pub is_static_call : Insn → Bool
 is_static_call (insn.Static index) = true
 is_static_call i = false
 
--- The method that a call leads to has code, and the name and the descriptor of the one that is named; it is static where the call has no receiver, and
--- never one that starts a class. So many words are taken. Linking makes sure of it (JVMS 5.4.5, 6.5.invokevirtual).
+-- The method that a call leads to has code, and the name and the descriptor of the one that is
+-- named; it is static where the call has no receiver, and never one that starts a class. `words`
+-- words are taken. Linking makes sure of it (JVMS 5.4.5, 6.5.invokevirtual).
 pub record IsCalled (p : Program) (f : Frame) (i : Insn) (target words : ℕ) : Type 0 where
   pub named : ℕ
   pub names : method_named p f i ≡ Some named

@@ -21,7 +21,7 @@ pub record FrameLeadsWithin (f : Frame) : Type 0 where
   pub locals : All LeadsWithin f.locals
   pub stack : All LeadsWithin f.stack
 
--- the chain of an object, and each element where a reference stands
+-- the chain of an object, and each element where a reference is
 pub record ObjectLeadsWithin (o : Outline) (object : Object) : Type 0 where
   pub chain : object.chain < 2 ^ 32
   pub elements : (place : ℕ) (t : TypeRef) → kind_in o object place ≡ Some (kind.Ref t) → slice_index_or object.elements place 0 < 2 ^ 32

@@ -83,8 +83,8 @@ StartsAreMethods = (p : Program) → CallsAreResolved p → (classes : List ℕ)
 
 -- ---- frames
 
--- A frame that goes on to the next item or to a target, with an effect that leads where the checker's row does, stands there, and the frames below it
--- stand as they did.
+-- A frame that goes on to the next item or to a target, with an effect that leads where the
+-- checker's row does, has what the checker knows there, and the frames below it are as they were.
 abbrev pub GoingOnKeepsFrames : Type 0
 GoingOnKeepsFrames =
     (p : Program) (typings : Typings) → AreTree p.outline.classes → AreTyped p typings
@@ -93,24 +93,24 @@ GoingOnKeepsFrames =
     → (areas : Areas) (made : List ℕ) → HaveKinds (static_slots p.outline) areas.statics
     → (x : State) → Stand p typings (continued p (sources_of f areas made) e f callers x).frames
 
--- The frames stand after an exception too, a reference, that one of them catches: whether or not the words of a call are off the stack of the frame
--- on top.
+-- The frames have what the checker knows also after one of them catches an exception, which is a
+-- reference: whether or not the words of a call are off the stack of the frame on top.
 abbrev pub CatchingKeepsFrames : Type 0
 CatchingKeepsFrames =
     (p : Program) (typings : Typings) → AreTyped p typings
     → (f : Frame) (callers : List Frame) (words : ℕ) → StandsWithout p typings words f → StandBelow p typings f callers
     → (t : TypeRef) (v : Value) → IsReference v → (frames : List Frame) → caught p t v (f ∷ callers) ≡ InFrames frames → Stand p typings frames
 
--- Of a frame that returns with words of its result's kind, the frame below goes on after its call with them on top; the one for which a class was started
--- stands as it did.
+-- Of a frame that returns with words of its result's kind, the frame below goes on after its call
+-- with them on top; the one for which a class was started is as it was.
 abbrev pub ReturningKeepsFrames : Type 0
 ReturningKeepsFrames =
     (p : Program) (typings : Typings) → AreTree p.outline.classes → AreTyped p typings → ConstructorsGiveNothing p.outline
     → (f g : Frame) (callers : List Frame) → StandBelow p typings f (g ∷ callers) → (n : ℕ) → HaveKinds (result_words p.outline f.method) (take n f.stack)
     → (x : State) → Stand p typings (returned p n f (g ∷ callers) x).frames
 
--- The frame of a method that a call leads to stands at its first item with the words of the call for arguments, and the frame that calls stands below it,
--- at the call and without them.
+-- The frame of a method that a call leads to is at its first item with the words of the call for
+-- arguments, and the frame that calls is below it, at the call and without them.
 abbrev pub CallingKeepsFrames : Type 0
 CallingKeepsFrames =
     (p : Program) (typings : Typings) → AreTyped p typings
@@ -118,7 +118,8 @@ CallingKeepsFrames =
     → StandBelow p typings f callers → (target words : ℕ) → IsCalled p f i target words
     → Stand p typings (new_frame p target (reverse (take words f.stack)) ∷ record f { stack = drop words f.stack } ∷ callers)
 
--- Above frames that stand, so do the frames of methods that start classes, the first of them on top.
+-- Above frames that have what the checker knows, so have the frames of methods that start classes,
+-- the first of them on top.
 abbrev pub StartingKeepsFrames : Type 0
 StartingKeepsFrames =
     (p : Program) (typings : Typings) → AreTyped p typings

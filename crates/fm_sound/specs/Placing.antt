@@ -1,5 +1,5 @@
--- What an effect owes to the places of objects: a number is put where no reference stands, a reference is read where one stands, and no reference comes
--- from nowhere.
+-- What an effect has to do at the places of objects: a number is put where no reference is, a
+-- reference is read where one is, and no reference comes from nowhere.
 use Rattle.std.specs.Prelude.{◌≡◌, ℕ, List, [], ◌∷◌, ◌++◌, map, Option, Some}
 use Rattle.std.specs.List.{AllByRecursion}
 use Rattle.fm_base.specs.declared.kinds.Kind.{Kind}
@@ -26,14 +26,16 @@ IsPlain (value.Int n) = Unit {0}
 IsPlain (value.Long n) = Unit {0}
 IsPlain (value.Ref cell) = cell.0 ≡ 0
 
--- a reference is read of an object that is held, where one stands; and a value that is named outright is a number or null
+-- a reference is read of an object that is held, where one is; and a value that is named outright
+-- is a number or null
 abbrev pub ReadAgrees : Outline → Store → List Value → Source → Type 0
 ReadAgrees o store stack (Plain v) = IsPlain v
 ReadAgrees o store stack (OfPlace n place (kind.Ref t)) =
     (object : Object) × (object_at store (cell_of (word_at stack n)) ≡ Some object) × (u : TypeRef) × (kind_in o object place ≡ Some (kind.Ref u))
 ReadAgrees o store stack s = Unit {0}
 
--- a number is put where no reference stands, and a reference that is put into an object or a static field is read as it should
+-- a number is put where no reference is, and a reference that is put into an object or a static
+-- field is read as it should
 abbrev pub PutAgrees : Outline → Store → List Value → Action → Type 0
 PutAgrees o store stack (Put object place (kind.Ref t) v) = ReadAgrees o store stack v
 PutAgrees o store stack (Put (OfOperand n) place other v) =

@@ -31,7 +31,7 @@ use Rattle.fm_sound.specs.Going.{ConstructorsGiveNothing}
 use Rattle.fm_sound.specs.Leading.{NamesField}
 use Rattle.fm_sound.specs.Sound.{HasObjects}
 
--- the instruction stands in a method that has code, and what it names is resolved to this
+-- the instruction is in a method that has code, and what it names is resolved to this
 pub record IsNamed (p : Program) (method : ℕ) (i : Insn) (u : Use) : Type 0 where
   pub code : Code
   pub code_is : code_at p method ≡ Some code
@@ -43,7 +43,7 @@ pub record IsNamed (p : Program) (method : ℕ) (i : Insn) (u : Use) : Type 0 wh
 pub record CallsAreResolved (p : Program) : Type 0 where
   -- the built-in classes come first, and what has a number is there
   pub runnable : IsRunnable p
-  -- built-in methods alone have rows
+  -- only built-in methods have rows
   pub rows : (method : ℕ) → length (methods_of built_in) ≤ method → (method_at p.outline.classes method).method.row ≡ None
   -- each other method has code, unless it is abstract (JVMS 4.7.3)
   pub coded : (method : ℕ) → method < length (methods_of p.outline.classes) → is_abstract_method p.outline.classes method ≡ false
@@ -81,7 +81,7 @@ pub record StepsAreResolved (p : Program) : Type 0 where
   -- a code has no more items than bytes (JVMS 4.7.3)
   pub items : (method : ℕ) (code : Code) → code_at p method ≡ Some code → length code.items ≤ MAX_CODE_BYTES
 
--- main has code, and takes the array of the arguments alone (JVMS 5.2)
+-- main has code, and takes only the array of the arguments (JVMS 5.2)
 pub record MainIsReady (p : Program) : Type 0 where
   pub code : Code
   pub code_is : code_at p p.outline.main ≡ Some code

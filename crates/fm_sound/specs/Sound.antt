@@ -1,5 +1,6 @@
--- What holds of each state to which the run of a typed program comes, whatever it frees (JVMS 2.6, 4.10): its areas have the sizes of the program, its
--- objects are of types of which objects are made and hold what their kinds tell, and each frame has what the checker knows of its item.
+-- What holds of each state that the run of a typed program reaches, whatever it frees (JVMS 2.6,
+-- 4.10): its areas have the sizes of the program, its objects are of types of which objects are
+-- made and hold values of their kinds, and each frame has what the checker knows of its item.
 use Rattle.std.specs.Prelude.{◌≡◌, ℕ, ℤ, ◌+◌, ◌*◌, ◌^◌, ◌<◌, ◌≤◌, ◌⊎◌, Bool, true, false, List, [], ◌∷◌, length, drop, Option, Some, None, if◌then◌else◌}
 use Rattle.std.specs.FinMap as map
 use Rattle.std.specs.List.{AllZip, flat_map, slice_index_or}
@@ -39,7 +40,8 @@ IsReference (value.Int n) = ⊥
 IsReference (value.Long n) = ⊥
 IsReference (value.Ref cell) = Unit {0}
 
--- what stands on a stack where the checker has a slot: Top is the second half of a long, and of a reference it is asked that it is one (JVMS 2.6.2)
+-- the value on a stack where the checker has a slot: Top is the second half of a long, and a
+-- reference is only required to be one (JVMS 2.6.2)
 abbrev pub HasKind : Slot → Value → Type 0
 HasKind slot.Top v = v ≡ value.Top
 HasKind slot.Int v = (n : ℤ) × (v ≡ value.Int n)
@@ -49,7 +51,7 @@ HasKind (slot.Ref t) v = IsReference v
 HasKind (slot.Uninit item) v = IsReference v
 HasKind slot.UninitThis v = IsReference v
 
--- what stands in a local: of Top nothing is asked (JVMS 2.6.1)
+-- the value in a local: where the checker has Top it may be any (JVMS 2.6.1)
 abbrev pub LocalHasKind : Slot → Value → Type 0
 LocalHasKind slot.Top v = Unit {0}
 LocalHasKind s v = HasKind s v
@@ -100,7 +102,7 @@ HasLengthBy o true class n = n < 2 ^ 31
 HasLengthBy o false None n = n < 2 ^ 31
 HasLengthBy o false (Some class) n = n ≡ size_of o.classes class
 
--- so many elements has an object of the type
+-- an object of the type has this many elements
 abbrev pub HasLength : Outline → TypeRef → ℕ → Type 0
 HasLength o t n = HasLengthBy o (is_text_type o t) (class_of_type t) n
 
@@ -137,8 +139,9 @@ pub record IsObjectIn (o : Outline) (object : Object) : Type 0 where
 abbrev pub Typings : Type 0
 Typings = ℕ → List (Option TypeState)
 
--- A frame stands at an item that can be reached of a method that has code, and has what the method's states tell of its locals and of its stack; but for
--- so many words on top, which were taken as arguments.
+-- A frame is at an item that can be reached of a method that has code, and its locals and its stack
+-- have what the method's state before that item says; but for `words` words on top, which were
+-- taken as arguments.
 pub record StandsWithout (p : Program) (typings : Typings) (words : ℕ) (f : Frame) : Type 0 where
   pub code : Code
   pub code_is : code_at p f.method ≡ Some code
@@ -162,8 +165,8 @@ method_named p g i = of_use (use_by p g.method i) where
   of_use (resolved.OfMethod m t) = Some m.0
   of_use u = None
 
--- The frame on top was called by the one below it, which stands at the call: that names a method of the same name and descriptor, whose words are
--- taken already (JVMS 2.6.4).
+-- The frame on top was called by the one below it, which is at the call: that names a method of the
+-- same name and descriptor, whose words are taken already (JVMS 2.6.4).
 pub record Calling (p : Program) (typings : Typings) (f g : Frame) : Type 0 where
   pub called : Insn
   pub at : insn_at p g ≡ Some called

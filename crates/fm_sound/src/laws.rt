@@ -1,4 +1,4 @@
-// Laws over definitions alone, each the contract of a function that does nothing.
+// Laws over definitions only, each the contract of a function that does nothing.
 
 ghost use Rattle.fm_sound.specs.Laws as law;
 
@@ -29,9 +29,9 @@ pub fn law_class_starts()
     ensures { law.StartsAreMethods }
 {}
 
-/// Frames stand where the checker knows what they have: where the frame on top goes on to the next item
-/// or to a target, where an exception is caught in any of them, where a frame returns to the one below
-/// it, where a method is called, and where methods start classes.
+/// Frames have what the checker knows of their items: where the frame on top goes on to the next
+/// item or to a target, where an exception is caught in any of them, where a frame returns to the
+/// one below it, where a method is called, and where methods start classes.
 pub fn law_frames()
     ensures going_on { law.GoingOnKeepsFrames }
     ensures catching { law.CatchingKeepsFrames }
@@ -79,8 +79,9 @@ pub fn law_opening_acts()
     ensures { law.OpeningsFit }
 {}
 
-/// Actions that put values where their kinds stand, and make objects of types of which objects are made,
-/// keep what the frames share sound, on memory that reuses cells in any way and whatever is freed.
+/// Actions that put values by the kinds of their places, and make objects of types of which objects
+/// are made, keep what the frames share sound, on memory that reuses cells in any way and whatever
+/// is freed.
 pub fn law_areas()
     ensures { law.ActionsKeepAreas }
 {}

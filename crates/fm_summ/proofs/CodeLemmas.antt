@@ -1,4 +1,4 @@
--- What single functions answer, over plain lists.
+-- What single functions return, over plain lists.
 use Rattle.std.proofs.Common.{◌≡◌, ◌≢◌, ℕ, ◌+◌, ◌<◌, ◌≤◌, eqb, Bool, true, false, cond, append-nil, List, [], ◌∷◌, ◌++◌, length, map, take, get_or, set, Contains, Ok, Err, MatchResult, Result, ap, sym, ◌∙◌, subst, ⊎_elim, arith}
 use Rattle.std.proofs.lemmas.Bool.{cases_lt}
 use Rattle.std.proofs.lemmas.List.{get_or_append_left, get_or_default, get_or_read, get_or-map, get_or_push, length_push, map-append, map-set, take_all, take_more}

@@ -53,7 +53,7 @@ nodes_of_paired : (linked : Linking) (x : TypedMethod) (class : Node → ℕ) (p
 nodes_of_paired linked x class pairs each m n (inl pair) = each m n pair
 nodes_of_paired linked x class pairs each m n (inr pair) = nodes_back linked x class n m (each n m pair)
 
--- where equal numbers and the pairs tell joined nodes, a path of pairs does
+-- where equal numbers and the pairs are those of joined nodes, a path of pairs does
 pub joined_by_numbers : (linked : Linking) (x : TypedMethod) (class : Node → ℕ) (pairs : List (ℕ × ℕ)) →
     ((a b : Node) → class a ≡ class b → Joined linked x a b) → ((m n : ℕ) → Contains pairs (m, n) → NodesOf linked x class m n) →
     (path : List ℕ) (m n : ℕ) → IsNumberPath pairs m path n → (a b : Node) → m ≡ class a → n ≡ class b → Joined linked x a b

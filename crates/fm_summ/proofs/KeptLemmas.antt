@@ -32,7 +32,7 @@ pub same_calls : (p : Program) (f : ℕ → ℕ) (calls : List CallShape) → ca
 same_calls p f [] = refl
 same_calls p f (c ∷ calls) = ap (λ list. targets p c.call ∷ list) (same_calls p f calls)
 
--- ---- what a shape tells, after a renumbering
+-- ---- what a shape lists, after a renumbering
 
 call_shape-renumbered : (x : TypedMethod) (class : Node → ℕ) (f : ℕ → ℕ) (j : ℕ) (c : CallShape) → IsCallShapeAt x class j c →
     IsCallShapeAt x (λ a. f (class a)) j (renumbered_call f c)

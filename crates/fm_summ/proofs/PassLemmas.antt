@@ -1,4 +1,4 @@
--- The pairs that calls make: what each stands for, and that all linked ends become one.
+-- The pairs that calls make: what each joins, and that all linked ends become one.
 use Rattle.std.proofs.Common.{◌≡◌, ℕ, ◌⊎◌, ◌+◌, ◌<◌, Bool, true, false, cond, eqb, List, [], ◌∷◌, ◌++◌, length, drop, get_or, append_assoc, Contains, refl, ap, sym, ◌∙◌, subst, inl, inr, ⊎_elim, arith, eqb-true}
 use Rattle.std.proofs.lemmas.List.Elements.{Contains-append_left, Contains-append_right, Contains-append_cases}
 use Rattle.std.proofs.lemmas.List.{drop_more}
@@ -37,7 +37,7 @@ pair_or_same x first =
       | false ↦ (λ is. inr (Contains-first (x, first) []))
     ]) refl
 
--- two ends that the callee links, with what stands for them
+-- two ends that the callee links, with their nodes
 pub record LinkedEnds (entries ends : List (End2 × ℕ)) (m n : ℕ) : Type 0 where
   pub one : End2
   pub other : End2
@@ -62,7 +62,7 @@ linked_ends entries ends m n found =
       linked = links-from entries one.end other.end x.0 one.number other.number;
     }
 
--- numbers that stand for linked ends become one
+-- numbers of linked ends become one
 ends_become_one : (f : ℕ → ℕ) (entries ends : List (End2 × ℕ)) →
     ((m n : ℕ) → Contains (stand_pairs (numbered entries ends) (numbered entries ends)) (m, n) → f m ≡ f n) →
     (e g : End2) (m n : ℕ) → Contains ends (e, m) → Contains ends (g, n) → links entries e g ≡ true → f m ≡ f n
@@ -120,7 +120,7 @@ pair_among p shapes (d ∷ calls) c target m n among called found =
     (pair_among p shapes calls c target m n later called found))
     (Contains-cons_cases d calls c among)
 
--- where the pairs become one, so do all numbers that stand for linked ends
+-- where the pairs become one, so do all numbers of linked ends
 pub become_one : (f : ℕ → ℕ) (p : Program) (shapes : List Shape) (calls : List CallShape) →
     ((m n : ℕ) → Contains (method_pairs shapes (call_targets p calls) calls) (m, n) → f m ≡ f n) →
     (c : CallShape) (target : ℕ) → Contains calls c → Contains (targets p c.call) target →

@@ -1,4 +1,5 @@
--- Programs of class files have what is asked of a program: what uses name is there, and built-in methods have no code.
+-- Programs of class files have what is required of a program: what uses name is there, and built-in
+-- methods have no code.
 use Rattle.std.proofs.Common.{◌≡◌, refl, sym, ◌∙◌, ap, subst, ℕ, ◌+◌, ◌-◌, ◌<◌, ◌≤◌, List, [], ◌∷◌, ◌++◌, length, map, get_or, replicate, Option, None, ⊎_elim, append_assoc, arith}
 use Rattle.std.specs.List.{flat_map, AllByRecursion}
 use Rattle.std.proofs.lemmas.Bool.{cases_lt}
@@ -62,7 +63,7 @@ methods_from-append class (c ∷ classes) more =
     ap (λ ms. own ++ ms) (methods_from-append (class + 1) classes more ∙ ap (λ k. methods_from (class + 1) classes ++ methods_from k more) same)
     ∙ sym (append_assoc own (methods_from (class + 1) classes) (methods_from (class + length (c ∷ classes)) more))
 
--- the methods of the files stand behind the built-in ones
+-- the methods of the files come behind the built-in ones
 all_methods : (given : List ClassDef) →
     methods_of (classes_of given) ≡ methods_of built_in ++ methods_from (0 + length built_in) (declared_from 0 given)
 unfolding methods_of classes_of

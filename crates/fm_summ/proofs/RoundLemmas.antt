@@ -132,7 +132,7 @@ in_round p typings shapes built_ins sound closed (suc round) method a b first se
     (record { each = λ m e g is is_too linked. in_round p typings shapes built_ins sound closed round m e g is is_too linked })
     (node_of a) found.2.0 (node_of b) found.2.1)
 
--- ---- what is told
+-- ---- what shapes list
 
 told_at : (shapes : List Shape) (method : ℕ) → told.ends_at (summaries_of shapes) method ≡ ends_at shapes method
 told_at [] method = refl

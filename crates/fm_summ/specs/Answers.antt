@@ -1,4 +1,4 @@
--- What the analysis answers of all methods of a program, and the facts that this makes.
+-- What the analysis returns for all methods of a program, and the facts that this makes.
 use Rattle.std.specs.Prelude.{◌≡◌, ℕ, Some}
 use Rattle.fm_code.specs.declared.code_array.Code.{Code}
 use Rattle.fm_flow.specs.LiveRows.{is_live, IsLiveRowsOf}
@@ -20,18 +20,19 @@ pub record Answers : Type 0 where
   pub classes : ℕ → Classes
   pub summaries : Summaries
 
--- the answers on a method that has code are those that are asked of checking, of liveness, and of classes by the summaries
+-- the results for a method that has code are those of checking, of liveness, and of classes by the
+-- summaries
 pub record AreAnswersOn (p : Program) (answers : Answers) (method : ℕ) (code : Code) : Type 0 where
   pub typing : IsTypingOf p method code (answers.typings method)
   pub live : IsLiveRowsOf code (answers.live method)
   pub classes : AreClassesOf (linked_by answers.summaries) (typed_method p answers.typings method code) (answers.classes method)
 
--- the summaries are exact, and so are the answers on each method that has code
+-- the summaries are exact, and so are the results for each method that has code
 pub record AreAnswers (p : Program) (answers : Answers) : Type 0 where
   pub summaries : AreExact p answers.typings answers.summaries
   pub methods : (method : ℕ) (code : Code) → code_at p method ≡ Some code → AreAnswersOn p answers method code
 
--- what they tell, as tables
+-- the facts that they make, as tables
 abbrev pub facts_of : Answers → Facts
 facts_of answers = record {
   typing = answers.typings;
@@ -40,6 +41,6 @@ facts_of answers = record {
   class = λ method node. class_of (answers.classes method) node;
 }
 
--- what is answered of a program makes its facts
+-- what is returned for a program makes its facts
 abbrev pub AnswersAreFacts : Type 0
 AnswersAreFacts = (p : Program) (answers : Answers) → AreAnswers p answers → AreFacts p (facts_of answers)

@@ -1,4 +1,4 @@
--- What is asked of shapes, and what summaries tell.
+-- What is required of shapes, and what makes summaries exact.
 use Rattle.std.specs.Prelude.{◌≡◌, ℕ, List, [], length, Some, None}
 use Rattle.std.specs.List.{slice_index_or}
 use Rattle.fm_code.specs.declared.code_array.Code.{Code}
@@ -37,7 +37,8 @@ HasBareBuiltIns p = (method row : ℕ) → (method_at p.outline.classes method).
 
 -- ---- summaries
 
--- of the ends of each method that is there, what is linked is told, an end with itself among it, and no more; what isn't an end is linked with nothing
+-- of the ends of each method that is there, the summaries link exactly those that are linked, an
+-- end with itself among them; what isn't an end is linked with nothing
 pub record AreExact (p : Program) (typings : Typings) (s : Summaries) : Type 0 where
   pub summaries : AreSummariesOf p.outline s
   pub links : TellLinks p typings s

@@ -1,4 +1,4 @@
--- What programs of class files have of what is asked of a program.
+-- What programs of class files have of what is required of a program.
 use Rattle.std.specs.Prelude.{ℕ, List}
 use Rattle.fm_code.specs.declared.class_file.ClassDef.{ClassDef}
 use Rattle.fm_world.specs.Programs.{program_of}

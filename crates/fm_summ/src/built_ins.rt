@@ -59,7 +59,7 @@ fn entry_number(row: Option<u16>, end: End2) -> u32
     }
 }
 
-// Whether the built-in method of this row links the end with others: an answer that is the receiver
+// Whether the built-in method of this row links the end with others: a result that is the receiver
 // or that it kept, a message that is kept, and what FreeMe chains.
 fn is_linked_by(row: Option<u16>, end: End2) -> bool
     ensures { result ≡ is_linked_by row end }
@@ -115,7 +115,8 @@ fn parameter_ends(alloc: Global, words: &[Slot]) -> Result<Vec<End2>, NoMemory>
     Ok(ends)
 }
 
-// The number of a local. No method has so many words of arguments that one has none.
+// The number of a local; `NoMemory` where it doesn't fit 16 bits, which no method's arguments
+// reach.
 fn local_of(index: usize) -> Result<u16, NoMemory>
     ensures { IfOk result (λ local. local ≡ index) }
 {

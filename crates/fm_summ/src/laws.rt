@@ -3,8 +3,8 @@
 ghost use Rattle.fm_summ.specs.Answers.{AnswersAreFacts};
 ghost use Rattle.fm_summ.specs.Programs.{ProgramsHaveBareBuiltIns, ProgramsHaveUsesIn};
 
-/// What `check`, `live`, `classes` and `summaries` answer of a program makes its facts: all ends of all
-/// methods, built-in ones too, are told to be linked exactly where they are.
+/// What `check`, `live`, `classes` and `summaries` return for a program makes its facts: the facts
+/// list any ends of any methods, built-in ones too, as linked exactly where they are.
 pub fn law_answers()
     ensures { AnswersAreFacts }
 {}

@@ -95,7 +95,8 @@ fn bare_shape(alloc: Global, method: &MethodInfo) -> Result<Shape, NoMemory>
     })
 }
 
-// Makes the numbers of a method one that its calls make one, and tells whether its ends have others.
+// Makes the numbers of a method one that its calls make one, and returns whether its ends have
+// others.
 fn pass_on(
     alloc: Global,
     targets: &[Vec<MethodId>],
@@ -118,7 +119,7 @@ fn pass_on(
     Ok(changed)
 }
 
-// The ends of all methods, as they are told.
+// The ends of all methods, as summaries list them.
 fn told(alloc: Global, shapes: &[Shape]) -> Result<Summaries, NoMemory>
     ensures { IfOk result (λ told. told ≡ summaries_of shapes.now) }
 {

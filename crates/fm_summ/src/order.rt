@@ -12,7 +12,7 @@ enum Visit {
     Leave(u32),
 }
 
-/// Methods by their numbers, of which there are so many, each behind those that it calls, but where
+/// Methods by their numbers, of which there are `count`, each behind those that it calls, but where
 /// calls lead back to it. That each method is listed, and once, is no promise.
 pub fn callees_first(
     alloc: Global,

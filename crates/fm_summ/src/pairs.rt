@@ -11,7 +11,7 @@ use fm_base::{MethodId, NoMemory};
 use fm_conn::{CallShape, End2, Shape, first_with, numbered};
 use std::alloc::Global;
 
-// Pairs what stands for each end with what stands for the first one of its number, where they differ.
+// Pairs the node of each end with the node of the first one of its number, where they differ.
 fn push_first_pairs(pairs: &mut Vec<(u32, u32)>, found: &[(u32, u32)]) -> Result<(), NoMemory>
     ensures { OnOk result
         (pairs.new.items ≡ pairs.old.items ++ stand_pairs found.now found.now) }

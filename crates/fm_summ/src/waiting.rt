@@ -6,7 +6,7 @@ use fm_base::NoMemory;
 use std::alloc::Global;
 use std::collections::VecDeque;
 
-/// Methods by their numbers, those that came first in front, each once.
+/// Methods by their numbers, in the order in which they were put, each once.
 #[derive(Drop)]
 pub struct Waiting {
     queue: VecDeque<u32>,
@@ -17,8 +17,8 @@ pub struct Waiting {
 impl Waiting {
     ghost use Rattle.fm_summ.specs.inner.Waits.{IsWaiting};
 
-    /// All methods, of which there are so many: these first, as far as they are methods, and then the
-    /// others by their numbers.
+    /// All methods, of which there are `count`: these first, as far as they are methods, and then
+    /// the others by their numbers.
     pub fn all(alloc: Global, count: u32, first: &[u32]) -> Result<Waiting, NoMemory>
         ensures kept { IfOk result (IsWaiting count) }
         ensures all { IfOk result (λ w. (m : ℕ) → m < count → Contains w.queue.items m) }
@@ -62,7 +62,7 @@ impl Waiting {
         Ok(())
     }
 
-    /// Each of the methods waits, if it is so.
+    /// Puts each of the methods in line, if `wait` is true.
     pub fn push_if(&mut self, count: u32, methods: &[u32], wait: bool) -> Result<(), NoMemory>
         requires kept { IsWaiting count self.old }
         requires inside { (m : ℕ) → Contains methods.now m → m < count }

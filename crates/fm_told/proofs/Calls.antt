@@ -13,7 +13,7 @@ use Rattle.fm_world.specs.Programs.{method_info, Program}
 use Rattle.fm_world.specs.declared.records.Body.{Body}
 use Rattle.fm_world.specs.declared.records.Body.TheVariants as body
 
--- one of these items calls a method of FreeMe, and stands at the offset
+-- one of these items calls a method of FreeMe, and is at the offset
 record IsCall (p : Program) (method : ℕ) (items : List Item) (offset : ℕ) : Type 0 where
   item : Item
   there : Contains items item

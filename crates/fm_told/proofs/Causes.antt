@@ -157,7 +157,7 @@ among_there plans free first (m ∷ methods) long is = by_first (long_method fre
       subst (λ (l : ℕ × ℕ). IsLongCode first (code_of m ∷ map code_of methods) l) both
       (record { place = 0; code = own.0; there = own.1; method_is = omega arith; too_many = own.2 })
 
--- what stands in a list stands there where more follows
+-- what is in a list is there also where more follows
 in_front : (front rest : List (Option Code)) (place : ℕ) (code : Code) → get_or front place None ≡ Some code → get_or (front ++ rest) place None ≡ Some code
 in_front front rest place code there = by_place (cases_lt place (length front)) where
   no_code : None ≡ Some code → get_or (front ++ rest) place None ≡ Some code

@@ -1,4 +1,4 @@
--- Two sets of exact facts over least typings tell the same of a method, but for the numbers of its classes.
+-- Two sets of exact facts over least typings agree on a method, but for the numbers of its classes.
 use Rattle.std.proofs.Common.{◌≡◌, refl, sym, ◌∙◌, ap, ℕ, zero, suc, ◌+◌, ◌-◌, ◌&&◌, ◌||◌, not, Bool, true, false, cond, List, [], ◌∷◌, length, map, take, reverse, Option, Some, None, is_some, option_and_then, IsSomeAnd, Contains, eq-eqb}
 use Rattle.std.specs.Prelude.{filter, nat_eq, nat_lt, slice_get}
 use Rattle.std.specs.List.{list_any, range_with_len, slice_index_or}

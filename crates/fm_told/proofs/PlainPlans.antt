@@ -1,4 +1,5 @@
--- What is written by plans, and what is told of it, doesn't depend on the numbers of their holders' classes.
+-- What is written by plans, and what is reported of it, doesn't depend on the numbers of their
+-- holders' classes.
 use Rattle.std.proofs.Common.{◌≡◌, refl, sym, ◌∙◌, ap, ℕ, ◌+◌, ◌*◌, ◌&&◌, ◌++◌, Bool, true, false, cond, List, [], ◌∷◌, length, map, replicate, Option, Some, None, is_some, option_and_then}
 use Rattle.std.specs.Prelude.{◌==◌, nat_lt}
 use Rattle.std.specs.List.{flat_map, list_any, range_with_len, sum}
@@ -224,7 +225,7 @@ module _ (plans : Plans) where
 
 -- ---- two plans
 
--- plans that differ in these numbers alone serve alike
+-- plans that differ only in these numbers serve alike
 pub plain_serve_alike : (given : List ClassDef) (plans others : Plans) → ((method : ℕ) → plains plans method ≡ plains others method) → ServeAlike given plans others
 plain_serve_alike given plans others same = record {
   written = sym (classes_plain plans first_given given) ∙ ap (λ (p : Plans). rewritten p given) all ∙ classes_plain others first_given given;

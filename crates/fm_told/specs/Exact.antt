@@ -1,4 +1,5 @@
--- Exact facts over least typings serve alike: what comes of class files doesn't depend on which of these are taken.
+-- Exact facts over least typings serve alike: the result for class files doesn't depend on which of
+-- these are taken.
 use Rattle.std.specs.Prelude.{◌≡◌, ℕ, List}
 use Rattle.fm_analysis.specs.Analysed.{AreLeastTypings}
 use Rattle.fm_code.specs.declared.class_file.ClassDef.{ClassDef}
@@ -15,7 +16,8 @@ pub record AreLeastFacts (p : Program) (facts : Facts) : Type 0 where
   pub exact : AreFacts p facts
   pub least : AreLeastTypings p facts.typing
 
--- by both plans the given classes are written alike, with the same marks and counts, and the same stands against it first
+-- by both plans the given classes are written alike, with the same marks and counts, and the first
+-- cause against it is the same
 pub record ServeAlike (given : List ClassDef) (plans others : Plans) : Type 0 where
   pub written : rewritten plans given ≡ rewritten others given
   pub marks : marks_with plans given ≡ marks_with others given

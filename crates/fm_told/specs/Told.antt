@@ -21,7 +21,8 @@ pub record CallsFreeAt (p : Program) (method offset : ℕ) : Type 0 where
   pub begins : item.offset ≡ offset
   pub calls : calls_free p method item.insn ≡ true
 
--- the class is that of a file, whose pool would have so many indices with the entries of FreeMe.free, more than a pool may have (JVMS 4.1)
+-- the class is that of a file, whose pool would have this many indices with the entries of
+-- FreeMe.free, more than a pool may have (JVMS 4.1)
 pub record IsTooFull (given : List ClassDef) (class indices : ℕ) : Type 0 where
   pub place : ℕ
   pub file : ClassDef
@@ -30,7 +31,8 @@ pub record IsTooFull (given : List ClassDef) (class indices : ℕ) : Type 0 wher
   pub indices_are : indices ≡ length (with_free file.pool.entries)
   pub too_many : max_pool_indices < indices
 
--- the method has code, which would have so many bytes, more than a code array may have (JVMS 4.7.3)
+-- the method has code, which would have this many bytes, more than a code array may have (JVMS
+-- 4.7.3)
 pub record IsTooLong (p : Program) (method bytes : ℕ) : Type 0 where
   pub code : Code
   pub coded : code_at p method ≡ Some code
@@ -43,7 +45,7 @@ NamesWhatIsThere given main (fail.PoolFull class indices) = IsTooFull given clas
 NamesWhatIsThere given main (fail.MethodTooLong method bytes) = IsTooLong (program_of given main) method.0 bytes
 NamesWhatIsThere given main fail.NoMemory = Unit {0}
 
--- whatever refusal comes of rewriting
+-- whatever the refusal of rewriting
 abbrev pub RefusalsNameWhatIsThere : Type 0
 RefusalsNameWhatIsThere =
     (given : List ClassDef) (main : List ℕ) (cause : RewriteFail) → ComesOfRewriting given main (Err cause) → NamesWhatIsThere given main cause

@@ -1,5 +1,5 @@
-// What is told where class files can't be written again: a refusal names a class or a method that is there,
-// by what really stands against it. And by whichever exact facts, the same comes of rewriting.
+// The refusals of class files that can't be written again: each names a class or a method that is
+// there, and gives its real cause. And by whichever exact facts, rewriting has the same result.
 #![tactic(auto)]
 
 mod laws;

@@ -11,7 +11,7 @@ use Rattle.fm_weave.specs.ByPlan.{end_after, freed_by, here, inserted_end, later
 
 -- ---- holders that are made null
 
--- the holders from one on, of so many
+-- the holders from one on, of this many
 abbrev pub nulls_from : (first holder holders : ℕ) → List NewItem
 nulls_from first holder holders = flat_map (λ h. null_stored (first + h)) (range_with_len holder (holders - holder))
 

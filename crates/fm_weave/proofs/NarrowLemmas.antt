@@ -56,7 +56,7 @@ stored-rooms old first (p ∷ pairs) = ap (λ rs. rooms_of [] (top_stored (first
 
 -- ---- old items
 
--- targets don't tell how many bytes an item takes
+-- the bytes of an item don't depend on its targets
 goto-size : (start m n : ℕ) (b : Bool)
     → size_at start (if b then room.Plain 5 else narrow None m) ≡ size_at start (if b then room.Plain 5 else narrow None n)
 goto-size start m n true = refl

@@ -1,4 +1,4 @@
--- What the pairs of a plan tell is what is inserted.
+-- What the pairs of a plan list is what is inserted.
 use Rattle.std.proofs.Common.{◌≡◌, ℕ, zero, suc, ◌+◌, ◌*◌, ◌<◌, ◌≤◌, ◌==◌, true, false, List, [], ◌∷◌, ◌++◌, length, map, take, drop, refl, sym, ap, subst, ◌∙◌, ⊎_elim, arith, if◌then◌else◌, Contains}
 use Rattle.std.specs.List.{flat_map, range_with_len}
 use Rattle.std.proofs.lemmas.Bool.{eq-eqb}
@@ -24,7 +24,7 @@ use Rattle.fm_weave.specs.Laws.{IsWholePlan, PlansAreInsertions, PlansMayBeWoven
 
 -- ---- lists of pairs
 
--- what is listed for so many items, from one on
+-- what is listed for this many items, from one on
 abbrev pub listed : (ℕ → List ℕ) → ℕ → ℕ → List (ℕ × ℕ)
 listed f j n = flat_map (paired f) (range_with_len j n)
 

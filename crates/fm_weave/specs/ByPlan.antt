@@ -1,4 +1,4 @@
--- The new items of a method and its new code, told by the pairs of its plan.
+-- The new items of a method and its new code, by the pairs of its plan.
 use Rattle.std.specs.Prelude.{ℕ, ◌+◌, ◌*◌, ◌==◌, List, [], ◌∷◌, ◌++◌, take, drop, Some, nat_lt, if◌then◌else◌}
 use Rattle.std.specs.List.{flat_map, range_with_len}
 use Rattle.fm_code.specs.declared.code_array.Code.{Code}
@@ -31,7 +31,8 @@ later j pairs = drop (leading j pairs) pairs
 
 -- ---- anchors
 
--- how many new items an old one becomes, with so many holders that are freed before it, and so many that take its object
+-- how many new items an old one becomes, by the number of holders that are freed before it, and of
+-- those that take its object
 abbrev pub count_by : ℕ → ℕ → ℕ
 count_by freed stored = freed_items * freed + 1 + top_stored_items * stored
 
@@ -57,7 +58,7 @@ number_by code plan = number_after (null_stored_items * plan.holders) 0 plan.bef
 
 -- ---- new items
 
--- so many holders are null
+-- `holders` holders are null
 abbrev pub nulls_by : (first holders : ℕ) → List NewItem
 nulls_by first holders = flat_map (λ h. null_stored (first + h)) (range_with_len 0 holders)
 

@@ -1,4 +1,5 @@
--- A class with what is inserted into its methods, told by their plans; and the first method that would be too long.
+-- A class with what is inserted into its methods, by their plans; and the first method that would
+-- be too long.
 use Rattle.std.specs.Prelude.{◌≡◌, ℕ, ◌+◌, ◌<◌, List, [], ◌∷◌, length, map, Option, Some, None, nat_lt, if◌then◌else◌}
 use Rattle.std.specs.List.{AllByRecursion}
 use Rattle.std.specs.Option.{option_map, option_or}
@@ -87,7 +88,7 @@ first_long free place (p ∷ plans) (m ∷ methods) =
     option_or (option_map (λ bytes. (place, bytes)) (long_method free p m)) (first_long free (place + 1) plans methods)
 first_long free place plans methods = None
 
--- the length that a refusal tells is this one
+-- the length in a refusal is this one
 abbrev pub IsLong : Option ℕ → LayFail → Type 0
 IsLong long (fail.TooLong bytes) = long ≡ Some bytes
 IsLong long fail.NoMemory = Unit {0}
@@ -97,7 +98,7 @@ abbrev pub IsFirstLong : Option (ℕ × ℕ) → WeaveFail → Type 0
 IsFirstLong long (weave_fail.TooLong place bytes) = long ≡ Some (place, bytes)
 IsFirstLong long weave_fail.NoMemory = Unit {0}
 
--- ---- what is asked
+-- ---- what is required
 
 -- an attribute that is code may be woven
 abbrev pub MayWeave : (free : ℕ) → Plan → MemberAttr → Type 0

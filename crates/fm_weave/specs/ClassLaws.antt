@@ -18,7 +18,7 @@ abbrev pub IsPlanIn : Insertions → Plan → MemberAttr → Type 0
 IsPlanIn ins plan (attribute.Coded name code) = IsWholePlan code ins plan
 IsPlanIn ins plan a = Unit {0}
 
--- what is to be done with a method is what the definitions insert: nothing, or what the plan tells
+-- what is to be done with a method is what the definitions insert: nothing, or what the plan lists
 abbrev pub IsAlike : Option Insertions → Planned → Member → Type 0
 IsAlike None planned.Same m = Unit {0}
 IsAlike (Some ins) (planned.Woven plan) m = AllByRecursion (IsPlanIn ins plan) m.attributes

@@ -1,4 +1,4 @@
--- What weaving asks of a method's code and its plan.
+-- What weaving requires of a method's code and its plan.
 use Rattle.std.specs.Prelude.{◌+◌, ℕ, ◌<◌, ◌≤◌, List}
 use Rattle.std.specs.List.{AllByRecursion}
 use Rattle.fm_base.specs.declared.limits.TheConstants.{MAX_LOCAL_WORDS}
@@ -11,7 +11,7 @@ use Rattle.fm_place.specs.declared.limits.TheConstants.{MAX_HOLDING_STACK_WORDS}
 use Rattle.fm_place.specs.declared.plans.Plan.{Plan}
 use Rattle.fm_weave.specs.ByPlan.{anchors_by, items_by}
 
--- the holder of a pair has a local, which is so many after the first one that is added
+-- the holder of a pair has a local, which is this many after the first one that is added
 abbrev pub IsLocal : ℕ → (ℕ × ℕ) → Type 0
 IsLocal first p = first + p.1 < MAX_LOCAL_WORDS
 
@@ -25,7 +25,8 @@ pub record HasRoom (code : Code) (plan : Plan) : Type 0 where
   pub before : AreLocals code.max_locals plan.before.items
   pub after : AreLocals code.max_locals plan.after.items
 
--- the code may be woven by the plan: what comes of it may be laid out, and there is room for one more word on its stack
+-- the code may be woven by the plan: its result may be laid out, and there is room for one more
+-- word on its stack
 pub record MayBeWoven (free : ℕ) (code : Code) (plan : Plan) : Type 0 where
   pub old_items : AreOldItems code.items
   pub rules : MeetsCodeRules code

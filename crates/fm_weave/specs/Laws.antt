@@ -14,7 +14,7 @@ use Rattle.fm_place.specs.declared.plans.Plan.{Plan}
 use Rattle.fm_weave.specs.ByPlan.{anchors_by, code_by, items_by, narrow_by}
 use Rattle.fm_weave.specs.Conditions.{MayBeWoven}
 
--- the plan is that of these insertions, which tell of each item
+-- the plan is that of these insertions, which have an entry for each item
 pub record IsWholePlan (code : Code) (ins : Insertions) (plan : Plan) : Type 0 where
   pub plan_is : IsPlanOf ins plan
   pub whole : length ins.before ≡ length code.items
@@ -25,11 +25,11 @@ pub record IsWovenAlike (free : ℕ) (code : Code) (ins : Insertions) (plan : Pl
   pub items : items_by free code plan ≡ woven free code ins
   pub code_is : code_by free code plan ≡ woven_code free code ins
 
--- what is woven by a plan that stands for insertions is what the definitions insert
+-- what is woven by the plan of insertions is what the definitions insert
 abbrev pub PlansAreInsertions : Type 0
 PlansAreInsertions = (free : ℕ) (code : Code) (ins : Insertions) (plan : Plan) → IsWholePlan code ins plan → IsWovenAlike free code ins plan
 
--- what suits a method may be woven, as long as there are not too many new items to tell their bytes
+-- what suits a method may be woven, as long as the bytes of its new items can be counted
 abbrev pub PlansMayBeWoven : Type 0
 PlansMayBeWoven =
     (free : ℕ) (code : Code) (ins : Insertions) (plan : Plan) → IsWholePlan code ins plan → AreOldItems code.items → MeetsCodeRules code

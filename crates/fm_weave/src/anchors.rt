@@ -50,8 +50,8 @@ fn anchors_after(
     Ok(anchors)
 }
 
-/// How many new items an old one becomes, with so many holders that are freed before it, and so many
-/// that take its object.
+/// How many new items an old one becomes, with `freed` holders that are freed before it, and
+/// `stored` that take its object.
 fn count_of(freed: usize, stored: usize) -> u32
     requires { count_by freed stored < 2 ^ 32 }
     ensures { result ≡ count_by freed stored }

@@ -1,4 +1,4 @@
-// How many bytes the new items of a method take, told from its plan.
+// How many bytes the new items of a method take, by its plan.
 
 ghost use Rattle.std.specs.Prelude.{◌≡◌, ◌+◌, ◌≤◌, ◌<◌, ◌^◌, length};
 ghost use Rattle.fm_base.specs.declared.limits.TheConstants.{MAX_LOCAL_WORDS};
@@ -95,7 +95,7 @@ fn store_end(end: u32, local: u16) -> u32
     end + DUP_BYTES + local_size(local)
 }
 
-/// Where that ends which makes so many holders null, from this local on.
+/// Where that ends which makes `holders` holders null, from this local on.
 fn nulls_end(first: u16, holders: u16) -> u32
     requires room { first + holders ≤ MAX_LOCAL_WORDS }
     requires fits { inserted_end 0 (nulls_by first holders) < 2 ^ 32 }

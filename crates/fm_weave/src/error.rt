@@ -10,7 +10,8 @@ use thiserror::Error;
 /// Why a class isn't woven.
 #[derive(Clone, Copy, Debug, PartialEq, Eq, Error)]
 pub enum WeaveFail {
-    /// The method of this place in the class would have so many bytes of code, more than it may have.
+    /// The method of this place in the class would have this many bytes of code, more than it may
+    /// have.
     #[error("method {0} of {1} bytes is too long")]
     TooLong(usize, u32),
     /// Memory couldn't be had.

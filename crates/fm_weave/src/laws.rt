@@ -3,8 +3,8 @@
 ghost use Rattle.fm_weave.specs.ClassLaws.{ClassesAreRewritten};
 ghost use Rattle.fm_weave.specs.Laws.{BytesAreCounted, PlansAreInsertions, PlansMayBeWoven};
 
-/// By its plan a method becomes what it becomes by the insertions that the plan tells; and what suits
-/// it may be woven.
+/// By its plan a method becomes what it becomes by the insertions that the plan lists; and what
+/// suits it may be woven.
 pub fn law_plans()
     ensures alike { PlansAreInsertions }
     ensures may { PlansMayBeWoven }

@@ -1,7 +1,8 @@
 // Methods and classes with what is inserted into them, by plans that are given.
 //
-// A plan tells a method's holders and where they are freed. Here it becomes a list of new items, which is
-// laid out; and changed classes get the entries of FreeMe.free. The layer above makes the plans.
+// A plan lists a method's holders and where they are freed. Here it becomes a list of new items,
+// which is laid out; and changed classes get the entries of FreeMe.free. The layer above makes the
+// plans.
 #![tactic(auto)]
 
 mod anchors;

@@ -16,7 +16,8 @@ pub enum Planned {
     Same,
     /// It is woven by this plan.
     Woven(Plan),
-    /// It would have so many bytes of code already while no branch is widened, which are too many.
+    /// It would have this many bytes of code already while no branch is widened, which are too
+    /// many.
     TooLong(u32),
 }
 

@@ -19,7 +19,7 @@ pub(crate) const DUP_BYTES: u32 = 1;
 /// The bytes of an invokestatic.
 pub(crate) const CALL_BYTES: u32 = 3;
 
-/// The bytes of a branch that tells its distance in two bytes.
+/// The bytes of a branch that has its distance in two bytes.
 const SHORT_JUMP_BYTES: u32 = 3;
 
 /// The bytes of a goto_w.

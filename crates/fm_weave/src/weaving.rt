@@ -41,7 +41,7 @@ pub(crate) fn woven_items(
     Ok(woven)
 }
 
-/// What makes so many holders null, from this local on.
+/// What makes `holders` holders null, from this local on.
 fn nulls(alloc: Global, first: u16, holders: u16) -> Result<Vec<NewItem>, NoMemory>
     requires { first + holders ≤ MAX_LOCAL_WORDS }
     ensures { IfOk result (λ items. items.items ≡ nulls_by first holders) }

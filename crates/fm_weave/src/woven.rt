@@ -56,7 +56,7 @@ fn woven_with(
     )
 }
 
-/// The same by its new items. `free` tells only which they are.
+/// The same by its new items. `free` only serves to recognise them.
 #[tactic(auto, using(crate::proofs::LaidLemmas::cause_from))]
 fn laid_code(
     alloc: Global,

@@ -33,7 +33,7 @@ use Rattle.fm_whole.proofs.StoresKeep.{leads-later}
 
 -- ---- lists
 
--- what stands in a list after one place of it was set
+-- what is in a list after one place of it was set
 pub set_at : {X : Type 0} (xs : List X) (i : ℕ) (x : X) (k : ℕ) (d : X)
     → ((i ≡ k) × (slice_index_or (slice_set xs i x) k d ≡ x)) ⊎ (slice_index_or (slice_set xs i x) k d ≡ slice_index_or xs k d)
 set_at [] i x k d = inr refl

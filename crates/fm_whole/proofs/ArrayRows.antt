@@ -99,7 +99,7 @@ module _ (r : Row) where
 
   -- ---- the array below the index
 
-  -- what stands where the checker has null or an array leads to null or to such an array
+  -- what is where the checker has null or an array leads to null or to such an array
   array_leads : (passes : TypeRef → Bool) → ((a t : TypeRef) → fits_type o.classes a t ≡ true → passes t ≡ true → passes a ≡ true)
       → (null : List Slot) (given : TypeRef → List Slot) (below : Slot) (slots : List Slot) → on_array passes null given below ≡ Some slots → (v : Value)
       → WordFits o r.areas.store r.own r.news below v → IsReference v × LeadsToA o r.areas.store passes (cell_of v)

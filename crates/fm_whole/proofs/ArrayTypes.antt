@@ -1,4 +1,5 @@
--- Arrays of types that fit: what the rows of the checker keep along their order is so of the types alone.
+-- Arrays of types that fit: what the rows of the checker keep along their order holds of only the
+-- types.
 use Rattle.std.proofs.Common.{◌≡◌, ℕ, ◌-◌, ◌==◌, Bool, true, false, List, [], ◌∷◌, ◌++◌, cond, nat_lt, Option, Some, None, option_map, refl, sym, ap, subst, arith}
 use Rattle.std.proofs.lemmas.Bool.{false≢true}
 use Rattle.std.proofs.lemmas.Bool.Decides.{nat_tests}
@@ -21,7 +22,7 @@ use Rattle.fm_world.specs.Descriptors.{kind_with}
 use Rattle.fm_world.specs.Programs.{Outline}
 use Rattle.fm_frames.specs.ArrayRows.{element_kind, element_type}
 
--- an array below an index, and one alone
+-- an array below an index, and only an array
 abbrev loading : TypeRef → TypeState
 loading t = record { locals = []; stack = slot.Int ∷ slot.Ref t ∷ []; built = true }
 

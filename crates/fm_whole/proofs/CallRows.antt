@@ -255,7 +255,7 @@ module _ (p : Program) (typings : Typings) (typed_all : AreTyped p typings) (ste
   abbrev seen : List Sight
   seen = sights o x.store f.stack
 
-  -- what is to be shown of each effect that a call comes to, where it leads as it may by its kinds
+  -- what is to be shown of each effect that a call can have, where it leads as it may by its kinds
   record Owed (e : Effect) : Type 0 where
     owes : CallLeads p f i after e e.next → Whole r e
 

@@ -107,7 +107,7 @@ module _ (o : Outline) (store : Store) (own : ℕ) (news : ℕ → Option TypeRe
   below_state given [] = None
   below_state given (below ∷ stack) = option_map (λ slots. record s { stack = slots ++ stack }) (given below)
 
-  -- what the row finds: the slots on top are taken, and this one stands below them
+  -- what the row finds: the slots on top are taken, and this one is below them
   pub record Below (wanted : List Slot) (given : Slot → Option (List Slot)) (after : TypeState) : Type 0 where
     pub below : Slot
     pub slots : List Slot

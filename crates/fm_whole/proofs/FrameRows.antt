@@ -1,4 +1,4 @@
--- The row at which a frame of a whole state stands: its effect is no fault.
+-- The row at which a frame of a whole state is: its effect is no fault.
 use Rattle.std.proofs.Common.{◌≡◌, ℕ, false, length, Option, Some, None, option_and_then, refl, sym, ◌∙◌, ap, subst}
 use Rattle.std.specs.List.{AllZip}
 use Rattle.std.proofs.lemmas.Option.{same_Some}

@@ -32,7 +32,8 @@ use Rattle.fm_whole.specs.Whole.{FrameFits, FrameIsWhole, LocalFits, WordFits}
 use Rattle.fm_whole.proofs.SlotsFit.{frame_along}
 use Rattle.fm_whole.proofs.StoresKeep.{zip_each}
 
--- what fits a state of an item fits it by whatever the item's state and the method's code are told
+-- what fits a state of an item fits it by whatever way the item's state and the method's code are
+-- given
 known_whole : (p : Program) (typings : Typings) (store : Store) (f : Frame) (code : Code) (known : TypeState) → code_at p f.method ≡ Some code
     → state_at (typings f.method) f.item ≡ Some known
     → FrameFits p.outline store (class_of_method p.outline f.method) (made_at p f.method code) known f.locals f.stack → FrameIsWhole p typings store f

@@ -24,7 +24,7 @@ use Rattle.fm_sound.proofs.JumpRows.{return_by, return_is, return_leads}
 use Rattle.fm_whole.proofs.Owing.{Cell}
 use Rattle.fm_whole.proofs.RowCases.{asked_int, asked_object, asked_reference, kinds, Leaves, Row, same_leaves, seen_holds, taken_cells, Whole, worked_leaves}
 
--- so many words as there are among the first of them
+-- as many words as there are among the first of them
 take_again : (n : ℕ) (words : List Value) → take (length (take n words)) words ≡ take n words
 take_again zero words = refl
 take_again (suc n) [] = refl
@@ -96,7 +96,7 @@ module _ (r : Row) where
       let rest = option_map-some (λ stack. record r.before { stack = [] ++ stack }) (taken o (stack_slots (k ∷ [])) r.before.stack) r.after parts.1 in
       taken_cells r (stack_slots (k ∷ [])) rest.0 rest.1
 
-  -- and so many as the instruction returns
+  -- and as many as the instruction returns
   returned_fits : (q : Reg) (n : ℕ) → return_row o r.frame.method (Some q) r.before ≡ Some r.after
       → HaveKinds (result_words o r.frame.method) (take n r.frame.stack) → Fits (take n r.frame.stack)
   returned_fits q n checked has =

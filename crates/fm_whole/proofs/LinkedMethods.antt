@@ -70,7 +70,7 @@ parameters_text FreeMeLink = object_text ++ object_text
 parameters_text FreeMeFreeChain = object_text
 parameters_text row = []
 
--- where it is told whether the class is StringBuffer
+-- where it is given whether the class is StringBuffer
 abbrev result_text : Bool → Native → List ℕ
 result_text buffer ObjectInit = codes "V"
 result_text buffer ObjectEquals = codes "Z"
@@ -250,7 +250,7 @@ module _ (o : Outline) (more : List DeclaredClass) (classes : o.classes ≡ buil
   abbrev Result : ℕ → Bool → Native → Type 0
   Result class buffer row = stack_slots (option_to_list (result_kind o.classes (descriptor_of buffer row))) ≡ result_given o (type_of_class class) row
 
-  -- append answers its own class
+  -- append returns its own class
   append_is : (class : ℕ) (shown : Shown) (buffer : Bool) → (class == 3) ≡ buffer → ((class == 2) || (class == 3)) ≡ true
       → result_by (class_number o.classes (cond buffer (codes "java/lang/StringBuffer") (codes "java/lang/StringBuilder"))) ≡ slot.Ref (type_of_class class) ∷ []
   append_is class shown true here is =

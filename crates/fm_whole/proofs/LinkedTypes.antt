@@ -103,7 +103,7 @@ module _ (given : List DeclaredClass) where
   unfolding built_in
   input_there = position_from-zero (λ (c : DeclaredClass). bytes_eq c.name (codes "java/io/InputStream")) (built_in ++ given)
 
-  -- ---- what stands above them
+  -- ---- what is above them
 
   -- the superclasses of throwables
   pub parents : (parent_of all 9 ≡ Some 7) × (parent_of all 10 ≡ Some 7) × (parent_of all 11 ≡ Some 9) × (parent_of all 13 ≡ Some 11)

@@ -1,4 +1,5 @@
--- The row of multianewarray: each array of arrays is made before it is put where it stands in the one that was made before, and is of that one's element type.
+-- The row of multianewarray: each array of arrays is made before it is put at its place in the one
+-- that was made before, and is of that one's element type.
 use Rattle.std.proofs.Common.{◌≡◌, ℕ, zero, suc, ℤ, ◌+◌, ◌*◌, ◌<◌, ◌≤◌, ◌&&◌, int_lt, pos, unsigned_abs, List, [], ◌∷◌, ◌++◌, length, replicate, reverse, nat_lt, nat_le, Option, Some, None, refl, sym, ◌∙◌, ap, subst, inl, inr, slice_get, append_assoc, arith}
 use Rattle.std.specs.List.{AllByRecursion, flat_map, list_any, range_with_len}
 use Rattle.std.proofs.Math.Nat.{suc-mul}
@@ -37,7 +38,7 @@ use Rattle.fm_whole.proofs.Wanted.{wanted_at, word_fits_at, word_there}
 
 -- ---- lists
 
--- what follows one list stands at its length
+-- what follows one list is at its length
 past_first : {X : Type 0} (xs ys : List X) → slice_get (xs ++ ys) (length xs) ≡ slice_get ys 0
 past_first [] ys = refl
 past_first (x ∷ xs) ys = past_first xs ys
@@ -73,7 +74,8 @@ module _ (r : Row) where
 
   -- ---- what is made and put
 
-  -- all that follows suits, whichever so many objects were made, the first of them of this type
+  -- all that follows suits, whichever objects were made, if they are this many, the first of them
+  -- of this type
   abbrev SuitAfter : List TypeRef → ℕ → TypeRef → List Action → Type 0
   SuitAfter types n t rest = (made : List TypeRef) → length made ≡ n → slice_get made 0 ≡ Some t → Suit (types ++ made) rest
 

@@ -1,4 +1,5 @@
--- What a row asks of its operands holds where the checker has slots that fit: then neither operands of another sort nor cells in which they can't be are met.
+-- What a row requires of its operands holds where the checker has slots that fit: then neither
+-- operands of another sort nor cells in which they can't be are met.
 use Rattle.std.proofs.Common.{◌≡◌, ℕ, zero, suc, ℤ, Bool, true, cond, List, [], ◌∷◌, Option, Some, sym, ◌∙◌, ap, subst, refl, slice_get}
 use Rattle.std.specs.List.{AllZip}
 use Rattle.std.proofs.lemmas.Bool.{false≢true}

@@ -1,5 +1,6 @@
--- What the effect of a row owes, so that no cell is met in a way in which it can't be: its actions put what fits, and the frame that goes on, the words of a
--- result, what is thrown and the arguments of a call lead to cells that fit. Of kinds nothing is said, which are known beside.
+-- What the effect of a row owes, so that no cell is met in a way in which it can't be: its actions
+-- put what fits, and the frame that goes on, the words of a result, what is thrown and the
+-- arguments of a call lead to cells that fit. Kinds are left out: they are known beside.
 use Rattle.std.specs.Prelude.{◌≡◌, ℕ, ◌⊎◌, Bool, true, List, [], ◌∷◌, ◌++◌, map, reverse, take, Option, Some, slice_get}
 use Rattle.std.specs.List.{AllZip}
 use Rattle.fm_base.specs.declared.kinds.Kind.{Kind}
@@ -56,7 +57,8 @@ GivesCells o store own news f types slots gives =
 
 -- ---- actions
 
--- One after the other: what is put suits its kind, and content is named of texts alone; nothing is freed or chained.
+-- One after the other: what is put suits its kind, and content is named only of texts; nothing is
+-- freed or chained.
 abbrev pub ActsSuit : Outline → Store → List Value → List TypeRef → List Action → Type 0
 ActsSuit o store stack types [] = Unit {0}
 ActsSuit o store stack types (Make t len content ∷ more) = ((content ≡ []) ⊎ (t ≡ text_type o)) × ActsSuit o store stack (types ++ t ∷ []) more

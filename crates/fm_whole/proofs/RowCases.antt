@@ -1,4 +1,5 @@
--- How rows ask of their operands where the frame fits the state before them, and what the shortest effects owe.
+-- How rows require of their operands where the frame fits the state before them, and what the
+-- shortest effects owe.
 use Rattle.std.proofs.Common.{◌≡◌, ℕ, zero, suc, ℤ, Bool, true, List, [], ◌∷◌, ◌++◌, length, take, codes, Option, Some, None, refl, sym, ◌∙◌, ap, subst, inl, slice_get}
 use Rattle.std.specs.List.{AllZip}
 use Rattle.std.proofs.lemmas.Option.{none-some, same_Some}

@@ -21,7 +21,7 @@ use Rattle.fm_whole.specs.Whole.{CellFits, FrameFits, LeadsToA, LocalFits, lowes
 
 -- ---- lists
 
--- what stands to the first of two that stand to each other stands to the second
+-- what is related to the first of two related ones is related to the second
 pub zip_along : {A B : Type 0} (R : A → A → Type 0) (P Q : A → B → Type 0) → ((a b : A) (v : B) → R a b → P a v → Q b v)
     → (xs ys : List A) (words : List B) → AllZip R xs ys → AllZip P xs words → AllZip Q ys words
 zip_along R P Q each [] [] [] level h = tt

@@ -21,7 +21,7 @@ drop_short (suc n) (x ∷ xs) = let less = drop_short n xs in omega (arith, less
 pub lowest_all : (xs : List Slot) (n : ℕ) → length xs ≡ n → lowest n xs ≡ xs
 lowest_all xs n same = let none : length xs - n ≡ 0 = omega (arith, same) in ap (λ k. drop k xs) none
 
--- so many slots as are left from some on are these
+-- as many slots as are left from some on are these
 pub lowest_drop : (n : ℕ) (xs : List Slot) → lowest (length (drop n xs)) xs ≡ drop n xs
 lowest_drop zero xs = lowest_all xs (length xs) refl
 lowest_drop (suc n) [] = refl

@@ -1,5 +1,6 @@
--- What holds of each effect that a row can come to holds of the row, where the words of the stack fit what the checker's row takes of it: an operand is of the
--- sort that is asked, and a reference leads to null or to an object that fits.
+-- What holds of each effect that a row can have holds of the row, where the words of the stack fit
+-- what the checker's row takes of it: an operand is of the sort that is asked, and a reference
+-- leads to null or to an object that fits.
 use Rattle.std.proofs.Common.{◌≡◌, ℕ, zero, suc, ℤ, Bool, true, false, cond, List, [], ◌∷◌, Option, Some, sym, ◌∙◌, ap, subst, refl, slice_get}
 use Rattle.std.specs.List.{AllZip}
 use Rattle.std.proofs.lemmas.Option.{same_Some}
@@ -26,7 +27,7 @@ use Rattle.fm_whole.proofs.StoresKeep.{sees}
 
 -- ---- what is taken of a stack
 
--- the slot that stands where one is wanted fits it
+-- the slot that is where one is wanted fits it
 pub wanted_at : (o : Outline) (wanted stack rest : List Slot) → taken o wanted stack ≡ Some rest → (n : ℕ) (w : Slot) → slice_get wanted n ≡ Some w
     → (s : Slot) × (slice_get stack n ≡ Some s) × (fits o s w ≡ true)
 wanted_at o [] stack rest is n w at = absurd (cc)

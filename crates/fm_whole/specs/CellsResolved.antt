@@ -1,4 +1,5 @@
--- What linking makes sure of, so that each cell fits where it stands and no instruction meets a cell in which it can't be (JVMS 5.3.5, 5.4.3, 5.4.5, 6.5).
+-- What linking makes sure of, so that each cell fits its place and no instruction meets a cell in
+-- which it can't be (JVMS 5.3.5, 5.4.3, 5.4.5, 6.5).
 use Rattle.std.specs.Prelude.{◌≡◌, ℕ, not, Bool, true, false, List, [], ◌∷◌, codes, Some, slice_get, unwrap_or}
 use Rattle.std.specs.List.{AllByRecursion}
 use Rattle.fm_base.specs.declared.ids.MethodId.{MethodId}
@@ -70,7 +71,7 @@ special_of p method m named = special_target p.outline.classes (class_of_method 
 
 -- ---- built-in methods
 
--- the words of what is appended, printed or told
+-- the words of what is appended, printed or given as a text
 abbrev pub shown_asked : Outline → Shown → List Slot
 shown_asked o ShownInt = slot.Int ∷ []
 shown_asked o ShownLong = slot.Top ∷ slot.Long ∷ []
@@ -209,7 +210,7 @@ pub record CallsFit (p : Program) : Type 0 where
       → slice_get p.outline.types t.0 ≡ Some named → is_constructor p.outline m.0 ≡ true
       → class_of_type named ≡ Some (class_of_method p.outline (special_of p method m named))
 
--- all that is asked of a program so that each cell fits where it stands
+-- all that a program needs so that each cell fits its place
 pub record CellsAreResolved (p : Program) : Type 0 where
   pub built_in : BuiltInsFit p
   pub places : PlacesFit p

@@ -1,4 +1,5 @@
--- What is asked of the actions of a step, so that what the frames share stays whole: what is put leads to null or to an object of a type that fits the place.
+-- What is required of the actions of a step, so that what the frames share stays whole: what is put
+-- leads to null or to an object of a type that fits the place.
 use Rattle.std.specs.Prelude.{◌≡◌, ℕ, ◌⊎◌, Bool, true, false, List, [], ◌∷◌, ◌++◌, Some, slice_get, unwrap_or}
 use Rattle.fm_base.specs.declared.kinds.Kind.{Kind}
 use Rattle.fm_base.specs.declared.kinds.Kind.TheVariants as kind

@@ -46,8 +46,9 @@ abbrev pub ReferencesAreSeen : Type 0
 ReferencesAreSeen =
     (o : Outline) (store : Store) (test : TypeRef → Bool) (v : Value) → IsReference v → LeadsToA o store test (cell_of v) → SeesA test (sight o store v)
 
--- What a row asks of a word holds where the checker has a slot that fits: it goes on with an object of a type that fits, or throws for null, and neither
--- an operand of another sort nor a cell in which it can't be is met.
+-- What a row requires of a word holds where the checker has a slot that fits: it goes on with an
+-- object of a type that fits, or throws for null, and neither an operand of another sort nor a cell
+-- in which it can't be is met.
 abbrev pub ObjectsAreAsAsked : Type 0
 ObjectsAreAsAsked =
     (o : Outline) → AreTree o.classes → (store : Store) (own : ℕ) (news : ℕ → Option TypeRef) (slots : List Slot) (words : List Value)
@@ -77,7 +78,7 @@ ActionsKeepWhole =
 
 -- ---- built-in classes
 
--- Built-in classes and methods are what is asked of them, in each linked program.
+-- Built-in classes and methods are as required, in each linked program.
 abbrev pub BuiltInsAreAsAsked : Type 0
 BuiltInsAreAsAsked = (p : Program) → IsResolved p → BuiltInsFit p
 

@@ -28,7 +28,8 @@ NeverFaults p typings =
     → (budget : ℕ) (limit : Option ℕ) (free : List (List ℕ)) → budget ≤ MAX_LIVE_WORDS → (k : ℕ)
     → IsWholeBy p typings (state_of p choose job budget limit free k) × HasNoFault (state_of p choose job budget limit free k)
 
--- so it is for the program of accepted class files, as many as one call takes, against which no cause stands
+-- this holds for the program of accepted class files, as many as one call takes, against which
+-- there is no cause
 abbrev pub LinkedProgramsNeverFault : Type 0
 LinkedProgramsNeverFault =
     (given : List ClassDef) (main : List ℕ) → AllByRecursion HasSpelling given → AllByRecursion IsSupported given → refusals given main ≡ []

@@ -1,5 +1,7 @@
--- What holds of each state to which the run of a typed program comes that calls no FreeMe (JVMS 2.5, 2.6, 4.10): each cell that a frame, a static field, an
--- object or a literal leads to is null's, or an object lies in it, of a type that fits where it stands. Interfaces count as Object, as where states are checked.
+-- What holds of each state that the run of a typed program reaches which calls no FreeMe (JVMS 2.5,
+-- 2.6, 4.10): each cell that a frame, a static field, an object or a literal leads to is null's, or
+-- an object lies in it, of a type that fits its place. Interfaces count as Object, as where states
+-- are checked.
 use Rattle.std.specs.Prelude.{◌≡◌, ℕ, ◌-◌, ◌⊎◌, Bool, true, false, List, length, drop, Option, Some, None, slice_get}
 use Rattle.std.specs.List.{AllByRecursion, AllZip, slice_index_or}
 use Rattle.fm_base.specs.declared.ids.MethodId.{MethodId}
@@ -63,14 +65,14 @@ pub record WordFits (o : Outline) (store : Store) (own : ℕ) (news : ℕ → Op
   pub kind : HasKind s v
   pub cell : CellFits o store own news s (cell_of v)
 
--- the same of a local: of Top nothing is asked
+-- the same of a local: where the checker has Top the value may be any
 pub record LocalFits (o : Outline) (store : Store) (own : ℕ) (news : ℕ → Option TypeRef) (s : Slot) (v : Value) : Type 0 where
   pub kind : LocalHasKind s v
   pub cell : CellFits o store own news s (cell_of v)
 
 -- ---- frames
 
--- so many slots from below
+-- this many slots from below
 abbrev pub lowest : ℕ → List Slot → List Slot
 lowest n slots = drop (length slots - n) slots
 

@@ -1,4 +1,4 @@
-// Laws over definitions alone, each the contract of a function that does nothing.
+// Laws over definitions only, each the contract of a function that does nothing.
 
 ghost use Rattle.fm_whole.specs.Laws as law;
 
@@ -12,8 +12,8 @@ pub fn law_sights()
     ensures { law.ReferencesAreSeen }
 {}
 
-/// What rows ask of their operands holds where the checker has slots that fit: an int, a long, or an object
-/// of a type that fits, and null throws; so no fault comes but by what follows.
+/// What rows require of their operands holds where the checker has slots that fit: an int, a long,
+/// or an object of a type that fits, and null throws; so no fault comes but by what follows.
 pub fn law_operands()
     ensures objects { law.ObjectsAreAsAsked }
     ensures ints { law.IntsAreAsAsked }

@@ -1,4 +1,5 @@
--- What is inserted into a method fits its new code: its locals are there, and it names FreeMe.free alone.
+-- What is inserted into a method fits its new code: its locals are there, and it names only
+-- FreeMe.free.
 use Rattle.std.proofs.Common.{◌≡◌, ℕ, ◌+◌, ◌<◌, List, [], ◌∷◌, length, Option, Some, None, Contains, refl, arith}
 use Rattle.std.specs.Prelude.{nat_eq}
 use Rattle.std.specs.List.{AllByRecursion, flat_map, range_with_len}
@@ -17,7 +18,7 @@ use Rattle.fm_place.specs.Insertions.{after_at, before_at, Holder, Insertions}
 use Rattle.fm_place.specs.Laws.{Suits}
 use Rattle.fm_place.specs.Woven.{anchors_of, freed, kept, local_of, null_stored, top_stored, woven, woven_from, woven_item}
 
--- an instruction that is inserted into code with so many locals, where FreeMe.free has this index
+-- an instruction that is inserted into code with `locals` locals, where FreeMe.free has this index
 abbrev pub InsertedFits : (free locals : ℕ) → Insn → Type 0
 InsertedFits free locals insn.Null = Unit {0}
 InsertedFits free locals insn.Dup = Unit {0}

@@ -22,9 +22,9 @@ use Rattle.fm_code.specs.declared.instructions.Insn.TheVariants as insn
 use Rattle.fm_code.specs.declared.opcodes.TheConstants.{LDC2_W}
 use Rattle.fm_pool.proofs.GrownPool.{class_kept, entry_kept, pair_kept, text_kept}
 
--- ---- answers that stay
+-- ---- results that stay
 
--- where each answer stays, there is one still
+-- where each result stays, there is one still
 pub still_some : {X : Type 0} (o p : Option X) → ((x : X) → o ≡ Some x → p ≡ Some x) → IsSome o → IsSome p
 still_some o p stays there = let v = Some-from_is_some o there in IsSome-from_some p v.0 (stays v.0 v.1)
 
@@ -146,7 +146,7 @@ module _ (entries more : List Entry) where
       let v = Some-from_is_some (utf8_at entries index) there in
       v.1 ∙ ap (λ t. Some t) (same_value (utf8_at (entries ++ more) index) v.0 text (text_kept entries more index v.0 v.1) is)
 
-  -- and so each look-up of it answers the same
+  -- and so each look-up of it returns the same
   pub text_same : (index : ℕ) → IsSome (utf8_at entries index) → utf8_at (entries ++ more) index ≡ utf8_at entries index
   text_same index there = let v = Some-from_is_some (utf8_at entries index) there in text_kept entries more index v.0 v.1 ∙ sym v.1
 

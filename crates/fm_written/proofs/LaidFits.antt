@@ -75,7 +75,7 @@ module _ (P : Item → Type 0) (targeted : HoldsOfTargets P) where
 
 -- ---- locals and operands
 
--- an item's locals are among so many, and its operand is in the pool
+-- an item's locals are among this many, and its operand is in the pool
 abbrev pub ItemFits : (locals : ℕ) → List Entry → Item → Type 0
 ItemFits locals entries item = LocalsFit locals item.insn × OperandIsValid entries item
 
@@ -91,7 +91,7 @@ targeted_fits locals entries offset bytes f (insn.Table low others targets) name
 targeted_fits locals entries offset bytes f (insn.Lookup others keys targets) named = (tt, tt)
 targeted_fits locals entries offset bytes f i named = absurd cc
 
--- what an item asks of the pool doesn't hang on its offset
+-- what an item requires of the pool doesn't hang on its offset
 operand_there : (entries : List Entry) (offset start : ℕ) (bytes : List ℕ) (i : Insn) → OperandIsValid entries (record { offset = offset; bytes = bytes; insn = i })
     → OperandIsValid entries (record { offset = start; bytes = bytes; insn = i })
 operand_there entries offset start bytes insn.Nop valid = valid

@@ -1,4 +1,5 @@
--- A changed class is accepted where the class is: its version, the counts of its methods, and all that stands in it.
+-- A changed class is accepted where the class is: its version, the counts of its methods, and all
+-- that is in it.
 use Rattle.std.proofs.Common.{◌≡◌, ℕ, ◌+◌, inr, Bool, true, false, List, [], ◌∷◌, ◌++◌, length, map, Option, Some, None, IfSome, IsSome, refl, sym, ap, subst, ◌∙◌, arith}
 use Rattle.std.specs.List.{AllByRecursion}
 use Rattle.std.specs.Option.{option_map}

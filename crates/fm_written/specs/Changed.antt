@@ -1,4 +1,5 @@
--- What is asked of a class and of what is inserted into its methods, and that the changed class has a spelling then.
+-- What is required of a class and of what is inserted into its methods, and that the changed class
+-- has a spelling then.
 use Rattle.std.specs.Prelude.{ℕ, ◌+◌, ◌≤◌, List, [], ◌∷◌, length, Option, Some, None}
 use Rattle.std.specs.List.{AllByRecursion}
 use Rattle.fm_base.specs.declared.limits.TheConstants.{MAX_FILE_BYTES}
@@ -20,7 +21,7 @@ use Rattle.fm_place.specs.Rewriting.{free_index, Plans, rewritten_major, rewritt
 use Rattle.fm_place.specs.Woven.{woven}
 use Rattle.fm_place.specs.declared.limits.TheConstants.{MAX_HOLDING_STACK_WORDS}
 
--- ---- what is asked
+-- ---- what is required
 
 -- of a code and its insertions: there is room for what is inserted, and the code isn't too long with it
 pub record CanWeave (free : ℕ) (code : Code) (plan : Insertions) : Type 0 where

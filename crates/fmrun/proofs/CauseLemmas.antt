@@ -249,7 +249,7 @@ module _ {words : List Bytes} {old new : Disk} {before after : Output} (o : Outc
         go (inl among) = ⊎_elim (λ (same : kind_of o ≡ DONE). inl same) (λ (one : Contains instead_for_file (kind_of o)). inr (late o one)) (Contains-cons_cases DONE instead_for_file (kind_of o) among)
         go (inr lacking) = inr (2, omega arith, sym lacking)
 
--- a failure isn't told as what is done
+-- a failure isn't reported as what is done
 not_done : {words : List Bytes} {old new : Disk} {before after : Output} (r : JobRefusal) → ComesOf words old new before after (Err (fail.Refused r)) → refusal_status r ≡ DONE → ⊥
 not_done r comes is = let bounds = among_refusals (refusal_status r) (refusal_among r comes) in let low = bounds.low in omega arith
 
@@ -336,7 +336,7 @@ module _ {words : List Bytes} {old new : Disk} {before after : Output} (report r
       let P : ℕ → Type 0 = λ s. ¬ Contains refusals s in
       run_put o comes (subst P (sym put.0) none) put.1 (sym put.0)
 
-  -- a run that is told, or isn't
+  -- a run that is reported, or isn't
   run_told : (o : Outcome) → ComesOf words old new before after o → IsTold o report report' result → kind_of o ≡ DONE → SaysRun words old new before after report report' result ⊎ Contains instead_for_file result
   run_told (Ok told) comes (inl put) is =
       let j = job_of_told told comes in

@@ -31,7 +31,7 @@ use Rattle.fmrun.specs.declared.outcome.JobFail.TheVariants as fail
 
 -- ---- ends
 
--- a number of which the lowest bits are told has no status of a refusal or of another end
+-- a number of which the lowest bits are reported has no status of a refusal or of another end
 exit_apart : (low : ℕ) (above below : Bool) → nat_le 64 low ≡ above → nat_le low 85 ≡ below → (s : ℕ) → 64 ≤ s → s ≤ 85 → (if above && below then OTHER_EXIT else low) ≡ s → ⊥
 exit_apart low true true a b s from to is = omega arith
 exit_apart low true false a b s from to is = let over = leb-false low 85 b in omega arith
@@ -85,7 +85,7 @@ pub among_before_run : (status : ℕ) → Contains before_run status → IsBetwe
 among_before_run = one_between 64 71 before_run refl
 
 module _ {words : List Bytes} {old new : Disk} {before after : Output} where
-  -- a run that is told is that of a job
+  -- a run that is reported is that of a job
   pub job_of_told : (told : Told) → ComesOf words old new before after (Ok told) → ComesOfJob words old new before after (Ok told)
   job_of_told told (inl j) = j
   job_of_told told (inr (inl nothing)) = absurd (let other = nothing.refused in cc)

@@ -121,7 +121,7 @@ few_of lent are few = let P : List (List ℕ) → Type 0 = λ xs. length xs ≤ 
 pub ends_at_once : (job : Job) (disk : Disk) (out : Output) → ComesTo job disk disk out out (Err (fail.Refused (job_refusal.Shared refusal.OutOfMemory)))
 ends_at_once job disk out = inl (record { faultless = record { reads = λ name. refl; writes = λ name. refl }; kept = refl }, refl)
 
--- the class files alone were read
+-- only the class files were read
 pub classes_within : (job : Job) (old between : Disk) → ReadsAll job.files old between → StaysWithin job old between
 classes_within job old between = reads_among job.files (input_files job.input) old between
 
@@ -153,7 +153,7 @@ module _ {job : Job} {classes : List ClassDef} {old between : Disk} (has : HasCl
   same_contents = has.all.writes.contents
 
   module _ (few : length (job_arguments job) ≤ MAX_ARGUMENTS) (new : Disk) (reads : ReadsInput job.input between new) where
-    -- the class files and the input alone were read
+    -- only the class files and the input were read
     pub both_within : StaysWithin job old new
     both_within = input_too job.files job.input old between new has.all reads
 

@@ -1,4 +1,5 @@
--- What else is known of a run that is told: when it ends in a fault, and how many cells it made.
+-- What else is known of a run that is reported: when it ends in a fault, and how many cells it
+-- made.
 use Rattle.std.proofs.Common.{◌≡◌, ◌⊎◌, ℕ, inl, inr, List, Contains, Option, Some, None, refl, sym, ◌∙◌, ap, subst, arith}
 use Rattle.std.specs.List.{sum}
 use Rattle.std.specs.Prelude.{unwrap_or}

@@ -76,7 +76,7 @@ module _ (classes : List ClassDef) (main : List ℕ) where
           within.words runs.run.count in
           subst (λ (m : Moved). HasNoFault m.state) (last_after p b arguments input last before after runs) kept.1
 
-      -- their run is told
+      -- their run is reported
       pub comes_told : LinkedProgramsNeverFault → AllByRecursion IsSpelled classes → AllByRecursion Profile classes → length classes ≤ MAX_CLASS_FILES
           → AreWithin b → ArgumentsFit arguments → length input ≤ MAX_FILE_BYTES → (told : Told) → ComesOfRun program b arguments input before after (Ok told)
           → ComesOfClasses classes main b arguments input before after (Ok told)

@@ -1,4 +1,4 @@
--- What is told of an outcome, and what outcomes do to the counts of faults.
+-- What is reported of an outcome, and what outcomes do to the counts of faults.
 use Rattle.std.proofs.Common.{◌≡◌, ◌≢◌, ◌<◌, ◌⊎◌, ℕ, inl, inr, List, ◌∷◌, Contains, IfSome, Ok, Err, string_bytes, refl, sym, ap, ◌∙◌, subst, arith}
 use Rattle.fm_files.specs.Files.{Bytes, Disk}
 use Rattle.fm_files.specs.Sink.{Output, with_piece}

@@ -1,4 +1,4 @@
--- Where contents are known, a job comes to one verdict, and so to one status.
+-- Where contents are known, a job has one verdict, and so one status.
 use Rattle.std.proofs.Common.{◌≡◌, ◌<◌, ◌≤◌, ◌⊎◌, ℕ, inl, inr, ⊎_elim, List, ◌∷◌, length, Contains, Option, Some, None, IsSomeAnd, MatchOption, Ok, Err, refl, sym, ap, ◌∙◌, subst, arith}
 use Rattle.std.proofs.lemmas.Bool.{cases_lt}
 use Rattle.fm_base.proofs.OptionFacts.{IsSomeAnd-weaker, Some-from_some_and, same_value}
@@ -36,12 +36,12 @@ use Rattle.fmrun.specs.declared.outcome.JobFail.TheVariants as fail
 
 -- ---- the input
 
--- what a file for the input comes to: it isn't there, or is too long, or the rest follows
+-- the verdict on a file for the input: it isn't there, or is too long, or the rest follows
 abbrev pub OfInput : Type 0 → ℕ → Option Bytes → Type 0
 OfInput Rest status there =
     ((there ≡ None) × (status ≡ READ)) ⊎ IsSomeAnd there (λ bytes. ((MAX_FILE_BYTES < length bytes) × (status ≡ LIMIT)) ⊎ ((length bytes ≤ MAX_FILE_BYTES) × Rest))
 
--- what classes come to after the input
+-- the verdict on classes after the input
 abbrev pub Inputs : Ends → (Bytes → Option Bytes) → Option Bytes → Ends
 Inputs Rest held named classes status = MatchOption named (Rest classes status) (λ file. OfInput (Rest classes status) status (held file))
 
@@ -89,7 +89,7 @@ same_input (Some file) held a b p q = same_value (held file) a b p.1 q.1
 abbrev pub Runs : Ends
 Runs classes status = status ≡ DONE
 
--- what the class files of a job come to
+-- the verdict on the class files of a job
 abbrev pub Last : (Bytes → Option Bytes) → Job → Ends
 Last held job = Inputs (Links Runs (modified job.main)) held job.input
 
@@ -97,7 +97,7 @@ last_once : (held : Bytes → Option Bytes) (job : Job) → EndsOnce (Last held 
 last_once held job =
     inputs_once (Links Runs (modified job.main)) held job.input (links_once Runs (modified job.main) (λ classes s t a b. a ∙ sym b))
 
--- what its files come to
+-- the verdict on its files
 abbrev pub JobVerdict : (Bytes → Option Bytes) → Job → ℕ → Type 0
 JobVerdict held job status = Verdict (Last held job) held job.files status
 
@@ -105,7 +105,7 @@ module _ (job : Job) (old : Disk) (held : Bytes → Option Bytes) (known : old.c
   pub input_known : (input : Bytes) → IsInputOf job.input old.contents input → IsInputOf job.input (Some held) input
   input_known input = let P : Contents → Type 0 = λ c. IsInputOf job.input c input in subst P known
 
-  -- all files are taken, and so much follows
+  -- all files are taken, and this follows
   pub passes : (classes : List ClassDef) (status : ℕ) → AllTaken old.contents job.files classes → Last held job classes status → JobVerdict held job status
   passes classes status taken last = inr (inr (record { classes = classes; taken = all_taken job.files old.contents held known classes taken; last = last }))
 
@@ -160,7 +160,7 @@ module _ (job : Job) (old : Disk) (held : Bytes → Option Bytes) (known : old.c
 
 -- ---- runs
 
--- a run within a budget comes to one state, with one output
+-- a run within a budget reaches one state, with one output
 one_run : (p : Program) (choose : Choose) (budget : ℕ) (opened x y : Moved) → IsRun p choose budget opened x → IsRun p choose budget opened y → x ≡ y
 one_run p choose budget opened x y a b = ⊎_elim
     (λ (lower : a.count < b.count). absurd (a.stops (b.goes a.count lower)))
@@ -172,7 +172,7 @@ one_run p choose budget opened x y a b = ⊎_elim
     (cases_lt b.count a.count))
     (cases_lt a.count b.count)
 
--- the run of a job with these classes comes to an end of this status
+-- the run of a job with these classes reaches an end of this status
 record EndsAs (held : Bytes → Option Bytes) (job : Job) (classes : List ClassDef) (status : ℕ) : Type 0 where
   input : Bytes
   input_is : IsInputOf job.input (Some held) input

@@ -91,7 +91,7 @@ pub record LacksInput (old : Disk) (job : Job) : Type 0 where
   pub taken : AllTaken old.contents job.files classes
   pub missing : IsKnownMissing old.contents file
 
--- a read failed, or a file is known not to be there where the call comes to it
+-- a read failed, or a file is known not to be there when the call reaches it
 abbrev pub MissesFile : List Bytes → Disk → Disk → Type 0
 MissesFile words old new = FailsARead old new ⊎ AskToRead words (λ job. IsMissing old (given_of job) ⊎ LacksInput old job)
 
@@ -134,7 +134,8 @@ pub record SaysManyArguments (words : List Bytes) (old new : Disk) (before after
   pub many : AreManyArguments job (length (job_arguments job)) old new
   pub refused : IsRefusedBy (many_arguments_line (length (job_arguments job))) before after report report'
 
--- or a file is too long, or the class files up to it are, where contents are known; so much was seen of them
+-- or a file is too long, or the class files up to it are, where contents are known; and enough
+-- bytes were read to show it
 pub record SaysLong (words : List Bytes) (old new : Disk) (before after report report' : Output) : Type 0 where
   pub job : Job
   pub asked : Asks words job
@@ -170,7 +171,7 @@ pub record IsForLimit (words : List Bytes) (old new : Disk) (before after report
 
 -- ---- 70
 
--- all files are taken, and the classes make no program; the line tells the first cause
+-- all files are taken, and the classes make no program; the line names the first cause
 pub record SaysLink (words : List Bytes) (old new : Disk) (before after report report' : Output) : Type 0 where
   pub job : Job
   pub asked : Asks words job
@@ -187,7 +188,7 @@ IsForLink words old new before after report report' result =
 
 -- ---- 71
 
--- they make one, and a method of it isn't typed; the line tells the first
+-- they make one, and a method of it isn't typed; the line names the first
 pub record SaysCheck (words : List Bytes) (old new : Disk) (before after report report' : Output) : Type 0 where
   pub job : Job
   pub asked : Asks words job
@@ -204,7 +205,8 @@ IsForCheck words old new before after report report' result =
 
 -- ---- the ends of runs
 
--- the run came to its end: the status, what the output got and the one line of the report are those of it
+-- the run reached its end: the status, what the output got and the one line of the report are those
+-- of it
 pub record SaysRun (words : List Bytes) (old new : Disk) (before after report report' : Output) (result : ℕ) : Type 0 where
   pub job : Job
   pub asked : Asks words job
@@ -219,7 +221,7 @@ pub record IsKnownReady (old : Disk) (job : Job) : Type 0 where
   pub input : Bytes
   pub ready : IsReady job old.contents classes input
 
--- and the run comes to an end of this status
+-- and the run reaches an end of this status
 pub record IsKnownRun (status : ℕ) (old : Disk) (job : Job) : Type 0 where
   pub known : IsSome old.contents
   pub classes : List ClassDef
@@ -230,8 +232,8 @@ pub record IsKnownRun (status : ℕ) (old : Disk) (job : Job) : Type 0 where
   pub run : IsRun (job_program job classes) choice job.steps (silent (opened_job job classes input)) (record { state = last; printed = printed })
   pub status_is : status ≡ end_status (report_of last).end
 
--- each status that isn't of a refusal comes of the run alone; where a job is ready, none comes but that of its run, unless a read or a put fails or
--- memory can't be had
+-- each status that isn't of a refusal comes only of the run; where a job is ready, only that of its
+-- run is returned, unless a read or a put fails or memory can't be had
 pub record IsForRun (words : List Bytes) (old new : Disk) (before after report report' : Output) (result : ℕ) : Type 0 where
   pub only : ¬ Contains refusals result → SaysRun words old new before after report report' result
   pub ready : AskFor words (IsKnownReady old) → SaysRun words old new before after report report' result ⊎ Contains (READ ∷ WRITE ∷ OUT_OF_MEMORY ∷ []) result
@@ -239,7 +241,7 @@ pub record IsForRun (words : List Bytes) (old new : Disk) (before after report r
 
 -- ---- 83
 
--- the run came to its end in a fault, and a method of its program calls FreeMe
+-- the run ended in a fault, and a method of its program calls FreeMe
 pub record SaysFault (words : List Bytes) (old new : Disk) (before after report report' : Output) : Type 0 where
   pub run : SaysRun words old new before after report report' FAULT
   pub frees : ¬ CallsNoFreeMe (job_program run.job run.ran.classes)
@@ -274,7 +276,7 @@ pub record SaysUnprinted (words : List Bytes) (old new : Disk) (before after rep
   pub failed : HasFailed job old new before after
   pub silent : report' ≡ report
 
--- or what the words ask for came out in some way, and the put of the line that tells it failed
+-- or what the words ask for came out in some way, and the put of its line failed
 pub record SaysUntold (words : List Bytes) (old new : Disk) (before after report report' : Output) : Type 0 where
   pub outcome : Outcome
   pub comes : ComesOf words old new before after outcome
@@ -316,7 +318,8 @@ IsFaultless old new before after report report' result =
 abbrev pub IsSilent : Output → Output → ℕ → Type 0
 IsSilent before after result = Contains before_run result → after ≡ before
 
--- a job reads its files alone, and words that ask for nothing leave the files as they were; no contents change and no write fails
+-- a job reads only its files, and words that ask for nothing leave the files as they were; no
+-- contents change and no write fails
 pub record OnlyReads (words : List Bytes) (old new : Disk) : Type 0 where
   pub asked : (job : Job) → Asks words job → StaysWithin job old new
   pub unasked : AskNothing words → new ≡ old

@@ -29,9 +29,9 @@ use Rattle.fmrun.specs.Jobs.{given_of, job_arguments, job_files, job_program, op
 use Rattle.fmrun.specs.declared.outcome.JobFail.{JobFail}
 use Rattle.fmrun.specs.declared.outcome.JobFail.TheVariants as fail
 
--- ---- what a job does whatever comes of it
+-- ---- what a job does whatever its outcome
 
--- it reads its files alone, and no write fails and no contents change
+-- it reads only its files, and no write fails and no contents change
 abbrev pub StaysWithin : Job → Disk → Disk → Type 0
 StaysWithin job = ReadsAll (job_files job)
 
@@ -68,8 +68,9 @@ pub record HasInput (job : Job) (contents : Contents) : Type 0 where
 
 -- ---- how a job is run
 
--- the run was opened with these classes and this input, and came to its end: what it printed came to the output, each step's bytes in one put, and
--- this is its line and its status. Where no method of the program calls FreeMe it didn't end in a fault
+-- the run was opened with these classes and this input, and reached its end: what it printed went
+-- to the output, each step's bytes in one put, and this is its line and its status. Where no method
+-- of the program calls FreeMe it didn't end in a fault
 pub record HasRun (job : Job) (line : List ℕ) (status : ℕ) (old new : Disk) (before after : Output) : Type 0 where
   pub classes : List ClassDef
   pub input : Bytes
@@ -81,7 +82,7 @@ pub record HasRun (job : Job) (line : List ℕ) (status : ℕ) (old new : Disk) 
   pub no_fault : CallsNoFreeMe (job_program job classes) → HasNoFault last
   pub untouched : IsUntouched old new
 
--- the put of what one of its steps prints failed, after what the steps before it printed came
+-- the put of what one of its steps prints failed, after what the steps before it printed went out
 pub record HasFailed (job : Job) (old new : Disk) (before after : Output) : Type 0 where
   pub classes : List ClassDef
   pub input : Bytes
@@ -89,7 +90,7 @@ pub record HasFailed (job : Job) (old new : Disk) (before after : Output) : Type
   pub fails : FailsRun (job_program job classes) choice job.steps (opened_job job classes input) before after
   pub untouched : IsUntouched old new
 
--- memory couldn't be had after some of its first steps, and what they printed came
+-- memory couldn't be had after some of its first steps, and what they printed went out
 pub record HasBroken (job : Job) (old new : Disk) (before after : Output) : Type 0 where
   pub classes : List ClassDef
   pub input : Bytes
@@ -99,11 +100,11 @@ pub record HasBroken (job : Job) (old new : Disk) (before after : Output) : Type
 
 -- ---- how a job comes out
 
--- with what is told of the run, or with why it isn't done
+-- with the report of the run, or with why it isn't done
 abbrev pub Outcome : Type 0
 Outcome = Result Told JobFail
 
--- what a refusal tells of the files of a job that has not too many arguments
+-- what a refusal says of the files of a job that has not too many arguments
 abbrev pub IsRefusedByFiles : Job → Disk → Disk → JobRefusal → Type 0
 IsRefusedByFiles job old new (job_refusal.TooLong file) = IsLong job.files file.now old new ⊎ IsInputLong job file.now old new
 IsRefusedByFiles job old new (job_refusal.Class file refusal) = IsRefusedFile job.files file.now refusal old new
@@ -112,7 +113,7 @@ IsRefusedByFiles job old new (job_refusal.Link fail) = HasInput job old.contents
 IsRefusedByFiles job old new (job_refusal.Check name) = HasInput job old.contents × IsNotTyped (given_of job) name old new
 IsRefusedByFiles job old new r = ⊥
 
--- what a refusal tells of a job
+-- what a refusal says of a job
 abbrev pub IsRefusedAs : Job → Disk → Disk → JobRefusal → Type 0
 IsRefusedAs job old new (job_refusal.TooManyFiles count) = AreMany job.files count old new
 IsRefusedAs job old new (job_refusal.TooManyArguments count) = AreManyArguments job count old new
@@ -170,7 +171,7 @@ abbrev pub IsTold : Outcome → Output → Output → ℕ → Type 0
 IsTold outcome old new result =
     MatchOption (outcome_line outcome) ((result ≡ outcome_status outcome) × (new ≡ old)) (λ line. Tells line (outcome_status outcome) old new result)
 
--- what a call does: what the words ask for comes out in some way, and that is told
+-- what a call does: what the words ask for comes out in some way, and that is reported
 pub record IsTopCall (words : List Bytes) (old new : Disk) (before after report report' : Output) (result : ℕ) : Type 0 where
   pub outcome : Outcome
   pub comes : ComesOf words old new before after outcome

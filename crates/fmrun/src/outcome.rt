@@ -10,7 +10,7 @@ use fm_base::NoMemory;
 use fm_frames::StepFail;
 use fm_given::JobRefusal;
 
-/// Why nothing is told of a run.
+/// Why there is no report of a run.
 #[derive(Debug, Drop)]
 pub enum JobFail<'a> {
     /// The job is refused.

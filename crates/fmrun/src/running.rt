@@ -19,9 +19,9 @@ use fm_resolved::{law_can_run, law_linked_no_fault};
 use fm_runner::{Budgets, Told, run_program};
 use std::alloc::Global;
 
-/// Runs the program of classes with a main class of this name, where they make one of typed methods, and
-/// tells of its run; it ends in a fault only where a method calls FreeMe. The classes are dropped once they are
-/// linked.
+/// Runs the program of classes with a main class of this name, where they make one of typed
+/// methods, and returns the report of its run; it ends in a fault only where a method calls FreeMe.
+/// The classes are dropped once they are linked.
 pub fn run_classes<'a, O: Sink>(
     alloc: Global,
     classes: Vec<ClassDef>,

@@ -12,7 +12,7 @@ use fm_samples::{CALLS_ITSELF, COMPUTED, COMPUTES, DIVIDES_BY_ZERO, PRINTS_FOREV
 use std::alloc::Global;
 use std::test::Fail;
 
-// A call over files in memory, and what came of it. The number of a call that fails is counted from 1;
+// A call over files in memory, and its outcome. The number of a call that fails is counted from 1;
 // 0 is none.
 #[derive(Clone, Copy)]
 struct Case<'a> {
@@ -127,7 +127,7 @@ fn other_cases<'a>(
             reported: b"refused: read M.class\n",
             ..sum
         },
-        // A run of so many prints as could neither be kept nor be waited for, had it gone on.
+        // A run with more prints than could be kept or waited for, had it gone on.
         Case {
             words: "--steps 2147483648 M M.class",
             file: prints_forever,

@@ -25,7 +25,7 @@ use fm_runner::{Budgets, Told};
 use fm_tool::{Refusal, put_line, status};
 use std::alloc::Global;
 
-/// Does what the words of the command line ask for, puts the line that reports it, and answers the
+/// Does what the words of the command line ask for, puts the line that reports it, and returns the
 /// status.
 pub fn fmrun_run<F: Files, O: Sink, R: Sink>(
     alloc: Global,
@@ -95,7 +95,7 @@ pub fn fmrun_run<F: Files, O: Sink, R: Sink>(
     tell(alloc, outcome, report)
 }
 
-// Puts the line of an outcome, if it has one, and answers its status, or that of the put.
+// Puts the line of an outcome, if it has one, and returns its status, or that of the put.
 fn tell<R: Sink>(alloc: Global, outcome: Result<Told, JobFail<'_>>, report: &mut R) -> u8
     ensures { IsTold outcome.entry (R.output report.old) (R.output report.new) result }
 {

@@ -228,7 +228,7 @@ found_known main known found classes is (inl call) =
 found_known main known found classes is (inr by) =
     let P : Option (ℕ × ℕ) → Type 0 = BecomesAs known classes main in sym (subst P by.no_call is by.facts by.exact by.least) ∙ by.status
 
--- classes come to the one status or to the other
+-- the verdict on classes is the one status or the other
 abbrev Rewrites : List ℕ → ℕ → ℕ → Ends
 Rewrites main known found classes status = (IsKnown main known classes × (status ≡ known)) ⊎ (IsFound main found classes × (status ≡ found))
 
@@ -254,7 +254,7 @@ found_of main classes (fail.PoolFull class indices) first = inr (by_facts main c
 found_of main classes (fail.MethodTooLong method bytes) first = inr (by_facts main classes (fail.MethodTooLong method bytes) first)
 found_of main classes fail.NoMemory first = absurd first
 
--- what the files of a job come to
+-- the verdict on the files of a job
 abbrev JobVerdict : (known found : ℕ) → (Bytes → Option Bytes) → Job → ℕ → Type 0
 JobVerdict known found held job status = Verdict (Links (Rewrites (main_name job) known found) (main_name job)) held job.files status
 

@@ -138,7 +138,7 @@ cause_there given main (fail.PoolFull class indices) comes = pool_there given ma
 cause_there given main (fail.MethodTooLong method bytes) comes = method_there given main method bytes comes
 cause_there given main fail.NoMemory comes = tt
 
--- and is told by its name
+-- and is reported by its name
 pub cause_told : (given : List ClassDef) (main : List ℕ) (cause : RewriteFail) (name : List ℕ) → ComesOfRewriting given main (Err cause)
     → IsNamed (program_of given main).outline cause name → ComesOfFreeing given main (Err (free_refusal.Rewrite cause name))
 cause_told given main (fail.CallsFree method offset) name comes named = (comes, named)

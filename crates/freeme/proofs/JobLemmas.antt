@@ -293,7 +293,7 @@ module _ {request : Request} {names : List (Bor Bytes)} {classes : List ClassDef
   ends_not_freed checked (free_refusal.Job (job_refusal.Shared refusal.OutOfMemory)) now = inl (read_untouched (job_of request) old between classes reads.read reads.all)
   ends_not_freed checked r now = absurd now
 
-  -- the classes that are rewritten, with what is told of them
+  -- the classes that are rewritten, with what is reported of them
   module _ (checked : AreChecked (given_of (job_of request)) old.contents classes) (made : Rewritten) (rewritten : AreRewritten classes (main_name (job_of request)) made) where
     judged : AreJudged classes (program_of classes (main_name (job_of request)))
     judged = record {

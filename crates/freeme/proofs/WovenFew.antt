@@ -18,7 +18,7 @@ use Rattle.fm_place.specs.Sites.{sites_of}
 use Rattle.fm_place.specs.Woven.{anchors_of, freed, kept, local_of, null_stored, top_stored, woven, woven_from, woven_item}
 use Rattle.fm_rewrite.proofs.FullPlanLemmas.{before_few, holders_counted, pairs_counted, pairs_few}
 
--- so many items for each holder of a list
+-- this many items for each holder of a list
 each_size : (f : ℕ → List NewItem) (size : ℕ) → ((h : ℕ) → length (f h) ≡ size) → (hs : List ℕ) → length (flat_map f hs) ≡ size * length hs
 each_size f size each [] = omega arith
 each_size f size each (h ∷ hs) =

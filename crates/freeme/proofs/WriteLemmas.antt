@@ -20,7 +20,7 @@ use Rattle.fm_given.proofs.ListLemmas.{take_next, AllByRecursion-next}
 
 -- ---- names
 
--- the names of files tell the texts
+-- files of one name have one text
 file_name-injective : (folder : Bytes) (a b : List ℕ) → file_name folder a ≡ file_name folder b → a ≡ b
 file_name-injective folder a b e =
     let class = codes ".class" in

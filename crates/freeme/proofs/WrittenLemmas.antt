@@ -71,7 +71,7 @@ by_change plans first c true = record c {
 pub rewritten-is : (plans : Plans) (first : ℕ) (c : ClassDef) → rewritten_class plans first c ≡ by_change plans first c (changes plans first c)
 rewritten-is plans first c = refl
 
--- ---- what stands in the way of nothing
+-- ---- what hinders nothing
 
 or_first : {X : Type 0} (a b : Option X) → option_or a b ≡ None → (a ≡ None) × (b ≡ None)
 or_first None b e = (refl, e)

@@ -93,8 +93,9 @@ pub record SaysMany (words : List Bytes) (old new : Disk) (before after : Output
   pub many : AreMany job.files (length job.files) old new
   pub line : after ≡ with_piece (many_line (length job.files)) before
 
--- a file of the job is too long, or those up to it are, where contents are known; so much was seen of them; those before it are taken, nothing
--- failed, no contents changed, and the sink got one line
+-- a file of the job is too long, or those up to it are, where contents are known; enough bytes were
+-- read to show it; those before it are taken, nothing failed, no contents changed, and the sink got
+-- one line
 pub record SaysLong (words : List Bytes) (old new : Disk) (before after : Output) : Type 0 where
   pub job : Job
   pub asked : Asks words job
@@ -147,8 +148,9 @@ IsForCheck words old new before after result =
 
 -- ---- 72, 73 and 74
 
--- all files of the job are taken, their classes make a program, its methods are typed, there is a cause of this status not to rewrite it, of which the
--- line tells the first one, nothing failed, no contents changed, and the sink got that line
+-- all files of the job are taken, their classes make a program, its methods are typed, there is a
+-- cause of this status not to rewrite it, of which the line names the first one, nothing failed, no
+-- contents changed, and the sink got that line
 pub record SaysNotFreed (status : ℕ) (words : List Bytes) (old new : Disk) (before after : Output) : Type 0 where
   pub job : Job
   pub asked : Asks words job
@@ -163,15 +165,16 @@ abbrev pub cause_status : Option RewriteFail → ℕ
 cause_status None = DONE
 cause_status (Some cause) = rewrite_status cause
 
--- This status comes of classes with a main class: as their program calls FreeMe, or else by all exact facts of it, with least typings. These facts differ in
--- the numbers of classes alone.
+-- This status comes of classes with a main class: as their program calls FreeMe, or else by all
+-- exact facts of it, with least typings. These facts differ only in the numbers of classes.
 abbrev pub BecomesAs : ℕ → List ClassDef → List ℕ → Option (ℕ × ℕ) → Type 0
 BecomesAs status classes main (Some call) = CALLS_FREE ≡ status
 BecomesAs status classes main None =
     (facts : Facts) → AreFacts (program_of classes main) facts → AreLeastTypings (program_of classes main) facts.typing
     → cause_status (first_cause (full_plans (program_of classes main) facts) classes) ≡ status
 
--- contents are known, all files of the job are taken, their classes make a program, its methods are typed, and this status comes of it
+-- contents are known, all files of the job are taken, their classes make a program, its methods are
+-- typed, and this is its status
 pub record IsKnownAs (status : ℕ) (old : Disk) (job : Job) : Type 0 where
   pub known : IsSome old.contents
   pub classes : List ClassDef
@@ -254,7 +257,8 @@ abbrev pub KeepsContents : Disk → Disk → ℕ → Type 0
 KeepsContents old new result =
     Contains (WORDS ∷ READ ∷ MALFORMED ∷ VERSION ∷ LIMIT ∷ UNSUPPORTED ∷ LINK ∷ CHECK ∷ CALLS_FREE ∷ POOL_FULL ∷ METHOD_TOO_LONG ∷ []) result → new.contents ≡ old.contents
 
--- a job reads its files alone and changes no name but those of class files in its folder, and words that ask for nothing leave the files as they were
+-- a job reads only its files and changes no name but those of class files in its folder, and words
+-- that ask for nothing leave the files as they were
 pub record ChangesOnly (words : List Bytes) (old new : Disk) : Type 0 where
   pub asked : (job : Job) → Asks words job → StaysWithin job old new
   pub unasked : AskNothing words → new ≡ old

@@ -1,4 +1,4 @@
--- How a job that isn't done is told.
+-- How a job that isn't done is reported.
 use Rattle.std.specs.Prelude.{ℕ, List, [], ◌∷◌, ◌++◌, codes}
 use Rattle.std.specs.Fmt.{decimal}
 use Rattle.fm_given.specs.Refusal.{refusal_line as job_line, refusal_status as job_status}
@@ -15,11 +15,11 @@ use Rattle.freeme.specs.declared.status.TheConstants.{CALLS_FREE, POOL_FULL, MET
 abbrev pub calls_line : List ℕ → ℕ → List ℕ
 calls_line method offset = codes "refused: calls FreeMe " ++ (printed method ++ (codes " " ++ (decimal offset ++ 10 ∷ [])))
 
--- of a class whose pool would have so many indices,
+-- of a class whose pool would have this many indices,
 abbrev pub pool_line : List ℕ → ℕ → List ℕ
 pool_line class indices = codes "refused: pool " ++ (printed class ++ (codes " " ++ (decimal indices ++ 10 ∷ [])))
 
--- and of a method that would have so many bytes
+-- and of a method that would have this many bytes
 abbrev pub method_line : List ℕ → ℕ → List ℕ
 method_line method bytes = codes "refused: long " ++ (printed method ++ (codes " " ++ (decimal bytes ++ 10 ∷ [])))
 

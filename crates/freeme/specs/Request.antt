@@ -21,7 +21,7 @@ main_name job = modified job.main
 abbrev pub given_of : Job → Given
 given_of job = record { files = job.files; main = main_name job }
 
--- what stands among the words: two options and the files
+-- what may be among the words: two options and the files
 abbrev pub freeme_rules : List Rule
 freeme_rules = wanted_option_rule (codes "out") ∷ wanted_option_rule (codes "main") ∷ files_rule ∷ []
 

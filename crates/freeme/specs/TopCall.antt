@@ -31,9 +31,9 @@ use Rattle.freeme.specs.declared.refusal.FreeRefusal.{FreeRefusal}
 use Rattle.freeme.specs.declared.refusal.FreeRefusal.TheVariants as free_refusal
 use Rattle.fm_given.specs.declared.refusal.JobRefusal.TheVariants as job_refusal
 
--- ---- what a job does whatever comes of it
+-- ---- what a job does whatever its outcome
 
--- a job reads its files alone, and changes no name but those of class files in its folder
+-- a job reads only its files, and changes no name but those of class files in its folder
 pub record StaysWithin (job : Job) (old new : Disk) : Type 0 where
   pub reads : ReadsOnly (Contains job.files) old new
   pub writes : RisesOnlyAt (IsClassFileIn job.folder) old.write_faults new.write_faults
@@ -48,9 +48,10 @@ pub record AreTakenAgain (given : List ClassDef) (main : List ℕ) (made : Rewri
   pub typed : (safe : Safe given main made.classes.items are.marks) → NoneUnready (program_of given main) safe.facts safe.plans
       → AreTyped (program_of made.classes.items main)
 
--- Its class files make a program of typed methods that calls no FreeMe, and these are its classes with a holder for each held site that is freed at all
--- places of its class, with what is told of each; no pool of them is full, and no method too long. The bytes of each class spell it, it is of the profile, and
--- all of them are taken again.
+-- Its class files make a program of typed methods that calls no FreeMe, and these are its classes
+-- with a holder for each held site that is freed at all places of its class, with the counts of
+-- each; no pool of them is full, and no method too long. The bytes of each class spell it, it is of
+-- the profile, and all of them are taken again.
 pub record AreFreed (job : Job) (contents : Contents) (made : Rewritten) : Type 0 where
   pub classes : List ClassDef
   pub checked : AreChecked (given_of job) contents classes
@@ -63,7 +64,8 @@ pub record AreFreed (job : Job) (contents : Contents) (made : Rewritten) : Type 
 abbrev pub HoldsStill : (file name : Bytes) → (old new : Contents) → Type 0
 HoldsStill file name old new = IfSome old (λ before. IfSome new (λ after. after name ≡ before file))
 
--- of files with the classes that are written of them, and with what is told of these: each class of which no site is held is written byte for byte as read
+-- of files with the classes that are written of them, and with what is reported of these: each
+-- class of which no site is held is written byte for byte as read
 abbrev pub AreStill : (folder : Bytes) → List Bytes → List ClassDef → List Count → (old new : Contents) → Type 0
 AreStill folder [] [] [] old new = Unit {0}
 AreStill folder (file ∷ files) (c ∷ classes) (count ∷ counts) old new =
@@ -111,7 +113,7 @@ pub record IsNotFreed (job : Job) (cause : RewriteFail) (name : Bytes) (old new 
   pub name_is : name ≡ told_name (given_program (given_of job) classes).outline cause
   pub untouched : IsUntouched old new
 
--- how it comes out: with lines that tell of what is written, or with why it isn't done
+-- how it comes out: with lines that report what is written, or with why it isn't done
 abbrev pub Outcome : Type 0
 Outcome = Result (String Global) FreeRefusal
 

@@ -1,4 +1,4 @@
-// The classes of a program with what frees their dead objects, and the lines that tell of them.
+// The classes of a program with what frees their dead objects, and the lines that report them.
 
 ghost use Rattle.std.specs.Prelude.{◌≡◌, ◌<◌, ℕ, List, IfOk, length, string_bytes};
 ghost use Rattle.std.specs.List.{AllByRecursion};
@@ -16,8 +16,9 @@ use fm_rewrite::{Count, RewriteFail, Rewritten, rewrite};
 use fm_world::Program;
 use std::alloc::Global;
 
-/// The classes of a program, each held site with a holder that is freed at all places of its class, and
-/// what is told of each; where there is a cause against it, they are refused for the first one.
+/// The classes of a program, each held site with a holder that is freed at all places of its class,
+/// and what is reported of each; where there is a cause against it, they are refused for the first
+/// one.
 pub fn freed_classes<'a>(
     alloc: Global,
     program: &Program,

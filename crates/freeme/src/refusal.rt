@@ -1,4 +1,4 @@
-// Why freeme doesn't do a job, and how that is told.
+// Why freeme doesn't do a job, and how that is reported.
 
 ghost use Rattle.std.specs.Prelude.{◌≡◌, IfOk, string_bytes};
 ghost use Rattle.fm_given.specs.declared.refusal.JobRefusal.TheVariants as job_refusal;
@@ -19,13 +19,13 @@ pub enum FreeRefusal<'a> {
     /// For the words, for a class file, for the program that the class files make, for a write, or for
     /// want of memory.
     Job(JobRefusal<'a>),
-    /// The program isn't rewritten, for the method or the class of this name; want of memory is never
-    /// told so.
+    /// The program isn't rewritten, for the method or the class of this name; want of memory is
+    /// never reported so.
     Rewrite(RewriteFail, Name),
 }
 
 impl FreeRefusal<'_> {
-    /// The line that tells it, with its line end.
+    /// The line that reports it, with its line end.
     pub fn line(&self, alloc: Global) -> Result<String, NoMemory>
         ensures { IfOk result (λ text. string_bytes text ≡ refusal_line self.now) }
     {
@@ -35,7 +35,7 @@ impl FreeRefusal<'_> {
         }
     }
 
-    /// The status that tells it.
+    /// The status that reports it.
     pub fn status(&self) -> u8
         ensures { result ≡ refusal_status self.now }
     {

@@ -1,5 +1,5 @@
-// The exit statuses of freeme alone, for programs that aren't rewritten; all others stand beside those
-// of fmrun.
+// The exit statuses that only freeme has, for programs that aren't rewritten; all others are listed
+// with those of fmrun.
 
 ghost use Rattle.std.specs.Prelude.{◌≡◌};
 
@@ -12,7 +12,7 @@ pub const POOL_FULL: u8 = 73;
 /// A method would have too many bytes of code.
 pub const METHOD_TOO_LONG: u8 = 74;
 
-/// The value of each status, as its clauses tell.
+/// The value of each status, as its clauses say.
 pub fn law_free_statuses()
     ensures calls_free { CALLS_FREE ≡ 72 }
     ensures pool_full { POOL_FULL ≡ 73 }

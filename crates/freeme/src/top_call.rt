@@ -1,4 +1,4 @@
-// One call of the program: what it reads and writes, and the lines that tell of it.
+// One call of the program: what it reads and writes, and the lines that report it.
 
 ghost use Rattle.fm_tool.specs.Line.{Tells};
 ghost use Rattle.fm_tool.specs.Words.{texts};
@@ -23,7 +23,7 @@ use fm_rewrite::Count;
 use fm_tool::{Refusal, put_line, status};
 use std::alloc::Global;
 
-/// Does what the words of the command line ask for, puts the lines that tell of it, and answers the
+/// Does what the words of the command line ask for, puts the lines that report it, and returns the
 /// status.
 pub fn freeme_run<F: Files, S: Sink>(
     alloc: Global,
@@ -76,7 +76,7 @@ pub fn freeme_run<F: Files, S: Sink>(
     tell(alloc, outcome, out)
 }
 
-// Does what the words ask for, and answers the lines that tell of it.
+// Does what the words ask for, and returns the lines that report it.
 fn do_words<'a, F: Files>(
     alloc: Global,
     words: &'a [String],
@@ -117,7 +117,7 @@ fn do_job<'a, F: Files>(
     Ok(lines)
 }
 
-// Puts the lines of an outcome, and answers its status, or that of the put.
+// Puts the lines of an outcome, and returns its status, or that of the put.
 fn tell<S: Sink>(alloc: Global, outcome: Result<String, FreeRefusal<'_>>, out: &mut S) -> u8
     ensures { Tells (outcome_line outcome.entry) (outcome_status outcome.entry)
         (S.output out.old) (S.output out.new) result }

@@ -1,4 +1,4 @@
--- What the start of classes asks of the program and of the state, and how far it has come.
+-- What the start of classes requires of the program and of the state, and how far it has come.
 use Rattle.std.specs.Prelude.{◌≡◌, ℕ, ◌+◌, ◌-◌, ◌^◌, ◌==◌, ◌<◌, ◌≤◌, Bool, true, false, List, [], ◌∷◌, ◌++◌, length, count_by}
 use Rattle.std.specs.List.{AllByRecursion}
 use Rattle.fm_base.specs.Rows.{has}
@@ -15,8 +15,9 @@ use Rattle.fm_frames.specs.inner.Places.{IsOfKind}
 use Rattle.fm_world.specs.Chains.{is_among}
 use Rattle.fm_world.specs.Programs.{Outline, Program}
 
--- a text that is named is there, and is one of so many that have places for their literals; a number fits the kind of its field; and where a literal is
--- given to a field, that one is of references
+-- a text that is named is there, and is one of the `literals` texts that have places for their
+-- literals; a number fits the kind of its field; and where a literal is given to a field, that one
+-- is of references
 abbrev pub Suits : Program → (literals : ℕ) → Action → Type 0
 Suits p literals (MakeLiteral text) = (text < length p.outline.texts) × (text < literals)
 Suits p literals (SetStatic slot k (Plain v)) = IsOfKind k (kept k v)
@@ -31,7 +32,7 @@ AllSuit p literals actions = AllByRecursion (Suits p literals) actions
 abbrev pub AreCounted : List Bool → List ℕ → Type 0
 AreCounted counted literals = (text : ℕ) → text < length counted → has counted text ≡ is_among text literals
 
--- the actions make objects of so many words, whatever was made before
+-- the actions make objects of this many words, whatever was made before
 abbrev pub HasWords : Outline → List Action → ℕ → Type 0
 HasWords o actions words = (x : Areas) (literals : List ℕ) → words_among o x literals actions ≡ words
 
@@ -41,8 +42,8 @@ HasWords o actions words = (x : Areas) (literals : List ℕ) → words_among o x
 abbrev pub unmade : List ℕ → ℕ
 unmade literals = count_by (λ cell. cell == 0) literals
 
--- what the actions that are left ask, where the instruction after them needs so many words: one more object can be numbered after the literals that aren't
--- made yet, and all that is made may live
+-- what the actions that are left need, where the instruction after them needs `own` words: one more
+-- object can be numbered after the literals that aren't made yet, and all that is made may live
 pub record CanAct (o : Outline) (x : State) (left : List Action) (own : ℕ) : Type 0 where
   pub births : x.areas.store.births + unmade x.areas.literals < 2 ^ 32 - 1
   pub budget : x.areas.store.budget ≤ 2 ^ 27

@@ -1,4 +1,4 @@
--- What stands at a call for the ends that a method lists, by their numbers there.
+-- The nodes at a call of the ends that a method lists, by their numbers there.
 use Rattle.std.specs.Prelude.{ℕ, ◌==◌, List, [], ◌∷◌, Option, Some, None, if◌then◌else◌}
 use Rattle.std.specs.List.{flat_map}
 use Rattle.fm_conn.specs.Summaries.{end_number}
@@ -9,11 +9,11 @@ abbrev pub with_number : Option ℕ → ℕ → List (ℕ × ℕ)
 with_number None x = []
 with_number (Some n) x = (n, x) ∷ []
 
--- for each end of the call that the method lists, its number there, and the number of what stands for it
+-- for each end of the call that the method lists, its number there, and the number of its node
 abbrev pub numbered : List (End2 × ℕ) → List (End2 × ℕ) → List (ℕ × ℕ)
 numbered entries ends = flat_map (λ e. with_number (end_number entries e.0) e.1) ends
 
--- what stands for the first end of this number
+-- the node of the first end of this number
 abbrev pub first_with : List (ℕ × ℕ) → ℕ → ℕ → ℕ
 first_with [] n otherwise = otherwise
 first_with (x ∷ xs) n otherwise = if x.0 == n then x.1 else first_with xs n otherwise

@@ -10,7 +10,7 @@ pub record NodeTable : Type 0 where
   pub locals : ℕ
   pub words : List (List Bool)
 
--- a table of so many locals and of the words of each item's stack
+-- a table of this many locals and of the words of each item's stack
 abbrev pub table_in : ℕ → List (List Bool) → NodeTable
 table_in locals words = record { locals = locals; words = words }
 

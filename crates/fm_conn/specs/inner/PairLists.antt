@@ -65,7 +65,7 @@ pub record ItemPlace : Type 0 where
 abbrev pub place_of : ItemNodes → ItemPlace
 place_of x = record { item = x.item; insn = x.insn.now; resolved = x.resolved; depth = x.depth; below = x.below }
 
--- an item whose stack has so many words
+-- an item whose stack has this many words
 abbrev pub place_with : TypedMethod → ℕ → Insn → ℕ → ItemPlace
 place_with x j i depth =
     record { item = j; insn = i; resolved = use_at x i; depth = depth; below = depth - words_taken x.program.outline (use_at x i) i }
@@ -90,7 +90,7 @@ at_place (Some place) list = list place
 
 -- ---- what an item pairs, but for calls
 
--- the number of the node that a place of a row stands for
+-- the number of the node at a place of a row
 abbrev pub place_number : NodeTable → ItemPlace → Place → Option ℕ
 place_number t x (Taken n) = slot_number t x.item (x.depth - 1 - n)
 place_number t x (Given n) = slot_number t (x.item + 1) (x.below + n)
@@ -138,12 +138,12 @@ own_pairs x reached =
 
 -- ---- calls
 
--- an end with the number that stands for it
+-- an end with the number of its node
 abbrev pub end_entry : End2 → Option ℕ → List (End2 × ℕ)
 end_entry e None = []
 end_entry e (Some number) = (e, number) ∷ []
 
--- what stands for the ends of a method that is called
+-- the nodes of the ends of a method that is called
 unfoldable pub stand_ins : NodeTable → ItemPlace → List (End2 × ℕ)
 stand_ins t x =
     flat_map (λ k. end_entry (end.Parameter k) (slot_number t x.item (x.below + k))) (range_with_len 0 (x.depth - x.below))

@@ -1,4 +1,4 @@
--- What a value of a kind that is put in place of words comes to.
+-- The frames after a value of a kind is put in place of words.
 use Rattle.std.specs.Prelude.{◌≡◌, ℕ, List}
 use Rattle.fm_base.specs.declared.kinds.Kind.{Kind}
 use Rattle.fm_flat.specs.Flows.{on, stepped_on}
@@ -9,7 +9,8 @@ use Rattle.fm_frames.specs.declared.values.Value.{Value}
 use Rattle.fm_frames.specs.inner.Doings.{before, DoesIn}
 use Rattle.fm_world.specs.Programs.{Program}
 
--- a value of the kind, wherever an effect says that it comes from, was put in place of so many words
+-- a value of the kind, wherever an effect says that it comes from, was put in place of `takes`
+-- words
 abbrev pub Gives : (old new : List Frame) → (takes : ℕ) → Kind → Value → Type 0
 Gives old new takes kind v =
     (p : Program) (choose : Choose) (x : State) (source : Source) → value_of (before (on x old)) source ≡ v

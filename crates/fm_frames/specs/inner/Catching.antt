@@ -1,4 +1,4 @@
--- Where an exception goes, as the code tells it.
+-- Where an exception goes, as the code computes it.
 use Rattle.std.specs.Prelude.{◌≡◌, ℕ, ◌+◌, List, [], ◌∷◌, drop, Option, Some, None}
 use Rattle.fm_base.specs.declared.kinds.TypeRef.{TypeRef}
 use Rattle.fm_world.specs.Programs.{Program}
@@ -13,12 +13,12 @@ use Rattle.fm_frames.specs.inner.Frames.{on_top}
 abbrev pub placed : ℕ → ℕ → Frame
 placed method item = record { method = method; item = item; locals = []; stack = [] }
 
--- the frames or the end that a search for a handler came to
+-- the frames or the end that a search for a handler leads to
 abbrev pub caught_as : Value → List Frame → Catch → Caught
 caught_as v frames (catch.InFrame above handler) = InFrames (on_top (λ f. record f { item = handler; stack = v ∷ [] }) (drop above frames))
 caught_as v frames (catch.Leaves e) = Leaves e
 
--- what the frame does above which so many lie, and all below it; none where it has no part in it
+-- what the frame above which this many lie does, and all below it; none where it has no part in it
 abbrev pub IsCaughtAt : Program → TypeRef → Value → List Frame → ℕ → Option Catch → Type 0
 IsCaughtAt p t v frames above None = caught p t v (drop above frames) ≡ caught p t v (drop (above + 1) frames)
 IsCaughtAt p t v frames above (Some catch) = caught p t v (drop above frames) ≡ caught_as v frames catch

@@ -1,4 +1,4 @@
--- What the calls of a machine do, told by effects.
+-- What the calls of a machine do, stated by effects.
 use Rattle.std.specs.Prelude.{◌≡◌, ℕ, ◌+◌, ◌^◌, ◌-◌, ◌<◌, ◌≤◌, ℤ, Bool, true, false, List, [], ◌∷◌, length, max, slice_get, Option, Some, None}
 use Rattle.fm_world.specs.Members.{methods_of}
 use Rattle.fm_world.specs.Programs.{Program}
@@ -33,7 +33,7 @@ pub record IsReady (x : State) : Type 0 where
 abbrev pub AreFramesIn : Program → List Frame → Type 0
 AreFramesIn p frames = (k : ℕ) (f : Frame) → slice_get frames k ≡ Some f → f.method < length (methods_of p.outline.classes)
 
--- what a step asks of the program and of the state, so that numbers fit
+-- what a step requires of the program and of the state, so that numbers fit
 pub record CanStep (p : Program) (x : State) : Type 0 where
   pub runnable : IsRunnable p
   pub ready : IsReady x

@@ -88,7 +88,7 @@ with_called method max_locals words (f ∷ callers) = called method max_locals w
 
 -- ---- returns
 
--- the word of a result at a place, where the result has so many
+-- the word of a result at a place, where the result has `words`
 abbrev pub result_word : (words place : ℕ) → List Value → Option Value
 result_word words place stack = if nat_lt place words then slice_get stack place else None
 

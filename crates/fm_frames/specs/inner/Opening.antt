@@ -93,7 +93,7 @@ OpensArguments p choose x y array arguments false =
     (made : List ℕ) → length made ≡ 3 → slice_index_or made 2 0 ≡ array
     → (follows : Follows) → opened_by p choose (argument_actions p.outline 0 arguments) x made follows ≡ y
 
--- so many objects more were made at most, and the budget of words is as it was
+-- at most `count` objects more were made, and the budget of words is as it was
 pub record GrowsBy (count : ℕ) (x y : State) : Type 0 where
   pub births : y.areas.store.births ≤ x.areas.store.births + count
   pub budget : y.areas.store.budget ≡ x.areas.store.budget

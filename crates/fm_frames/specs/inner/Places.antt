@@ -31,14 +31,15 @@ TakesUnits store cell units = (object : Object) × (object_at store cell ≡ Som
 abbrev pub IsWide : Store → (cell : ℕ) → Type 0
 IsWide store cell = (object : Object) × (object_at store cell ≡ Some object) × (object.pack ≡ 1)
 
--- the store where so many units have been written into the object of the cell
+-- the store where `count` units have been written into the object of the cell
 abbrev pub written_units : Store → (cell : ℕ) → List ℕ → (count : ℕ) → Store
 written_units store cell units count = of_object (object_at store cell) where
   of_object : Option Object → Store
   of_object None = store
   of_object (Some object) = with_object store cell (record object { elements = take count units ++ drop count object.elements })
 
--- what was made is held or was freed, and what was freed had no more words than so many objects may have
+-- what was made is held or was freed, and what was freed had no more words than this many objects
+-- may have
 pub record CountsFrees (x : Areas) : Type 0 where
   pub freed : x.frees + length (map.entries x.store.held) ≡ x.store.births
   pub freed_words : x.freed_words ≤ 2 ^ 32 * x.frees

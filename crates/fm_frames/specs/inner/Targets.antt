@@ -1,4 +1,4 @@
--- Where jumps lead, as the code tells it.
+-- Where jumps lead, as the code computes it.
 use Rattle.std.specs.Prelude.{◌≡◌, ℕ, not, Bool, List, [], ◌∷◌, Some, if◌then◌else◌}
 use Rattle.fm_code.specs.declared.instructions.Insn.{Insn}
 use Rattle.fm_world.specs.Programs.{Program}
@@ -15,7 +15,7 @@ IsTargetIn p (f ∷ callers) target item = item ≡ target_at p f target
 abbrev pub IsTarget : Program → State → ℕ → ℕ → Type 0
 IsTarget p x target item = IsTargetIn p x.frames target item
 
--- the topmost frame stands at this instruction
+-- the topmost frame is at this instruction
 abbrev pub IsAtIn : Program → List Frame → Insn → Type 0
 IsAtIn p [] insn = ⊥
 IsAtIn p (f ∷ callers) insn = insn_at p f ≡ Some insn

@@ -1,4 +1,4 @@
--- What rows ask of their operands, as the code finds it out.
+-- What rows require of their operands, as the code finds it out.
 use Rattle.std.specs.Prelude.{◌≡◌, ℕ, ◌<◌, ◌^◌, ℤ, pos, Bool, false, List, codes, take, length, Option, Some, None, Result, Ok, Err, if◌then◌else◌}
 use Rattle.std.specs.List.{All}
 use Rattle.std.specs.Str.{bytes_eq}
@@ -100,7 +100,7 @@ abbrev pub AsksText : Outline → Store → List Sight → ℕ → Result Text R
 AsksText o store s operand found =
     (follows : List ℕ → Effect) → on_text o s operand follows ≡ asked o operand found (λ text. follows (units_in store text))
 
--- the same where null stands for the word null
+-- the same where null is read as the word null
 abbrev pub AsksTextOrNull : Outline → Store → List Sight → ℕ → Result (Option Text) Refusal → Type 0
 AsksTextOrNull o store s operand found =
     (follows : List ℕ → Effect)

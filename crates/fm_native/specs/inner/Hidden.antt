@@ -1,4 +1,4 @@
--- What rows ask of objects that have a text in a hidden field, as the code finds it out.
+-- What rows require of objects that have a text in a hidden field, as the code finds it out.
 use Rattle.std.specs.Prelude.{◌≡◌, ℕ, ◌^◌, ◌<◌, ◌||◌, Bool, true, codes, List, [], Option, Some, None, Result, IfSome, option_map}
 use Rattle.std.specs.List.{slice_index_or}
 use Rattle.fm_base.specs.declared.kinds.TypeRef.{TypeRef}

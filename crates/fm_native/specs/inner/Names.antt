@@ -19,11 +19,11 @@ letter_of base.Int = INT_LETTER
 letter_of base.Long = LONG_LETTER
 letter_of (base.OfClass class) = CLASS_LETTER
 
--- the name of a class as it stands in a descriptor
+-- the name of a class as it is written in a descriptor
 abbrev pub class_text : (name : List ℕ) → List ℕ
 class_text name = CLASS_LETTER ∷ (name ++ SEMICOLON ∷ [])
 
--- the name of what is no array, or of the elements of an array as it stands in a descriptor
+-- the name of what is no array, or of the elements of an array as it is written in a descriptor
 abbrev pub base_name : Outline → TypeRef → List ℕ
 base_name o t = if t.dims == 0 then plain_name o t.base else base_text o t.base
 

@@ -1,4 +1,4 @@
--- What rows ask of a value that is shown, as the code finds it out.
+-- What rows require of a value that is shown, as the code finds it out.
 use Rattle.std.specs.Prelude.{◌≡◌, ℕ, Bool, false, true, List, [], ◌∷◌, ◌++◌, Result}
 use Rattle.std.specs.Global.{Vec}
 use Rattle.fm_base.specs.declared.characters.TheConstants.{LINE_FEED}

@@ -10,7 +10,7 @@ abbrev pub nest_of : Insn → Option (ℕ × ℕ)
 nest_of (insn.MultiArray index dimensions) = Some (index, dimensions)
 nest_of other = None
 
--- an index stands for a type
+-- an index refers to a type
 abbrev pub is_type : Use → Bool
 is_type (used.OfType t) = true
 is_type other = false

@@ -9,7 +9,7 @@ abbrev pub joined : Option ℤ → Option (List ℤ) → Option (List ℤ)
 joined (Some n) (Some others) = Some (n ∷ others)
 joined n others = None
 
--- so many ints from the top of a stack, the lowest first
+-- this many ints from the top of a stack, the lowest first
 abbrev pub ints_on : List Value → ℕ → Option (List ℤ)
 ints_on stack zero = Some []
 ints_on stack (suc n) = joined (int_in (slice_get stack n)) (ints_on stack n)
@@ -32,7 +32,7 @@ counted None made = None
 counted (Some n) None = None
 counted (Some n) (Some made) = arrays_with n made
 
--- how many arrays so many counts make, which lie on top of a stack
+-- how many arrays this many counts make, which lie on top of a stack
 abbrev pub arrays_on : List Value → ℕ → Option ℕ
 arrays_on stack zero = Some 0
 arrays_on stack (suc n) = counted (int_in (slice_get stack n)) (arrays_on stack n)

@@ -18,7 +18,7 @@ abbrev pub nest_words : Outline → TypeRef → List ℕ → ℕ
 nest_words o t [] = 0
 nest_words o t (len ∷ lens) = request_words (requested o t len false) + len * nest_words o (element_type t) lens
 
--- the outer array takes the place of so many words
+-- the outer array takes the place of this many words
 abbrev pub nest_effect : ℕ → TypeRef → List ℕ → Effect
 nest_effect takes t lens = record (words takes (OfMade 0 ∷ [])) { actions = array_actions t lens 0 }
 
@@ -44,7 +44,7 @@ pub record CanGive (x : State) (t : TypeRef) (lens : List ℕ) : Type 0 where
 
 -- ---- once they are made
 
--- the store has so many objects of so many words more, and wide objects are so still
+-- the store has `objects` objects more, which have `words` words, and wide objects are so still
 pub record Grows (x y : Store) (objects words : ℕ) : Type 0 where
   pub births : y.births ≡ x.births + objects
   pub live : live_words y ≡ live_words x + words

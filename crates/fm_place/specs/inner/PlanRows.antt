@@ -1,4 +1,5 @@
--- What is known of a method while its plan is made: rows of bits in which a bit stands for a class that holders share.
+-- What is known of a method while its plan is made: rows of bits with a bit for each class that
+-- holders share.
 use Rattle.std.specs.Prelude.{◌≡◌, ◌+◌, ◌<◌, ◌≤◌, ◌||◌, ◌&&◌, ◌==◌, not, ℕ, Bool, false, List, [], ◌∷◌, length, Option, Some, None, slice_get, if◌then◌else◌}
 use Rattle.std.specs.BTreeMap as tree
 use Rattle.std.specs.List.{filter_map, flat_map, list_any, range_with_len, slice_index, slice_index_or}
@@ -27,7 +28,7 @@ use Rattle.fm_place.specs.declared.plans.Plan.{Plan}
 abbrev pub typed_seen : Seen → TypedMethod
 typed_seen s = method_in s.method
 
--- the facts of the method: nothing is told of states and of links
+-- the facts of the method, without states and links
 abbrev pub facts_seen : Seen → Facts
 facts_seen s = record {
   typing = λ method. [];
@@ -62,7 +63,7 @@ pub record AreGroups (g : Groups) : Type 0 where
 
 -- ---- rows
 
--- the row has so many bits, and the bit of a class tells whether it passes the test
+-- the row has `width` bits, and the bit of a class is set exactly where it passes the test
 pub record IsRowOf (width : ℕ) (numbers : ℕ → Option ℕ) (test : ℕ → Bool) (row : List Bool) : Type 0 where
   pub wide : length row ≡ width
   pub each : (class group : ℕ) → numbers class ≡ Some group → has row group ≡ test class
@@ -71,7 +72,7 @@ pub record IsRowOf (width : ℕ) (numbers : ℕ → Option ℕ) (test : ℕ → 
 abbrev pub IsRowIn : Groups → (ℕ → Bool) → List Bool → Type 0
 IsRowIn g test row = IsRowOf (length g.held.now) (number_in g.numbers) test row
 
--- so many rows, each with a test
+-- `count` rows, each with a test
 pub record AreRowsOf (width : ℕ) (numbers : ℕ → Option ℕ) (count : ℕ) (test : ℕ → ℕ → Bool) (rows : List (List Bool)) : Type 0 where
   pub one_each : length rows ≡ count
   pub each : (j : ℕ) → j < count → IsRowOf width numbers (test j) (slice_index_or rows j [])
@@ -102,7 +103,7 @@ is_in_locals s item depth local class =
 abbrev pub is_busy_at : Seen → ℕ → ℕ → Bool
 is_busy_at s item class = is_busy (facts_seen s) (typed_seen s) class item
 
--- whether an edge comes to an item from one below this one at which the class is busy
+-- whether an edge leads to an item from one below this one at which the class is busy
 abbrev pub has_come : Seen → (before : ℕ) → ℕ → ℕ → Bool
 has_come s before item class =
     list_any (λ i. is_busy (facts_seen s) (typed_seen s) class i && is_among item (edges_listed s.method.code.now i)) (range_with_len 0 before)
@@ -137,7 +138,7 @@ AreBelow bound numbers = (k : ℕ) → k < length numbers → slice_index number
 abbrev pub AreWide : List ℕ → ℕ → List (List Bool) → Type 0
 AreWide numbers count rows = (j : ℕ) → j < count → AreBelow (length (slice_index_or rows j [])) numbers
 
--- the rows of so many items have as many bits in both lists
+-- the rows of this many items have as many bits in both lists
 abbrev pub AreAsWide : ℕ → (rows others : List (List Bool)) → Type 0
 AreAsWide count rows others = (j : ℕ) → j < count → length (slice_index_or others j []) ≡ length (slice_index_or rows j [])
 

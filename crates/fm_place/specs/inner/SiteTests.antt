@@ -38,7 +38,7 @@ pub record IsKnown (k : Known) : Type 0 where
 
 -- ---- the words of a stack, from the bottom up
 
--- the item of the `new` whose object stands in this word
+-- the item of the `new` whose object is in this word
 abbrev pub new_item_in : List slots.Slot → ℕ → Option ℕ
 new_item_in words depth = option_and_then new_item (slice_get words depth)
 

@@ -1,4 +1,5 @@
--- Classes by what is to be done with their methods, one after the other: the plans of a class's methods stand at the front, and the others follow.
+-- Classes by what is to be done with their methods, one after the other: the plans of a class's
+-- methods come first, and the others follow.
 use Rattle.std.specs.Prelude.{◌≡◌, ℕ, ◌+◌, ◌&&◌, ◌<◌, ◌^◌, Bool, true, false, List, [], ◌∷◌, length, take, drop, Option, Some, None, nat_lt, Result, Ok, Err, if◌then◌else◌}
 use Rattle.std.specs.List.{list_any}
 use Rattle.std.specs.Option.{option_map, option_or}
@@ -62,7 +63,7 @@ first_full_by class done [] = None
 first_full_by class done (c ∷ classes) =
     option_or (option_map (λ indices. (class, indices)) (full_by (own c done) c)) (first_full_by (class + 1) (others c done) classes)
 
--- a refusal tells this class
+-- a refusal names this class
 abbrev pub IsFullBy : Option (ℕ × ℕ) → RewriteFail → Type 0
 IsFullBy full (fail.PoolFull class indices) = full ≡ Some (class.0, indices)
 IsFullBy full fail.NoMemory = Unit {0}
@@ -88,7 +89,7 @@ abbrev pub first_long_by : (method : ℕ) → List Planned → List ClassDef →
 first_long_by method done [] = None
 first_long_by method done (c ∷ classes) = option_or (long_by method (own c done) c) (first_long_by (method + length c.methods) (others c done) classes)
 
--- a refusal tells this method
+-- a refusal names this method
 abbrev pub IsLongBy : Option (ℕ × ℕ) → RewriteFail → Type 0
 IsLongBy long (fail.MethodTooLong method bytes) = long ≡ Some (method.0, bytes)
 IsLongBy long fail.NoMemory = Unit {0}
@@ -121,7 +122,7 @@ abbrev pub frees_by : List Planned → ℕ
 frees_by [] = 0
 frees_by (p ∷ done) = frees_of_one p + frees_by done
 
--- what is told of each class
+-- the counts of each class
 abbrev pub counts_by : List Planned → List ClassDef → List Count
 counts_by done [] = []
 counts_by done (c ∷ classes) = record { sites = sites_by (own c done); frees = frees_by (own c done) } ∷ counts_by (others c done) classes
@@ -138,7 +139,7 @@ HaveCounts done (c ∷ classes) = HasCounts (own c done) × HaveCounts (others c
 
 -- ---- all of it
 
--- the classes, with what is told of each, where nothing stands against them
+-- the classes, with the counts of each, where there is no cause against them
 pub record AreMadeBy (class method : ℕ) (done : List Planned) (given : List ClassDef) (made : Rewritten) : Type 0 where
   pub fit : first_full_by class done given ≡ None
   pub short : first_long_by method done given ≡ None

@@ -10,7 +10,8 @@ use Rattle.fm_run.specs.inner.Going.{IsCheapNext, Keeps, LeadsQuietly}
 use Rattle.fm_run.specs.inner.Nexts.{DoesNext, StandsIn}
 use Rattle.fm_world.specs.Programs.{Program}
 
--- the topmost frame stands at the instruction in the method and has what its row asks, and its step is within the budget, if it costs 1
+-- the topmost frame is at the instruction in the method and has what its row asks, and its step is
+-- within the budget, if it costs 1
 pub record IsFlatNext (p : Program) (budget : ℕ) (x : State) (method : ℕ) (i : Insn) : Type 0 where
   pub at : StandsIn p x method i
   pub asks : AsksOf i x.frames

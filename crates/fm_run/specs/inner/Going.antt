@@ -46,13 +46,14 @@ pub record IsCheapNext (p : Program) (budget : ℕ) (x : State) (method : ℕ) (
   pub going : IsGoing p x
   pub can : CanStep p x
 
--- one step within the budget leads from one state to the other, and what it prints came to the output
+-- one step within the budget leads from one state to the other, and what it prints went to the
+-- output
 pub record DidCheap (p : Program) (choose : Choose) (budget : ℕ) (x y : State) (old new : Output) : Type 0 where
   pub goes : Goes p budget x
   pub does : DoesStep p choose x y old new
   pub stepped : Stepped p x y
 
--- the same of a step that prints nothing, whatever came to the output before
+-- the same of a step that prints nothing, whatever went to the output before
 abbrev pub DidQuietly : Program → Choose → (budget : ℕ) → (x y : State) → Type 0
 DidQuietly p choose budget x y = (out : Output) → DidCheap p choose budget x y out out
 
@@ -61,7 +62,7 @@ pub record FailsNext (p : Program) (choose : Choose) (budget : ℕ) (x : State) 
   pub goes : Goes p budget x
   pub fails : FailsStep p choose x old new
 
--- a run that has come to one state and output comes by steps to the other
+-- a run that has reached one state and output reaches by steps the other
 pub record Leads (p : Program) (choose : Choose) (budget : ℕ) (x y : State) (old new : Output) : Type 0 where
   pub ran : (first : State) (from : Output) → Ran p choose budget first x from old → Ran p choose budget first y from new
   pub left : (y ≡ x) ⊎ (left_of budget y < left_of budget x)
@@ -70,10 +71,10 @@ pub record Leads (p : Program) (choose : Choose) (budget : ℕ) (x y : State) (o
 abbrev pub LeadsQuietly : Program → Choose → (budget : ℕ) → (x y : State) → Type 0
 LeadsQuietly p choose budget x y = (out : Output) → Leads p choose budget x y out out
 
--- a run that has come to the state and output goes on to a step whose put fails
+-- a run that has reached the state and output goes on to a step whose put fails
 abbrev pub FailsLater : Program → Choose → (budget : ℕ) → State → (old new : Output) → Type 0
 FailsLater p choose budget x old new = (first : State) (from : Output) → Ran p choose budget first x from old → FailsRun p choose budget first from new
 
--- a run that has come to the state and output goes on by some steps
+-- a run that has reached the state and output goes on by some steps
 abbrev pub BreaksLater : Program → Choose → (budget : ℕ) → State → (old new : Output) → Type 0
 BreaksLater p choose budget x old new = (first : State) (from : Output) → Ran p choose budget first x from old → BreaksRun p choose budget first from new

@@ -14,14 +14,14 @@ use Rattle.fm_sound.specs.Sound.{IsSound}
 use Rattle.fm_run.specs.declared.groups.Group.{Group}
 use Rattle.fm_run.specs.declared.groups.Group.TheVariants as group
 
--- the topmost frame stands at this instruction
+-- the topmost frame is at this instruction
 pub record StandsAt (p : Program) (x : State) (i : Insn) : Type 0 where
   pub frame : Frame
   pub callers : List Frame
   pub frames_is : x.frames ≡ frame ∷ callers
   pub insn_is : insn_at p frame ≡ Some i
 
--- it stands there in this method
+-- it is there in this method
 pub record StandsIn (p : Program) (x : State) (method : ℕ) (i : Insn) : Type 0 where
   pub at : StandsAt p x i
   pub method_is : at.frame.method ≡ method

@@ -8,7 +8,7 @@ pub record Merges (pairs : List (ℕ × ℕ)) (f : ℕ → ℕ) : Type 0 where
   pub only : (a b : ℕ) → f a ≡ f b → AreJoined pairs a b
   pub down : (n : ℕ) → f n ≤ n
 
--- what stands at a number's place in the second list; the number itself, where the first one hasn't it
+-- what is at a number's place in the second list; the number itself, where the first one hasn't it
 abbrev pub number_in : List ℕ → List ℕ → ℕ → ℕ
 number_in [] values n = n
 number_in (name ∷ names) [] n = n

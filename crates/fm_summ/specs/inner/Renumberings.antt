@@ -1,4 +1,4 @@
--- What a renumbering tells.
+-- What a renumbering has to be, and what it gives.
 use Rattle.std.specs.Prelude.{◌≡◌, ℕ, length}
 use Rattle.std.specs.List.Sorted.{IsStrictlyIncreasing}
 use Rattle.fm_summ.specs.declared.renumbering.Renumbering.{Renumbering}

@@ -37,9 +37,9 @@ first_shape p method shape = shape_with p method shape (method_info p method).bo
 abbrev pub first_shapes : Program → List Shape → List Shape
 first_shapes p shapes = map (λ method. first_shape p method (shape_at shapes method)) (range_with_len 0 (length shapes))
 
--- ---- what is told
+-- ---- what shapes list
 
--- the summaries that shapes tell
+-- the summaries that shapes list
 abbrev pub summaries_of : List Shape → Summaries
 summaries_of shapes = record { methods = map (λ (s : Shape). record { ends = s.ends }) shapes }
 
@@ -74,14 +74,14 @@ pub record IsBare (p : Program) (method : ℕ) (s : Shape) : Type 0 where
   pub linked : (a b : End2) → IsEnd p.outline method a → IsEnd p.outline method b → (a ≡ b) ⊎ IsBuiltInLink p method a b → links s.ends a b ≡ true
   pub no_more : (a b : End2) → links s.ends a b ≡ true → (a ≡ b) ⊎ IsBuiltInLink p method a b
 
--- the shapes of all methods tell no more than is linked
+-- the shapes of all methods link no more than is linked
 pub record AreSound (p : Program) (typings : Typings) (shapes : List Shape) : Type 0 where
   pub one_each : length shapes ≡ length (methods_of p.outline.classes)
   pub coded : (method : ℕ) (code : Code) → code_at p method ≡ Some code
       → IsSound (Linked p typings) (typed_method p typings method code) (shape_at shapes method)
   pub bare : (method : ℕ) → method < length shapes → code_at p method ≡ None → IsBare p method (shape_at shapes method)
 
--- what stands at a call for two ends that are linked so far has one number
+-- the nodes at a call of two ends that are linked so far have one number
 pub record IsCallClosed (shapes : List Shape) (c : CallShape) (target : ℕ) : Type 0 where
   pub each : (a b : End2) (m n : ℕ) → linked_so_far shapes target a b → Contains c.ends (a, m) → Contains c.ends (b, n) → m ≡ n
 

@@ -1,4 +1,4 @@
--- What the run of the classes that were read comes to.
+-- The result of the run of the classes that were read.
 use Rattle.std.specs.Prelude.{◌≡◌, ℕ, ◌⊎◌, List, [], Result, Ok, Err}
 use Rattle.fm_code.specs.declared.class_file.ClassDef.{ClassDef}
 use Rattle.fm_files.specs.Sink.{Output}
@@ -22,13 +22,14 @@ pub record AreProgram (classes : List ClassDef) (main : List ℕ) : Type 0 where
   pub linked : refusals classes main ≡ []
   pub typed : AreTyped (program_of classes main)
 
--- the run of the program is told, and where no method of it calls FreeMe it didn't end in a fault
+-- the run of the program is reported, and where no method of it calls FreeMe it didn't end in a
+-- fault
 pub record TellsRun (p : Program) (b : Budgets) (arguments : List (List ℕ)) (input : List ℕ) (report : Told) (before after : Output) : Type 0 where
   pub told : IsToldOf p b arguments input report before after
   pub no_fault : CallsNoFreeMe p → HasNoFault told.last
 
--- the run of their program is told; or the put of what it prints failed; or memory couldn't be had, before it or after some of its steps; or they make no
--- program of typed methods
+-- the run of their program is reported; or the put of what it prints failed; or memory couldn't be
+-- had, before it or after some of its steps; or they make no program of typed methods
 abbrev pub ComesOfClasses : List ClassDef → List ℕ → Budgets → (arguments : List (List ℕ)) → (input : List ℕ) → Output → Output → Result Told JobFail → Type 0
 ComesOfClasses classes main b arguments input before after (Ok told) =
     AreProgram classes main × TellsRun (program_of classes main) b arguments input told before after

@@ -1,5 +1,5 @@
-// Class files of which one byte decides how their run ends. Beside an entry of the pool stands its index,
-// and beside a piece of code its offset and what it does.
+// Class files of which one byte decides how their run ends. Beside an entry of the pool is its
+// index, and beside a piece of code its offset and what it does.
 
 use fm_base::NoMemory;
 use fm_samples::{CALLS_ITSELF, ClassSample, MAIN, MethodSample, PRINTS_SUM, RETURNS};

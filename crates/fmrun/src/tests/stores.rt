@@ -114,7 +114,7 @@ fn ends_of_nests<'a>(nests: &'a [u8]) -> [End<'a>; 2] {
     ]
 }
 
-// Whether the run of the classes in a store of so many words ends so.
+// Whether the run of the classes ends so in a store of `end.words` words.
 fn run_ends_so(alloc: Global, classes: Vec<ClassDef>, end: End<'_>) -> Result<bool, NoMemory>
     requires spelled { AllByRecursion IsSpelled classes.items }
     requires accepted { AllByRecursion Profile classes.items }

@@ -1,4 +1,5 @@
--- What rewriting the classes of a program comes to, with the name of the method or class for which it isn't rewritten.
+-- The result of rewriting the classes of a program, with the name of the method or class for which
+-- it isn't rewritten.
 use Rattle.std.specs.Prelude.{◌≡◌, ◌<◌, ℕ, List, length, Result, Ok, Err}
 use Rattle.fm_code.specs.declared.class_file.ClassDef.{ClassDef}
 use Rattle.fm_given.specs.declared.refusal.JobRefusal.TheVariants as job_refusal

@@ -1,4 +1,4 @@
--- What the write of classes comes to, of one and of all.
+-- The result of the write of classes, of one and of all.
 use Rattle.std.specs.Prelude.{◌≡◌, ℕ, List, map, take, Contains, Result, Ok, Err, IfSome, slice_get, string_bytes}
 use Rattle.fm_files.specs.Files.{Bytes, Disk, AreKept, OthersAreKept, Holds}
 use Rattle.fm_code.specs.ClassBytes.{class_bytes}

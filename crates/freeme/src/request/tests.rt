@@ -73,7 +73,7 @@ fn words_are_read_in_the_ways_of_clap(rt: HostRuntime) -> Result<(), Fail> {
     Ok(())
 }
 
-// Whether words with a file of a name of so many letters ask for something.
+// Whether words with a file of a name of `length` letters ask for something.
 fn asks_for_name(alloc: Global, length: u32) -> Result<bool, NoMemory> {
     let mut words = split_words(alloc, "--out d --main M")?;
     let mut name = String::new(alloc);

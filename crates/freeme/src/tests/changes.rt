@@ -1,4 +1,4 @@
-// Class files that are changes of others, and what is answered to each.
+// Class files that are changes of others, and what freeme returns for each.
 
 use crate::tests::ends_with;
 use fm_base::NoMemory;
@@ -7,10 +7,11 @@ use fm_programs::Repeated;
 use fm_samples::{EVERY_PART, INTERFACE};
 use std::alloc::Global;
 
-/// Bytes that stand in a class file once, and those that are put in their place.
+/// Bytes that occur in a class file once, and those that are put in their place.
 pub type Change = (&'static [u8], &'static [u8]);
 
-/// Bytes that stand in a class file once, and those that are put in their place: a start, a piece so often, and an end.
+/// Bytes that occur in a class file once, and those that are put in their place: a start, a piece
+/// so often, and an end.
 pub type LongChange = (
     &'static [u8],
     &'static [u8],
@@ -19,7 +20,7 @@ pub type LongChange = (
     &'static [u8],
 );
 
-/// The bytes after such a change, or None where the old bytes don't stand there once.
+/// The bytes after such a change, or None where the old bytes don't occur there once.
 pub fn changed(
     alloc: Global,
     bytes: &[u8],
@@ -41,7 +42,8 @@ pub fn changed(
     Ok(changed)
 }
 
-/// Whether a call for a class M of these bytes and the interface R is answered so: M is written where the status is 0.
+/// Whether a call for a class M of these bytes and the interface R ends so: M is written where the
+/// status is 0.
 pub fn is_answered(alloc: Global, class: &[u8], status: u8, lines: &str) -> Result<bool, NoMemory> {
     let interface = INTERFACE.bytes(alloc)?;
     let mut files = MemFiles::new(alloc, Vec::new(alloc));
@@ -53,7 +55,7 @@ pub fn is_answered(alloc: Global, class: &[u8], status: u8, lines: &str) -> Resu
     Ok(is_told && files.bytes("d/M.class") == written)
 }
 
-/// Whether a change of a class file is answered so.
+/// Whether a change of a class file ends so.
 pub fn is_change_answered(
     alloc: Global,
     class: &[u8],
@@ -67,7 +69,7 @@ pub fn is_change_answered(
     }
 }
 
-/// The place of the first change of the class file that isn't answered so.
+/// The place of the first change of the class file that doesn't end so.
 pub fn first_other(
     alloc: Global,
     class: &[u8],
@@ -83,7 +85,7 @@ pub fn first_other(
     Ok(None)
 }
 
-/// The place of the first change of `EVERY_PART` that isn't answered so.
+/// The place of the first change of `EVERY_PART` that doesn't end so.
 pub fn first_other_part(
     alloc: Global,
     changes: &[Change],
@@ -94,7 +96,7 @@ pub fn first_other_part(
     first_other(alloc, class.as_slice(), changes, status, lines)
 }
 
-/// Whether a long change of `EVERY_PART` is answered so.
+/// Whether a long change of `EVERY_PART` ends so.
 pub fn is_long_change_answered(
     alloc: Global,
     change: LongChange,
@@ -116,7 +118,7 @@ pub fn is_long_change_answered(
     }
 }
 
-/// The place of the first long change of `EVERY_PART` that isn't answered so.
+/// The place of the first long change of `EVERY_PART` that doesn't end so.
 pub fn first_other_long(
     alloc: Global,
     changes: &[LongChange],

@@ -28,7 +28,7 @@ const UNTYPED: [Row; 3] = [
     ),
 ];
 
-// What is told of a main that isn't typed, and of typed classes.
+// The lines for a main that isn't typed, and for typed classes.
 const UNTYPED_MAIN: &str = "refused: check M.main([Ljava/lang/String;)V\n";
 
 const NO_SITES: &str = "M: 0 sites, 0 frees\nR: 0 sites, 0 frees\n";
@@ -129,7 +129,7 @@ fn first_other(alloc: Global) -> Result<Option<usize>, NoMemory> {
     Ok(None)
 }
 
-// The place of the first code that isn't answered so.
+// The place of the first code that doesn't end so.
 fn first_other_code(alloc: Global) -> Result<Option<usize>, NoMemory> {
     let old = b"\0\0\0\x0d\0\0\0\x01\0\0\0\x01\xb1\0\0";
     for (place, (code, status, line)) in CODES.iter().enumerate() {

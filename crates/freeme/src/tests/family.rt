@@ -117,7 +117,7 @@ const C: ClassSample<'static> = ClassSample {
     ..A
 };
 
-// What is told.
+// The line that is reported.
 const NO_SITES: &str = "M: 0 sites, 0 frees\nR: 0 sites, 0 frees\nA: 0 sites, 0 frees\n\
     B: 0 sites, 0 frees\nC: 0 sites, 0 frees\n";
 
@@ -204,7 +204,7 @@ fn add(
     Ok(())
 }
 
-// Whether a call for M with that code and its family, with this B, is answered so.
+// Whether a call for M with that code and its family, with this B, ends so.
 fn is_row_answered(alloc: Global, b: &ClassSample<'_>, row: Row) -> Result<bool, NoMemory> {
     let (old, new, status, lines) = row;
     let class = MEMBER.bytes(alloc)?;
@@ -221,7 +221,7 @@ fn is_row_answered(alloc: Global, b: &ClassSample<'_>, row: Row) -> Result<bool,
     ends_with(alloc, words, &mut files, 0, status, lines)
 }
 
-// The place of the first row that isn't answered so.
+// The place of the first row that doesn't end so.
 fn first_other_row(alloc: Global) -> Result<Option<usize>, NoMemory> {
     for (place, row) in ROWS.iter().enumerate() {
         if !is_row_answered(alloc, &B, *row)? {

@@ -12,7 +12,7 @@ const WITHOUT_ATTRIBUTES: usize = 117;
 
 const WITH_HEAD: u32 = 125;
 
-// The class A with an attribute, in a file of so many bytes.
+// The class A with an attribute, in a file of `length` bytes.
 fn class_of_length(alloc: Global, length: u32) -> Result<Vec<u8>, NoMemory> {
     let mut bytes = Vec::from_slice(alloc, &A[..WITHOUT_ATTRIBUTES])?;
     bytes.extend_from_slice(b"\0\x01\0\x07")?;
@@ -22,7 +22,7 @@ fn class_of_length(alloc: Global, length: u32) -> Result<Vec<u8>, NoMemory> {
     Ok(bytes)
 }
 
-// Whether a call for files of the class A is answered so, each with a name and its number of bytes.
+// Whether a call for files of the class A ends so, each with a name and its number of bytes.
 fn is_answered(
     alloc: Global,
     lengths: &[(&str, u32)],
@@ -87,7 +87,7 @@ fn files_are_taken_up_to_the_limit_of_all(rt: HostRuntime) -> Result<(), Fail> {
     Ok(())
 }
 
-// Whether a call for so many files, none of which is there, is answered so.
+// Whether a call for `count` files, none of which is there, ends so.
 fn is_count_answered(alloc: Global, count: u32, status: u8, line: &str) -> Result<bool, NoMemory> {
     let mut words = split_words(alloc, "--out d --main M")?;
     for _ in 0..count {

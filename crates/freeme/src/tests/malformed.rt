@@ -1,4 +1,5 @@
-// Class files that break one rule each, by a change of a class file that breaks none. Beside a change stands what it breaks.
+// Class files that break one rule each, by a change of a class file that breaks none. Beside a
+// change is the rule that it breaks.
 
 use crate::tests::changes::{
     Change, LongChange, first_other, first_other_long, first_other_part, is_answered,

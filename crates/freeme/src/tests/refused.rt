@@ -7,7 +7,8 @@ use fm_samples::EVERY_PART;
 use std::alloc::Global;
 use std::test::Fail;
 
-// Bytes that stand in the class file once, those that are put in their place, and the end of the line that then comes.
+// Bytes that occur in the class file once, those that are put in their place, and the end of the
+// line that then comes.
 type Row = (&'static [u8], &'static [u8], &'static str);
 
 const VERSIONS: [Row; 8] = [
@@ -138,7 +139,7 @@ fn what_is_not_supported_is_refused(rt: HostRuntime) -> Result<(), Fail> {
     Ok(())
 }
 
-// Whether the class M is answered so by other code of its main, from its attribute's length on.
+// Whether a call for the class M ends so by other code of its main, from its attribute's length on.
 fn is_code_answered(
     alloc: Global,
     code: &'static [u8],

@@ -1,4 +1,4 @@
-// Small programs with the status and the lines that come of each, and the class files that are written of it.
+// Small programs with the status and the lines of each, and the class files that are written of it.
 
 use crate::tests::ends_with;
 use fm_base::NoMemory;
@@ -121,7 +121,7 @@ fn are_written(files: &MemFiles, alloc: Global, written: &[ClassFile]) -> Result
     Ok(!written.is_empty() || files.bytes("d/M.class").is_none())
 }
 
-// Whether the program is answered so.
+// Whether a call for the program ends so.
 fn is_answered(alloc: Global, row: &Row) -> Result<bool, NoMemory> {
     let (program, status, lines) = row;
     let mut files = MemFiles::new(alloc, Vec::new(alloc));
@@ -134,7 +134,7 @@ fn is_answered(alloc: Global, row: &Row) -> Result<bool, NoMemory> {
     Ok(is_told && are_written(&files, alloc, program.written)?)
 }
 
-// The place of the first program that is answered otherwise.
+// The place of the first program for which a call ends otherwise.
 fn first_other(alloc: Global, rows: &[Row]) -> Result<Option<usize>, NoMemory> {
     for (place, row) in rows.iter().enumerate() {
         if !is_answered(alloc, row)? {

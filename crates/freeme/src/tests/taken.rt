@@ -1,4 +1,4 @@
-// Class files that are taken, by a change of one that is. Beside a change stands what is taken.
+// Class files that are taken, by a change of one that is. Beside a change is what is taken.
 
 use crate::tests::changes::{Change, LongChange, first_other_long, first_other_part};
 use std::test::Fail;
