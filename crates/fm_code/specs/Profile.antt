@@ -32,7 +32,7 @@ use Rattle.fm_code.specs.declared.profile.Unsupported.{Unsupported}
 
 -- ---- versions (JVMS 4.1)
 
--- 45.3, 46.0, 47.0, 48.0, 49.0 and 50.0
+-- 45.3, 46.0, 47.0, 48.0, 49.0, 50.0, 51.0 and 52.0
 abbrev pub IsAcceptedVersion : ℕ → ℕ → Type 0
 IsAcceptedVersion major minor =
     ((major ≡ OLDEST_MAJOR) × (minor ≡ OLDEST_MINOR)) ⊎ ((OLDEST_MAJOR < major) × (major ≤ NEWEST_MAJOR) × (minor ≡ 0))

@@ -8,7 +8,7 @@ pub const OLDEST_MINOR: u16 = 3;
 
 /// The newest major version that is accepted. From `OLDEST_MAJOR` on, without it, the minor version
 /// is 0.
-pub const NEWEST_MAJOR: u16 = 50;
+pub const NEWEST_MAJOR: u16 = 52;
 
 /// A count of a method that has a limit.
 #[derive(Clone, Copy, Debug, PartialEq, Eq)]

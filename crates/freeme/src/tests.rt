@@ -31,8 +31,8 @@ const M: &[u8] = b"\xca\xfe\xba\xbe\0\0\0\x31\0\x08\x01\0\x01M\x07\0\x01\x01\0\x
     \x07\0\x03\x01\0\x04main\x01\0\x16([Ljava/lang/String;)V\x01\0\x04Code\0\x21\0\x02\0\x04\0\0\0\0\
     \0\x01\0\x09\0\x05\0\x06\0\x01\0\x07\0\0\0\x0d\0\0\0\x01\0\0\0\x01\xb1\0\0\0\0\0\0";
 
-// A class file of version 52.0 as far as its version.
-const NEWER: &[u8] = b"\xca\xfe\xba\xbe\0\0\0\x34";
+// A class file of version 53.0 as far as its version.
+const NEWER: &[u8] = b"\xca\xfe\xba\xbe\0\0\0\x35";
 
 // Main frees null.
 const FREES: ClassSample<'static> = ClassSample {
@@ -210,7 +210,7 @@ fn the_first_file_that_is_refused_is_told(rt: HostRuntime) -> Result<(), Fail> {
     let version = Call {
         files: &[("A.class", NEWER), ("B.class", b"")],
         status: 67,
-        lines: "refused: version A.class 52.0\n",
+        lines: "refused: version A.class 53.0\n",
         after: &[],
         ..THREE
     };

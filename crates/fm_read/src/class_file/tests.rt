@@ -108,11 +108,11 @@ fn what_is_no_class_file_is_malformed(rt: HostRuntime) -> Result<(), Fail> {
 fn another_version_is_refused_first(rt: HostRuntime) -> Result<(), Fail> {
     let mut newer = Vec::from_slice(rt.alloc(), ARRAY_POPPED)?;
     if let Some(major) = newer.get_mut(MAJOR) {
-        *major = 52;
+        *major = 53;
     }
     let refused = read_class(rt.alloc(), newer.as_slice()).err();
-    assert_eq!(rt; refused, Some(ReadFail::Version(52, 0)));
-    let alone = read_class(rt.alloc(), b"\xca\xfe\xba\xbe\0\0\0\x34").err();
-    assert_eq!(rt; alone, Some(ReadFail::Version(52, 0)));
+    assert_eq!(rt; refused, Some(ReadFail::Version(53, 0)));
+    let alone = read_class(rt.alloc(), b"\xca\xfe\xba\xbe\0\0\0\x35").err();
+    assert_eq!(rt; alone, Some(ReadFail::Version(53, 0)));
     Ok(())
 }

@@ -12,8 +12,8 @@ use std::test::Fail;
 type Row = (&'static [u8], &'static [u8], &'static str);
 
 const VERSIONS: [Row; 8] = [
-    (b"\0\0\0\x31", b"\0\0\0\x33", "51.0"),
-    (b"\0\0\0\x31", b"\0\0\0\x34", "52.0"),
+    (b"\0\0\0\x31", b"\0\0\0\x35", "53.0"),
+    (b"\0\0\0\x31", b"\0\x03\0\x34", "52.3"),
     (b"\0\0\0\x31", b"\0\x01\0\x31", "49.1"),
     (b"\0\0\0\x31", b"\0\x02\0\x2d", "45.2"),
     (b"\0\0\0\x31", b"\0\x04\0\x2d", "45.4"),
@@ -108,8 +108,8 @@ fn other_versions_are_refused(rt: HostRuntime) -> Result<(), Fail> {
         first_other(alloc, &VERSIONS, 67, "refused: version M.class ")?,
         None
     );
-    let head = b"\xca\xfe\xba\xbe\0\0\0\x34";
-    assert!(rt; is_answered(alloc, head, 67, "refused: version M.class 52.0\n")?);
+    let head = b"\xca\xfe\xba\xbe\0\0\0\x35";
+    assert!(rt; is_answered(alloc, head, 67, "refused: version M.class 53.0\n")?);
     Ok(())
 }
 

@@ -6,13 +6,15 @@ use std::test::Fail;
 const LINES: &str = "M: 0 sites, 0 frees\nR: 0 sites, 0 frees\n";
 
 // The first change is none.
-const TAKEN: [Change; 17] = [
+const TAKEN: [Change; 19] = [
     (b"[LM;", b"[LM;"), // the class file itself
     (b"\xbe\0\0\0\x31", b"\xbe\0\x03\0\x2d"), // version 45.3
     (b"\xbe\0\0\0\x31", b"\xbe\0\0\0\x2e"), // version 46.0
     (b"\xbe\0\0\0\x31", b"\xbe\0\0\0\x2f"), // version 47.0
     (b"\xbe\0\0\0\x31", b"\xbe\0\0\0\x30"), // version 48.0
     (b"\xbe\0\0\0\x31", b"\xbe\0\0\0\x32"), // version 50.0
+    (b"\xbe\0\0\0\x31", b"\xbe\0\0\0\x33"), // version 51.0
+    (b"\xbe\0\0\0\x31", b"\xbe\0\0\0\x34"), // version 52.0
     (b"\0\x02\0\x04\0\0\0\x5f", b"\x04\0\0\x04\0\0\0\x5f"), // a stack of the limit
     (b"\0\x02\0\x04\0\0\0\x5f", b"\0\x02\x08\0\0\0\0\x5f"), // locals of the limit
     (b"\0\x01\0\x1d\0\x1e", b"\0\x01\0\x18\0\x1e"), // a field like a constructor
