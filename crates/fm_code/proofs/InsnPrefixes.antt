@@ -338,7 +338,7 @@ TellsEnd-control_and_objects =
     also TellsEnd-bare (insn.Return (Some reg.Long)) also TellsEnd-left_out 174 0 also TellsEnd-left_out 175 0
     also TellsEnd-bare (insn.Return (Some reg.Ref)) also TellsEnd-bare (insn.Return None) also TellsEnd-short insn.GetStatic
     also TellsEnd-short insn.PutStatic also TellsEnd-short insn.GetField also TellsEnd-short insn.PutField also TellsEnd-short insn.Virtual
-    also TellsEnd-short insn.Special also TellsEnd-short insn.Static also TellsEnd-interface_call also TellsEnd-malformed also TellsEnd-short insn.New
+    also TellsEnd-short insn.Special also TellsEnd-short insn.Static also TellsEnd-interface_call also TellsEnd-left_out 186 4 also TellsEnd-short insn.New
     also TellsEnd-new_array also TellsEnd-short insn.NewRefs also TellsEnd-bare insn.Length also TellsEnd-bare insn.Throw
     also TellsEnd-short insn.Cast also TellsEnd-short insn.IsA also TellsEnd-left_out 194 0 also TellsEnd-left_out 195 0 also TellsEnd-wide
     also TellsEnd-array_of_arrays also TellsEnd-jump (insn.IfNull true) also TellsEnd-jump (insn.IfNull false) also TellsEnd-long_jump insn.Goto

@@ -388,7 +388,7 @@ control_and_objects =
     ∷ (opcodes.INVOKESPECIAL, short insn.Special)
     ∷ (opcodes.INVOKESTATIC, short insn.Static)
     ∷ (opcodes.INVOKEINTERFACE, interface_call)
-    ∷ (opcodes.INVOKEDYNAMIC, malformed)
+    ∷ left_out_row opcodes.INVOKEDYNAMIC 4
     ∷ (opcodes.NEW, short insn.New)
     ∷ (opcodes.NEWARRAY, new_array)
     ∷ (opcodes.ANEWARRAY, short insn.NewRefs)

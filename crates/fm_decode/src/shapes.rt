@@ -316,7 +316,7 @@ fn object_shape(opcode: u8) -> Shape
         opcodes::INVOKESPECIAL => Shape::Short(Indexed::Special),
         opcodes::INVOKESTATIC => Shape::Short(Indexed::Static),
         opcodes::INVOKEINTERFACE => Shape::InterfaceCall,
-        opcodes::INVOKEDYNAMIC => Shape::Unknown,
+        opcodes::INVOKEDYNAMIC => Shape::LeftOut(opcode, 4),
         opcodes::NEW => Shape::Short(Indexed::New),
         opcodes::NEWARRAY => Shape::NewArray,
         opcodes::ANEWARRAY => Shape::Short(Indexed::NewRefs),

@@ -39,6 +39,8 @@ fn instructions_other_than_switches_are_read(rt: HostRuntime) -> Result<(), Fail
         ([167, 255, 255, 177].as_slice(), "malformed"),
         // a jsr is left out, and its target isn't looked at: the middle of the jsr
         ([168, 0, 1].as_slice(), "0 LeftOut(168);"),
+        // so is an invokedynamic, with four bytes, of which the last two needn't be 0
+        ([186, 0, 1, 0, 9].as_slice(), "0 LeftOut(186);"),
         // wide forms of iinc, of dload, which is left out, and of iadd
         ([196, 132, 1, 0, 255, 255].as_slice(), "0 Inc(256, -1);"),
         ([196, 24, 0, 1].as_slice(), "0 LeftOut(196);"),
@@ -52,9 +54,9 @@ fn instructions_other_than_switches_are_read(rt: HostRuntime) -> Result<(), Fail
         ([188, 3].as_slice(), "malformed"),
         ([197, 0, 1, 2].as_slice(), "0 MultiArray(1, 2);"),
         ([197, 0, 1, 0].as_slice(), "malformed"),
-        // a number that is cut, and opcodes that no instruction has
+        // operands that are cut, and an opcode that no instruction has
         ([17, 0].as_slice(), "malformed"),
-        ([186, 0, 1, 0, 0].as_slice(), "malformed"),
+        ([186, 0, 1, 0].as_slice(), "malformed"),
         ([202].as_slice(), "malformed"),
     ] {
         assert_eq!(rt; text_of(rt.alloc(), code)?.as_str(), expected);

@@ -189,7 +189,7 @@ IsKnown-control_and_objects =
     left_out_known opcodes.JSR 2 also left_out_known opcodes.RET 1 also (λ o x i e known. inl refl) also (λ o x i e known. inr refl) also
     plain refl also plain refl also left_out_known opcodes.FRETURN 0 also left_out_known opcodes.DRETURN 0 also plain refl also plain refl also
     plain refl also plain refl also plain refl also plain refl also plain refl also plain refl also plain refl also
-    known_from no_switch-interface_call also plain refl also plain refl also known_from no_switch-new_array also plain refl also plain refl also
+    known_from no_switch-interface_call also left_out_known opcodes.INVOKEDYNAMIC 4 also plain refl also known_from no_switch-new_array also plain refl also plain refl also
     plain refl also plain refl also plain refl also left_out_known opcodes.MONITORENTER 0 also left_out_known opcodes.MONITOREXIT 0 also
     known_from no_switch-wide also known_from no_switch-array_of_arrays also branch_row (insn.IfNull true) (λ t. refl) also
     branch_row (insn.IfNull false) (λ t. refl) also long_branch_row insn.Goto (λ t. refl) also left_out_known opcodes.JSR_W 4 also tt
