@@ -40,7 +40,12 @@ fn is_constant(two_words: bool, entry: &Entry) -> bool
     ensures { IsTrue result ↔ IsConstant two_words entry.now }
 {
     match entry {
-        Entry::Integer(_) | Entry::Float(_) | Entry::Class(_) | Entry::Text(_) => !two_words,
+        Entry::Integer(_)
+        | Entry::Float(_)
+        | Entry::Class(_)
+        | Entry::Text(_)
+        | Entry::MethodHandle(_, _)
+        | Entry::MethodType(_) => !two_words,
         Entry::Long(_) | Entry::Double(_) => two_words,
         _ => false,
     }

@@ -16,7 +16,7 @@ use Rattle.fm_code.specs.Profile.{Profile, NameIsSupported, MethodIsSupported}
 use Rattle.fm_code.specs.Spells.{Spells}
 use Rattle.fm_code.specs.SpellsCode.{SpellsCode}
 use Rattle.fm_code.proofs.Floating.{no_floating_field, no_floating_method, no_floating_array}
-use Rattle.fm_code.proofs.Tested.{entries_fit, entries_valid, items_fit, are_bytes, read, meant, items_spelled}
+use Rattle.fm_code.proofs.Tested.{entries_fit, entries_supported, entries_valid, items_fit, are_bytes, read, meant, items_spelled}
 
 -- the bytes are those of the record, by computation
 bytes_are : compiled_bytes ≡ class_bytes compiled_record
@@ -319,5 +319,6 @@ compiled_accepted = record {
     name = name_is_supported;
     fields = (no_floating_field (codes "J") refl, tt);
     methods = (constructor_supported, (method_supported, tt));
+    pool = entries_supported compiled_entries refl;
   };
 }

@@ -54,6 +54,16 @@ cancel_entry (entry.InterfaceMethod a b) (entry.InterfaceMethod c d) r s _ _ x_f
 cancel_entry (entry.NameAndType a b) (entry.NameAndType c d) r s _ _ x_fits y_fits e =
     let values = cancel_pair a b c d r s x_fits.0 x_fits.1 y_fits.0 y_fits.1 (same_tail 12 12 _ _ e) in
     (λ i. entry.NameAndType (values.0 i) (values.1 i), values.2)
+cancel_entry (entry.MethodHandle a b) (entry.MethodHandle c d) r s _ _ x_fits y_fits e =
+    let handle = same_tail 15 15 _ _ e in
+    let kind : a ≡ c = same_head a c _ _ handle in
+    let value = Cancels-two b d r s x_fits.1 y_fits.1 (same_tail a c _ _ handle) in
+    (λ i. entry.MethodHandle (kind i) (value.0 i), value.1)
+cancel_entry (entry.MethodType a) (entry.MethodType b) r s _ _ a_fits b_fits e =
+    let value = Cancels-two a b r s a_fits b_fits (same_tail 16 16 _ _ e) in (ap entry.MethodType value.0, value.1)
+cancel_entry (entry.InvokeDynamic a b) (entry.InvokeDynamic c d) r s _ _ x_fits y_fits e =
+    let values = cancel_pair a b c d r s x_fits.0 x_fits.1 y_fits.0 y_fits.1 (same_tail 18 18 _ _ e) in
+    (λ i. entry.InvokeDynamic (values.0 i) (values.1 i), values.2)
 cancel_entry entry.Second y r s spelled _ _ _ e = absurd spelled
 cancel_entry x entry.Second r s _ spelled _ _ e = absurd spelled
 cancel_entry x y r s _ _ _ _ e = absurd (let tags = same_head _ _ _ _ e in omega (arith, tags))

@@ -3,7 +3,7 @@ use Rattle.std.proofs.Common.{◌≡◌, ℕ, zero, suc, inl, inr, List, [], ◌
 use Rattle.std.specs.Prelude.{IsSomeAnd, IfSome, slice_get}
 use Rattle.std.specs.List.{AllByRecursion}
 use Rattle.fm_code.specs.Members.{code_of}
-use Rattle.fm_code.specs.Profile.{MethodIsWithin, IsWithinLimits, CodeIsWithin, IsFirstOver, IsFirstOverLimit, ItemIsSupported, MethodIsSupported, FieldIsSupported, IsSupported, IsFirstUnsupportedItem, FailsAt, IsFirstUnsupportedField, IsFirstUnsupported}
+use Rattle.fm_code.specs.Profile.{MethodIsWithin, IsWithinLimits, CodeIsWithin, IsFirstOver, IsFirstOverLimit, ItemIsSupported, MethodIsSupported, FieldIsSupported, IsSupported, IsFirstUnsupportedItem, FailsAt, IsFirstUnsupportedField, IsFirstUnsupportedMethod, IsFirstUnsupportedEntry, IsFirstUnsupported, EntryIsSupported}
 use Rattle.fm_code.specs.declared.constant_pool.Entry.{Entry}
 use Rattle.fm_code.specs.declared.class_file.ClassDef.{ClassDef}
 use Rattle.fm_code.specs.declared.class_file.Member.{Member}
@@ -125,11 +125,18 @@ same_offset_method entries m n (Some x) p q = same_offset entries m n x p q
 fields_fail : (c : ClassDef) (index : ℕ) → IsFirstUnsupportedField c index → ¬ AllByRecursion (FieldIsSupported c.pool.entries) c.fields
 fields_fail c index first all = not_all (FieldIsSupported c.pool.entries) (λ m. ¬ FieldIsSupported c.pool.entries m) (λ m h. h) c.fields index first.there all
 
+methods_fail : (c : ClassDef) (index offset : ℕ) → IsFirstUnsupportedMethod c index offset → ¬ AllByRecursion (MethodIsSupported c.pool.entries) c.methods
+methods_fail c index offset first all =
+    not_all (MethodIsSupported c.pool.entries) (FailsAt c.pool.entries offset) (method_fails c.pool.entries offset) c.methods index first.there all
+
+entries_fail : (c : ClassDef) (index : ℕ) → IsFirstUnsupportedEntry c index → ¬ AllByRecursion EntryIsSupported c.pool.entries
+entries_fail c index first all = not_all EntryIsSupported (λ e. ¬ EntryIsSupported e) (λ e h. h) c.pool.entries index first.there all
+
 unsupported_at : (c : ClassDef) (p : Place) (offset : ℕ) → IsFirstUnsupported c (record { place = p; offset = offset }) → ¬ IsSupported c
 unsupported_at c place.OfClass offset first supported = first.0 supported.name
 unsupported_at c (place.OfField index) offset first supported = fields_fail c index first.0 supported.fields
-unsupported_at c (place.OfMethod index) offset first supported =
-    not_all (MethodIsSupported c.pool.entries) (FailsAt c.pool.entries offset) (method_fails c.pool.entries offset) c.methods index first.there supported.methods
+unsupported_at c (place.OfMethod index) offset first supported = methods_fail c index offset first supported.methods
+unsupported_at c place.OfPool offset first supported = entries_fail c offset first supported.pool
 
 pub unsupported : (c : ClassDef) (u : Unsupported) → IsFirstUnsupported c u → ¬ IsSupported c
 unsupported c u first = unsupported_at c u.place u.offset first
@@ -141,6 +148,16 @@ one_place : (c : ClassDef) (p q : Place) (m n : ℕ) → IsFirstUnsupported c (m
 one_place c place.OfClass place.OfClass m n first second = ap (made place.OfClass) (first.1 ∙ sym second.1)
 one_place c place.OfClass (place.OfField j) m n first second = absurd (first.0 second.0.name)
 one_place c place.OfClass (place.OfMethod j) m n first second = absurd (first.0 second.name)
+one_place c place.OfClass place.OfPool m n first second = absurd (first.0 second.name)
+one_place c place.OfPool place.OfClass m n first second = absurd (second.0 first.name)
+one_place c (place.OfField i) place.OfPool m n first second = absurd (fields_fail c i first.0 second.fields)
+one_place c place.OfPool (place.OfField j) m n first second = absurd (fields_fail c j second.0 first.fields)
+one_place c (place.OfMethod i) place.OfPool m n first second = absurd (methods_fail c i m first second.methods)
+one_place c place.OfPool (place.OfMethod j) m n first second = absurd (methods_fail c j n second first.methods)
+one_place c place.OfPool place.OfPool m n first second =
+    let fails : Entry → Type 0 = λ e. ¬ EntryIsSupported e in
+    let index = same_index EntryIsSupported fails fails (λ e h. h) (λ e h. h) c.pool.entries m n first.before second.before first.there second.there in
+    ap (made place.OfPool) index
 one_place c (place.OfField i) place.OfClass m n first second = absurd (second.0 first.0.name)
 one_place c (place.OfField i) (place.OfField j) m n first second =
     let index = same_index (FieldIsSupported c.pool.entries) (λ x. ¬ FieldIsSupported c.pool.entries x) (λ x. ¬ FieldIsSupported c.pool.entries x) (λ x h. h) (λ x h. h) c.fields i j first.0.before second.0.before first.0.there second.0.there in

@@ -1,5 +1,5 @@
 -- What holds of records that are written out, by tests that compute.
-use Rattle.std.proofs.Common.{◌≡◌, ℕ, zero, ◌<◌, Bool, true, false, ltb, ◌&&◌, List, [], ◌∷◌, map, length, Option, Some, None, pos, arith, inl}
+use Rattle.std.proofs.Common.{◌≡◌, ℕ, zero, ◌<◌, Bool, true, false, ltb, ◌&&◌, List, [], ◌∷◌, map, length, Option, Some, None, pos, arith, inl, refl}
 use Rattle.std.specs.Prelude.{IsSomeAnd}
 use Rattle.std.specs.List.{AllByRecursion, list_all}
 use Rattle.std.proofs.lemmas.Bool.{and_parts, ltb-true, false≢true}
@@ -12,6 +12,7 @@ use Rattle.fm_code.specs.ConstantPool.{utf8_at, EntryIsValid}
 use Rattle.fm_code.specs.Fits.{AreBytes, EntryFits}
 use Rattle.fm_code.specs.InstructionTable.{insn_at}
 use Rattle.fm_code.specs.Names.{is_binary_name, IsClassName}
+use Rattle.fm_code.specs.Profile.{EntryIsSupported}
 use Rattle.fm_code.specs.SpellsCode.{targets_of, with_targets, IsSpelled}
 use Rattle.fm_code.specs.declared.constant_pool.Entry.{Entry}
 use Rattle.fm_code.specs.declared.constant_pool.Entry.TheVariants as entry
@@ -73,6 +74,18 @@ entry_fits e t = absurd (false≢true t)
 pub entries_fit : (entries : List Entry) → list_all fits entries ≡ true → AllByRecursion EntryFits entries
 entries_fit [] e = tt
 entries_fit (x ∷ entries) e = let parts = and_parts (fits x) (list_all fits entries) e in (entry_fits x parts.0, entries_fit entries parts.1)
+
+-- and all these are supported
+entry_supported : (e : Entry) → fits e ≡ true → EntryIsSupported e
+entry_supported (entry.MethodHandle kind member) t = absurd (false≢true t)
+entry_supported (entry.MethodType descriptor) t = absurd (false≢true t)
+entry_supported (entry.InvokeDynamic bootstrap member) t = absurd (false≢true t)
+entry_supported e t = refl
+
+pub entries_supported : (entries : List Entry) → list_all fits entries ≡ true → AllByRecursion EntryIsSupported entries
+entries_supported [] e = tt
+entries_supported (x ∷ entries) e =
+    let parts = and_parts (fits x) (list_all fits entries) e in (entry_supported x parts.0, entries_supported entries parts.1)
 
 -- for texts of the bytes from 1 to 127, classes that are no arrays, and longs
 abbrev names_class : Option (List ℕ) → Bool

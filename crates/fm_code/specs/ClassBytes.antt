@@ -2,7 +2,7 @@
 use Rattle.std.specs.Prelude.{ℕ, suc, zero, ◌-◌, List, [], ◌∷◌, ◌++◌, length}
 use Rattle.std.specs.List.{flat_map, concat}
 use Rattle.fm_code.specs.Numbers.{two, four, eight, signed_four, signed_eight}
-use Rattle.fm_code.specs.declared.constant_pool.TheConstants.{CONSTANT_Utf8, CONSTANT_Integer, CONSTANT_Float, CONSTANT_Long, CONSTANT_Double, CONSTANT_Class, CONSTANT_String, CONSTANT_Fieldref, CONSTANT_Methodref, CONSTANT_InterfaceMethodref, CONSTANT_NameAndType}
+use Rattle.fm_code.specs.declared.constant_pool.TheConstants.{CONSTANT_Utf8, CONSTANT_Integer, CONSTANT_Float, CONSTANT_Long, CONSTANT_Double, CONSTANT_Class, CONSTANT_String, CONSTANT_Fieldref, CONSTANT_Methodref, CONSTANT_InterfaceMethodref, CONSTANT_NameAndType, CONSTANT_MethodHandle, CONSTANT_MethodType, CONSTANT_InvokeDynamic}
 use Rattle.fm_code.specs.declared.constant_pool.Entry.{Entry}
 use Rattle.fm_code.specs.declared.constant_pool.Entry.TheVariants as entry
 use Rattle.fm_code.specs.declared.constant_pool.Pool.{Pool}
@@ -38,6 +38,9 @@ entry_bytes (entry.Field class member) = CONSTANT_Fieldref ∷ (two class ++ two
 entry_bytes (entry.Method class member) = CONSTANT_Methodref ∷ (two class ++ two member)
 entry_bytes (entry.InterfaceMethod class member) = CONSTANT_InterfaceMethodref ∷ (two class ++ two member)
 entry_bytes (entry.NameAndType name descriptor) = CONSTANT_NameAndType ∷ (two name ++ two descriptor)
+entry_bytes (entry.MethodHandle kind member) = CONSTANT_MethodHandle ∷ kind ∷ two member
+entry_bytes (entry.MethodType descriptor) = CONSTANT_MethodType ∷ two descriptor
+entry_bytes (entry.InvokeDynamic bootstrap member) = CONSTANT_InvokeDynamic ∷ (two bootstrap ++ two member)
 entry_bytes entry.Second = []
 
 -- a constant pool, its count first (JVMS 4.1)

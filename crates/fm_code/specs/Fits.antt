@@ -52,6 +52,9 @@ EntryFits (entry.Field class member) = FitsTwo class × FitsTwo member
 EntryFits (entry.Method class member) = FitsTwo class × FitsTwo member
 EntryFits (entry.InterfaceMethod class member) = FitsTwo class × FitsTwo member
 EntryFits (entry.NameAndType name descriptor) = FitsTwo name × FitsTwo descriptor
+EntryFits (entry.MethodHandle kind member) = IsByte kind × FitsTwo member
+EntryFits (entry.MethodType descriptor) = FitsTwo descriptor
+EntryFits (entry.InvokeDynamic bootstrap member) = FitsTwo bootstrap × FitsTwo member
 EntryFits entry.Second = Unit {0}
 
 -- an attribute that is kept as its bytes (JVMS 4.7)

@@ -196,13 +196,25 @@ pub record MethodIsSupported (entries : List Entry) (m : Member) : Type 0 where
   pub head : HeadIsSupported entries m
   pub items : IfSome (code_of m) (λ code. AllByRecursion (ItemIsSupported entries) code.items)
 
+-- a method handle, the type of a method, or what an invokedynamic calls (JVMS 4.4.8 to 4.4.10)
+abbrev pub is_dynamic : Entry → Bool
+is_dynamic (entry.MethodHandle kind member) = true
+is_dynamic (entry.MethodType descriptor) = true
+is_dynamic (entry.InvokeDynamic bootstrap member) = true
+is_dynamic e = false
+
+-- an entry of the pool, whether an instruction names it or not
+abbrev pub EntryIsSupported : Entry → Type 0
+EntryIsSupported e = is_dynamic e ≡ false
+
 -- a class in which all is supported
 pub record IsSupported (c : ClassDef) : Type 0 where
   pub name : NameIsSupported c
   pub fields : AllByRecursion (FieldIsSupported c.pool.entries) c.fields
   pub methods : AllByRecursion (MethodIsSupported c.pool.entries) c.methods
+  pub pool : AllByRecursion EntryIsSupported c.pool.entries
 
--- ---- the first place that isn't supported: the class's name, then fields, then methods; of a method its head, and then its items
+-- ---- the first place that isn't supported: the class's name, then fields, then methods, of a method its head and then its items, then the pool
 
 -- the first item of the code that isn't supported, by its offset
 pub record IsFirstUnsupportedItem (entries : List Entry) (offset : ℕ) (code : Code) : Type 0 where
@@ -228,6 +240,14 @@ pub record IsFirstUnsupportedMethod (c : ClassDef) (index offset : ℕ) : Type 0
   pub before : AllByRecursion (MethodIsSupported c.pool.entries) (take index c.methods)
   pub there : IsSomeAnd (slice_get c.methods index) (FailsAt c.pool.entries offset)
 
+-- the first entry of the pool that is not supported, where all else is
+pub record IsFirstUnsupportedEntry (c : ClassDef) (index : ℕ) : Type 0 where
+  pub name : NameIsSupported c
+  pub fields : AllByRecursion (FieldIsSupported c.pool.entries) c.fields
+  pub methods : AllByRecursion (MethodIsSupported c.pool.entries) c.methods
+  pub before : AllByRecursion EntryIsSupported (take index c.pool.entries)
+  pub there : IsSomeAnd (slice_get c.pool.entries index) (λ e. ¬ EntryIsSupported e)
+
 -- the first place that is not supported
 abbrev pub IsFirstUnsupported : ClassDef → Unsupported → Type 0
 IsFirstUnsupported c unsupported = at_place unsupported.place where
@@ -235,6 +255,7 @@ IsFirstUnsupported c unsupported = at_place unsupported.place where
   at_place place.OfClass = (¬ NameIsSupported c) × (unsupported.offset ≡ 0)
   at_place (place.OfField index) = IsFirstUnsupportedField c index × (unsupported.offset ≡ 0)
   at_place (place.OfMethod index) = IsFirstUnsupportedMethod c index unsupported.offset
+  at_place place.OfPool = IsFirstUnsupportedEntry c unsupported.offset
 
 -- ---- all of it
 

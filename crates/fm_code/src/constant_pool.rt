@@ -40,8 +40,19 @@ pub const CONSTANT_InterfaceMethodref: u8 = 11;
 /// The tag of a name with a descriptor (JVMS 4.4.6).
 pub const CONSTANT_NameAndType: u8 = 12;
 
+/// The tag of a method handle (JVMS 4.4.8).
+pub const CONSTANT_MethodHandle: u8 = 15;
+
+/// The tag of the type of a method (JVMS 4.4.9).
+pub const CONSTANT_MethodType: u8 = 16;
+
+/// The tag of what an `invokedynamic` calls (JVMS 4.4.10).
+pub const CONSTANT_InvokeDynamic: u8 = 18;
+
 /// One entry of a constant pool. The numbers are indices of other entries, but for the numeric
-/// constants: a `Float` and a `Double` are kept as the bits of their value.
+/// constants (a `Float` and a `Double` are kept as the bits of their value), the first number of a
+/// `MethodHandle`, which is its kind, and that of an `InvokeDynamic`, which is the number of a
+/// bootstrap method.
 #[derive(Debug, PartialEq, Eq, Drop)]
 pub enum Entry {
     Utf8(Name),
@@ -56,6 +67,9 @@ pub enum Entry {
     Method(u16, u16),
     InterfaceMethod(u16, u16),
     NameAndType(u16, u16),
+    MethodHandle(u8, u16),
+    MethodType(u16),
+    InvokeDynamic(u16, u16),
     /// The index 0, and the index after a `Long` or a `Double`: nothing is spelled there.
     Second,
 }
@@ -77,6 +91,9 @@ impl Entry {
             Entry::Method(class, member) => Ok(Entry::Method(*class, *member)),
             Entry::InterfaceMethod(class, member) => Ok(Entry::InterfaceMethod(*class, *member)),
             Entry::NameAndType(name, descriptor) => Ok(Entry::NameAndType(*name, *descriptor)),
+            Entry::MethodHandle(kind, member) => Ok(Entry::MethodHandle(*kind, *member)),
+            Entry::MethodType(descriptor) => Ok(Entry::MethodType(*descriptor)),
+            Entry::InvokeDynamic(bootstrap, member) => Ok(Entry::InvokeDynamic(*bootstrap, *member)),
             Entry::Second => Ok(Entry::Second),
         }
     }

@@ -28,8 +28,9 @@ pub use class_file::{ClassDef, MAGIC, Member, MemberAttr, Raw};
 pub use code_array::{Code, CodeAttr, Handler, Item, Line, MAX_CODE_BYTES, Var};
 pub use constant_pool::{
     CONSTANT_Class, CONSTANT_Double, CONSTANT_Fieldref, CONSTANT_Float, CONSTANT_Integer,
-    CONSTANT_InterfaceMethodref, CONSTANT_Long, CONSTANT_Methodref, CONSTANT_NameAndType,
-    CONSTANT_String, CONSTANT_Utf8, Entry, MemberRef, Pool,
+    CONSTANT_InterfaceMethodref, CONSTANT_InvokeDynamic, CONSTANT_Long, CONSTANT_MethodHandle,
+    CONSTANT_MethodType, CONSTANT_Methodref, CONSTANT_NameAndType, CONSTANT_String, CONSTANT_Utf8,
+    Entry, MemberRef, Pool,
 };
 pub use cursor::{
     AttributeParts, take_attribute, take_bytes, take_u8, take_u16, take_u32, take_u64,

@@ -39,12 +39,14 @@ pub enum Place {
     OfField(u16),
     /// In the method of that number.
     OfMethod(u16),
+    /// In the constant pool.
+    OfPool,
 }
 
 /// A place of a class that has what isn't supported.
 #[derive(Clone, Copy, Debug, PartialEq, Eq)]
 pub struct Unsupported {
     pub place: Place,
-    /// The offset of the instruction in the method's code; 0 where it is no instruction.
+    /// The offset of the instruction in the method's code, or the index in the constant pool; else 0.
     pub offset: u32,
 }

@@ -44,3 +44,4 @@ pub place_has_name : (bytes : List â„•) (c : ClassDef) (at : Place) (offset : â„
 place_has_name bytes c place.OfClass offset spells first = tt
 place_has_name bytes c (place.OfField index) offset spells first = name_at c.pool.entries c.fields index _ (fields_named bytes c spells) first.0.there
 place_has_name bytes c (place.OfMethod index) offset spells first = name_at c.pool.entries c.methods index _ (methods_named bytes c spells) first.there
+place_has_name bytes c place.OfPool offset spells first = tt

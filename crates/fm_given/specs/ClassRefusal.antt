@@ -24,11 +24,13 @@ use Rattle.fm_given.specs.declared.judging.ClassFail.TheVariants as class_fail
 abbrev pub IsNameAt : List Entry → List Member → ℕ → List ℕ → Type 0
 IsNameAt entries members index name = IsSomeAnd (slice_get members index) (λ m. utf8_at entries m.name ≡ Some name)
 
--- a place is reported by the name of the field or the method, and by the word class where it is the class's own name
+-- a place is reported by the name of the field or the method, by the word class where it is the class's own name, and by the word
+-- pool where it is an entry of the constant pool
 abbrev pub IsPlaceName : ClassDef → Place → List ℕ → Type 0
 IsPlaceName c place.OfClass name = name ≡ codes "class"
 IsPlaceName c (place.OfField index) name = IsNameAt c.pool.entries c.fields index name
 IsPlaceName c (place.OfMethod index) name = IsNameAt c.pool.entries c.methods index name
+IsPlaceName c place.OfPool name = name ≡ codes "pool"
 
 -- there is such a name
 abbrev pub HasNameAt : List Entry → List Member → ℕ → Type 0
@@ -39,6 +41,7 @@ abbrev pub PlaceHasName : ClassDef → Place → Type 0
 PlaceHasName c place.OfClass = Unit {0}
 PlaceHasName c (place.OfField index) = HasNameAt c.pool.entries c.fields index
 PlaceHasName c (place.OfMethod index) = HasNameAt c.pool.entries c.methods index
+PlaceHasName c place.OfPool = Unit {0}
 
 -- ---- causes
 

@@ -17,7 +17,8 @@ pub enum ClassRefusal {
     Version(u16, u16),
     /// This count of the method of this name is above its limit.
     Limit(What, Name, u32),
-    /// The member of this name, or the class's own name, has at this offset what isn't supported.
+    /// The member of this name, the class's own name, or the constant pool, has at this offset or
+    /// index what isn't supported.
     Unsupported(Name, u32),
 }
 

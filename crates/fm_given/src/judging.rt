@@ -76,6 +76,7 @@ fn place_name(alloc: Global, class: &ClassDef, place: Place) -> Result<Name, NoM
         Place::OfClass => Ok(Name::new(Vec::from_slice(alloc, b"class")?)),
         Place::OfField(index) => member_name(alloc, &class.pool, &class.fields, index),
         Place::OfMethod(index) => member_name(alloc, &class.pool, &class.methods, index),
+        Place::OfPool => Ok(Name::new(Vec::from_slice(alloc, b"pool")?)),
     }
 }
 

@@ -10,14 +10,14 @@ use Rattle.std.proofs.lemmas.List.Concat.{flat_map-cons}
 use Rattle.fm_code.specs.ConstantPool.{takes_two, AreSlots}
 use Rattle.fm_code.specs.Numbers.{two, four, eight, signed_four, signed_eight}
 use Rattle.fm_code.specs.ClassBytes.{entry_bytes, counted}
-use Rattle.fm_code.specs.Fits.{AreBytes, FitsTwo, CountedFits, EntryFits}
-use Rattle.fm_code.specs.declared.constant_pool.TheConstants.{CONSTANT_Utf8, CONSTANT_Integer, CONSTANT_Float, CONSTANT_Long, CONSTANT_Double, CONSTANT_Class, CONSTANT_String, CONSTANT_Fieldref, CONSTANT_Methodref, CONSTANT_InterfaceMethodref, CONSTANT_NameAndType}
+use Rattle.fm_code.specs.Fits.{AreBytes, FitsTwo, IsByte, CountedFits, EntryFits}
+use Rattle.fm_code.specs.declared.constant_pool.TheConstants.{CONSTANT_Utf8, CONSTANT_Integer, CONSTANT_Float, CONSTANT_Long, CONSTANT_Double, CONSTANT_Class, CONSTANT_String, CONSTANT_Fieldref, CONSTANT_Methodref, CONSTANT_InterfaceMethodref, CONSTANT_NameAndType, CONSTANT_MethodHandle, CONSTANT_MethodType, CONSTANT_InvokeDynamic}
 use Rattle.fm_code.specs.declared.constant_pool.Entry.{Entry}
 use Rattle.fm_code.specs.declared.constant_pool.Entry.TheVariants as entry
 use Rattle.fm_code.proofs.Bytes.{AreBytes-drop, length-signed_four, length-signed_eight, big_number-lt, big_number-signed_four, big_number-signed_eight, signed_four-big_number, signed_eight-big_number}
 use Rattle.fm_code.proofs.PoolPrefixes.{IsSpelledEntry, slots_spelled}
 use Rattle.fm_code.specs.inner.Reading.{◌>>=◌, number_at, bytes_at}
-use Rattle.fm_pool.specs.inner.Reading.{text_at, pair_at, entry_after, entry_at_front, slot_at, slots_at, pool_at}
+use Rattle.fm_pool.specs.inner.Reading.{text_at, pair_at, handle_at, dynamic_after, entry_after, entry_at_front, slot_at, slots_at, pool_at}
 use Rattle.fm_code.proofs.Pieces.{bind_some, some_is, Takes, Takes-then, IsPiece, number_parts, one_piece, two_piece, four_piece, eight_piece, bytes_takes, bytes_again}
 
 -- ---- texts
@@ -102,6 +102,27 @@ unfolding pair_at
 pair_again a b rest a_fits b_fits =
     ap pair_at (append_assoc (two a) (two b) rest) ∙ rw (two_piece.again a (two b ++ rest) a_fits, two_piece.again b rest b_fits) refl
 
+-- the kind of a method handle, and an index
+abbrev handle_bytes : ℕ × ℕ → List ℕ
+handle_bytes handle = handle.0 ∷ two handle.1
+
+abbrev HandleFits : ℕ × ℕ → Type 0
+HandleFits handle = IsByte handle.0 × FitsTwo handle.1
+
+handle_takes : (bytes : List ℕ) (x : (ℕ × ℕ) × List ℕ) → AreBytes bytes → handle_at bytes ≡ Some x → Takes bytes (handle_bytes x.0) x.1 × HandleFits x.0
+unfolding handle_at
+handle_takes bytes x fits e =
+    let a = bind_some (number_at 1 bytes) (λ kind. number_at 2 kind.1 >>= λ member. Some ((kind.0, member.0), member.1)) x e in
+    let b = bind_some (number_at 2 a.0.1) (λ member. Some ((a.0.0, member.0), member.1)) x a.2 in
+    let t0 = one_piece.takes bytes a.0 fits a.1 in
+    let t1 = two_piece.takes a.0.1 b.0 t0.0.rest_fits b.1 in
+    subst (λ (y : (ℕ × ℕ) × List ℕ). Takes bytes (handle_bytes y.0) y.1 × HandleFits y.0) (some_is ((a.0.0, b.0.0), b.0.1) x b.2)
+    (Takes-then bytes (a.0.0 ∷ []) a.0.1 (two b.0.0) b.0.1 t0.0 t1.0, (t0.1, t1.1))
+
+handle_again : (a b : ℕ) (rest : List ℕ) → IsByte a → FitsTwo b → handle_at ((a ∷ two b) ++ rest) ≡ Some ((a, b), rest)
+unfolding handle_at
+handle_again a b rest a_fits b_fits = rw (one_piece.again a (two b ++ rest) a_fits, two_piece.again b rest b_fits) refl
+
 -- ---- entries
 
 -- an entry that is spelled
@@ -132,6 +153,15 @@ by_tag tag known here there x P known_tag other e =
       | inr apart ↦ other (rw apart at e)
     ]
 
+dynamic_after_takes : (tag : ℕ) (bytes : List ℕ) (x : Entry × List ℕ) → AreBytes bytes → dynamic_after tag bytes ≡ Some x → TakesEntry (tag ∷ bytes) x
+unfolding dynamic_after entry_bytes
+dynamic_after_takes tag bytes x fits e =
+    let P : ℕ → Type 0 = λ t. TakesEntry (t ∷ bytes) x in
+    by_tag tag CONSTANT_MethodHandle _ _ x P (made CONSTANT_MethodHandle bytes (handle_at bytes) (λ a. entry.MethodHandle a.0 a.1) handle_bytes x (λ a. refl) (λ a h. let t = handle_takes bytes a fits h in (t.0, record { fits = t.1; spelled = tt })))
+    (λ no1. by_tag tag CONSTANT_MethodType _ _ x P (made CONSTANT_MethodType bytes (number_at 2 bytes) entry.MethodType two x (λ a. refl) (λ a h. let t = two_piece.takes bytes a fits h in (t.0, record { fits = t.1; spelled = tt })))
+    (λ no2. by_tag tag CONSTANT_InvokeDynamic _ _ x P (made CONSTANT_InvokeDynamic bytes (pair_at bytes) (λ a. entry.InvokeDynamic a.0 a.1) pair_bytes x (λ a. refl) (λ a h. let t = pair_takes bytes a fits h in (t.0, record { fits = t.1; spelled = tt })))
+    (λ no3. absurd cc) no2) no1) e
+
 entry_after_takes : (tag : ℕ) (bytes : List ℕ) (x : Entry × List ℕ) → AreBytes bytes → entry_after tag bytes ≡ Some x → TakesEntry (tag ∷ bytes) x
 unfolding entry_after entry_bytes
 entry_after_takes tag bytes x fits e =
@@ -147,7 +177,7 @@ entry_after_takes tag bytes x fits e =
     (λ no8. by_tag tag CONSTANT_Methodref _ _ x P (made CONSTANT_Methodref bytes (pair_at bytes) (λ a. entry.Method a.0 a.1) pair_bytes x (λ a. refl) (λ a h. let t = pair_takes bytes a fits h in (t.0, record { fits = t.1; spelled = tt })))
     (λ no9. by_tag tag CONSTANT_InterfaceMethodref _ _ x P (made CONSTANT_InterfaceMethodref bytes (pair_at bytes) (λ a. entry.InterfaceMethod a.0 a.1) pair_bytes x (λ a. refl) (λ a h. let t = pair_takes bytes a fits h in (t.0, record { fits = t.1; spelled = tt })))
     (λ no10. by_tag tag CONSTANT_NameAndType _ _ x P (made CONSTANT_NameAndType bytes (pair_at bytes) (λ a. entry.NameAndType a.0 a.1) pair_bytes x (λ a. refl) (λ a h. let t = pair_takes bytes a fits h in (t.0, record { fits = t.1; spelled = tt })))
-    (λ no11. absurd cc) no10) no9) no8) no7) no6) no5) no4) no3) no2) no1) e
+    (λ other. dynamic_after_takes tag bytes x fits other) no10) no9) no8) no7) no6) no5) no4) no3) no2) no1) e
 
 entry_takes : (bytes : List ℕ) (x : Entry × List ℕ) → AreBytes bytes → entry_at_front bytes ≡ Some x → TakesEntry bytes x
 unfolding entry_at_front
@@ -158,7 +188,7 @@ entry_takes bytes x fits e =
     (record { parts = t.0.parts ∙ after.0.parts; rest_fits = after.0.rest_fits }, after.1)
 
 entry_again : (e : Entry) (rest : List ℕ) → IsReadEntry e → entry_at_front (entry_bytes e ++ rest) ≡ Some (e, rest)
-unfolding entry_at_front entry_after entry_bytes
+unfolding entry_at_front entry_after dynamic_after entry_bytes
 entry_again (entry.Utf8 name) rest h = rw (one_piece.again CONSTANT_Utf8 (text_bytes name ++ rest) (omega arith), text_again name rest h.fits) refl
 entry_again (entry.Integer z) rest h = rw (one_piece.again CONSTANT_Integer (signed_four z ++ rest) (omega arith)) (four_again z rest h.fits)
 entry_again (entry.Float bits) rest h = rw (one_piece.again CONSTANT_Float (four bits ++ rest) (omega arith), four_piece.again bits rest h.fits) refl
@@ -170,6 +200,9 @@ entry_again (entry.Field n m) rest h = rw (one_piece.again CONSTANT_Fieldref ((t
 entry_again (entry.Method n m) rest h = rw (one_piece.again CONSTANT_Methodref ((two n ++ two m) ++ rest) (omega arith), pair_again n m rest h.fits.0 h.fits.1) refl
 entry_again (entry.InterfaceMethod n m) rest h = rw (one_piece.again CONSTANT_InterfaceMethodref ((two n ++ two m) ++ rest) (omega arith), pair_again n m rest h.fits.0 h.fits.1) refl
 entry_again (entry.NameAndType n m) rest h = rw (one_piece.again CONSTANT_NameAndType ((two n ++ two m) ++ rest) (omega arith), pair_again n m rest h.fits.0 h.fits.1) refl
+entry_again (entry.MethodHandle kind m) rest h = rw (one_piece.again CONSTANT_MethodHandle ((kind ∷ two m) ++ rest) (omega arith), handle_again kind m rest h.fits.0 h.fits.1) refl
+entry_again (entry.MethodType n) rest h = rw (one_piece.again CONSTANT_MethodType (two n ++ rest) (omega arith), two_piece.again n rest h.fits) refl
+entry_again (entry.InvokeDynamic n m) rest h = rw (one_piece.again CONSTANT_InvokeDynamic ((two n ++ two m) ++ rest) (omega arith), pair_again n m rest h.fits.0 h.fits.1) refl
 entry_again entry.Second rest h = absurd h.spelled
 
 -- ---- what is at the indices

@@ -16,6 +16,7 @@ use Rattle.fm_code.specs.ConstantPool.{entry_at, utf8_at, class_name_at, named_a
 use Rattle.fm_code.specs.Fits.{EntryFits}
 use Rattle.fm_code.specs.FreeEntries.{Content, of_utf8, of_class, of_name_and_type, of_method, has_content, is_some_text, is_some_pair, index_of, Sought, placed, sought_class_text, sought_class, sought_name, sought_descriptor, sought_pair, sought_free, with_free, free_class, free_name, free_descriptor, free_method}
 use Rattle.fm_code.specs.Names.{object, IsFieldType, IsMethodDescriptor, FieldType}
+use Rattle.fm_code.specs.Profile.{EntryIsSupported}
 use Rattle.fm_code.specs.declared.constant_pool.Entry.{Entry}
 use Rattle.fm_code.specs.declared.constant_pool.Entry.TheVariants as entry
 use Rattle.fm_code.specs.declared.constant_pool.Pool.{Pool}
@@ -126,6 +127,12 @@ fits all few (entry.Class name) h = omega (arith, text_within all name free_clas
 fits all few (entry.NameAndType name descriptor) h = (omega (arith, text_within all name free_name h.0), omega (arith, text_within all descriptor free_descriptor h.1))
 fits all few (entry.Method class member) h = (omega (arith, class_within all class free_class h.0), omega (arith, pair_within all member (free_name, free_descriptor) h.1))
 fits all few e h = absurd h
+
+supported : (all : List Entry) (e : Entry) → IsAdded all e → EntryIsSupported e
+supported all (entry.MethodHandle kind member) h = absurd h
+supported all (entry.MethodType descriptor) h = absurd h
+supported all (entry.InvokeDynamic bootstrap member) h = absurd h
+supported all e h = refl
 
 abbrev object_type : FieldType
 object_type = record { dimensions = 0; base = object (codes "java/lang/Object") }
@@ -266,6 +273,13 @@ made_entries entries added missing index is e = e ∙ ap (λ (s : Sought). entri
 pub free_named : (entries added missing : List Entry) (index : ℕ) → sought_free entries ≡ record { index = index; missing = missing } → added ≡ entries ++ missing → method_at added index ≡ Some free_method
 free_named entries added missing index is e =
     subst (λ (all : List Entry). method_at all index ≡ Some free_method) (sym (made_entries entries added missing index is e)) (subst (λ (i : ℕ). method_at (with_free entries) i ≡ Some free_method) (ap (λ (s : Sought). s.index) is) (steps entries).method.stands)
+
+-- each entry is supported with them, where it is without
+pub free_supported : (entries : List Entry) → AllByRecursion EntryIsSupported entries → AllByRecursion EntryIsSupported (with_free entries)
+free_supported entries own =
+    let missing = (sought_free entries).missing in
+    AllByRecursion-append EntryIsSupported entries missing own
+    (AllByRecursion-weaker (IsAdded (with_free entries)) EntryIsSupported (supported (with_free entries)) missing (steps entries).method.added)
 
 pub free_spelled : (pool made : Pool) (missing : List Entry) (index : ℕ) → SpellsPool (pool_bytes pool) pool → length (with_free pool.entries) < 2 ^ 16 → sought_free pool.entries ≡ record { index = index; missing = missing } → made.entries ≡ pool.entries ++ missing
     → SpellsPool (pool_bytes made) made

@@ -3,14 +3,14 @@
 ghost use Rattle.std.specs.Prelude.{◌≡◌, true};
 ghost use Rattle.fm_code.specs.ConstantPool.{takes_two};
 ghost use Rattle.fm_code.specs.inner.Reading.{Gives};
-ghost use Rattle.fm_pool.specs.inner.Reading.{entry_at_front, entry_after, pair_at, pool_at, slot_at, slots_at, text_at};
+ghost use Rattle.fm_pool.specs.inner.Reading.{dynamic_after, entry_at_front, entry_after, handle_at, pair_at, pool_at, slot_at, slots_at, text_at};
 
 use fm_base::Name;
 use fm_code::{
     CONSTANT_Class, CONSTANT_Double, CONSTANT_Fieldref, CONSTANT_Float, CONSTANT_Integer,
-    CONSTANT_InterfaceMethodref, CONSTANT_Long, CONSTANT_Methodref, CONSTANT_NameAndType,
-    CONSTANT_String, CONSTANT_Utf8, Entry, PieceFail, take_bytes, take_u8, take_u16, take_u32,
-    take_u64,
+    CONSTANT_InterfaceMethodref, CONSTANT_InvokeDynamic, CONSTANT_Long, CONSTANT_MethodHandle,
+    CONSTANT_MethodType, CONSTANT_Methodref, CONSTANT_NameAndType, CONSTANT_String, CONSTANT_Utf8,
+    Entry, PieceFail, take_bytes, take_u8, take_u16, take_u32, take_u64,
 };
 use std::alloc::Global;
 
@@ -31,6 +31,39 @@ fn take_pair(bytes: &[u8]) -> Result<((u16, u16), &[u8]), PieceFail>
     let (first, rest) = take_u16(bytes)?;
     let (second, rest) = take_u16(rest)?;
     Ok(((first, second), rest))
+}
+
+/// The kind of a method handle, and an index.
+#[tactic(auto, unfolding(crate::specs::inner::Reading::handle_at))]
+fn take_handle(bytes: &[u8]) -> Result<((u8, u16), &[u8]), PieceFail>
+    ensures { Gives (λ x. (x.0, x.1.now)) result (handle_at bytes.now) }
+{
+    let (kind, rest) = take_u8(bytes)?;
+    let (member, rest) = take_u16(rest)?;
+    Ok(((kind, member), rest))
+}
+
+/// What is after the tag of a method handle, of the type of a method, or of what an `invokedynamic`
+/// calls.
+#[tactic(auto, unfolding(crate::specs::inner::Reading::dynamic_after))]
+fn take_dynamic_of(tag: u8, bytes: &[u8]) -> Result<(Entry, &[u8]), PieceFail>
+    ensures { Gives (λ x. (x.0, x.1.now)) result (dynamic_after tag bytes.now) }
+{
+    match tag {
+        CONSTANT_MethodHandle => {
+            let ((kind, member), rest) = take_handle(bytes)?;
+            Ok((Entry::MethodHandle(kind, member), rest))
+        }
+        CONSTANT_MethodType => {
+            let (descriptor, rest) = take_u16(bytes)?;
+            Ok((Entry::MethodType(descriptor), rest))
+        }
+        CONSTANT_InvokeDynamic => {
+            let ((bootstrap, member), rest) = take_pair(bytes)?;
+            Ok((Entry::InvokeDynamic(bootstrap, member), rest))
+        }
+        _ => Err(PieceFail::Malformed),
+    }
 }
 
 /// What is after a tag.
@@ -84,7 +117,7 @@ fn take_entry_of(alloc: Global, tag: u8, bytes: &[u8]) -> Result<(Entry, &[u8]),
             let ((name, descriptor), rest) = take_pair(bytes)?;
             Ok((Entry::NameAndType(name, descriptor), rest))
         }
-        _ => Err(PieceFail::Malformed),
+        _ => take_dynamic_of(tag, bytes),
     }
 }
 

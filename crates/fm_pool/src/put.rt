@@ -40,6 +40,15 @@ pub(crate) fn put_pair(tag: u8, first: u16, second: u16, out: &mut Vec<u8>) -> R
     put_u16(second, out)
 }
 
+/// Appends a tag, the kind of a method handle and an index.
+pub(crate) fn put_handle(tag: u8, kind: u8, index: u16, out: &mut Vec<u8>) -> Result<(), NoMemory>
+    ensures { OnOk result (out.new.items ≡ out.old.items ++ tag ∷ kind ∷ two index) }
+{
+    out.push(tag)?;
+    out.push(kind)?;
+    put_u16(index, out)
+}
+
 /// Appends a tag and a text after its length.
 pub(crate) fn put_text(tag: u8, text: &[u8], out: &mut Vec<u8>) -> Result<(), NoMemory>
     requires { length text.now < 2 ^ 16 }

@@ -10,7 +10,7 @@ use std::test::Fail;
 // A pool with an entry of each kind.
 #[rattlefmt::skip]
 const EACH_KIND: &[u8] = &[
-    0, 17, // indices 0 to 16
+    0, 20, // indices 0 to 19
     1, 0, 1, b'M', // 1
     3, 0xff, 0xff, 0xff, 0xfe, // 2
     4, 0x40, 0x49, 0x0f, 0xdb, // 3
@@ -25,6 +25,9 @@ const EACH_KIND: &[u8] = &[
     9, 0, 8, 0, 12, // 14
     10, 0, 8, 0, 13, // 15
     11, 0, 8, 0, 13, // 16
+    15, 6, 0, 15, // 17
+    16, 0, 11, // 18
+    18, 0, 2, 0, 13, // 19
 ];
 
 // Whether the entries of the pool with one of each kind are as they are written above.
@@ -39,6 +42,9 @@ fn are_of_each_kind(pool: &Pool) -> bool {
         && matches!(pool.entry(14), Some(Entry::Field(8, 12)))
         && matches!(pool.entry(15), Some(Entry::Method(8, 13)))
         && matches!(pool.entry(16), Some(Entry::InterfaceMethod(8, 13)))
+        && matches!(pool.entry(17), Some(Entry::MethodHandle(6, 15)))
+        && matches!(pool.entry(18), Some(Entry::MethodType(11)))
+        && matches!(pool.entry(19), Some(Entry::InvokeDynamic(2, 13)))
 }
 
 #[test]
@@ -85,7 +91,8 @@ fn what_is_no_pool_is_malformed(rt: HostRuntime) {
         (&[0, 2, 3, 0, 0, 7], "an int cut short"),
         (&[0, 2, 1, 0, 2, 77], "a text cut short"),
         (&[0, 2, 2, 0, 0, 0, 0], "the tag 2"),
-        (&[0, 2, 15, 1, 0, 1], "the tag 15"),
+        (&[0, 2, 17, 0, 0, 0, 1], "the tag 17"),
+        (&[0, 2, 15, 1, 0], "a method handle cut short"),
         (&[0, 2, 1, 0, 1, 0], "a text with a byte 0"),
         (&[0, 2, 1, 0, 1, 0x80], "a byte that goes on with nothing"),
         (&[0, 2, 1, 0, 2, 0xc1, 0x80], "two bytes for the unit 64"),

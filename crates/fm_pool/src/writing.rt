@@ -5,12 +5,13 @@ ghost use Rattle.fm_code.specs.ClassBytes.{counted, entry_bytes, pool_bytes};
 ghost use Rattle.fm_code.specs.ConstantPool.{SpellsPool};
 ghost use Rattle.fm_code.specs.Fits.{CountedFits, EntryFits};
 
-use crate::put::{put_eight, put_four, put_index, put_pair, put_text};
+use crate::put::{put_eight, put_four, put_handle, put_index, put_pair, put_text};
 use fm_base::NoMemory;
 use fm_code::{
     CONSTANT_Class, CONSTANT_Double, CONSTANT_Fieldref, CONSTANT_Float, CONSTANT_Integer,
-    CONSTANT_InterfaceMethodref, CONSTANT_Long, CONSTANT_Methodref, CONSTANT_NameAndType,
-    CONSTANT_String, CONSTANT_Utf8, Entry, Pool, put_u16,
+    CONSTANT_InterfaceMethodref, CONSTANT_InvokeDynamic, CONSTANT_Long, CONSTANT_MethodHandle,
+    CONSTANT_MethodType, CONSTANT_Methodref, CONSTANT_NameAndType, CONSTANT_String, CONSTANT_Utf8,
+    Entry, Pool, put_u16,
 };
 use std::alloc::Global;
 
@@ -61,6 +62,13 @@ fn put_entry(entry: &Entry, out: &mut Vec<u8>) -> Result<(), NoMemory>
         }
         Entry::NameAndType(name, descriptor) => {
             put_pair(CONSTANT_NameAndType, *name, *descriptor, out)
+        }
+        Entry::MethodHandle(kind, member) => {
+            put_handle(CONSTANT_MethodHandle, *kind, *member, out)
+        }
+        Entry::MethodType(descriptor) => put_index(CONSTANT_MethodType, *descriptor, out),
+        Entry::InvokeDynamic(bootstrap, member) => {
+            put_pair(CONSTANT_InvokeDynamic, *bootstrap, *member, out)
         }
         Entry::Second => Ok(()),
     }

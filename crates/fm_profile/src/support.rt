@@ -3,7 +3,7 @@
 ghost use Rattle.std.specs.Prelude.{◌≡◌, ◌↔◌, ◌<◌, ◌^◌, IfErr, IfSome, IsNone, IsOk, IsSomeAnd, IsTrue, length, slice_get, take};
 ghost use Rattle.std.specs.List.{AllByRecursion};
 ghost use Rattle.fm_code.specs.ConstantPool.{class_name_at};
-ghost use Rattle.fm_code.specs.Profile.{FailsAt, FieldIsSupported, IsAcceptedVersion, IsFirstUnsupported, IsFirstUnsupportedItem, IsSupported, IsSupportedName, IsWithinLimits, ItemIsSupported, MethodIsSupported, Profile};
+ghost use Rattle.fm_code.specs.Profile.{EntryIsSupported, FailsAt, FieldIsSupported, IsAcceptedVersion, IsFirstUnsupported, IsFirstUnsupportedItem, IsSupported, IsSupportedName, IsWithinLimits, ItemIsSupported, MethodIsSupported, Profile};
 ghost use Rattle.fm_code.specs.Spells.{HasSpelling};
 ghost use Rattle.fm_code.specs.declared.class_file.ClassDef.{ClassDef as ClassRecord};
 ghost use Rattle.fm_profile.specs.inner.Declared.{DeclaresField, DeclaresMethod, PoolIsValid};
@@ -16,12 +16,12 @@ mod items;
 use crate::limits::code_of;
 use class_names::is_supported_name;
 use floating_types::{FloatingTexts, is_floating_field};
-use fm_code::{ACC_NATIVE, ClassDef, Code, Member, Place, Pool, Unsupported, has_flag};
+use fm_code::{ACC_NATIVE, ClassDef, Code, Entry, Member, Place, Pool, Unsupported, has_flag};
 use items::is_supported_item;
 
 /// Asks whether all that a class has is supported. An error is the first place that isn't: the
-/// class's own name, then its fields, then its methods; of a method its descriptor and its flags,
-/// at offset 0, and then its instructions. Some bytes have to spell the record. Takes no memory.
+/// class's own name, then its fields, then its methods, of a method its descriptor and its flags, at
+/// offset 0, and then its instructions, and last the entries of its constant pool. Some bytes have to spell the record. Takes no memory.
 pub fn supported(class: &ClassDef) -> Result<(), Unsupported>
     requires { HasSpelling class.now }
     ensures ok { IsOk result ↔ IsSupported class.now }
@@ -43,6 +43,12 @@ pub fn supported(class: &ClassDef) -> Result<(), Unsupported>
     if let Some((number, offset)) = first_method(&class.pool, &floating, class.methods.as_slice()) {
         return Err(Unsupported {
             place: Place::OfMethod(number),
+            offset,
+        });
+    }
+    if let Some(offset) = first_entry(class.pool.entries.as_slice()) {
+        return Err(Unsupported {
+            place: Place::OfPool,
             offset,
         });
     }
@@ -158,4 +164,33 @@ fn first_item(pool: &Pool, code: &Code) -> Option<u32>
         }
     }
     None
+}
+
+/// The index of the first entry that isn't supported.
+fn first_entry(entries: &[Entry]) -> Option<u32>
+    requires { length entries.now < 2 ^ 16 }
+    ensures none { IsNone result → AllByRecursion EntryIsSupported entries.now }
+    ensures before { IfSome result
+        (λ index. AllByRecursion EntryIsSupported (take index entries.now)) }
+    ensures there { IfSome result
+        (λ index. IsSomeAnd (slice_get entries.now index) (λ entry. ¬ EntryIsSupported entry)) }
+{
+    let mut index = 0;
+    for entry in entries {
+        if !is_supported_entry(entry) {
+            return Some(index);
+        }
+        index += 1;
+    }
+    None
+}
+
+/// Whether an entry is supported.
+fn is_supported_entry(entry: &Entry) -> bool
+    ensures { IsTrue result ↔ EntryIsSupported entry.now }
+{
+    !matches!(
+        entry,
+        Entry::MethodHandle(_, _) | Entry::MethodType(_) | Entry::InvokeDynamic(_, _)
+    )
 }

@@ -171,4 +171,7 @@ no_text (entry.Field n m) not_text = refl
 no_text (entry.Method n m) not_text = refl
 no_text (entry.InterfaceMethod n m) not_text = refl
 no_text (entry.NameAndType n m) not_text = refl
+no_text (entry.MethodHandle n m) not_text = refl
+no_text (entry.MethodType n) not_text = refl
+no_text (entry.InvokeDynamic n m) not_text = refl
 no_text entry.Second not_text = refl

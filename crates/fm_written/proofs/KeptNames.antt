@@ -77,6 +77,8 @@ module _ (entries more : List Entry) where
     by false (entry.Float bits) at_index own = rw (entry_kept entries more index (entry.Float bits) at_index (λ e. cc)) tt
     by false (entry.Class name) at_index own = rw (entry_kept entries more index (entry.Class name) at_index (λ e. cc)) tt
     by false (entry.Text units) at_index own = rw (entry_kept entries more index (entry.Text units) at_index (λ e. cc)) tt
+    by false (entry.MethodHandle kind member) at_index own = rw (entry_kept entries more index (entry.MethodHandle kind member) at_index (λ e. cc)) tt
+    by false (entry.MethodType descriptor) at_index own = rw (entry_kept entries more index (entry.MethodType descriptor) at_index (λ e. cc)) tt
     by true (entry.Long value) at_index own = rw (entry_kept entries more index (entry.Long value) at_index (λ e. cc)) tt
     by true (entry.Double bits) at_index own = rw (entry_kept entries more index (entry.Double bits) at_index (λ e. cc)) tt
     by two e at_index own = absurd own

@@ -33,7 +33,7 @@ use Rattle.fm_layout.specs.Tables.{moved_handler}
 use Rattle.fm_place.specs.Insertions.{Insertions}
 use Rattle.fm_place.specs.Rewriting.{free_index, Plans, rewritten_attribute, rewritten_method, rewritten_methods}
 use Rattle.fm_place.specs.Woven.{anchors_of, woven, woven_code}
-use Rattle.fm_pool.proofs.FreeEntriesAdded.{free_named}
+use Rattle.fm_pool.proofs.FreeEntriesAdded.{free_named, free_supported}
 use Rattle.fm_pool.proofs.GrownPool.{class_kept, entry_kept}
 use Rattle.fm_profile.proofs.FloatingLemmas.{array_begins}
 use Rattle.fm_profile.proofs.LimitLemmas.{code_is}
@@ -266,5 +266,6 @@ changed_accepted plans first c (bytes, spells) profile can =
         name = still_such (class_name_at entries c.this_class) (class_name_at (with_free entries) c.this_class) IsSupportedName (class_kept entries more c.this_class) profile.supported.name;
         fields = AllByRecursion-weaker (FieldIsSupported entries) (FieldIsSupported (with_free entries)) (λ m own. such_kept entries more m.descriptor _ own) c.fields profile.supported.fields;
         methods = methods_supported entries more (free_index c) named (is_interface c.flags) plans first c.methods can spells.methods profile.supported.methods;
+        pool = free_supported entries profile.supported.pool;
       };
     }

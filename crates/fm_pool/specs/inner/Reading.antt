@@ -3,7 +3,7 @@ use Rattle.std.specs.Prelude.{ℕ, zero, suc, ◌==◌, Bool, true, false, List,
 use Rattle.std.specs.Int.{w32, w64, cast_signed}
 use Rattle.fm_code.specs.ConstantPool.{takes_two}
 use Rattle.fm_code.specs.inner.Reading.{◌>>=◌, number_at, bytes_at}
-use Rattle.fm_code.specs.declared.constant_pool.TheConstants.{CONSTANT_Utf8, CONSTANT_Integer, CONSTANT_Float, CONSTANT_Long, CONSTANT_Double, CONSTANT_Class, CONSTANT_String, CONSTANT_Fieldref, CONSTANT_Methodref, CONSTANT_InterfaceMethodref, CONSTANT_NameAndType}
+use Rattle.fm_code.specs.declared.constant_pool.TheConstants.{CONSTANT_Utf8, CONSTANT_Integer, CONSTANT_Float, CONSTANT_Long, CONSTANT_Double, CONSTANT_Class, CONSTANT_String, CONSTANT_Fieldref, CONSTANT_Methodref, CONSTANT_InterfaceMethodref, CONSTANT_NameAndType, CONSTANT_MethodHandle, CONSTANT_MethodType, CONSTANT_InvokeDynamic}
 use Rattle.fm_code.specs.declared.constant_pool.Entry.{Entry}
 use Rattle.fm_code.specs.declared.constant_pool.Entry.TheVariants as entry
 
@@ -22,6 +22,20 @@ pair_at bytes = do
   second ← number_at 2 first.1
   Some ((first.0, second.0), second.1)
 
+-- the kind of a method handle, and an index
+unfoldable pub handle_at : List ℕ → Option ((ℕ × ℕ) × List ℕ)
+handle_at bytes = do
+  kind ← number_at 1 bytes
+  member ← number_at 2 kind.1
+  Some ((kind.0, member.0), member.1)
+
+-- what is after the tag of a method handle, of the type of a method, or of what an invokedynamic calls
+unfoldable pub dynamic_after : ℕ → List ℕ → Option (Entry × List ℕ)
+dynamic_after tag bytes =
+    if tag == CONSTANT_MethodHandle then (handle_at bytes >>= λ handle. Some (entry.MethodHandle handle.0.0 handle.0.1, handle.1)) else
+    if tag == CONSTANT_MethodType then (number_at 2 bytes >>= λ descriptor. Some (entry.MethodType descriptor.0, descriptor.1)) else
+    if tag == CONSTANT_InvokeDynamic then (pair_at bytes >>= λ pair. Some (entry.InvokeDynamic pair.0.0 pair.0.1, pair.1)) else None
+
 -- what is after a tag
 unfoldable pub entry_after : ℕ → List ℕ → Option (Entry × List ℕ)
 entry_after tag bytes =
@@ -35,7 +49,8 @@ entry_after tag bytes =
     if tag == CONSTANT_Fieldref then (pair_at bytes >>= λ pair. Some (entry.Field pair.0.0 pair.0.1, pair.1)) else
     if tag == CONSTANT_Methodref then (pair_at bytes >>= λ pair. Some (entry.Method pair.0.0 pair.0.1, pair.1)) else
     if tag == CONSTANT_InterfaceMethodref then (pair_at bytes >>= λ pair. Some (entry.InterfaceMethod pair.0.0 pair.0.1, pair.1)) else
-    if tag == CONSTANT_NameAndType then (pair_at bytes >>= λ pair. Some (entry.NameAndType pair.0.0 pair.0.1, pair.1)) else None
+    if tag == CONSTANT_NameAndType then (pair_at bytes >>= λ pair. Some (entry.NameAndType pair.0.0 pair.0.1, pair.1)) else
+    dynamic_after tag bytes
 
 unfoldable pub entry_at_front : List ℕ → Option (Entry × List ℕ)
 entry_at_front bytes = do
