@@ -5,5 +5,7 @@ pub mod OptionFacts
 pub mod ResultFacts
 pub mod RowsLemmas
 pub mod RowsUnion
+pub mod SplitLemmas
 pub mod TestFacts
 pub mod TextsLemmas
+pub mod UnitFronts

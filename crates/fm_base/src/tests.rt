@@ -1,6 +1,6 @@
 // Each public call once with ample memory, and the graphs whose components are known.
 
-use crate::{Name, Row, Seq, Units, components};
+use crate::{Name, Row, Seq, Units, components, is_modified_utf8};
 use std::test::Fail;
 
 // A record that holds lists, as those of class files do.
@@ -100,4 +100,11 @@ fn each_node_gets_the_least_that_is_joined_with_it(rt: HostRuntime) -> Result<()
     let least = components(rt.alloc(), 0, &[])?;
     assert_eq!(rt; least.len(), 0);
     Ok(())
+}
+
+#[test]
+fn modified_utf8_is_told_from_other_bytes(rt: HostRuntime) {
+    assert!(rt; is_modified_utf8(b"M\xc0\x80\xed\xa0\x80"));
+    assert!(rt; !is_modified_utf8(b"M\0"));
+    assert!(rt; !is_modified_utf8(b"\xc1\x81"));
 }

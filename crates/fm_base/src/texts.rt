@@ -4,11 +4,12 @@ ghost use Rattle.std.specs.Prelude.{◌≡◌, ◌^◌, ◌<◌, ◌↔◌, ◌=
 ghost use Rattle.std.specs.Cmp.{partial_equiv_from_equiv};
 ghost use Rattle.std.specs.Cmp.Lexicographic.{pointwise, nat_list_eq_equiv};
 ghost use Rattle.std.specs.Iterator.Adapters.{IterYieldsInOrder};
-ghost use Rattle.std.specs.List.{flat_map, AllByRecursion};
+ghost use Rattle.std.specs.List.{flat_map, All, AllByRecursion};
 ghost use Rattle.std.specs.Slice.Iter.{iter_rest};
 ghost use Rattle.fm_base.specs.Texts.{unit_bytes, units, IsModifiedUtf8};
 
 use crate::error::NoMemory;
+use crate::modified_utf8::split_unit;
 use std::alloc::Global;
 use std::marker::Model;
 use std::ops::DerefSlice;
@@ -150,6 +151,20 @@ impl Units {
         ensures { result ≡ units.items }
     {
         Units { units }
+    }
+
+    /// The units of a text in modified UTF-8 (JVMS 4.4.7).
+    pub fn from_modified_utf8(alloc: Global, text: &[u8]) -> Result<Units, NoMemory>
+        requires { All (λ unit. unit < 2 ^ 16) (units text.now) }
+        ensures { IfOk result (λ read. read ≡ units text.now) }
+    {
+        let mut units = Vec::new(alloc);
+        let mut rest = text;
+        while let Some((unit, after)) = split_unit(rest) {
+            units.push(unit as u16)?;
+            rest = after;
+        }
+        Ok(Units { units })
     }
 
     /// The number of units.

@@ -4,7 +4,6 @@ ghost use Rattle.std.specs.Prelude.{◌≡◌, ◌<◌, ◌^◌, ◌++◌, ◌�
 ghost use Rattle.std.specs.Fmt.{digits};
 ghost use Rattle.std.specs.List.{All};
 ghost use Rattle.std.specs.Option.{option_map};
-ghost use Rattle.fm_base.specs.Texts.{units};
 ghost use Rattle.fm_frames.specs.NativeRows.{at_sign, dotted, spelled_type, throwable_text};
 ghost use Rattle.fm_frames.specs.Runnable.{IsRunnable};
 ghost use Rattle.fm_frames.specs.Sights.{type_numbered};
@@ -19,10 +18,9 @@ use fm_base::characters::{
     BOOLEAN_LETTER, BYTE_LETTER, CHAR_LETTER, CLASS_LETTER, DOT, INT_LETTER, LEFT_BRACKET,
     LONG_LETTER, SEMICOLON, SHORT_LETTER, SLASH,
 };
-use fm_base::{Base, NoMemory, TypeId, TypeRef};
+use fm_base::{Base, NoMemory, TypeId, TypeRef, Units};
 use fm_cells::Memory;
 use fm_frames::{Machine, type_numbered};
-use fm_tool::split_unit;
 use fm_world::Program;
 use std::alloc::Global;
 
@@ -113,20 +111,6 @@ fn spelled_type(alloc: Global, program: &Program, t: TypeRef) -> Result<Vec<u8>,
     dotted(alloc, &bytes)
 }
 
-// The 16-bit units of a text in modified UTF-8.
-fn units_of_bytes(alloc: Global, bytes: &[u8]) -> Result<Vec<u16>, NoMemory>
-    requires { All (λ unit. unit < 2 ^ 16) (units bytes.now) }
-    ensures { IfOk result (λ found. found.items ≡ units bytes.now) }
-{
-    let mut found = Vec::new(alloc);
-    let mut rest = bytes;
-    while let Some((unit, after)) = split_unit(rest) {
-        found.push(unit as u16)?;
-        rest = after;
-    }
-    Ok(found)
-}
-
 // The name of the type of an object.
 fn type_units(alloc: Global, program: &Program, held: Held) -> Result<Vec<u16>, NoMemory>
     requires runnable { IsRunnable program.now }
@@ -135,7 +119,8 @@ fn type_units(alloc: Global, program: &Program, held: Held) -> Result<Vec<u16>, 
 {
     let t = type_numbered(program, TypeId(held.head.class));
     let bytes = spelled_type(alloc, program, t)?;
-    units_of_bytes(alloc, &bytes)
+    let units = Units::from_modified_utf8(alloc, &bytes)?;
+    Ok(units.into_vec())
 }
 
 /// The text of an object: the name of its type, an at sign, and its number in hexadecimal.

@@ -8,8 +8,9 @@ ghost use Rattle.fm_texts.specs.Facts.{AreFacts, AreFactsOf};
 ghost use Rattle.fm_pool.specs.inner.Rules.{TextIsValid, NamesAreValid};
 
 use crate::known_entries::KnownEntries;
+use fm_base::is_modified_utf8;
 use fm_code::Entry;
-use fm_texts::{TextFacts, is_modified_utf8};
+use fm_texts::TextFacts;
 
 /// Whether an entry that is a text is one in modified UTF-8.
 fn text_is_valid(entry: &Entry) -> bool

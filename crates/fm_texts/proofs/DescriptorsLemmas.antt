@@ -1,10 +1,11 @@
 -- Names, and descriptors of fields.
-use Rattle.std.proofs.Common.{◌≡◌, ◌↔◌, ℕ, zero, suc, ◌+◌, ◌≤◌, ◌<◌, Bool, true, false, not, eqb, replicate, List, [], ◌∷◌, ◌++◌, length, take, drop, length-append, length-drop, append_assoc, get_or, ◌-◌, IsTrue, Option, Some, refl, sym, ap, subst, ◌∙◌, arith, inl, inr}
+use Rattle.std.proofs.Common.{◌≡◌, ◌↔◌, ℕ, zero, suc, ◌+◌, ◌≤◌, ◌<◌, Bool, true, false, not, eqb, replicate, List, [], ◌∷◌, ◌++◌, length, take, drop, length-append, length-drop, append_assoc, get_or, ◌-◌, IsTrue, refl, sym, ap, subst, ◌∙◌, arith, inl, inr}
 use Rattle.std.specs.List.{prefix_len, list_all}
 use Rattle.std.proofs.lemmas.Bool.{and_parts, cases_Bool, both_ways, eqb-true}
 use Rattle.std.proofs.lemmas.List.{take_at, drop_at, length-replicate, take-append-drop, append-nil, take_all, nil_from_length, get_or-drop}
 use Rattle.std.proofs.lemmas.List.Sums.{prefix_len_stops}
 use Rattle.fm_base.proofs.ListFacts.{same_head, same_tail}
+use Rattle.fm_base.proofs.UnitFronts.{found, found_is}
 use Rattle.fm_code.specs.Names.{is_name_character, is_unqualified, is_binary_name, are_parts, is_primitive_letter, BaseType, primitive, object, IsBaseType, base_descriptor, FieldType, field_descriptor, words_of, IsFieldDescriptor, IsArrayName}
 use Rattle.fm_texts.specs.inner.NameParts.{first_words, StartsWithClass, StartsWithBase, StartsWithField}
 
@@ -16,12 +17,6 @@ cons_is b [] some e = absurd (omega arith)
 cons_is b (x ∷ xs) some e =
     let all : take (suc (length xs) - 1) xs ≡ xs = take_all (suc (length xs) - 1) xs (omega arith) in
     ap (λ (y : ℕ). y ∷ xs) e ∙ ap (λ (ys : List ℕ). b ∷ ys) (sym all)
-
-abbrev pub found : List ℕ → Option (List ℕ)
-found rest = Some rest
-
-pub found_is : (xs ys : List ℕ) → found xs ≡ found ys → xs ≡ ys
-found_is xs ys e = cc
 
 suc-is : (n : ℕ) → 1 + n ≡ suc n
 suc-is n = omega arith

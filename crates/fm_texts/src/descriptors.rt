@@ -8,6 +8,11 @@ ghost use Rattle.fm_texts.specs.inner.NameParts.{first_words, AreResultFacts, St
 ghost use Rattle.fm_texts.specs.Facts.{AreMethodFacts};
 
 use crate::names::is_binary_name;
+use fm_base::characters::{
+    BOOLEAN_LETTER, BYTE_LETTER, CHAR_LETTER, CLASS_LETTER, DOUBLE_LETTER, FLOAT_LETTER,
+    INT_LETTER, LEFT_BRACKET, LEFT_PARENTHESIS, LONG_LETTER, RIGHT_PARENTHESIS, SEMICOLON,
+    SHORT_LETTER, VOID_LETTER,
+};
 
 /// How many words the arguments of a method may take with its receiver (JVMS 4.3.3).
 pub(crate) const MAX_ARGUMENT_WORDS: u32 = 255;
@@ -29,7 +34,7 @@ pub(crate) fn method_facts(descriptor: &[u8]) -> Option<MethodFacts>
     ensures { (m : MethodRecord) → (result ≡ Some m) ↔ AreMethodFacts descriptor.now m }
 {
     match descriptor {
-        [b'(', rest @ ..] => method_facts_after(rest),
+        [LEFT_PARENTHESIS, rest @ ..] => method_facts_after(rest),
         _ => None,
     }
 }
@@ -45,7 +50,7 @@ fn method_facts_after(bytes: &[u8]) -> Option<MethodFacts>
         rest = after;
     }
     match rest {
-        [b')', descriptor @ ..] => result_facts(words, descriptor),
+        [RIGHT_PARENTHESIS, descriptor @ ..] => result_facts(words, descriptor),
         _ => None,
     }
 }
@@ -55,7 +60,7 @@ fn method_facts_after(bytes: &[u8]) -> Option<MethodFacts>
 fn result_facts(argument_words: u32, descriptor: &[u8]) -> Option<MethodFacts>
     ensures { (m : MethodRecord) → (result ≡ Some m) ↔ AreResultFacts argument_words descriptor.now m }
 {
-    if descriptor == b"V".as_slice() {
+    if descriptor == [VOID_LETTER].as_slice() {
         return Some(MethodFacts {
             argument_words,
             returns_nothing: true,
@@ -84,7 +89,7 @@ pub(crate) fn is_field_descriptor(descriptor: &[u8]) -> bool
 pub(crate) fn is_array_name(name: &[u8]) -> bool
     ensures { IsTrue result ↔ IsArrayName name.now }
 {
-    matches!(name, [b'[', ..]) && is_field_descriptor(name)
+    matches!(name, [LEFT_BRACKET, ..]) && is_field_descriptor(name)
 }
 
 /// The words of the field whose descriptor begins with these bytes.
@@ -92,7 +97,7 @@ fn first_words(bytes: &[u8]) -> u32
     ensures { result ≡ first_words bytes.now }
 {
     match bytes {
-        [b'J' | b'D', ..] => 2,
+        [LONG_LETTER | DOUBLE_LETTER, ..] => 2,
         _ => 1,
     }
 }
@@ -101,7 +106,7 @@ fn first_words(bytes: &[u8]) -> u32
 fn after_field(bytes: &[u8]) -> Option<&[u8]>
     ensures { (rest : List ℕ) → StartsWithField bytes.now rest ↔ (option_copied result ≡ Some rest) }
 {
-    let dimensions = count_leading(bytes, b'[');
+    let dimensions = count_leading(bytes, LEFT_BRACKET);
     if dimensions > MAX_DIMENSIONS {
         return None;
     }
@@ -121,7 +126,7 @@ fn after_base(bytes: &[u8]) -> Option<&[u8]>
     ensures { (rest : List ℕ) → StartsWithBase bytes.now rest ↔ (option_copied result ≡ Some rest) }
 {
     match bytes {
-        [b'L', rest @ ..] => after_class(rest),
+        [CLASS_LETTER, rest @ ..] => after_class(rest),
         [letter, rest @ ..] if is_primitive_letter(*letter) => Some(rest),
         _ => None,
     }
@@ -146,12 +151,22 @@ fn count_until_semicolon(bytes: &[u8]) -> usize
     ensures count { result ≡ prefix_len (λ c. not (c == 59)) bytes.now }
     ensures within { result ≤ length bytes.now }
 {
-    bytes.iter().take_while(|c| **c != b';').count()
+    bytes.iter().take_while(|c| **c != SEMICOLON).count()
 }
 
 /// Whether a letter stands for a primitive type.
 fn is_primitive_letter(c: u8) -> bool
     ensures { result ≡ is_primitive_letter c }
 {
-    matches!(c, b'B' | b'C' | b'D' | b'F' | b'I' | b'J' | b'S' | b'Z')
+    matches!(
+        c,
+        BYTE_LETTER
+            | CHAR_LETTER
+            | DOUBLE_LETTER
+            | FLOAT_LETTER
+            | INT_LETTER
+            | LONG_LETTER
+            | SHORT_LETTER
+            | BOOLEAN_LETTER
+    )
 }

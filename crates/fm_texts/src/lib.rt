@@ -10,9 +10,7 @@ mod names;
 #[cfg(test)]
 mod tests;
 mod text_numbers;
-mod texts;
 
 pub use descriptors::MethodFacts;
 pub use facts::{TextFacts, facts_of_entries};
 pub use text_numbers::TextNumbers;
-pub use texts::is_modified_utf8;

@@ -6,6 +6,8 @@ ghost use Rattle.std.specs.Str.{bytes_eq};
 ghost use Rattle.fm_code.specs.Names.{is_name_character, is_unqualified, is_method_name, is_binary_name};
 ghost use Rattle.fm_texts.specs.inner.NameParts.{is_plain};
 
+use fm_base::characters::{DOT, GREATER_THAN, LEFT_BRACKET, LESS_THAN, SEMICOLON, SLASH};
+
 /// Whether the bytes are the name of a class that isn't an array: parts of at least one character
 /// with `/` between them (JVMS 4.2.1).
 pub(crate) fn is_binary_name(name: &[u8]) -> bool
@@ -13,7 +15,7 @@ pub(crate) fn is_binary_name(name: &[u8]) -> bool
 {
     let mut begun = false;
     for c in name {
-        if *c == b'/' {
+        if *c == SLASH {
             if !begun {
                 return false;
             }
@@ -39,7 +41,7 @@ pub(crate) fn is_method_name(name: &[u8]) -> bool
 fn has_no_angle(name: &[u8]) -> bool
     ensures { result ≡ list_all is_plain name.now }
 {
-    name.iter().all(|c| !matches!(*c, b'<' | b'>'))
+    name.iter().all(|c| !matches!(*c, LESS_THAN | GREATER_THAN))
 }
 
 /// Whether the bytes are the name of a constructor or of a class's start.
@@ -60,5 +62,5 @@ pub(crate) fn is_unqualified(name: &[u8]) -> bool
 fn is_name_character(c: u8) -> bool
     ensures { result ≡ is_name_character c }
 {
-    !matches!(c, b'.' | b';' | b'[' | b'/')
+    !matches!(c, DOT | SEMICOLON | LEFT_BRACKET | SLASH)
 }

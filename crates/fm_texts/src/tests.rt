@@ -1,6 +1,6 @@
 // Texts written by hand: what is known of them, and their numbers.
 
-use crate::{TextNumbers, facts_of_entries, is_modified_utf8};
+use crate::{TextNumbers, facts_of_entries};
 use fm_base::{Name, Seq};
 use fm_code::{Entry, Member};
 use std::alloc::{AllocError, Global};
@@ -25,13 +25,6 @@ fn member(alloc: Global, name: u16, descriptor: u16) -> Member {
         descriptor,
         attributes: Seq::new(Vec::new(alloc)),
     }
-}
-
-#[test]
-fn modified_utf8_is_told_from_other_bytes(rt: HostRuntime) {
-    assert!(rt; is_modified_utf8(b"M\xc0\x80\xed\xa0\x80"));
-    assert!(rt; !is_modified_utf8(b"M\0"));
-    assert!(rt; !is_modified_utf8(b"\xc1\x81"));
 }
 
 #[test]

@@ -1,4 +1,3 @@
-pub mod inner
 pub mod Encoding
 pub mod Line
 pub mod Outside

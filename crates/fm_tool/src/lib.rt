@@ -16,6 +16,6 @@ mod words;
 
 pub use encoding::modified;
 pub use line::put_line;
-pub use printing::{printed, split_unit};
+pub use printing::printed;
 pub use refusal::Refusal;
 pub use words::command_words;

@@ -1,13 +1,11 @@
 // Names of class files as text that can be printed.
 
-ghost use Rattle.std.specs.Prelude.{◌≡◌, ◌<◌, ◌≤◌, ◌∷◌, [], ◌&&◌, IfOk, IsTrue, MatchOption, Some, length, string_bytes};
+ghost use Rattle.std.specs.Prelude.{◌≡◌, ◌<◌, ◌∷◌, [], ◌&&◌, IfOk, IsTrue, MatchOption, Some, length, string_bytes};
 ghost use Rattle.std.specs.Char.Utf16.{is_high_surrogate, is_low_surrogate, lone_unit_char, surrogate_pair_char, utf16_chars};
-ghost use Rattle.std.specs.List.{prefix_len};
-ghost use Rattle.fm_base.specs.Texts.{goes_on, unit_of, units};
+ghost use Rattle.fm_base.specs.Texts.{units};
 ghost use Rattle.fm_tool.specs.Printed.{printed};
-ghost use Rattle.fm_tool.specs.inner.Printed.{IsSplit};
 
-use fm_base::{Name, NoMemory};
+use fm_base::{Name, NoMemory, split_unit};
 use std::alloc::Global;
 
 /// The text in UTF-8 of a name in modified UTF-8 (JVMS 4.4.7), with `?` for each unit of a surrogate
@@ -61,53 +59,4 @@ fn lone_character(unit: u32) -> Option<char>
     ensures { result ≡ lone_unit_char unit }
 {
     char::from_u32(unit)
-}
-
-/// The first unit of a text in modified UTF-8, and the bytes after those that go on with it.
-pub fn split_unit(bytes: &[u8]) -> Option<(u32, &[u8])>
-    ensures { MatchOption result (units bytes.now ≡ [])
-        (λ first. (units bytes.now ≡ first.0 ∷ units first.1.now) × (first.0 < 0x11_0000)
-        × (length first.1.now < length bytes.now)) }
-{
-    let (_, begun) = split_going_on(bytes);
-    let (first, rest) = begun.split_first()?;
-    let (going_on, after) = split_going_on(rest);
-    Some((unit_of(*first, going_on), after))
-}
-
-// The unit that a byte begins, with the bytes that go on with it.
-fn unit_of(first: u8, going_on: &[u8]) -> u32
-    ensures value { result ≡ unit_of first going_on.now }
-    ensures bound { result < 0x11_0000 }
-{
-    let above = |byte: u8, least: u8| u32::from(byte.saturating_sub(least));
-    match going_on {
-        [] => u32::from(first),
-        [second] => above(first, 192) * 64 + above(*second, 128),
-        [second, third, ..] => {
-            above(first, 224) * 4096 + above(*second, 128) * 64 + above(*third, 128)
-        }
-    }
-}
-
-// The bytes at the front that go on with a unit, and those after them.
-fn split_going_on(bytes: &[u8]) -> (&[u8], &[u8])
-    ensures { IsSplit bytes.now result.0.now result.1.now }
-{
-    bytes.split_at(going_on_len(bytes))
-}
-
-// How many bytes at the front go on with a unit.
-fn going_on_len(bytes: &[u8]) -> usize
-    ensures count { result ≡ prefix_len goes_on bytes.now }
-    ensures bound { result ≤ length bytes.now }
-{
-    bytes.iter().take_while(|byte| goes_on(**byte)).count()
-}
-
-// Whether a byte goes on with a unit, and begins none.
-fn goes_on(byte: u8) -> bool
-    ensures { result ≡ goes_on byte }
-{
-    128 <= byte && byte < 192
 }

@@ -1,5 +1,6 @@
 use Rattle.std.proofs.Common.{◌≡◌, ℕ, List, None, sym, ◌∙◌}
-use Rattle.fm_texts.proofs.DescriptorsLemmas.{class_decided, class_endless, class_nameless, found}
+use Rattle.fm_base.proofs.UnitFronts.{found}
+use Rattle.fm_texts.proofs.DescriptorsLemmas.{class_decided, class_endless, class_nameless}
 use Rattle.fm_texts.proofs.descriptors.after_class.Goals as goal
 
 not_found : (rest : List ℕ) → None ≡ found rest → ⊥

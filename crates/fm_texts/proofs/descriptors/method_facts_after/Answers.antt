@@ -1,8 +1,9 @@
-use Rattle.std.proofs.Common.{◌≡◌, List, length, ℕ, Some, None, refl, sym, ap, subst, ◌∙◌, arith, get_or}
+use Rattle.std.proofs.Common.{◌≡◌, List, length, ℕ, None, refl, sym, ap, subst, ◌∙◌, arith, get_or}
 use Rattle.fm_texts.specs.inner.NameParts.{AreResultFacts}
 use Rattle.fm_texts.specs.declared.descriptors.MethodFacts.{MethodFacts}
 use Rattle.fm_base.proofs.ListFacts.{same_tail}
-use Rattle.fm_texts.proofs.DescriptorsLemmas.{cons_is, field_takes, found}
+use Rattle.fm_base.proofs.UnitFronts.{found}
+use Rattle.fm_texts.proofs.DescriptorsLemmas.{cons_is, field_takes}
 use Rattle.fm_texts.proofs.MethodDescriptors.{known, IsMethodRest, method_start, method_next, method_ends, method_done}
 use Rattle.fm_texts.proofs.descriptors.method_facts_after.Goals as goal
 

@@ -1,7 +1,7 @@
 use Rattle.std.proofs.Common.{◌↔◌, length}
 use Rattle.fm_base.specs.Texts.{IsModifiedUtf8}
-use Rattle.fm_texts.proofs.TextsLemmas.{HasUnits}
-use Rattle.fm_texts.proofs.texts.is_modified_utf8.Given as goal
+use Rattle.fm_base.proofs.UnitFronts.{HasUnits}
+use Rattle.fm_base.proofs.modified_utf8.is_modified_utf8.Given as goal
 
 -- the rest decides
 abbrev pub invariant-loop-after : goal.invariant-loop-after

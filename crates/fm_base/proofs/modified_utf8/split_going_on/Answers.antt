@@ -1,9 +1,9 @@
 use Rattle.std.proofs.Common.{◌≡◌, ◌∙◌, ap, sym, take, drop, subst, List, ℕ}
 use Rattle.std.specs.List.{prefix_len}
 use Rattle.fm_base.specs.Texts.{goes_on}
-use Rattle.fm_tool.specs.inner.Printed.{IsSplit}
-use Rattle.fm_tool.proofs.PrintedLemmas.{split_at_count}
-use Rattle.fm_tool.proofs.printing.split_going_on.Goals as goal
+use Rattle.fm_base.specs.inner.Texts.{IsSplit}
+use Rattle.fm_base.proofs.SplitLemmas.{split_at_count}
+use Rattle.fm_base.proofs.modified_utf8.split_going_on.Goals as goal
 
 pub returns : goal.returns
 returns c =

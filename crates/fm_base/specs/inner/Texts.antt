@@ -1,6 +1,12 @@
--- One unit of modified UTF-8 at the front of bytes.
-use Rattle.std.specs.Prelude.{◌≡◌, ℕ, ◌≤◌, ◌<◌, ◌⊎◌, List, ◌++◌}
-use Rattle.fm_base.specs.Texts.{unit_bytes}
+-- The unit at the front of a text, and where it ends.
+use Rattle.std.specs.Prelude.{◌≡◌, ℕ, ◌≤◌, ◌<◌, ◌⊎◌, List, [], ◌++◌, length}
+use Rattle.fm_base.specs.Texts.{parted, unit_bytes, units}
+
+-- the bytes that go on with a unit, and those from the next one on that begins one
+pub record IsSplit (bytes going_on begun : List ℕ) : Type 0 where
+  pub parted_is : parted bytes ≡ record { going_on = going_on; units = units begun }
+  pub begins : (parted begun).going_on ≡ []
+  pub len : length begun ≤ length bytes
 
 -- the shortest bytes of a unit, and then the rest
 pub record StartsWithUnit (bytes rest : List ℕ) : Type 0 where

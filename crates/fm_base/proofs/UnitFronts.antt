@@ -1,14 +1,20 @@
 -- One unit of modified UTF-8 after the other: what is at the front decides, and the rest is asked next.
-use Rattle.std.proofs.Common.{◌≡◌, ◌↔◌, ℕ, ◌+◌, ◌-◌, ◌*◌, ◌/◌, ◌%◌, ◌<◌, ◌≤◌, ◌⊎◌, inl, inr, Bool, eqb, ltb, IsTrue, List, [], ◌∷◌, ◌++◌, length, refl, sym, ap, subst, ◌∙◌, arith}
+use Rattle.std.proofs.Common.{◌≡◌, ◌↔◌, ℕ, ◌+◌, ◌-◌, ◌*◌, ◌/◌, ◌%◌, ◌<◌, ◌≤◌, ◌⊎◌, inl, inr, Bool, eqb, ltb, IsTrue, Option, Some, List, [], ◌∷◌, ◌++◌, length, refl, sym, ap, subst, ◌∙◌, arith}
 use Rattle.std.specs.List.{flat_map, AllByRecursion}
 use Rattle.std.proofs.lemmas.Bool.{cases_Bool, eqb-true, ltb-true, ltb-false}
 use Rattle.std.proofs.lemmas.List.{nil_from_length}
 use Rattle.std.proofs.lemmas.List.Concat.{flat_map-cons}
 use Rattle.fm_base.specs.Texts.{unit_bytes, units, IsModifiedUtf8}
 use Rattle.fm_base.proofs.TextsLemmas.{of_one, of_two, of_three, form_of, unit_bytes-one, unit_bytes-two, unit_bytes-three, IsModifiedUtf8-flat_map}
-use Rattle.fm_texts.specs.inner.Units.{IsPair, IsTriple, StartsWithUnit}
+use Rattle.fm_base.specs.inner.Texts.{IsPair, IsTriple, StartsWithUnit}
 use Rattle.fm_base.proofs.ListFacts.{same_head, same_tail}
-use Rattle.fm_texts.proofs.DescriptorsLemmas.{found, found_is}
+
+-- what a function returns where it finds a rest
+abbrev pub found : List ℕ → Option (List ℕ)
+found rest = Some rest
+
+pub found_is : (xs ys : List ℕ) → found xs ≡ found ys → xs ≡ ys
+found_is xs ys e = cc
 
 -- ---- a unit by its first bytes
 

@@ -1,5 +1,5 @@
-use Rattle.fm_texts.proofs.TextsLemmas.{pair_decided}
-use Rattle.fm_texts.proofs.texts.after_pair.Goals as goal
+use Rattle.fm_base.proofs.UnitFronts.{pair_decided}
+use Rattle.fm_base.proofs.modified_utf8.after_pair.Goals as goal
 
 pub returns-then-is_pair : goal.returns-then-is_pair
 returns-then-is_pair c = λ rest.

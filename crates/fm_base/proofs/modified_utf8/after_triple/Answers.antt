@@ -1,5 +1,5 @@
-use Rattle.fm_texts.proofs.TextsLemmas.{triple_decided}
-use Rattle.fm_texts.proofs.texts.after_triple.Goals as goal
+use Rattle.fm_base.proofs.UnitFronts.{triple_decided}
+use Rattle.fm_base.proofs.modified_utf8.after_triple.Goals as goal
 
 pub returns-then-is_triple : goal.returns-then-is_triple
 returns-then-is_triple c = λ rest.

@@ -1,9 +1,9 @@
 use Rattle.std.proofs.Common.{List, ℕ, ◌↔◌, ◌≡◌, sym, subst, arith}
 use Rattle.std.specs.Option.{option_copied}
-use Rattle.fm_texts.specs.inner.Units.{StartsWithUnit}
-use Rattle.fm_texts.proofs.DescriptorsLemmas.{found}
-use Rattle.fm_texts.proofs.TextsLemmas.{one_decided}
-use Rattle.fm_texts.proofs.texts.after_unit.Goals as goal
+use Rattle.fm_base.specs.inner.Texts.{StartsWithUnit}
+use Rattle.fm_base.proofs.UnitFronts.{found}
+use Rattle.fm_base.proofs.UnitFronts.{one_decided}
+use Rattle.fm_base.proofs.modified_utf8.after_unit.Goals as goal
 
 pub returns-in-1-to-127 : goal.returns-in-1-to-127
 returns-in-1-to-127 c = λ rest.

@@ -1,6 +1,6 @@
 use Rattle.std.proofs.Common.{refl}
-use Rattle.fm_texts.proofs.TextsLemmas.{modified_is, units_next, units_end, unit_takes}
-use Rattle.fm_texts.proofs.texts.is_modified_utf8.Goals as goal
+use Rattle.fm_base.proofs.UnitFronts.{modified_is, units_next, units_end, unit_takes}
+use Rattle.fm_base.proofs.modified_utf8.is_modified_utf8.Goals as goal
 
 pub loop-after-init : goal.loop-after-init
 loop-after-init c = modified_is c.args.text.now
