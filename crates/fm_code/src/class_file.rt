@@ -1,6 +1,7 @@
 // The class file as a record that keeps every byte (JVMS 4.1, 4.5 to 4.7).
 
-ghost use Rattle.std.specs.Prelude.{◌≡◌, IfOk};
+ghost use Rattle.std.specs.Prelude.{◌≡◌, IfOk, option_copied};
+ghost use Rattle.fm_code.specs.Members.{code_of};
 
 use crate::code_array::Code;
 use crate::constant_pool::Pool;
@@ -88,6 +89,18 @@ impl Member {
             descriptor: self.descriptor,
             attributes: Seq::new(attributes_copy(alloc, &self.attributes)?),
         })
+    }
+
+    /// The code of a method: that of the first attribute that has one (JVMS 4.7.3). Takes no memory.
+    pub fn code(&self) -> Option<&Code>
+        ensures { option_copied result ≡ code_of self.now }
+    {
+        for attribute in self.attributes.as_slice() {
+            if let MemberAttr::Coded(_, code) = attribute {
+                return Some(code);
+            }
+        }
+        None
     }
 }
 

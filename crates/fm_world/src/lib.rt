@@ -14,6 +14,7 @@ mod parts;
 mod program;
 mod records;
 mod shared;
+mod types;
 mod uses;
 
 pub use built_ins::{BuiltInClass, BuiltInField, BuiltInMethod, built_in_classes};
@@ -28,6 +29,7 @@ pub use parts::Parts;
 pub use program::Program;
 pub use records::{Body, ClassInfo, FieldInfo, MethodInfo};
 pub use shared::Shared;
+pub use types::{base_of_elem, type_of_class};
 pub use uses::Use;
 
 /// A class's special calls search from its superclass (JVMS 4.1).

@@ -573,10 +573,7 @@ fn mark(marks: &mut Vec<bool>, m: Option<MethodId>)
         ≡ marked marks.old.items (option_map (λ (n : MethodId). n.0) m) }
 {
     if let Some(m) = m {
-        let index = m.0 as usize;
-        if index < marks.len() {
-            marks[index] = true;
-        }
+        fm_base::mark(marks, m.0 as usize);
     }
 }
 
