@@ -1,5 +1,8 @@
 // The types of values, as descriptors name them (JVMS 4.3.2).
 
+ghost use Rattle.std.specs.Prelude.{◌≡◌, ◌<◌, ◌≤◌, ◌*◌, length, sum_by};
+ghost use Rattle.fm_base.specs.Kinds.{kind_words};
+
 use crate::ids::ClassId;
 
 /// What an array's elements are at the innermost dimension, or a class.
@@ -32,4 +35,32 @@ pub enum Kind {
     Int,
     Long,
     Ref(TypeRef),
+}
+
+impl Kind {
+    /// The words that a value has among locals and on the operand stack: 2 for a long, else 1.
+    #[inline(always)]
+    pub fn words(self) -> usize
+        ensures value { result ≡ kind_words self }
+        ensures some { 0 < result }
+        ensures few { result ≤ 2 }
+    {
+        match self {
+            Kind::Long => 2,
+            _ => 1,
+        }
+    }
+
+    /// The words of values of these kinds.
+    #[inline(always)]
+    pub fn words_of(kinds: &[Kind]) -> usize
+        ensures value { result ≡ sum_by kind_words kinds.now }
+        ensures few { result ≤ 2 * length kinds.now }
+    {
+        let mut words = 0;
+        for kind in kinds {
+            words += kind.words();
+        }
+        words
+    }
 }

@@ -9,6 +9,7 @@ pub mod AccessFlags
 pub mod ConstantPool
 pub mod FreeEntries
 pub mod Operands
+pub mod StackWords
 pub mod CodeRules
 pub mod Members
 pub mod Spells

@@ -1,5 +1,5 @@
 -- What the instructions name in the constant pool (JVMS 4.9.1).
-use Rattle.std.specs.Prelude.{◌≡◌, ℕ, ◌+◌, ◌==◌, Bool, true, false, List, IsSome, IsSomeAnd, slice_index, sum_by}
+use Rattle.std.specs.Prelude.{◌≡◌, ℕ, ◌+◌, ◌==◌, Bool, true, false, List, Option, Some, None, IsSome, IsSomeAnd, slice_index, sum_by}
 use Rattle.fm_code.specs.ConstantPool.{entry_at, class_name_at, field_at, method_at, interface_method_at}
 use Rattle.fm_code.specs.Names.{MethodType, IsMethodType, method_descriptor, words_of}
 use Rattle.fm_code.specs.declared.opcodes.TheConstants.{LDC2_W}
@@ -8,6 +8,24 @@ use Rattle.fm_code.specs.declared.constant_pool.Entry.TheVariants as entry
 use Rattle.fm_code.specs.declared.code_array.Item.{Item}
 use Rattle.fm_code.specs.declared.instructions.Insn.{Insn}
 use Rattle.fm_code.specs.declared.instructions.Insn.TheVariants as insn
+
+-- the index that an instruction names
+abbrev pub pool_index : Insn → Option ℕ
+pool_index (insn.LoadPool index) = Some index
+pool_index (insn.GetStatic index) = Some index
+pool_index (insn.PutStatic index) = Some index
+pool_index (insn.GetField index) = Some index
+pool_index (insn.PutField index) = Some index
+pool_index (insn.Virtual index) = Some index
+pool_index (insn.Special index) = Some index
+pool_index (insn.Static index) = Some index
+pool_index (insn.Interface index) = Some index
+pool_index (insn.New index) = Some index
+pool_index (insn.NewRefs index) = Some index
+pool_index (insn.Cast index) = Some index
+pool_index (insn.IsA index) = Some index
+pool_index (insn.MultiArray index dimensions) = Some index
+pool_index i = None
 
 -- the first byte of an instruction
 abbrev pub opcode_of : Item → ℕ

@@ -1,11 +1,29 @@
 // The choices that several instructions have in common (JVMS 6.5).
 
+ghost use Rattle.std.specs.Prelude.{◌≡◌, ◌<◌, ◌≤◌};
+ghost use Rattle.fm_code.specs.StackWords.{conv_words, element_words, reg_words};
+
 /// What a local variable or a word of the operand stack holds.
 #[derive(Clone, Copy, Debug, PartialEq, Eq, PartialOrd, Ord, Hash)]
 pub enum Reg {
     Int,
     Long,
     Ref,
+}
+
+impl Reg {
+    /// The words that a value has among locals and on the operand stack: 2 for a long, else 1.
+    #[inline(always)]
+    pub fn words(self) -> usize
+        ensures value { result ≡ reg_words self }
+        ensures some { 0 < result }
+        ensures few { result ≤ 2 }
+    {
+        match self {
+            Reg::Int | Reg::Ref => 1,
+            Reg::Long => 2,
+        }
+    }
 }
 
 /// What the elements of an array are. Arrays of bytes and of booleans are loaded and stored by the
@@ -19,6 +37,21 @@ pub enum Elem {
     Int,
     Long,
     Ref,
+}
+
+impl Elem {
+    /// The words of the operand stack that an element has: 2 for a long, else 1.
+    #[inline(always)]
+    pub fn words(self) -> usize
+        ensures value { result ≡ element_words self }
+        ensures some { 0 < result }
+        ensures few { result ≤ 2 }
+    {
+        match self {
+            Elem::Long => 2,
+            _ => 1,
+        }
+    }
 }
 
 /// How two ints are compared by a conditional jump.
@@ -62,4 +95,16 @@ pub enum Conv {
     IntToByte,
     IntToChar,
     IntToShort,
+}
+
+impl Conv {
+    /// The words of the operand stack that the number has that is converted: 2 for a long, else 1.
+    pub fn words_taken(self) -> usize
+        ensures { result ≡ conv_words self }
+    {
+        match self {
+            Conv::LongToInt => 2,
+            _ => 1,
+        }
+    }
 }

@@ -1,6 +1,6 @@
 // The lists of a switch, which lie in a box so that no instruction takes the room of the few switches.
 
-ghost use Rattle.std.specs.Prelude.{◌≡◌, IfOk};
+ghost use Rattle.std.specs.Prelude.{◌≡◌, IfOk, map, slice_index};
 ghost use Rattle.std.specs.Cmp.Lexicographic.{pointwise, lists_per, lists_equiv};
 
 use fm_base::NoMemory;
@@ -48,6 +48,30 @@ impl<T> SwitchList<T> {
     {
         let items = Vec::from_slice(alloc, self)?;
         SwitchList::new(alloc, items)
+    }
+}
+
+impl SwitchList<u32> {
+    /// The list of the numbers at these values, and of 0 for each value past the last number.
+    pub fn renumbered(&self, alloc: Global, numbers: &[u32]) -> Result<SwitchList<u32>, NoMemory>
+        ensures { IfOk result (λ list. list ≡ map (slice_index numbers.now) self.now) }
+    {
+        let values = self.as_slice();
+        let mut renumbered = Vec::with_capacity(alloc, values.len())?;
+        for index in values {
+            renumbered.push(number_at(numbers, *index))?;
+        }
+        SwitchList::new(alloc, renumbered)
+    }
+}
+
+/// The number at an index of a list, and 0 past the last one.
+pub fn number_at(numbers: &[u32], index: u32) -> u32
+    ensures { result ≡ slice_index numbers.now index }
+{
+    match numbers.get(index as usize) {
+        Some(number) => *number,
+        None => 0,
     }
 }
 
