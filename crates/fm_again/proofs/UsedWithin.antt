@@ -11,7 +11,7 @@ use Rattle.fm_code.specs.CodeRules.{HandlerIsValid}
 use Rattle.fm_code.specs.ConstantPool.{class_name_at, entry_at, field_at, interface_method_at, MemberName, method_at}
 use Rattle.fm_code.specs.Members.{FieldAttrIsValid, FieldIsValid, IsValue, MethodAttrIsValid, MethodIsValid}
 use Rattle.fm_code.specs.Names.{is_binary_name}
-use Rattle.fm_code.specs.Operands.{count_of, IsConstant, opcode_of, OperandIsValid, TakesWords}
+use Rattle.fm_code.specs.Operands.{count_of, IsAnyMethod, IsConstant, opcode_of, OperandIsValid, TakesWords}
 use Rattle.fm_code.specs.Spells.{HasSpelling}
 use Rattle.fm_code.specs.declared.class_file.ClassDef.{ClassDef}
 use Rattle.fm_code.specs.declared.class_file.Member.{Member}
@@ -53,6 +53,13 @@ module _ (entries : List Entry) where
     by_place (inl h) = h
     by_place (inr h) = absurd (rw (get_or_past entries index entry.Second h) at some)
 
+  any_within : (index : ℕ) → IsAnyMethod entries index → index < length entries
+  any_within index (inl of_class) = method_within index of_class
+  any_within index (inr of_interface) = by_place (cases_lt index (length entries)) where
+    by_place : (index < length entries) ⊎ (length entries ≤ index) → index < length entries
+    by_place (inl h) = h
+    by_place (inr h) = absurd (false≢true (rw (get_or_past entries index entry.Second h) at of_interface))
+
   one_word_within : (index : ℕ) → IsConstant false (entry_at entries index) → index < length entries
   one_word_within index is = by_place (cases_lt index (length entries)) where
     by_place : (index < length entries) ⊎ (length entries ≤ index) → index < length entries
@@ -90,8 +97,8 @@ module _ (entries : List Entry) where
   insn_below offset bytes (insn.GetField index) valid = field_within index valid
   insn_below offset bytes (insn.PutField index) valid = field_within index valid
   insn_below offset bytes (insn.Virtual index) valid = method_within index valid
-  insn_below offset bytes (insn.Special index) valid = method_within index valid
-  insn_below offset bytes (insn.Static index) valid = method_within index valid
+  insn_below offset bytes (insn.Special index) valid = any_within index valid
+  insn_below offset bytes (insn.Static index) valid = any_within index valid
   insn_below offset bytes (insn.Interface index) valid =
       interface_within index (λ m. TakesWords (count_of (record { offset = offset; bytes = bytes; insn = insn.Interface index })) m.descriptor) valid
   insn_below offset bytes (insn.New index) valid = name_within entries index valid

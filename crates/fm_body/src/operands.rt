@@ -89,8 +89,9 @@ fn operand_is_valid(known: &KnownPool, item: &Item) -> bool
         | Insn::PutStatic(index)
         | Insn::GetField(index)
         | Insn::PutField(index) => known.has_field(index),
-        Insn::Virtual(index) | Insn::Special(index) | Insn::Static(index) => {
-            known.has_method(index)
+        Insn::Virtual(index) => known.has_method(index),
+        Insn::Special(index) | Insn::Static(index) => {
+            known.has_method(index) || known.names_interface_method(index)
         }
         Insn::Interface(index) => has_interface_method(known, item, index),
         Insn::New(index)

@@ -95,7 +95,7 @@ constructor_code_is_valid = record {
   measured = refl;
   spelled = constructor_spelled;
   locals = (omega arith, (tt, (tt, tt)));
-  operands = (tt, (refl, (tt, tt)));
+  operands = (tt, (inl refl, (tt, tt)));
   handlers = tt;
   attributes = (
     (refl, (omega arith, tt)),
@@ -299,13 +299,13 @@ name_is_supported = record { no_zero = refl; whole_pairs = refl }
 constructor_supported : MethodIsSupported compiled_entries compiled_constructor
 constructor_supported = record {
   head = record { descriptor = no_floating_method (codes "()V") refl; not_native = refl };
-  items = (record { not_left_out = refl; constant = refl; class = tt }, (record { not_left_out = refl; constant = refl; class = no_floating_array (codes "java/lang/Object") refl }, (record { not_left_out = refl; constant = refl; class = tt }, tt)));
+  items = (record { not_left_out = refl; constant = refl; of_class = refl; class = tt }, (record { not_left_out = refl; constant = refl; of_class = refl; class = no_floating_array (codes "java/lang/Object") refl }, (record { not_left_out = refl; constant = refl; of_class = refl; class = tt }, tt)));
 }
 
 method_supported : MethodIsSupported compiled_entries compiled_method
 method_supported = record {
   head = record { descriptor = no_floating_method (codes "(I)I") refl; not_native = refl };
-  items = (record { not_left_out = refl; constant = refl; class = tt }, (record { not_left_out = refl; constant = refl; class = tt }, (record { not_left_out = refl; constant = refl; class = tt }, (record { not_left_out = refl; constant = refl; class = tt }, (record { not_left_out = refl; constant = refl; class = tt }, (record { not_left_out = refl; constant = refl; class = tt }, (record { not_left_out = refl; constant = refl; class = tt }, (record { not_left_out = refl; constant = refl; class = tt }, (record { not_left_out = refl; constant = refl; class = tt }, (record { not_left_out = refl; constant = refl; class = tt }, (record { not_left_out = refl; constant = refl; class = tt }, (record { not_left_out = refl; constant = refl; class = tt }, (record { not_left_out = refl; constant = refl; class = tt }, (record { not_left_out = refl; constant = refl; class = tt }, (record { not_left_out = refl; constant = refl; class = tt }, (record { not_left_out = refl; constant = refl; class = tt }, tt))))))))))))))));
+  items = (record { not_left_out = refl; constant = refl; of_class = refl; class = tt }, (record { not_left_out = refl; constant = refl; of_class = refl; class = tt }, (record { not_left_out = refl; constant = refl; of_class = refl; class = tt }, (record { not_left_out = refl; constant = refl; of_class = refl; class = tt }, (record { not_left_out = refl; constant = refl; of_class = refl; class = tt }, (record { not_left_out = refl; constant = refl; of_class = refl; class = tt }, (record { not_left_out = refl; constant = refl; of_class = refl; class = tt }, (record { not_left_out = refl; constant = refl; of_class = refl; class = tt }, (record { not_left_out = refl; constant = refl; of_class = refl; class = tt }, (record { not_left_out = refl; constant = refl; of_class = refl; class = tt }, (record { not_left_out = refl; constant = refl; of_class = refl; class = tt }, (record { not_left_out = refl; constant = refl; of_class = refl; class = tt }, (record { not_left_out = refl; constant = refl; of_class = refl; class = tt }, (record { not_left_out = refl; constant = refl; of_class = refl; class = tt }, (record { not_left_out = refl; constant = refl; of_class = refl; class = tt }, (record { not_left_out = refl; constant = refl; of_class = refl; class = tt }, tt))))))))))))))));
 }
 
 pub compiled_accepted : Profile compiled_record

@@ -1,5 +1,5 @@
 -- What the instructions name in the constant pool (JVMS 4.9.1).
-use Rattle.std.specs.Prelude.{◌≡◌, ℕ, ◌+◌, ◌==◌, Bool, true, false, List, Option, Some, None, IsSome, IsSomeAnd, slice_index, sum_by}
+use Rattle.std.specs.Prelude.{◌≡◌, ℕ, ◌+◌, ◌==◌, ◌⊎◌, Bool, true, false, List, IsSome, IsSomeAnd, slice_index, sum_by}
 use Rattle.fm_code.specs.ConstantPool.{entry_at, class_name_at, field_at, method_at, interface_method_at}
 use Rattle.fm_code.specs.Names.{MethodType, IsMethodType, method_descriptor, words_of}
 use Rattle.fm_code.specs.declared.opcodes.TheConstants.{LDC2_W}
@@ -51,7 +51,11 @@ TakesWords words descriptor = (m : MethodType) × (IsMethodType m × ((descripto
 abbrev pub count_of : Item → ℕ
 count_of item = slice_index item.bytes 3
 
--- the entry that an instruction names has the instruction's tag; invokeinterface has besides how many words are taken
+-- a method of a class, or of an interface, is at the index (JVMS 6.5.invokespecial, 6.5.invokestatic)
+abbrev pub IsAnyMethod : List Entry → ℕ → Type 0
+IsAnyMethod entries index = IsSome (method_at entries index) ⊎ IsSome (interface_method_at entries index)
+
+-- the entry that an instruction names has the instruction's tag; invokeinterface tells besides how many words are taken
 abbrev pub OperandIsValid : List Entry → Item → Type 0
 OperandIsValid entries item = asked item.insn where
   asked : Insn → Type 0
@@ -61,8 +65,8 @@ OperandIsValid entries item = asked item.insn where
   asked (insn.GetField index) = IsSome (field_at entries index)
   asked (insn.PutField index) = IsSome (field_at entries index)
   asked (insn.Virtual index) = IsSome (method_at entries index)
-  asked (insn.Special index) = IsSome (method_at entries index)
-  asked (insn.Static index) = IsSome (method_at entries index)
+  asked (insn.Special index) = IsAnyMethod entries index
+  asked (insn.Static index) = IsAnyMethod entries index
   asked (insn.Interface index) = IsSomeAnd (interface_method_at entries index) (λ m. TakesWords (count_of item) m.descriptor)
   asked (insn.New index) = IsSome (class_name_at entries index)
   asked (insn.NewRefs index) = IsSome (class_name_at entries index)

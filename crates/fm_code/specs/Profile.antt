@@ -1,5 +1,5 @@
 -- What is accepted of class files beside their spelling: versions, limits of methods, and what is supported; and where a class fails first.
-use Rattle.std.specs.Prelude.{◌≡◌, ℕ, ◌<◌, ◌≤◌, ◌==◌, ◌||◌, ◌⊎◌, Bool, true, false, List, ◌++◌, length, take, Option, Some, None, IfSome, IsSomeAnd, slice_get}
+use Rattle.std.specs.Prelude.{◌≡◌, ℕ, ◌<◌, ◌≤◌, ◌==◌, ◌||◌, ◌⊎◌, Bool, true, false, List, ◌++◌, length, take, Option, Some, None, is_some, IfSome, IsSomeAnd, slice_get}
 use Rattle.std.specs.List.{list_any, AllByRecursion}
 use Rattle.std.specs.Option.{option_map}
 use Rattle.std.specs.Char.Utf16.{has_unpaired_surrogate}
@@ -148,6 +148,12 @@ abbrev pub loads_supported : List Entry → Insn → Bool
 loads_supported entries (insn.LoadPool index) = is_supported_constant (entry_at entries index)
 loads_supported entries i = true
 
+-- whether the method that invokespecial or invokestatic names is one of a class
+abbrev pub calls_of_class : List Entry → Insn → Bool
+calls_of_class entries (insn.Special index) = is_some (method_at entries index)
+calls_of_class entries (insn.Static index) = is_some (method_at entries index)
+calls_of_class entries i = true
+
 -- the class that an instruction names, by itself or as the class of a member
 abbrev pub class_named : List Entry → Insn → Option (List ℕ)
 class_named entries (insn.GetStatic index) = option_map (λ m. m.class) (field_at entries index)
@@ -169,6 +175,7 @@ class_named entries i = None
 pub record ItemIsSupported (entries : List Entry) (item : Item) : Type 0 where
   pub not_left_out : is_left_out item.insn ≡ false
   pub constant : loads_supported entries item.insn ≡ true
+  pub of_class : calls_of_class entries item.insn ≡ true
   pub class : IfSome (class_named entries item.insn) (λ name. ¬ IsFloatingArray name)
 
 -- ---- what is supported

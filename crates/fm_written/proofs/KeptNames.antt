@@ -6,7 +6,7 @@ use Rattle.fm_base.proofs.OptionFacts.{IsSome-from_some, IsSomeAnd-from_some, So
 use Rattle.fm_code.specs.CodeRules.{CodeAttrIsValid, HandlerIsValid, VarIsValid}
 use Rattle.fm_code.specs.ConstantPool.{class_name_at, entry_at, field_at, interface_method_at, member_named, MemberName, method_at, named_and_typed_at, utf8_at}
 use Rattle.fm_code.specs.Members.{FieldAttrIsValid, FieldIsValid, IsValue, Suits, suited_descriptors}
-use Rattle.fm_code.specs.Operands.{IsConstant, opcode_of, OperandIsValid}
+use Rattle.fm_code.specs.Operands.{IsAnyMethod, IsConstant, opcode_of, OperandIsValid}
 use Rattle.fm_code.specs.declared.class_file.Member.{Member}
 use Rattle.fm_code.specs.declared.class_file.MemberAttr.{MemberAttr}
 use Rattle.fm_code.specs.declared.class_file.MemberAttr.TheVariants as attribute
@@ -83,6 +83,11 @@ module _ (entries more : List Entry) where
     by true (entry.Double bits) at_index own = rw (entry_kept entries more index (entry.Double bits) at_index (λ e. cc)) tt
     by two e at_index own = absurd own
 
+  any_kept : (index : ℕ) → IsAnyMethod entries index → IsAnyMethod (entries ++ more) index
+  any_kept index (inl of_class) = inl (still_some (method_at entries index) (method_at (entries ++ more) index) (method_kept index) of_class)
+  any_kept index (inr of_interface) =
+      inr (still_some (interface_method_at entries index) (interface_method_at (entries ++ more) index) (interface_method_kept index) of_interface)
+
   operand_in : (offset : ℕ) (bytes : List ℕ) (i : Insn) → OperandIsValid entries (record { offset = offset; bytes = bytes; insn = i })
       → OperandIsValid (entries ++ more) (record { offset = offset; bytes = bytes; insn = i })
   operand_in offset bytes (insn.LoadPool index) valid = constant_kept (opcode_of (record { offset = offset; bytes = bytes; insn = insn.LoadPool index }) == LDC2_W) index valid
@@ -91,8 +96,8 @@ module _ (entries more : List Entry) where
   operand_in offset bytes (insn.GetField index) valid = still_some (field_at entries index) (field_at (entries ++ more) index) (field_kept index) valid
   operand_in offset bytes (insn.PutField index) valid = still_some (field_at entries index) (field_at (entries ++ more) index) (field_kept index) valid
   operand_in offset bytes (insn.Virtual index) valid = still_some (method_at entries index) (method_at (entries ++ more) index) (method_kept index) valid
-  operand_in offset bytes (insn.Special index) valid = still_some (method_at entries index) (method_at (entries ++ more) index) (method_kept index) valid
-  operand_in offset bytes (insn.Static index) valid = still_some (method_at entries index) (method_at (entries ++ more) index) (method_kept index) valid
+  operand_in offset bytes (insn.Special index) valid = any_kept index valid
+  operand_in offset bytes (insn.Static index) valid = any_kept index valid
   operand_in offset bytes (insn.Interface index) valid =
       still_such (interface_method_at entries index) (interface_method_at (entries ++ more) index) _ (interface_method_kept index) valid
   operand_in offset bytes (insn.New index) valid = still_some (class_name_at entries index) (class_name_at (entries ++ more) index) (class_kept entries more index) valid

@@ -1,5 +1,5 @@
 -- What holds of branches and of moved items holds of all laid-out items; so each has its locals, and what it names in the pool is there.
-use Rattle.std.proofs.Common.{◌≡◌, ℕ, ◌+◌, Bool, true, false, List, [], ◌∷◌, length, Option, Some, None, IsSome, IsSomeAnd, refl, sym, subst, ◌∙◌, option_and_then}
+use Rattle.std.proofs.Common.{◌≡◌, ℕ, ◌+◌, Bool, true, false, List, [], ◌∷◌, length, Option, Some, None, IsSome, IsSomeAnd, refl, sym, subst, ◌∙◌, option_and_then, inl}
 use Rattle.std.specs.Prelude.{nat_lt, slice_get, slice_index}
 use Rattle.std.specs.List.{AllByRecursion}
 use Rattle.fm_base.proofs.ListFacts.{AllByRecursion-append}
@@ -124,7 +124,7 @@ inserted_fits free locals entries named starts firsts start insn.Null fits = (tt
 inserted_fits free locals entries named starts firsts start insn.Dup fits = (tt, tt)
 inserted_fits free locals entries named starts firsts start (insn.Load reg.Ref local) fits = (fits, tt)
 inserted_fits free locals entries named starts firsts start (insn.Store reg.Ref local) fits = (fits, tt)
-inserted_fits free locals entries named starts firsts start (insn.Static index) fits = (tt, subst (λ n. IsSome (method_at entries n)) (sym fits) named)
+inserted_fits free locals entries named starts firsts start (insn.Static index) fits = (tt, inl (subst (λ n. IsSome (method_at entries n)) (sym fits) named))
 inserted_fits free locals entries named starts firsts start i fits = absurd fits
 
 -- ---- all items

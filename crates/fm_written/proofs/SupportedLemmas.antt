@@ -1,6 +1,5 @@
--- A changed class is accepted where the class is: its version, the counts of its methods, and all
--- that is in it.
-use Rattle.std.proofs.Common.{◌≡◌, ℕ, ◌+◌, inr, Bool, true, false, List, [], ◌∷◌, ◌++◌, length, map, Option, Some, None, IfSome, IsSome, refl, sym, ap, subst, ◌∙◌, arith}
+-- A changed class is accepted where the class is: its version, the counts of its methods, and all that stands in it.
+use Rattle.std.proofs.Common.{◌≡◌, ℕ, ◌+◌, inr, Bool, true, false, List, [], ◌∷◌, ◌++◌, length, map, Option, Some, None, IfSome, IsSome, refl, sym, ap, subst, ◌∙◌, arith, is_some}
 use Rattle.std.specs.List.{AllByRecursion}
 use Rattle.std.specs.Option.{option_map}
 use Rattle.std.proofs.lemmas.Bool.{false≢true}
@@ -13,7 +12,7 @@ use Rattle.fm_code.specs.FreeEntries.{free_class, free_method, sought_free, with
 use Rattle.fm_code.specs.Members.{code_of, MethodAttrIsValid, MethodIsValid}
 use Rattle.fm_code.specs.CodeRules.{CodeIsValid}
 use Rattle.fm_code.specs.Operands.{OperandIsValid}
-use Rattle.fm_code.specs.Profile.{class_named, CodeIsWithin, FieldIsSupported, HeadIsSupported, is_left_out, is_supported_constant, IsFloatingArray, IsSupportedName, ItemIsSupported, loads_supported, MethodIsSupported, MethodIsWithin}
+use Rattle.fm_code.specs.Profile.{calls_of_class, class_named, CodeIsWithin, FieldIsSupported, HeadIsSupported, is_left_out, is_supported_constant, IsFloatingArray, IsSupportedName, ItemIsSupported, loads_supported, MethodIsSupported, MethodIsWithin}
 use Rattle.fm_code.specs.declared.class_file.Member.{Member}
 use Rattle.fm_code.specs.declared.class_file.MemberAttr.{MemberAttr}
 use Rattle.fm_code.specs.declared.class_file.MemberAttr.TheVariants as attribute
@@ -39,7 +38,7 @@ use Rattle.fm_profile.proofs.FloatingLemmas.{array_begins}
 use Rattle.fm_profile.proofs.LimitLemmas.{code_is}
 use Rattle.fm_profile.specs.inner.Declared.{first_code}
 use Rattle.fm_written.proofs.InsertedFits.{InsertedFits, woven_fits}
-use Rattle.fm_written.proofs.KeptNames.{field_kept, interface_method_kept, method_kept, still_such, such_kept}
+use Rattle.fm_written.proofs.KeptNames.{field_kept, interface_method_kept, method_kept, still_some, still_such, such_kept}
 use Rattle.fm_written.proofs.LaidFits.{HoldsOfTargets, laid_hold}
 use Rattle.fm_written.specs.Changed.{AttributeCan, CanWeave, ChangedAreAccepted, MethodCan, MethodsCan}
 
@@ -47,20 +46,20 @@ use Rattle.fm_written.specs.Changed.{AttributeCan, CanWeave, ChangedAreAccepted,
 
 -- an instruction is supported, by the entries of a pool
 abbrev IsSupportedInsn : List Entry → Insn → Type 0
-IsSupportedInsn entries i = (is_left_out i ≡ false) × (loads_supported entries i ≡ true) × IfSome (class_named entries i) (λ name. ¬ IsFloatingArray name)
+IsSupportedInsn entries i = (is_left_out i ≡ false) × (loads_supported entries i ≡ true) × (calls_of_class entries i ≡ true) × IfSome (class_named entries i) (λ name. ¬ IsFloatingArray name)
 
 abbrev HasSupportedInsn : List Entry → Item → Type 0
 HasSupportedInsn entries item = IsSupportedInsn entries item.insn
 
 -- one with targets is
 targeted_supported : (entries : List Entry) → HoldsOfTargets (HasSupportedInsn entries)
-targeted_supported entries offset bytes f (insn.IfInt t n) named = (refl, refl, tt)
-targeted_supported entries offset bytes f (insn.IfPair t n) named = (refl, refl, tt)
-targeted_supported entries offset bytes f (insn.IfSame t n) named = (refl, refl, tt)
-targeted_supported entries offset bytes f (insn.IfNull t n) named = (refl, refl, tt)
-targeted_supported entries offset bytes f (insn.Goto n) named = (refl, refl, tt)
-targeted_supported entries offset bytes f (insn.Table low others targets) named = (refl, refl, tt)
-targeted_supported entries offset bytes f (insn.Lookup others keys targets) named = (refl, refl, tt)
+targeted_supported entries offset bytes f (insn.IfInt t n) named = (refl, refl, refl, tt)
+targeted_supported entries offset bytes f (insn.IfPair t n) named = (refl, refl, refl, tt)
+targeted_supported entries offset bytes f (insn.IfSame t n) named = (refl, refl, refl, tt)
+targeted_supported entries offset bytes f (insn.IfNull t n) named = (refl, refl, refl, tt)
+targeted_supported entries offset bytes f (insn.Goto n) named = (refl, refl, refl, tt)
+targeted_supported entries offset bytes f (insn.Table low others targets) named = (refl, refl, refl, tt)
+targeted_supported entries offset bytes f (insn.Lookup others keys targets) named = (refl, refl, refl, tt)
 targeted_supported entries offset bytes f i named = absurd cc
 
 kept_supported : (entries : List Entry) (starts firsts : List ℕ) (start : ℕ) (item : Item) (i : Insn) → IsSameButTargets i item.insn → HasSupportedInsn entries item
@@ -78,14 +77,14 @@ free_is_no_array is = false≢true (array_begins free_class is)
 
 inserted_supported : (free locals : ℕ) (entries : List Entry) → method_at entries free ≡ Some free_method → (starts firsts : List ℕ) (start : ℕ) (i : Insn) → InsertedFits free locals i
     → HasSupportedInsn entries (moved_item starts firsts start None i)
-inserted_supported free locals entries named starts firsts start insn.Null fits = (refl, refl, tt)
-inserted_supported free locals entries named starts firsts start insn.Dup fits = (refl, refl, tt)
-inserted_supported free locals entries named starts firsts start (insn.Load reg.Ref local) fits = (refl, refl, tt)
-inserted_supported free locals entries named starts firsts start (insn.Store reg.Ref local) fits = (refl, refl, tt)
+inserted_supported free locals entries named starts firsts start insn.Null fits = (refl, refl, refl, tt)
+inserted_supported free locals entries named starts firsts start insn.Dup fits = (refl, refl, refl, tt)
+inserted_supported free locals entries named starts firsts start (insn.Load reg.Ref local) fits = (refl, refl, refl, tt)
+inserted_supported free locals entries named starts firsts start (insn.Store reg.Ref local) fits = (refl, refl, refl, tt)
 inserted_supported free locals entries named starts firsts start (insn.Static index) fits =
     let there : method_at entries index ≡ Some free_method = ap (method_at entries) fits ∙ named in
     let class : Option (List ℕ) → Type 0 = λ o. IfSome o (λ name. ¬ IsFloatingArray name) in
-    (refl, refl, subst class (sym (ap (option_map (λ (m : MemberName). m.class)) there)) free_is_no_array)
+    (refl, refl, ap is_some there, subst class (sym (ap (option_map (λ (m : MemberName). m.class)) there)) free_is_no_array)
 inserted_supported free locals entries named starts firsts start i fits = absurd fits
 
 -- ---- more entries
@@ -99,24 +98,24 @@ module _ (entries more : List Entry) where
   class_same index there = let v = Some-from_is_some (class_name_at entries index) there in class_kept entries more index v.0 v.1 ∙ sym v.1
 
   -- an instruction names the same class
-  named_same : (offset : ℕ) (bytes : List ℕ) (i : Insn) → OperandIsValid entries (record { offset = offset; bytes = bytes; insn = i })
+  named_same : (offset : ℕ) (bytes : List ℕ) (i : Insn) → OperandIsValid entries (record { offset = offset; bytes = bytes; insn = i }) → calls_of_class entries i ≡ true
       → class_named (entries ++ more) i ≡ class_named entries i
-  named_same offset bytes (insn.GetStatic index) valid = same_of field_at index (field_kept entries more index) valid
-  named_same offset bytes (insn.PutStatic index) valid = same_of field_at index (field_kept entries more index) valid
-  named_same offset bytes (insn.GetField index) valid = same_of field_at index (field_kept entries more index) valid
-  named_same offset bytes (insn.PutField index) valid = same_of field_at index (field_kept entries more index) valid
-  named_same offset bytes (insn.Virtual index) valid = same_of method_at index (method_kept entries more index) valid
-  named_same offset bytes (insn.Special index) valid = same_of method_at index (method_kept entries more index) valid
-  named_same offset bytes (insn.Static index) valid = same_of method_at index (method_kept entries more index) valid
-  named_same offset bytes (insn.Interface index) valid =
+  named_same offset bytes (insn.GetStatic index) valid called = same_of field_at index (field_kept entries more index) valid
+  named_same offset bytes (insn.PutStatic index) valid called = same_of field_at index (field_kept entries more index) valid
+  named_same offset bytes (insn.GetField index) valid called = same_of field_at index (field_kept entries more index) valid
+  named_same offset bytes (insn.PutField index) valid called = same_of field_at index (field_kept entries more index) valid
+  named_same offset bytes (insn.Virtual index) valid called = same_of method_at index (method_kept entries more index) valid
+  named_same offset bytes (insn.Special index) valid called = same_of method_at index (method_kept entries more index) called
+  named_same offset bytes (insn.Static index) valid called = same_of method_at index (method_kept entries more index) called
+  named_same offset bytes (insn.Interface index) valid called =
       let v = Some-from_some_and (interface_method_at entries index) _ valid in
       same_of interface_method_at index (interface_method_kept entries more index) (IsSome-from_some (interface_method_at entries index) v.0 v.1)
-  named_same offset bytes (insn.New index) valid = class_same index valid
-  named_same offset bytes (insn.NewRefs index) valid = class_same index valid
-  named_same offset bytes (insn.Cast index) valid = class_same index valid
-  named_same offset bytes (insn.IsA index) valid = class_same index valid
-  named_same offset bytes (insn.MultiArray index dimensions) valid = class_same index valid
-  named_same offset bytes i valid = refl
+  named_same offset bytes (insn.New index) valid called = class_same index valid
+  named_same offset bytes (insn.NewRefs index) valid called = class_same index valid
+  named_same offset bytes (insn.Cast index) valid called = class_same index valid
+  named_same offset bytes (insn.IsA index) valid called = class_same index valid
+  named_same offset bytes (insn.MultiArray index dimensions) valid called = class_same index valid
+  named_same offset bytes i valid called = refl
 
   -- and may load what it loads
   loads_kept : (i : Insn) → loads_supported entries i ≡ true → loads_supported (entries ++ more) i ≡ true
@@ -125,11 +124,18 @@ module _ (entries more : List Entry) where
       ap is_supported_constant stays ∙ supported
   loads_kept i supported = refl
 
+  -- and may call what it calls
+  calls_kept : (i : Insn) → calls_of_class entries i ≡ true → calls_of_class (entries ++ more) i ≡ true
+  calls_kept (insn.Special index) called = still_some (method_at entries index) (method_at (entries ++ more) index) (method_kept entries more index) called
+  calls_kept (insn.Static index) called = still_some (method_at entries index) (method_at (entries ++ more) index) (method_kept entries more index) called
+  calls_kept i called = refl
+
   item_kept : (item : Item) → OperandIsValid entries item → ItemIsSupported entries item → HasSupportedInsn (entries ++ more) item
   item_kept item valid supported = (
     supported.not_left_out,
     loads_kept item.insn supported.constant,
-    subst (λ (o : Option (List ℕ)). IfSome o (λ name. ¬ IsFloatingArray name)) (sym (named_same item.offset item.bytes item.insn valid)) supported.class,
+    calls_kept item.insn supported.of_class,
+    subst (λ (o : Option (List ℕ)). IfSome o (λ name. ¬ IsFloatingArray name)) (sym (named_same item.offset item.bytes item.insn valid supported.of_class)) supported.class,
   )
 
   items_kept : (items : List Item) → AllByRecursion (OperandIsValid entries) items → AllByRecursion (ItemIsSupported entries) items → AllByRecursion (HasSupportedInsn (entries ++ more)) items
@@ -137,7 +143,7 @@ module _ (entries more : List Entry) where
   items_kept (item ∷ items) valid supported = (item_kept item valid.0 supported.0, items_kept items valid.1 supported.1)
 
 are_supported : (entries : List Entry) (items : List Item) → AllByRecursion (HasSupportedInsn entries) items → AllByRecursion (ItemIsSupported entries) items
-are_supported entries = AllByRecursion-weaker (HasSupportedInsn entries) (ItemIsSupported entries) (λ item own. record { not_left_out = own.0; constant = own.1; class = own.2 })
+are_supported entries = AllByRecursion-weaker (HasSupportedInsn entries) (ItemIsSupported entries) (λ item own. record { not_left_out = own.0; constant = own.1; of_class = own.2; class = own.3 })
 
 -- ---- codes
 

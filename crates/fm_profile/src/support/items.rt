@@ -2,7 +2,7 @@
 
 ghost use Rattle.std.specs.Prelude.{◌≡◌, ◌↔◌, IfSome, IsTrue, option_copied};
 ghost use Rattle.fm_code.specs.ConstantPool.{entry_at};
-ghost use Rattle.fm_code.specs.Profile.{class_named, is_left_out, is_supported_constant, IsFloatingArray, ItemIsSupported, loads_supported};
+ghost use Rattle.fm_code.specs.Profile.{calls_of_class, class_named, is_left_out, is_supported_constant, IsFloatingArray, ItemIsSupported, loads_supported};
 ghost use Rattle.fm_profile.specs.inner.Declared.{PoolIsValid};
 
 use super::floating_types::is_floating_array;
@@ -18,6 +18,9 @@ pub(super) fn is_supported_item(pool: &Pool, item: &Item) -> bool
         return false;
     }
     if !loads_supported(pool, &item.insn) {
+        return false;
+    }
+    if !calls_of_class(pool, &item.insn) {
         return false;
     }
     names_supported(pool, &item.insn)
@@ -36,6 +39,16 @@ fn loads_supported(pool: &Pool, insn: &Insn) -> bool
 {
     match insn {
         Insn::LoadPool(index) => is_supported_constant(pool, *index),
+        _ => true,
+    }
+}
+
+/// Whether the method that `invokespecial` or `invokestatic` names is one of a class.
+fn calls_of_class(pool: &Pool, insn: &Insn) -> bool
+    ensures { result ≡ calls_of_class pool.now.entries insn.now }
+{
+    match insn {
+        Insn::Special(index) | Insn::Static(index) => pool.method(*index).is_some(),
         _ => true,
     }
 }
