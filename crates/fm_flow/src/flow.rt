@@ -5,7 +5,7 @@ ghost use Rattle.fm_code.specs.Edges.{FallsOff, HasNoLeftOut, MeetsCodeRules};
 
 use crate::edge_lists::EdgeLists;
 use crate::error::FlowFail;
-use crate::item_edges::{edges_of, falls_through, item_count};
+use crate::item_edges::{edges_of, item_count};
 use crate::reach::reached_items;
 use fm_base::Row;
 use fm_code::Code;
@@ -35,7 +35,7 @@ impl Flow {
         let edges = edges_of(alloc, code)?;
         let reached = reached_items(alloc, code, &edges)?;
         let last = item_count(code) - 1;
-        if reached.get(last) && falls_through(&code.items.as_slice()[last as usize].insn) {
+        if reached.get(last) && code.items.as_slice()[last as usize].insn.falls_through() {
             return Err(FlowFail::FallsOff);
         }
         Ok(Flow { edges, reached })

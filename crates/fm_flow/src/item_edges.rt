@@ -4,7 +4,7 @@ ghost use Rattle.std.specs.Prelude.{◌≡◌, ◌+◌, ◌<◌, ◌≤◌, ◌�
 ghost use Rattle.std.specs.List.{AllByRecursion};
 ghost use Rattle.std.specs.List.Sorted.{IsStrictlyIncreasing};
 ghost use Rattle.fm_base.specs.Rows.{has};
-ghost use Rattle.fm_code.specs.Edges.{falls_through, Catches, IsEdge, LeadsTo, MeetsCodeRules};
+ghost use Rattle.fm_code.specs.Edges.{Catches, IsEdge, LeadsTo, MeetsCodeRules};
 ghost use Rattle.fm_code.specs.SpellsCode.{targets_of};
 ghost use Rattle.fm_code.specs.declared.code_array.Handler.{Handler};
 ghost use Rattle.fm_flow.specs.Tables.{AreEdgesOf, IsRisingListOf};
@@ -15,36 +15,6 @@ use fm_base::{NoMemory, Row};
 use fm_code::{Code, Handler, Insn};
 use std::alloc::Global;
 
-/// Whether control can go on to the item after the instruction.
-pub fn falls_through(insn: &Insn) -> bool
-    ensures { result ≡ falls_through insn.now }
-{
-    !matches!(
-        insn,
-        Insn::Goto(_) | Insn::Table(..) | Insn::Lookup(..) | Insn::Return(_) | Insn::Throw
-    )
-}
-
-// The items that an instruction names as its targets, in its order.
-fn targets_of(alloc: Global, insn: &Insn) -> Result<Vec<u32>, NoMemory>
-    ensures { IfOk result (λ targets. targets.items ≡ targets_of insn.now) }
-{
-    let mut targets = Vec::new(alloc);
-    match insn {
-        Insn::IfInt(_, target)
-        | Insn::IfPair(_, target)
-        | Insn::IfSame(_, target)
-        | Insn::IfNull(_, target)
-        | Insn::Goto(target) => targets.push(*target)?,
-        Insn::Table(_, others, others_of_keys) | Insn::Lookup(others, _, others_of_keys) => {
-            targets.push(*others)?;
-            targets.extend_from_slice(others_of_keys.as_slice())?;
-        }
-        _ => {}
-    }
-    Ok(targets)
-}
-
 // The numbers to which the instruction of item j leads, below the number of items.
 fn normal_edges(alloc: Global, insn: &Insn, j: u32, count: u32) -> Result<Vec<u32>, NoMemory>
     requires inside { j < count }
@@ -52,8 +22,8 @@ fn normal_edges(alloc: Global, insn: &Insn, j: u32, count: u32) -> Result<Vec<u3
     ensures { IfOk result
         (λ list. IsRisingListOf (λ next. (next < count) × LeadsTo insn.now j next) list.items) }
 {
-    let mut list = targets_of(alloc, insn)?;
-    if falls_through(insn) && count - j > 1 {
+    let mut list = insn.targets(alloc)?;
+    if insn.falls_through() && count - j > 1 {
         list.push(j + 1)?;
     }
     sort_once(&mut list);
