@@ -55,7 +55,7 @@ count_of item = slice_index item.bytes 3
 abbrev pub IsAnyMethod : List Entry → ℕ → Type 0
 IsAnyMethod entries index = IsSome (method_at entries index) ⊎ IsSome (interface_method_at entries index)
 
--- the entry that an instruction names has the instruction's tag; invokeinterface tells besides how many words are taken
+-- the entry that an instruction names has the instruction's tag; invokeinterface has besides how many words are taken
 abbrev pub OperandIsValid : List Entry → Item → Type 0
 OperandIsValid entries item = asked item.insn where
   asked : Insn → Type 0

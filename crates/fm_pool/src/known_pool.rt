@@ -129,7 +129,7 @@ impl KnownPool {
         }
     }
 
-    /// Whether the entry of a method of an interface stands at an index.
+    /// Whether the entry of a method of an interface is at an index.
     pub fn names_interface_method(&self, index: u16) -> bool
         ensures { IsTrue result ↔ IsSome (interface_method_at self.now.entries index) }
     {
@@ -142,7 +142,7 @@ impl KnownPool {
         }
     }
 
-    /// Whether the entry of a method of an interface stands at an index, and its arguments take so many
+    /// Whether the entry of a method of an interface is at an index, and its arguments take `words`
     /// words with the receiver's (JVMS 6.5.invokeinterface).
     pub fn has_interface_method(&self, index: u16, words: u8) -> bool
         ensures { IsTrue result
