@@ -16,5 +16,6 @@ pub fn law_lengths()
 pub fn law_written()
     ensures { WrittenHaveLengthsAlone }
 {
+    // By this law.
     law_typed();
 }

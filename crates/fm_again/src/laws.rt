@@ -23,6 +23,7 @@ pub fn law_uses()
     ensures stay { UsesStay }
     ensures free { FreeStands }
 {
+    // By this law.
     law_class_types();
 }
 

@@ -33,6 +33,7 @@ fn make_literal<M: Memory>(
         return Ok(false);
     };
     machine.set_literal(text, cell);
+    // For its clauses: the store is sound, and the memory's choices are lawful.
     let _births = machine.births();
     Ok(true)
 }

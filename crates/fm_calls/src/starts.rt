@@ -37,6 +37,7 @@ fn prepare<M: Memory>(
         → Prepared program.now M.choose machine.old machine.new
         (start_actions program.now.outline (map (λ (c : ids.ClassId). c.0) classes.now)) f goes) }
 {
+    // For its clauses: the store is sound, and the memory's choices are lawful.
     let _births = machine.births();
     if !machine.has_room(frames) {
         return Ok(false);
@@ -69,6 +70,7 @@ fn enter<M: Memory>(
         OnOk result (DoesIn program.now M.choose machine.old machine.new
         (enters (start_actions program.now.outline numbers) (start_methods program.now.outline numbers))) }
 {
+    // For its clauses: the store is sound, and the memory's choices are lawful.
     let _births = machine.births();
     if !machine.has_room(methods) {
         return Ok(());

@@ -18,6 +18,7 @@ pub fn nop<M: Memory>(machine: &mut Machine<M>, program: &Program)
     requires { CanStep program.now machine.old }
     ensures { Steps program.now M.choose machine.old machine.new (words 0 []) }
 {
+    // For its clause: a program has fewer than 2^32 classes.
     let _classes = program.classes();
     machine.take(0);
 }
@@ -28,6 +29,7 @@ pub fn null<M: Memory>(machine: &mut Machine<M>, program: &Program) -> Result<()
     requires { CanStep program.now machine.old }
     ensures { OnOk result (Steps program.now M.choose machine.old machine.new (words 0 null_word)) }
 {
+    // For its clause: a program has fewer than 2^32 classes.
     let _classes = program.classes();
     machine.give(0, Value::Ref(Cell(0)))
 }
@@ -42,6 +44,7 @@ pub fn int_constant<M: Memory>(
     requires { CanStep program.now machine.old }
     ensures { OnOk result (Steps program.now M.choose machine.old machine.new (words 0 (int_word n))) }
 {
+    // For its clause: a program has fewer than 2^32 classes.
     let _classes = program.classes();
     machine.give(0, Value::Int(n))
 }
@@ -56,6 +59,7 @@ pub fn long_constant<M: Memory>(
     requires { CanStep program.now machine.old }
     ensures { OnOk result (Steps program.now M.choose machine.old machine.new (words 0 (long_words n))) }
 {
+    // For its clause: a program has fewer than 2^32 classes.
     let _classes = program.classes();
     machine.give_wide(0, Value::Long(n))
 }

@@ -86,6 +86,7 @@ pub fn if_same<M: Memory>(machine: &mut Machine<M>, program: &Program, same: boo
     requires at { IsAt program.now machine.old (insn.IfSame same target) }
     ensures { Steps program.now M.choose machine.old machine.new (same_jump_effect same) }
 {
+    // For its clause: a program has fewer than 2^32 classes.
     let _classes = program.classes();
     machine.jump_if_same(same, target as usize);
 }
@@ -114,6 +115,7 @@ pub fn go_to<M: Memory>(machine: &mut Machine<M>, program: &Program, target: u32
     requires at { IsAt program.now machine.old (insn.Goto target) }
     ensures { Steps program.now M.choose machine.old machine.new (going 0 (Jumps 0)) }
 {
+    // For its clause: a program has fewer than 2^32 classes.
     let _classes = program.classes();
     machine.jump(0, target as usize);
 }

@@ -17,6 +17,7 @@ pub fn pop<M: Memory>(machine: &mut Machine<M>, program: &Program)
     requires { CanStep program.now machine.old }
     ensures { Steps program.now M.choose machine.old machine.new (move_effect insn.Pop) }
 {
+    // For its clause: a program has fewer than 2^32 classes.
     let _classes = program.classes();
     machine.take(1);
 }
@@ -27,6 +28,7 @@ pub fn pop2<M: Memory>(machine: &mut Machine<M>, program: &Program)
     requires { CanStep program.now machine.old }
     ensures { Steps program.now M.choose machine.old machine.new (move_effect insn.Pop2) }
 {
+    // For its clause: a program has fewer than 2^32 classes.
     let _classes = program.classes();
     machine.take(2);
 }
@@ -37,6 +39,7 @@ pub fn dup<M: Memory>(machine: &mut Machine<M>, program: &Program) -> Result<(),
     requires { CanStep program.now machine.old }
     ensures { OnOk result (Steps program.now M.choose machine.old machine.new (move_effect insn.Dup)) }
 {
+    // For its clause: a program has fewer than 2^32 classes.
     let _classes = program.classes();
     let top = machine.word(0);
     machine.give_words(1, &[top, top])
@@ -48,6 +51,7 @@ pub fn dup_x1<M: Memory>(machine: &mut Machine<M>, program: &Program) -> Result<
     requires { CanStep program.now machine.old }
     ensures { OnOk result (Steps program.now M.choose machine.old machine.new (move_effect insn.DupX1)) }
 {
+    // For its clause: a program has fewer than 2^32 classes.
     let _classes = program.classes();
     let top = machine.word(0);
     let second = machine.word(1);
@@ -60,6 +64,7 @@ pub fn dup_x2<M: Memory>(machine: &mut Machine<M>, program: &Program) -> Result<
     requires { CanStep program.now machine.old }
     ensures { OnOk result (Steps program.now M.choose machine.old machine.new (move_effect insn.DupX2)) }
 {
+    // For its clause: a program has fewer than 2^32 classes.
     let _classes = program.classes();
     let top = machine.word(0);
     let second = machine.word(1);
@@ -73,6 +78,7 @@ pub fn dup2<M: Memory>(machine: &mut Machine<M>, program: &Program) -> Result<()
     requires { CanStep program.now machine.old }
     ensures { OnOk result (Steps program.now M.choose machine.old machine.new (move_effect insn.Dup2)) }
 {
+    // For its clause: a program has fewer than 2^32 classes.
     let _classes = program.classes();
     let top = machine.word(0);
     let second = machine.word(1);
@@ -85,6 +91,7 @@ pub fn dup2_x1<M: Memory>(machine: &mut Machine<M>, program: &Program) -> Result
     requires { CanStep program.now machine.old }
     ensures { OnOk result (Steps program.now M.choose machine.old machine.new (move_effect insn.Dup2X1)) }
 {
+    // For its clause: a program has fewer than 2^32 classes.
     let _classes = program.classes();
     let top = machine.word(0);
     let second = machine.word(1);
@@ -98,6 +105,7 @@ pub fn dup2_x2<M: Memory>(machine: &mut Machine<M>, program: &Program) -> Result
     requires { CanStep program.now machine.old }
     ensures { OnOk result (Steps program.now M.choose machine.old machine.new (move_effect insn.Dup2X2)) }
 {
+    // For its clause: a program has fewer than 2^32 classes.
     let _classes = program.classes();
     let top = machine.word(0);
     let second = machine.word(1);
@@ -112,6 +120,7 @@ pub fn swap<M: Memory>(machine: &mut Machine<M>, program: &Program) -> Result<()
     requires { CanStep program.now machine.old }
     ensures { OnOk result (Steps program.now M.choose machine.old machine.new (move_effect insn.Swap)) }
 {
+    // For its clause: a program has fewer than 2^32 classes.
     let _classes = program.classes();
     let top = machine.word(0);
     let second = machine.word(1);

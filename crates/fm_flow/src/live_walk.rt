@@ -131,6 +131,7 @@ fn copy_of(alloc: Global, row: &Row) -> Result<Row, NoMemory>
     ensures { IfOk result (λ copy. copy ≡ row.now) }
 {
     let mut copy = Row::new(alloc, row.bits())?;
+    // Whether a member came in is not needed.
     let _grown = copy.union(row);
     Ok(copy)
 }

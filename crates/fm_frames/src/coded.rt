@@ -88,6 +88,7 @@ pub fn pack_of(program: &Program, t: TypeRef) -> u8
     ensures value { IsRunnable program.now → result ≡ pack_of program.now.outline t }
     ensures pack { IsPack result }
 {
+    // For its clause: a program has fewer than 2^32 classes.
     let _classes = program.classes();
     pack_by(t)
 }

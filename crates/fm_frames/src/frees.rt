@@ -17,6 +17,7 @@ impl<M: Memory> Machine<M> {
         ensures freed { self.new ≡ record self.old { areas = freed self.old.areas cell.0 } }
         ensures counts { CountsFrees self.new.areas }
     {
+        // For its clauses: the store is sound, and the memory's choices are lawful.
         let _births = self.memory.births();
         let Some(head) = self.memory.head(cell) else {
             return;

@@ -46,6 +46,7 @@ impl<M: Memory> Machine<M> {
             ≡ object_in (look_at self.now.areas.store (slice_get (stack_of self.now) place)) }
         ensures few { IfSome result (λ found. found.1.len < 2 ^ 31) }
     {
+        // For its clauses: the store is sound, and the memory's choices are lawful.
         let _births = self.memory.births();
         match self.look(place) {
             Look::Object(cell, head) => Some((cell, head)),

@@ -31,6 +31,7 @@ pub struct Report {
 fn cells_made<M: Memory>(memory: &M) -> u64
     ensures { result ≡ sum (M.store memory.now).made }
 {
+    // For its clauses: the store is sound, and the memory's choices are lawful.
     let _births = memory.births();
     let mut cells = 0;
     for size_class in 0..SIZE_CLASSES {

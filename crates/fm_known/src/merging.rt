@@ -114,6 +114,7 @@ fn law_all_bounded(slots: &[Slot])
     ensures { All IsBounded slots.now }
 {
     for slot in slots {
+        // For its clause: the numbers of the slot are within their bytes.
         law_bounded(*slot);
     }
 }
@@ -122,6 +123,7 @@ fn law_all_bounded(slots: &[Slot])
 pub fn law_bounded_state(state: &State)
     ensures { IsBoundedState (type_state state.now) }
 {
+    // For its clause, of locals and of the stack.
     law_all_bounded(state.locals.as_slice());
     law_all_bounded(state.stack.as_slice());
 }

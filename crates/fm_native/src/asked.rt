@@ -82,6 +82,7 @@ pub fn held_at<M: Memory>(
     ensures held { IfOk result (IsHeldAt machine.now.areas.store machine.now place) }
     ensures at { IfErr result (IsAt program.now.outline machine.now place) }
 {
+    // For its clause: a program has fewer than 2^32 classes.
     let _classes = program.classes();
     match machine.look(place) {
         Look::Other => Err(Refusal::Other),
@@ -103,6 +104,7 @@ pub fn held_or_null_at<M: Memory>(
         (IsHeldAt machine.now.areas.store machine.now place)) }
     ensures at { IfErr result (IsAt program.now.outline machine.now place) }
 {
+    // For its clause: a program has fewer than 2^32 classes.
     let _classes = program.classes();
     match machine.look(place) {
         Look::Other => Err(Refusal::Other),
@@ -178,6 +180,7 @@ pub fn int_at<M: Memory>(
     ensures value { AsksInt program.now.outline (seen program.now machine.now) place result }
     ensures at { IfErr result (IsAt program.now.outline machine.now place) }
 {
+    // For its clause: a program has fewer than 2^32 classes.
     let _classes = program.classes();
     match machine.int_operand(place) {
         Some(n) => Ok(n),
@@ -194,6 +197,7 @@ pub fn long_at<M: Memory>(
     ensures value { AsksLong program.now.outline (seen program.now machine.now) place result }
     ensures at { IfErr result (IsAt program.now.outline machine.now place) }
 {
+    // For its clause: a program has fewer than 2^32 classes.
     let _classes = program.classes();
     match machine.long_operand(place) {
         Some(n) => Ok(n),

@@ -38,6 +38,7 @@ pub struct Built {
 pub fn text_kind(program: &Program) -> Kind
     ensures { IsRunnable program.now → result ≡ text_kind program.now.outline }
 {
+    // For its clause: a program has fewer than 2^32 classes.
     let _classes = program.classes();
     Kind::Ref(type_of_class(STRING))
 }
@@ -196,6 +197,7 @@ pub fn built_len<M: Memory>(machine: &Machine<M>, text: Option<Text>) -> i32
     requires { IfSome text (IsTextAt machine.now.areas.store) }
     ensures { result ≡ pos (length (units_so_far machine.now.areas.store text)) }
 {
+    // For the invariant of the machine that each of its calls gives.
     let _end = machine.end();
     match text {
         Some(text) => text.len as i32,

@@ -21,6 +21,7 @@ pub fn init<M: Memory>(machine: &mut Machine<M>, program: &Program)
     requires { CanStep program.now machine.old }
     ensures { DoesRow program.now M.choose machine.old machine.new ObjectInit }
 {
+    // For its clause: a program has fewer than 2^32 classes.
     let _classes = program.classes();
     machine.take(1);
 }
@@ -91,6 +92,7 @@ pub fn equals<M: Memory>(machine: &mut Machine<M>, program: &Program) -> Result<
     requires { CanStep program.now machine.old }
     ensures { OnOk result (DoesRow program.now M.choose machine.old machine.new ObjectEquals) }
 {
+    // For its clause: a program has fewer than 2^32 classes.
     let _classes = program.classes();
     let first = machine.word(0);
     let second = machine.word(1);

@@ -65,6 +65,7 @@ fn print_bytes<M: Memory, S: Sink>(
         (S.output out.old) (S.output out.new) (printing takes bytes.now) }
     ensures kept { IsErrOf result StepFail.NoMemory → S.output out.new ≡ S.output out.old }
 {
+    // For its clause: a program has fewer than 2^32 classes.
     let _classes = program.classes();
     match put_piece(alloc, out, bytes) {
         Ok(()) => {
@@ -140,6 +141,7 @@ pub fn read<M: Memory>(machine: &mut Machine<M>, program: &Program) -> Result<()
         (native_effect program.now.outline Read (slice_get machine.old.input 0)
         (seen program.now machine.old))) }
 {
+    // For its clause: a program has fewer than 2^32 classes.
     let _classes = program.classes();
     match machine.next_byte() {
         Some(byte) => machine.read(1, Value::Int(i32::from(byte))),

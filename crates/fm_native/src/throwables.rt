@@ -41,6 +41,7 @@ pub fn init_of<M: Memory>(machine: &mut Machine<M>, program: &Program) -> Result
         Ok(held) => {
             let kind = text_kind(program);
             let message = machine.word(0);
+            // For its clause: what a field of this kind keeps of the message.
             let _element = kept(kind, message);
             machine.put(2, held.cell, 0, kind, message);
             Ok(())

@@ -33,6 +33,7 @@ use fm_world::law_class_types;
 pub fn law_linking()
     ensures { ProgramsAreLinkedWell }
 {
+    // By this law.
     law_class_types();
 }
 
@@ -41,6 +42,7 @@ pub fn law_linking()
 pub fn law_resolved()
     ensures { ProgramsAreResolved }
 {
+    // By this law.
     law_linking();
 }
 
@@ -55,6 +57,7 @@ pub fn law_steps()
 pub fn law_sound_steps()
     ensures { StepsOfProgramsAreResolved }
 {
+    // By these laws.
     law_resolved();
     law_steps();
 }
@@ -71,6 +74,7 @@ pub fn law_makes()
 pub fn law_makeable()
     ensures { MakesOfProgramsAreResolved }
 {
+    // By these laws.
     law_resolved();
     law_steps();
     law_makes();
@@ -87,6 +91,7 @@ pub fn law_main()
 pub fn law_can_run()
     ensures { ProgramsCanRun }
 {
+    // By these laws.
     law_sound_steps();
     law_makeable();
     law_main();
@@ -97,6 +102,7 @@ pub fn law_can_run()
 pub fn law_cell_places()
     ensures { PlacesOfProgramsFit }
 {
+    // By these laws.
     law_resolved();
     law_built_ins();
 }
@@ -107,6 +113,7 @@ pub fn law_cell_places()
 pub fn law_cells()
     ensures { CellsOfProgramsAreResolved }
 {
+    // By this law.
     law_cell_places();
 }
 
@@ -116,6 +123,7 @@ pub fn law_cells()
 pub fn law_linked_no_fault()
     ensures { LinkedProgramsNeverFault }
 {
+    // By these laws.
     law_resolved();
     law_sound_steps();
     law_makeable();
@@ -130,6 +138,7 @@ pub fn law_linked_no_fault()
 pub fn law_linked_regions()
     ensures { LinkedRegionsDie }
 {
+    // By these laws.
     law_resolved();
     law_sound_steps();
     law_makeable();
@@ -143,6 +152,7 @@ pub fn law_linked_regions()
 pub fn law_without_frees()
     ensures { LinkedIsWithoutFrees }
 {
+    // By these laws.
     law_resolved();
     law_sound_steps();
     law_makeable();
@@ -156,6 +166,7 @@ pub fn law_two_memories()
     ensures alike { LinkedGoesAlike }
     ensures limited { LinkedDoesTheSame }
 {
+    // By these laws.
     law_without_frees();
     law_runs();
     law_memories();
@@ -166,6 +177,7 @@ pub fn law_two_memories()
 pub fn law_same_ends()
     ensures { LinkedEndsTheSame }
 {
+    // By these laws.
     law_two_memories();
     law_linked_no_fault();
 }

@@ -11,6 +11,7 @@ use fm_world::law_class_types;
 pub fn law_typed()
     ensures { SafeClassesAreTyped }
 {
+    // By these laws.
     law_class_types();
     law_linking();
     law_steps();

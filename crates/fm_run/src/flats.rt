@@ -193,6 +193,7 @@ fn flow<M: Memory>(
             Insn::Length => array_length(machine, &mut frames, program),
             _ => do_other(&mut frames, program, method, insn),
         };
+        // For its clauses: the store is sound, and the memory's choices are lawful.
         let _births = machine.births();
         if !did {
             return (frames, counted);
@@ -233,6 +234,7 @@ fn do_next_call<M: Memory>(
         return false;
     };
     let did = do_call(machine, frames, counted, program, method, insn, steps);
+    // For its clauses: the store is sound, and the memory's choices are lawful.
     let _births = machine.births();
     did
 }

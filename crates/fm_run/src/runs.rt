@@ -94,6 +94,7 @@ fn do_frequent<M: Memory>(
         return Ok(false);
     };
     let did = frequent(alloc, machine, program, method, insn)?;
+    // For its clauses: the store is sound, and the memory's choices are lawful.
     let _births = machine.births();
     Ok(did)
 }

@@ -85,6 +85,7 @@ pub(crate) fn do_step<M: Memory, S: Sink>(
 {
     match do_insn(alloc, machine, program, method, insn, out) {
         Ok(()) => {
+            // For its clauses: the store is sound, and the memory's choices are lawful.
             let _births = machine.births();
             Ok(())
         }

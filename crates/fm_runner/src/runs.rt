@@ -60,6 +60,7 @@ pub fn run_program<O: Sink>(
 {
     let memory = WordCells::new(alloc, budgets.words, budgets.store);
     let mut machine = Machine::open(alloc, program, arguments, input, budgets.frames, memory)?;
+    // For its clauses: the store is sound, and the memory's choices are lawful.
     let _births = machine.births();
     let report = run(alloc, &mut machine, program, budgets.steps, out)?;
     let line = report_line(alloc, program, &report)?;

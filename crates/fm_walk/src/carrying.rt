@@ -37,6 +37,7 @@ impl Walk {
         if item == 0 {
             return Ok(false);
         }
+        // For its clause: the numbers of the slot are within their bytes.
         law_bounded(own);
         let joined = join(method.program, own, rise.slot);
         if is_lost(rise.place, joined) {

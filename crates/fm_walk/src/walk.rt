@@ -253,6 +253,7 @@ impl Walk {
             return Ok(false);
         }
         let state = known.to_state(alloc)?;
+        // For their clauses: the numbers of the state and of the counts are within their bytes.
         law_bounded_state(&state);
         law_few(method.code.max_locals);
         law_few(method.code.max_stack);

@@ -42,6 +42,7 @@ pub fn run_classes<'a, O: Sink>(
         (O.output out.old) (O.output out.new) result }
 {
     let program = program_of(alloc, classes, main)?;
+    // For their clauses: the machine can run the program, and it never ends in a fault.
     law_can_run();
     law_linked_no_fault();
     let told = run_program(alloc, &program, budgets, arguments, input, out)?;

@@ -89,6 +89,7 @@ pub fn fmrun_run<F: Files, O: Sink, R: Sink>(
     ensures silent { IsSilent (O.output out.old) (O.output out.new) result }
     ensures reads { OnlyReads (texts words.now) (F.disk files.old) (F.disk files.new) }
 {
+    // For their clauses: a run can go on, and no more cells are made than were held at once.
     law_can_run();
     law_most_held();
     let outcome = do_words(alloc, words, files, out);

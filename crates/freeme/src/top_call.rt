@@ -108,6 +108,7 @@ fn do_job<'a, F: Files>(
     let classes: &[ClassDef] = &read;
     let program = judge_program(alloc, classes, request.main)?;
     let made = freed_classes(alloc, &program, classes)?;
+    // For their clauses: the classes written link, and their methods are typed.
     law_links();
     law_typed();
     let written: &[ClassDef] = &made.classes;
