@@ -3,4 +3,3 @@ pub mod LimitLemmas
 pub mod MarkLemmas
 pub mod SpelledLemmas
 pub mod SurrogateLemmas
-pub mod UnitLemmas

@@ -1,15 +1,15 @@
 // Whether the counts of a class's methods are within their limits. No call here takes memory.
 
-ghost use Rattle.std.specs.Prelude.{◌≡◌, ◌↔◌, ◌<◌, ◌^◌, IfErr, IfSome, IsNone, IsOk, IsSomeAnd, length, option_copied, slice_get, take};
+ghost use Rattle.std.specs.Prelude.{◌≡◌, ◌↔◌, ◌<◌, ◌^◌, IfErr, IfSome, IsNone, IsOk, IsSomeAnd, length, slice_get, take};
 ghost use Rattle.std.specs.List.{AllByRecursion};
 ghost use Rattle.fm_code.specs.Fits.{CodeFits, MemberFits};
 ghost use Rattle.fm_code.specs.Members.{code_of};
 ghost use Rattle.fm_code.specs.Profile.{CodeIsWithin, IsFirstOver, IsFirstOverLimit, IsWithinLimits, MethodIsWithin};
 ghost use Rattle.fm_code.specs.Spells.{HasSpelling};
-ghost use Rattle.fm_profile.specs.inner.Declared.{first_code, IsOverAt};
+ghost use Rattle.fm_profile.specs.inner.Declared.{IsOverAt};
 
 use fm_base::limits::{MAX_HANDLERS, MAX_LOCAL_WORDS, MAX_STACK_WORDS};
-use fm_code::{ClassDef, Code, Member, MemberAttr, OverLimit, What};
+use fm_code::{ClassDef, Code, Member, OverLimit, What};
 
 /// Asks whether the counts of each method are within their limits. An error is the first method
 /// with a count above its limit, and the first such count of it: max_stack before max_locals, and
@@ -55,7 +55,7 @@ fn first_of_method(method: &Member) -> Option<(What, u32)>
     ensures some { IfSome result
         (λ over. IsSomeAnd (code_of method.now) (IsFirstOver over.0 over.1)) }
 {
-    match code_of(method) {
+    match method.code() {
         Some(code) => first_of_code(code),
         None => None,
     }
@@ -77,23 +77,4 @@ fn first_of_code(code: &Code) -> Option<(What, u32)>
     } else {
         None
     }
-}
-
-/// The code of a method, where it has one.
-pub(crate) fn code_of(method: &Member) -> Option<&Code>
-    ensures { option_copied result ≡ code_of method.now }
-{
-    first_code(method.attributes.as_slice())
-}
-
-/// The code of the first attribute that has one.
-fn first_code(attributes: &[MemberAttr]) -> Option<&Code>
-    ensures { option_copied result ≡ first_code attributes.now }
-{
-    for attribute in attributes {
-        if let MemberAttr::Coded(_, code) = attribute {
-            return Some(code);
-        }
-    }
-    None
 }

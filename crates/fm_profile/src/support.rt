@@ -13,7 +13,6 @@ mod class_names;
 mod floating_types;
 mod items;
 
-use crate::limits::code_of;
 use class_names::is_supported_name;
 use floating_types::{FloatingTexts, is_floating_field};
 use fm_code::{ACC_NATIVE, ClassDef, Code, Entry, Member, Place, Pool, Unsupported, has_flag};
@@ -137,7 +136,7 @@ fn first_of_method(pool: &Pool, floating: &FloatingTexts, method: &Member) -> Op
     if !has_supported_head(floating, method) {
         return Some(0);
     }
-    match code_of(method) {
+    match method.code() {
         Some(code) => first_item(pool, code),
         None => None,
     }

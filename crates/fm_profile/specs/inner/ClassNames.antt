@@ -1,13 +1,6 @@
 -- How a class's name is searched for U+0000 and for units of surrogate pairs that are left alone.
-use Rattle.std.specs.Prelude.{◌≡◌, ℕ, ◌<◌, ◌==◌, ◌&&◌, not, Bool, List, [], ◌∷◌, length, if◌then◌else◌}
+use Rattle.std.specs.Prelude.{ℕ, ◌==◌, ◌&&◌, not, Bool, List, [], ◌∷◌, if◌then◌else◌}
 use Rattle.std.specs.Char.Utf16.{is_high_surrogate, is_low_surrogate}
-use Rattle.fm_base.specs.Texts.{units, IsModifiedUtf8}
-
--- the text begins with the bytes of this unit, and this rest has the other ones
-pub record TakesUnit (text : List ℕ) (unit : ℕ) (rest : List ℕ) : Type 0 where
-  pub units_are : units text ≡ unit ∷ units rest
-  pub modified : IsModifiedUtf8 rest
-  pub shorter : length rest < length text
 
 -- a unit may come next; the flag: whether the one before was the first one of a surrogate pair
 abbrev pub may_follow : Bool → ℕ → Bool

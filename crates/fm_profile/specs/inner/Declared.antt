@@ -1,14 +1,11 @@
 -- What is known of the pool and of the members of a class that is spelled.
-use Rattle.std.specs.Prelude.{◌≡◌, ℕ, List, [], ◌∷◌, slice_get, Option, Some, None, IsSomeAnd}
+use Rattle.std.specs.Prelude.{◌≡◌, ℕ, List, slice_get, IsSomeAnd}
 use Rattle.std.specs.List.{AllByRecursion}
 use Rattle.fm_code.specs.ConstantPool.{utf8_at, EntryIsValid}
 use Rattle.fm_code.specs.Members.{code_of}
 use Rattle.fm_code.specs.Names.{MethodType, IsMethodType, method_descriptor, IsFieldDescriptor}
 use Rattle.fm_code.specs.Profile.{IsFirstOver}
 use Rattle.fm_code.specs.declared.class_file.Member.{Member}
-use Rattle.fm_code.specs.declared.class_file.MemberAttr.{MemberAttr}
-use Rattle.fm_code.specs.declared.class_file.MemberAttr.TheVariants as attribute
-use Rattle.fm_code.specs.declared.code_array.Code.{Code}
 use Rattle.fm_code.specs.declared.constant_pool.Entry.{Entry}
 use Rattle.fm_code.specs.declared.profile.OverLimit.{OverLimit}
 
@@ -26,12 +23,6 @@ DeclaresField entries m = IsSomeAnd (utf8_at entries m.descriptor) IsFieldDescri
 
 abbrev pub DeclaresMethod : List Entry → Member → Type 0
 DeclaresMethod entries m = IsSomeAnd (utf8_at entries m.descriptor) IsMethodText
-
--- the code of the first attribute that has one
-abbrev pub first_code : List MemberAttr → Option Code
-first_code [] = None
-first_code (attribute.Coded name code ∷ attributes) = Some code
-first_code (a ∷ attributes) = first_code attributes
 
 -- the method of this number has this count above its limit
 abbrev pub IsOverAt : List Member → OverLimit → Type 0
