@@ -28,7 +28,8 @@ use Rattle.fm_world.specs.Descriptors.{class_number}
 use Rattle.fm_world.specs.Linking.{refused_parents}
 use Rattle.fm_world.specs.Lookups.{is_interface_at, object_number}
 use Rattle.fm_world.specs.Programs.{classes_of}
-use Rattle.fm_world.specs.Uses.{caught_by, class_items, is_used, operand_of, values_of, pool_indices, used_indices, uses_in_order}
+use Rattle.fm_code.specs.Operands.{pool_index}
+use Rattle.fm_world.specs.Uses.{caught_by, class_items, is_used, values_of, pool_indices, used_indices, uses_in_order}
 use Rattle.fm_world.specs.declared.declarations.DeclaredClass.{DeclaredClass}
 
 -- ---- lists without refusals
@@ -84,7 +85,7 @@ unfolding used_indices
 superclass_used c = or_true (nat_eq c.super_class c.this_class) _ (first_true (nat_eq c.super_class c.super_class) _ (same_number c.super_class))
 
 abbrev operands_in_class : ClassDef → List ℕ
-operands_in_class c = filter_map (λ (item : Item). operand_of item.insn) (class_items c)
+operands_in_class c = filter_map (λ (item : Item). pool_index item.insn) (class_items c)
 
 interface_used : (c : ClassDef) (index : ℕ) → is_among index c.interfaces ≡ true → is_used c index ≡ true
 unfolding used_indices

@@ -23,7 +23,8 @@ use Rattle.fm_place.specs.Rewriting.{free_index, Plans, rewritten_attribute, rew
 use Rattle.fm_place.specs.Woven.{anchors_of, woven}
 use Rattle.fm_world.specs.Causes.{differs, static_field_wanted, static_method_wanted, wanted_at}
 use Rattle.fm_world.specs.Chains.{is_among}
-use Rattle.fm_world.specs.Uses.{caught_by, class_items, is_used, items_of, made_array, operand_of, used_indices, values_of}
+use Rattle.fm_code.specs.Operands.{pool_index}
+use Rattle.fm_world.specs.Uses.{caught_by, class_items, is_used, items_of, made_array, used_indices, values_of}
 use Rattle.fm_world.specs.declared.declarations.DeclaredClass.{DeclaredClass}
 use Rattle.fm_written.specs.Changed.{changed}
 
@@ -53,7 +54,7 @@ neither : {A : Type 0} (b : Bool) → ◌≡◌ {A = Option A} (cond b None None
 neither true = refl
 neither false = refl
 
-operand_branch : (i : Insn) → names_target i ≡ true → operand_of i ≡ None
+operand_branch : (i : Insn) → names_target i ≡ true → pool_index i ≡ None
 operand_branch (insn.IfInt t n) named = refl
 operand_branch (insn.IfPair t n) named = refl
 operand_branch (insn.IfSame t n) named = refl
@@ -84,7 +85,7 @@ special_branch (insn.Lookup others keys targets) named = refl
 special_branch i named = absurd (false≢true named)
 
 -- operands that are this index, which isn't that of FreeMe.free
-operand_view : (free index : ℕ) → (index ≡ free → ⊥) → IsView free (λ i. kept_if index (operand_of i))
+operand_view : (free index : ℕ) → (index ≡ free → ⊥) → IsView free (λ i. kept_if index (pool_index i))
 operand_view free index other = record {
   branches = λ i named. ap (kept_if index) (operand_branch i named);
   null = refl;
@@ -95,7 +96,7 @@ operand_view free index other = record {
 }
 
 -- what is wanted of a field
-field_view : (free index : ℕ) → IsView free (λ i. cond (names index (operand_of i)) (static_field_wanted i) None)
+field_view : (free index : ℕ) → IsView free (λ i. cond (names index (pool_index i)) (static_field_wanted i) None)
 field_view free index = record {
   branches = λ i named. ap (λ o. cond (names index o) (static_field_wanted i) None) (operand_branch i named);
   null = refl;
@@ -106,7 +107,7 @@ field_view free index = record {
 }
 
 -- what is wanted of a method that isn't FreeMe.free
-method_view : (free index : ℕ) → (index ≡ free → ⊥) → IsView free (λ i. cond (names index (operand_of i)) (static_method_wanted i) None)
+method_view : (free index : ℕ) → (index ≡ free → ⊥) → IsView free (λ i. cond (names index (pool_index i)) (static_method_wanted i) None)
 method_view free index other = record {
   branches = λ i named. ap (λ o. cond (names index o) (static_method_wanted i) None) (operand_branch i named);
   null = refl;
@@ -117,7 +118,7 @@ method_view free index other = record {
 }
 
 -- whether a method is wanted that isn't static
-unset_view : (free index : ℕ) → IsView free (λ i. cond (names index (operand_of i)) (unset (static_method_wanted i)) None)
+unset_view : (free index : ℕ) → IsView free (λ i. cond (names index (pool_index i)) (unset (static_method_wanted i)) None)
 unset_view free index = record {
   branches = λ i named. ap (λ o. cond (names index o) (unset (static_method_wanted i)) None) (operand_branch i named);
   null = refl;
@@ -195,10 +196,10 @@ one_among index (Some k) xs ys later = by_test (nat_eq index k) refl where
   by_test false other = ap (λ b. b || is_among index xs) other ∙ later
 
 among_kept : (index : ℕ) (items : List Item)
-    → is_among index (filter_map (λ (item : Item). operand_of item.insn) items)
-    ≡ is_among index (filter_map (λ (item : Item). kept_if index (operand_of item.insn)) items)
+    → is_among index (filter_map (λ (item : Item). pool_index item.insn) items)
+    ≡ is_among index (filter_map (λ (item : Item). kept_if index (pool_index item.insn)) items)
 among_kept index [] = refl
-among_kept index (item ∷ items) = one_among index (operand_of item.insn) _ _ (among_kept index items)
+among_kept index (item ∷ items) = one_among index (pool_index item.insn) _ _ (among_kept index items)
 
 one_unset : (b : Bool) (o : Option Bool) (rest unset_rest : List Bool) → list_any (differs true) rest ≡ list_any (λ (flag : Bool). true) unset_rest
     → list_any (differs true) (cons_option (cond b o None) rest) ≡ list_any (λ (flag : Bool). true) (cons_option (cond b (unset o) None) unset_rest)
@@ -209,10 +210,10 @@ one_unset true (Some false) rest unset_rest later = refl
 
 -- a flag that isn't set is wanted where some flag is unlike a set one
 any_unset : (index : ℕ) (items : List Item)
-    → list_any (differs true) (filter_map (λ (item : Item). cond (names index (operand_of item.insn)) (static_method_wanted item.insn) None) items)
-    ≡ list_any (λ (flag : Bool). true) (filter_map (λ (item : Item). cond (names index (operand_of item.insn)) (unset (static_method_wanted item.insn)) None) items)
+    → list_any (differs true) (filter_map (λ (item : Item). cond (names index (pool_index item.insn)) (static_method_wanted item.insn) None) items)
+    ≡ list_any (λ (flag : Bool). true) (filter_map (λ (item : Item). cond (names index (pool_index item.insn)) (unset (static_method_wanted item.insn)) None) items)
 any_unset index [] = refl
-any_unset index (item ∷ items) = one_unset (names index (operand_of item.insn)) (static_method_wanted item.insn) _ _ (any_unset index items)
+any_unset index (item ∷ items) = one_unset (names index (pool_index item.insn)) (static_method_wanted item.insn) _ _ (any_unset index items)
 
 -- ---- a changed class
 
@@ -228,12 +229,12 @@ module _ (plans : Plans) (first : ℕ) (c : ClassDef) where
 
   pub fields_wanted : (index : ℕ) → wanted_at static_field_wanted (changed plans first c) index ≡ wanted_at static_field_wanted c index
   fields_wanted index =
-      methods_told (free_index c) (λ i. cond (names index (operand_of i)) (static_field_wanted i) None) (field_view (free_index c) index) plans first c.methods
+      methods_told (free_index c) (λ i. cond (names index (pool_index i)) (static_field_wanted i) None) (field_view (free_index c) index) plans first c.methods
 
   pub methods_wanted : (index : ℕ) → (index ≡ free_index c → ⊥)
       → wanted_at static_method_wanted (changed plans first c) index ≡ wanted_at static_method_wanted c index
   methods_wanted index other =
-      methods_told (free_index c) (λ i. cond (names index (operand_of i)) (static_method_wanted i) None) (method_view (free_index c) index other) plans first
+      methods_told (free_index c) (λ i. cond (names index (pool_index i)) (static_method_wanted i) None) (method_view (free_index c) index other) plans first
       c.methods
 
   -- at each index instances are wanted where they were
@@ -242,17 +243,17 @@ module _ (plans : Plans) (first : ℕ) (c : ClassDef) where
   instances_wanted index =
       any_unset index (class_items (changed plans first c))
       ∙ ap (list_any (λ (flag : Bool). true))
-      (methods_told (free_index c) (λ i. cond (names index (operand_of i)) (unset (static_method_wanted i)) None) (unset_view (free_index c) index) plans first
+      (methods_told (free_index c) (λ i. cond (names index (pool_index i)) (unset (static_method_wanted i)) None) (unset_view (free_index c) index) plans first
       c.methods)
       ∙ sym (any_unset index (class_items c))
 
   operands_same : (index : ℕ) → (index ≡ free_index c → ⊥)
-      → is_among index (filter_map (λ (item : Item). operand_of item.insn) (class_items (changed plans first c)))
-      ≡ is_among index (filter_map (λ (item : Item). operand_of item.insn) (class_items c))
+      → is_among index (filter_map (λ (item : Item). pool_index item.insn) (class_items (changed plans first c)))
+      ≡ is_among index (filter_map (λ (item : Item). pool_index item.insn) (class_items c))
   operands_same index other =
       among_kept index (class_items (changed plans first c))
       ∙ ap (is_among index)
-      (methods_told (free_index c) (λ i. kept_if index (operand_of i)) (operand_view (free_index c) index other) plans first c.methods)
+      (methods_told (free_index c) (λ i. kept_if index (pool_index i)) (operand_view (free_index c) index other) plans first c.methods)
       ∙ sym (among_kept index (class_items c))
 
   -- each index but that of FreeMe.free is used where it was
@@ -260,8 +261,8 @@ module _ (plans : Plans) (first : ℕ) (c : ClassDef) where
   unfolding used_indices
   used_same index other =
       let front = c.interfaces ++ flat_map values_of c.fields in
-      let operands = filter_map (λ (item : Item). operand_of item.insn) (class_items c) in
-      let new_operands = filter_map (λ (item : Item). operand_of item.insn) (class_items (changed plans first c)) in
+      let operands = filter_map (λ (item : Item). pool_index item.insn) (class_items c) in
+      let new_operands = filter_map (λ (item : Item). pool_index item.insn) (class_items (changed plans first c)) in
       let caught = flat_map caught_by c.methods in
       let new_caught = flat_map caught_by (changed plans first c).methods in
       let four : (os cs : List ℕ) → is_among index ((front ++ os) ++ cs) ≡ ((is_among index front || is_among index os) || is_among index cs) =

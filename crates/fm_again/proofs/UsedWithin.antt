@@ -11,7 +11,7 @@ use Rattle.fm_code.specs.CodeRules.{HandlerIsValid}
 use Rattle.fm_code.specs.ConstantPool.{class_name_at, entry_at, field_at, interface_method_at, MemberName, method_at}
 use Rattle.fm_code.specs.Members.{FieldAttrIsValid, FieldIsValid, IsValue, MethodAttrIsValid, MethodIsValid}
 use Rattle.fm_code.specs.Names.{is_binary_name}
-use Rattle.fm_code.specs.Operands.{count_of, IsAnyMethod, IsConstant, opcode_of, OperandIsValid, TakesWords}
+use Rattle.fm_code.specs.Operands.{IsConstant, OperandIsValid, TakesWords, count_of, opcode_of, pool_index}
 use Rattle.fm_code.specs.Spells.{HasSpelling}
 use Rattle.fm_code.specs.declared.class_file.ClassDef.{ClassDef}
 use Rattle.fm_code.specs.declared.class_file.Member.{Member}
@@ -26,7 +26,7 @@ use Rattle.fm_code.specs.declared.instructions.Insn.TheVariants as insn
 use Rattle.fm_code.specs.declared.opcodes.TheConstants.{LDC2_W}
 use Rattle.fm_declare.proofs.MarkLemmas.{other_number}
 use Rattle.fm_world.specs.Chains.{is_among}
-use Rattle.fm_world.specs.Uses.{caught_by, class_items, is_used, items_of, operand_of, pool_indices, used_indices, uses_in_order, values_of}
+use Rattle.fm_world.specs.Uses.{caught_by, class_items, is_used, items_of, pool_indices, used_indices, uses_in_order, values_of}
 
 -- numbers below a bound
 abbrev pub AreBelow : ℕ → List ℕ → Type 0
@@ -89,7 +89,7 @@ module _ (entries : List Entry) where
   IsBelow None = Unit {0}
   IsBelow (Some k) = k < length entries
 
-  pub insn_below : (offset : ℕ) (bytes : List ℕ) (i : Insn) → OperandIsValid entries (record { offset = offset; bytes = bytes; insn = i }) → IsBelow (operand_of i)
+  pub insn_below : (offset : ℕ) (bytes : List ℕ) (i : Insn) → OperandIsValid entries (record { offset = offset; bytes = bytes; insn = i }) → IsBelow (pool_index i)
   insn_below offset bytes (insn.LoadPool index) valid =
       constant_within (opcode_of (record { offset = offset; bytes = bytes; insn = insn.LoadPool index }) == LDC2_W) index valid
   insn_below offset bytes (insn.GetStatic index) valid = field_within index valid
@@ -114,10 +114,10 @@ module _ (entries : List Entry) where
   below_option (Some k) ks here later = (here, later)
 
   pub operands_below : (items : List Item) → AllByRecursion (OperandIsValid entries) items
-      → AreBelow (length entries) (filter_map (λ (item : Item). operand_of item.insn) items)
+      → AreBelow (length entries) (filter_map (λ (item : Item). pool_index item.insn) items)
   operands_below [] valid = tt
   operands_below (item ∷ items) valid =
-      below_option (operand_of item.insn) (filter_map (λ (i : Item). operand_of i.insn) items) (insn_below item.offset item.bytes item.insn valid.0)
+      below_option (pool_index item.insn) (filter_map (λ (i : Item). pool_index i.insn) items) (insn_below item.offset item.bytes item.insn valid.0)
       (operands_below items valid.1)
 
   -- ---- methods and fields
@@ -185,7 +185,7 @@ used_below c (bytes, spells) =
     let entries = c.pool.entries in
     let positive = some_entries entries spells.pool.slots in
     let values = flat_map values_of c.fields in
-    let operands = filter_map (λ (item : Item). operand_of item.insn) (class_items c) in
+    let operands = filter_map (λ (item : Item). pool_index item.insn) (class_items c) in
     let caught = flat_map caught_by c.methods in
     let below = λ (k : ℕ). k < length entries in
     let named = AllByRecursion-weaker (λ index. IsSome (class_name_at entries index)) below (name_within entries) c.interfaces spells.interfaces in

@@ -1,7 +1,7 @@
 // The whole step of each instruction that calls a method, be it built in or not (JVMS 6.5.invokevirtual,
 // 6.5.invokeinterface, 6.5.invokespecial, 6.5.invokestatic).
 
-ghost use Rattle.std.specs.Prelude.{◌≡◌, ◌+◌, ◌-◌, ◌^◌, ◌<◌, length, sum_by, Some, IsErrOf, OnOk};
+ghost use Rattle.std.specs.Prelude.{◌≡◌, ◌+◌, ◌-◌, ◌^◌, ◌<◌, length, Some, IsErrOf, OnOk};
 ghost use Rattle.fm_calls.specs.Calls.{AreRowsBuiltIn, CallsAs, FailsCall};
 ghost use Rattle.fm_calls.specs.Constants.{ConstantsSuit};
 ghost use Rattle.fm_calls.specs.inner.Actions.{unmade};
@@ -9,7 +9,6 @@ ghost use Rattle.fm_frames.specs.CallRows.{entered, interface_effect, special_ef
 ghost use Rattle.fm_frames.specs.declared.turns.StepFail.TheVariants as StepFail;
 ghost use Rattle.fm_frames.specs.inner.Doings.{CanStep};
 ghost use Rattle.fm_native.specs.Serving.{ServesNatives};
-ghost use Rattle.fm_world.specs.Descriptors.{kind_words};
 ghost use Rattle.fm_world.specs.Members.{method_at, methods_of};
 ghost use Rattle.fm_world.specs.declared.uses.Use.TheVariants as used;
 
@@ -17,7 +16,7 @@ use crate::first_uses::coded_call;
 use crate::selections::{interface_target, special_target, virtual_target};
 use fm_base::{Kind, MethodId, TypeId};
 use fm_cells::Memory;
-use fm_exec::{argument_words, kind_words};
+use fm_exec::argument_words;
 use fm_files::Sink;
 use fm_frames::{Machine, StepFail};
 use fm_native::native;
@@ -39,24 +38,13 @@ pub fn row_of(program: &Program, m: MethodId) -> Option<u16>
     }
 }
 
-// The words of a receiver and of values of these kinds.
-fn words_after_receiver(kinds: &[Kind]) -> usize
-    ensures { result ≡ sum_by kind_words kinds.now + 1 }
-{
-    let mut words = 1;
-    for kind in kinds {
-        words += kind_words(*kind);
-    }
-    words
-}
-
 /// The words of the arguments of a method with those of the receiver. Takes no memory.
 #[inline]
 pub fn words_with_receiver(program: &Program, m: MethodId) -> usize
     requires { m.0 < length (methods_of program.now.outline.classes) }
     ensures { result ≡ words_of_arguments program.now.outline m.0 + 1 }
 {
-    words_after_receiver(program.method(m).params.as_slice())
+    Kind::words_of(program.method(m).params.as_slice()) + 1
 }
 
 /// Enters a method whose arguments, with the receiver, are `words` words: a built-in one does its

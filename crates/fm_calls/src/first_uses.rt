@@ -12,15 +12,15 @@ ghost use Rattle.fm_frames.specs.States.{word_at};
 ghost use Rattle.fm_frames.specs.Steps.{stack_of};
 ghost use Rattle.fm_frames.specs.inner.Doings.{CanStep};
 ghost use Rattle.fm_frames.specs.inner.Places.{IsOfKind};
-ghost use Rattle.fm_world.specs.Descriptors.{kind_words};
+ghost use Rattle.fm_base.specs.Kinds.{kind_words};
 ghost use Rattle.fm_world.specs.Members.{fields_of, methods_of};
 ghost use Rattle.fm_world.specs.declared.uses.Use.TheVariants as used;
 
 use crate::starts::start;
 use fm_base::{FieldId, MethodId, NoMemory, TypeId};
-use fm_cells::Memory;
-use fm_exec::{argument_words, class_of_type, give, kind_words};
-use fm_frames::{Machine, object_words, pack_of};
+use fm_cells::{Memory, object_words};
+use fm_exec::{argument_words, class_of_type, give};
+use fm_frames::{Machine, pack_of};
 use fm_world::Program;
 use std::alloc::Global;
 
@@ -94,7 +94,7 @@ pub fn put_static<M: Memory>(
         (put_static_effect program.now.outline (used.OfField f named))) }
 {
     let field = program.field(f);
-    let words = kind_words(field.kind);
+    let words = field.kind.words();
     if !start(alloc, machine, program, field.class, 0, 0)? {
         return Ok(());
     }

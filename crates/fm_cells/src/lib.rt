@@ -29,5 +29,5 @@ pub use laws::{
 };
 pub use memories::Memory;
 pub use plain_cells::PlainCells;
-pub use sizes::{cell_words, size_class};
+pub use sizes::{cell_words, object_words, size_class};
 pub use word_cells::WordCells;

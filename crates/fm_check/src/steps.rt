@@ -5,8 +5,7 @@ ghost use Rattle.fm_check.specs.inner.Steps.{GoesOverGuarded, BringsAll, BringsO
 ghost use Rattle.fm_catch.specs.inner.Runs.{IsGuarded};
 ghost use Rattle.fm_walk.specs.inner.Walks.{IsForced, Stands, Untypable, walked};
 ghost use Rattle.fm_known.specs.inner.Tasks.{IsSound, task};
-ghost use Rattle.fm_code.specs.Edges.{falls_through, LeadsTo};
-ghost use Rattle.fm_code.specs.SpellsCode.{targets_of};
+ghost use Rattle.fm_code.specs.Edges.{LeadsTo};
 ghost use Rattle.fm_types.specs.Typings.{type_state};
 
 use crate::carrying::carry_on;
@@ -19,44 +18,14 @@ use fm_types::State;
 use fm_walk::{Walk, state_of};
 use std::alloc::Global;
 
-// Whether control can go on to the item after the instruction.
-fn falls_through(insn: &Insn) -> bool
-    ensures { result ≡ falls_through insn.now }
-{
-    !matches!(
-        insn,
-        Insn::Goto(_) | Insn::Table(..) | Insn::Lookup(..) | Insn::Return(_) | Insn::Throw
-    )
-}
-
 // Whether control can go on past the last item after the instruction of this item.
 fn falls_off(code: &Code, insn: &Insn, item: u32) -> bool
     ensures { result ≡ falls_off code.now insn.now item }
 {
-    if !falls_through(insn) {
+    if !insn.falls_through() {
         return false;
     }
     item as usize + 1 == code.items.len()
-}
-
-// The items that an instruction names as its targets, in its order.
-fn targets_of(alloc: Global, insn: &Insn) -> Result<Vec<u32>, NoMemory>
-    ensures { IfOk result (λ targets. targets.items ≡ targets_of insn.now) }
-{
-    let mut targets = Vec::new(alloc);
-    match insn {
-        Insn::IfInt(_, target)
-        | Insn::IfPair(_, target)
-        | Insn::IfSame(_, target)
-        | Insn::IfNull(_, target)
-        | Insn::Goto(target) => targets.push(*target)?,
-        Insn::Table(_, others, others_of_keys) | Insn::Lookup(others, _, others_of_keys) => {
-            targets.push(*others)?;
-            targets.extend_from_slice(others_of_keys.as_slice())?;
-        }
-        _ => {}
-    }
-    Ok(targets)
 }
 
 /// The items to which the instruction of an item leads.
@@ -64,8 +33,8 @@ pub fn next_items(alloc: Global, insn: &Insn, item: u32) -> Result<Vec<u32>, NoM
     requires { item < 65535 }
     ensures { IfOk result (λ items. items.items ≡ next_items insn.now item) }
 {
-    let mut items = targets_of(alloc, insn)?;
-    if falls_through(insn) {
+    let mut items = insn.targets(alloc)?;
+    if insn.falls_through() {
         items.push(item + 1)?;
     }
     Ok(items)

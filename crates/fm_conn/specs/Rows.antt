@@ -3,16 +3,16 @@ use Rattle.std.specs.Prelude.{ℕ, ◌+◌, Bool, true, false, List, [], ◌∷�
 use Rattle.fm_base.specs.declared.kinds.Kind.{Kind}
 use Rattle.fm_base.specs.declared.kinds.Kind.TheVariants as kind
 use Rattle.fm_code.specs.AccessFlags.{is_static}
+use Rattle.fm_code.specs.StackWords as insns
 use Rattle.fm_code.specs.declared.instructions.Insn.{Insn}
 use Rattle.fm_code.specs.declared.instructions.Insn.TheVariants as insn
-use Rattle.fm_code.specs.declared.operations.Conv.{Conv}
-use Rattle.fm_code.specs.declared.operations.Conv.TheVariants as conv
 use Rattle.fm_code.specs.declared.operations.Elem.{Elem}
 use Rattle.fm_code.specs.declared.operations.Elem.TheVariants as elem
 use Rattle.fm_code.specs.declared.operations.Reg.{Reg}
 use Rattle.fm_code.specs.declared.operations.Reg.TheVariants as reg
 use Rattle.fm_types.specs.Moves.{Moves, moves_of}
-use Rattle.fm_world.specs.Descriptors.{argument_words, kind_words}
+use Rattle.fm_base.specs.Kinds.{kind_words}
+use Rattle.fm_world.specs.Descriptors.{argument_words}
 use Rattle.fm_world.specs.Members.{field_at, field_kind, method_at}
 use Rattle.fm_world.specs.Programs.{Outline}
 use Rattle.fm_world.specs.declared.uses.Use.{Use}
@@ -73,94 +73,9 @@ call_words o u = of_method (method_in u) where
 
 -- ---- the words that are taken: those below them stay
 
--- the words that a store takes (JVMS 6.5.istore and its like)
-abbrev pub taken_to_store : Reg → ℕ
-taken_to_store reg.Int = 1
-taken_to_store reg.Long = 2
-taken_to_store reg.Ref = 1
-
--- the words that a conversion takes (JVMS 6.5.i2l and its like)
-abbrev pub taken_to_convert : Conv → ℕ
-taken_to_convert conv.IntToLong = 1
-taken_to_convert conv.LongToInt = 2
-taken_to_convert conv.IntToByte = 1
-taken_to_convert conv.IntToChar = 1
-taken_to_convert conv.IntToShort = 1
-
--- the words that a store into an array takes: the array, the index and the value (JVMS 6.5.iastore and its like)
-abbrev pub taken_to_put : Elem → ℕ
-taken_to_put elem.Long = 4
-taken_to_put elem.Boolean = 3
-taken_to_put elem.Byte = 3
-taken_to_put elem.Char = 3
-taken_to_put elem.Short = 3
-taken_to_put elem.Int = 3
-taken_to_put elem.Ref = 3
-
--- the words that a return takes (JVMS 6.5.ireturn and its like)
-abbrev pub taken_to_return : Option Reg → ℕ
-taken_to_return None = 0
-taken_to_return (Some r) = taken_to_store r
-
--- the words that a stack move takes
-abbrev pub taken_to_move : Option Moves → ℕ
-taken_to_move None = 0
-taken_to_move (Some m) = m.takes
-
 -- the words that an instruction takes, by what its index names
 unfoldable pub words_taken : Outline → Use → Insn → ℕ
-words_taken o u insn.Nop = 0
-words_taken o u insn.Null = 0
-words_taken o u (insn.Const n) = 0
-words_taken o u (insn.LongConst n) = 0
-words_taken o u (insn.LoadPool index) = 0
-words_taken o u (insn.Load kind local) = 0
-words_taken o u (insn.Store kind local) = taken_to_store kind
-words_taken o u (insn.Inc local by) = 0
-words_taken o u insn.Pop = taken_to_move (moves_of insn.Pop)
-words_taken o u insn.Pop2 = taken_to_move (moves_of insn.Pop2)
-words_taken o u insn.Dup = taken_to_move (moves_of insn.Dup)
-words_taken o u insn.DupX1 = taken_to_move (moves_of insn.DupX1)
-words_taken o u insn.DupX2 = taken_to_move (moves_of insn.DupX2)
-words_taken o u insn.Dup2 = taken_to_move (moves_of insn.Dup2)
-words_taken o u insn.Dup2X1 = taken_to_move (moves_of insn.Dup2X1)
-words_taken o u insn.Dup2X2 = taken_to_move (moves_of insn.Dup2X2)
-words_taken o u insn.Swap = taken_to_move (moves_of insn.Swap)
-words_taken o u (insn.IntOp op) = 2
-words_taken o u (insn.LongOp op) = 4
-words_taken o u insn.IntNeg = 1
-words_taken o u insn.LongNeg = 2
-words_taken o u (insn.IntShift shift) = 2
-words_taken o u (insn.LongShift shift) = 3
-words_taken o u (insn.Convert to) = taken_to_convert to
-words_taken o u insn.LongCompare = 4
-words_taken o u (insn.IfInt test target) = 1
-words_taken o u (insn.IfPair test target) = 2
-words_taken o u (insn.IfSame same target) = 2
-words_taken o u (insn.IfNull null target) = 1
-words_taken o u (insn.Goto target) = 0
-words_taken o u (insn.Table low others targets) = 1
-words_taken o u (insn.Lookup others keys targets) = 1
-words_taken o u (insn.Return value) = taken_to_return value
-words_taken o u insn.Throw = 1
-words_taken o u (insn.New index) = 0
-words_taken o u (insn.GetStatic index) = 0
-words_taken o u (insn.PutStatic index) = field_words o u
-words_taken o u (insn.GetField index) = 1
-words_taken o u (insn.PutField index) = 1 + field_words o u
-words_taken o u (insn.Cast index) = 1
-words_taken o u (insn.IsA index) = 1
-words_taken o u (insn.ArrayLoad e) = 2
-words_taken o u (insn.ArrayStore e) = taken_to_put e
-words_taken o u insn.Length = 1
-words_taken o u (insn.NewArray e) = 1
-words_taken o u (insn.NewRefs index) = 1
-words_taken o u (insn.MultiArray index dimensions) = dimensions
-words_taken o u (insn.Virtual index) = call_words o u
-words_taken o u (insn.Interface index) = call_words o u
-words_taken o u (insn.Special index) = call_words o u
-words_taken o u (insn.Static index) = call_words o u
-words_taken o u (insn.LeftOut opcode) = 0
+words_taken o u i = insns.words_taken (field_words o u) (call_words o u) i
 
 -- ---- what is joined, but for calls
 

@@ -107,7 +107,7 @@ impl ItemNodes<'_> {
             ++ flat_map (stay_pairs self.now.nodes.now (place_of self.now))
             (following (place_of self.now))) }
     {
-        if falls_through(self.insn) {
+        if self.insn.falls_through() {
             self.push_stays(pairs, self.item + 1)?;
         }
         Ok(())
@@ -200,14 +200,4 @@ fn push_field(
         push_pair(pairs, a, b)?;
     }
     Ok(())
-}
-
-// Whether control can go on to the item after the instruction.
-fn falls_through(insn: &Insn) -> bool
-    ensures { result ≡ falls_through insn.now }
-{
-    !matches!(
-        insn,
-        Insn::Goto(_) | Insn::Table(..) | Insn::Lookup(..) | Insn::Return(_) | Insn::Throw
-    )
 }

@@ -6,7 +6,6 @@ ghost use Rattle.fm_conn.specs.Pairs.{call_of, call_with, use_at};
 ghost use Rattle.fm_conn.specs.inner.PairLists.{method_in};
 ghost use Rattle.fm_types.specs.Named.{class_of_method};
 ghost use Rattle.fm_world.specs.Members.{methods_of};
-ghost use Rattle.fm_world.specs.Uses.{operand_of};
 
 use fm_base::{ClassId, MethodId};
 use fm_code::{Code, Insn};
@@ -37,7 +36,7 @@ impl Method<'_> {
         requires { self.now.number.0 < length (methods_of self.now.program.now.outline.classes) }
         ensures { result ≡ use_at (method_in self.now) insn.now }
     {
-        match operand_of(insn) {
+        match insn.pool_index() {
             Some(index) => self.program.use_of(self.class(), index),
             None => Use::Unused,
         }
@@ -76,28 +75,5 @@ impl Method<'_> {
             method,
             caller: self.class(),
         })
-    }
-}
-
-// The index of the pool that an instruction names.
-fn operand_of(insn: &Insn) -> Option<u16>
-    ensures { result ≡ operand_of insn.now }
-{
-    match insn {
-        Insn::LoadPool(index)
-        | Insn::GetStatic(index)
-        | Insn::PutStatic(index)
-        | Insn::GetField(index)
-        | Insn::PutField(index)
-        | Insn::Virtual(index)
-        | Insn::Special(index)
-        | Insn::Static(index)
-        | Insn::Interface(index)
-        | Insn::New(index)
-        | Insn::NewRefs(index)
-        | Insn::Cast(index)
-        | Insn::IsA(index)
-        | Insn::MultiArray(index, _) => Some(*index),
-        _ => None,
     }
 }

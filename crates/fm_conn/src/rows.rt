@@ -1,13 +1,12 @@
 // How many words an instruction takes off the stack.
 
-ghost use Rattle.std.specs.Prelude.{◌≡◌, ◌<◌, ◌≤◌, ◌*◌, length, sum_by};
-ghost use Rattle.fm_conn.specs.Rows.{call_words, field_words, is_reference_field, is_reference_kind, kind_of_field, taken_to_convert, taken_to_put, taken_to_return, taken_to_store, words_of_call, words_taken};
+ghost use Rattle.std.specs.Prelude.{◌≡◌, ◌<◌, ◌≤◌, length};
+ghost use Rattle.fm_conn.specs.Rows.{call_words, field_words, is_reference_field, is_reference_kind, kind_of_field, words_of_call, words_taken};
 ghost use Rattle.fm_conn.specs.Shapes.{IsUseIn};
-ghost use Rattle.fm_world.specs.Descriptors.{kind_words};
 ghost use Rattle.fm_world.specs.Members.{fields_of, methods_of};
 
 use fm_base::{FieldId, Kind, MethodId};
-use fm_code::{ACC_STATIC, Conv, Elem, Insn, Reg, has_flag};
+use fm_code::{ACC_STATIC, Insn, has_flag};
 use fm_world::{Program, Use};
 
 /// How many words the instruction takes: those below them stay.
@@ -16,81 +15,7 @@ pub fn words_taken(program: &Program, resolved: Use, insn: &Insn) -> usize
     requires { IsUseIn program.now.outline resolved }
     ensures { result ≡ words_taken program.now.outline resolved insn.now }
 {
-    match insn {
-        Insn::Store(kind, _) => taken_to_store(*kind),
-        Insn::Pop
-        | Insn::Dup
-        | Insn::IntNeg
-        | Insn::IfInt(..)
-        | Insn::IfNull(..)
-        | Insn::Table(..)
-        | Insn::Lookup(..)
-        | Insn::Throw
-        | Insn::GetField(_)
-        | Insn::Cast(_)
-        | Insn::IsA(_)
-        | Insn::Length
-        | Insn::NewArray(_)
-        | Insn::NewRefs(_) => 1,
-        Insn::Pop2
-        | Insn::DupX1
-        | Insn::Dup2
-        | Insn::Swap
-        | Insn::IntOp(_)
-        | Insn::LongNeg
-        | Insn::IntShift(_)
-        | Insn::IfPair(..)
-        | Insn::IfSame(..)
-        | Insn::ArrayLoad(_) => 2,
-        Insn::DupX2 | Insn::Dup2X1 | Insn::LongShift(_) => 3,
-        Insn::Dup2X2 | Insn::LongOp(_) | Insn::LongCompare => 4,
-        Insn::Convert(to) => taken_to_convert(*to),
-        Insn::Return(value) => taken_to_return(*value),
-        Insn::PutStatic(_) => field_words(program, resolved),
-        Insn::PutField(_) => 1 + field_words(program, resolved),
-        Insn::ArrayStore(elements) => taken_to_put(*elements),
-        Insn::MultiArray(_, dimensions) => usize::from(*dimensions),
-        Insn::Virtual(_) | Insn::Interface(_) | Insn::Special(_) | Insn::Static(_) => {
-            call_words(program, resolved)
-        }
-        _ => 0,
-    }
-}
-
-fn taken_to_store(kind: Reg) -> usize
-    ensures { result ≡ taken_to_store kind }
-{
-    match kind {
-        Reg::Int | Reg::Ref => 1,
-        Reg::Long => 2,
-    }
-}
-
-fn taken_to_convert(to: Conv) -> usize
-    ensures { result ≡ taken_to_convert to }
-{
-    match to {
-        Conv::LongToInt => 2,
-        _ => 1,
-    }
-}
-
-fn taken_to_return(value: Option<Reg>) -> usize
-    ensures { result ≡ taken_to_return value }
-{
-    match value {
-        Some(kind) => taken_to_store(kind),
-        None => 0,
-    }
-}
-
-fn taken_to_put(elements: Elem) -> usize
-    ensures { result ≡ taken_to_put elements }
-{
-    match elements {
-        Elem::Long => 4,
-        _ => 3,
-    }
+    insn.words_taken(field_words(program, resolved), call_words(program, resolved))
 }
 
 // What values of a field are.
@@ -106,10 +31,10 @@ fn kind_of_field(program: &Program, f: FieldId) -> Kind
 fn field_words(program: &Program, resolved: Use) -> usize
     requires { IsUseIn program.now.outline resolved }
     ensures value { result ≡ field_words program.now.outline resolved }
-    ensures few { result < 3 }
+    ensures few { result ≤ 2 }
 {
     match resolved {
-        Use::OfField(f, _) => kind_words(kind_of_field(program, f)),
+        Use::OfField(f, _) => kind_of_field(program, f).words(),
         _ => 0,
     }
 }
@@ -135,17 +60,6 @@ pub fn is_reference_kind(kind: Kind) -> bool
     }
 }
 
-// The words of a value.
-fn kind_words(kind: Kind) -> usize
-    ensures value { result ≡ kind_words kind }
-    ensures few { result < 3 }
-{
-    match kind {
-        Kind::Long => 2,
-        _ => 1,
-    }
-}
-
 // The words of the arguments of the method that is named, with its receiver.
 fn call_words(program: &Program, resolved: Use) -> usize
     requires { IsUseIn program.now.outline resolved }
@@ -164,22 +78,10 @@ fn words_of_call(program: &Program, m: MethodId) -> usize
     ensures { result ≡ words_of_call program.now.outline m.0 }
 {
     let method = program.method(m);
-    let words = words_of(method.params.as_slice());
+    let words = Kind::words_of(method.params.as_slice());
     if has_flag(method.flags, ACC_STATIC) {
         words
     } else {
         1 + words
     }
-}
-
-// The words of several values.
-fn words_of(kinds: &[Kind]) -> usize
-    ensures value { result ≡ sum_by kind_words kinds.now }
-    ensures few { result ≤ 2 * length kinds.now }
-{
-    let mut words = 0;
-    for kind in kinds {
-        words += kind_words(*kind);
-    }
-    words
 }

@@ -12,7 +12,8 @@ use Rattle.fm_code.specs.declared.class_file.MemberAttr.{MemberAttr}
 use Rattle.fm_code.specs.declared.class_file.MemberAttr.TheVariants as attribute
 use Rattle.fm_code.specs.declared.code_array.Code.{Code}
 use Rattle.fm_code.specs.declared.code_array.Item.{Item}
-use Rattle.fm_world.specs.Uses.{caught_by, class_items, is_used, items_of, operand_of, pool_indices, used_indices, values_of}
+use Rattle.fm_code.specs.Operands.{pool_index}
+use Rattle.fm_world.specs.Uses.{caught_by, class_items, is_used, items_of, pool_indices, used_indices, values_of}
 use Rattle.fm_declare.proofs.Drops.{drop_here}
 use Rattle.fm_declare.specs.inner.Marks.{first_code, marked, operands_in, values_among}
 
@@ -120,10 +121,10 @@ pub caught_some : (m : Member) (code : Code) → code_of m ≡ Some code → cau
 caught_some m code e = rw e refl
 
 pub operands-methods : (methods : List Member)
-    → filter_map (λ (item : Item). operand_of item.insn) (flat_map items_of methods) ≡ flat_map operands_in methods
+    → filter_map (λ (item : Item). pool_index item.insn) (flat_map items_of methods) ≡ flat_map operands_in methods
 operands-methods [] = refl
 operands-methods (m ∷ methods) =
-    filter_map-append (λ (item : Item). operand_of item.insn) (items_of m) (flat_map items_of methods)
+    filter_map-append (λ (item : Item). pool_index item.insn) (items_of m) (flat_map items_of methods)
     ∙ ap (λ is. operands_in m ++ is) (operands-methods methods)
 
 -- ---- all of a class
@@ -143,7 +144,7 @@ pub used_is : (c : ClassDef) (none own superclass interfaces values operands all
     → all ≡ map (is_used c) (pool_indices c)
 unfolding used_indices
 used_is c none own superclass interfaces values operands all s =
-    let ops = filter_map (λ (item : Item). operand_of item.insn) (class_items c) in
+    let ops = filter_map (λ (item : Item). pool_index item.insn) (class_items c) in
     let caught = flat_map caught_by c.methods in
     let vals = flat_map values_of c.fields in
     let start = set (set none c.this_class true) c.super_class true in

@@ -13,7 +13,8 @@ use Rattle.fm_declare.proofs.MarkLemmas.{other_number, same_number}
 use Rattle.fm_declare.specs.declared.wanted.Wanted.{Wanted}
 use Rattle.fm_declare.specs.inner.Wanting.{differs_from, is_something, noted, noted_among, noted_if, wanted_by, wanted_of, with_flag}
 use Rattle.fm_world.specs.Causes.{differs, wanted_at}
-use Rattle.fm_world.specs.Uses.{class_items, items_of, operand_of}
+use Rattle.fm_code.specs.Operands.{pool_index}
+use Rattle.fm_world.specs.Uses.{class_items, items_of}
 
 -- ---- flags one after the other
 
@@ -61,7 +62,7 @@ names_it k (Some operand) = nat_eq operand k
 
 -- the flags that items want at an index
 abbrev flags_at : (Insn → Option Bool) → ℕ → List Item → List Bool
-flags_at flag k items = filter_map (λ item. cond (names_it k (operand_of item.insn)) (flag item.insn) None) items
+flags_at flag k items = filter_map (λ item. cond (names_it k (pool_index item.insn)) (flag item.insn) None) items
 
 nothing_either : (b : Bool) → ◌≡◌ {A = Option Bool} (cond b None None) None
 nothing_either true = refl
@@ -75,7 +76,7 @@ length-noted_if w (Some i) (Some flag) = length-set w i (with_flag (get_or w i n
 pub length-noted_among : (flag : Insn → Option Bool) (w : List Wanted) (items : List Item) → length (noted_among flag w items) ≡ length w
 length-noted_among flag w [] = refl
 length-noted_among flag w (item ∷ items) =
-    length-noted_among flag (noted_if w (operand_of item.insn) (flag item.insn)) items ∙ length-noted_if w (operand_of item.insn) (flag item.insn)
+    length-noted_among flag (noted_if w (pool_index item.insn) (flag item.insn)) items ∙ length-noted_if w (pool_index item.insn) (flag item.insn)
 
 get_or-noted : (w : List Wanted) (k : ℕ) → k < length w → (i : ℕ) (flag : Bool) → (i ≡ k) ⊎ (i ≡ k → ⊥)
     → get_or (noted w i flag) k nothing ≡ with_option (get_or w k nothing) (cond (nat_eq i k) (Some flag) None)
@@ -97,7 +98,7 @@ pub get_or-noted_among : (flag : Insn → Option Bool) (w : List Wanted) (items 
     → get_or (noted_among flag w items) k nothing ≡ with_flags (get_or w k nothing) (flags_at flag k items)
 get_or-noted_among flag w [] k within = refl
 get_or-noted_among flag w (item ∷ items) k within =
-    let o = operand_of item.insn in
+    let o = pool_index item.insn in
     let f = flag item.insn in
     let longer : k < length (noted_if w o f) = let same = length-noted_if w o f in omega (arith, same, within) in
     get_or-noted_among flag (noted_if w o f) items k longer
@@ -130,7 +131,7 @@ noted_all flag c =
 noted_among-append : (flag : Insn → Option Bool) (w : List Wanted) (xs ys : List Item)
     → noted_among flag w (xs ++ ys) ≡ noted_among flag (noted_among flag w xs) ys
 noted_among-append flag w [] ys = refl
-noted_among-append flag w (x ∷ xs) ys = noted_among-append flag (noted_if w (operand_of x.insn) (flag x.insn)) xs ys
+noted_among-append flag w (x ∷ xs) ys = noted_among-append flag (noted_if w (pool_index x.insn) (flag x.insn)) xs ys
 
 -- one method after the other
 pub noted_step : (flag : Insn → Option Bool) (methods : List Member) (i : ℕ) (m : Member) (items : List Item) (old new all : List Wanted)

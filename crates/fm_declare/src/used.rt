@@ -4,34 +4,11 @@ ghost use Rattle.std.specs.Prelude.{◌≡◌, IfOk, map, option_copied, slice_s
 ghost use Rattle.std.specs.List.{flat_map};
 ghost use Rattle.fm_code.specs.Members.{code_of};
 ghost use Rattle.fm_declare.specs.inner.Marks.{first_code, marked, operands_among, operands_in, values_among};
-ghost use Rattle.fm_world.specs.Uses.{caught_by, is_used, items_of, operand_of, pool_indices, values_of};
+ghost use Rattle.fm_world.specs.Uses.{caught_by, is_used, items_of, pool_indices, values_of};
 
 use fm_base::NoMemory;
-use fm_code::{ClassDef, Code, Handler, Insn, Item, Member, MemberAttr};
+use fm_code::{ClassDef, Code, Handler, Item, Member, MemberAttr};
 use std::alloc::Global;
-
-/// The index that an instruction names.
-pub fn operand_of(insn: &Insn) -> Option<u16>
-    ensures { result ≡ operand_of insn.now }
-{
-    match insn {
-        Insn::LoadPool(index) => Some(*index),
-        Insn::GetStatic(index) => Some(*index),
-        Insn::PutStatic(index) => Some(*index),
-        Insn::GetField(index) => Some(*index),
-        Insn::PutField(index) => Some(*index),
-        Insn::Virtual(index) => Some(*index),
-        Insn::Special(index) => Some(*index),
-        Insn::Static(index) => Some(*index),
-        Insn::Interface(index) => Some(*index),
-        Insn::New(index) => Some(*index),
-        Insn::NewRefs(index) => Some(*index),
-        Insn::Cast(index) => Some(*index),
-        Insn::IsA(index) => Some(*index),
-        Insn::MultiArray(index, _) => Some(*index),
-        _ => None,
-    }
-}
 
 /// The code of a method.
 pub fn code_of(method: &Member) -> Option<&Code>
@@ -129,7 +106,7 @@ fn mark_items(used: &mut Vec<bool>, items: &[Item])
     ensures { used.new.items ≡ marked used.old.items (operands_among items.now) }
 {
     for item in items {
-        if let Some(index) = operand_of(&item.insn) {
+        if let Some(index) = item.insn.pool_index() {
             mark(used, index);
         }
     }

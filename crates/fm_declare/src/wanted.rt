@@ -13,7 +13,7 @@ ghost use Rattle.fm_declare.specs.inner.Wanting.{
 };
 ghost use Rattle.fm_world.specs.Causes.{static_field_wanted, static_method_wanted};
 
-use crate::used::{items_of, operand_of};
+use crate::used::items_of;
 use fm_base::NoMemory;
 use fm_code::{ClassDef, Insn, Item};
 use std::alloc::Global;
@@ -100,7 +100,7 @@ fn note_fields(wanted: &mut Vec<Wanted>, items: &[Item])
     for item in items {
         note(
             wanted,
-            operand_of(&item.insn),
+            item.insn.pool_index(),
             static_field_wanted(&item.insn),
         );
     }
@@ -113,7 +113,7 @@ fn note_methods(wanted: &mut Vec<Wanted>, items: &[Item])
     for item in items {
         note(
             wanted,
-            operand_of(&item.insn),
+            item.insn.pool_index(),
             static_method_wanted(&item.insn),
         );
     }

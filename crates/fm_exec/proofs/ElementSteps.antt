@@ -10,7 +10,8 @@ use Rattle.fm_code.specs.declared.operations.Elem.{Elem}
 use Rattle.fm_code.specs.declared.operations.Elem.TheVariants as elem
 use Rattle.fm_exec.proofs.HeldSteps.{held-refused, looks-len, looks-type, refused_as, Seen}
 use Rattle.fm_exec.proofs.Seen.{int-seen}
-use Rattle.fm_frames.specs.ArrayRows.{array_load_effect, array_store_effect, element_kind, element_type, element_words, on_element, put_element, put_reference}
+use Rattle.fm_code.specs.StackWords.{element_words}
+use Rattle.fm_frames.specs.ArrayRows.{array_load_effect, array_store_effect, element_kind, element_type, on_element, put_element, put_reference}
 use Rattle.fm_frames.specs.Effects.{Effect, OfOperand, OfPlace, Put, acting, faulty, loaded, stuck, words}
 use Rattle.fm_frames.specs.Operands.{on_held, on_int, thrown, thrown_null}
 use Rattle.fm_frames.specs.Sights.{looks, Looks, Sight, sights, type_numbered}

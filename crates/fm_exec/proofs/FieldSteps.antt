@@ -27,7 +27,7 @@ use Rattle.fm_frames.specs.Sights.{looks, Looks, Sight, sights, type_numbered}
 use Rattle.fm_frames.specs.Uses.{by_type}
 use Rattle.fm_frames.specs.declared.values.Value.{Value}
 use Rattle.fm_types.specs.Fits.{fits_type}
-use Rattle.fm_world.specs.Descriptors.{kind_words}
+use Rattle.fm_base.specs.Kinds.{kind_words}
 use Rattle.fm_world.specs.Members.{slot_of}
 use Rattle.fm_world.specs.Programs.{field_info, Outline}
 use Rattle.fm_world.specs.declared.uses.Use.TheVariants as used

@@ -5,7 +5,7 @@ use Rattle.fm_base.specs.declared.ids.TypeId.{TypeId}
 use Rattle.fm_base.specs.declared.kinds.TypeRef.{TypeRef}
 use Rattle.fm_code.specs.declared.operations.Reg.{Reg}
 use Rattle.fm_code.specs.declared.operations.Reg.TheVariants as reg
-use Rattle.fm_exec.specs.Steps.{reg_words}
+use Rattle.fm_code.specs.StackWords.{reg_words}
 use Rattle.fm_frames.specs.CallRows.{entered_as, native_of, static_effect, words_of_arguments}
 use Rattle.fm_frames.specs.Effects.{Calls, Make, Returns, going, making, stuck}
 use Rattle.fm_frames.specs.JumpRows.{return_effect}

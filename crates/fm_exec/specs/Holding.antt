@@ -5,7 +5,8 @@ use Rattle.std.specs.Prelude.{◌≡◌, ℕ, ◌+◌, ◌-◌, ◌<◌, ◌^◌
 use Rattle.fm_cells.specs.Objects.{Object}
 use Rattle.fm_cells.specs.Stores.{object_at}
 use Rattle.fm_code.specs.declared.operations.Elem.{Elem}
-use Rattle.fm_frames.specs.ArrayRows.{element_kind, element_words}
+use Rattle.fm_code.specs.StackWords.{element_words}
+use Rattle.fm_frames.specs.ArrayRows.{element_kind}
 use Rattle.fm_frames.specs.ObjectRows.{kind_of_field}
 use Rattle.fm_frames.specs.Sights.{type_numbered}
 use Rattle.fm_frames.specs.States.{ref, State, word_at}
@@ -13,7 +14,7 @@ use Rattle.fm_frames.specs.Steps.{stack_of}
 use Rattle.fm_frames.specs.inner.Places.{element_at, FitsIn, IsOfKind}
 use Rattle.fm_types.specs.ArrayRows.{is_array_of}
 use Rattle.fm_types.specs.Fits.{fits_type}
-use Rattle.fm_world.specs.Descriptors.{kind_words}
+use Rattle.fm_base.specs.Kinds.{kind_words}
 use Rattle.fm_world.specs.Members.{slot_of}
 use Rattle.fm_world.specs.Programs.{Program}
 

@@ -4,7 +4,7 @@ ghost use Rattle.std.specs.Prelude.{◌≡◌, ◌≢◌, ◌<◌, ◌≤◌, �
 ghost use Rattle.fm_code.specs.declared.operations.Elem.TheVariants as elem;
 ghost use Rattle.fm_exec.specs.Holding.{HoldsElements, TakesElement};
 ghost use Rattle.fm_exec.specs.Steps.{seen, Steps};
-ghost use Rattle.fm_frames.specs.ArrayRows.{array_load_effect, array_store_effect, element_kind, element_type, element_words, put_reference};
+ghost use Rattle.fm_frames.specs.ArrayRows.{array_load_effect, array_store_effect, element_kind, element_type, put_reference};
 ghost use Rattle.fm_frames.specs.Effects.{acting, OfOperand, Put};
 ghost use Rattle.fm_frames.specs.Sights.{Looks};
 ghost use Rattle.fm_frames.specs.States.{ref, word_at};
@@ -127,19 +127,6 @@ pub fn array_load<M: Memory>(
     give(machine, 2, kind, value)
 }
 
-/// The words of an element on a stack. Takes no memory.
-#[inline(always)]
-pub fn element_words(e: Elem) -> usize
-    ensures value { result ≡ element_words e }
-    ensures some { 0 < result }
-    ensures few { result ≤ 2 }
-{
-    match e {
-        Elem::Long => 2,
-        _ => 1,
-    }
-}
-
 /// bastore, castore, sastore, iastore and lastore. Takes no memory where it throws nothing.
 #[inline(always)]
 pub fn array_store<M: Memory>(
@@ -153,7 +140,7 @@ pub fn array_store<M: Memory>(
     ensures { OnOk result (Steps program.now M.choose machine.old machine.new
         (array_store_effect program.now.outline e (seen program.now machine.old))) }
 {
-    let words = element_words(e);
+    let words = e.words();
     let Some((cell, head)) = machine.object(words + 1) else {
         return refuse(machine, program, words + 1);
     };

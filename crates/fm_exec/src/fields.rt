@@ -8,7 +8,6 @@ ghost use Rattle.fm_frames.specs.inner.Doings.{CanStep};
 ghost use Rattle.fm_world.specs.Members.{fields_of};
 ghost use Rattle.fm_world.specs.declared.uses.Use.TheVariants as used;
 
-use crate::calls::kind_words;
 use crate::held::{fits_named, give, refuse};
 use fm_base::{FieldId, NoMemory, TypeId};
 use fm_cells::Memory;
@@ -59,7 +58,7 @@ pub fn put_field<M: Memory>(
         (put_field_effect program.now.outline (used.OfField f named) (seen program.now machine.old))) }
 {
     let kind = program.field(f).kind;
-    let words = kind_words(kind);
+    let words = kind.words();
     let Some((cell, head)) = machine.object(words) else {
         return refuse(machine, program, words);
     };

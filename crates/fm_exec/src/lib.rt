@@ -19,11 +19,11 @@ mod shuffles;
 mod throws;
 
 pub use arrays::{array_length, len_of, new_array, new_references};
-pub use calls::{argument_words, kind_words, leave};
+pub use calls::{argument_words, leave};
 pub use casts::{cast, is_instance};
 pub use constants::{int_constant, long_constant, nop, null, text_constant};
 pub use elements::{
-    array_load, array_store, element_kind, element_type, element_words, is_array_of, place_in,
+    array_load, array_store, element_kind, element_type, is_array_of, place_in,
     reference_store,
 };
 pub use fields::{get_field, put_field};

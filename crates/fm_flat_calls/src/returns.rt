@@ -20,11 +20,7 @@ fn returned_words(value: Option<Reg>) -> usize
 {
     match value {
         None => 0,
-        Some(kind) => match kind {
-            Reg::Int => 1,
-            Reg::Long => 2,
-            Reg::Ref => 1,
-        },
+        Some(kind) => kind.words(),
     }
 }
 

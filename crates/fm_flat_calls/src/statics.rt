@@ -10,14 +10,13 @@ ghost use Rattle.fm_frames.specs.States.{word_at};
 ghost use Rattle.fm_frames.specs.Steps.{stack_of};
 ghost use Rattle.fm_frames.specs.inner.Doings.{NextFits};
 ghost use Rattle.fm_frames.specs.inner.Places.{IsOfKind};
-ghost use Rattle.fm_world.specs.Descriptors.{kind_words};
+ghost use Rattle.fm_base.specs.Kinds.{kind_words};
 ghost use Rattle.fm_world.specs.Members.{fields_of};
 ghost use Rattle.fm_world.specs.declared.uses.Use.TheVariants as used;
 
 use crate::entries::are_started;
 use fm_base::{FieldId, Kind, TypeId};
 use fm_cells::Memory;
-use fm_exec::kind_words;
 use fm_flat::{give_wide, push};
 use fm_frames::{Frames, Machine, Value};
 use fm_world::Program;
@@ -85,7 +84,7 @@ pub fn put_static<M: Memory>(
     if !are_started(machine, program, program.display(field.class)) {
         return false;
     }
-    let words = kind_words(field.kind);
+    let words = field.kind.words();
     let Some(value) = frames.operand(words - 1) else {
         return false;
     };

@@ -13,7 +13,7 @@ use Rattle.fm_flat.specs.Flows.{resumed, with_branched}
 use Rattle.fm_flat.specs.Operands.{AsksOfPut, HasInt, HasReference}
 use Rattle.fm_frames.proofs.Acting.{put-done}
 use Rattle.fm_frames.specs.Acts.{Choose, put_value}
-use Rattle.fm_frames.specs.ArrayRows.{element_words}
+use Rattle.fm_code.specs.StackWords.{element_words}
 use Rattle.fm_frames.specs.Effects.{OfOperand, Put, acting}
 use Rattle.fm_frames.specs.States.{Frame, ref, State, word_at}
 use Rattle.fm_frames.specs.Steps.{stack_of}
@@ -21,7 +21,7 @@ use Rattle.fm_frames.specs.declared.values.Value.{Value}
 use Rattle.fm_frames.specs.inner.Doings.{DoesIn, int_in, NextFits}
 use Rattle.fm_frames.specs.inner.Frames.{on_top, stack_in}
 use Rattle.fm_frames.specs.inner.Looks.{look_at, object_in}
-use Rattle.fm_world.specs.Descriptors.{kind_words}
+use Rattle.fm_base.specs.Kinds.{kind_words}
 use Rattle.fm_world.specs.Programs.{Outline, Program}
 
 -- the object that was found is seen by the state with these frames

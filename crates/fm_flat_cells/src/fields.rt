@@ -12,7 +12,7 @@ ghost use Rattle.fm_frames.specs.Sights.{type_numbered};
 ghost use Rattle.fm_frames.specs.inner.Doings.{NextFits};
 ghost use Rattle.fm_frames.specs.inner.Frames.{stack_in};
 ghost use Rattle.fm_types.specs.Fits.{fits_type};
-ghost use Rattle.fm_world.specs.Descriptors.{kind_words};
+ghost use Rattle.fm_base.specs.Kinds.{kind_words};
 ghost use Rattle.fm_world.specs.Members.{fields_of};
 ghost use Rattle.fm_world.specs.declared.uses.Use.TheVariants as used;
 

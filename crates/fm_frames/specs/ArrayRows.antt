@@ -4,6 +4,7 @@ use Rattle.std.specs.List.{flat_map, list_any, range_with_len}
 use Rattle.fm_base.specs.declared.kinds.Base.{Base}
 use Rattle.fm_base.specs.declared.kinds.Kind.{Kind}
 use Rattle.fm_base.specs.declared.kinds.TypeRef.{TypeRef}
+use Rattle.fm_code.specs.StackWords.{element_words}
 use Rattle.fm_code.specs.declared.operations.Elem.{Elem}
 use Rattle.fm_code.specs.declared.operations.Elem.TheVariants as elem
 use Rattle.fm_types.specs.ArrayRows.{is_array_of}
@@ -27,16 +28,6 @@ element_type t = record { dims = t.dims - 1; base = t.base }
 -- the kind of an array's elements: an array of arrays has references
 abbrev pub element_kind : TypeRef → Kind
 element_kind t = kind_with (t.dims - 1) t.base
-
--- the words of an element on a stack
-abbrev pub element_words : Elem → ℕ
-element_words elem.Boolean = 1
-element_words elem.Byte = 1
-element_words elem.Char = 1
-element_words elem.Short = 1
-element_words elem.Int = 1
-element_words elem.Long = 2
-element_words elem.Ref = 1
 
 -- an array of such elements, and a place of it
 abbrev pub on_element : Outline → Elem → List Sight → ℕ → (Looks → ℕ → Effect) → Effect

@@ -3,7 +3,7 @@ use Rattle.std.specs.Prelude.{ℕ, ◌+◌, ◌-◌, pos, List, [], ◌∷◌, c
 use Rattle.fm_base.specs.declared.kinds.Kind.{Kind}
 use Rattle.fm_base.specs.declared.kinds.TypeRef.{TypeRef}
 use Rattle.fm_world.specs.Chains.{is_sub}
-use Rattle.fm_world.specs.Descriptors.{kind_words}
+use Rattle.fm_base.specs.Kinds.{kind_words}
 use Rattle.fm_world.specs.Members.{field_at, field_kind, slot_of}
 use Rattle.fm_world.specs.Programs.{class_of_type, Outline}
 use Rattle.fm_world.specs.declared.uses.Use.{Use}

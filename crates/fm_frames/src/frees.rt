@@ -6,8 +6,7 @@ ghost use Rattle.fm_frames.specs.Acts.{chained, freed};
 ghost use Rattle.fm_frames.specs.inner.Places.{CountsFrees};
 
 use crate::machine::Machine;
-use crate::makes::object_words;
-use fm_cells::{Cell, Freed, Memory};
+use fm_cells::{Cell, Freed, Memory, object_words};
 
 impl<M: Memory> Machine<M> {
     /// Frees the object in a cell, unless it lives for ever; where the cell isn't held all stays as it was.

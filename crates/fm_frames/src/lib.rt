@@ -46,7 +46,6 @@ pub use frames::{Cursor, Frames};
 pub use laws::{law_object_example, law_sum_example};
 pub use looks::Look;
 pub use machine::Machine;
-pub use makes::object_words;
 pub use report::Report;
 pub use starts::{enter_starts, first_field, start_count, start_of};
 pub use texts::text_words;

@@ -21,19 +21,10 @@ use crate::ends::Ended;
 use crate::machine::Machine;
 use crate::values::Value;
 use fm_base::{NoMemory, TypeId, TypeRef};
-use fm_cells::{Cell, MakeFail, Memory, cell_words};
+use fm_cells::{Cell, MakeFail, Memory, cell_words, object_words};
 use fm_world::Program;
 
-/// The words of an object of `len` elements, where a word holds `pack` of them. Takes no memory.
-pub fn object_words(len: u32, pack: u8) -> u32
-    requires len_fits { len < 2 ^ 31 }
-    requires pack_is { IsPack pack }
-    ensures { result ≡ packed_words len pack }
-{
-    2 + (len + (pack as u32 - 1)) / pack as u32
-}
-
-/// The words of the cell of such an object. Takes no memory.
+// The words of the cell of an object of so many elements, where a word holds `pack` of them.
 fn object_cell_words(len: u32, pack: u8) -> u64
     requires len_fits { len < 2 ^ 31 }
     requires pack_is { IsPack pack }

@@ -27,12 +27,11 @@ use crate::elements::read;
 use crate::ends::Ended;
 use crate::frames::Frames;
 use crate::machine::Machine;
-use crate::makes::object_words;
 use crate::starts::{enter_starts, start_count};
 use crate::texts::text_words;
 use crate::values::Value;
 use fm_base::{Base, ClassId, FieldId, Kind, NoMemory, Row, TypeRef, Units};
-use fm_cells::{Cell, Memory};
+use fm_cells::{Cell, Memory, object_words};
 use fm_world::{FieldInfo, Program};
 use std::alloc::Global;
 

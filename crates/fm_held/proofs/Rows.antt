@@ -40,7 +40,7 @@ use Rattle.fm_world.specs.Programs.{class_of_type, Outline}
 use Rattle.fm_world.specs.Uses.{array_of, base_of_elem}
 use Rattle.fm_world.specs.declared.uses.Use.{Use}
 use Rattle.fm_world.specs.declared.uses.Use.TheVariants as resolved
-use Rattle.fm_world.specs.Descriptors.{kind_words}
+use Rattle.fm_base.specs.Kinds.{kind_words}
 use Rattle.fm_base.proofs.ListFacts.{AllByRecursion-append}
 use Rattle.fm_sound.proofs.Opening.{all_flat}
 use Rattle.fm_held.proofs.Acts.{IsFreeing, IsGrowing, own_content}

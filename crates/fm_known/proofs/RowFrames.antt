@@ -14,7 +14,9 @@ use Rattle.fm_base.specs.declared.kinds.TypeRef.{TypeRef}
 use Rattle.fm_known.proofs.StackFrames.{AreLow, clear-less, constant_row-carried, convert_row-carried, follows-equal, IsClear, low-given, low-of, low-push, low-size, low-top, move_of-carried, pushed-carried, Same, taken-low, with_stack, worked-carried, worked_below-carried}
 use Rattle.fm_known.specs.declared.known.Place.{Place}
 use Rattle.fm_known.specs.declared.known.Place.TheVariants as place
-use Rattle.fm_known.specs.inner.Risen.{are_apart, AreCarried, called_words, is_bare, IsCarried, leaves_alone, leaves_local, leaves_word, stored_words, words_taken}
+use Rattle.fm_known.specs.inner.Risen.{are_apart, AreCarried, called_words, is_bare, IsCarried, leaves_alone, leaves_local, leaves_word, words_taken}
+use Rattle.fm_code.specs.StackWords as insns
+use Rattle.fm_code.specs.StackWords.{element_words, reg_words}
 use Rattle.fm_code.specs.declared.instructions.Insn.{Insn}
 use Rattle.fm_code.specs.declared.instructions.Insn.TheVariants as insn
 use Rattle.fm_code.specs.declared.operations.Elem.{Elem}
@@ -152,7 +154,7 @@ store_of reg.Long k s (half ∷ found ∷ stack) = cond (is_long found) (stored_
 
 store_of-carried : (P : Place → Type 0) (v : Place → Slot) (r : Reg) (k : ℕ) (s t : TypeState)
     → ((j : ℕ) → j ≤ k + 1 → k ≤ j + 1 → P (place.Local j) → ⊥) → IsCarried P v s t
-    → (a b : List Slot) → AreLow P v (stored_words r) a b → Follows (IsCarried P v) (store_of r k s a) (store_of r k t b)
+    → (a b : List Slot) → AreLow P v (reg_words r) a b → Follows (IsCarried P v) (store_of r k s a) (store_of r k t b)
 store_of-carried P v reg.Int k s t apart h a [] low = tt
 store_of-carried P v reg.Ref k s t apart h a [] low = tt
 store_of-carried P v reg.Long k s t apart h a [] low = tt
@@ -179,14 +181,14 @@ store_of-carried P v reg.Long k s t apart h (x ∷ w ∷ a) (y ∷ z ∷ b) low 
     (λ e. stored_from-carried P v k (w ∷ slot.Top ∷ []) a b s t apart (omega arith) top.1 h))
 
 store_row-carried : (P : Place → Type 0) (v : Place → Slot) (o : Outline) (r : Reg) (k : ℕ) (s t : TypeState)
-    → ((j : ℕ) → j ≤ k + 1 → k ≤ j + 1 → P (place.Local j) → ⊥) → IsClear P (stored_words r) s
+    → ((j : ℕ) → j ≤ k + 1 → k ≤ j + 1 → P (place.Local j) → ⊥) → IsClear P (reg_words r) s
     → IsCarried P v s t → Follows (IsCarried P v) (store_row o r k s) (store_row o r k t)
 unfolding store_row
 store_row-carried P v o r k s t apart clear h = by_kind r clear where
-  on_stack : (r : Reg) → IsClear P (stored_words r) s → Follows (IsCarried P v) (store_of r k s s.stack) (store_of r k t t.stack)
-  on_stack r clear = store_of-carried P v r k s t apart h s.stack t.stack (low-of P v (stored_words r) s t clear h)
+  on_stack : (r : Reg) → IsClear P (reg_words r) s → Follows (IsCarried P v) (store_of r k s s.stack) (store_of r k t t.stack)
+  on_stack r clear = store_of-carried P v r k s t apart h s.stack t.stack (low-of P v (reg_words r) s t clear h)
 
-  by_kind : (r : Reg) → IsClear P (stored_words r) s → Follows (IsCarried P v) (store_row o r k s) (store_row o r k t)
+  by_kind : (r : Reg) → IsClear P (reg_words r) s → Follows (IsCarried P v) (store_row o r k s) (store_row o r k t)
   by_kind reg.Int clear = on_stack reg.Int clear
   by_kind reg.Long clear = on_stack reg.Long clear
   by_kind reg.Ref clear = on_stack reg.Ref clear
@@ -424,6 +426,38 @@ static_call_row-carried P v o u s t clear h =
     (λ e. worked-carried P v o (argument_words o m) (result_words o m) s t
     (clear-less P (length (argument_words o m)) (length (argument_words o m) + 1) s (omega arith) enough) h))
 
+-- a result has the words of the value that is returned
+result_count : (r : Reg) (k : Kind) → same_reg r (returned_by k) ≡ true → length (stack_slots (k ∷ [])) ≡ reg_words r
+result_count reg.Long kind.Long same = refl
+result_count reg.Long k same = absurd (false≢true same)
+result_count reg.Int kind.Long same = absurd (false≢true same)
+result_count reg.Int k same = refl
+result_count reg.Ref kind.Long same = absurd (false≢true same)
+result_count reg.Ref k same = refl
+
+-- the row of a result that is known
+abbrev return_of : Outline → TypeState → Option Reg → Option Kind → Option TypeState
+return_of o s None None = cond s.built (Some s) None
+return_of o s None (Some k) = None
+return_of o s (Some r) None = None
+return_of o s (Some r) (Some k) = cond (same_reg r (returned_by k)) (worked o (stack_slots (k ∷ [])) [] s) None
+
+return_of-carried : (P : Place → Type 0) (v : Place → Slot) (o : Outline) (s t : TypeState) → IsCarried P v s t
+    → (value : Option Reg) (result : Option Kind) → IsClear P (insns.words_taken 2 0 (insn.Return value)) s
+    → Follows (IsCarried P v) (return_of o s value result) (return_of o t value result)
+return_of-carried P v o s t h None None clear = follows-if (IsCarried P v) s.built t.built (Some s) (Some t) (λ e. h.built ∙ e) (λ e. h)
+return_of-carried P v o s t h None (Some k) clear = tt
+return_of-carried P v o s t h (Some r) None clear = tt
+return_of-carried P v o s t h (Some r) (Some k) clear =
+    follows-if (IsCarried P v) (same_reg r (returned_by k)) (same_reg r (returned_by k)) _ _ (λ e. e)
+    (λ e. worked-carried P v o (stack_slots (k ∷ [])) [] s t (subst (λ n. IsClear P n s) (sym (result_count r k e)) clear) h)
+
+return_row-carried : (P : Place → Type 0) (v : Place → Slot) (o : Outline) (method : ℕ) (value : Option Reg) (s t : TypeState)
+    → IsClear P (insns.words_taken 2 0 (insn.Return value)) s
+    → IsCarried P v s t → Follows (IsCarried P v) (return_row o method value s) (return_row o method value t)
+unfolding return_row
+return_row-carried P v o method value s t clear h = return_of-carried P v o s t h value (result_of o method) clear
+
 -- a value has two words at most
 few_of_kind : (k : Kind) → length (stack_slots (k ∷ [])) ≤ 2
 few_of_kind kind.Boolean = let size : length (stack_slots (kind.Boolean ∷ [])) ≡ 1 = refl in omega (arith, size)
@@ -433,28 +467,6 @@ few_of_kind kind.Short = let size : length (stack_slots (kind.Short ∷ [])) ≡
 few_of_kind kind.Int = let size : length (stack_slots (kind.Int ∷ [])) ≡ 1 = refl in omega (arith, size)
 few_of_kind kind.Long = let size : length (stack_slots (kind.Long ∷ [])) ≡ 2 = refl in omega (arith, size)
 few_of_kind (kind.Ref t) = let size : length (stack_slots (kind.Ref t ∷ [])) ≡ 1 = refl in omega (arith, size)
-
--- the row of a result that is known
-abbrev return_of : Outline → TypeState → Option Reg → Option Kind → Option TypeState
-return_of o s None None = cond s.built (Some s) None
-return_of o s None (Some k) = None
-return_of o s (Some r) None = None
-return_of o s (Some r) (Some k) = cond (same_reg r (returned_by k)) (worked o (stack_slots (k ∷ [])) [] s) None
-
-return_of-carried : (P : Place → Type 0) (v : Place → Slot) (o : Outline) (s t : TypeState) → IsClear P 2 s → IsCarried P v s t
-    → (value : Option Reg) (result : Option Kind)
-    → Follows (IsCarried P v) (return_of o s value result) (return_of o t value result)
-return_of-carried P v o s t clear h None None = follows-if (IsCarried P v) s.built t.built (Some s) (Some t) (λ e. h.built ∙ e) (λ e. h)
-return_of-carried P v o s t clear h None (Some k) = tt
-return_of-carried P v o s t clear h (Some r) None = tt
-return_of-carried P v o s t clear h (Some r) (Some k) =
-    follows-if (IsCarried P v) (same_reg r (returned_by k)) (same_reg r (returned_by k)) _ _ (λ e. e)
-    (λ e. worked-carried P v o (stack_slots (k ∷ [])) [] s t (clear-less P (length (stack_slots (k ∷ []))) 2 s (few_of_kind k) clear) h)
-
-return_row-carried : (P : Place → Type 0) (v : Place → Slot) (o : Outline) (method : ℕ) (value : Option Reg) (s t : TypeState) → IsClear P 2 s
-    → IsCarried P v s t → Follows (IsCarried P v) (return_row o method value s) (return_row o method value t)
-unfolding return_row
-return_row-carried P v o method value s t clear h = return_of-carried P v o s t clear h value (result_of o method)
 
 -- ---- objects, fields and arrays
 
@@ -477,16 +489,16 @@ unfolding get_field_row
 get_field_row-carried P v o u s t clear h =
     follows-on_field (IsCarried P v) o u _ _ (λ field named. worked-carried P v o (slot.Ref named ∷ []) (field_words o field) s t clear h)
 
-few_more : (k : Kind) → length (stack_slots (k ∷ [])) + 1 ≤ 4
+few_more : (k : Kind) → length (stack_slots (k ∷ [])) + 1 ≤ 3
 few_more k = let few = few_of_kind k in omega (arith, few)
 
-put_field_row-carried : (P : Place → Type 0) (v : Place → Slot) (o : Outline) (method : ℕ) (u : Use) (s t : TypeState) → IsClear P 4 s
+put_field_row-carried : (P : Place → Type 0) (v : Place → Slot) (o : Outline) (method : ℕ) (u : Use) (s t : TypeState) → IsClear P 3 s
     → IsCarried P v s t → Follows (IsCarried P v) (put_field_row o method u s) (put_field_row o method u t)
 unfolding put_field_row
 put_field_row-carried P v o method u s t clear h =
     follows-on_field (IsCarried P v) o u _ _
     (λ field named. worked_below-carried P v o (field_words o field) (takes_field o method field named) s t
-    (clear-less P (length (field_words o field) + 1) 4 s (few_more _) clear) h)
+    (clear-less P (length (field_words o field) + 1) 3 s (few_more _) clear) h)
 
 cast_row-carried : (P : Place → Type 0) (v : Place → Slot) (o : Outline) (u : Use) (s t : TypeState) → IsClear P 1 s → IsCarried P v s t
     → Follows (IsCarried P v) (cast_row o u s) (cast_row o u t)
@@ -511,21 +523,21 @@ unfolding array_load_row
 array_load_row-carried P v o e s t clear h =
     worked_below-carried P v o int_word (on_array (is_array_of e) (null_element e) (element_of e)) s t clear h
 
-few_stored : (o : Outline) (e : Elem) → length (stored_element o e ++ int_word) + 1 ≤ 4
-few_stored o elem.Boolean = let size : length (stored_element o elem.Boolean ++ int_word) ≡ 2 = refl in omega (arith, size)
-few_stored o elem.Byte = let size : length (stored_element o elem.Byte ++ int_word) ≡ 2 = refl in omega (arith, size)
-few_stored o elem.Char = let size : length (stored_element o elem.Char ++ int_word) ≡ 2 = refl in omega (arith, size)
-few_stored o elem.Short = let size : length (stored_element o elem.Short ++ int_word) ≡ 2 = refl in omega (arith, size)
-few_stored o elem.Int = let size : length (stored_element o elem.Int ++ int_word) ≡ 2 = refl in omega (arith, size)
-few_stored o elem.Long = let size : length (stored_element o elem.Long ++ int_word) ≡ 3 = refl in omega (arith, size)
-few_stored o elem.Ref = let size : length (stored_element o elem.Ref ++ int_word) ≡ 2 = refl in omega (arith, size)
+stored_count : (o : Outline) (e : Elem) → length (stored_element o e ++ int_word) + 1 ≡ element_words e + 2
+stored_count o elem.Boolean = refl
+stored_count o elem.Byte = refl
+stored_count o elem.Char = refl
+stored_count o elem.Short = refl
+stored_count o elem.Int = refl
+stored_count o elem.Long = refl
+stored_count o elem.Ref = refl
 
-array_store_row-carried : (P : Place → Type 0) (v : Place → Slot) (o : Outline) (e : Elem) (s t : TypeState) → IsClear P 4 s → IsCarried P v s t
+array_store_row-carried : (P : Place → Type 0) (v : Place → Slot) (o : Outline) (e : Elem) (s t : TypeState) → IsClear P (element_words e + 2) s → IsCarried P v s t
     → Follows (IsCarried P v) (array_store_row o e s) (array_store_row o e t)
 unfolding array_store_row
 array_store_row-carried P v o e s t clear h =
     worked_below-carried P v o (stored_element o e ++ int_word) (on_array (is_array_of e) [] (λ t. [])) s t
-    (clear-less P (length (stored_element o e ++ int_word) + 1) 4 s (few_stored o e) clear) h
+    (subst (λ n. IsClear P n s) (sym (stored_count o e)) clear) h
 
 length_row-carried : (P : Place → Type 0) (v : Place → Slot) (o : Outline) (s t : TypeState) → IsClear P 1 s → IsCarried P v s t
     → Follows (IsCarried P v) (length_row o s) (length_row o t)
@@ -604,11 +616,11 @@ row-frames P v o method item news u insn.Dup s t shaped alone plain clear h =
 row-frames P v o method item news u insn.DupX1 s t shaped alone plain clear h =
     move_of-carried P v (record { takes = 2; gives = 0 ∷ 1 ∷ 0 ∷ [] }) s t (omega arith, (omega arith, (omega arith, tt))) clear shaped h
 row-frames P v o method item news u insn.DupX2 s t shaped alone plain clear h =
-    move_of-carried P v (record { takes = 3; gives = 0 ∷ 1 ∷ 2 ∷ 0 ∷ [] }) s t (omega arith, (omega arith, (omega arith, (omega arith, tt)))) (clear-less P 3 4 s (omega arith) clear) shaped h
+    move_of-carried P v (record { takes = 3; gives = 0 ∷ 1 ∷ 2 ∷ 0 ∷ [] }) s t (omega arith, (omega arith, (omega arith, (omega arith, tt)))) clear shaped h
 row-frames P v o method item news u insn.Dup2 s t shaped alone plain clear h =
     move_of-carried P v (record { takes = 2; gives = 0 ∷ 1 ∷ 0 ∷ 1 ∷ [] }) s t (omega arith, (omega arith, (omega arith, (omega arith, tt)))) clear shaped h
 row-frames P v o method item news u insn.Dup2X1 s t shaped alone plain clear h =
-    move_of-carried P v (record { takes = 3; gives = 0 ∷ 1 ∷ 2 ∷ 0 ∷ 1 ∷ [] }) s t (omega arith, (omega arith, (omega arith, (omega arith, (omega arith, tt))))) (clear-less P 3 4 s (omega arith) clear) shaped h
+    move_of-carried P v (record { takes = 3; gives = 0 ∷ 1 ∷ 2 ∷ 0 ∷ 1 ∷ [] }) s t (omega arith, (omega arith, (omega arith, (omega arith, (omega arith, tt))))) clear shaped h
 row-frames P v o method item news u insn.Dup2X2 s t shaped alone plain clear h =
     move_of-carried P v (record { takes = 4; gives = 0 ∷ 1 ∷ 2 ∷ 3 ∷ 0 ∷ 1 ∷ [] }) s t (omega arith, (omega arith, (omega arith, (omega arith, (omega arith, (omega arith, tt)))))) clear shaped h
 row-frames P v o method item news u insn.Swap s t shaped alone plain clear h =
@@ -622,7 +634,7 @@ row-frames P v o method item news u insn.LongNeg s t shaped alone plain clear h 
 row-frames P v o method item news u (insn.IntShift shift) s t shaped alone plain clear h =
     worked-carried P v o (int_word ++ int_word) int_word s t clear h
 row-frames P v o method item news u (insn.LongShift shift) s t shaped alone plain clear h =
-    worked-carried P v o (int_word ++ long_words) long_words s t (clear-less P 3 4 s (omega arith) clear) h
+    worked-carried P v o (int_word ++ long_words) long_words s t clear h
 row-frames P v o method item news u (insn.Convert conv) s t shaped alone plain clear h = convert_row-carried P v o conv s t clear h
 row-frames P v o method item news u insn.LongCompare s t shaped alone plain clear h =
     worked-carried P v o (long_words ++ long_words) int_word s t clear h

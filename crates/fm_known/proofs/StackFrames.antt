@@ -8,6 +8,7 @@ use Rattle.std.proofs.lemmas.List.{get_or_append_left, get_or_past, get_or_push,
 use Rattle.fm_known.specs.declared.known.Place.{Place}
 use Rattle.fm_known.specs.declared.known.Place.TheVariants as place
 use Rattle.fm_known.specs.inner.Risen.{AreCarried, IsCarried}
+use Rattle.fm_code.specs.StackWords.{conv_words}
 use Rattle.fm_code.specs.declared.operations.Conv.{Conv}
 use Rattle.fm_code.specs.declared.operations.Conv.TheVariants as conv
 use Rattle.fm_types.proofs.StateOrder.{from_below, IsShaped, whole-shaped}
@@ -284,11 +285,11 @@ move_of-carried P v m s t all clear shaped h =
     (λ a b both. follows-if (IsCarried P v) (is_whole a) (is_whole b) _ _ (λ e. whole-shaped a b both.second e)
     (λ e. with_stack P v 0 s t a b h both.first))
 
-pub convert_row-carried : (P : Place → Type 0) (v : Place → Slot) (o : Outline) (c : Conv) (s t : TypeState) → IsClear P 2 s → IsCarried P v s t
+pub convert_row-carried : (P : Place → Type 0) (v : Place → Slot) (o : Outline) (c : Conv) (s t : TypeState) → IsClear P (conv_words c) s → IsCarried P v s t
     → Follows (IsCarried P v) (convert_row o c s) (convert_row o c t)
 unfolding convert_row
-convert_row-carried P v o conv.IntToLong s t clear h = worked-carried P v o int_word long_words s t (clear-less P 1 2 s (omega arith) clear) h
+convert_row-carried P v o conv.IntToLong s t clear h = worked-carried P v o int_word long_words s t clear h
 convert_row-carried P v o conv.LongToInt s t clear h = worked-carried P v o long_words int_word s t clear h
-convert_row-carried P v o conv.IntToByte s t clear h = worked-carried P v o int_word int_word s t (clear-less P 1 2 s (omega arith) clear) h
-convert_row-carried P v o conv.IntToChar s t clear h = worked-carried P v o int_word int_word s t (clear-less P 1 2 s (omega arith) clear) h
-convert_row-carried P v o conv.IntToShort s t clear h = worked-carried P v o int_word int_word s t (clear-less P 1 2 s (omega arith) clear) h
+convert_row-carried P v o conv.IntToByte s t clear h = worked-carried P v o int_word int_word s t clear h
+convert_row-carried P v o conv.IntToChar s t clear h = worked-carried P v o int_word int_word s t clear h
+convert_row-carried P v o conv.IntToShort s t clear h = worked-carried P v o int_word int_word s t clear h

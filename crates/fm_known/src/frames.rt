@@ -2,7 +2,7 @@
 // nor changes it.
 
 ghost use Rattle.std.specs.Prelude.{◌≡◌, All, IfOk, IsTrue};
-ghost use Rattle.fm_known.specs.inner.Risen.{IsLeftAlone, are_apart, called_words, is_bare, leaves_alone, leaves_local, leaves_word, own_words, stored_words, words_taken};
+ghost use Rattle.fm_known.specs.inner.Risen.{IsLeftAlone, are_apart, called_words, is_bare, leaves_alone, leaves_local, leaves_word, words_taken};
 ghost use Rattle.fm_known.specs.inner.Tasks.{IsSound, task};
 ghost use Rattle.fm_rows.specs.Members.{NamesMember};
 ghost use Rattle.fm_types.specs.Typed.{use_by};
@@ -11,7 +11,7 @@ use crate::known::Place;
 use crate::method::{Method, parameter_slots};
 use crate::risen::Rise;
 use fm_base::NoMemory;
-use fm_code::{Insn, Reg};
+use fm_code::Insn;
 use fm_rows::use_in;
 use fm_types::Slot;
 use fm_world::{Program, Use};
@@ -56,64 +56,6 @@ fn leaves_word(insn: &Insn, slot: Slot) -> bool
     }
 }
 
-// The words of a value that is stored.
-fn stored_words(kind: Reg) -> usize
-    ensures { result ≡ stored_words kind }
-{
-    match kind {
-        Reg::Long => 2,
-        _ => 1,
-    }
-}
-
-// The words of the stack that the row of the instruction takes at most, where neither a method nor
-// dimensions determine it.
-fn own_words(insn: &Insn) -> usize
-    ensures { result ≡ own_words insn.now }
-{
-    match insn {
-        Insn::Nop
-        | Insn::Null
-        | Insn::Const(_)
-        | Insn::LongConst(_)
-        | Insn::LoadPool(_)
-        | Insn::Load(..)
-        | Insn::Inc(..)
-        | Insn::Goto(_)
-        | Insn::New(_)
-        | Insn::GetStatic(_) => 0,
-        Insn::Store(kind, _) => stored_words(*kind),
-        Insn::Pop
-        | Insn::Dup
-        | Insn::IntNeg
-        | Insn::IfInt(..)
-        | Insn::IfNull(..)
-        | Insn::Table(..)
-        | Insn::Lookup(..)
-        | Insn::Throw
-        | Insn::GetField(_)
-        | Insn::Cast(_)
-        | Insn::IsA(_)
-        | Insn::Length
-        | Insn::NewArray(_)
-        | Insn::NewRefs(_) => 1,
-        Insn::Pop2
-        | Insn::Dup2
-        | Insn::DupX1
-        | Insn::Swap
-        | Insn::IntOp(_)
-        | Insn::IntShift(_)
-        | Insn::LongNeg
-        | Insn::Convert(_)
-        | Insn::IfPair(..)
-        | Insn::IfSame(..)
-        | Insn::Return(_)
-        | Insn::PutStatic(_)
-        | Insn::ArrayLoad(_) => 2,
-        _ => 4,
-    }
-}
-
 // The words of the arguments of the method that is named, and of a receiver.
 fn called_words(alloc: Global, program: &Program, resolved: Use) -> Result<usize, NoMemory>
     requires { NamesMember program.now.outline resolved }
@@ -133,7 +75,6 @@ pub fn words_taken(alloc: Global, method: &Method<'_>, insn: &Insn) -> Result<us
         (use_by (task method.now).program (task method.now).number insn.now) insn.now) }
 {
     match insn {
-        Insn::MultiArray(_, dimensions) => Ok(usize::from(*dimensions)),
         Insn::Virtual(index)
         | Insn::Special(index)
         | Insn::Static(index)
@@ -141,7 +82,7 @@ pub fn words_taken(alloc: Global, method: &Method<'_>, insn: &Insn) -> Result<us
             let resolved = use_in(method.program, method.number, *index);
             called_words(alloc, method.program, resolved)
         }
-        _ => Ok(own_words(insn)),
+        _ => Ok(insn.words_taken(2, 0)),
     }
 }
 

@@ -1,6 +1,6 @@
 // The room that each new item takes.
 
-ghost use Rattle.std.specs.Prelude.{◌≡◌, ◌<◌, ◌^◌, length, slice_index};
+ghost use Rattle.std.specs.Prelude.{◌≡◌, ◌<◌, ◌^◌, length};
 ghost use Rattle.std.specs.Option.{option_copied};
 ghost use Rattle.fm_code.specs.InstructionTable.{padding_at};
 ghost use Rattle.fm_layout.specs.Laid.{item_count};
@@ -12,7 +12,7 @@ ghost use Rattle.fm_layout.specs.inner.Weights.{AreShort, IsShortIfSome};
 
 use crate::new_items::NewItem;
 use fm_code::opcodes::GOTO_W;
-use fm_code::{Insn, Item, Reg, Test};
+use fm_code::{Insn, Item, Reg, Test, number_at};
 
 /// The bytes of a branch whose distance has two bytes.
 pub const SHORT_JUMP_BYTES: u32 = 3;
@@ -224,16 +224,6 @@ impl Branch {
             None => GOTO_W_BYTES,
             Some(_) => SHORT_JUMP_BYTES + GOTO_W_BYTES,
         }
-    }
-}
-
-/// The number at an index of a list, and 0 after the last one.
-pub(crate) fn number_at(numbers: &[u32], index: u32) -> u32
-    ensures { result ≡ slice_index numbers.now index }
-{
-    match numbers.get(index as usize) {
-        Some(number) => *number,
-        None => 0,
     }
 }
 

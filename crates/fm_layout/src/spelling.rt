@@ -1,18 +1,17 @@
 // The bytes of laid items (JVMS 6.5).
 
-ghost use Rattle.std.specs.Prelude.{◌≡◌, ◌<◌, ◌≤◌, [], ◌∷◌, ◌++◌, IfOk, OnOk, drop, map, slice_index, take};
+ghost use Rattle.std.specs.Prelude.{◌≡◌, ◌<◌, ◌≤◌, [], ◌∷◌, ◌++◌, IfOk, OnOk, drop, take};
 ghost use Rattle.std.specs.List.{flat_map};
 ghost use Rattle.std.specs.Option.{option_copied};
 ghost use Rattle.fm_code.specs.Numbers.{signed_four};
-ghost use Rattle.fm_code.specs.SpellsCode.{with_targets};
 ghost use Rattle.fm_code.specs.declared.code_array.TheConstants.{MAX_CODE_BYTES};
 ghost use Rattle.fm_layout.specs.Laid.{goto_w_item, moved_item, short_item};
 ghost use Rattle.fm_layout.specs.Spelling.{conditional, distance, inserted_bytes, int_opcode, jump_bytes, local_bytes, long_jump, lookup_bytes, moved_bytes, new_padding, opcode_of_condition, opposite, opposite_test, pair_bytes, pair_opcode, plain_bytes, short_jump, switch_head, table_bytes};
 ghost use Rattle.fm_layout.specs.inner.Weights.{AreOffsetsWithin};
 
-use crate::rooms::{Condition, number_at, padding_at};
+use crate::rooms::{Condition, padding_at};
 use fm_base::NoMemory;
-use fm_code::{Insn, InsnBytes, Item, Reg, SwitchList, Test, opcodes, put_u16, put_u32};
+use fm_code::{Insn, InsnBytes, Item, Reg, Test, number_at, opcodes, put_u16, put_u32};
 use std::alloc::Global;
 
 /// The distance from one offset to another.
@@ -379,45 +378,6 @@ fn moved_bytes(
     }
 }
 
-/// The numbers of laid items for targets that are new items.
-fn moved_targets(
-    alloc: Global,
-    firsts: &[u32],
-    targets: &[u32],
-) -> Result<SwitchList<u32>, NoMemory>
-    ensures { IfOk result (λ list. list ≡ map (slice_index firsts.now) targets.now) }
-{
-    let mut numbers = Vec::with_capacity(alloc, targets.len())?;
-    for target in targets {
-        numbers.push(number_at(firsts, *target))?;
-    }
-    SwitchList::new(alloc, numbers)
-}
-
-/// The instruction with laid items for targets.
-fn moved_insn(alloc: Global, firsts: &[u32], insn: &Insn) -> Result<Insn, NoMemory>
-    ensures { IfOk result (λ moved. moved ≡ with_targets (slice_index firsts.now) insn.now) }
-{
-    match insn {
-        Insn::IfInt(test, target) => Ok(Insn::IfInt(*test, number_at(firsts, *target))),
-        Insn::IfPair(test, target) => Ok(Insn::IfPair(*test, number_at(firsts, *target))),
-        Insn::IfSame(same, target) => Ok(Insn::IfSame(*same, number_at(firsts, *target))),
-        Insn::IfNull(null, target) => Ok(Insn::IfNull(*null, number_at(firsts, *target))),
-        Insn::Goto(target) => Ok(Insn::Goto(number_at(firsts, *target))),
-        Insn::Table(low, others, targets) => {
-            let others = number_at(firsts, *others);
-            let targets = moved_targets(alloc, firsts, targets)?;
-            Ok(Insn::Table(*low, others, targets))
-        }
-        Insn::Lookup(others, keys, targets) => {
-            let others = number_at(firsts, *others);
-            let targets = moved_targets(alloc, firsts, targets)?;
-            Ok(Insn::Lookup(others, keys.copy(alloc)?, targets))
-        }
-        insn => insn.copy(alloc),
-    }
-}
-
 /// An item at an offset that is no branch of two bytes.
 pub(crate) fn moved_item(
     alloc: Global,
@@ -435,6 +395,6 @@ pub(crate) fn moved_item(
     Ok(Item {
         offset: start,
         bytes: moved_bytes(alloc, starts, start, kept, insn)?,
-        insn: moved_insn(alloc, firsts, insn)?,
+        insn: insn.with_targets(alloc, firsts)?,
     })
 }

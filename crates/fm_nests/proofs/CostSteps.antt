@@ -42,7 +42,7 @@ use Rattle.fm_world.specs.Numbers.{text_number}
 use Rattle.fm_world.specs.Programs.{code_at, Outline, Program}
 use Rattle.fm_world.specs.declared.declarations.Constant.{Constant}
 use Rattle.fm_world.specs.declared.declarations.Constant.TheVariants as constant
-use Rattle.fm_world.specs.Uses.{operand_of}
+use Rattle.fm_code.specs.Operands.{pool_index}
 use Rattle.fm_world.specs.declared.uses.Use.{Use}
 use Rattle.fm_world.specs.declared.uses.Use.TheVariants as used
 
@@ -202,7 +202,7 @@ pub cost-cheap : (p : Program) (x : State) (f : Frame) (callers : List Frame) (i
 cost-cheap p x f callers i runnable is at other =
     let own : IsCheap p.outline (effect_by p x f (Some i)) =
     insn-cheap p.outline (sights p.outline x.areas.store f.stack) f.method i (use_by p f.method i) (slice_get x.input 0)
-    (index-inside p f.method (operand_of i) runnable) other in
+    (index-inside p f.method (pool_index i) runnable) other in
     let cheap = start-cheap p.outline x.areas.started (effect_by p x f (Some i)) own in
     let few = cheap.few in
     let told = cost-at p x f callers (Some i) is at in
@@ -325,7 +325,7 @@ by-nest : (p : Program) (x : State) (f : Frame) (i : Insn) (found : Option (ℕ 
 by-nest p x f i None runnable is =
     let own : IsCheap p.outline (effect_by p x f (Some i)) =
     insn-cheap p.outline (sights p.outline x.areas.store f.stack) f.method i (use_by p f.method i) (slice_get x.input 0)
-    (index-inside p f.method (operand_of i) runnable) is in
+    (index-inside p f.method (pool_index i) runnable) is in
     let cheap = start-cheap p.outline x.areas.started (effect_by p x f (Some i)) own in cheap.made
 by-nest p x f (insn.MultiArray index dimensions) (Some nest) runnable is = nest-insn-made p x f index dimensions
 by-nest p x f other (Some nest) runnable is = absurd (none-some nest is)

@@ -44,7 +44,7 @@ use Rattle.fm_world.specs.declared.uses.Use.{Use}
 use Rattle.fm_world.specs.declared.uses.Use.TheVariants as resolved
 use Rattle.fm_frames.specs.Runnable.{IsUseIn}
 use Rattle.fm_nests.specs.inner.Costs.{nest_of}
-use Rattle.fm_world.specs.Descriptors.{kind_words}
+use Rattle.fm_base.specs.Kinds.{kind_words}
 
 -- no object is made that lives for ever, but for literals of texts that are there
 abbrev pub IsMade : Outline → Action → Type 0

@@ -7,9 +7,9 @@ ghost use Rattle.fm_frames.specs.Steps.{most_words};
 ghost use Rattle.fm_nests.specs.inner.Nests.{CanNest, Nests, nest_words};
 
 use fm_base::{Kind, NoMemory, TypeRef};
-use fm_cells::{Cell, Memory};
+use fm_cells::{Cell, Memory, object_words};
 use fm_exec::element_type;
-use fm_frames::{Machine, Value, object_words, pack_of, type_id};
+use fm_frames::{Machine, Value, pack_of, type_id};
 use fm_world::Program;
 
 /// The words of arrays of arrays of these lengths, at most the greatest 64-bit number.

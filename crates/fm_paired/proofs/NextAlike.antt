@@ -25,7 +25,7 @@ use Rattle.fm_world.specs.BuiltIns.{built_in}
 use Rattle.fm_world.specs.Members.{field_at, methods_of}
 use Rattle.fm_world.specs.Numbers.{text_number}
 use Rattle.fm_world.specs.Programs.{Outline, Program}
-use Rattle.fm_world.specs.Uses.{operand_of}
+use Rattle.fm_code.specs.Operands.{pool_index}
 use Rattle.fm_world.specs.declared.declarations.Constant.{Constant}
 use Rattle.fm_world.specs.declared.declarations.Constant.TheVariants as constant
 use Rattle.fm_world.specs.declared.uses.Use.{Use}
@@ -139,7 +139,7 @@ module _ (p : Program) (typings : Typings) (typed : AreTyped p typings) (ready :
       (has_row o ready.calls.runnable.given ready.calls.runnable.classes target (native_early target row native) row native).free free
 
   used_inside : (i : Insn) → IsUseIn o (use_by p f.method i)
-  used_inside i = by_index (operand_of i) where
+  used_inside i = by_index (pool_index i) where
     by_index : (index : Option ℕ) → IsUseIn o (used_at p f.method index)
     by_index None = tt
     by_index (Some index) = ready.calls.runnable.uses (class_of_method o f.method) index

@@ -27,7 +27,7 @@ use Rattle.fm_types.specs.ArrayRows.{is_array_of}
 use Rattle.fm_types.specs.Named.{class_of_method, throwable_type}
 use Rattle.fm_world.specs.Causes.{static_field_wanted}
 use Rattle.fm_world.specs.Chains.{is_sub}
-use Rattle.fm_world.specs.Descriptors.{kind_words}
+use Rattle.fm_base.specs.Kinds.{kind_words}
 use Rattle.fm_world.specs.Lookups.{select, special_target}
 use Rattle.fm_world.specs.Members.{method_at, slot_of}
 use Rattle.fm_world.specs.Programs.{class_of_type, Outline}

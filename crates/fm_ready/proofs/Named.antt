@@ -31,7 +31,7 @@ use Rattle.fm_types.specs.Typed.{after_item, FitsAt, IsTypingOf, made_at, MeetsI
 use Rattle.fm_types.specs.declared.slots.Slot.TheVariants as slot
 use Rattle.fm_world.specs.Numbers.{type_of_class}
 use Rattle.fm_world.specs.Programs.{code_at, Outline, Program}
-use Rattle.fm_world.specs.Uses.{operand_of}
+use Rattle.fm_code.specs.Operands.{pool_index}
 use Rattle.fm_world.specs.declared.uses.Use.{Use}
 use Rattle.fm_world.specs.declared.uses.Use.TheVariants as resolved
 
@@ -43,7 +43,7 @@ index_inside p can method (Some index) = can.steps.calls.runnable.uses (class_of
 
 -- what is named has a number
 pub use_inside : (p : Program) (x : State) (i : Insn) (u : Use) → CanRun p → IsNext p x i u → IsUseIn p.outline u
-use_inside p x i u can next = subst (λ w. IsUseIn p.outline w) next.use_is (index_inside p can next.frame.method (operand_of i))
+use_inside p x i u can next = subst (λ w. IsUseIn p.outline w) next.use_is (index_inside p can next.frame.method (pool_index i))
 
 -- a text that is named has a place for its literal
 pub literal_inside : (p : Program) (x : State) (i : Insn) (text : ℕ) → CanRun p → IsGoing p x → IsNext p x i (resolved.OfText text)

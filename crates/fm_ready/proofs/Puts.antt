@@ -22,7 +22,8 @@ use Rattle.fm_code.specs.declared.instructions.Insn.TheVariants as insn
 use Rattle.fm_code.specs.declared.operations.Elem.{Elem}
 use Rattle.fm_code.specs.declared.operations.Elem.TheVariants as elem
 use Rattle.fm_exec.specs.Holding.{TakesElement, TakesField}
-use Rattle.fm_frames.specs.ArrayRows.{element_kind, element_words}
+use Rattle.fm_code.specs.StackWords.{element_words}
+use Rattle.fm_frames.specs.ArrayRows.{element_kind}
 use Rattle.fm_frames.specs.Elements.{int_bits, is_text_type, kept, pack_of, pack_of_base}
 use Rattle.fm_frames.specs.ObjectRows.{kind_of_field}
 use Rattle.fm_frames.specs.Sights.{type_numbered}
@@ -53,7 +54,8 @@ use Rattle.fm_types.specs.Rows.{row_after}
 use Rattle.fm_types.specs.States.{stack_slots, taken, worked, worked_below}
 use Rattle.fm_types.specs.declared.slots.Slot.{Slot}
 use Rattle.fm_types.specs.declared.slots.Slot.TheVariants as slot
-use Rattle.fm_world.specs.Descriptors.{kind_with, kind_words}
+use Rattle.fm_base.specs.Kinds.{kind_words}
+use Rattle.fm_world.specs.Descriptors.{kind_with}
 use Rattle.fm_world.specs.Members.{slot_of}
 use Rattle.fm_world.specs.Numbers.{type_of_class}
 use Rattle.fm_world.specs.Programs.{kind_at, Program}

@@ -32,7 +32,7 @@ use Rattle.fm_ready.specs.Ready.{CanRun, is_wanted, IsGoing, IsNext}
 use Rattle.fm_sound.specs.HeldCells.{HoldsCells}
 use Rattle.fm_sound.specs.Making.{ArgumentsFit}
 use Rattle.fm_sound.specs.Sound.{AreTyped, IsSound, Typings}
-use Rattle.fm_world.specs.Descriptors.{kind_words}
+use Rattle.fm_base.specs.Kinds.{kind_words}
 use Rattle.fm_world.specs.Programs.{Program}
 use Rattle.fm_world.specs.declared.uses.Use.{Use}
 use Rattle.fm_world.specs.declared.uses.Use.TheVariants as resolved

@@ -26,7 +26,8 @@ use Rattle.fm_world.specs.Declarations.{constant_at, declared_field, declared_fr
 use Rattle.fm_world.specs.Members.{OwnedField, fields_from, fields_of}
 use Rattle.fm_world.specs.Numbers.{text_number}
 use Rattle.fm_world.specs.Programs.{Outline, class_uses, classes_of, first_value, resolved_at, with_number}
-use Rattle.fm_world.specs.Uses.{caught_by, class_items, is_used, operand_of, pool_indices, used_indices, values_of}
+use Rattle.fm_code.specs.Operands.{pool_index}
+use Rattle.fm_world.specs.Uses.{caught_by, class_items, is_used, pool_indices, used_indices, values_of}
 use Rattle.fm_world.specs.declared.declarations.Constant.{Constant}
 use Rattle.fm_world.specs.declared.declarations.Constant.TheVariants as constant
 use Rattle.fm_world.specs.declared.declarations.DeclaredClass.{DeclaredClass}
@@ -49,7 +50,7 @@ values_used : (c : ClassDef) (n : ℕ) → is_among n (flat_map values_of c.fiel
 unfolding used_indices
 values_used c n h =
     let values = flat_map values_of c.fields in
-    let operands = filter_map (λ item. operand_of item.insn) (class_items c) in
+    let operands = filter_map (λ item. pool_index item.insn) (class_items c) in
     let caught = flat_map caught_by c.methods in
     let rest = c.interfaces ++ values ++ operands ++ caught in
     or_right (nat_eq n c.this_class) (nat_eq n c.super_class || is_among n rest) (or_right (nat_eq n c.super_class) (is_among n rest)

@@ -17,7 +17,8 @@ use Rattle.fm_world.specs.Causes.{goes_deep, is_array_name, is_bad_interface, is
 use Rattle.fm_world.specs.Chains.{is_among}
 use Rattle.fm_world.specs.Declarations.{name_at}
 use Rattle.fm_world.specs.Descriptors.{class_number}
-use Rattle.fm_world.specs.Uses.{caught_by, class_items, is_used, operand_of, pool_indices, used_indices, values_of}
+use Rattle.fm_code.specs.Operands.{pool_index}
+use Rattle.fm_world.specs.Uses.{caught_by, class_items, is_used, pool_indices, used_indices, values_of}
 use Rattle.fm_world.specs.declared.declarations.DeclaredClass.{DeclaredClass}
 use Rattle.fm_refuse.proofs.FileNames.{class_numbered}
 use Rattle.fm_refuse.proofs.UsedIndices.{flat_map-kept, indices_from}
@@ -112,13 +113,13 @@ among_append_right x (y ∷ xs) ys e = among_append_right x xs ys (or_right (nat
 pub record IsUnused (c : ClassDef) (index : ℕ) : Type 0 where
   pub superclass : nat_eq index c.super_class ≡ false
   pub interfaces : is_among index c.interfaces ≡ false
-  pub operands : is_among index (filter_map (λ (item : Item). operand_of item.insn) (class_items c)) ≡ false
+  pub operands : is_among index (filter_map (λ (item : Item). pool_index item.insn) (class_items c)) ≡ false
 
 pub unused : (c : ClassDef) (index : ℕ) → is_used c index ≡ false → IsUnused c index
 unfolding used_indices
 unused c index e =
     let values = flat_map values_of c.fields in
-    let operands = filter_map (λ (item : Item). operand_of item.insn) (class_items c) in
+    let operands = filter_map (λ (item : Item). pool_index item.insn) (class_items c) in
     let caught = flat_map caught_by c.methods in
     let rest = is_among index (((c.interfaces ++ values) ++ operands) ++ caught) in
     let after = or_right (nat_eq index c.this_class) (nat_eq index c.super_class || rest) e in

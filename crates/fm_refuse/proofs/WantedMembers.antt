@@ -26,7 +26,8 @@ use Rattle.fm_world.specs.Chains.{is_among}
 use Rattle.fm_world.specs.Lookups.{class_searched, object_number, resolved_field, resolved_method}
 use Rattle.fm_world.specs.Descriptors.{class_number, class_type}
 use Rattle.fm_world.specs.Members.{OwnedField, OwnedMethod, fields_of, methods_of}
-use Rattle.fm_world.specs.Uses.{class_items, is_used, named_member, operand_of, pool_indices}
+use Rattle.fm_code.specs.Operands.{pool_index}
+use Rattle.fm_world.specs.Uses.{class_items, is_used, named_member, pool_indices}
 use Rattle.fm_world.specs.declared.declarations.DeclaredClass.{DeclaredClass}
 use Rattle.fm_refuse.proofs.ParentNames.{unused}
 use Rattle.fm_refuse.proofs.UsedIndices.{flat_map-kept, indices_from}
@@ -72,15 +73,15 @@ or_right true b e = cc
 or_right false b e = e
 
 wanted_none : (wanted : Insn → Option Bool) (index : ℕ) (items : List Item)
-    → is_among index (filter_map (λ (item : Item). operand_of item.insn) items) ≡ false
-    → filter_map (λ (item : Item). cond (names index (operand_of item.insn)) (wanted item.insn) None) items ≡ []
+    → is_among index (filter_map (λ (item : Item). pool_index item.insn) items) ≡ false
+    → filter_map (λ (item : Item). cond (names index (pool_index item.insn)) (wanted item.insn) None) items ≡ []
 wanted_none wanted index [] e = refl
-wanted_none wanted index (item ∷ items) e = go (operand_of item.insn) e (wanted_none wanted index items) where
+wanted_none wanted index (item ∷ items) e = go (pool_index item.insn) e (wanted_none wanted index items) where
   others : List ℕ
-  others = filter_map (λ (i : Item). operand_of i.insn) items
+  others = filter_map (λ (i : Item). pool_index i.insn) items
 
   rest : List Bool
-  rest = filter_map (λ (i : Item). cond (names index (operand_of i.insn)) (wanted i.insn) None) items
+  rest = filter_map (λ (i : Item). cond (names index (pool_index i.insn)) (wanted i.insn) None) items
 
   go : (o : Option ℕ) → is_among index (cons_option o others) ≡ false → (is_among index others ≡ false → rest ≡ [])
       → cons_option (cond (names index o) (wanted item.insn) None) rest ≡ []

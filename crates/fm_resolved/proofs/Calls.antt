@@ -28,7 +28,8 @@ use Rattle.fm_world.specs.Linking.{refused_methods}
 use Rattle.fm_world.specs.Lookups.{resolved_field, resolved_method}
 use Rattle.fm_world.specs.Numbers.{text_number, text_units}
 use Rattle.fm_world.specs.Programs.{classes_of, code_at, field_use, method_use, Outline, outline_of, program_of, type_number_at, uses_of, with_number}
-use Rattle.fm_world.specs.Uses.{class_items, named_member, operand_of}
+use Rattle.fm_code.specs.Operands.{pool_index}
+use Rattle.fm_world.specs.Uses.{class_items, named_member}
 use Rattle.fm_world.specs.declared.declarations.DeclaredClass.{DeclaredClass}
 use Rattle.fm_world.specs.declared.uses.Use.{Use}
 use Rattle.fm_world.specs.declared.uses.Use.TheVariants as resolved
@@ -58,11 +59,11 @@ some_wanted f (x ∷ items) item flag (suc k, within, there) is test none =
       by_first later (Some b) e none = later (fails (test b) (list_any test (filter_map f items)) none).1
 
 pub is_wanted : (wanted : Insn → Option Bool) (c : ClassDef) (index : ℕ) (item : Item) (flag : Bool) → Contains (class_items c) item
-    → operand_of item.insn ≡ Some index
+    → pool_index item.insn ≡ Some index
     → wanted item.insn ≡ Some flag
     → IsWanted flag (wanted_at wanted c index)
 is_wanted wanted c index item flag among named is =
-    some_wanted (λ x. if names index (operand_of x.insn) then wanted x.insn else None) (class_items c) item flag among
+    some_wanted (λ x. if names index (pool_index x.insn) then wanted x.insn else None) (class_items c) item flag among
     (ap (λ o. cond (names index o) (wanted item.insn) None) named ∙ ap (λ b. cond b (wanted item.insn) None) (same_number index) ∙ is)
 
 pub same_flag : (a b : Bool) → differs a b ≡ false → a ≡ b
@@ -177,7 +178,7 @@ pub call_there : (given : List ClassDef) (main : List ℕ) → refused_methods g
     (t : TypeId) (wanted : Bool)
     → code_at (program_of given main) method ≡ Some code
     → insn_of code place ≡ Some i
-    → operand_of i ≡ Some index
+    → pool_index i ≡ Some index
     → use_in (program_of given main) method index ≡ resolved.OfMethod m t
     → static_method_wanted i ≡ Some wanted
     → IsCall given (outline_of given main) code (class_of_method (outline_of given main) method) index m.0 t.0 wanted
@@ -194,7 +195,7 @@ call_there given main none method place code i index m t wanted code_is insn_is 
     let found = item_there c there.member code place i there.among there.code_is insn_is in
     let flags = wanted_at static_method_wanted c index in
     let judged = none_used (missing_method_at classes c) c index (none_of (missing_methods classes) given there.place c none there.file_is) at.within at.used in
-    let is = is_wanted static_method_wanted c index found.item wanted found.among (ap operand_of found.insn_is ∙ operand)
+    let is = is_wanted static_method_wanted c index found.item wanted found.among (ap pool_index found.insn_is ∙ operand)
     (ap static_method_wanted found.insn_is ∙ flag) in
     let right = refused_not (is_wrong_method classes e named.member flags) (refused MissingMethod c (method_text named.member))
     (sym (ap (refused_where (method_refusals classes c index flags)) named.named) ∙ judged) in

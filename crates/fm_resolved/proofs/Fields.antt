@@ -23,7 +23,8 @@ use Rattle.fm_world.specs.Linking.{refused_fields}
 use Rattle.fm_world.specs.Lookups.{resolved_field, resolved_method}
 use Rattle.fm_world.specs.Numbers.{text_number, text_units}
 use Rattle.fm_world.specs.Programs.{classes_of, code_at, field_use, method_use, Outline, outline_of, program_of, type_number_at, uses_of, with_number}
-use Rattle.fm_world.specs.Uses.{named_member, operand_of}
+use Rattle.fm_code.specs.Operands.{pool_index}
+use Rattle.fm_world.specs.Uses.{named_member}
 use Rattle.fm_world.specs.declared.declarations.DeclaredClass.{DeclaredClass}
 use Rattle.fm_world.specs.declared.uses.Use.{Use}
 use Rattle.fm_world.specs.declared.uses.Use.TheVariants as resolved
@@ -138,7 +139,7 @@ pub access_there : (given : List ClassDef) (main : List ℕ) → refused_fields 
     (t : TypeId) (wanted : Bool)
     → code_at (program_of given main) method ≡ Some code
     → insn_of code place ≡ Some i
-    → operand_of i ≡ Some index
+    → pool_index i ≡ Some index
     → use_in (program_of given main) method index ≡ resolved.OfField f t
     → static_field_wanted i ≡ Some wanted
     → IsAccess given (outline_of given main) index f.0 t.0 wanted
@@ -154,7 +155,7 @@ access_there given main none method place code i index f t wanted code_is insn_i
     let found = item_there c there.member code place i there.among there.code_is insn_is in
     let flags = wanted_at static_field_wanted c index in
     let judged = none_used (missing_field_at classes c) c index (none_of (missing_fields classes) given there.place c none there.file_is) at.within at.used in
-    let is = is_wanted static_field_wanted c index found.item wanted found.among (ap operand_of found.insn_is ∙ operand)
+    let is = is_wanted static_field_wanted c index found.item wanted found.among (ap pool_index found.insn_is ∙ operand)
     (ap static_field_wanted found.insn_is ∙ flag) in
     let right = refused_not (is_not_as_wanted (field_flags classes) (resolved_field classes named.member) flags) (refused MissingField c (field_text named.member))
     (sym (ap (refused_where (field_refusals classes c flags)) named.named) ∙ judged) in

@@ -35,7 +35,7 @@ use Rattle.fm_world.specs.Lookups.{field_path, resolved_field}
 use Rattle.fm_world.specs.Members.{field_among, field_at, slot_of}
 use Rattle.fm_world.specs.Numbers.{type_of_class}
 use Rattle.fm_world.specs.Programs.{classes_of, kind_at, Outline, outline_of, program_of}
-use Rattle.fm_world.specs.Uses.{operand_of}
+use Rattle.fm_code.specs.Operands.{pool_index}
 use Rattle.fm_world.specs.declared.declarations.DeclaredClass.{DeclaredClass}
 use Rattle.fm_world.specs.declared.uses.Use.TheVariants as resolved
 
@@ -109,7 +109,7 @@ accessed : (given : List ClassDef) (main : List ℕ) → AllByRecursion HasSpell
     → AreTree (classes_of given)
     → (method : ℕ) (i : Insn) (index : ℕ) (f : FieldId) (t : TypeId) (named of : TypeRef)
     → IsNamed (program_of given main) method i (resolved.OfField f t)
-    → operand_of i ≡ Some index
+    → pool_index i ≡ Some index
     → use_in (program_of given main) method index ≡ resolved.OfField f t
     → static_field_wanted i ≡ Some false
     → slice_get (outline_of given main).types t.0 ≡ Some named

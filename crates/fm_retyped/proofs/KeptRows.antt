@@ -17,7 +17,7 @@ use Rattle.fm_types.specs.States.{int_word, taken, TypeState, worked}
 use Rattle.fm_types.specs.Typed.{use_by}
 use Rattle.fm_types.specs.declared.slots.Slot.{Slot}
 use Rattle.fm_world.specs.Programs.{Outline, Program}
-use Rattle.fm_world.specs.Uses.{operand_of}
+use Rattle.fm_code.specs.Operands.{pool_index}
 use Rattle.fm_world.specs.declared.uses.Use.{Use}
 
 -- what is required of an instruction that keeps another one
@@ -26,7 +26,7 @@ pub record IsSameRow (i kept : Insn) : Type 0 where
       → row_after o method item news u kept s ≡ row_after o method item news u i s
   pub used : (p : Program) (method : ℕ) → use_by p method kept ≡ use_by p method i
   pub made : (p : Program) (method : ℕ) → made_by p method kept ≡ made_by p method i
-  pub operand : operand_of kept ≡ operand_of i
+  pub operand : pool_index kept ≡ pool_index i
 
 target_row : (o : Outline) (method item : ℕ) (news : ℕ → Option TypeRef) (u : Use) (s : TypeState) (f : ℕ → ℕ) (i : Insn)
     → row_after o method item news u (with_targets f i) s ≡ row_after o method item news u i s
@@ -60,7 +60,7 @@ target_made p method f (insn.Table low others targets) = refl
 target_made p method f (insn.Lookup others keys targets) = refl
 target_made p method f i = refl
 
-target_operand : (f : ℕ → ℕ) (i : Insn) → operand_of (with_targets f i) ≡ operand_of i
+target_operand : (f : ℕ → ℕ) (i : Insn) → pool_index (with_targets f i) ≡ pool_index i
 target_operand f (insn.IfInt test target) = refl
 target_operand f (insn.IfPair test target) = refl
 target_operand f (insn.IfSame same target) = refl
@@ -70,7 +70,7 @@ target_operand f (insn.Table low others targets) = refl
 target_operand f (insn.Lookup others keys targets) = refl
 target_operand f i = refl
 
-branch_operand : (c : Condition) (a b : ℕ) → operand_of (conditional (opposite c) a) ≡ operand_of (conditional c b)
+branch_operand : (c : Condition) (a b : ℕ) → pool_index (conditional (opposite c) a) ≡ pool_index (conditional c b)
 branch_operand (condition.Int t) a b = refl
 branch_operand (condition.Pair t) a b = refl
 branch_operand (condition.Same true) a b = refl
@@ -109,7 +109,7 @@ same_row i kept (inl r) = record {
   row = λ o method item news u s. ap (λ x. row_after o method item news u x s) r.is ∙ target_row o method item news u s r.targets i;
   used = λ p method. ap (use_by p method) r.is ∙ target_use p method r.targets i;
   made = λ p method. ap (made_by p method) r.is ∙ target_made p method r.targets i;
-  operand = ap operand_of r.is ∙ target_operand r.targets i;
+  operand = ap pool_index r.is ∙ target_operand r.targets i;
 }
 same_row i kept (inr r) = record {
   row = λ o method item news u s.
@@ -117,7 +117,7 @@ same_row i kept (inr r) = record {
       ∙ sym (ap (λ x. row_after o method item news u x s) r.branch);
   used = λ p method. ap (use_by p method) r.test ∙ branch_use p method r.condition r.other r.target ∙ sym (ap (use_by p method) r.branch);
   made = λ p method. ap (made_by p method) r.test ∙ branch_made p method r.condition r.other r.target ∙ sym (ap (made_by p method) r.branch);
-  operand = ap operand_of r.test ∙ branch_operand r.condition r.other r.target ∙ sym (ap operand_of r.branch);
+  operand = ap pool_index r.test ∙ branch_operand r.condition r.other r.target ∙ sym (ap pool_index r.branch);
 }
 
 -- ---- branches on conditions

@@ -56,7 +56,7 @@ use Rattle.fm_types.specs.declared.slots.Slot.TheVariants as slot
 use Rattle.fm_world.specs.Members.{method_at}
 use Rattle.fm_world.specs.Numbers.{type_of_class}
 use Rattle.fm_world.specs.Programs.{code_at, Outline, Program, program_of}
-use Rattle.fm_world.specs.Uses.{operand_of}
+use Rattle.fm_code.specs.Operands.{pool_index}
 use Rattle.fm_world.specs.declared.uses.Use.TheVariants as resolved
 
 -- ---- lists
@@ -331,7 +331,7 @@ module _ (numbered : ClassTypesAreNumbered) (stand : CodesStand) (given : List C
         let old = Some-from_some_and (insn_of code j) (λ k. IsRetargeted k kept.0 ⊎ IsOpposite k kept.0) kept.2 in
         let same : old.0 ≡ i = same_value (insn_of code j) old.0 i old.1 there in
         insn_use numbered given main plans spelled method code x i kept.0 j (roles.numbers j) new
-        ((same_row old.0 kept.0 old.2).operand ∙ ap operand_of same) there member kept.1
+        ((same_row old.0 kept.0 old.2).operand ∙ ap pool_index same) there member kept.1
 
     frees : (n j h : ℕ) → slice_get roles.roles n ≡ Some (FreeBefore j h) → Frees w
     frees n j h there item news r s =

@@ -35,7 +35,8 @@ use Rattle.fm_types.specs.Typed.{use_by, use_in}
 use Rattle.fm_world.specs.BuiltIns.{built_in}
 use Rattle.fm_world.specs.Chains.{is_among}
 use Rattle.fm_world.specs.Programs.{class_uses, method_use, Outline, outline_of, program_of, resolved_at, use_of}
-use Rattle.fm_world.specs.Uses.{caught_by, class_items, is_used, operand_of, used_indices, values_of}
+use Rattle.fm_code.specs.Operands.{pool_index}
+use Rattle.fm_world.specs.Uses.{caught_by, class_items, is_used, used_indices, values_of}
 use Rattle.fm_world.specs.declared.uses.Use.{Use}
 use Rattle.fm_world.specs.declared.uses.Use.TheVariants as resolved
 use Rattle.fm_written.specs.Changed.{changed}
@@ -43,24 +44,24 @@ use Rattle.fm_written.specs.Changed.{changed}
 -- ---- indices that are used
 
 abbrev operands : List Item → List ℕ
-operands items = filter_map (λ (item : Item). operand_of item.insn) items
+operands items = filter_map (λ (item : Item). pool_index item.insn) items
 
-operand_among : (items : List Item) (item : Item) (index : ℕ) → Contains items item → operand_of item.insn ≡ Some index → is_among index (operands items) ≡ true
+operand_among : (items : List Item) (item : Item) (index : ℕ) → Contains items item → pool_index item.insn ≡ Some index → is_among index (operands items) ≡ true
 operand_among [] item index (k, inside, there) is = absurd (omega (arith, inside))
 operand_among (x ∷ items) item index (zero, inside, there) is =
-    ap (λ o. is_among index (cons_option o (operands items))) (ap (λ (y : Item). operand_of y.insn) there ∙ is) ∙ among_head index (operands items)
+    ap (λ o. is_among index (cons_option o (operands items))) (ap (λ (y : Item). pool_index y.insn) there ∙ is) ∙ among_head index (operands items)
 operand_among (x ∷ items) item index (suc k, inside, there) is =
-    by_option (operand_of x.insn) (operand_among items item index (k, omega (arith, inside), there) is) where
+    by_option (pool_index x.insn) (operand_among items item index (k, omega (arith, inside), there) is) where
       by_option : (o : Option ℕ) → is_among index (operands items) ≡ true → is_among index (cons_option o (operands items)) ≡ true
       by_option None later = later
       by_option (Some n) later = among_later index n (operands items) later
 
-pub used_by_item : (c : ClassDef) (code : Code) → HasMember c.methods (Some code) → (n : ℕ) (i : Insn) (index : ℕ) → insn_of code n ≡ Some i → operand_of i ≡ Some index
+pub used_by_item : (c : ClassDef) (code : Code) → HasMember c.methods (Some code) → (n : ℕ) (i : Insn) (index : ℕ) → insn_of code n ≡ Some i → pool_index i ≡ Some index
     → is_used c index ≡ true
 unfolding used_indices
 used_by_item c code m n i index at named =
     let x = item_there c m.member code n i m.among m.code_is at in
-    let among = operand_among (class_items c) x.item index x.among (ap operand_of x.insn_is ∙ named) in
+    let among = operand_among (class_items c) x.item index x.among (ap pool_index x.insn_is ∙ named) in
     let values = flat_map values_of c.fields in
     let first = operands (class_items c) in
     let caught = flat_map caught_by c.methods in
@@ -218,7 +219,7 @@ module _ (numbered : ClassTypesAreNumbered) (given : List ClassDef) (main : List
       (cases_eq index (free_index x.own))
 
   -- an instruction of both
-  pub insn_use : (i kept : Insn) (j n : ℕ) (new : Code) → operand_of kept ≡ operand_of i → insn_of code j ≡ Some i
+  pub insn_use : (i kept : Insn) (j n : ℕ) (new : Code) → pool_index kept ≡ pool_index i → insn_of code j ≡ Some i
       → HasMember (rewritten_class plans x.start x.own).methods (Some new) → insn_of new n ≡ Some kept
       → use_by (program_of (rewritten plans given) main) method i ≡ use_by (program_of given main) method i
   insn_use i kept j n new same at member new_at =
@@ -226,7 +227,7 @@ module _ (numbered : ClassTypesAreNumbered) (given : List ClassDef) (main : List
       both_use index (used_by_item x.own code x.old j i index at is)
       (used_by_item (rewritten_class plans x.start x.own) new member n kept index new_at (same ∙ is))) where
         by_insn : (i : Insn)
-            → ((index : ℕ) → operand_of i ≡ Some index
+            → ((index : ℕ) → pool_index i ≡ Some index
             → use_in (program_of (rewritten plans given) main) method index ≡ use_in (program_of given main) method index)
             → use_by (program_of (rewritten plans given) main) method i ≡ use_by (program_of given main) method i
         by_insn (insn.LoadPool index) each = each index refl

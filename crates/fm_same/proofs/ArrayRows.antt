@@ -35,7 +35,8 @@ use Rattle.fm_world.specs.Programs.{Outline, Program}
 use Rattle.fm_world.specs.Uses.{array_of}
 use Rattle.fm_world.specs.declared.uses.Use.{Use}
 use Rattle.fm_world.specs.declared.uses.Use.TheVariants as resolved
-use Rattle.fm_frames.specs.ArrayRows.{array_actions, array_load_effect, array_made, array_store_effect, arrays_made, arrays_of, element_kind, element_type, element_words, int_at, ints_at, length_effect, multi_array_effect, new_array_effect, new_references_effect, on_element, put_element, thrown_negative}
+use Rattle.fm_code.specs.StackWords.{element_words}
+use Rattle.fm_frames.specs.ArrayRows.{array_actions, array_load_effect, array_made, array_store_effect, arrays_made, arrays_of, element_kind, element_type, int_at, ints_at, length_effect, multi_array_effect, new_array_effect, new_references_effect, on_element, put_element, thrown_negative}
 use Rattle.fm_frames.specs.Effects.{Action, Make, Put, Effect, OfMade, faulty, making, stuck, words}
 use Rattle.fm_frames.specs.Operands.{thrown, thrown_null}
 use Rattle.fm_frames.specs.Sights.{Looks, Sight}
@@ -93,15 +94,6 @@ load_joins o u elem.Short t v h is = absurd (number_elements elem.Short t v h is
 load_joins o u elem.Int t v h is = absurd (number_elements elem.Int t v h is)
 load_joins o u elem.Long t v h is = absurd (number_elements elem.Long t v h is)
 
-store_taken : (e : Elem) → pairs.taken_to_put e ≡ element_words e + 2
-store_taken elem.Boolean = refl
-store_taken elem.Byte = refl
-store_taken elem.Char = refl
-store_taken elem.Short = refl
-store_taken elem.Int = refl
-store_taken elem.Long = refl
-store_taken elem.Ref = refl
-
 store_top : (o : Outline) (s after : TypeState) → array_store_row o elem.Ref s ≡ Some after
     → (top : slots.Slot) × (slice_get s.stack 0 ≡ Some top) × (is_reference top ≡ true)
 unfolding array_store_row
@@ -137,9 +129,8 @@ module _ (p : Program) (facts : Facts) (exact : AreFacts p facts) (f : Frame) wh
   unfolding pairs.words_taken
   stored_number e h it place passes =
       let i : Insn = insn.ArrayStore e in
-      let count : pairs.taken_to_put e ≡ element_words e + 2 = store_taken e in
       put_obeys p facts exact f i h (λ k. refl) refl (element_words e + 2) (element_words e + 1) place (element_words e - 1) (element_kind it.type)
-      (omega (arith, count)) (λ v is. absurd (number_elements e it.type v passes is))
+      (omega arith) (λ v is. absurd (number_elements e it.type v passes is))
 
   -- where an element is put
   store_by : (e : Elem) (h : AtInsn p facts f (insn.ArrayStore e)) (s : List Sight) (follows : Looks → ℕ → Effect)

@@ -27,7 +27,7 @@ use Rattle.fm_world.specs.Descriptors.{argument_words, parameter_kinds}
 use Rattle.fm_world.specs.Members.{method_at}
 use Rattle.fm_world.specs.Numbers.{type_of_class}
 use Rattle.fm_world.specs.Programs.{class_id, code_at, Outline, Program, targets}
-use Rattle.fm_world.specs.Uses.{operand_of}
+use Rattle.fm_code.specs.Operands.{pool_index}
 use Rattle.fm_world.specs.declared.calls.Call.{Call}
 use Rattle.fm_world.specs.declared.calls.CallKind.{CallKind}
 use Rattle.fm_world.specs.declared.calls.CallKind.TheVariants as kinds
@@ -170,7 +170,7 @@ pub type_there : (o : Outline) (m : MethodId) (t : TypeId) → IsUseIn o (resolv
 type_there o m t inside = (get_or o.types t.0 (type_of_class 0), slice_get-get_or o.types t.0 (type_of_class 0) inside.1)
 
 pub use_there : (p : Program) → IsResolved p → (method : ℕ) (i : Insn) → IsUseIn p.outline (use_by p method i)
-use_there p ready method i = by_index (operand_of i) where
+use_there p ready method i = by_index (pool_index i) where
   by_index : (o : Option ℕ) → IsUseIn p.outline (used_at p method o)
   by_index None = tt
   by_index (Some index) = ready.runnable.uses (class_of_method p.outline method) index

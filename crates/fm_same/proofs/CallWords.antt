@@ -28,7 +28,7 @@ use Rattle.fm_types.proofs.ObjectOrder.{argument_words-whole}
 use Rattle.fm_types.proofs.StateOrder.{Fitting, long_below, other_below, shape_of, whole-append, whole-long, whole-other}
 use Rattle.fm_types.proofs.Zips.{zip-append, zip-length}
 use Rattle.fm_world.specs.Causes.{static_method_wanted}
-use Rattle.fm_world.specs.Descriptors.{kind_words}
+use Rattle.fm_base.specs.Kinds.{kind_words}
 use Rattle.fm_world.specs.Members.{method_at}
 use Rattle.fm_world.specs.Numbers.{type_of_class}
 use Rattle.fm_world.specs.Programs.{Outline}

@@ -23,7 +23,8 @@ use Rattle.fm_types.specs.declared.slots.Slot as slots
 use Rattle.fm_types.specs.declared.slots.Slot.TheVariants as slot
 use Rattle.fm_world.specs.BuiltIns.{built_in, string_name}
 use Rattle.fm_world.specs.Declarations.{no_method}
-use Rattle.fm_world.specs.Descriptors.{argument_words, base_in, class_number, declared_kind, kind_with, kind_words, of_class, parameter_types, result_type}
+use Rattle.fm_base.specs.Kinds.{kind_words}
+use Rattle.fm_world.specs.Descriptors.{argument_words, base_in, class_number, declared_kind, kind_with, of_class, parameter_types, result_type}
 use Rattle.fm_world.specs.Members.{method_at, methods_of, OwnedMethod}
 use Rattle.fm_world.specs.Numbers.{type_of_class}
 use Rattle.fm_world.specs.Programs.{Outline}

@@ -26,7 +26,7 @@ use Rattle.fm_types.specs.States.{is_reference, stack_slots, taken, TypeState}
 use Rattle.fm_types.specs.Typed.{FitsAt}
 use Rattle.fm_types.specs.declared.slots.Slot as slots
 use Rattle.fm_types.specs.declared.slots.Slot.TheVariants as slot
-use Rattle.fm_world.specs.Descriptors.{kind_words}
+use Rattle.fm_base.specs.Kinds.{kind_words}
 use Rattle.fm_world.specs.Members.{slot_of}
 use Rattle.fm_world.specs.Programs.{class_of_type, Outline, Program}
 use Rattle.fm_world.specs.declared.uses.Use.{Use}

@@ -27,7 +27,8 @@ use Rattle.fm_world.specs.Descriptors.{kind_with}
 use Rattle.fm_world.specs.Programs.{Outline}
 use Rattle.fm_world.specs.Uses.{array_of}
 use Rattle.fm_world.specs.declared.uses.Use.{Use}
-use Rattle.fm_frames.specs.ArrayRows.{array_load_effect, array_made, array_store_effect, arrays_of, element_kind, element_type, element_words, ints_at, length_effect, multi_array_effect, new_array_effect, new_references_effect, on_element, put_element, put_reference, thrown_negative}
+use Rattle.fm_code.specs.StackWords.{element_words}
+use Rattle.fm_frames.specs.ArrayRows.{array_load_effect, array_made, array_store_effect, arrays_of, element_kind, element_type, ints_at, length_effect, multi_array_effect, new_array_effect, new_references_effect, on_element, put_element, put_reference, thrown_negative}
 use Rattle.fm_frames.specs.Effects.{Action, Effect, int_word, loaded, Make, making, OfMade, OfPlace, words}
 use Rattle.fm_frames.specs.Operands.{thrown}
 use Rattle.fm_frames.specs.Sights.{Looks, Sight}

@@ -27,7 +27,7 @@ use Rattle.fm_world.specs.Lookups.{is_abstract_method, select, special_target}
 use Rattle.fm_world.specs.Members.{method_at, methods_of}
 use Rattle.fm_world.specs.Numbers.{type_of_class}
 use Rattle.fm_world.specs.Programs.{class_of_type, Outline, Program}
-use Rattle.fm_world.specs.Uses.{operand_of}
+use Rattle.fm_code.specs.Operands.{pool_index}
 use Rattle.fm_world.specs.declared.uses.Use.{Use}
 use Rattle.fm_world.specs.declared.uses.Use.TheVariants as resolved
 use Rattle.fm_frames.specs.Acts.{cell_of}
@@ -148,7 +148,7 @@ used_at p method None = resolved.Unused
 used_at p method (Some index) = use_in p method index
 
 use_there : (p : Program) → CallsAreResolved p → (method : ℕ) (i : Insn) → IsUseIn p.outline (use_by p method i)
-use_there p ready method i = by_index (operand_of i) where
+use_there p ready method i = by_index (pool_index i) where
   by_index : (o : Option ℕ) → IsUseIn p.outline (used_at p method o)
   by_index None = tt
   by_index (Some index) = ready.runnable.uses (class_of_method p.outline method) index

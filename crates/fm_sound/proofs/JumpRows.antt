@@ -11,6 +11,7 @@ use Rattle.fm_base.specs.declared.kinds.Kind.{Kind}
 use Rattle.fm_base.specs.declared.kinds.Kind.TheVariants as kind
 use Rattle.fm_code.specs.Edges.{falls_through}
 use Rattle.fm_code.specs.SpellsCode.{targets_of}
+use Rattle.fm_code.specs.StackWords.{reg_words}
 use Rattle.fm_code.specs.declared.instructions.Insn.{Insn}
 use Rattle.fm_code.specs.declared.instructions.Insn.TheVariants as insn
 use Rattle.fm_code.specs.declared.operations.Reg.{Reg}
@@ -67,11 +68,6 @@ pub few_keys : (keys : List ℤ) (n : ℕ) → length (take n keys) ≤ n
 few_keys keys n = omega (arith, length-take n keys)
 
 -- ---- results
-
-abbrev reg_words : Reg → ℕ
-reg_words reg.Int = 1
-reg_words reg.Long = 2
-reg_words reg.Ref = 1
 
 result_count : (r : Reg) (k : Kind) → same_reg r (returned_by k) ≡ true → length (stack_slots (k ∷ [])) ≡ reg_words r
 result_count reg.Long kind.Long same = refl

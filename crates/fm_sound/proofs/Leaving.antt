@@ -12,7 +12,7 @@ use Rattle.fm_types.specs.Moves.{moved, Moves, words_at}
 use Rattle.fm_types.specs.States.{is_whole, stack_slots, taken, TypeState, worked, worked_below}
 use Rattle.fm_types.specs.declared.slots.Slot.{Slot}
 use Rattle.fm_types.specs.declared.slots.Slot.TheVariants as slot
-use Rattle.fm_world.specs.Descriptors.{kind_words}
+use Rattle.fm_base.specs.Kinds.{kind_words}
 use Rattle.fm_world.specs.Programs.{Outline}
 use Rattle.fm_frames.specs.Acts.{value_of}
 use Rattle.fm_frames.specs.Effects.{Effect, loaded, OfOperand, Source, words}

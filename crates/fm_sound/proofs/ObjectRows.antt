@@ -18,7 +18,7 @@ use Rattle.fm_types.specs.declared.slots.Slot.{Slot}
 use Rattle.fm_types.specs.declared.slots.Slot.TheVariants as slot
 use Rattle.fm_world.specs.Chains.{is_sub}
 use Rattle.fm_world.specs.Declarations.{no_field}
-use Rattle.fm_world.specs.Descriptors.{kind_words}
+use Rattle.fm_base.specs.Kinds.{kind_words}
 use Rattle.fm_world.specs.Members.{field_at, field_kind, fields_of, first_field, instance_slot, OwnedField, slot_of, static_slot}
 use Rattle.fm_world.specs.Programs.{class_of_type, Outline}
 use Rattle.fm_world.specs.declared.uses.Use.{Use}

@@ -21,7 +21,7 @@ use Rattle.fm_types.specs.Fits.{fits_type}
 use Rattle.fm_types.specs.Named.{throwable_type}
 use Rattle.fm_world.specs.Causes.{static_field_wanted}
 use Rattle.fm_world.specs.Chains.{is_sub}
-use Rattle.fm_world.specs.Descriptors.{kind_words}
+use Rattle.fm_base.specs.Kinds.{kind_words}
 use Rattle.fm_world.specs.Lookups.{select}
 use Rattle.fm_world.specs.Members.{slot_of}
 use Rattle.fm_world.specs.Programs.{class_of_type, kind_at, Outline}

@@ -25,7 +25,8 @@ use Rattle.fm_types.specs.States.{is_uninit, is_uninit_this, local_slots, replac
 use Rattle.fm_types.specs.Typed.{after_item, FitsAt, IsTypingOf, made_at, use_by}
 use Rattle.fm_types.specs.declared.slots.Slot.{Slot}
 use Rattle.fm_types.specs.declared.slots.Slot.TheVariants as slot
-use Rattle.fm_world.specs.Descriptors.{kind_words, result_kind}
+use Rattle.fm_base.specs.Kinds.{kind_words}
+use Rattle.fm_world.specs.Descriptors.{result_kind}
 use Rattle.fm_world.specs.Numbers.{type_of_class}
 use Rattle.fm_world.specs.Programs.{Outline, Program}
 use Rattle.fm_world.specs.declared.uses.Use.{Use}

@@ -19,7 +19,7 @@ use Rattle.fm_types.specs.declared.slots.Slot.TheVariants as slot
 use Rattle.fm_world.specs.Members.{method_at}
 use Rattle.fm_world.specs.Numbers.{type_of_class}
 use Rattle.fm_world.specs.Programs.{code_at, Outline, Program, use_of}
-use Rattle.fm_world.specs.Uses.{operand_of}
+use Rattle.fm_code.specs.Operands.{pool_index}
 use Rattle.fm_world.specs.declared.uses.Use.{Use}
 use Rattle.fm_world.specs.declared.uses.Use.TheVariants as resolved
 
@@ -31,7 +31,7 @@ use_in p method index = use_of p (class_of_method p.outline method) index
 
 -- what the index that an instruction names stands for
 abbrev pub use_by : Program → ℕ → Insn → Use
-use_by p method i = of_index (operand_of i) where
+use_by p method i = of_index (pool_index i) where
   of_index : Option ℕ → Use
   of_index None = resolved.Unused
   of_index (Some index) = use_in p method index

@@ -13,7 +13,6 @@ mod laws;
 mod pairs;
 mod planned;
 mod sizes;
-mod targets;
 mod weaving;
 mod woven;
 

@@ -7,7 +7,6 @@ ghost use Rattle.fm_weave.specs.ByPlan.{freed_by, nulls_by, step_by, stored_by, 
 ghost use Rattle.fm_weave.specs.Conditions.{AreLocals, HasRoom};
 
 use crate::pairs::{here, later, local_of};
-use crate::targets::anchored;
 use fm_base::NoMemory;
 use fm_code::{Code, Insn, Item, Reg};
 use fm_layout::NewItem;
@@ -131,7 +130,7 @@ fn put_kept(
     ensures { OnOk result
         (out.new.items ≡ out.old.items ++ kept anchors.now index insn.now ∷ []) }
 {
-    let insn = anchored(alloc, anchors, insn)?;
+    let insn = insn.with_targets(alloc, anchors)?;
     out.push(NewItem {
         insn,
         kept: Some(index),

@@ -23,7 +23,8 @@ use Rattle.fm_world.specs.Programs.{Outline}
 use Rattle.fm_world.specs.Uses.{array_of}
 use Rattle.fm_world.specs.declared.uses.Use.{Use}
 use Rattle.fm_frames.specs.Acts.{cell_of, value_of}
-use Rattle.fm_frames.specs.ArrayRows.{array_load_effect, array_made, array_store_effect, element_kind, element_type, element_words, length_effect, new_array_effect, new_references_effect, on_element, put_element, put_reference, thrown_negative}
+use Rattle.fm_code.specs.StackWords.{element_words}
+use Rattle.fm_frames.specs.ArrayRows.{array_load_effect, array_made, array_store_effect, element_kind, element_type, length_effect, new_array_effect, new_references_effect, on_element, put_element, put_reference, thrown_negative}
 use Rattle.fm_frames.specs.Effects.{Effect, int_word, loaded, Make, making, OfOperand, OfPlace, Source, words}
 use Rattle.fm_frames.specs.Operands.{thrown}
 use Rattle.fm_frames.specs.Sights.{Looks, sight, Sight, sights, Thing}

@@ -27,7 +27,7 @@ use Rattle.fm_types.specs.declared.slots.Slot.TheVariants as slot
 use Rattle.fm_types.proofs.LeastJoins.{same_type-refl}
 use Rattle.fm_types.proofs.Order.{level-fits, type-trans}
 use Rattle.fm_world.specs.Chains.{chain_of, is_among, is_sub}
-use Rattle.fm_world.specs.Descriptors.{kind_words}
+use Rattle.fm_base.specs.Kinds.{kind_words}
 use Rattle.fm_world.specs.Members.{field_at, slot_of}
 use Rattle.fm_world.specs.Numbers.{type_of_class}
 use Rattle.fm_world.specs.Programs.{class_of_type, kind_at, Outline}

@@ -23,7 +23,8 @@ use Rattle.fm_world.specs.Descriptors.{class_in, class_number, class_type, types
 use Rattle.fm_world.specs.Lookups.{is_interface_at, is_abstract_method, resolved_field, resolved_method, select, special_target}
 use Rattle.fm_world.specs.Members.{field_at, method_at, first_method}
 use Rattle.fm_world.specs.Programs.{given_number, main_of}
-use Rattle.fm_world.specs.Uses.{class_items, named_class, named_member, operand_of, uses_in_order}
+use Rattle.fm_code.specs.Operands.{pool_index}
+use Rattle.fm_world.specs.Uses.{class_items, named_class, named_member, uses_in_order}
 
 -- ---- refusals
 
@@ -169,7 +170,7 @@ static_field_wanted i = None
 
 -- what the instructions of a class that name the index want
 abbrev pub wanted_at : (Insn → Option Bool) → ClassDef → ℕ → List Bool
-wanted_at wanted c index = filter_map (λ item. if names_it (operand_of item.insn) then wanted item.insn else None) (class_items c) where
+wanted_at wanted c index = filter_map (λ item. if names_it (pool_index item.insn) then wanted item.insn else None) (class_items c) where
   names_it : Option ℕ → Bool
   names_it None = false
   names_it (Some operand) = operand == index

@@ -1,6 +1,7 @@
 -- Descriptors read from their bytes: the types that they name, and what these are in a list of classes (JVMS 4.3).
 use Rattle.std.specs.Prelude.{ℕ, ◌+◌, ◌-◌, ◌==◌, ◌||◌, List, [], ◌∷◌, ◌++◌, length, take, drop, map, position, Option, Some, None, unwrap_or, option_map, option_and_then, if◌then◌else◌, sum_by}
 use Rattle.std.specs.Str.{bytes_eq}
+use Rattle.fm_base.specs.Kinds.{kind_words}
 use Rattle.fm_base.specs.declared.characters.TheConstants.{BOOLEAN_LETTER, BYTE_LETTER, CHAR_LETTER, CLASS_LETTER, INT_LETTER, LEFT_BRACKET, LEFT_PARENTHESIS, LONG_LETTER, RIGHT_PARENTHESIS, SEMICOLON, SHORT_LETTER}
 use Rattle.fm_base.specs.declared.kinds.Base.{Base}
 use Rattle.fm_base.specs.declared.kinds.Base.TheVariants as base
@@ -115,11 +116,6 @@ kind_in classes t = option_map (kind_with t.dimensions) (base_in classes t.base)
 -- the kind of a declared type, which a linked program has
 abbrev pub declared_kind : List DeclaredClass → FieldType → Kind
 declared_kind classes t = unwrap_or (kind_in classes t) kind.Int
-
--- a long takes two words on a stack and among locals, each other kind one
-abbrev pub kind_words : Kind → ℕ
-kind_words kind.Long = 2
-kind_words k = 1
 
 -- the kinds of a method's parameters
 abbrev pub parameter_kinds : List DeclaredClass → List ℕ → List Kind

@@ -6,6 +6,7 @@ use Rattle.fm_base.specs.declared.kinds.Base.TheVariants as base
 use Rattle.fm_base.specs.declared.kinds.TypeRef.{TypeRef}
 use Rattle.fm_code.specs.ConstantPool.{entry_at, class_name_at, MemberName, field_at, method_at, interface_method_at}
 use Rattle.fm_code.specs.Members.{code_of}
+use Rattle.fm_code.specs.Operands.{pool_index}
 use Rattle.fm_code.specs.declared.constant_pool.Entry.{Entry}
 use Rattle.fm_code.specs.declared.constant_pool.Entry.TheVariants as entry
 use Rattle.fm_code.specs.declared.class_file.ClassDef.{ClassDef}
@@ -23,24 +24,6 @@ use Rattle.fm_world.specs.declared.declarations.DeclaredClass.{DeclaredClass}
 use Rattle.fm_world.specs.Descriptors.{class_type, type_in}
 
 -- ---- the indices that are used
-
--- the index that an instruction names
-abbrev pub operand_of : Insn → Option ℕ
-operand_of (insn.LoadPool index) = Some index
-operand_of (insn.GetStatic index) = Some index
-operand_of (insn.PutStatic index) = Some index
-operand_of (insn.GetField index) = Some index
-operand_of (insn.PutField index) = Some index
-operand_of (insn.Virtual index) = Some index
-operand_of (insn.Special index) = Some index
-operand_of (insn.Static index) = Some index
-operand_of (insn.Interface index) = Some index
-operand_of (insn.New index) = Some index
-operand_of (insn.NewRefs index) = Some index
-operand_of (insn.Cast index) = Some index
-operand_of (insn.IsA index) = Some index
-operand_of (insn.MultiArray index dimensions) = Some index
-operand_of i = None
 
 -- the items of a method
 abbrev pub items_of : Member → List Item
@@ -73,7 +56,7 @@ unfoldable pub used_indices : ClassDef → List ℕ
 used_indices c =
     c.this_class
     ∷ c.super_class
-    ∷ (c.interfaces ++ flat_map values_of c.fields ++ filter_map (λ item. operand_of item.insn) (class_items c) ++ flat_map caught_by c.methods)
+    ∷ (c.interfaces ++ flat_map values_of c.fields ++ filter_map (λ item. pool_index item.insn) (class_items c) ++ flat_map caught_by c.methods)
 
 -- whether a class file uses an index of its pool
 abbrev pub is_used : ClassDef → ℕ → Bool

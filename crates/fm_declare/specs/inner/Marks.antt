@@ -6,7 +6,8 @@ use Rattle.fm_code.specs.declared.class_file.MemberAttr.{MemberAttr}
 use Rattle.fm_code.specs.declared.class_file.MemberAttr.TheVariants as attribute
 use Rattle.fm_code.specs.declared.code_array.Code.{Code}
 use Rattle.fm_code.specs.declared.code_array.Item.{Item}
-use Rattle.fm_world.specs.Uses.{items_of, operand_of}
+use Rattle.fm_code.specs.Operands.{pool_index}
+use Rattle.fm_world.specs.Uses.{items_of}
 
 -- marks with those of the indices set
 abbrev pub marked : List Bool → List ℕ → List Bool
@@ -27,7 +28,7 @@ values_among (a ∷ attributes) = values_among attributes
 
 -- the indices that items name
 abbrev pub operands_among : List Item → List ℕ
-operands_among items = filter_map (λ item. operand_of item.insn) items
+operands_among items = filter_map (λ item. pool_index item.insn) items
 
 -- those of a method's items
 abbrev pub operands_in : Member → List ℕ

@@ -6,7 +6,8 @@ use Rattle.fm_code.specs.declared.code_array.Item.{Item}
 use Rattle.fm_code.specs.declared.instructions.Insn.{Insn}
 use Rattle.fm_declare.specs.declared.wanted.Wanted.{Wanted}
 use Rattle.fm_world.specs.Causes.{wanted_at}
-use Rattle.fm_world.specs.Uses.{operand_of, pool_indices}
+use Rattle.fm_code.specs.Operands.{pool_index}
+use Rattle.fm_world.specs.Uses.{pool_indices}
 
 -- what these flags together want of one member, each flag for a static one or another one
 abbrev pub wanted_of : List Bool → Wanted
@@ -43,4 +44,4 @@ noted_if wanted (Some index) (Some is_static) = noted wanted index is_static
 -- with what items want
 abbrev pub noted_among : (Insn → Option Bool) → List Wanted → List Item → List Wanted
 noted_among flag wanted [] = wanted
-noted_among flag wanted (item ∷ items) = noted_among flag (noted_if wanted (operand_of item.insn) (flag item.insn)) items
+noted_among flag wanted (item ∷ items) = noted_among flag (noted_if wanted (pool_index item.insn) (flag item.insn)) items

@@ -5,10 +5,9 @@ use Rattle.fm_known.specs.declared.known.Known.{Known}
 use Rattle.fm_known.specs.declared.known.Place.{Place}
 use Rattle.fm_known.specs.declared.known.Place.TheVariants as place
 use Rattle.fm_known.specs.declared.risen.Rise.{Rise}
+use Rattle.fm_code.specs.StackWords as insns
 use Rattle.fm_code.specs.declared.instructions.Insn.{Insn}
 use Rattle.fm_code.specs.declared.instructions.Insn.TheVariants as insn
-use Rattle.fm_code.specs.declared.operations.Reg.{Reg}
-use Rattle.fm_code.specs.declared.operations.Reg.TheVariants as reg
 use Rattle.fm_types.specs.Named.{parameters_of}
 use Rattle.fm_types.specs.States.{local_at, local_slots, TypeState}
 use Rattle.fm_types.specs.declared.slots.Slot.{Slot}
@@ -84,67 +83,18 @@ leaves_word (insn.New index) s = not (is_bare s)
 leaves_word (insn.Special index) s = not (is_bare s)
 leaves_word i s = true
 
--- the words of a value that is stored
-abbrev pub stored_words : Reg → ℕ
-stored_words reg.Int = 1
-stored_words reg.Long = 2
-stored_words reg.Ref = 1
-
--- the words of the stack that the row of the instruction takes at most, where it depends neither on the method nor on dimensions
-abbrev pub own_words : Insn → ℕ
-own_words insn.Nop = 0
-own_words insn.Null = 0
-own_words (insn.Const value) = 0
-own_words (insn.LongConst value) = 0
-own_words (insn.LoadPool index) = 0
-own_words (insn.Load kind local) = 0
-own_words (insn.Store kind local) = stored_words kind
-own_words (insn.Inc local by) = 0
-own_words (insn.Goto target) = 0
-own_words (insn.New index) = 0
-own_words (insn.GetStatic index) = 0
-own_words insn.Pop = 1
-own_words insn.Dup = 1
-own_words insn.IntNeg = 1
-own_words (insn.IfInt test target) = 1
-own_words (insn.IfNull null target) = 1
-own_words (insn.Table low others targets) = 1
-own_words (insn.Lookup others keys targets) = 1
-own_words insn.Throw = 1
-own_words (insn.GetField index) = 1
-own_words (insn.Cast index) = 1
-own_words (insn.IsA index) = 1
-own_words insn.Length = 1
-own_words (insn.NewArray elem) = 1
-own_words (insn.NewRefs index) = 1
-own_words insn.Pop2 = 2
-own_words insn.Dup2 = 2
-own_words insn.DupX1 = 2
-own_words insn.Swap = 2
-own_words (insn.IntOp op) = 2
-own_words (insn.IntShift shift) = 2
-own_words insn.LongNeg = 2
-own_words (insn.Convert conv) = 2
-own_words (insn.IfPair test target) = 2
-own_words (insn.IfSame same target) = 2
-own_words (insn.Return value) = 2
-own_words (insn.PutStatic index) = 2
-own_words (insn.ArrayLoad elem) = 2
-own_words i = 4
-
 -- the words of a method's arguments, and of a receiver
 abbrev pub called_words : Outline → Use → ℕ
 called_words o (resolved.OfMethod m i) = length (flat_map local_slots (parameters_of o m.0)) + 1
 called_words o u = 0
 
--- the words of the stack that the row of the instruction takes at most
+-- the words of the stack that the row of the instruction takes at most: a field's value has two words at most
 abbrev pub words_taken : Outline → Use → Insn → ℕ
-words_taken o u (insn.MultiArray index dimensions) = dimensions
 words_taken o u (insn.Virtual index) = called_words o u
 words_taken o u (insn.Special index) = called_words o u
 words_taken o u (insn.Static index) = called_words o u
 words_taken o u (insn.Interface index) = called_words o u
-words_taken o u i = own_words i
+words_taken o u i = insns.words_taken 2 0 i
 
 -- the row neither looks at what is at a place nor changes it, where it takes no word below this number
 abbrev pub leaves_alone : Insn → ℕ → Place → Slot → Bool

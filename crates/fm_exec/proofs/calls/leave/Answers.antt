@@ -16,5 +16,5 @@ pub returns-in-Some : goal.returns-in-Some
 returns-in-Some g c =
     told-ok c.leave-in-Some.result _ _
     (carried c.args.program.now g.M.Memory.choose c.args.machine.now c.leave-in-Some.new.self (return_effect c.args.value)
-    (going 0 (Returns c.reg_words.result)) (return-word c.args.value c.in-Some.kind c.reg_words.result c.in-Some.is c.reg_words.ensures.value))
+    (going 0 (Returns c.words.result)) (return-word c.args.value c.in-Some.kind c.words.result c.in-Some.is c.words.ensures.value))
     c.leave-in-Some.ensures

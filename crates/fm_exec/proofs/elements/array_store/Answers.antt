@@ -21,31 +21,31 @@ returns-in_default g c =
     let p = c.args.program.now in
     let x = c.args.machine.now in
     told-ok c.refuse.result _ _
-    (subst (λ e. Steps p g.M.Memory.choose x c.refuse.new.machine e) (sym (store-is p.outline c.args.e (seen p x) c.element_words-words.result c.element_words-words.ensures.value c.requires.number)))
-    (c.refuse.ensures (sym c.in_default.ensures.value) (store_held p.outline c.args.e (seen p x) c.element_words-words.result))
+    (subst (λ e. Steps p g.M.Memory.choose x c.refuse.new.machine e) (sym (store-is p.outline c.args.e (seen p x) c.words-words.result c.words-words.ensures.value c.requires.number)))
+    (c.refuse.ensures (sym c.in_default.ensures.value) (store_held p.outline c.args.e (seen p x) c.words-words.result))
 
 pub returns-then-not-array : goal.returns-then-not-array
 returns-then-not-array g c =
     let p = c.args.program.now in
     let o = p.outline in
     let x = c.args.machine.now in
-    let it = object-found o x.areas.store (stack_of x) (c.element_words-words.result + 1) c.in-Some.cell c.in-Some.head c.in-Some.ensures.value in
+    let it = object-found o x.areas.store (stack_of x) (c.words-words.result + 1) c.in-Some.cell c.in-Some.head c.in-Some.ensures.value in
     let told : false ≡ is_array_of c.args.e c.type_in-t.result = search rules in
-    carried p g.M.Memory.choose x c.fault.new.self (array_store_effect o c.args.e (seen p x)) (faulty (c.element_words-words.result + 1))
-    (store-is o c.args.e (seen p x) c.element_words-words.result c.element_words-words.ensures.value c.requires.number
-    ∙ element-faulty o x.areas.store (stack_of x) c.args.e c.element_words-words.result c.in-Some.cell c.in-Some.head (put_element c.element_words-words.result) it (told ∙ ap (is_array_of c.args.e) c.type_in-t.ensures.value))
-    (c.fault.ensures c.requires.can.runnable g.M.Memory.choose (OfOperand (c.element_words-words.result + 1)) (ap cell_of it.word))
+    carried p g.M.Memory.choose x c.fault.new.self (array_store_effect o c.args.e (seen p x)) (faulty (c.words-words.result + 1))
+    (store-is o c.args.e (seen p x) c.words-words.result c.words-words.ensures.value c.requires.number
+    ∙ element-faulty o x.areas.store (stack_of x) c.args.e c.words-words.result c.in-Some.cell c.in-Some.head (put_element c.words-words.result) it (told ∙ ap (is_array_of c.args.e) c.type_in-t.ensures.value))
+    (c.fault.ensures c.requires.can.runnable g.M.Memory.choose (OfOperand (c.words-words.result + 1)) (ap cell_of it.word))
 
 pub returns-in_default-int_operand : goal.returns-in_default-int_operand
 returns-in_default-int_operand g c =
     let p = c.args.program.now in
     let o = p.outline in
     let x = c.args.machine.now in
-    let it = object-found o x.areas.store (stack_of x) (c.element_words-words.result + 1) c.in-Some.cell c.in-Some.head c.in-Some.ensures.value in
+    let it = object-found o x.areas.store (stack_of x) (c.words-words.result + 1) c.in-Some.cell c.in-Some.head c.in-Some.ensures.value in
     let told : true ≡ is_array_of c.args.e c.type_in-t.result = search rules in
     carried p g.M.Memory.choose x c.stuck.new.self (array_store_effect o c.args.e (seen p x)) stuck
-    (store-is o c.args.e (seen p x) c.element_words-words.result c.element_words-words.ensures.value c.requires.number
-    ∙ element-stuck o x.areas.store (stack_of x) c.args.e c.element_words-words.result c.in-Some.cell c.in-Some.head (put_element c.element_words-words.result) it (told ∙ ap (is_array_of c.args.e) c.type_in-t.ensures.value)
+    (store-is o c.args.e (seen p x) c.words-words.result c.words-words.ensures.value c.requires.number
+    ∙ element-stuck o x.areas.store (stack_of x) c.args.e c.words-words.result c.in-Some.cell c.in-Some.head (put_element c.words-words.result) it (told ∙ ap (is_array_of c.args.e) c.type_in-t.ensures.value)
     c.in_default-int_operand.ensures)
     (c.stuck.ensures c.requires.can.runnable g.M.Memory.choose)
 
@@ -54,14 +54,14 @@ returns-in_default-place_in g c =
     let p = c.args.program.now in
     let o = p.outline in
     let x = c.args.machine.now in
-    let it = object-found o x.areas.store (stack_of x) (c.element_words-words.result + 1) c.in-Some.cell c.in-Some.head c.in-Some.ensures.value in
+    let it = object-found o x.areas.store (stack_of x) (c.words-words.result + 1) c.in-Some.cell c.in-Some.head c.in-Some.ensures.value in
     let told : true ≡ is_array_of c.args.e c.type_in-t.result = search rules in
     let out : place_in c.in-Some.head.len c.in-Some-int_operand.index ≡ None = search rules in
     told-ok c.throw_new.result _ _
     (λ thrown.
     carried p g.M.Memory.choose x c.throw_new.new.self (array_store_effect o c.args.e (seen p x)) (outside o)
-    (store-is o c.args.e (seen p x) c.element_words-words.result c.element_words-words.ensures.value c.requires.number
-    ∙ element-outside o x.areas.store (stack_of x) c.args.e c.element_words-words.result c.in-Some.cell c.in-Some.head c.in-Some-int_operand.index (put_element c.element_words-words.result) it
+    (store-is o c.args.e (seen p x) c.words-words.result c.words-words.ensures.value c.requires.number
+    ∙ element-outside o x.areas.store (stack_of x) c.args.e c.words-words.result c.in-Some.cell c.in-Some.head c.in-Some-int_operand.index (put_element c.words-words.result) it
     (told ∙ ap (is_array_of c.args.e) c.type_in-t.ensures.value) c.in-Some-int_operand.ensures out)
     (thrown (codes "java/lang/ArrayIndexOutOfBoundsException") (index-is p c.requires.can.runnable)))
     c.throw_new.ensures
@@ -70,8 +70,8 @@ pub put-requires-clause-fits : goal.put-requires-clause-fits
 put-requires-clause-fits g c =
     let o = c.args.program.now.outline in
     let x = c.args.machine.now in
-    let w = c.element_words-words.result in
-    let many = c.element_words-words.ensures.value in
+    let w = c.words-words.result in
+    let many = c.words-words.ensures.value in
     let it = object-found o x.areas.store (stack_of x) (w + 1) c.in-Some.cell c.in-Some.head c.in-Some.ensures.value in
     let told : true ≡ is_array_of c.args.e c.type_in-t.result = search rules in
     let kind_is = c.element_kind.ensures ∙ ap element_kind c.type_in-t.ensures.value in
@@ -87,7 +87,7 @@ returns g c =
     let p = c.args.program.now in
     let o = p.outline in
     let x = c.args.machine.now in
-    let w = c.element_words-words.result in
+    let w = c.words-words.result in
     let place = c.in-Some-place_in.place in
     let own = element_kind (type_numbered o c.in-Some.head.class) in
     let it = object-found o x.areas.store (stack_of x) (w + 1) c.in-Some.cell c.in-Some.head c.in-Some.ensures.value in
@@ -96,7 +96,7 @@ returns g c =
     let kind_is = c.element_kind.ensures ∙ ap element_kind c.type_in-t.ensures.value in
     carried p g.M.Memory.choose x c.put.new.self (array_store_effect o c.args.e (seen p x))
     (acting (w + 2) (Put (OfOperand (w + 1)) place own (OfOperand (w - 1)) ∷ []))
-    (store-is o c.args.e (seen p x) w c.element_words-words.ensures.value c.requires.number
+    (store-is o c.args.e (seen p x) w c.words-words.ensures.value c.requires.number
     ∙ element-inside o x.areas.store (stack_of x) c.args.e w c.in-Some.cell c.in-Some.head c.in-Some-int_operand.index place (put_element w) it
     (told ∙ ap (is_array_of c.args.e) c.type_in-t.ensures.value) c.in-Some-int_operand.ensures there
     ∙ put-kind o x.areas.store (stack_of x) (w + 1) c.in-Some.cell c.in-Some.head w place it)

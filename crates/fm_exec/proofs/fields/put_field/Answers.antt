@@ -14,7 +14,7 @@ use Rattle.fm_frames.specs.Sights.{type_numbered}
 use Rattle.fm_frames.specs.Steps.{stack_of}
 use Rattle.fm_frames.specs.inner.Doings.{DoesIn, seen}
 use Rattle.fm_frames.specs.inner.Places.{FitsIn}
-use Rattle.fm_world.specs.Descriptors.{kind_words}
+use Rattle.fm_base.specs.Kinds.{kind_words}
 use Rattle.fm_world.specs.Members.{slot_of}
 use Rattle.fm_world.specs.Numbers.{type_of_class}
 use Rattle.fm_world.specs.declared.records.FieldInfo.{FieldInfo}
@@ -29,7 +29,7 @@ returns-in_default g c =
     let x = c.args.machine.now in
     let t = get_or o.types c.args.named.0 (type_of_class 0) in
     let kind_is = ap (λ (i : FieldInfo). i.kind) c.field.ensures ∙ field-kind o c.args.f.0 in
-    let many = c.kind_words-words.ensures.value ∙ ap kind_words kind_is in
+    let many = c.words-words.ensures.value ∙ ap kind_words kind_is in
     told-ok c.refuse.result _ _
     (λ does.
     subst (λ e. Steps p g.M.Memory.choose x c.refuse.new.machine e)
@@ -44,8 +44,8 @@ put-requires-clause-fits g c =
     let x = c.args.machine.now in
     let own = kind_of_field o c.args.f.0 in
     let kind_is = ap (λ (i : FieldInfo). i.kind) c.field.ensures ∙ field-kind o c.args.f.0 in
-    let many = c.kind_words-words.ensures.value ∙ ap kind_words kind_is in
-    let it = object-found o x.areas.store (stack_of x) c.kind_words-words.result c.in-Some.cell c.in-Some.head c.in-Some.ensures.value in
+    let many = c.words-words.ensures.value ∙ ap kind_words kind_is in
+    let it = object-found o x.areas.store (stack_of x) c.words-words.result c.in-Some.cell c.in-Some.head c.in-Some.ensures.value in
     let t = type_numbered o c.args.named.0 in
     let at = slice_get-get_or o.types c.args.named.0 (type_of_class 0) c.requires.named in
     subst (λ v. FitsIn x.areas.store c.in-Some.cell.0 c.field.result.now.kind v) (sym c.word-value.ensures)
@@ -64,11 +64,11 @@ returns-then-fits g c =
     let own = kind_of_field o c.args.f.0 in
     let n = kind_words own in
     let kind_is = ap (λ (i : FieldInfo). i.kind) c.field.ensures ∙ field-kind o c.args.f.0 in
-    let many = c.kind_words-words.ensures.value ∙ ap kind_words kind_is in
-    let it = object-found o x.areas.store (stack_of x) c.kind_words-words.result c.in-Some.cell c.in-Some.head c.in-Some.ensures.value in
+    let many = c.words-words.ensures.value ∙ ap kind_words kind_is in
+    let it = object-found o x.areas.store (stack_of x) c.words-words.result c.in-Some.cell c.in-Some.head c.in-Some.ensures.value in
     let t = type_numbered o c.args.named.0 in
     let at = slice_get-get_or o.types c.args.named.0 (type_of_class 0) c.requires.named in
-    let does = c.put.ensures (OfOperand c.kind_words-words.result) (OfOperand (c.kind_words-words.result - 1)) it.word (sym c.word-value.ensures) p g.M.Memory.choose in
+    let does = c.put.ensures (OfOperand c.words-words.result) (OfOperand (c.words-words.result - 1)) it.word (sym c.word-value.ensures) p g.M.Memory.choose in
     carried p g.M.Memory.choose x c.put.new.self (put_field_effect o (used.OfField c.args.f c.args.named) (seen p x))
     (acting (n + 1) (Put (OfOperand n) slot own (OfOperand (n - 1)) ∷ []))
     (put_field-named o c.args.f c.args.named t (seen p x) at
@@ -76,8 +76,8 @@ returns-then-fits g c =
     (λ l. acting (n + 1) (Put (OfOperand n) slot own (OfOperand (n - 1)) ∷ []))
     (subst (λ n. Seen o x.areas.store (stack_of x) n c.in-Some.cell c.in-Some.head) many it) c.if-fits.ensures)
     (subst (λ n. DoesIn p g.M.Memory.choose x c.put.new.self (acting (n + 1) (Put (OfOperand n) slot own (OfOperand (n - 1)) ∷ []))) many
-    (subst (λ s. DoesIn p g.M.Memory.choose x c.put.new.self (acting (c.kind_words-words.result + 1) (Put (OfOperand c.kind_words-words.result) s own (OfOperand (c.kind_words-words.result - 1)) ∷ []))) c.slot_of.ensures
-    (subst (λ k. DoesIn p g.M.Memory.choose x c.put.new.self (acting (c.kind_words-words.result + 1) (Put (OfOperand c.kind_words-words.result) c.slot_of.result k (OfOperand (c.kind_words-words.result - 1)) ∷ []))) kind_is does)))
+    (subst (λ s. DoesIn p g.M.Memory.choose x c.put.new.self (acting (c.words-words.result + 1) (Put (OfOperand c.words-words.result) s own (OfOperand (c.words-words.result - 1)) ∷ []))) c.slot_of.ensures
+    (subst (λ k. DoesIn p g.M.Memory.choose x c.put.new.self (acting (c.words-words.result + 1) (Put (OfOperand c.words-words.result) c.slot_of.result k (OfOperand (c.words-words.result - 1)) ∷ []))) kind_is does)))
 
 pub returns : goal.returns
 returns g c =
@@ -88,8 +88,8 @@ returns g c =
     let own = kind_of_field o c.args.f.0 in
     let n = kind_words own in
     let kind_is = ap (λ (i : FieldInfo). i.kind) c.field.ensures ∙ field-kind o c.args.f.0 in
-    let many = c.kind_words-words.ensures.value ∙ ap kind_words kind_is in
-    let it = object-found o x.areas.store (stack_of x) c.kind_words-words.result c.in-Some.cell c.in-Some.head c.in-Some.ensures.value in
+    let many = c.words-words.ensures.value ∙ ap kind_words kind_is in
+    let it = object-found o x.areas.store (stack_of x) c.words-words.result c.in-Some.cell c.in-Some.head c.in-Some.ensures.value in
     let t = type_numbered o c.args.named.0 in
     let at = slice_get-get_or o.types c.args.named.0 (type_of_class 0) c.requires.named in
     carried p g.M.Memory.choose x c.fault.new.self (put_field_effect o (used.OfField c.args.f c.args.named) (seen p x)) (faulty n)

@@ -18,7 +18,7 @@ use Rattle.fm_frames.specs.Steps.{stack_of}
 use Rattle.fm_frames.specs.inner.Doings.{DoesIn}
 use Rattle.fm_frames.specs.inner.Places.{IsOfKind}
 use Rattle.fm_world.specs.Chains.{chain_of}
-use Rattle.fm_world.specs.Descriptors.{kind_words}
+use Rattle.fm_base.specs.Kinds.{kind_words}
 use Rattle.fm_world.specs.Members.{slot_of}
 use Rattle.fm_world.specs.Numbers.{type_of_class}
 use Rattle.fm_world.specs.declared.records.FieldInfo.{FieldInfo}
@@ -34,10 +34,10 @@ set_static-requires g c =
     let o = c.args.program.now.outline in
     let m = c.args.machine.now in
     let kind_is = ap (λ (i : FieldInfo). i.kind) c.field-field.ensures ∙ field-kind o c.args.f.0 in
-    let many = c.kind_words-words.ensures.value ∙ ap kind_words kind_is in
+    let many = c.words-words.ensures.value ∙ ap kind_words kind_is in
     let stack = stack_of (on m c.args.frames.now) in
     subst (λ v. IsOfKind c.field-field.result.now.kind (kept c.field-field.result.now.kind v))
-    (word-over m c.args.frames.now m.steps (c.kind_words-words.result - 1) c.in-Some.value c.in-Some.ensures)
+    (word-over m c.args.frames.now m.steps (c.words-words.result - 1) c.in-Some.value c.in-Some.ensures)
     (subst (λ n. IsOfKind c.field-field.result.now.kind (kept c.field-field.result.now.kind (word_at stack (n - 1)))) (sym many)
     (subst (λ k. IsOfKind k (kept k (word_at stack (kind_words (kind_of_field o c.args.f.0) - 1)))) (sym kind_is) c.requires.value))
 
@@ -53,11 +53,11 @@ returns-clause-did g c told steps =
     let slot = slot_of o.classes c.args.f.0 in
     let own = kind_of_field o c.args.f.0 in
     let n = kind_words own in
-    let w = c.kind_words-words.result in
+    let w = c.words-words.result in
     let class = c.field-field.result.now.class.0 in
     let owner = ap (λ (i : FieldInfo). i.class.0) c.field-field.ensures ∙ field-class o c.args.f.0 in
     let kind_is = ap (λ (i : FieldInfo). i.kind) c.field-field.ensures ∙ field-kind o c.args.f.0 in
-    let many : w ≡ n = c.kind_words-words.ensures.value ∙ ap kind_words kind_is in
+    let many : w ≡ n = c.words-words.ensures.value ∙ ap kind_words kind_is in
     let e = acting n (SetStatic slot own (OfOperand (n - 1)) ∷ []) in
     let set = set-there m z c.slot_of.result slot c.field-field.result.now.kind own c.in-Some.value c.set_static.ensures c.slot_of.ensures kind_is in
     let none = none-starts o m.areas.started class c.display.result.now (reverse (chain_of o.classes class)) c.display.ensures.value

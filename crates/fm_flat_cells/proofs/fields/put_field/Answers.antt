@@ -7,7 +7,7 @@ use Rattle.fm_flat_cells.proofs.CellSteps.{one-kind-word, one-word-asks}
 use Rattle.fm_flat_cells.proofs.fields.put_field.Goals as goal
 use Rattle.fm_frames.specs.declared.values.Value.TheVariants as value
 use Rattle.fm_frames.specs.inner.Frames.{stack_in}
-use Rattle.fm_world.specs.Descriptors.{kind_words}
+use Rattle.fm_base.specs.Kinds.{kind_words}
 use Rattle.fm_world.specs.declared.records.FieldInfo.{FieldInfo}
 
 pub put_value-requires-clause-kind : goal.put_value-requires-clause-kind

@@ -15,7 +15,7 @@ use Rattle.fm_frames.specs.Steps.{stack_of}
 use Rattle.fm_frames.specs.inner.Doings.{DoesIn, seen}
 use Rattle.fm_frames.specs.inner.Places.{FitsIn}
 use Rattle.fm_types.specs.Fits.{fits_type}
-use Rattle.fm_world.specs.Descriptors.{kind_words}
+use Rattle.fm_base.specs.Kinds.{kind_words}
 use Rattle.fm_world.specs.Members.{slot_of}
 use Rattle.fm_world.specs.Numbers.{type_of_class}
 use Rattle.fm_world.specs.declared.uses.Use.TheVariants as used

@@ -1,6 +1,0 @@
-use Rattle.std.proofs.Common.{◌≡◌, ◌++◌, map, drop}
-use Rattle.std.specs.Prelude.{slice_index}
-use Rattle.fm_layout.proofs.spelling.moved_targets.Given as goal
-
-abbrev pub invariant-loop-target : goal.invariant-loop-target
-invariant-loop-target l = l.numbers.items ++ map (slice_index l.firsts) (drop l.target-index l.targets) ≡ map (slice_index l.firsts) l.targets
