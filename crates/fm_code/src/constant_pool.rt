@@ -93,7 +93,9 @@ impl Entry {
             Entry::NameAndType(name, descriptor) => Ok(Entry::NameAndType(*name, *descriptor)),
             Entry::MethodHandle(kind, member) => Ok(Entry::MethodHandle(*kind, *member)),
             Entry::MethodType(descriptor) => Ok(Entry::MethodType(*descriptor)),
-            Entry::InvokeDynamic(bootstrap, member) => Ok(Entry::InvokeDynamic(*bootstrap, *member)),
+            Entry::InvokeDynamic(bootstrap, member) => Ok(Entry::InvokeDynamic(
+                *bootstrap, *member,
+            )),
             Entry::Second => Ok(Entry::Second),
         }
     }

@@ -20,7 +20,8 @@ use items::is_supported_item;
 
 /// Asks whether all that a class has is supported. An error is the first place that isn't: the
 /// class's own name, then its fields, then its methods, of a method its descriptor and its flags, at
-/// offset 0, and then its instructions, and last the entries of its constant pool. Some bytes have to spell the record. Takes no memory.
+/// offset 0, and then its instructions, and last the entries of its constant pool. Some bytes have
+/// to spell the record. Takes no memory.
 pub fn supported(class: &ClassDef) -> Result<(), Unsupported>
     requires { HasSpelling class.now }
     ensures ok { IsOk result ↔ IsSupported class.now }

@@ -20,3 +20,10 @@ returns-in-Some-first_method-clause-ok c =
     let there : Unsupported = record { place = place.OfMethod w.number; offset = w.offset } in
     let first : IsFirstUnsupported c.args.class.now there = search rules in
     (λ refused. absurd (false≢true refused), λ supported. absurd (unsupported c.args.class.now there first supported))
+
+pub returns-in-Some-first_entry-clause-ok : goal.returns-in-Some-first_entry-clause-ok
+returns-in-Some-first_entry-clause-ok c =
+    let w = c.in-Some-first_entry in
+    let there : Unsupported = record { place = place.OfPool; offset = w.offset } in
+    let first : IsFirstUnsupported c.args.class.now there = search rules in
+    (λ refused. absurd (false≢true refused), λ supported. absurd (unsupported c.args.class.now there first supported))
