@@ -12,9 +12,9 @@ ghost use Rattle.fm_above.specs.inner.ListTables.{lists};
 ghost use Rattle.fm_world.specs.Chains.{distinct};
 ghost use Rattle.fm_world.specs.declared.declarations.DeclaredClass.{DeclaredClass};
 
-use crate::lists::{empty_lists, list_at, number_at, put_list, put_number};
+use crate::lists::{empty_lists, list_at, put_list, put_number};
 use crate::once::distinct;
-use fm_base::NoMemory;
+use fm_base::{NoMemory, is_marked, number_at};
 use fm_declare::{at, number_of};
 use std::alloc::Global;
 
@@ -140,21 +140,11 @@ fn first_that_goes_on(interfaces: &[u32], goes_on: &[bool], start: u32) -> Resul
 {
     let end = number_of(interfaces.len())?;
     for place in start..end {
-        if is_set(goes_on, interfaces[place as usize] as usize) {
+        if is_marked(goes_on, interfaces[place as usize] as usize) {
             return Ok(place);
         }
     }
     Ok(end)
-}
-
-// Whether the mark of a class is set; past the end none is.
-fn is_set(marks: &[bool], class: usize) -> bool
-    ensures { result ≡ is_set marks.now class }
-{
-    match marks.get(class) {
-        Some(mark) => *mark,
-        None => false,
-    }
 }
 
 // Finds the superinterfaces of the classes that went on before the round, and don't after it.
@@ -170,7 +160,7 @@ fn settle(
         (length listed.now)) }
 {
     for class in 0..listed.len() {
-        let is_settled = is_set(before, class) && !is_set(after, class);
+        let is_settled = is_marked(before, class) && !is_marked(after, class);
         settle_one(alloc, listed[class].as_slice(), is_settled, above, class)?;
     }
     Ok(())

@@ -1,6 +1,6 @@
 // Tables that have a number, or a list of numbers, for each class.
 
-ghost use Rattle.std.specs.Prelude.{◌≡◌, [], IfOk, replicate, slice_index, slice_set, if◌then◌else◌};
+ghost use Rattle.std.specs.Prelude.{◌≡◌, [], IfOk, replicate, slice_set, if◌then◌else◌};
 ghost use Rattle.fm_above.specs.inner.ListTables.{list_in, lists};
 
 use fm_base::NoMemory;
@@ -33,16 +33,6 @@ pub fn put_list(table: &mut Vec<Vec<u32>>, place: usize, list: Vec<u32>)
 {
     if place < table.len() {
         table[place] = list;
-    }
-}
-
-/// The number at a place; 0 past the end.
-pub fn number_at(numbers: &[u32], place: u32) -> u32
-    ensures { result ≡ slice_index numbers.now place }
-{
-    match numbers.get(place as usize) {
-        Some(number) => *number,
-        None => 0,
     }
 }
 

@@ -21,10 +21,10 @@ use fm_base::limits::{MAX_LOCAL_WORDS, MAX_STACK_WORDS};
 use fm_base::{MethodId, NoMemory, Seq};
 use fm_code::{ACC_STATIC, Code, has_flag};
 use fm_known::{Known, Method, parameter_slots};
-use fm_rows::{class_of_method, is_constructor, type_of_class};
+use fm_rows::{class_of_method, is_constructor};
 use fm_types::{Slot, Stack, State, Typing};
 use fm_walk::{Walk, is_within};
-use fm_world::{Body, Program};
+use fm_world::{Body, Program, type_of_class};
 use std::alloc::Global;
 
 /// The least typing of a method with code: a state for each item that can be reached, which fits the

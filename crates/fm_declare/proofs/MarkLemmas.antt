@@ -15,7 +15,8 @@ use Rattle.fm_code.specs.declared.code_array.Item.{Item}
 use Rattle.fm_code.specs.Operands.{pool_index}
 use Rattle.fm_world.specs.Uses.{caught_by, class_items, is_used, items_of, pool_indices, used_indices, values_of}
 use Rattle.fm_declare.proofs.Drops.{drop_here}
-use Rattle.fm_declare.specs.inner.Marks.{first_code, marked, operands_in, values_among}
+use Rattle.fm_base.specs.Rows.{marked}
+use Rattle.fm_declare.specs.inner.Marks.{operands_in, values_among}
 
 -- ---- marks
 
@@ -89,15 +90,6 @@ marked-none n indices =
           ∙ sym (get_or-map-range_with_len (λ k. list_any (nat_eq k) indices) 0 n i i false below (zero-add i))
 
 -- ---- attributes and code
-
-code_among : (m : Member) (attributes : List MemberAttr) → code_of (record m { attributes = attributes }) ≡ first_code attributes
-code_among m [] = refl
-code_among m (attribute.Constant name value ∷ attributes) = code_among m attributes
-code_among m (attribute.Coded name code ∷ attributes) = refl
-code_among m (attribute.Other raw ∷ attributes) = code_among m attributes
-
-pub code_is : (m : Member) → code_of m ≡ first_code m.attributes
-code_is m = code_among m m.attributes
 
 values_in : (m : Member) (attributes : List MemberAttr) → values_of (record m { attributes = attributes }) ≡ values_among attributes
 values_in m [] = refl

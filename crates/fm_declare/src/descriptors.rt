@@ -26,6 +26,9 @@ ghost use Rattle.fm_world.specs.declared.declarations.DeclaredClass.{DeclaredCla
 
 use crate::class_numbers::ClassNumbers;
 use crate::first_types::{NamedBase, NamedType, first_type};
+use fm_base::characters::{
+    BOOLEAN_LETTER, BYTE_LETTER, CHAR_LETTER, INT_LETTER, LEFT_BRACKET, LONG_LETTER, SHORT_LETTER,
+};
 use fm_base::{Base, ClassId, Kind, NoMemory, TypeRef};
 use fm_world::Shared;
 use std::alloc::Global;
@@ -48,7 +51,7 @@ pub fn types_in<'a>(alloc: Global, descriptor: &'a [u8]) -> Result<Vec<NamedType
 pub fn class_type(name: &[u8]) -> NamedType<'_>
     ensures { type_named result ≡ class_type name.now }
 {
-    if name.first().copied() == Some(b'[') {
+    if name.first().copied() == Some(LEFT_BRACKET) {
         match first_type(name) {
             Some((first, _)) => first,
             None => no_type(),
@@ -107,12 +110,12 @@ fn base_in(numbers: &ClassNumbers, base: NamedBase) -> Option<Base>
 {
     match base {
         NamedBase::Class(name) => Some(Base::OfClass(ClassId(numbers.number(name)?))),
-        NamedBase::Letter(b'Z') => Some(Base::Boolean),
-        NamedBase::Letter(b'B') => Some(Base::Byte),
-        NamedBase::Letter(b'C') => Some(Base::Char),
-        NamedBase::Letter(b'S') => Some(Base::Short),
-        NamedBase::Letter(b'I') => Some(Base::Int),
-        NamedBase::Letter(b'J') => Some(Base::Long),
+        NamedBase::Letter(BOOLEAN_LETTER) => Some(Base::Boolean),
+        NamedBase::Letter(BYTE_LETTER) => Some(Base::Byte),
+        NamedBase::Letter(CHAR_LETTER) => Some(Base::Char),
+        NamedBase::Letter(SHORT_LETTER) => Some(Base::Short),
+        NamedBase::Letter(INT_LETTER) => Some(Base::Int),
+        NamedBase::Letter(LONG_LETTER) => Some(Base::Long),
         NamedBase::Letter(_) => None,
     }
 }

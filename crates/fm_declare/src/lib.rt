@@ -23,8 +23,8 @@ pub use descriptors::{Kinds, class_type, missing_class, missing_in, types_by_tex
 pub use first_types::{NamedBase, NamedType};
 pub use given::{GivenFile, MemberTexts, given_files};
 pub use names::{name_at, own_name, text_at};
-pub use places::{at, number_of};
+pub use places::{at, index_of, number_of};
 pub use text_classes::classes_by_text;
 pub use texts::Texts;
-pub use used::{code_of, used_indices};
+pub use used::{items_of, used_indices};
 pub use wanted::{Wanted, WantedMembers};

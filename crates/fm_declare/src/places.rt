@@ -15,6 +15,16 @@ pub fn number_of(count: usize) -> Result<u32, NoMemory>
     }
 }
 
+/// A place in a pool as an index; no pool has more places than there are indices.
+pub fn index_of(place: usize) -> Result<u16, NoMemory>
+    ensures { IfOk result (λ index. index ≡ place) }
+{
+    match u16::try_from(place) {
+        Ok(index) => Ok(index),
+        Err(_) => Err(NoMemory),
+    }
+}
+
 /// The value at a place of a table; none past its end.
 pub fn at(table: &[Option<u32>], place: u32) -> Option<u32>
     ensures { result ≡ slice_index_or table.now place None }

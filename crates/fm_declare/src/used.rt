@@ -1,65 +1,27 @@
 // Which indices of its pool a class uses.
 
-ghost use Rattle.std.specs.Prelude.{◌≡◌, IfOk, map, option_copied, slice_set, true};
+ghost use Rattle.std.specs.Prelude.{◌≡◌, IfOk, map};
 ghost use Rattle.std.specs.List.{flat_map};
-ghost use Rattle.fm_code.specs.Members.{code_of};
-ghost use Rattle.fm_declare.specs.inner.Marks.{first_code, marked, operands_among, operands_in, values_among};
+ghost use Rattle.fm_base.specs.Rows.{marked};
+ghost use Rattle.fm_declare.specs.inner.Marks.{operands_among, operands_in, values_among};
 ghost use Rattle.fm_world.specs.Uses.{caught_by, is_used, items_of, pool_indices, values_of};
 
-use fm_base::NoMemory;
-use fm_code::{ClassDef, Code, Handler, Item, Member, MemberAttr};
+use fm_base::{NoMemory, mark, mark_indices};
+use fm_code::{ClassDef, Handler, Item, Member, MemberAttr};
 use std::alloc::Global;
-
-/// The code of a method.
-pub fn code_of(method: &Member) -> Option<&Code>
-    ensures { option_copied result ≡ code_of method.now }
-{
-    first_code(method.attributes.as_slice())
-}
-
-// The code of the first attribute that has one.
-fn first_code(attributes: &[MemberAttr]) -> Option<&Code>
-    ensures { option_copied result ≡ first_code attributes.now }
-{
-    for attribute in attributes {
-        if let MemberAttr::Coded(_, code) = attribute {
-            return Some(code);
-        }
-    }
-    None
-}
 
 /// For each index of the pool whether the class uses it. `NoMemory` where memory runs out.
 pub fn used_indices(alloc: Global, class: &ClassDef) -> Result<Vec<bool>, NoMemory>
     ensures { IfOk result (λ used. used.items ≡ map (is_used class.now) (pool_indices class.now)) }
 {
     let mut used = vec![in alloc; false; class.pool.entries.len()]?;
-    mark(&mut used, class.this_class);
-    mark(&mut used, class.super_class);
-    mark_all(&mut used, class.interfaces.as_slice());
+    mark(&mut used, usize::from(class.this_class));
+    mark(&mut used, usize::from(class.super_class));
+    mark_indices(&mut used, class.interfaces.as_slice());
     mark_values(&mut used, class.fields.as_slice());
     mark_operands(&mut used, class.methods.as_slice());
     mark_caught(&mut used, class.methods.as_slice());
     Ok(used)
-}
-
-// Sets the mark at an index, where the pool has it.
-fn mark(used: &mut Vec<bool>, index: u16)
-    ensures { used.new.items ≡ slice_set used.old.items index true }
-{
-    let place = usize::from(index);
-    if place < used.len() {
-        used[place] = true;
-    }
-}
-
-// Marks the indices.
-fn mark_all(used: &mut Vec<bool>, indices: &[u16])
-    ensures { used.new.items ≡ marked used.old.items indices.now }
-{
-    for index in indices {
-        mark(used, *index);
-    }
 }
 
 // Marks the values of fields.
@@ -77,7 +39,7 @@ fn mark_value(used: &mut Vec<bool>, attributes: &[MemberAttr])
 {
     for attribute in attributes {
         if let MemberAttr::Constant(_, value) = attribute {
-            mark(used, *value);
+            mark(used, usize::from(*value));
         }
     }
 }
@@ -95,7 +57,7 @@ fn mark_operands(used: &mut Vec<bool>, methods: &[Member])
 pub fn items_of(method: &Member) -> &[Item]
     ensures { result.now ≡ items_of method.now }
 {
-    match code_of(method) {
+    match method.code() {
         Some(code) => code.items.as_slice(),
         None => &[],
     }
@@ -107,7 +69,7 @@ fn mark_items(used: &mut Vec<bool>, items: &[Item])
 {
     for item in items {
         if let Some(index) = item.insn.pool_index() {
-            mark(used, index);
+            mark(used, usize::from(index));
         }
     }
 }
@@ -125,7 +87,7 @@ fn mark_caught(used: &mut Vec<bool>, methods: &[Member])
 fn handlers_of(method: &Member) -> &[Handler]
     ensures { map (λ h. h.catch_class) result.now ≡ caught_by method.now }
 {
-    match code_of(method) {
+    match method.code() {
         Some(code) => code.handlers.as_slice(),
         None => &[],
     }
@@ -136,6 +98,6 @@ fn mark_handlers(used: &mut Vec<bool>, handlers: &[Handler])
     ensures { used.new.items ≡ marked used.old.items (map (λ h. h.catch_class) handlers.now) }
 {
     for handler in handlers {
-        mark(used, handler.catch_class);
+        mark(used, usize::from(handler.catch_class));
     }
 }

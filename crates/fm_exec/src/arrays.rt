@@ -5,15 +5,15 @@ ghost use Rattle.fm_exec.specs.Holding.{HoldsLength};
 ghost use Rattle.fm_exec.specs.Steps.{seen, Steps};
 ghost use Rattle.fm_frames.specs.ArrayRows.{array_made, length_effect, new_array_effect, new_references_effect};
 ghost use Rattle.fm_frames.specs.inner.Doings.{CanStep};
-ghost use Rattle.fm_world.specs.Uses.{array_of, base_of_elem};
+ghost use Rattle.fm_world.specs.Uses.{array_of};
 ghost use Rattle.fm_world.specs.declared.uses.Use.TheVariants as used;
 
 use crate::held::{refuse, type_in};
-use fm_base::{Base, NoMemory, TypeId, TypeRef};
+use fm_base::{NoMemory, TypeId, TypeRef};
 use fm_cells::Memory;
 use fm_code::Elem;
 use fm_frames::{Machine, NEGATIVE_ARRAY_SIZE_EXCEPTION, Value};
-use fm_world::Program;
+use fm_world::{Program, base_of_elem};
 
 /// How many elements a count means; none where it is negative.
 #[inline(always)]
@@ -46,22 +46,6 @@ fn make_array<M: Memory>(
     match len_of(count) {
         Some(len) => machine.make(program, 1, t, len),
         None => machine.throw_new(program, NEGATIVE_ARRAY_SIZE_EXCEPTION),
-    }
-}
-
-// The base of the elements that are numbers.
-#[inline(always)]
-fn base_of_elem(e: Elem) -> Option<Base>
-    ensures { result ≡ base_of_elem e }
-{
-    match e {
-        Elem::Boolean => Some(Base::Boolean),
-        Elem::Byte => Some(Base::Byte),
-        Elem::Char => Some(Base::Char),
-        Elem::Short => Some(Base::Short),
-        Elem::Int => Some(Base::Int),
-        Elem::Long => Some(Base::Long),
-        Elem::Ref => None,
     }
 }
 
@@ -124,9 +108,9 @@ fn is_array(t: TypeRef) -> bool
     t.dims > 0
 }
 
-// A length as an int.
+/// A length as an int.
 #[inline(always)]
-fn int_of(len: u32) -> i32
+pub fn int_of(len: u32) -> i32
     requires { len < 2 ^ 31 }
     ensures { result ≡ pos len }
 {

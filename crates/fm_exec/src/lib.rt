@@ -18,7 +18,7 @@ mod objects;
 mod shuffles;
 mod throws;
 
-pub use arrays::{array_length, len_of, new_array, new_references};
+pub use arrays::{array_length, int_of, len_of, new_array, new_references};
 pub use calls::{argument_words, leave};
 pub use casts::{cast, is_instance};
 pub use constants::{int_constant, long_constant, nop, null, text_constant};

@@ -7,9 +7,9 @@ ghost use Rattle.fm_frames.specs.inner.Doings.{CanStep};
 
 use fm_base::{NoMemory, TypeId};
 use fm_cells::Memory;
-use fm_frames::{Look, Machine, NULL_POINTER_EXCEPTION, THROWABLE, type_numbered, type_of_class};
+use fm_frames::{Look, Machine, NULL_POINTER_EXCEPTION, THROWABLE, type_numbered};
 use fm_types::fits_type;
-use fm_world::Program;
+use fm_world::{Program, type_of_class};
 
 /// athrow.
 pub fn throw<M: Memory>(machine: &mut Machine<M>, program: &Program) -> Result<(), NoMemory>

@@ -5,7 +5,7 @@
 // tested. For ints, and for bytes and booleans, the head is enough to see that an object is such an
 // array.
 
-ghost use Rattle.std.specs.Prelude.{◌≡◌, ◌≢◌, ◌+◌, ◌-◌, ◌<◌, ◌^◌, pos, true, false, Some, slice_get};
+ghost use Rattle.std.specs.Prelude.{◌≡◌, ◌≢◌, ◌+◌, ◌-◌, ◌<◌, true, false, Some, slice_get};
 ghost use Rattle.fm_code.specs.declared.operations.Elem.TheVariants as elem;
 ghost use Rattle.fm_exec.specs.Holding.{HoldsElements, HoldsLength, TakesElement};
 ghost use Rattle.fm_exec.specs.Steps.{seen};
@@ -25,7 +25,7 @@ use crate::operands::{give_kind, object_there, take};
 use fm_base::{Base, Kind, TypeId, TypeRef};
 use fm_cells::{Head, Memory};
 use fm_code::Elem;
-use fm_exec::{element_kind, is_array_of, place_in, type_in};
+use fm_exec::{element_kind, int_of, is_array_of, place_in, type_in};
 use fm_flat::{give, int_there, long_there};
 use fm_frames::{Frames, Machine, Value};
 use fm_world::Program;
@@ -41,15 +41,6 @@ const INT_PACK: u8 = 2;
 
 // How many longs or references a word holds.
 const LONG_PACK: u8 = 1;
-
-// A length as an int.
-#[inline(always)]
-fn int_of(len: u32) -> i32
-    requires { len < 2 ^ 31 }
-    ensures { result ≡ pos len }
-{
-    len as i32
-}
 
 /// arraylength; returns whether it was done. Takes no memory.
 #[inline(always)]

@@ -15,7 +15,7 @@ ghost use Rattle.fm_world.specs.Programs.{code_at, IsTypeIn};
 use crate::built_ins::STRING;
 use fm_base::{Base, ClassId, MethodId, TypeId, TypeRef};
 use fm_code::Code;
-use fm_world::{Body, Program};
+use fm_world::{Body, Program, type_of_class};
 
 /// The code of a method, if it has one. Takes no memory.
 pub fn code_of(program: &Program, method: MethodId) -> Option<&Code>
@@ -91,16 +91,6 @@ pub fn pack_of(program: &Program, t: TypeRef) -> u8
     // For its clause: a program has fewer than 2^32 classes.
     let _classes = program.classes();
     pack_by(t)
-}
-
-/// A class as a type. Takes no memory.
-pub fn type_of_class(class: ClassId) -> TypeRef
-    ensures { result ≡ type_of_class class.0 }
-{
-    TypeRef {
-        dims: 0,
-        base: Base::OfClass(class),
-    }
 }
 
 /// The number of a type; 0 where it has none. Takes no memory.

@@ -22,7 +22,7 @@ ghost use Rattle.fm_frames.specs.inner.StartActions.{action_of};
 use crate::actions::{StartAction, start_actions};
 use crate::built_ins::{INPUT_STREAM, PRINT_STREAM, STRING};
 use crate::calls::max_locals_of;
-use crate::coded::{pack_of, type_id, type_of_class};
+use crate::coded::{pack_of, type_id};
 use crate::elements::read;
 use crate::ends::Ended;
 use crate::frames::Frames;
@@ -32,7 +32,7 @@ use crate::texts::text_words;
 use crate::values::Value;
 use fm_base::{Base, ClassId, FieldId, Kind, NoMemory, Row, TypeRef, Units};
 use fm_cells::{Cell, Memory, object_words};
-use fm_world::{FieldInfo, Program};
+use fm_world::{FieldInfo, Program, type_of_class};
 use std::alloc::Global;
 
 // Puts what a field holds at first after the others, if it is static.

@@ -15,12 +15,12 @@ ghost use Rattle.fm_frames.specs.inner.Places.{IsWide, TakesUnits};
 ghost use Rattle.fm_world.specs.Numbers.{type_of_class};
 
 use crate::built_ins::STRING;
-use crate::coded::{type_id, type_of_class};
+use crate::coded::type_id;
 use crate::machine::Machine;
 use crate::values::Value;
 use fm_base::{Kind, NoMemory};
 use fm_cells::{Cell, Memory};
-use fm_world::Program;
+use fm_world::{Program, type_of_class};
 
 // How many units of a text a word holds.
 const TEXT_PACK: u8 = 4;

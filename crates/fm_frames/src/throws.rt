@@ -16,7 +16,7 @@ ghost use Rattle.fm_world.specs.Members.{methods_of};
 ghost use Rattle.fm_world.specs.Numbers.{type_of_class};
 ghost use Rattle.fm_world.specs.Programs.{IsTypeIn};
 
-use crate::coded::{code_of, pack_of, type_id, type_numbered, type_of_class};
+use crate::coded::{code_of, pack_of, type_id, type_numbered};
 use crate::ends::Ended;
 use crate::frames::Frames;
 use crate::machine::Machine;
@@ -24,7 +24,7 @@ use crate::values::Value;
 use fm_base::{Base, ClassId, MethodId, NoMemory, TypeRef};
 use fm_cells::{Cell, Memory};
 use fm_code::Handler;
-use fm_world::{Program, Use};
+use fm_world::{Program, Use, type_of_class};
 
 /// Where an exception goes.
 #[derive(Clone, Copy)]

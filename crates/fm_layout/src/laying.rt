@@ -13,8 +13,8 @@ use crate::new_items::NewItem;
 use crate::rooms::{Branch, GOTO_W_BYTES, Room, SHORT_JUMP_BYTES, kept_item};
 use crate::rounds::{firsts_of, length_of, narrow_length, rooms_of, starts_of, widened_rooms};
 use crate::spelling::{goto_w_item, moved_item, short_item};
-use fm_base::{NoMemory, Seq};
-use fm_code::{Insn, Item, MAX_CODE_BYTES, number_at};
+use fm_base::{NoMemory, Seq, number_at};
+use fm_code::{Insn, Item, MAX_CODE_BYTES};
 use std::alloc::Global;
 
 /// There are fewer new items than this, so that the bytes of any code that is asked for can be

@@ -20,5 +20,5 @@ pub use error::LayFail;
 pub use laws::{law_example, law_laid_items, law_moved_tables, law_settled, law_spelled};
 pub use laying::{Laid, layout};
 pub use new_items::NewItem;
-pub use rooms::{Branch, Condition, Room};
+pub use rooms::{Branch, Condition, Room, local_size, padding_at};
 pub use tables::{Tables, move_tables};

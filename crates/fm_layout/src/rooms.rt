@@ -11,8 +11,9 @@ ghost use Rattle.fm_layout.specs.inner.Sizes.{local_size};
 ghost use Rattle.fm_layout.specs.inner.Weights.{AreShort, IsShortIfSome};
 
 use crate::new_items::NewItem;
+use fm_base::number_at;
 use fm_code::opcodes::GOTO_W;
-use fm_code::{Insn, Item, Reg, Test, number_at};
+use fm_code::{Insn, Item, Reg, Test};
 
 /// The bytes of a branch whose distance has two bytes.
 pub const SHORT_JUMP_BYTES: u32 = 3;
@@ -71,7 +72,7 @@ fn is_goto_w(kept: Option<&Item>) -> bool
 }
 
 /// The number of bytes that a load or a store of a local takes.
-fn local_size(local: u16) -> u32
+pub fn local_size(local: u16) -> u32
     ensures { result ≡ local_size local }
 {
     if local < 4 {
@@ -108,7 +109,7 @@ fn plain_size(kept: Option<&Item>, insn: &Insn) -> u32
 }
 
 /// The bytes between the opcode of a switch at an offset and the next multiple of four.
-pub(crate) fn padding_at(offset: u32) -> u32
+pub fn padding_at(offset: u32) -> u32
     ensures { result ≡ padding_at offset }
 {
     3 - offset % 4

@@ -10,8 +10,8 @@ ghost use Rattle.fm_layout.specs.Spelling.{conditional, distance, inserted_bytes
 ghost use Rattle.fm_layout.specs.inner.Weights.{AreOffsetsWithin};
 
 use crate::rooms::{Condition, padding_at};
-use fm_base::NoMemory;
-use fm_code::{Insn, InsnBytes, Item, Reg, Test, number_at, opcodes, put_u16, put_u32};
+use fm_base::{NoMemory, number_at};
+use fm_code::{Insn, InsnBytes, Item, Reg, Test, opcodes, put_u16, put_u32};
 use std::alloc::Global;
 
 /// The distance from one offset to another.

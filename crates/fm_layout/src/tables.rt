@@ -6,8 +6,8 @@ ghost use Rattle.fm_code.specs.Edges.{MeetsCodeRules};
 ghost use Rattle.fm_layout.specs.Tables.{AreAnchors, moved_attribute, moved_handler, moved_line, moved_number, moved_tables, moved_var};
 
 use crate::laying::Laid;
-use fm_base::{NoMemory, Seq};
-use fm_code::{Code, CodeAttr, Handler, Line, Var, number_at};
+use fm_base::{NoMemory, Seq, number_at};
+use fm_code::{Code, CodeAttr, Handler, Line, Var};
 use std::alloc::Global;
 
 /// The exception table, and the attributes that are kept of a Code attribute.

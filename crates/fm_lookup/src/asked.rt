@@ -1,10 +1,9 @@
 // What files ask of classes: the members that entries of their pools name. Look-ups of these are made fast.
 
-use crate::marks::is_marked;
 use crate::members::Signatures;
 use crate::owners::push_at;
 use fm_above::empty_lists;
-use fm_base::NoMemory;
+use fm_base::{NoMemory, is_marked};
 use fm_declare::{GivenFile, at};
 use std::alloc::Global;
 
@@ -58,7 +57,7 @@ pub(crate) fn asked_of_classes(
     let mut of_classes = empty_lists(alloc, count)?;
     for member in asked {
         if let Some(signature) = signatures.number(member.name, member.descriptor) {
-            if is_marked(marks, signature) {
+            if is_marked(marks, signature as usize) {
                 push_at(&mut of_classes, member.class, signature)?;
             }
         }

@@ -4,7 +4,6 @@
 
 mod asked;
 mod lookups;
-mod marks;
 mod member_rows;
 mod members;
 mod owners;
@@ -12,7 +11,6 @@ mod starts;
 
 pub use asked::{Asked, asked_members};
 pub use lookups::{Fields, Methods};
-pub use marks::{is_marked, mark, mark_all};
 pub use member_rows::{fields_of, methods_of};
 pub use members::{MemberRow, Members, row_at};
 pub use owners::push_at;

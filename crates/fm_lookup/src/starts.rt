@@ -11,8 +11,8 @@ ghost use Rattle.fm_lookup.specs.inner.Starts.{interfaces_along, list_along, pla
 use crate::asked::{Asked, asked_of_classes};
 use crate::members::{Members, Signatures, add_signature};
 use crate::owners::owners_of;
-use fm_above::{Hierarchy, is_interface_at, list_at, number_at, put_number};
-use fm_base::NoMemory;
+use fm_above::{Hierarchy, is_interface_at, list_at, put_number};
+use fm_base::{NoMemory, number_at};
 use fm_declare::number_of;
 use std::alloc::Global;
 use std::collections::BTreeMap;

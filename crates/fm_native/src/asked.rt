@@ -11,11 +11,9 @@ ghost use Rattle.fm_frames.specs.inner.Doings.{seen, CanStep, DoesIn};
 
 use fm_base::{NoMemory, TypeId};
 use fm_cells::{Cell, Head, Memory};
-use fm_frames::{
-    Look, Machine, NULL_POINTER_EXCEPTION, STRING, is_text, type_numbered, type_of_class,
-};
+use fm_frames::{Look, Machine, NULL_POINTER_EXCEPTION, STRING, is_text, type_numbered};
 use fm_types::fits_type;
-use fm_world::Program;
+use fm_world::{Program, type_of_class};
 
 /// An object that an operand leads to: its cell and its head.
 #[derive(Clone, Copy, Debug)]

@@ -21,10 +21,9 @@ use fm_base::{Kind, NoMemory, TypeId, TypeRef};
 use fm_cells::{Cell, Memory};
 use fm_frames::{
     Machine, STRING, STRING_BUFFER, STRING_BUILDER, THROWABLE, Value, is_text, type_numbered,
-    type_of_class,
 };
 use fm_types::fits_type;
-use fm_world::Program;
+use fm_world::{Program, type_of_class};
 use std::alloc::Global;
 
 /// An object that builds a text: none before the first units are appended.

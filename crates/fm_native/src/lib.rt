@@ -19,4 +19,4 @@ pub mod strings;
 pub mod throwables;
 pub mod units;
 
-pub use natives::native;
+pub use natives::{native, quiet};

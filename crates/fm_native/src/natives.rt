@@ -280,8 +280,9 @@ fn stream_method<M: Memory, S: Sink>(
     }
 }
 
-// The result of a step that prints nothing.
-pub(crate) fn quiet(done: Result<(), NoMemory>) -> Result<(), StepFail>
+/// The result of a step that prints nothing.
+#[inline(always)]
+pub fn quiet(done: Result<(), NoMemory>) -> Result<(), StepFail>
     ensures { result ≡ quiet done }
 {
     match done {

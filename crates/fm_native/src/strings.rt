@@ -16,11 +16,9 @@ use crate::shown::{Primitive, shown_at, units_shown};
 use crate::units::{compare_units, hash_units};
 use fm_base::{NoMemory, TypeId};
 use fm_cells::Memory;
-use fm_frames::{
-    Machine, STRING, STRING_INDEX_EXCEPTION, Value, is_text, type_numbered, type_of_class,
-};
+use fm_frames::{Machine, STRING, STRING_INDEX_EXCEPTION, Value, is_text, type_numbered};
 use fm_types::fits_type;
-use fm_world::Program;
+use fm_world::{Program, type_of_class};
 use std::alloc::Global;
 
 /// length of a text.

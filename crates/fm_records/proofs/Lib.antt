@@ -1,7 +1,6 @@
 pub mod OneByOne
 pub mod TypeSteps
 pub mod LiteralSteps
-pub mod UnitFronts
 pub mod RowSteps
 pub mod ClassSteps
 pub mod SlotSteps

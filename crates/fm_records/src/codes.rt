@@ -7,7 +7,7 @@ ghost use Rattle.fm_records.specs.inner.Rows.{codes_in, lent_codes};
 
 use fm_base::NoMemory;
 use fm_code::{Code, Member};
-use fm_declare::{GivenFile, code_of};
+use fm_declare::GivenFile;
 use std::alloc::Global;
 
 // The number of the methods of built-in classes.
@@ -37,7 +37,7 @@ fn add_codes<'a>(codes: &mut Vec<Option<&'a Code>>, methods: &'a [Member]) -> Re
         ≡ lent_codes codes.old.items ++ map code_of methods.entry.now) }
 {
     for method in methods {
-        codes.push(code_of(method))?;
+        codes.push(method.code())?;
     }
     Ok(())
 }

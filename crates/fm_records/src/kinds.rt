@@ -1,6 +1,6 @@
 // What the descriptors of members declare.
 
-ghost use Rattle.std.specs.Prelude.{◌≡◌, IfOk, None, List, false, length, map, option_copied};
+ghost use Rattle.std.specs.Prelude.{◌≡◌, IfOk, None, List, length, map, option_copied};
 ghost use Rattle.std.specs.List.{slice_index_or};
 ghost use Rattle.fm_declare.specs.inner.ClassNumbering.{NumbersClasses};
 ghost use Rattle.fm_declare.specs.inner.Numbering.{lent};
@@ -8,7 +8,7 @@ ghost use Rattle.fm_records.specs.inner.DeclaredKinds.{IsKinds, AreKinds};
 ghost use Rattle.fm_records.specs.inner.Rows.{lent_kinds};
 ghost use Rattle.fm_world.specs.declared.declarations.DeclaredClass.{DeclaredClass};
 
-use fm_base::NoMemory;
+use fm_base::{NoMemory, is_marked};
 use fm_declare::{ClassNumbers, Kinds};
 use std::alloc::Global;
 
@@ -46,16 +46,6 @@ fn kinds_if(
         Ok(Some(Kinds::of(alloc, numbers, descriptor)?))
     } else {
         Ok(None)
-    }
-}
-
-// Whether there is a mark at a place; none past the end.
-fn is_marked(marks: &[bool], place: usize) -> bool
-    ensures { result ≡ slice_index_or marks.now place false }
-{
-    match marks.get(place) {
-        Some(mark) => *mark,
-        None => false,
     }
 }
 

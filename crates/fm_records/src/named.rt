@@ -2,12 +2,13 @@
 
 ghost use Rattle.std.specs.Prelude.{◌≡◌, ◌++◌, ◌∷◌, [], IfOk, OnOk, false, filter, if◌then◌else◌, length, option_to_list};
 ghost use Rattle.std.specs.List.{filter_map, flat_map, range_with_len, slice_index_or};
-ghost use Rattle.fm_world.specs.Uses.{array_of, base_of_elem, items_of, uses_in_order};
+ghost use Rattle.fm_world.specs.Uses.{array_of, uses_in_order};
 ghost use Rattle.fm_records.specs.inner.Named.{made_at, text_at, texts_named, type_at, types_made, types_named};
 
-use fm_base::{Base, NoMemory, TypeRef};
-use fm_code::{ClassDef, Elem, Entry, Insn, Item, Member};
-use fm_declare::{GivenFile, code_of, used_indices};
+use fm_base::{NoMemory, TypeRef};
+use fm_code::{ClassDef, Entry, Insn, Item};
+use fm_declare::{GivenFile, index_of, items_of, used_indices};
+use fm_world::base_of_elem;
 use std::alloc::Global;
 
 /// The types that uses name, by file and by index. `types` has the type that each text names.
@@ -132,16 +133,6 @@ fn add_made_by(
     Ok(())
 }
 
-// The items of a method.
-fn items_of(method: &Member) -> &[Item]
-    ensures { result.now ≡ items_of method.now }
-{
-    match code_of(method) {
-        Some(code) => code.items.as_slice(),
-        None => &[],
-    }
-}
-
 // The indices that a class uses, each once, rising.
 pub(crate) fn uses_in_order(alloc: Global, class: &ClassDef) -> Result<Vec<u16>, NoMemory>
     ensures { IfOk result (λ uses. uses.items ≡ uses_in_order class.now) }
@@ -162,16 +153,6 @@ fn marked_places(alloc: Global, marks: &[bool]) -> Result<Vec<u16>, NoMemory>
         push_if(&mut places, marks[place], index)?;
     }
     Ok(places)
-}
-
-// A place in a pool as an index; no pool has more places than there are indices.
-fn index_of(place: usize) -> Result<u16, NoMemory>
-    ensures { IfOk result (λ index. index ≡ place) }
-{
-    match u16::try_from(place) {
-        Ok(index) => Ok(index),
-        Err(_) => Err(NoMemory),
-    }
 }
 
 // Puts an index after the others, where the test passes.
@@ -249,19 +230,4 @@ pub fn array_of(named: TypeRef) -> Option<TypeRef>
         dims,
         base: named.base,
     })
-}
-
-// The base of an array of such elements.
-fn base_of_elem(elem: Elem) -> Option<Base>
-    ensures { result ≡ base_of_elem elem }
-{
-    match elem {
-        Elem::Boolean => Some(Base::Boolean),
-        Elem::Byte => Some(Base::Byte),
-        Elem::Char => Some(Base::Char),
-        Elem::Short => Some(Base::Short),
-        Elem::Int => Some(Base::Int),
-        Elem::Long => Some(Base::Long),
-        Elem::Ref => None,
-    }
 }

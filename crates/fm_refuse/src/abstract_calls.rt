@@ -9,18 +9,16 @@ ghost use Rattle.fm_refuse.specs.inner.Abstracts.{calls_abstract_at, insn_call, 
 ghost use Rattle.fm_refuse.specs.inner.GivenClasses.{class_in, IsNumbered};
 ghost use Rattle.fm_refuse.specs.inner.Linking.{IsLinking, IsMemberOf};
 ghost use Rattle.fm_world.specs.Causes.{abstract_call, calls_abstract};
-ghost use Rattle.fm_world.specs.Uses.{class_items, items_of, pool_indices};
+ghost use Rattle.fm_world.specs.Uses.{class_items, pool_indices};
 ghost use Rattle.fm_world.specs.declared.declarations.DeclaredClass.{DeclaredClass};
 
 use crate::error::LinkFail;
 use crate::linking::{Linking, class_named, resolved_method};
-use crate::marks::index_of;
 use crate::not_implemented::is_abstract;
 use crate::wanted_methods::bad_method;
-use fm_base::NoMemory;
-use fm_code::{Insn, Item, Member};
-use fm_declare::{GivenFile, MemberTexts, code_of};
-use fm_lookup::is_marked;
+use fm_base::{NoMemory, is_marked};
+use fm_code::{Insn, Item};
+use fm_declare::{GivenFile, MemberTexts, index_of, items_of};
 use std::alloc::Global;
 
 /// Refuses the first instruction of a class that calls an abstract method by itself.
@@ -59,16 +57,6 @@ fn refuse_calls_in(
         refuse_calls_of(alloc, linking, file, marks, items_of(method))?;
     }
     Ok(())
-}
-
-// The items of a method.
-fn items_of(method: &Member) -> &[Item]
-    ensures { result.now ≡ items_of method.now }
-{
-    match code_of(method) {
-        Some(code) => code.items.as_slice(),
-        None => &[],
-    }
 }
 
 // Refuses the first of these items that calls an abstract method by itself.
@@ -122,7 +110,7 @@ fn refuse_special(
         → marks.now ≡ map (calls_abstract_at classes (class_in file.now) class) (pool_indices (class_in file.now))
         → Refuses (special_call classes (class_in file.now) class index) result }
 {
-    if !is_marked(marks, u32::from(index)) {
+    if !is_marked(marks, usize::from(index)) {
         return Ok(());
     }
     let Some(member) = file.member(index) else {

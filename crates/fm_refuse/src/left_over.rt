@@ -17,10 +17,10 @@ ghost use Rattle.fm_world.specs.declared.declarations.DeclaredClass.{DeclaredCla
 use crate::linking::Linking;
 use crate::not_implemented::is_abstract;
 use fm_above::{empty_lists, list_at, put_list};
-use fm_base::NoMemory;
+use fm_base::{NoMemory, is_marked, mark};
 use fm_code::{ACC_ABSTRACT, ACC_PRIVATE, has_flag};
 use fm_declare::{at, number_of};
-use fm_lookup::{is_marked, mark, push_at, row_at};
+use fm_lookup::{push_at, row_at};
 use std::alloc::Global;
 
 /// For each class how many abstract methods of each class are left over in it.
@@ -108,7 +108,7 @@ impl LeftOver {
             (is_owed classes counting.entry.linking.methods.now (λ signature. is_open classes
             (selected_at counting.entry.linking.methods.now (Some class) signature))) row.items) }
     {
-        if !is_marked(counting.asked, class) {
+        if !is_marked(counting.asked, class as usize) {
             return Ok(Vec::new(alloc));
         }
         self.row_of(alloc, counting, class)
@@ -168,10 +168,10 @@ fn asked_of(alloc: Global, linking: Linking) -> Result<Vec<bool>, NoMemory> {
 // Marks a class and its superclasses, up to one that has a mark: those above it have theirs.
 fn mark_chain(marks: &mut Vec<bool>, chain: &[u32]) {
     for class in chain {
-        if is_marked(marks.as_slice(), *class) {
+        if is_marked(marks.as_slice(), *class as usize) {
             return;
         }
-        mark(marks, *class);
+        mark(marks, *class as usize);
     }
 }
 

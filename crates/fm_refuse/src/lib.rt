@@ -9,7 +9,6 @@ mod duplicates;
 mod error;
 mod left_over;
 mod linking;
-mod marks;
 mod missing;
 mod not_implemented;
 mod parents;

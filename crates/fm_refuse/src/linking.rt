@@ -9,9 +9,9 @@ ghost use Rattle.fm_world.specs.Lookups.{class_searched, resolved_field, resolve
 ghost use Rattle.fm_world.specs.declared.declarations.DeclaredClass.{DeclaredClass};
 
 use fm_above::Hierarchy;
-use fm_base::NoMemory;
+use fm_base::{NoMemory, is_marked};
 use fm_declare::{MemberTexts, Texts, at, class_type};
-use fm_lookup::{Fields, Methods, is_marked};
+use fm_lookup::{Fields, Methods};
 use std::alloc::Global;
 
 /// The texts, for each text the class that it names and whether it names an array, and the tables of
@@ -81,7 +81,7 @@ fn class_searched(linking: Linking, text: u32) -> Option<u32>
         → slice_get (texts_in linking.entry.texts.now) text ≡ Some name
         → result ≡ class_searched classes name }
 {
-    if is_marked(linking.arrays, text) {
+    if is_marked(linking.arrays, text as usize) {
         return linking.hierarchy.object;
     }
     class_named(linking, text)

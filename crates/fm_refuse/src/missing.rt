@@ -14,13 +14,11 @@ ghost use Rattle.fm_world.specs.Uses.{uses_in_order};
 ghost use Rattle.fm_world.specs.declared.declarations.DeclaredClass.{DeclaredClass};
 
 use crate::error::{LinkFail, bad_of};
-use crate::marks::index_of;
-use fm_base::NoMemory;
+use fm_base::{NoMemory, is_marked};
 use fm_code::Member;
 use fm_declare::{
-    ClassNumbers, GivenFile, Texts, class_type, missing_class, missing_in, used_indices,
+    ClassNumbers, GivenFile, Texts, class_type, index_of, missing_class, missing_in, used_indices,
 };
-use fm_lookup::is_marked;
 use std::alloc::Global;
 
 // What names of classes are judged by. No text is judged once for each entry that names it: the marks
@@ -142,7 +140,7 @@ fn refuse_missing_use(
     let Some(text) = file.named_class(index_of(place)?) else {
         return Ok(());
     };
-    if is_marked(naming.names_met, text) {
+    if is_marked(naming.names_met, text as usize) {
         return Ok(());
     }
     match missing_class(naming.numbers, class_type(naming.texts.text(text))) {
@@ -182,7 +180,7 @@ fn refuse_missing_in(
     let Some(text) = file.text(descriptor) else {
         return Ok(());
     };
-    if is_marked(naming.descriptors_met, text) {
+    if is_marked(naming.descriptors_met, text as usize) {
         return Ok(());
     }
     match missing_in(naming.numbers, naming.texts.text(text)) {

@@ -21,12 +21,10 @@ ghost use Rattle.fm_world.specs.Uses.{pool_indices};
 ghost use Rattle.fm_world.specs.declared.declarations.DeclaredClass.{DeclaredClass};
 
 use crate::error::{LinkFail, bad_of};
-use crate::marks::{index_of, set_marks};
 use fm_above::{Ancestors, class_listed, goes_up, is_interface_at};
-use fm_base::NoMemory;
+use fm_base::{NoMemory, is_marked, mark_indices};
 use fm_code::{ACC_INTERFACE, has_flag};
-use fm_declare::{ClassNumbers, GivenFile, name_at};
-use fm_lookup::is_marked;
+use fm_declare::{ClassNumbers, GivenFile, index_of, name_at};
 use fm_world::DeclaredClass;
 use std::alloc::Global;
 
@@ -105,7 +103,7 @@ fn listed_indices(alloc: Global, file: &GivenFile) -> Result<Vec<bool>, NoMemory
         ≡ map (λ index. is_among index class.interfaces) (pool_indices class)) }
 {
     let mut listed = vec![in alloc; false; file.class.pool.entries.len()]?;
-    set_marks(&mut listed, file.class.interfaces.as_slice());
+    mark_indices(&mut listed, file.class.interfaces.as_slice());
     Ok(listed)
 }
 
@@ -267,7 +265,10 @@ fn is_bad_interface(ancestry: Ancestry, file: &GivenFile, index: u16) -> bool
     match class_listed(ancestry.numbers, ancestry.by_text, file, index) {
         Some(class) => {
             if is_interface_at(ancestry.ancestors.classes, class) {
-                is_marked(ancestry.ancestors.leads_into_cycle.as_slice(), class)
+                is_marked(
+                    ancestry.ancestors.leads_into_cycle.as_slice(),
+                    class as usize,
+                )
             } else {
                 true
             }

@@ -16,10 +16,9 @@ ghost use Rattle.fm_world.specs.declared.declarations.DeclaredClass.{DeclaredCla
 
 use crate::error::{LinkBad, LinkFail};
 use crate::linking::{Linking, resolved_field};
-use crate::marks::index_of;
 use crate::wanting::{flags_at, is_unlike};
 use fm_base::{Name, NoMemory};
-use fm_declare::{GivenFile, MemberTexts, Wanted, WantedMembers};
+use fm_declare::{GivenFile, MemberTexts, Wanted, WantedMembers, index_of};
 use std::alloc::Global;
 
 /// Refuses the first field that isn't found as it is wanted, by file and by index of the pool.

@@ -16,12 +16,11 @@ ghost use Rattle.fm_world.specs.declared.declarations.DeclaredClass.{DeclaredCla
 
 use crate::error::{LinkBad, LinkFail};
 use crate::linking::{Linking, class_named, resolved_method};
-use crate::marks::index_of;
 use crate::parents::is_interface_there;
 use crate::wanting::is_unlike;
 use fm_base::{Name, NoMemory};
 use fm_code::Entry;
-use fm_declare::{GivenFile, MemberTexts, Wanted, WantedMembers};
+use fm_declare::{GivenFile, MemberTexts, Wanted, WantedMembers, index_of};
 use std::alloc::Global;
 
 /// Refuses the first method that isn't found as it is wanted, by file and by index of the pool.

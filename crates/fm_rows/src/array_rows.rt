@@ -7,14 +7,13 @@ ghost use Rattle.fm_types.specs.ArrayRows.{array_load_row, array_store_row, elem
 ghost use Rattle.fm_types.specs.States.{pushed, taken};
 ghost use Rattle.fm_types.specs.Typings.{type_state};
 ghost use Rattle.fm_types.specs.declared.slots.Slot.TheVariants as slot;
-ghost use Rattle.fm_world.specs.Uses.{base_of_elem};
 
 use crate::named::{object_slot, type_at};
 use crate::words::{take, work};
 use fm_base::{Base, NoMemory, TypeRef};
 use fm_code::Elem;
 use fm_types::{Slot, State, depth_of};
-use fm_world::{Program, Use};
+use fm_world::{Program, Use, base_of_elem};
 use std::alloc::Global;
 
 // Whether an array of the letter is loaded and stored so.
@@ -182,21 +181,6 @@ fn has_length(array: Slot) -> bool
         Slot::Null => true,
         Slot::Ref(t) => t.dims > 0,
         _ => false,
-    }
-}
-
-// The letter of an array of numbers.
-fn base_of_elem(elem: Elem) -> Option<Base>
-    ensures { result ≡ base_of_elem elem }
-{
-    match elem {
-        Elem::Boolean => Some(Base::Boolean),
-        Elem::Byte => Some(Base::Byte),
-        Elem::Char => Some(Base::Char),
-        Elem::Short => Some(Base::Short),
-        Elem::Int => Some(Base::Int),
-        Elem::Long => Some(Base::Long),
-        Elem::Ref => None,
     }
 }
 

@@ -19,6 +19,6 @@ pub use call_rows::is_constructor;
 pub use laws::law_uses;
 pub use method::{built_in_type, class_of_method, use_in};
 pub use moves::is_whole;
-pub use named::{type_of_class, type_of_use};
+pub use named::type_of_use;
 pub use rows::apply;
 pub use words::{push_words, words_of};

@@ -8,10 +8,10 @@ ghost use Rattle.fm_types.specs.Typed.{made_at, use_in};
 ghost use Rattle.fm_world.specs.Chains.{class_at};
 ghost use Rattle.fm_world.specs.Members.{methods_of};
 
-use crate::named::{type_of_class, type_of_use};
+use crate::named::type_of_use;
 use fm_base::{ClassId, MethodId, TypeRef};
 use fm_code::{Code, Insn};
-use fm_world::{Program, Use};
+use fm_world::{Program, Use, type_of_class};
 
 /// The class that declares a method. Takes no memory.
 #[tactic(auto, using(crate::proofs::OwnerLemmas::owner_within), unfolding(fm_world::specs::Programs::method_info))]

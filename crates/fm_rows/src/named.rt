@@ -3,11 +3,10 @@
 ghost use Rattle.std.specs.Prelude.{◌≡◌, ◌<◌, Some, slice_get};
 ghost use Rattle.fm_types.specs.Named.{object_slot};
 ghost use Rattle.fm_types.specs.Typed.{type_of_use};
-ghost use Rattle.fm_world.specs.Numbers.{type_of_class};
 
-use fm_base::{Base, ClassId, TypeId, TypeRef};
+use fm_base::{TypeId, TypeRef};
 use fm_types::Slot;
-use fm_world::{Program, Use};
+use fm_world::{Program, Use, type_of_class};
 
 /// The type of this number, if there is one.
 pub fn type_at(program: &Program, t: TypeId) -> Option<TypeRef>
@@ -27,16 +26,6 @@ pub fn type_of_use(program: &Program, resolved: Use) -> Option<TypeRef>
     match resolved {
         Use::OfType(t) => type_at(program, t),
         _ => None,
-    }
-}
-
-/// A class as a type.
-pub fn type_of_class(class: ClassId) -> TypeRef
-    ensures { result ≡ type_of_class class.0 }
-{
-    TypeRef {
-        dims: 0,
-        base: Base::OfClass(class),
     }
 }
 

@@ -12,12 +12,12 @@ ghost use Rattle.fm_world.specs.Members.{fields_of, methods_of};
 
 use crate::field_rows::field_words;
 use crate::method::class_of_method;
-use crate::named::{type_at, type_of_class};
+use crate::named::type_at;
 use crate::words::take;
 use fm_base::{Base, FieldId, MethodId, NoMemory, TypeRef};
 use fm_code::{ACC_ABSTRACT, ACC_INTERFACE, has_flag};
 use fm_types::{Slot, Stack, State, fits, fits_type};
-use fm_world::{Program, Use};
+use fm_world::{Program, Use, type_of_class};
 use std::alloc::Global;
 
 // Whether the slot is an object that the `new` of this item made, or with no item a constructor's own

@@ -10,7 +10,7 @@ ghost use Rattle.fm_types.specs.Typed.{made_at};
 ghost use Rattle.fm_types.specs.Typings.{type_state};
 ghost use Rattle.fm_types.specs.declared.slots.Slot.TheVariants as slot;
 ghost use Rattle.fm_base.specs.declared.ids.ClassId.{ClassId};
-ghost use Rattle.fm_world.specs.Chains.{chain_of, is_among, parent_of};
+ghost use Rattle.fm_world.specs.Chains.{parent_of};
 ghost use Rattle.fm_world.specs.Members.{methods_of};
 ghost use Rattle.fm_world.specs.Programs.{class_of_type};
 
@@ -18,13 +18,13 @@ use crate::call_rows::{
     argument_words, called_words, is_constructor, is_initializer, result_words,
 };
 use crate::method::{class_of_method, made_at};
-use crate::named::{type_at, type_of_class};
+use crate::named::type_at;
 use crate::object_rows::replaced;
 use crate::words::{take, work};
 use fm_base::{Base, ClassId, MethodId, NoMemory, TypeRef};
 use fm_code::Code;
-use fm_types::{Slot, Stack, State};
-use fm_world::{Program, Use};
+use fm_types::{Slot, Stack, State, is_in_chain};
+use fm_world::{Program, Use, type_of_class};
 use std::alloc::Global;
 
 // The class that a type is; none for an array.
@@ -37,19 +37,6 @@ fn class_of_type(t: TypeRef) -> Option<ClassId>
     match t.base {
         Base::OfClass(class) => Some(class),
         _ => None,
-    }
-}
-
-// Whether the second class is the first one or one of its superclasses. A number that no class has is
-// alone in its chain.
-fn is_in_chain(program: &Program, c: ClassId, d: ClassId) -> bool
-    ensures { result ≡ is_among d.0 (chain_of program.now.outline.classes c.0) }
-{
-    let classes = program.classes();
-    if c.0 < classes && d.0 < classes {
-        program.is_in_chain(c, d)
-    } else {
-        d.0 == c.0
     }
 }
 

@@ -4,7 +4,7 @@ ghost use Rattle.std.specs.Prelude.{◌≡◌, ◌-◌, IfOk, IsErrOf, OnOk};
 ghost use Rattle.fm_frames.specs.Steps.{cost, next_effect};
 ghost use Rattle.fm_frames.specs.declared.turns.StepFail.TheVariants as StepFail;
 ghost use Rattle.fm_frames.specs.inner.Doings.{CanStep};
-ghost use Rattle.fm_native.specs.Doing.{FailsAt, quiet, StepsTo};
+ghost use Rattle.fm_native.specs.Doing.{FailsAt, StepsTo};
 ghost use Rattle.fm_ready.specs.Ready.{CanRun, IsGoing};
 ghost use Rattle.fm_run.specs.Stepping.{DoesStep, FailsStep, turn_of};
 ghost use Rattle.fm_run.specs.inner.Nexts.{StandsIn, Stepped};
@@ -13,24 +13,14 @@ use crate::calls::calls;
 use crate::groups::{Group, group_of};
 use crate::names::{code_in, insn_in, next_place};
 use crate::plain::{objects, rarer, statics, thrown, usual};
-use fm_base::{MethodId, NoMemory};
+use fm_base::MethodId;
 use fm_cells::Memory;
 use fm_code::Insn;
 use fm_files::Sink;
 use fm_frames::{Machine, StepFail, Turn};
+use fm_native::quiet;
 use fm_world::Program;
 use std::alloc::Global;
-
-// The result of an instruction that prints nothing.
-#[inline(always)]
-pub(crate) fn quiet(done: Result<(), NoMemory>) -> Result<(), StepFail>
-    ensures { result ≡ quiet done }
-{
-    match done {
-        Ok(()) => Ok(()),
-        Err(NoMemory) => Err(StepFail::NoMemory),
-    }
-}
 
 // Does the instruction that is next, by its group.
 #[inline(always)]

@@ -9,7 +9,7 @@ use Rattle.fm_code.specs.Spells.{HasSpelling}
 use Rattle.fm_code.specs.declared.class_file.ClassDef.{ClassDef}
 use Rattle.fm_declare.proofs.MarkLemmas.{get_or-marked, length-marked}
 use Rattle.fm_declare.proofs.SpelledNames.{few_fields, few_methods, FewField, FewMethod}
-use Rattle.fm_declare.specs.inner.Marks.{marked}
+use Rattle.fm_base.specs.Rows.{marked}
 use Rattle.fm_lookup.specs.declared.members.MemberRow.{MemberRow}
 use Rattle.fm_lookup.specs.inner.MemberRows.{field_alike, method_alike, no_row, row_alike, AreRows, Owned}
 use Rattle.fm_records.proofs.KindLaws.{IsDescribed}

@@ -9,7 +9,7 @@ use Rattle.fm_code.specs.declared.class_file.ClassDef.{ClassDef}
 use Rattle.fm_declare.specs.declared.descriptors.Kinds.{Kinds}
 use Rattle.fm_declare.specs.declared.given.GivenFile.{GivenFile}
 use Rattle.fm_declare.specs.inner.Files.{AreFiles}
-use Rattle.fm_declare.specs.inner.Marks.{marked}
+use Rattle.fm_base.specs.Rows.{marked}
 use Rattle.fm_declare.specs.inner.Numbering.{lent}
 use Rattle.fm_lookup.specs.declared.members.MemberRow.{MemberRow}
 use Rattle.fm_lookup.specs.inner.MemberRows.{field_alike, method_alike, AreRows}

@@ -1,11 +1,11 @@
 // The descriptors and the flags of members, and which texts are descriptors.
 
 ghost use Rattle.std.specs.Prelude.{◌≡◌, IfOk, false, replicate};
-ghost use Rattle.fm_declare.specs.inner.Marks.{marked};
+ghost use Rattle.fm_base.specs.Rows.{marked};
 ghost use Rattle.fm_tables.specs.inner.MemberLists.{descriptors_in, flags_in};
 
-use fm_base::NoMemory;
-use fm_lookup::{MemberRow, mark_all};
+use fm_base::{NoMemory, mark_all};
+use fm_lookup::MemberRow;
 use std::alloc::Global;
 
 /// The descriptor of each member, by the number of its text.

@@ -1,7 +1,7 @@
 // What the indices of all classes are resolved to (JVMS 5.4.3).
 
-ghost use Rattle.std.specs.Prelude.{◌≡◌, ◌++◌, [], IfOk, false, length, map, option_and_then, replicate};
-ghost use Rattle.std.specs.List.{slice_index_or, AllByRecursion};
+ghost use Rattle.std.specs.Prelude.{◌≡◌, ◌++◌, [], IfOk, length, map, option_and_then, replicate};
+ghost use Rattle.std.specs.List.{AllByRecursion};
 ghost use Rattle.fm_code.specs.ConstantPool.{entry_at};
 ghost use Rattle.fm_code.specs.Spells.{HasSpelling};
 ghost use Rattle.fm_declare.specs.inner.Numbering.{texts_in};
@@ -13,9 +13,9 @@ ghost use Rattle.fm_world.specs.Lookups.{resolved_field, resolved_method};
 ghost use Rattle.fm_world.specs.Programs.{class_uses, resolved_at};
 ghost use Rattle.fm_world.specs.Uses.{named_member};
 
-use fm_base::{NoMemory, Seq, TypeRef};
+use fm_base::{NoMemory, Seq, TypeRef, is_marked};
 use fm_code::Entry;
-use fm_declare::{GivenFile, used_indices};
+use fm_declare::{GivenFile, index_of, used_indices};
 use fm_records::{Literals, Types, text_number_at, type_number_at, use_of_entry};
 use fm_refuse::{Linking, resolved_field, resolved_method};
 use fm_world::{Use, built_in_classes};
@@ -81,16 +81,6 @@ fn uses_of_file(alloc: Global, resolving: Resolving, file: &GivenFile) -> Result
     Ok(Seq::new(uses))
 }
 
-// The mark of a place; there is none past the end.
-fn is_marked(marks: &[bool], place: usize) -> bool
-    ensures { result ≡ slice_index_or marks.now place false }
-{
-    match marks.get(place) {
-        Some(mark) => *mark,
-        None => false,
-    }
-}
-
 // What a place of the pool is resolved to, if it is used.
 fn use_if(resolving: Resolving, file: &GivenFile, place: usize, used: bool) -> Result<Use, NoMemory>
     requires resolving { IsResolving resolving }
@@ -104,16 +94,6 @@ fn use_if(resolving: Resolving, file: &GivenFile, place: usize, used: bool) -> R
     }
     let index = index_of(place)?;
     Ok(use_at(resolving, file, index))
-}
-
-// A place in a pool as an index; no pool has more places than there are indices.
-fn index_of(place: usize) -> Result<u16, NoMemory>
-    ensures { IfOk result (λ index. index ≡ place) }
-{
-    match u16::try_from(place) {
-        Ok(index) => Ok(index),
-        Err(_) => Err(NoMemory),
-    }
 }
 
 // What an index is resolved to.

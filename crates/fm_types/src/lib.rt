@@ -12,6 +12,7 @@ mod slots;
 mod stacks;
 mod states;
 
+pub use chains::is_in_chain;
 pub use fitting::{depth_of, fits, fits_type};
 pub use joins::{join, join_type};
 pub use laws::{law_example, law_fits, law_join, law_join_examples, law_rows};

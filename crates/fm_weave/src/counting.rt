@@ -8,8 +8,9 @@ ghost use Rattle.fm_weave.specs.ByPlan.{end_after, freed_by, inserted_end, narro
 ghost use Rattle.fm_weave.specs.Conditions.{AreLocals, HasRoom};
 
 use crate::pairs::{here, later, local_of};
-use crate::sizes::{CALL_BYTES, DUP_BYTES, NULL_BYTES, kept_size, local_size};
+use crate::sizes::{CALL_BYTES, DUP_BYTES, NULL_BYTES, kept_size};
 use fm_code::{Code, Item};
+use fm_layout::local_size;
 use fm_place::Plan;
 
 /// The bytes of the new items while no branch is widened. Takes no memory.

@@ -1,14 +1,13 @@
 // How many bytes instructions take while no branch is widened.
 
 ghost use Rattle.std.specs.Prelude.{◌≡◌, ◌<◌, ◌^◌, Some, if◌then◌else◌, length};
-ghost use Rattle.fm_code.specs.InstructionTable.{padding_at};
 ghost use Rattle.fm_layout.specs.Rooms.{room_of, size_at, switch_size};
 ghost use Rattle.fm_layout.specs.Spelling.{is_goto_w};
-ghost use Rattle.fm_layout.specs.inner.Sizes.{local_size};
 ghost use Rattle.fm_layout.specs.inner.Weights.{IsShort};
 
 use fm_code::opcodes::GOTO_W;
 use fm_code::{Insn, Item};
+use fm_layout::padding_at;
 
 /// The bytes of an aconst_null.
 pub(crate) const NULL_BYTES: u32 = 1;
@@ -24,19 +23,6 @@ const SHORT_JUMP_BYTES: u32 = 3;
 
 /// The bytes of a goto_w.
 const GOTO_W_BYTES: u32 = 5;
-
-/// The bytes of a load or a store of a local.
-pub(crate) fn local_size(local: u16) -> u32
-    ensures { result ≡ local_size local }
-{
-    if local < 4 {
-        1
-    } else if local < 256 {
-        2
-    } else {
-        4
-    }
-}
 
 /// The bytes of an old item at an offset.
 pub(crate) fn kept_size(item: &Item, start: u32) -> u32
@@ -65,13 +51,6 @@ fn goto_size(item: &Item) -> u32
     } else {
         SHORT_JUMP_BYTES
     }
-}
-
-/// The bytes between the opcode of a switch at an offset and the next multiple of four.
-fn padding_at(offset: u32) -> u32
-    ensures { result ≡ padding_at offset }
-{
-    3 - offset % 4
 }
 
 /// The bytes of an old switch after its opcode and its padding.

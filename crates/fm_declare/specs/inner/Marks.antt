@@ -1,24 +1,12 @@
--- The marks of the indices that a class uses, set one after the other.
-use Rattle.std.specs.Prelude.{ℕ, Bool, true, List, [], ◌∷◌, Option, Some, None, slice_set}
+-- The indices that a class uses, one after the other.
+use Rattle.std.specs.Prelude.{ℕ, List, [], ◌∷◌}
 use Rattle.std.specs.List.{filter_map}
 use Rattle.fm_code.specs.declared.class_file.Member.{Member}
 use Rattle.fm_code.specs.declared.class_file.MemberAttr.{MemberAttr}
 use Rattle.fm_code.specs.declared.class_file.MemberAttr.TheVariants as attribute
-use Rattle.fm_code.specs.declared.code_array.Code.{Code}
 use Rattle.fm_code.specs.declared.code_array.Item.{Item}
 use Rattle.fm_code.specs.Operands.{pool_index}
 use Rattle.fm_world.specs.Uses.{items_of}
-
--- marks with those of the indices set
-abbrev pub marked : List Bool → List ℕ → List Bool
-marked marks [] = marks
-marked marks (index ∷ indices) = marked (slice_set marks index true) indices
-
--- the code of the first attribute that has one
-abbrev pub first_code : List MemberAttr → Option Code
-first_code [] = None
-first_code (attribute.Coded name code ∷ attributes) = Some code
-first_code (a ∷ attributes) = first_code attributes
 
 -- the indices of the values that attributes give
 abbrev pub values_among : List MemberAttr → List ℕ

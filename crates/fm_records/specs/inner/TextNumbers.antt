@@ -37,9 +37,3 @@ with_text texts found text = with_one bytes_eq found (units_at texts text)
 pub record AreNumbered (texts found : List (List ℕ)) (by_text : List (Option ℕ)) : Type 0 where
   pub count : length by_text ≡ length texts
   pub numbers : (n : ℕ) → IsModified texts n → slice_index_or by_text n None ≡ text_number found (units_at texts n)
-
--- the text begins with the bytes of this unit, and this rest has the other ones
-pub record TakesUnit (text : List ℕ) (unit : ℕ) (rest : List ℕ) : Type 0 where
-  pub units_are : units text ≡ unit ∷ units rest
-  pub modified : IsModifiedUtf8 rest
-  pub shorter : length rest < length text

@@ -9,11 +9,11 @@ loop-place-init c = λ i from below within. absurd (omega (arith, from, below))
 pub bounds-interfaces-place : goal.bounds-interfaces-place
 bounds-interfaces-place c = omega (arith, c.loop-place-test.true, c.in_ok-end.ensures)
 
-pub returns-then-is_set-clause-passed : goal.returns-then-is_set-clause-passed
-returns-then-is_set-clause-passed c = λ i from below within. c.loop-place.invariant i from below within
+pub returns-then-is_marked-clause-passed : goal.returns-then-is_marked-clause-passed
+returns-then-is_marked-clause-passed c = λ i from below within. c.loop-place.invariant i from below within
 
-pub returns-then-is_set-clause-here : goal.returns-then-is_set-clause-here
-returns-then-is_set-clause-here c = λ within. sym c.is_set.ensures ∙ c.if-is_set.true
+pub returns-then-is_marked-clause-here : goal.returns-then-is_marked-clause-here
+returns-then-is_marked-clause-here c = λ within. sym c.is_marked.ensures ∙ c.if-is_marked.true
 
 pub loop-place-preserved : goal.loop-place-preserved
 loop-place-preserved c = λ i from below within. by_place i from below within (cases_lt i c.loop-place.place) where
@@ -22,7 +22,7 @@ loop-place-preserved c = λ i from below within. by_place i from below within (c
   by_place i from below within (inl h) = c.loop-place.invariant i from h within
   by_place i from below within (inr h) =
       let same : i ≡ c.loop-place.place = omega (arith, h, below) in
-      ap (λ k. is_set c.args.goes_on.now (get_or c.args.interfaces.now k 0)) same ∙ sym c.is_set.ensures ∙ c.if-is_set.false
+      ap (λ k. is_set c.args.goes_on.now (get_or c.args.interfaces.now k 0)) same ∙ sym c.is_marked.ensures ∙ c.if-is_marked.false
 
 pub returns-clause-passed : goal.returns-clause-passed
 returns-clause-passed c = λ i from below within.

@@ -5,7 +5,7 @@ use Rattle.fm_declare.proofs.used.handlers_of.Goals as goal
 pub returns-in-Some : goal.returns-in-Some
 returns-in-Some c =
     ap (map (λ h. h.catch_class)) c.as_slice.ensures
-    ∙ sym (caught_some c.args.method.now c.in-Some.code.now (sym c.code_of.ensures ∙ ap option_copied c.in-Some.is))
+    ∙ sym (caught_some c.args.method.now c.in-Some.code.now (sym c.code.ensures ∙ ap option_copied c.in-Some.is))
 
 pub returns-in-None : goal.returns-in-None
-returns-in-None c = sym (caught_none c.args.method.now (sym c.code_of.ensures ∙ ap option_copied c.in-None.is))
+returns-in-None c = sym (caught_none c.args.method.now (sym c.code.ensures ∙ ap option_copied c.in-None.is))

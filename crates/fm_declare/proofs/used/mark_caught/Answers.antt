@@ -1,7 +1,7 @@
 use Rattle.std.proofs.Common.{◌∙◌, ap}
 use Rattle.std.specs.List.{flat_map}
 use Rattle.fm_declare.proofs.MarkLemmas.{marks_step}
-use Rattle.fm_declare.specs.inner.Marks.{marked}
+use Rattle.fm_base.specs.Rows.{marked}
 use Rattle.fm_world.specs.Uses.{caught_by}
 use Rattle.fm_declare.proofs.used.mark_caught.Goals as goal
 

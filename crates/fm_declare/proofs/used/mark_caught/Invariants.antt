@@ -1,6 +1,6 @@
 use Rattle.std.proofs.Common.{◌≡◌, drop}
 use Rattle.std.specs.List.{flat_map}
-use Rattle.fm_declare.specs.inner.Marks.{marked}
+use Rattle.fm_base.specs.Rows.{marked}
 use Rattle.fm_world.specs.Uses.{caught_by}
 use Rattle.fm_declare.proofs.used.mark_caught.Given as goal
 

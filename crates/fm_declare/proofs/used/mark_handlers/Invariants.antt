@@ -1,5 +1,5 @@
 use Rattle.std.proofs.Common.{◌≡◌, drop, map}
-use Rattle.fm_declare.specs.inner.Marks.{marked}
+use Rattle.fm_base.specs.Rows.{marked}
 use Rattle.fm_declare.proofs.used.mark_handlers.Given as goal
 
 abbrev pub invariant-loop-handler : goal.invariant-loop-handler

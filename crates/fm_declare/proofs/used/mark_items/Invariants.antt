@@ -1,5 +1,6 @@
 use Rattle.std.proofs.Common.{◌≡◌, drop}
-use Rattle.fm_declare.specs.inner.Marks.{marked, operands_among}
+use Rattle.fm_base.specs.Rows.{marked}
+use Rattle.fm_declare.specs.inner.Marks.{operands_among}
 use Rattle.fm_declare.proofs.used.mark_items.Given as goal
 
 abbrev pub invariant-loop-item : goal.invariant-loop-item

@@ -1,7 +1,8 @@
 use Rattle.std.proofs.Common.{◌∙◌, ap}
 use Rattle.std.specs.List.{flat_map}
 use Rattle.fm_declare.proofs.MarkLemmas.{marks_step}
-use Rattle.fm_declare.specs.inner.Marks.{marked, operands_among, operands_in}
+use Rattle.fm_base.specs.Rows.{marked}
+use Rattle.fm_declare.specs.inner.Marks.{operands_among, operands_in}
 use Rattle.fm_declare.proofs.used.mark_operands.Goals as goal
 
 pub loop-method-preserved : goal.loop-method-preserved

@@ -1,5 +1,6 @@
 use Rattle.std.proofs.Common.{◌≡◌, drop}
-use Rattle.fm_declare.specs.inner.Marks.{marked, values_among}
+use Rattle.fm_base.specs.Rows.{marked}
+use Rattle.fm_declare.specs.inner.Marks.{values_among}
 use Rattle.fm_declare.proofs.used.mark_value.Given as goal
 
 abbrev pub invariant-loop-attribute : goal.invariant-loop-attribute

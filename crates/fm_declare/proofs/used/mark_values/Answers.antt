@@ -1,7 +1,8 @@
 use Rattle.std.proofs.Common.{sym, ◌∙◌, ap}
 use Rattle.std.specs.List.{flat_map}
 use Rattle.fm_declare.proofs.MarkLemmas.{marks_step, values_are}
-use Rattle.fm_declare.specs.inner.Marks.{marked, values_among}
+use Rattle.fm_base.specs.Rows.{marked}
+use Rattle.fm_declare.specs.inner.Marks.{values_among}
 use Rattle.fm_world.specs.Uses.{values_of}
 use Rattle.fm_declare.proofs.used.mark_values.Goals as goal
 

@@ -1,11 +1,14 @@
-use Rattle.std.proofs.Common.{arith, not, sym, ◌∙◌, ap, refl, subst, cond, false, true, is_some, List, ℕ, [], ◌∷◌, ◌++◌, set, Some}
+use Rattle.std.proofs.Common.{arith, not, sym, ◌<◌, ◌^◌, ◌∙◌, ap, refl, subst, cond, false, true, is_some, List, ℕ, [], ◌∷◌, ◌++◌, set, Some}
+use Rattle.std.proofs.lemmas.List.Elements.{All-from_recursion}
 use Rattle.fm_base.specs.Texts.{units, IsModifiedUtf8}
 use Rattle.fm_records.specs.inner.TextNumbers.{lent, units_at, AreNumbered}
 use Rattle.fm_records.proofs.LiteralSteps.{has_number, lent_at, numbered_more}
 use Rattle.fm_records.proofs.literals.Literals.add.Goals as goal
 
-pub units_of-requires : goal.units_of-requires
-units_of-requires c = subst IsModifiedUtf8 (lent_at c.args.texts.now c.args.text _ refl) c.requires.modified.modified
+pub from_modified_utf8-requires : goal.from_modified_utf8-requires
+from_modified_utf8-requires c =
+    let modified = subst IsModifiedUtf8 (lent_at c.args.texts.now c.args.text _ refl) c.requires.modified.modified in
+    All-from_recursion (λ unit. unit < 2 ^ 16) _ modified.in_range
 
 pub returns-in_ok-push-clause-units : goal.returns-in_ok-push-clause-units
 returns-in_ok-push-clause-units c =
@@ -14,7 +17,7 @@ returns-in_ok-push-clause-units c =
     let fresh = has_number (lent c.args.texts.now) found c.args.self.now.by_text.items c.args.text false c.requires.numbers c.requires.modified
     (ap is_some (sym c.number.ensures) ∙ c.is_none.ensures ∙ ap not c.if-is_none.true) in
     c.in_ok-push.ensures.items
-    ∙ ap (λ u. found ++ u ∷ []) (c.in_ok-units_of.ensures ∙ ap units (sym (lent_at c.args.texts.now c.args.text _ refl)))
+    ∙ ap (λ u. found ++ u ∷ []) (c.in_ok-from_modified_utf8.ensures ∙ ap units (sym (lent_at c.args.texts.now c.args.text _ refl)))
     ∙ sym (ap (λ b. cond b found (found ++ us ∷ [])) fresh)
 
 pub returns-in_ok-push-clause-numbers : goal.returns-in_ok-push-clause-numbers
@@ -25,7 +28,7 @@ returns-in_ok-push-clause-numbers c =
     let found_len = c.args.self.now.units.ok.0 in
     let fresh = has_number texts found by_text c.args.text false c.requires.numbers c.requires.modified
     (ap is_some (sym c.number.ensures) ∙ c.is_none.ensures ∙ ap not c.if-is_none.true) in
-    let pushed = c.in_ok-push.ensures.items ∙ ap (λ u. found ++ u ∷ []) (c.in_ok-units_of.ensures
+    let pushed = c.in_ok-push.ensures.items ∙ ap (λ u. found ++ u ∷ []) (c.in_ok-from_modified_utf8.ensures
     ∙ ap units (sym (lent_at c.args.texts.now c.args.text _ refl))) in
     subst (λ fs. AreNumbered texts fs (set by_text c.args.text (Some c.in_ok-number.number))) (sym pushed)
     (numbered_more texts found by_text c.args.text c.in_ok-number.number c.requires.numbers c.requires.apart c.requires.modified

@@ -1,6 +1,0 @@
-use Rattle.std.proofs.Common.{◌≡◌, drop}
-use Rattle.fm_declare.specs.inner.Marks.{marked}
-use Rattle.fm_refuse.proofs.marks.set_marks.Given as goal
-
-abbrev pub invariant-loop-index : goal.invariant-loop-index
-invariant-loop-index l = marked l.marks.items (drop l.index-index l.indices) ≡ marked l.initial.marks.items l.indices
