@@ -1,5 +1,5 @@
 -- What the instructions name in the constant pool (JVMS 4.9.1).
-use Rattle.std.specs.Prelude.{◌≡◌, ℕ, ◌+◌, ◌==◌, ◌⊎◌, Bool, true, false, List, IsSome, IsSomeAnd, slice_index, sum_by}
+use Rattle.std.specs.Prelude.{◌≡◌, ℕ, ◌+◌, ◌==◌, ◌⊎◌, Bool, true, false, List, Option, Some, None, IsSome, IsSomeAnd, slice_index, sum_by}
 use Rattle.fm_code.specs.ConstantPool.{entry_at, class_name_at, field_at, method_at, interface_method_at}
 use Rattle.fm_code.specs.Names.{MethodType, IsMethodType, method_descriptor, words_of}
 use Rattle.fm_code.specs.declared.opcodes.TheConstants.{LDC2_W}

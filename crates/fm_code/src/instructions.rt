@@ -7,8 +7,8 @@ ghost use Rattle.fm_code.specs.SpellsCode.{targets_of, with_targets};
 ghost use Rattle.fm_code.specs.StackWords.{words_taken};
 
 use crate::operations::{Conv, Elem, Op, Reg, Shift, Test};
-use crate::switch_list::{SwitchList, number_at};
-use fm_base::NoMemory;
+use crate::switch_list::SwitchList;
+use fm_base::{NoMemory, number_at};
 use std::alloc::Global;
 
 /// An instruction. A `u16` is a pool index or a local variable, and a `u32` the number of the item

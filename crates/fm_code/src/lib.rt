@@ -46,4 +46,4 @@ pub use laws::{
 pub use operations::{Conv, Elem, Op, Reg, Shift, Test};
 pub use profile::{NEWEST_MAJOR, OLDEST_MAJOR, OLDEST_MINOR, OverLimit, Place, Unsupported, What};
 pub use put::{put_u16, put_u32, put_u64};
-pub use switch_list::{SwitchList, number_at};
+pub use switch_list::SwitchList;

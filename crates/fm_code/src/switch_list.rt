@@ -3,7 +3,7 @@
 ghost use Rattle.std.specs.Prelude.{◌≡◌, IfOk, map, slice_index};
 ghost use Rattle.std.specs.Cmp.Lexicographic.{pointwise, lists_per, lists_equiv};
 
-use fm_base::NoMemory;
+use fm_base::{NoMemory, number_at};
 use std::alloc::Global;
 use std::marker::Model;
 use std::ops::DerefSlice;
@@ -62,16 +62,6 @@ impl SwitchList<u32> {
             renumbered.push(number_at(numbers, *index))?;
         }
         SwitchList::new(alloc, renumbered)
-    }
-}
-
-/// The number at an index of a list, and 0 past the last one.
-pub fn number_at(numbers: &[u32], index: u32) -> u32
-    ensures { result ≡ slice_index numbers.now index }
-{
-    match numbers.get(index as usize) {
-        Some(number) => *number,
-        None => 0,
     }
 }
 
