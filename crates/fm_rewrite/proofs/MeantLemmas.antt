@@ -24,8 +24,7 @@ use Rattle.fm_place.specs.Insertions.{all_insertions, full_insertions, Insertion
 use Rattle.fm_place.specs.Safe.{full_plans}
 use Rattle.fm_place.specs.Woven.{woven}
 use Rattle.fm_place.specs.declared.plans.Plan.{Plan}
-use Rattle.fm_profile.proofs.LimitLemmas.{code_is}
-use Rattle.fm_profile.specs.inner.Declared.{first_code}
+use Rattle.fm_profile.proofs.LimitLemmas.{code_is, first_code}
 use Rattle.fm_rewrite.proofs.FullPlanLemmas.{whole}
 use Rattle.fm_rewrite.specs.Alike.{IsOwnCode, IsPlannedAt}
 use Rattle.fm_rewrite.specs.Plans.{IsPlannedByFacts}

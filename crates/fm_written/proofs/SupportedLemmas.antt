@@ -35,8 +35,7 @@ use Rattle.fm_place.specs.Woven.{anchors_of, woven, woven_code}
 use Rattle.fm_pool.proofs.FreeEntriesAdded.{free_named, free_supported}
 use Rattle.fm_pool.proofs.GrownPool.{class_kept, entry_kept}
 use Rattle.fm_profile.proofs.FloatingLemmas.{array_begins}
-use Rattle.fm_profile.proofs.LimitLemmas.{code_is}
-use Rattle.fm_profile.specs.inner.Declared.{first_code}
+use Rattle.fm_profile.proofs.LimitLemmas.{code_is, first_code}
 use Rattle.fm_written.proofs.InsertedFits.{InsertedFits, woven_fits}
 use Rattle.fm_written.proofs.KeptNames.{field_kept, interface_method_kept, method_kept, still_some, still_such, such_kept}
 use Rattle.fm_written.proofs.LaidFits.{HoldsOfTargets, laid_hold}
