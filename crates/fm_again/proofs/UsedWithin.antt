@@ -11,7 +11,7 @@ use Rattle.fm_code.specs.CodeRules.{HandlerIsValid}
 use Rattle.fm_code.specs.ConstantPool.{class_name_at, entry_at, field_at, interface_method_at, MemberName, method_at}
 use Rattle.fm_code.specs.Members.{FieldAttrIsValid, FieldIsValid, IsValue, MethodAttrIsValid, MethodIsValid}
 use Rattle.fm_code.specs.Names.{is_binary_name}
-use Rattle.fm_code.specs.Operands.{IsConstant, OperandIsValid, TakesWords, count_of, opcode_of, pool_index}
+use Rattle.fm_code.specs.Operands.{IsAnyMethod, IsConstant, OperandIsValid, TakesWords, count_of, opcode_of, pool_index}
 use Rattle.fm_code.specs.Spells.{HasSpelling}
 use Rattle.fm_code.specs.declared.class_file.ClassDef.{ClassDef}
 use Rattle.fm_code.specs.declared.class_file.Member.{Member}
