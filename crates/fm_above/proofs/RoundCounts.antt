@@ -10,19 +10,19 @@ abbrev pub bit : Bool → ℕ
 bit true = 1
 bit false = 0
 
-abbrev pub count_of : (ℕ → Bool) → ℕ → ℕ
-count_of f zero = 0
-count_of f (suc n) = bit (f n) + count_of f n
+abbrev pub count_below : (ℕ → Bool) → ℕ → ℕ
+count_below f zero = 0
+count_below f (suc n) = bit (f n) + count_below f n
 
 bit_small : (b : Bool) → bit b ≤ 1
 bit_small true = omega arith
 bit_small false = omega arith
 
-count_small : (f : ℕ → Bool) (n : ℕ) → count_of f n ≤ n
+count_small : (f : ℕ → Bool) (n : ℕ) → count_below f n ≤ n
 count_small f zero = omega arith
 count_small f (suc n) = let one = bit_small (f n) in let rest = count_small f n in omega (arith, one, rest)
 
-none_counted : (f : ℕ → Bool) (n k : ℕ) → k < n → count_of f n ≡ 0 → f k ≡ false
+none_counted : (f : ℕ → Bool) (n k : ℕ) → k < n → count_below f n ≡ 0 → f k ≡ false
 none_counted f zero k h none = absurd (omega (arith, h))
 none_counted f (suc n) k h none = by_place (λ less. none_counted f n k less (omega (arith, none))) (cases_lt k n) where
   unset : (b : Bool) → bit b ≡ 0 → b ≡ false
@@ -37,7 +37,7 @@ bit_less : (a b : Bool) → (a ≡ false → b ≡ false) → bit b ≤ bit a
 bit_less true b e = bit_small b
 bit_less false b e = let none = ap bit (e refl) in omega (arith, none)
 
-count_less : (f g : ℕ → Bool) → ((k : ℕ) → f k ≡ false → g k ≡ false) → (n : ℕ) → count_of g n ≤ count_of f n
+count_less : (f g : ℕ → Bool) → ((k : ℕ) → f k ≡ false → g k ≡ false) → (n : ℕ) → count_below g n ≤ count_below f n
 count_less f g ends zero = omega arith
 count_less f g ends (suc n) = let one = bit_less (f n) (g n) (ends n) in let rest = count_less f g ends n in omega (arith, one, rest)
 
@@ -51,8 +51,8 @@ agree_more f g n same here k h = by_place (cases_lt k n) where
   by_place (inl less) = same k less
   by_place (inr more) = let e : k ≡ n = omega (arith, h, more) in ap g e ∙ here ∙ ap f (sym e)
 
-fewer_more : (f g : ℕ → Bool) (n : ℕ) → ((k : ℕ) → f k ≡ false → g k ≡ false) → AgreeBelow f g n ⊎ (count_of g n < count_of f n)
-    → (a b : Bool) → f n ≡ a → g n ≡ b → AgreeBelow f g (suc n) ⊎ (count_of g (suc n) < count_of f (suc n))
+fewer_more : (f g : ℕ → Bool) (n : ℕ) → ((k : ℕ) → f k ≡ false → g k ≡ false) → AgreeBelow f g n ⊎ (count_below g n < count_below f n)
+    → (a b : Bool) → f n ≡ a → g n ≡ b → AgreeBelow f g (suc n) ⊎ (count_below g (suc n) < count_below f (suc n))
 fewer_more f g n ends (inr less) a b is other = inr (let one = bit_less (f n) (g n) (ends n) in omega (arith, less, one))
 fewer_more f g n ends (inl same) true true is other = inl (agree_more f g n same (other ∙ sym is))
 fewer_more f g n ends (inl same) false false is other = inl (agree_more f g n same (other ∙ sym is))
@@ -60,7 +60,7 @@ fewer_more f g n ends (inl same) false true is other = absurd (false≢true (sym
 fewer_more f g n ends (inl same) true false is other =
     inr (let x = ap bit is in let y = ap bit other in let rest = count_less f g ends n in omega (arith, x, y, rest))
 
-fewer : (f g : ℕ → Bool) → ((k : ℕ) → f k ≡ false → g k ≡ false) → (n : ℕ) → AgreeBelow f g n ⊎ (count_of g n < count_of f n)
+fewer : (f g : ℕ → Bool) → ((k : ℕ) → f k ≡ false → g k ≡ false) → (n : ℕ) → AgreeBelow f g n ⊎ (count_below g n < count_below f n)
 fewer f g ends zero = inl (λ k h. absurd (omega (arith, h)))
 fewer f g ends (suc n) = fewer_more f g n ends (fewer f g ends n) (f n) (g n) refl refl
 
@@ -74,15 +74,15 @@ ends_after classes round same k h =
     stays classes round (suc (suc round)) (omega arith) same k h ∙ sym (same k h)
 
 next_round : (classes : List DeclaredClass) (round : ℕ)
-    → EndsHere classes round ⊎ (count_of (goes_deep (suc round) classes) (length classes) < count_of (goes_deep round classes) (length classes))
-    → EndsHere classes round ⊎ (count_of (goes_deep round classes) (length classes) + round ≤ length classes)
-    → EndsHere classes (suc round) ⊎ (count_of (goes_deep (suc round) classes) (length classes) + suc round ≤ length classes)
+    → EndsHere classes round ⊎ (count_below (goes_deep (suc round) classes) (length classes) < count_below (goes_deep round classes) (length classes))
+    → EndsHere classes round ⊎ (count_below (goes_deep round classes) (length classes) + round ≤ length classes)
+    → EndsHere classes (suc round) ⊎ (count_below (goes_deep (suc round) classes) (length classes) + suc round ≤ length classes)
 next_round classes round (inl same) so_far = inl (ends_after classes round same)
 next_round classes round (inr less) (inl same) = inl (ends_after classes round same)
 next_round classes round (inr less) (inr few) = inr (omega (arith, less, few))
 
 few_left : (classes : List DeclaredClass) (round : ℕ)
-    → EndsHere classes round ⊎ (count_of (goes_deep round classes) (length classes) + round ≤ length classes)
+    → EndsHere classes round ⊎ (count_below (goes_deep round classes) (length classes) + round ≤ length classes)
 few_left classes zero = inr (let small = count_small (goes_deep 0 classes) (length classes) in omega (arith, small))
 few_left classes (suc round) =
     next_round classes round
@@ -92,7 +92,7 @@ few_left classes (suc round) =
 pub ends_within : (classes : List DeclaredClass) (class : ℕ) → class < length classes → goes_deep (suc (length classes)) classes class ≡ false
     → goes_deep (length classes) classes class ≡ false
 ends_within classes class within e = by_case (few_left classes (length classes)) where
-  by_case : EndsHere classes (length classes) ⊎ (count_of (goes_deep (length classes) classes) (length classes) + length classes ≤ length classes)
+  by_case : EndsHere classes (length classes) ⊎ (count_below (goes_deep (length classes) classes) (length classes) + length classes ≤ length classes)
       → goes_deep (length classes) classes class ≡ false
   by_case (inl same) = sym (same class within) ∙ e
   by_case (inr few) = none_counted (goes_deep (length classes) classes) (length classes) class within (omega (arith, few))

@@ -11,7 +11,7 @@ use Rattle.fm_again.proofs.PassedOver.{range_joined}
 use Rattle.fm_again.proofs.PoolStays.{class_same, entry_same, member_same, method_class, method_entry, method_named, name_same}
 use Rattle.fm_again.proofs.UsedWithin.{all_items_valid, AreBelow, below_option, flat_map-below, indices_below, insn_below, IsBelow, unused_past, uses_below}
 use Rattle.fm_code.specs.AccessFlags.{is_abstract, is_interface}
-use Rattle.fm_code.specs.ConstantPool.{entry_at, method_at}
+use Rattle.fm_code.specs.ConstantPool.{entry_at, method_ref_at}
 use Rattle.fm_code.specs.FreeEntries.{free_class, free_method}
 use Rattle.fm_code.specs.Members.{FieldIsValid, MethodIsValid, receiver_words}
 use Rattle.fm_code.specs.Names.{FieldType, IsFieldDescriptor, IsMethodDescriptor}
@@ -98,7 +98,7 @@ module _ (plans : Plans) (first : ℕ) (c : ClassDef) (bytes : List ℕ) (spells
   abbrev free : ℕ
   free = free_index c
 
-  named : method_at (c.pool.entries ++ more) free ≡ Some free_method
+  named : method_ref_at (c.pool.entries ++ more) free ≡ Some free_method
   named = names_free plans first c bytes spells
 
   -- a refusal is the same

@@ -13,7 +13,7 @@ use Rattle.fm_again.proofs.UsedWithin.{all_items_valid, class_below, filter_map-
 use Rattle.fm_base.proofs.OptionFacts.{IsSome-from_some, Some-from_some_and, same_value}
 use Rattle.fm_base.specs.declared.kinds.TypeRef.{TypeRef}
 use Rattle.fm_code.specs.AccessFlags.{is_interface, is_static}
-use Rattle.fm_code.specs.ConstantPool.{class_name_at, EntryIsValid, method_at, utf8_at}
+use Rattle.fm_code.specs.ConstantPool.{class_name_at, EntryIsValid, method_ref_at, utf8_at}
 use Rattle.fm_code.specs.FreeEntries.{free_class, free_method, sought_free, with_free}
 use Rattle.fm_code.specs.Members.{FieldAttrIsValid, FieldIsValid, MethodIsValid, receiver_words}
 use Rattle.fm_code.specs.Names.{is_binary_name, is_method_name, is_unqualified, IsFieldDescriptor, IsMethodDescriptor}
@@ -132,7 +132,7 @@ module _ (plans : Plans) (first : ℕ) (c : ClassDef) (bytes : List ℕ) (spells
   more_entries = (sought_free c.pool.entries).missing
 
   -- the index of FreeMe.free refers to that method
-  pub names_free : method_at (c.pool.entries ++ more_entries) (free_index c) ≡ Some free_method
+  pub names_free : method_ref_at (c.pool.entries ++ more_entries) (free_index c) ≡ Some free_method
   names_free = free_named c.pool.entries (with_free c.pool.entries) more_entries (free_index c) refl refl
 
   pub name_is : own_name (changed plans first c) ≡ own_name c

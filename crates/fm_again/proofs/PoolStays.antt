@@ -6,7 +6,7 @@ use Rattle.std.proofs.lemmas.List.{get_or_append_left}
 use Rattle.fm_base.proofs.ListFacts.{AllByRecursion-get_or}
 use Rattle.fm_base.proofs.OptionFacts.{IsSome-from_some, Some-from_is_some, Some-from_some_and}
 use Rattle.fm_base.specs.Texts.{units}
-use Rattle.fm_code.specs.ConstantPool.{class_name_at, entry_at, EntryIsValid, IsFieldPair, IsMethodPair, member_named, MemberName, method_at, named_and_typed_at, NamesMember, utf8_at}
+use Rattle.fm_code.specs.ConstantPool.{class_name_at, entry_at, EntryIsValid, IsFieldPair, IsMethodPair, member_named, MemberName, method_ref_at, named_and_typed_at, NamesMember, utf8_at}
 use Rattle.fm_code.specs.Names.{IsClassName}
 use Rattle.fm_code.specs.declared.constant_pool.Entry.{Entry}
 use Rattle.fm_code.specs.declared.constant_pool.Entry.TheVariants as entry
@@ -59,7 +59,7 @@ no_member : (m : MemberName) → None ≡ Some m → ⊥
 no_member m e = cc
 
 -- the entry that names a method
-pub method_entry : (entries : List Entry) (index : ℕ) (m : MemberName) → method_at entries index ≡ Some m
+pub method_entry : (entries : List Entry) (index : ℕ) (m : MemberName) → method_ref_at entries index ≡ Some m
     → (class : ℕ) × (member : ℕ) × (entry_at entries index ≡ entry.Method class member) × (member_named entries class member ≡ Some m)
 method_entry entries index m is = by (entry_at entries index) refl where
   by : (e : Entry) → entry_at entries index ≡ e
@@ -67,16 +67,16 @@ method_entry entries index m is = by (entry_at entries index) refl where
   by (entry.Method class member) here = (class, member, here, rw here at is)
   by e here = absurd (no_member m (rw here at is))
 
-pub method_named : (entries : List Entry) (index : ℕ) (m : MemberName) → method_at entries index ≡ Some m → named_member entries index ≡ Some m
+pub method_named : (entries : List Entry) (index : ℕ) (m : MemberName) → method_ref_at entries index ≡ Some m → named_member entries index ≡ Some m
 method_named entries index m is = let e = method_entry entries index m is in member_by entries index (entry.Method e.0 e.1) e.2 ∙ e.3
 
-pub method_class : (entries : List Entry) (index : ℕ) (m : MemberName) → method_at entries index ≡ Some m → named_class entries index ≡ Some m.class
+pub method_class : (entries : List Entry) (index : ℕ) (m : MemberName) → method_ref_at entries index ≡ Some m → named_class entries index ≡ Some m.class
 method_class entries index m is =
     let e = method_entry entries index m is in
     ap (by_class (class_name_at entries index) (option_map (λ (n : MemberName). n.class) (named_member entries index))) e.2
     ∙ ap (option_map (λ (n : MemberName). n.class)) (method_named entries index m is)
 
-pub method_no_units : (entries : List Entry) (index : ℕ) (m : MemberName) → method_at entries index ≡ Some m → text_units entries index ≡ None
+pub method_no_units : (entries : List Entry) (index : ℕ) (m : MemberName) → method_ref_at entries index ≡ Some m → text_units entries index ≡ None
 method_no_units entries index m is = let e = method_entry entries index m is in units_by entries index (entry.Method e.0 e.1) e.2
 
 -- ---- what an entry is resolved to, by what it names

@@ -8,10 +8,10 @@ use Rattle.fm_base.proofs.ListFacts.{AllByRecursion-append, AllByRecursion-weake
 use Rattle.fm_base.proofs.OptionFacts.{IsSome-from_some, Some-from_some_and}
 use Rattle.fm_code.specs.AccessFlags.{is_interface}
 use Rattle.fm_code.specs.CodeRules.{HandlerIsValid}
-use Rattle.fm_code.specs.ConstantPool.{class_name_at, entry_at, field_at, interface_method_at, MemberName, method_at}
+use Rattle.fm_code.specs.ConstantPool.{class_name_at, entry_at, field_ref_at, interface_method_ref_at, MemberName, method_ref_at}
 use Rattle.fm_code.specs.Members.{FieldAttrIsValid, FieldIsValid, IsValue, MethodAttrIsValid, MethodIsValid}
 use Rattle.fm_code.specs.Names.{is_binary_name}
-use Rattle.fm_code.specs.Operands.{IsAnyMethod, IsConstant, OperandIsValid, TakesWords, count_of, opcode_of, pool_index}
+use Rattle.fm_code.specs.Operands.{IsAnyMethod, IsConstant, OperandIsValid, TakesWords, count_operand, opcode_of, pool_index}
 use Rattle.fm_code.specs.Spells.{HasSpelling}
 use Rattle.fm_code.specs.declared.class_file.ClassDef.{ClassDef}
 use Rattle.fm_code.specs.declared.class_file.Member.{Member}
@@ -35,19 +35,19 @@ AreBelow n ks = AllByRecursion (λ k. k < n) ks
 -- ---- entries that are there
 
 module _ (entries : List Entry) where
-  field_within : (index : ℕ) → IsSome (field_at entries index) → index < length entries
+  field_within : (index : ℕ) → IsSome (field_ref_at entries index) → index < length entries
   field_within index some = by_place (cases_lt index (length entries)) where
     by_place : (index < length entries) ⊎ (length entries ≤ index) → index < length entries
     by_place (inl h) = h
     by_place (inr h) = absurd (false≢true (rw (get_or_past entries index entry.Second h) at some))
 
-  method_within : (index : ℕ) → IsSome (method_at entries index) → index < length entries
+  method_within : (index : ℕ) → IsSome (method_ref_at entries index) → index < length entries
   method_within index some = by_place (cases_lt index (length entries)) where
     by_place : (index < length entries) ⊎ (length entries ≤ index) → index < length entries
     by_place (inl h) = h
     by_place (inr h) = absurd (false≢true (rw (get_or_past entries index entry.Second h) at some))
 
-  interface_within : (index : ℕ) (P : MemberName → Type 0) → IsSomeAnd (interface_method_at entries index) P → index < length entries
+  interface_within : (index : ℕ) (P : MemberName → Type 0) → IsSomeAnd (interface_method_ref_at entries index) P → index < length entries
   interface_within index P some = by_place (cases_lt index (length entries)) where
     by_place : (index < length entries) ⊎ (length entries ≤ index) → index < length entries
     by_place (inl h) = h
@@ -100,7 +100,7 @@ module _ (entries : List Entry) where
   insn_below offset bytes (insn.Special index) valid = any_within index valid
   insn_below offset bytes (insn.Static index) valid = any_within index valid
   insn_below offset bytes (insn.Interface index) valid =
-      interface_within index (λ m. TakesWords (count_of (record { offset = offset; bytes = bytes; insn = insn.Interface index })) m.descriptor) valid
+      interface_within index (λ m. TakesWords (count_operand (record { offset = offset; bytes = bytes; insn = insn.Interface index })) m.descriptor) valid
   insn_below offset bytes (insn.New index) valid = name_within entries index valid
   insn_below offset bytes (insn.NewRefs index) valid = name_within entries index valid
   insn_below offset bytes (insn.Cast index) valid = name_within entries index valid

@@ -15,7 +15,7 @@ use Rattle.fm_conn.proofs.WordLemmas.{depth_is, node_of_word, state_reached, wor
 use Rattle.fm_conn.specs.Links.{node_of, typed_method, LinkedIn, Typings}
 use Rattle.fm_conn.specs.Nodes.{depth_at, Global, IsNode, Local, Node, Return, Slot, TypedMethod}
 use Rattle.fm_conn.specs.Pairs.{call_of, call_with, depth_below, use_at, ArePaired, CalledAt, CaughtAt, IsPath, Joined, JoinedAt, Linking, PairAt, StandsAt, StandsFor, StaysAt}
-use Rattle.fm_conn.specs.Rows.{words_taken, AsResult, Given, InLocal, Outside, Place, Taken}
+use Rattle.fm_conn.specs.Rows.{words_taken, AsResult, Given, InLocal, Outside, RowPlace, Taken}
 use Rattle.fm_conn.specs.Shapes.{method_with, nothing_linked, HasStandIn, IsCallShapeAt, IsReached, IsShapeOf, MakesCall}
 use Rattle.fm_conn.specs.declared.ends.End2.{End2}
 use Rattle.fm_conn.specs.declared.ends.End2.TheVariants as end
@@ -138,7 +138,7 @@ module _ (p : Program) (method : ℕ) (code : Code) (first second : List (Option
       let now = alike.reached j was.0 was.1 in
       slice_of_state second j now.0 now.1
 
-  stands_kept : (j : ℕ) (i : Insn) (place : Place) (a : Node) → StandsAt x j i place a → StandsAt y j i place a
+  stands_kept : (j : ℕ) (i : Insn) (place : RowPlace) (a : Node) → StandsAt x j i place a → StandsAt y j i place a
   stands_kept j i (Taken n) a is = is ∙ ap (λ d. Slot j (d - 1 - n)) (depth_same j)
   stands_kept j i (Given n) a (next, (edge, is)) = (next, (edge, is ∙ ap (λ d. Slot next (d + n)) (below_same j i)))
   stands_kept j i (InLocal k) a is = is

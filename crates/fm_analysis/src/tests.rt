@@ -41,7 +41,7 @@ type Named = (&'static [u8], &'static [u8]);
 
 // A place at which a method has objects.
 #[derive(Clone, Copy)]
-enum Place {
+enum ObjectPlace {
     Local(u16),
     // a word of the stack at an item, by how many lie below it
     Slot(u32, u16),
@@ -52,7 +52,7 @@ enum Place {
 #[derive(Clone, Copy)]
 enum Asked {
     AreLinked(End2, End2),
-    AreOneClass(Place, Place),
+    AreOneClass(ObjectPlace, ObjectPlace),
     // the local, at the item
     IsLive(u16, u32),
     // whether the call of that number leads to these methods, and no others, in rising order
@@ -75,13 +75,13 @@ const LOCALS: [Row; 8] = [
     (
         NODES,
         MAIN,
-        Asked::AreOneClass(Place::Local(1), Place::Local(2)),
+        Asked::AreOneClass(ObjectPlace::Local(1), ObjectPlace::Local(2)),
         true,
     ),
     (
         NODES,
         MAIN,
-        Asked::AreOneClass(Place::Local(1), Place::Global),
+        Asked::AreOneClass(ObjectPlace::Local(1), ObjectPlace::Global),
         false,
     ),
     // by the handler
@@ -91,25 +91,25 @@ const LOCALS: [Row; 8] = [
     (
         MESSAGE,
         MAIN,
-        Asked::AreOneClass(Place::Slot(6, 2), Place::Local(1)),
+        Asked::AreOneClass(ObjectPlace::Slot(6, 2), ObjectPlace::Local(1)),
         true,
     ),
     (
         MESSAGE,
         MAIN,
-        Asked::AreOneClass(Place::Slot(10, 0), Place::Local(1)),
+        Asked::AreOneClass(ObjectPlace::Slot(10, 0), ObjectPlace::Local(1)),
         true,
     ),
     (
         MESSAGE,
         MAIN,
-        Asked::AreOneClass(Place::Slot(5, 2), Place::Local(1)),
+        Asked::AreOneClass(ObjectPlace::Slot(5, 2), ObjectPlace::Local(1)),
         false,
     ),
     (
         MESSAGE,
         MAIN,
-        Asked::AreOneClass(Place::Local(1), Place::Global),
+        Asked::AreOneClass(ObjectPlace::Local(1), ObjectPlace::Global),
         false,
     ),
 ];
@@ -232,14 +232,14 @@ fn are_named(program: &Program, found: &[MethodId], named: &[Named]) -> bool {
 }
 
 // The class of a place that is there.
-fn class_at(found: &Classes, count: u16, place: Place) -> Option<u32>
+fn class_at(found: &Classes, count: u16, place: ObjectPlace) -> Option<u32>
     requires { local_count found.now ≡ count }
 {
     match place {
-        Place::Local(k) if k < count => Some(found.of_local(k)),
-        Place::Local(_) => None,
-        Place::Slot(j, depth) => found.of_slot(j, depth),
-        Place::Global => Some(found.of_global()),
+        ObjectPlace::Local(k) if k < count => Some(found.of_local(k)),
+        ObjectPlace::Local(_) => None,
+        ObjectPlace::Slot(j, depth) => found.of_slot(j, depth),
+        ObjectPlace::Global => Some(found.of_global()),
     }
 }
 
@@ -249,7 +249,7 @@ fn are_one_class(
     program: &Program,
     method: MethodId,
     summaries: &Summaries,
-    places: (Place, Place),
+    places: (ObjectPlace, ObjectPlace),
 ) -> Result<Option<bool>, NoMemory>
     requires analysable { AreAnalysable program.now }
     requires summaries { AreSummariesOf program.now.outline summaries.now }

@@ -16,7 +16,7 @@ use crate::first_uses::coded_call;
 use crate::selections::{interface_target, special_target, virtual_target};
 use fm_base::{Kind, MethodId, TypeId};
 use fm_cells::Memory;
-use fm_exec::argument_words;
+use fm_exec::words_of_arguments;
 use fm_files::Sink;
 use fm_frames::{Machine, StepFail};
 use fm_native::native;
@@ -203,7 +203,7 @@ pub fn static_call<M: Memory, S: Sink>(
 {
     match row_of(program, m) {
         Some(_) => {
-            let words = argument_words(program, m);
+            let words = words_of_arguments(program, m);
             enter(alloc, machine, program, words, m, out)
         }
         None => match coded_call(alloc, machine, program, m, named) {

@@ -19,7 +19,7 @@ ghost use Rattle.fm_world.specs.declared.uses.Use.TheVariants as used;
 use crate::starts::start;
 use fm_base::{FieldId, MethodId, NoMemory, TypeId};
 use fm_cells::{Memory, object_words};
-use fm_exec::{argument_words, class_of_type, give};
+use fm_exec::{words_of_arguments, class_of_type, give};
 use fm_frames::{Machine, pack_of};
 use fm_world::Program;
 use std::alloc::Global;
@@ -120,7 +120,7 @@ pub(crate) fn coded_call<M: Memory>(
     ensures { (byte : Option ℕ) → OnOk result (Steps program.now M.choose machine.old machine.new
         (static_effect program.now.outline (used.OfMethod m named) byte (seen program.now machine.old))) }
 {
-    let words = argument_words(program, m);
+    let words = words_of_arguments(program, m);
     if !start(alloc, machine, program, program.method(m).class, 0, 1)? {
         return Ok(());
     }

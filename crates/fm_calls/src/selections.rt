@@ -21,7 +21,7 @@ ghost use Rattle.fm_world.specs.declared.uses.Use.TheVariants as used;
 
 use fm_base::{ClassId, MethodId, NoMemory, TypeId, TypeRef};
 use fm_cells::Memory;
-use fm_exec::{argument_words, class_of_type, fits_named, refuse, type_in};
+use fm_exec::{words_of_arguments, class_of_type, fits_named, refuse, type_in};
 use fm_frames::{CLASS_CHANGE_ERROR, Look, Machine, NULL_POINTER_EXCEPTION};
 use fm_world::Program;
 
@@ -64,7 +64,7 @@ pub fn virtual_target<M: Memory>(
         (λ byte. virtual_effect program.now.outline (used.OfMethod m named) byte
         (seen program.now machine.old)) found) }
 {
-    let words = argument_words(program, m);
+    let words = words_of_arguments(program, m);
     let Some((cell, head)) = machine.object(words) else {
         refuse(machine, program, words)?;
         return Ok(None);
@@ -98,7 +98,7 @@ pub fn interface_target<M: Memory>(
         (λ byte. interface_effect program.now.outline (used.OfMethod m named) byte
         (seen program.now machine.old)) found) }
 {
-    let words = argument_words(program, m);
+    let words = words_of_arguments(program, m);
     let Some((_, head)) = machine.object(words) else {
         refuse(machine, program, words)?;
         return Ok(None);
@@ -149,7 +149,7 @@ pub fn special_target<M: Memory>(
         (λ byte. special_effect program.now.outline caller.0 (used.OfMethod m named) byte
         (seen program.now machine.old)) found) }
 {
-    match machine.look(argument_words(program, m)) {
+    match machine.look(words_of_arguments(program, m)) {
         Look::Other => {
             machine.stuck(program);
             Ok(None)

@@ -16,9 +16,9 @@ use Rattle.fm_known.proofs.PlaceLemmas.{place_wanted, slot-fits, with_slot-above
 use Rattle.fm_walk.proofs.CarryLemmas.{all_held, all_room_later, can_carry_later, raised_forced, room_fits}
 use Rattle.fm_catch.proofs.RunLemmas.{Contains-set_cases, got_entries, inside_level, none_there}
 use Rattle.fm_known.proofs.RisenLemmas.{alike-more, alike-refl, alike-then}
-use Rattle.fm_known.specs.declared.known.Known.{Known}
-use Rattle.fm_known.specs.declared.known.Place.{Place}
-use Rattle.fm_known.specs.declared.known.Place.TheVariants as place
+use Rattle.fm_known.specs.declared.known_state.KnownState.{KnownState}
+use Rattle.fm_known.specs.declared.known_state.SlotPlace.{SlotPlace}
+use Rattle.fm_known.specs.declared.known_state.SlotPlace.TheVariants as place
 use Rattle.fm_known.specs.declared.risen.Rise.{Rise}
 use Rattle.fm_catch.specs.declared.catching.Giving.{Giving}
 use Rattle.fm_catch.specs.declared.catching.Giving.TheVariants as giving
@@ -46,7 +46,7 @@ use Rattle.fm_world.specs.Programs.{Outline}
 -- ---- a state is raised
 
 -- it has room
-pub RaisesOne-none : (t : Task) (rise : Rise) (s : TypeState) (places : List Place) → IsSound t → fits t.program.outline rise.slot (slot_at s rise.place) ≡ true
+pub RaisesOne-none : (t : Task) (rise : Rise) (s : TypeState) (places : List SlotPlace) → IsSound t → fits t.program.outline rise.slot (slot_at s rise.place) ≡ true
     → RaisesOne t rise s s places places
 RaisesOne-none t rise s places sound room = record {
   still = λ p found. found;
@@ -58,7 +58,7 @@ RaisesOne-none t rise s places sound room = record {
 }
 
 -- what handlers get of a state of which a local was raised
-local_forced : (t : Task) (item : ℕ) (p : Place) (caught : TypeRef) (s brought : TypeState) (x : Slot) → is_local p ≡ true → IsSound t
+local_forced : (t : Task) (item : ℕ) (p : SlotPlace) (caught : TypeRef) (s brought : TypeState) (x : Slot) → is_local p ≡ true → IsSound t
     → IsForced t item (handler_state caught s) → IsForced t item brought → slot_at brought p ≡ x
     → IsForced t item (handler_state caught (with_slot p (join t.program.outline (slot_at s p) x) s))
 local_forced t item (place.Local k) caught s brought x local sound first second same =
@@ -66,7 +66,7 @@ local_forced t item (place.Local k) caught s brought x local sound first second 
 local_forced t item (place.Word k) caught s brought x local sound first second same = absurd (false≢true local)
 
 -- it hadn't
-pub RaisesOne-set : (t : Task) (rise : Rise) (s : TypeState) (places : List Place) → IsSound t → is_local rise.place ≡ true
+pub RaisesOne-set : (t : Task) (rise : Rise) (s : TypeState) (places : List SlotPlace) → IsSound t → is_local rise.place ≡ true
     → fits t.program.outline rise.slot (slot_at s rise.place) ≡ false
     → RaisesOne t rise s (with_slot rise.place (join t.program.outline (slot_at s rise.place) rise.slot) s) places (places ++ rise.place ∷ [])
 RaisesOne-set t rise s places sound local unfit = record {
@@ -74,7 +74,7 @@ RaisesOne-set t rise s places sound local unfit = record {
   only = λ p found. Contains-push_cases places rise.place p found;
   alike = alike-more (rise.place ∷ []) (places ++ rise.place ∷ []) new s
       (λ p found. ⊎_elim (λ (none : Contains [] p). absurd (none_there p none))
-      (λ (same : rise.place ≡ p). subst (λ (q : Place). Contains (places ++ rise.place ∷ []) q) same (Contains-push places rise.place))
+      (λ (same : rise.place ≡ p). subst (λ (q : SlotPlace). Contains (places ++ rise.place ∷ []) q) same (Contains-push places rise.place))
       (Contains-push_cases [] rise.place p found))
       (with_slot-alike s rise.place joined);
   above = λ p. slot-fits o s new p (with_slot-above o sound.tree s rise.place joined least.first);
@@ -104,7 +104,7 @@ IsRaised-none t s = record {
   forced = λ item caught first asked. first;
 }
 
-pub IsRaised-more : (t : Task) (rises : List Rise) (k : ℕ) (d : Rise) (s a b : TypeState) (old new : List Place) → IsSound t → k < length rises
+pub IsRaised-more : (t : Task) (rises : List Rise) (k : ℕ) (d : Rise) (s a b : TypeState) (old new : List SlotPlace) → IsSound t → k < length rises
     → ((rise : Rise) → Contains rises rise → is_local rise.place ≡ true) → IsRaised t (take k rises) s a old
     → RaisesOne t (get_or rises k d) a b old new → IsRaised t (take (k + 1) rises) s b new
 IsRaised-more t rises k d s a b old new sound inside local so_far one =
@@ -112,7 +112,7 @@ IsRaised-more t rises k d s a b old new sound inside local so_far one =
       alike = alike-then old new b a s one.still one.alike so_far.alike;
       local = λ p found.
           ⊎_elim (λ (early : Contains old p). so_far.local p early)
-          (λ (same : this.place ≡ p). subst (λ (q : Place). is_local q ≡ true) same (local this (Contains-get_or rises k d inside)))
+          (λ (same : this.place ≡ p). subst (λ (q : SlotPlace). is_local q ≡ true) same (local this (Contains-get_or rises k d inside)))
           (one.only p found);
       room = λ rise found.
           ⊎_elim
@@ -158,12 +158,12 @@ can_asked t w j rises can = record {
 }
 
 -- in its own locals a handler gets what is in those of the item
-local_got : (caught : TypeRef) (s : TypeState) (p : Place) → is_local p ≡ true → slot_at (handler_state caught s) p ≡ slot_at s p
+local_got : (caught : TypeRef) (s : TypeState) (p : SlotPlace) → is_local p ≡ true → slot_at (handler_state caught s) p ≡ slot_at s p
 local_got caught s (place.Local k) local = refl
 local_got caught s (place.Word k) local = absurd (false≢true local)
 
 -- what was raised can be carried to the handlers
-pub raised_can : (t : Task) (w : Walked) (rises : List Rise) (old new : TypeState) (places : List Place) (h : Handler)
+pub raised_can : (t : Task) (w : Walked) (rises : List Rise) (old new : TypeState) (places : List SlotPlace) (h : Handler)
     → IsHeld t w.states old h → IsRaised t rises old new places → CanCarry t w h.handler rises → CanCarry t w h.handler (map (rise_of new) places)
 raised_can t w rises old new places h held raised can = record {
   state = can.state;
@@ -174,7 +174,7 @@ raised_can t w rises old new places h held raised can = record {
 }
 
 -- and then they have room for the raised state
-raised_held : (t : Task) (w later : Walked) (rises : List Rise) (old new : TypeState) (places : List Place) (h : Handler) → IsSound t
+raised_held : (t : Task) (w later : Walked) (rises : List Rise) (old new : TypeState) (places : List SlotPlace) (h : Handler) → IsSound t
     → Rises t.program.outline w later → IsHeld t w.states old h → IsRaised t rises old new places → CanCarry t w h.handler rises
     → All (HasRoom t later.states h.handler) (map (rise_of new) places) → IsHeld t later.states new h
 raised_held t w later rises old new places h sound rising held raised can room = record {
@@ -189,7 +189,7 @@ raised_held t w later rises old new places h sound rising held raised can room =
 }
 
 -- and for the slots
-held_room : (t : Task) (states : List (Option TypeState)) (rises : List Rise) (old new : TypeState) (places : List Place) (h : Handler) → IsSound t
+held_room : (t : Task) (states : List (Option TypeState)) (rises : List Rise) (old new : TypeState) (places : List SlotPlace) (h : Handler) → IsSound t
     → IsHeld t states new h → IsRaised t rises old new places → ((rise : Rise) → Contains rises rise → is_local rise.place ≡ true)
     → has_room t rises states h
 held_room t states rises old new places h sound held raised local = λ n d below.
@@ -213,7 +213,7 @@ GivesRun-none t rises run old new none carries = record {
 }
 
 -- what was given was raised, and what rose carried to them
-pub GivesRun-raised : (t : Task) (rises : List Rise) (run given : Run) (before after : Known) (places : List Place) (old new : Walked) → IsSound t
+pub GivesRun-raised : (t : Task) (rises : List Rise) (run given : Run) (before after : KnownState) (places : List SlotPlace) (old new : Walked) → IsSound t
     → ((rise : Rise) → Contains rises rise → is_local rise.place ≡ true) → run.given ≡ Some before → given.given ≡ Some after
     → given.entries.items ≡ run.entries.items → IsGiven t old.states run
     → ((h : Handler) → Contains run.entries.items h → CanCarry t old h.handler rises)
@@ -224,7 +224,7 @@ GivesRun-raised t rises run given before after places old new sound local was is
   same = same;
   held = λ known e h found.
       let this = same_value given.given after known is e in
-      subst (λ (x : Known). IsHeld t new.states (known_state x) h) this (now h (subst (λ (es : List Handler). Contains es h) same found));
+      subst (λ (x : KnownState). IsHeld t new.states (known_state x) h) this (now h (subst (λ (es : List Handler). Contains es h) same found));
   done = λ h found.
       held_room t new.states rises (known_state before) (known_state after) places h sound (now h found) raised local;
 } where
@@ -299,11 +299,11 @@ brought_can t w item count s given h sound forced holds held =
 
 -- what was given for a run that is open
 record IsOpen (run : Run) (wanted : Bool) : Type 0 where
-  given : Known
+  given : KnownState
   is : run.given ≡ Some given
   built : (wanted || not given.built) ≡ true
 
-open_given : (run : Run) (built : Bool) (given : Option Known) → run.given ≡ given → is_open run built ≡ true → IsOpen run built
+open_given : (run : Run) (built : Bool) (given : Option KnownState) → run.given ≡ given → is_open run built ≡ true → IsOpen run built
 open_given run built None is opens = absurd (false≢true (ap (is_open_to built) (sym is) ∙ opens))
 open_given run built (Some given) is opens = record { given = given; is = is; built = ap (is_open_to built) (sym is) ∙ opens }
 
@@ -378,7 +378,7 @@ open_can t w item s run sound forced opens given holds h found =
     brought_can t w item t.code.max_locals s (known_state was.given) h sound forced (holds h found) (given was.given was.is h found)
 
 -- it was brought to each handler, and given
-pub GivesRun-brought : (t : Task) (item : ℕ) (s : TypeState) (run given : Run) (now : Known) (old new : Walked) → IsSound t → IsForced t item s
+pub GivesRun-brought : (t : Task) (item : ℕ) (s : TypeState) (run given : Run) (now : KnownState) (old new : Walked) → IsSound t → IsForced t item s
     → given.given ≡ Some now → known_state now ≡ without_words s → given.entries.items ≡ run.entries.items
     → ((h : Handler) → Contains run.entries.items h → Holds t.code.handlers item h)
     → BringsHandlers t item s run.entries.items old new → GivesRun (is_brought t item s) t run given old new

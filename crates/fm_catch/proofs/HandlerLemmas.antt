@@ -10,7 +10,7 @@ use Rattle.fm_base.proofs.ListFacts.{AllByRecursion-append, AllByRecursion-weake
 use Rattle.fm_base.proofs.OptionFacts.{IsSomeAnd-at_some, IsSomeAnd-from_some, Some-from_some_and}
 use Rattle.fm_known.proofs.MergingLemmas.{fits-from, fits-parts, state-trans}
 use Rattle.fm_walk.proofs.WalkLemmas.{fits_at, fits_later, fits_one, reachable-more, Went-none, Went-then}
-use Rattle.fm_known.specs.declared.known.Place.{Place}
+use Rattle.fm_known.specs.declared.known_state.SlotPlace.{SlotPlace}
 use Rattle.fm_known.specs.inner.Risen.{IsAlikeBut, is_local, IsCarried, locals_of, slot_at}
 use Rattle.fm_walk.specs.inner.Walks.{Brings, IsForced, Rises, Stands, Untypable, Walked, Carries, HasRoom}
 use Rattle.fm_catch.specs.inner.Runs.{BringsCaught, BringsHandlers, CarriesHandlers}
@@ -23,7 +23,7 @@ use Rattle.fm_types.proofs.Order.{fits-refl}
 use Rattle.fm_types.specs.States.{state_fits, TypeState}
 use Rattle.fm_types.specs.Typed.{caught_type, FitsAt, FitsHandler, handler_state}
 use Rattle.fm_types.specs.declared.slots.Slot.TheVariants as slot
-use Rattle.fm_known.specs.declared.known.Place.TheVariants as place
+use Rattle.fm_known.specs.declared.known_state.SlotPlace.TheVariants as place
 use Rattle.fm_known.specs.declared.risen.Rise.{Rise}
 use Rattle.fm_code.proofs.EdgesLemmas.{Contains-filter, Contains-from_filter}
 use Rattle.fm_types.specs.Fits.{fits}
@@ -143,18 +143,18 @@ locals_held s caught rises all = λ n d below.
     let rise = get_or (locals_of rises) n d in
     let found = Contains-from_filter (λ (r : Rise). is_local r.place) rises rise (Contains-get_or (locals_of rises) n d below) in
     by_place (rise.slot) rise.place (All-contains (λ r. slot_at s r.place ≡ r.slot) rises rise all found.0) found.1 where
-      by_place : (x : Slot) (p : Place) → slot_at s p ≡ x → is_local p ≡ true → slot_at (handler_state caught s) p ≡ x
+      by_place : (x : Slot) (p : SlotPlace) → slot_at s p ≡ x → is_local p ≡ true → slot_at (handler_state caught s) p ≡ x
       by_place x (place.Local k) held local = held
       by_place x (place.Word k) held local = absurd (false≢true local)
 
 -- ---- states that are alike
 
 -- those of the places that are locals
-abbrev pub locals_in : List Place → List Place
+abbrev pub locals_in : List SlotPlace → List SlotPlace
 locals_in places = filter is_local places
 
 -- what handlers get of states that are alike
-pub caught_alike : (places : List Place) (s before : TypeState) (caught : TypeRef) → IsAlikeBut places s before
+pub caught_alike : (places : List SlotPlace) (s before : TypeState) (caught : TypeRef) → IsAlikeBut places s before
     → IsCarried (λ p. Contains (locals_in places) p) (slot_at s) (handler_state caught s) (handler_state caught before)
 caught_alike places s before caught alike = record {
   locals = record {

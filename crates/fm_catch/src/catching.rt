@@ -16,7 +16,7 @@ ghost use Rattle.fm_world.specs.Members.{methods_of};
 use crate::runs::{Level, Run};
 use fm_base::{NoMemory, TypeRef};
 use fm_code::Handler;
-use fm_known::{Known, Method, Place, Rise, local_rises, rises_of};
+use fm_known::{KnownState, CheckedMethod, SlotPlace, Rise, local_rises, rises_of};
 use fm_rows::{built_in_type, type_of_use, use_in};
 use fm_types::{Slot, Stack, State, fits, fits_type, join};
 use fm_walk::Walk;
@@ -33,7 +33,7 @@ pub enum Giving<'a> {
 
 // The class that an entry of the exception table catches, where it is one of those that can be thrown.
 #[tactic(auto, unfolding(fm_types::specs::Typed::caught_type))]
-fn caught_type(method: &Method<'_>, handler: &Handler) -> Option<TypeRef>
+fn caught_type(method: &CheckedMethod<'_>, handler: &Handler) -> Option<TypeRef>
     requires { method.now.number.0 < length (methods_of method.now.program.now.outline.classes) }
     ensures { result
         ≡ caught_type method.now.program.now method.now.number.0 handler.now }
@@ -67,10 +67,10 @@ fn handler_state(alloc: Global, state: &State, caught: TypeRef) -> Result<State,
 
 // Raises a state to where it has room for a slot, and notes the place where it didn't.
 fn raise_one(
-    method: &Method<'_>,
-    given: &mut Known,
+    method: &CheckedMethod<'_>,
+    given: &mut KnownState,
     rise: Rise,
-    places: &mut Vec<Place>,
+    places: &mut Vec<SlotPlace>,
 ) -> Result<(), NoMemory>
     requires sound { IsSound (task method.now) }
     requires local { is_local rise.place ≡ true }
@@ -89,10 +89,10 @@ fn raise_one(
 // Raises a state to where it has room for slots of locals; the places at which it hadn't.
 fn raise(
     alloc: Global,
-    method: &Method<'_>,
-    given: &mut Known,
+    method: &CheckedMethod<'_>,
+    given: &mut KnownState,
     rises: &[Rise],
-) -> Result<Vec<Place>, NoMemory>
+) -> Result<Vec<SlotPlace>, NoMemory>
     requires sound { IsSound (task method.now) }
     requires local { (rise : RiseSpec) → Contains rises.now rise → is_local rise.place ≡ true }
     ensures { IfOk result (λ places. IsRaised (task method.now) rises.now (known_state given.old)
@@ -109,7 +109,7 @@ fn raise(
 // what was given to them rose by these, or all of the slots where nothing was given.
 fn raise_run(
     alloc: Global,
-    method: &Method<'_>,
+    method: &CheckedMethod<'_>,
     run: &mut Run,
     rises: &[Rise],
 ) -> Result<Vec<Rise>, NoMemory>
@@ -140,7 +140,7 @@ fn is_open(run: &Run, built: bool) -> bool
 fn bring_caught(
     alloc: Global,
     walk: &mut Walk,
-    method: &Method<'_>,
+    method: &CheckedMethod<'_>,
     item: u32,
     handler: &Handler,
     state: &State,
@@ -165,7 +165,7 @@ fn bring_caught(
 fn bring_to_handlers(
     alloc: Global,
     walk: &mut Walk,
-    method: &Method<'_>,
+    method: &CheckedMethod<'_>,
     item: u32,
     handlers: &[Handler],
     state: &State,
@@ -192,7 +192,7 @@ fn bring_to_handlers(
 fn carry_to_handlers(
     alloc: Global,
     walk: &mut Walk,
-    method: &Method<'_>,
+    method: &CheckedMethod<'_>,
     handlers: &[Handler],
     rises: &[Rise],
 ) -> Result<bool, NoMemory>
@@ -221,7 +221,7 @@ fn carry_to_handlers(
 fn carry_to_run(
     alloc: Global,
     walk: &mut Walk,
-    method: &Method<'_>,
+    method: &CheckedMethod<'_>,
     run: &mut Run,
     rises: &[Rise],
 ) -> Result<bool, NoMemory>
@@ -244,7 +244,7 @@ fn carry_to_run(
 fn bring_to_run(
     alloc: Global,
     walk: &mut Walk,
-    method: &Method<'_>,
+    method: &CheckedMethod<'_>,
     run: &mut Run,
     item: u32,
     state: &State,
@@ -278,7 +278,7 @@ fn bring_to_run(
 fn give_to_run(
     alloc: Global,
     walk: &mut Walk,
-    method: &Method<'_>,
+    method: &CheckedMethod<'_>,
     run: &mut Run,
     item: u32,
     giving: Giving<'_>,
@@ -306,7 +306,7 @@ fn give_to_run(
 fn give_to_level(
     alloc: Global,
     walk: &mut Walk,
-    method: &Method<'_>,
+    method: &CheckedMethod<'_>,
     level: &mut Level,
     place: u32,
     item: u32,
@@ -341,7 +341,7 @@ fn give_to_level(
 pub fn give_to_levels(
     alloc: Global,
     walk: &mut Walk,
-    method: &Method<'_>,
+    method: &CheckedMethod<'_>,
     levels: &mut Vec<Level>,
     item: u32,
     giving: Giving<'_>,
@@ -370,7 +370,7 @@ pub fn give_to_levels(
 pub fn bring_to_runs(
     alloc: Global,
     walk: &mut Walk,
-    method: &Method<'_>,
+    method: &CheckedMethod<'_>,
     levels: &mut Vec<Level>,
     item: u32,
     state: &State,

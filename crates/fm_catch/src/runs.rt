@@ -7,7 +7,7 @@ ghost use Rattle.fm_types.specs.Typings.{type_state};
 
 use fm_base::NoMemory;
 use fm_code::Handler;
-use fm_known::Known;
+use fm_known::KnownState;
 use fm_types::State;
 use std::alloc::Global;
 
@@ -17,7 +17,7 @@ pub struct Run {
     /// These entries.
     pub entries: Vec<Handler>,
     /// A state that the handlers of all of them have room for, once one was brought to them.
-    pub given: Option<Known>,
+    pub given: Option<KnownState>,
 }
 
 impl Run {
@@ -25,7 +25,7 @@ impl Run {
     pub fn keep(&mut self, alloc: Global, state: &State) -> Result<(), NoMemory>
         ensures { OnOk result (Keeps (type_state state.now) self.old self.new) }
     {
-        self.given = Some(Known::without_words(alloc, state)?);
+        self.given = Some(KnownState::without_words(alloc, state)?);
         Ok(())
     }
 }

@@ -12,7 +12,7 @@ use Rattle.fm_base.proofs.OptionFacts.{IsSomeAnd-at_some, IsSomeAnd-from_some, o
 use Rattle.fm_known.proofs.MergingLemmas.{state-refl, state-trans}
 use Rattle.fm_walk.proofs.WalkLemmas.{fits_at, fits_later, fits_one, given_at, kept-locals, kept-stack, reachable-more, Went-none, Went-then, with_waiting-waits}
 use Rattle.fm_known.proofs.RisenLemmas.{alike-then, same_locals}
-use Rattle.fm_known.specs.declared.known.Place.{Place}
+use Rattle.fm_known.specs.declared.known_state.SlotPlace.{SlotPlace}
 use Rattle.fm_known.specs.inner.Ranks.{rank_at}
 use Rattle.fm_known.specs.inner.Risen.{IsAlikeBut}
 use Rattle.fm_walk.specs.inner.Walks.{Brings, is_marked, IsForced, IsKept, not_begun, Pops, risen_at, Rises, Stands, Untypable, Walked, Went, with_risen, with_state, work_left}
@@ -319,11 +319,11 @@ taken-rise : (t : Task) (item : ℕ) (w taken : Walked) → Stands t w → Takes
 taken-rise t item w taken stands takes =
     let below = taken-inside t item w taken stands takes in
     let one = stands.one_rise in
-    ap (λ (xs : List (Option (List Place))). get_or xs item None) takes.risen ∙ get_or-set_same w.risen item (Some []) None (omega arith)
+    ap (λ (xs : List (Option (List SlotPlace))). get_or xs item None) takes.risen ∙ get_or-set_same w.risen item (Some []) None (omega arith)
 
 other-rise : (item j : ℕ) (w taken : Walked) → Takes item w taken → j ≢ item → risen_at taken j ≡ risen_at w j
 other-rise item j w taken takes apart =
-    ap (λ (xs : List (Option (List Place))). get_or xs j None) takes.risen ∙ get_or-set_other w.risen item j (Some []) None apart
+    ap (λ (xs : List (Option (List SlotPlace))). get_or xs j None) takes.risen ∙ get_or-set_other w.risen item j (Some []) None apart
 
 -- what is known of its state
 pub taken-met : (t : Task) (item : ℕ) (w taken : Walked) → Walking t w → Takes item w taken → IsMetBut t taken.states (risen_at w item) item
@@ -339,8 +339,8 @@ work-less t item w taken new takes went =
     omega (arith, falls, shorter, states)
 
 -- an item that was nearly met, and whose state then rose
-nearly-tracked : (t : Task) (a b : Walked) (j : ℕ) (few locals : List Place) (before s : TypeState) → IsSound t → Rises t.program.outline a b
-    → ((k : Place) → Contains few k → Contains locals k) → IsNearlyMet t a.states few j before → IsAlikeBut locals s before
+nearly-tracked : (t : Task) (a b : Walked) (j : ℕ) (few locals : List SlotPlace) (before s : TypeState) → IsSound t → Rises t.program.outline a b
+    → ((k : SlotPlace) → Contains few k → Contains locals k) → IsNearlyMet t a.states few j before → IsAlikeBut locals s before
     → state_fits t.program.outline before s ≡ true → IsNearlyMet t b.states locals j s
 nearly-tracked t a b j few locals before s sound rises among nearly alike fits = record {
   before = nearly.before;
@@ -497,15 +497,15 @@ entry_forced t sound = record {
 }
 
 -- nothing is noted yet
-abbrev unnoted : ℕ → List (Option (List Place))
+abbrev unnoted : ℕ → List (Option (List SlotPlace))
 unnoted n = replicate n None
 
 none_risen : (n j : ℕ) → get_or (set (unnoted n) 0 None) j None ≡ None
 none_risen zero j = refl
 none_risen (suc n) zero = refl
 none_risen (suc n) (suc j) =
-    ⊎_elim (λ (below : j < n). get_or-replicate {A = Option (List Place)} n j None None below)
-    (λ (past : n ≤ j). get_or_past (unnoted n) j None (let size = length-replicate {A = Option (List Place)} n None in omega arith))
+    ⊎_elim (λ (below : j < n). get_or-replicate {A = Option (List SlotPlace)} n j None None below)
+    (λ (past : n ≤ j). get_or_past (unnoted n) j None (let size = length-replicate {A = Option (List SlotPlace)} n None in omega arith))
     (cases_lt j n)
 
 -- only the first item has a state, and waits
@@ -533,7 +533,7 @@ Walking-first t s sound is within =
       stands = record {
         one_each = ap length waits.states ∙ length-set (replicate n None) 0 (Some s) ∙ size;
         one_mark = waits.one_mark ∙ length-replicate n false;
-        one_rise = ap length waits.risen ∙ length-set (replicate n None) 0 None ∙ length-replicate {A = Option (List Place)} n None;
+        one_rise = ap length waits.risen ∙ length-set (replicate n None) 0 None ∙ length-replicate {A = Option (List SlotPlace)} n None;
         first = seen 0 ∙ get_or-set_same (replicate n None) 0 (Some s) None (omega arith) ∙ ap Some is;
         each = λ j u there.
             let found = only j u there in
@@ -544,7 +544,7 @@ Walking-first t s sound is within =
       };
       closed = λ j u locals there known.
           let never : None ≡ Some locals =
-          sym (none_risen n j) ∙ ap (λ (xs : List (Option (List Place))). get_or xs j None) (sym waits.risen) ∙ known in
+          sym (none_risen n j) ∙ ap (λ (xs : List (Option (List SlotPlace))). get_or xs j None) (sym waits.risen) ∙ known in
           absurd cc;
       quiet = λ j u there. inr (subst (λ (k : ℕ). Contains (with_state 0 None s (not_begun n)).waiting k) (sym (only j u there).0) waits.listed);
     }

@@ -12,8 +12,8 @@ use Rattle.fm_catch.proofs.HandlerLemmas.{caught_alike, caught_forced, each_hand
 use Rattle.fm_walk.proofs.WalkLemmas.{kept-locals, kept-stack, fits_one, Went-none, Went-then}
 use Rattle.fm_known.proofs.PlaceLemmas.{same_longs}
 use Rattle.fm_known.proofs.RowFrames.{row-carried}
-use Rattle.fm_known.specs.declared.known.Place.{Place}
-use Rattle.fm_known.specs.declared.known.Place.TheVariants as place
+use Rattle.fm_known.specs.declared.known_state.SlotPlace.{SlotPlace}
+use Rattle.fm_known.specs.declared.known_state.SlotPlace.TheVariants as place
 use Rattle.fm_known.specs.declared.risen.Rise.{Rise}
 use Rattle.fm_known.specs.inner.Risen.{is_local, IsAlikeBut, IsCarried, IsLeftAlone, leaves_alone, locals_of, rise_of, slot_at, words_taken}
 use Rattle.fm_catch.specs.declared.runs.Level.{Level}
@@ -70,14 +70,14 @@ abbrev pub words_below : Task → Insn → TypeState → ℕ
 words_below t i s = length s.stack - words_taken t.program.outline (use_by t.program t.number i) i
 
 -- the state after an item, beside that after a state like its own
-record AfterAlike (t : Task) (j : ℕ) (places : List Place) (s known : TypeState) : Type 0 where
+record AfterAlike (t : Task) (j : ℕ) (places : List SlotPlace) (s known : TypeState) : Type 0 where
   after : TypeState
   is : after_item t.program t.number t.code j s ≡ Some after
   carried : IsCarried (λ p. Contains places p) (slot_at s) after known
 
-after_alike : (t : Task) (j : ℕ) (i : Insn) (places : List Place) (s before known : TypeState) → insn_of t.code j ≡ Some i → IsAlikeBut places s before
+after_alike : (t : Task) (j : ℕ) (i : Insn) (places : List SlotPlace) (s before known : TypeState) → insn_of t.code j ≡ Some i → IsAlikeBut places s before
     → AllZip IsShaped s.stack before.stack
-    → ((p : Place) → Contains places p → leaves_alone i (words_below t i s) p (slot_at s p) ≡ true)
+    → ((p : SlotPlace) → Contains places p → leaves_alone i (words_below t i s) p (slot_at s p) ≡ true)
     → after_item t.program t.number t.code j before ≡ Some known → AfterAlike t j places s known
 after_alike t j i places s before known is alike shaped alone gives =
     by_given (row_after o t.number j news used i s) (row_after o t.number j news used i before) (after-row t j i s is)
@@ -100,17 +100,17 @@ after_alike t j i places s before known is alike shaped alone gives =
           let same : b ≡ known = cc in
           record { after = a; is = e; carried = subst (IsCarried (λ p. Contains places p) (slot_at s) a) same h }
 
-left_alone : (i : Insn) (below : ℕ) (s : TypeState) (places : List Place) → All (IsLeftAlone i below) (map (rise_of s) places) → (p : Place)
+left_alone : (i : Insn) (below : ℕ) (s : TypeState) (places : List SlotPlace) → All (IsLeftAlone i below) (map (rise_of s) places) → (p : SlotPlace)
     → Contains places p → leaves_alone i below p (slot_at s p) ≡ true
 left_alone i below s places all p found =
     All-contains (IsLeftAlone i below) (map (rise_of s) places) (rise_of s p) all (Contains-map (rise_of s) places p found)
 
 -- the places of which it was asked
-pub asked-alone : (i : Insn) (below words : ℕ) (s : TypeState) (places asked : List Place) (rises given : List Rise) → given ≡ rises
+pub asked-alone : (i : Insn) (below words : ℕ) (s : TypeState) (places asked : List SlotPlace) (rises given : List Rise) → given ≡ rises
     → rises ≡ map (rise_of s) asked → asked ≡ places → below ≡ words → All (IsLeftAlone i below) given → All (IsLeftAlone i words) (map (rise_of s) places)
 asked-alone i below words s places asked rises given same found all enough h =
     subst (λ (n : ℕ). All (IsLeftAlone i n) (map (rise_of s) places)) enough
-    (subst (λ (xs : List Rise). All (IsLeftAlone i below) xs) (same ∙ found ∙ ap (λ (ps : List Place). map (rise_of s) ps) all) h)
+    (subst (λ (xs : List Rise). All (IsLeftAlone i below) xs) (same ∙ found ∙ ap (λ (ps : List SlotPlace). map (rise_of s) ps) all) h)
 
 -- those of locals are
 pub rises_local : (rises : List Rise) (rise : Rise) → Contains (locals_of rises) rise → is_local rise.place ≡ true
@@ -135,7 +135,7 @@ longs_kept : (t : Task) (w : Walked) (j : ℕ) (s before : TypeState) → IsKept
 longs_kept t w j s before kept met below = same_longs t.program.outline s before below met.meets.whole kept.forced.whole
 
 -- what is asked before
-pub ready : (t : Task) (j : ℕ) (i : Insn) (s : TypeState) (places : List Place) (w : Walked) → IsSound t → Stands t w → state_at w.states j ≡ Some s
+pub ready : (t : Task) (j : ℕ) (i : Insn) (s : TypeState) (places : List SlotPlace) (w : Walked) → IsSound t → Stands t w → state_at w.states j ≡ Some s
     → insn_of t.code j ≡ Some i → IsNearlyMet t w.states places j s → All (IsLeftAlone i (words_below t i s)) (map (rise_of s) places)
     → IsReady t w j i (map (rise_of s) places)
 ready t j i s places w sound stands at is nearly alone = record {
@@ -182,14 +182,14 @@ ready t j i s places w sound stands at is nearly alone = record {
       (left_alone i (words_below t i s) s places alone) row.1
 
 -- there is room at each of the places
-room_at : (t : Task) (states : List (Option TypeState)) (j : ℕ) (s : TypeState) (places : List Place) → All (HasRoom t states j) (map (rise_of s) places)
-    → (p : Place) → Contains places p → HasRoom t states j (rise_of s p)
+room_at : (t : Task) (states : List (Option TypeState)) (j : ℕ) (s : TypeState) (places : List SlotPlace) → All (HasRoom t states j) (map (rise_of s) places)
+    → (p : SlotPlace) → Contains places p → HasRoom t states j (rise_of s p)
 room_at t states j s places room p among =
     All-contains (HasRoom t states j) (map (rise_of s) places) (rise_of s p) room (Contains-map (rise_of s) places p among)
 
 -- and at those of locals
-local_room_at : (t : Task) (states : List (Option TypeState)) (j : ℕ) (s : TypeState) (places : List Place)
-    → All (HasRoom t states j) (locals_of (map (rise_of s) places)) → (p : Place) → Contains (locals_in places) p → HasRoom t states j (rise_of s p)
+local_room_at : (t : Task) (states : List (Option TypeState)) (j : ℕ) (s : TypeState) (places : List SlotPlace)
+    → All (HasRoom t states j) (locals_of (map (rise_of s) places)) → (p : SlotPlace) → Contains (locals_in places) p → HasRoom t states j (rise_of s p)
 local_room_at t states j s places room p among =
     let found = Contains-from_filter is_local places p among in
     All-contains (HasRoom t states j) (locals_of (map (rise_of s) places)) (rise_of s p) room
@@ -201,7 +201,7 @@ both_by_recursion P Q R each [] p q = tt
 both_by_recursion P Q R each (h ∷ hs) p q = (each h p.0 q.0, both_by_recursion P Q R each hs p.1 q.1)
 
 -- and what is left after
-pub GoesOver-carried : (t : Task) (j : ℕ) (i : Insn) (s : TypeState) (places : List Place) (w new : Walked) → IsSound t → Stands t w
+pub GoesOver-carried : (t : Task) (j : ℕ) (i : Insn) (s : TypeState) (places : List SlotPlace) (w new : Walked) → IsSound t → Stands t w
     → state_at w.states j ≡ Some s → insn_of t.code j ≡ Some i → IsNearlyMet t w.states places j s
     → All (IsLeftAlone i (words_below t i s)) (map (rise_of s) places)
     → CarriesOn t j i (map (rise_of s) places) w new → GoesOver t j w new

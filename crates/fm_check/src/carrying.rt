@@ -11,7 +11,7 @@ use crate::steps::next_items;
 use fm_base::NoMemory;
 use fm_catch::{Giving, Level, give_to_levels};
 use fm_code::Insn;
-use fm_known::{Method, Rise, locals_of};
+use fm_known::{CheckedMethod, Rise, locals_of};
 use fm_walk::Walk;
 use std::alloc::Global;
 
@@ -19,7 +19,7 @@ use std::alloc::Global;
 fn carry_to_all(
     alloc: Global,
     walk: &mut Walk,
-    method: &Method<'_>,
+    method: &CheckedMethod<'_>,
     items: &[u32],
     rises: &[Rise],
 ) -> Result<bool, NoMemory>
@@ -44,7 +44,7 @@ fn carry_to_all(
 pub fn carry_on(
     alloc: Global,
     walk: &mut Walk,
-    method: &Method<'_>,
+    method: &CheckedMethod<'_>,
     levels: &mut Vec<Level>,
     item: u32,
     insn: &Insn,

@@ -20,7 +20,7 @@ use crate::steps::run;
 use fm_base::limits::{MAX_LOCAL_WORDS, MAX_STACK_WORDS};
 use fm_base::{MethodId, NoMemory, Seq};
 use fm_code::{ACC_STATIC, Code, has_flag};
-use fm_known::{Known, Method, parameter_slots};
+use fm_known::{KnownState, CheckedMethod, parameter_slots};
 use fm_rows::{class_of_method, is_constructor};
 use fm_types::{Slot, Stack, State, Typing};
 use fm_walk::{Walk, is_within};
@@ -48,7 +48,7 @@ pub fn check(alloc: Global, program: &Program, method: MethodId) -> Result<Typin
     };
     judge(
         alloc,
-        &Method {
+        &CheckedMethod {
             program,
             number: method,
             code,
@@ -57,7 +57,7 @@ pub fn check(alloc: Global, program: &Program, method: MethodId) -> Result<Typin
 }
 
 // The same of a method whose code was looked up.
-fn judge(alloc: Global, method: &Method<'_>) -> Result<Typing, CheckFail>
+fn judge(alloc: Global, method: &CheckedMethod<'_>) -> Result<Typing, CheckFail>
     requires { IsSound (task method.now) }
     ensures { Judged (task method.now) result }
 {
@@ -95,7 +95,7 @@ fn wide_count(code: &Code) -> Option<u32>
 }
 
 // The least typing of the method, if one exists.
-fn typing_of(alloc: Global, method: &Method<'_>) -> Result<Option<Typing>, NoMemory>
+fn typing_of(alloc: Global, method: &CheckedMethod<'_>) -> Result<Option<Typing>, NoMemory>
     requires { IsSound (task method.now) }
     ensures { IfOk result (λ found. MatchOption found (Untypable (task method.now))
         (λ typing. IsLeast (task method.now) (states_of typing))) }
@@ -105,7 +105,7 @@ fn typing_of(alloc: Global, method: &Method<'_>) -> Result<Option<Typing>, NoMem
         return Ok(None);
     }
     let mut walk = Walk::new(alloc, method.code.items.len())?;
-    walk.begin(0, Known::new(alloc, &first)?)?;
+    walk.begin(0, KnownState::new(alloc, &first)?)?;
     if !run(alloc, &mut walk, method)? {
         return Ok(None);
     }
@@ -115,7 +115,7 @@ fn typing_of(alloc: Global, method: &Method<'_>) -> Result<Option<Typing>, NoMem
 }
 
 // The states that are known, as a typing has them.
-fn typed_states(alloc: Global, states: Vec<Option<Known>>) -> Result<Vec<Option<State>>, NoMemory>
+fn typed_states(alloc: Global, states: Vec<Option<KnownState>>) -> Result<Vec<Option<State>>, NoMemory>
     ensures { IfOk result
         (λ typed. map (option_map type_state) typed.items ≡ states_seen states.items) }
 {
@@ -127,10 +127,10 @@ fn typed_states(alloc: Global, states: Vec<Option<Known>>) -> Result<Vec<Option<
 }
 
 // The state that is known, if one is.
-fn state_of(known: Option<Known>) -> Option<State>
+fn state_of(known: Option<KnownState>) -> Option<State>
     ensures { option_map type_state result ≡ option_map known_state known }
 {
-    known.map(Known::into_state)
+    known.map(KnownState::into_state)
 }
 
 // Whether the method is static.
@@ -186,7 +186,7 @@ fn fill(locals: &mut Vec<Slot>, count: usize) -> Result<(), NoMemory>
 
 // The state of the first item: the receiver and the parameters are in the first locals.
 #[tactic(auto, unfolding(fm_types::specs::Typed::entry_state))]
-fn entry_state(alloc: Global, method: &Method<'_>) -> Result<State, NoMemory>
+fn entry_state(alloc: Global, method: &CheckedMethod<'_>) -> Result<State, NoMemory>
     requires { (task method.now).number < length (methods_of (task method.now).program.outline.classes) }
     ensures { IfOk result (λ state. type_state state
         ≡ entry_state (task method.now).program.outline (task method.now).number

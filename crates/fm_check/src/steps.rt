@@ -12,7 +12,7 @@ use crate::carrying::carry_on;
 use fm_base::{NoMemory, Seq};
 use fm_catch::{Level, bring_to_runs, levels_of};
 use fm_code::{Code, Insn};
-use fm_known::{Method, Place, all_left_alone, rises_of, words_taken};
+use fm_known::{CheckedMethod, SlotPlace, all_left_alone, rises_of, words_taken};
 use fm_rows::apply;
 use fm_types::State;
 use fm_walk::{Walk, state_of};
@@ -44,7 +44,7 @@ pub fn next_items(alloc: Global, insn: &Insn, item: u32) -> Result<Vec<u32>, NoM
 fn bring_to_all(
     alloc: Global,
     walk: &mut Walk,
-    method: &Method<'_>,
+    method: &CheckedMethod<'_>,
     items: &[u32],
     brought: &State,
 ) -> Result<bool, NoMemory>
@@ -69,7 +69,7 @@ fn bring_to_all(
 fn bring_on(
     alloc: Global,
     walk: &mut Walk,
-    method: &Method<'_>,
+    method: &CheckedMethod<'_>,
     item: u32,
     insn: &Insn,
     after: &State,
@@ -97,7 +97,7 @@ fn bring_on(
 fn go_over_whole(
     alloc: Global,
     walk: &mut Walk,
-    method: &Method<'_>,
+    method: &CheckedMethod<'_>,
     levels: &mut Vec<Level>,
     item: u32,
 ) -> Result<bool, NoMemory>
@@ -137,10 +137,10 @@ fn go_over_whole(
 fn go_over(
     alloc: Global,
     walk: &mut Walk,
-    method: &Method<'_>,
+    method: &CheckedMethod<'_>,
     levels: &mut Vec<Level>,
     item: u32,
-    risen: Option<Seq<Place>>,
+    risen: Option<Seq<SlotPlace>>,
 ) -> Result<bool, NoMemory>
     requires sound { IsSound (task method.now) }
     requires stands { Stands (task method.now) (walked walk.old) }
@@ -170,7 +170,7 @@ fn go_over(
 }
 
 /// Goes over all items that wait, until none does; false where the method isn't typed.
-pub fn run(alloc: Global, walk: &mut Walk, method: &Method<'_>) -> Result<bool, NoMemory>
+pub fn run(alloc: Global, walk: &mut Walk, method: &CheckedMethod<'_>) -> Result<bool, NoMemory>
     requires sound { IsSound (task method.now) }
     requires walking { Walking (task method.now) (walked walk.old) }
     ensures { IfOk result (λ typed. MatchBool typed

@@ -5,7 +5,7 @@ use Rattle.std.proofs.lemmas.List.{append_cancel_left}
 use Rattle.std.specs.List.{AllByRecursion, AllZip, flat_map}
 use Rattle.fm_code.specs.ClassBytes.{item_bytes, offset_in}
 use Rattle.fm_code.specs.InstructionTable.{insn_at}
-use Rattle.fm_code.specs.SpellsCode.{targets_of, with_targets, AreOffsets, IsSpelled, SpellsCode}
+use Rattle.fm_code.specs.SpellsCode.{targets_of, with_targets, AreOffsets, ItemIsSpelled, SpellsCode}
 use Rattle.fm_code.specs.declared.instructions.Insn.{Insn}
 use Rattle.fm_code.specs.declared.instructions.Insn.TheVariants as insn
 use Rattle.fm_code.specs.declared.code_array.Item.{Item}
@@ -151,7 +151,7 @@ same_offset (x ∷ xs) (y ∷ ys) end (suc k) (_, same) = same_offset xs ys end 
 -- items that spell the same instructions are the same, where each target is determined by its offset
 same_items : (xs_all ys_all : List Item) (find : ℕ → ℕ) → ((target : ℕ) → target < length xs_all → find (offset_in xs_all zero target) ≡ target) →
     length xs_all ≡ length ys_all → offset_in xs_all zero ≡ offset_in ys_all zero →
-    (xs ys : List Item) → AllZip SameSpelling xs ys → AllByRecursion (IsSpelled xs_all) xs → AllByRecursion (IsSpelled ys_all) ys → xs ≡ ys
+    (xs ys : List Item) → AllZip SameSpelling xs ys → AllByRecursion (ItemIsSpelled xs_all) xs → AllByRecursion (ItemIsSpelled ys_all) ys → xs ≡ ys
 same_items xs_all ys_all find found count offsets [] [] same x_spelled y_spelled = refl
 same_items xs_all ys_all find found count offsets [] (y ∷ ys) same x_spelled y_spelled = absurd same
 same_items xs_all ys_all find found count offsets (x ∷ xs) [] same x_spelled y_spelled = absurd same
@@ -169,8 +169,8 @@ same_items xs_all ys_all find found count offsets (x ∷ xs) (y ∷ ys) ((at, by
     λ k. record { offset = at k; bytes = bytes k; insn = insns k } ∷ rest k
 
 -- an item that is spelled has an instruction
-IsSpelled-read : (items : List Item) (item : Item) → IsSpelled items item → IsRead item
-IsSpelled-read items item spelled = (with_targets (offset_in items zero) item.insn, spelled.instruction)
+ItemIsSpelled-read : (items : List Item) (item : Item) → ItemIsSpelled items item → IsRead item
+ItemIsSpelled-read items item spelled = (with_targets (offset_in items zero) item.insn, spelled.instruction)
 
 -- the items of a code array lie one after the other from 0
 pub AreLaid-code : (bytes : List ℕ) (items : List Item) → SpellsCode bytes items → AreLaid 0 items (length bytes)
@@ -178,7 +178,7 @@ AreLaid-code bytes items spells =
     let size : length bytes ≡ length (flat_map item_bytes items) = ap length spells.bytes_are in
     record {
       offsets = spells.offsets;
-      not_empty = AllByRecursion-weaker (IsSpelled items) HasBytes (λ item spelled. IsRead-has_bytes item (IsSpelled-read items item spelled)) items spells.spelled;
+      not_empty = AllByRecursion-weaker (ItemIsSpelled items) HasBytes (λ item spelled. IsRead-has_bytes item (ItemIsSpelled-read items item spelled)) items spells.spelled;
       total = omega arith;
     }
 
@@ -187,7 +187,7 @@ pub one_code : (bytes : List ℕ) (xs ys : List Item) → SpellsCode bytes xs �
 one_code bytes xs ys x_spells y_spells =
     let laid = AreLaid-code bytes xs x_spells in
     let same = same_cuts 0 xs ys x_spells.offsets y_spells.offsets
-    (AllByRecursion-weaker (IsSpelled xs) IsRead (IsSpelled-read xs) xs x_spells.spelled) (AllByRecursion-weaker (IsSpelled ys) IsRead (IsSpelled-read ys) ys y_spells.spelled)
+    (AllByRecursion-weaker (ItemIsSpelled xs) IsRead (ItemIsSpelled-read xs) xs x_spells.spelled) (AllByRecursion-weaker (ItemIsSpelled ys) IsRead (ItemIsSpelled-read ys) ys y_spells.spelled)
     (sym x_spells.bytes_are ∙ y_spells.bytes_are) in
     let found : (target : ℕ) → target < length xs → index_of xs (offset_in xs zero target) ≡ target = λ target inside.
     ap (index_of xs) (offset_of_item xs zero (length bytes) target inside) ∙ index_of-offset_in 0 (length bytes) xs target laid inside in

@@ -13,7 +13,7 @@ use Rattle.fm_code.specs.Fits.{AreBytes, EntryFits}
 use Rattle.fm_code.specs.InstructionTable.{insn_at}
 use Rattle.fm_code.specs.Names.{is_binary_name, IsClassName}
 use Rattle.fm_code.specs.Profile.{EntryIsSupported}
-use Rattle.fm_code.specs.SpellsCode.{targets_of, with_targets, IsSpelled}
+use Rattle.fm_code.specs.SpellsCode.{targets_of, with_targets, ItemIsSpelled}
 use Rattle.fm_code.specs.declared.constant_pool.Entry.{Entry}
 use Rattle.fm_code.specs.declared.constant_pool.Entry.TheVariants as entry
 use Rattle.fm_code.specs.declared.code_array.Item.{Item}
@@ -132,7 +132,7 @@ meant all item = Some (with_targets (offset_in all zero) item.insn)
 abbrev pub leads_below : ℕ → Item → Bool
 leads_below count item = list_all (λ target. ltb target count) (targets_of item.insn)
 
-pub items_spelled : (all items : List Item) → map read items ≡ map (meant all) items → list_all (leads_below (length all)) items ≡ true → AllByRecursion (IsSpelled all) items
+pub items_spelled : (all items : List Item) → map read items ≡ map (meant all) items → list_all (leads_below (length all)) items ≡ true → AllByRecursion (ItemIsSpelled all) items
 items_spelled all [] same e = tt
 items_spelled all (item ∷ items) same e =
     let parts = and_parts (leads_below (length all) item) (list_all (leads_below (length all)) items) e in (

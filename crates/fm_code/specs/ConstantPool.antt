@@ -64,22 +64,22 @@ member_named entries class member =
     option_and_then (λ c. option_and_then (λ pair. Some (record { class = c; name = pair.0; descriptor = pair.1 })) (named_and_typed_at entries member)) (class_name_at entries class)
 
 -- the field at an index, or the method of a class, or that of an interface
-abbrev pub field_at : List Entry → ℕ → Option MemberName
-field_at entries index = of_field (entry_at entries index) where
+abbrev pub field_ref_at : List Entry → ℕ → Option MemberName
+field_ref_at entries index = of_field (entry_at entries index) where
   of_field : Entry → Option MemberName
   of_field (entry.Field class member) = member_named entries class member
   of_field e = None
 
 -- the method of a class at an index (JVMS 4.4.2)
-abbrev pub method_at : List Entry → ℕ → Option MemberName
-method_at entries index = of_method (entry_at entries index) where
+abbrev pub method_ref_at : List Entry → ℕ → Option MemberName
+method_ref_at entries index = of_method (entry_at entries index) where
   of_method : Entry → Option MemberName
   of_method (entry.Method class member) = member_named entries class member
   of_method e = None
 
 -- the method of an interface at an index (JVMS 4.4.2)
-abbrev pub interface_method_at : List Entry → ℕ → Option MemberName
-interface_method_at entries index = of_method (entry_at entries index) where
+abbrev pub interface_method_ref_at : List Entry → ℕ → Option MemberName
+interface_method_ref_at entries index = of_method (entry_at entries index) where
   of_method : Entry → Option MemberName
   of_method (entry.InterfaceMethod class member) = member_named entries class member
   of_method e = None

@@ -1,6 +1,6 @@
 -- What the instructions name in the constant pool (JVMS 4.9.1).
 use Rattle.std.specs.Prelude.{◌≡◌, ℕ, ◌+◌, ◌==◌, ◌⊎◌, Bool, true, false, List, Option, Some, None, IsSome, IsSomeAnd, slice_index, sum_by}
-use Rattle.fm_code.specs.ConstantPool.{entry_at, class_name_at, field_at, method_at, interface_method_at}
+use Rattle.fm_code.specs.ConstantPool.{entry_at, class_name_at, field_ref_at, method_ref_at, interface_method_ref_at}
 use Rattle.fm_code.specs.Names.{MethodType, IsMethodType, method_descriptor, words_of}
 use Rattle.fm_code.specs.declared.opcodes.TheConstants.{LDC2_W}
 use Rattle.fm_code.specs.declared.constant_pool.Entry.{Entry}
@@ -48,26 +48,26 @@ abbrev pub TakesWords : ℕ → List ℕ → Type 0
 TakesWords words descriptor = (m : MethodType) × (IsMethodType m × ((descriptor ≡ method_descriptor m) × (words ≡ sum_by words_of m.parameters + 1)))
 
 -- the byte after the index of invokeinterface: how many words its arguments take (JVMS 6.5.invokeinterface)
-abbrev pub count_of : Item → ℕ
-count_of item = slice_index item.bytes 3
+abbrev pub count_operand : Item → ℕ
+count_operand item = slice_index item.bytes 3
 
 -- a method of a class, or of an interface, is at the index (JVMS 6.5.invokespecial, 6.5.invokestatic)
 abbrev pub IsAnyMethod : List Entry → ℕ → Type 0
-IsAnyMethod entries index = IsSome (method_at entries index) ⊎ IsSome (interface_method_at entries index)
+IsAnyMethod entries index = IsSome (method_ref_at entries index) ⊎ IsSome (interface_method_ref_at entries index)
 
 -- the entry that an instruction names has the instruction's tag; invokeinterface has besides how many words are taken
 abbrev pub OperandIsValid : List Entry → Item → Type 0
 OperandIsValid entries item = asked item.insn where
   asked : Insn → Type 0
   asked (insn.LoadPool index) = IsConstant (opcode_of item == LDC2_W) (entry_at entries index)
-  asked (insn.GetStatic index) = IsSome (field_at entries index)
-  asked (insn.PutStatic index) = IsSome (field_at entries index)
-  asked (insn.GetField index) = IsSome (field_at entries index)
-  asked (insn.PutField index) = IsSome (field_at entries index)
-  asked (insn.Virtual index) = IsSome (method_at entries index)
+  asked (insn.GetStatic index) = IsSome (field_ref_at entries index)
+  asked (insn.PutStatic index) = IsSome (field_ref_at entries index)
+  asked (insn.GetField index) = IsSome (field_ref_at entries index)
+  asked (insn.PutField index) = IsSome (field_ref_at entries index)
+  asked (insn.Virtual index) = IsSome (method_ref_at entries index)
   asked (insn.Special index) = IsAnyMethod entries index
   asked (insn.Static index) = IsAnyMethod entries index
-  asked (insn.Interface index) = IsSomeAnd (interface_method_at entries index) (λ m. TakesWords (count_of item) m.descriptor)
+  asked (insn.Interface index) = IsSomeAnd (interface_method_ref_at entries index) (λ m. TakesWords (count_operand item) m.descriptor)
   asked (insn.New index) = IsSome (class_name_at entries index)
   asked (insn.NewRefs index) = IsSome (class_name_at entries index)
   asked (insn.Cast index) = IsSome (class_name_at entries index)

@@ -10,7 +10,7 @@ use Rattle.fm_code.specs.AccessFlags.{is_native}
 use Rattle.fm_code.specs.Numbers.{two}
 use Rattle.fm_code.specs.Fits.{FitsTwo}
 use Rattle.fm_code.specs.ClassBytes.{magic}
-use Rattle.fm_code.specs.ConstantPool.{entry_at, utf8_at, class_name_at, field_at, method_at, interface_method_at}
+use Rattle.fm_code.specs.ConstantPool.{entry_at, utf8_at, class_name_at, field_ref_at, method_ref_at, interface_method_ref_at}
 use Rattle.fm_code.specs.Members.{code_of}
 use Rattle.fm_code.specs.Names.{BaseType, primitive, object, FieldType, IsFieldType, field_descriptor, MethodType, IsMethodType, method_descriptor, IsArrayName}
 use Rattle.fm_code.specs.Spells.{Spells}
@@ -150,20 +150,20 @@ loads_supported entries i = true
 
 -- whether the method that invokespecial or invokestatic names is one of a class
 abbrev pub calls_of_class : List Entry → Insn → Bool
-calls_of_class entries (insn.Special index) = is_some (method_at entries index)
-calls_of_class entries (insn.Static index) = is_some (method_at entries index)
+calls_of_class entries (insn.Special index) = is_some (method_ref_at entries index)
+calls_of_class entries (insn.Static index) = is_some (method_ref_at entries index)
 calls_of_class entries i = true
 
 -- the class that an instruction names, by itself or as the class of a member
 abbrev pub class_named : List Entry → Insn → Option (List ℕ)
-class_named entries (insn.GetStatic index) = option_map (λ m. m.class) (field_at entries index)
-class_named entries (insn.PutStatic index) = option_map (λ m. m.class) (field_at entries index)
-class_named entries (insn.GetField index) = option_map (λ m. m.class) (field_at entries index)
-class_named entries (insn.PutField index) = option_map (λ m. m.class) (field_at entries index)
-class_named entries (insn.Virtual index) = option_map (λ m. m.class) (method_at entries index)
-class_named entries (insn.Special index) = option_map (λ m. m.class) (method_at entries index)
-class_named entries (insn.Static index) = option_map (λ m. m.class) (method_at entries index)
-class_named entries (insn.Interface index) = option_map (λ m. m.class) (interface_method_at entries index)
+class_named entries (insn.GetStatic index) = option_map (λ m. m.class) (field_ref_at entries index)
+class_named entries (insn.PutStatic index) = option_map (λ m. m.class) (field_ref_at entries index)
+class_named entries (insn.GetField index) = option_map (λ m. m.class) (field_ref_at entries index)
+class_named entries (insn.PutField index) = option_map (λ m. m.class) (field_ref_at entries index)
+class_named entries (insn.Virtual index) = option_map (λ m. m.class) (method_ref_at entries index)
+class_named entries (insn.Special index) = option_map (λ m. m.class) (method_ref_at entries index)
+class_named entries (insn.Static index) = option_map (λ m. m.class) (method_ref_at entries index)
+class_named entries (insn.Interface index) = option_map (λ m. m.class) (interface_method_ref_at entries index)
 class_named entries (insn.New index) = class_name_at entries index
 class_named entries (insn.NewRefs index) = class_name_at entries index
 class_named entries (insn.Cast index) = class_name_at entries index

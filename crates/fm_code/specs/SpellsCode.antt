@@ -37,7 +37,7 @@ AreOffsets offset [] = Unit {0}
 AreOffsets offset (item ∷ items) = (item.offset ≡ offset) × AreOffsets (offset + length item.bytes) items
 
 -- the bytes of an item spell its instruction there, and its targets are items, named by their offsets
-pub record IsSpelled (items : List Item) (item : Item) : Type 0 where
+pub record ItemIsSpelled (items : List Item) (item : Item) : Type 0 where
   pub instruction : insn_at item.offset item.bytes ≡ Some (with_targets (offset_in items zero) item.insn)
   pub targets : AllByRecursion (λ target. target < length items) (targets_of item.insn)
 
@@ -45,7 +45,7 @@ pub record IsSpelled (items : List Item) (item : Item) : Type 0 where
 pub record SpellsCode (bytes : List ℕ) (items : List Item) : Type 0 where
   pub bytes_are : bytes ≡ flat_map item_bytes items
   pub offsets : AreOffsets 0 items
-  pub spelled : AllByRecursion (IsSpelled items) items
+  pub spelled : AllByRecursion (ItemIsSpelled items) items
 
 -- a local variable of this kind lies within max_locals, with its second half if it is a long (JVMS 4.9.1)
 abbrev pub LocalFits : ℕ → Reg → ℕ → Type 0

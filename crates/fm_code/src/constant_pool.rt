@@ -2,7 +2,7 @@
 
 ghost use Rattle.std.specs.Prelude.{◌≡◌, ◌≢◌, IfOk, IfSome, IfNone, option_copied};
 ghost use Rattle.std.specs.Option.{option_map};
-ghost use Rattle.fm_code.specs.ConstantPool.{class_name_at, entry_at, field_at, interface_method_at, member_name, member_named, method_at, named_and_typed_at, utf8_at};
+ghost use Rattle.fm_code.specs.ConstantPool.{class_name_at, entry_at, field_ref_at, interface_method_ref_at, member_name, member_named, method_ref_at, named_and_typed_at, utf8_at};
 
 use fm_base::{Name, NoMemory, Seq};
 use std::alloc::Global;
@@ -184,7 +184,7 @@ impl Pool {
 
     /// The field at an index. `None` where no `Field` is, or where it names no field. Takes no memory.
     pub fn field(&self, index: u16) -> Option<MemberRef<'_>>
-        ensures { option_map member_name result ≡ field_at self.now.entries index }
+        ensures { option_map member_name result ≡ field_ref_at self.now.entries index }
     {
         match self.entry(index) {
             Some(Entry::Field(class, member)) => self.member(*class, *member),
@@ -195,7 +195,7 @@ impl Pool {
     /// The method of a class at an index. `None` where no `Method` is, or where it names no method.
     /// Takes no memory.
     pub fn method(&self, index: u16) -> Option<MemberRef<'_>>
-        ensures { option_map member_name result ≡ method_at self.now.entries index }
+        ensures { option_map member_name result ≡ method_ref_at self.now.entries index }
     {
         match self.entry(index) {
             Some(Entry::Method(class, member)) => self.member(*class, *member),
@@ -206,7 +206,7 @@ impl Pool {
     /// The method of an interface at an index. `None` where no `InterfaceMethod` is, or where it names
     /// no method. Takes no memory.
     pub fn interface_method(&self, index: u16) -> Option<MemberRef<'_>>
-        ensures { option_map member_name result ≡ interface_method_at self.now.entries index }
+        ensures { option_map member_name result ≡ interface_method_ref_at self.now.entries index }
     {
         match self.entry(index) {
             Some(Entry::InterfaceMethod(class, member)) => self.member(*class, *member),

@@ -15,12 +15,12 @@ const MAX_PLAIN_BYTES: usize = 6;
 /// The bytes that spell an instruction. Contracts see the list of the bytes.
 #[derive(Debug, Drop)]
 pub struct InsnBytes {
-    kept: Kept,
+    kept: StoredBytes,
 }
 
 // Few bytes in front of others that don't count, or many of them in a box.
 #[derive(Debug, Drop)]
-enum Kept {
+enum StoredBytes {
     Few([u8; MAX_PLAIN_BYTES], u8),
     Many(Box<Vec<u8>>),
 }
@@ -30,13 +30,13 @@ impl Model for InsnBytes {
 
     ghost Value = { List ℕ };
 
-    ghost use Rattle.fm_code.specs.InsnBytes.{kept_bytes};
+    ghost use Rattle.fm_code.specs.InsnBytes.{stored_bytes};
 
-    ghost view = { λ b. kept_bytes b.kept };
+    ghost view = { λ b. stored_bytes b.kept };
 
-    ghost use Rattle.fm_code.specs.InsnBytes.{IsKept};
+    ghost use Rattle.fm_code.specs.InsnBytes.{AreStored};
 
-    ghost invariant = { λ b. IsKept b.kept };
+    ghost invariant = { λ b. AreStored b.kept };
 }
 
 impl InsnBytes {
@@ -47,13 +47,13 @@ impl InsnBytes {
         if bytes.len() > MAX_PLAIN_BYTES {
             let many = Box::new(alloc, Vec::from_slice(alloc, bytes)?)?;
             return Ok(InsnBytes {
-                kept: Kept::Many(many),
+                kept: StoredBytes::Many(many),
             });
         }
         let mut few = [0; MAX_PLAIN_BYTES];
         few[..bytes.len()].copy_from_slice(bytes);
         Ok(InsnBytes {
-            kept: Kept::Few(few, bytes.len() as u8),
+            kept: StoredBytes::Few(few, bytes.len() as u8),
         })
     }
 
@@ -62,8 +62,8 @@ impl InsnBytes {
         ensures { result.now ≡ self.now }
     {
         match &self.kept {
-            Kept::Few(few, count) => &few[..usize::from(*count)],
-            Kept::Many(many) => many.as_slice(),
+            StoredBytes::Few(few, count) => &few[..usize::from(*count)],
+            StoredBytes::Many(many) => many.as_slice(),
         }
     }
 

@@ -23,7 +23,7 @@ use Rattle.fm_conn.specs.Nodes.{Node, TypedMethod}
 use Rattle.fm_conn.specs.Pairs.{CalledAt, CaughtAt, JoinedAt, Linking, PairAt, StaysAt}
 use Rattle.fm_conn.specs.Shapes.{nothing_linked}
 use Rattle.fm_conn.specs.Summaries.{linked_by, AreSummariesOf}
-use Rattle.fm_conn.specs.declared.method.Method.{Method}
+use Rattle.fm_conn.specs.declared.analysed_method.AnalysedMethod.{AnalysedMethod}
 use Rattle.fm_conn.specs.declared.summaries.Summaries.{Summaries}
 use Rattle.fm_conn.specs.inner.NodeTables.{node_count, number_of, table_of}
 use Rattle.fm_conn.specs.inner.PairLists.{all_pairs, call_pairs_at, method_in, own_pairs, IsTypedAs}
@@ -36,7 +36,7 @@ locals_fit most [] j i all is = absurd cc
 locals_fit most (item ∷ items) zero i (fits, all) is = let same : item.insn ≡ i = cc in subst (LocalsFit most) same fits
 locals_fit most (item ∷ items) (suc j) i (fits, all) is = locals_fit most items j i all is
 
-pub tabled : (m : Method) (flow : Flow) → IsTypedAs m → IsFlowOf m.code.now flow → IsTabled (method_in m) flow.reached
+pub tabled : (m : AnalysedMethod) (flow : Flow) → IsTypedAs m → IsFlowOf m.code.now flow → IsTabled (method_in m) flow.reached
 tabled m flow typed is =
     let valid = is.spelled.1 in
     record {
@@ -49,7 +49,7 @@ tabled m flow typed is =
 pub few_items : (code : Code) (flow : Flow) → IsFlowOf code flow → length code.items < 65536
 few_items code flow is = let counted = items_counted code is.spelled in let few = counted.1 in omega arith
 
-pub states_counted : (m : Method) → IsTypedAs m → length m.typing.now.states ≡ length m.code.now.items
+pub states_counted : (m : AnalysedMethod) → IsTypedAs m → length m.typing.now.states ≡ length m.code.now.items
 states_counted m typed = sym (length-map m.typing.now.states (option_map type_state)) ∙ typed.one_each
 
 -- ---- what the lists join

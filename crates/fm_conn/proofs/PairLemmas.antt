@@ -25,7 +25,7 @@ use Rattle.fm_conn.proofs.NumberLemmas.{IsThere, item_inside}
 use Rattle.fm_conn.proofs.WordLemmas.{depth_is, HasNumber, Located, located-at, located-some, local_number-some, local_number-there, reached_at, slot_number-node, slot_number-some}
 use Rattle.fm_conn.specs.Nodes.{Global, IsNode, Local, Node, Return, Slot, TypedMethod}
 use Rattle.fm_conn.specs.Pairs.{CaughtAt, depth_below, JoinedAt, Linking, PairAt, StandsAt, StaysAt, use_at}
-use Rattle.fm_conn.specs.Rows.{is_reference_field, joined_by, moved_words, Place, Taken, Given, InLocal, AsResult, Outside, words_taken}
+use Rattle.fm_conn.specs.Rows.{is_reference_field, joined_by, moved_words, RowPlace, Taken, Given, InLocal, AsResult, Outside, words_taken}
 use Rattle.fm_conn.specs.inner.NodeTables.{global_number, number_of, slot_number, table_of, words_of_state}
 use Rattle.fm_conn.specs.inner.PairLists.{at_place, caught_pairs, following, item_pairs, item_pairs_at, ItemPlace, joined_pairs, located, number_pair, own_pairs, place_at, place_number, place_pair, stay_pairs, staying_pairs}
 
@@ -170,21 +170,21 @@ staying_complete x j i s next d at (inr falls) low first second =
 
 -- the places at which instructions join words: those with a given one go on only to the next item,
 -- and locals are within max_locals
-abbrev pub PlaceFits : ℕ → Insn → Place → Type 0
+abbrev pub PlaceFits : ℕ → Insn → RowPlace → Type 0
 PlaceFits most i (Taken n) = Unit {0}
 PlaceFits most i (Given n) = (targets_of i ≡ []) × (falls_through i ≡ true)
 PlaceFits most i (InLocal k) = k < most
 PlaceFits most i AsResult = Unit {0}
 PlaceFits most i Outside = Unit {0}
 
-abbrev PairFits : ℕ → Insn → Place × Place → Type 0
+abbrev PairFits : ℕ → Insn → RowPlace × RowPlace → Type 0
 PairFits most i places = PlaceFits most i places.0 × PlaceFits most i places.1
 
 moved_fit : (most : ℕ) (i : Insn) → targets_of i ≡ [] → falls_through i ≡ true → (places : List ℕ) → AllByRecursion (PairFits most i) (moved_words places)
 moved_fit most i none falls [] = tt
 moved_fit most i none falls (place ∷ places) = ((tt, (none, falls)), moved_fit most i none falls places)
 
-if_fit : (P : Place × Place → Type 0) (b : Bool) (places : List (Place × Place)) → AllByRecursion P places → AllByRecursion P (cond b places [])
+if_fit : (P : RowPlace × RowPlace → Type 0) (b : Bool) (places : List (RowPlace × RowPlace)) → AllByRecursion P places → AllByRecursion P (cond b places [])
 if_fit P true places all = all
 if_fit P false places all = tt
 
@@ -220,12 +220,12 @@ joined_fit most o u (insn.Return None) fits = tt
 joined_fit most o u i fits = tt
 
 -- what is at a place
-pub record Stands (x : TypedMethod) (j : ℕ) (i : Insn) (p : Place) (n : ℕ) : Type 0 where
+pub record Stands (x : TypedMethod) (j : ℕ) (i : Insn) (p : RowPlace) (n : ℕ) : Type 0 where
   pub node : Node
   pub at : StandsAt x j i p node
   pub number : HasNumber x node n
 
-pub place_sound : (x : TypedMethod) (reached : List Bool) (j : ℕ) (i : Insn) (s : TypeState) (p : Place) (n : ℕ) → IsTabled x reached → Located x j i s →
+pub place_sound : (x : TypedMethod) (reached : List Bool) (j : ℕ) (i : Insn) (s : TypeState) (p : RowPlace) (n : ℕ) → IsTabled x reached → Located x j i s →
     PlaceFits x.code.max_locals i p → place_number (table_of x) (place_at x j i s) p ≡ Some n → Stands x j i p n
 place_sound x reached j i s (Taken k) n tabled at fits some =
     record {
@@ -262,7 +262,7 @@ pub slot_is : (x : TypedMethod) (node : Node) (j d : ℕ) → node ≡ Slot j d 
 slot_is x node j d is is_node =
     slot_number-node x j d (subst (IsNode x) is is_node) ∙ ap (λ v. Some (number_of (table_of x) v)) (sym is)
 
-pub place_complete : (x : TypedMethod) (j : ℕ) (i : Insn) (s : TypeState) (p : Place) (node : Node) → Located x j i s →
+pub place_complete : (x : TypedMethod) (j : ℕ) (i : Insn) (s : TypeState) (p : RowPlace) (node : Node) → Located x j i s →
     PlaceFits x.code.max_locals i p → StandsAt x j i p node → IsNode x node →
     place_number (table_of x) (place_at x j i s) p ≡ Some (number_of (table_of x) node)
 place_complete x j i s (Taken k) node at fits stands is_node =

@@ -13,7 +13,7 @@ use Rattle.fm_world.specs.declared.calls.CallKind.TheVariants as call
 use Rattle.fm_world.specs.declared.uses.Use.{Use}
 use Rattle.fm_world.specs.declared.uses.Use.TheVariants as resolved
 use Rattle.fm_conn.specs.Nodes.{Node, Local, Slot, Return, Global, IsNode, TypedMethod, depth_at}
-use Rattle.fm_conn.specs.Rows.{is_reference_kind, joined_by, Place, Taken, Given, InLocal, AsResult, Outside, words_taken}
+use Rattle.fm_conn.specs.Rows.{is_reference_kind, joined_by, RowPlace, Taken, Given, InLocal, AsResult, Outside, words_taken}
 use Rattle.fm_conn.specs.declared.ends.End2.{End2}
 use Rattle.fm_conn.specs.declared.ends.End2.TheVariants as end
 
@@ -29,7 +29,7 @@ depth_below x j i = depth_at x j - words_taken x.program.outline (use_at x i) i
 
 -- the node at a place of the item: what is given is on the stack of each item that follows, where
 -- nothing was thrown
-abbrev pub StandsAt : TypedMethod → ℕ → Insn → Place → Node → Type 0
+abbrev pub StandsAt : TypedMethod → ℕ → Insn → RowPlace → Node → Type 0
 StandsAt x j i (Taken n) node = node ≡ Slot j (depth_at x j - 1 - n)
 StandsAt x j i (Given n) node = (next : ℕ) × (IsNormalEdge x.code j next × (node ≡ Slot next (depth_below x j i + n)))
 StandsAt x j i (InLocal k) node = node ≡ Local k
@@ -86,8 +86,8 @@ pub record StaysAt (x : TypedMethod) (j : ℕ) (i : Insn) (a b : Node) : Type 0 
 
 -- two places that the instruction joins
 pub record JoinedAt (x : TypedMethod) (j : ℕ) (i : Insn) (a b : Node) : Type 0 where
-  pub one : Place
-  pub other : Place
+  pub one : RowPlace
+  pub other : RowPlace
   pub row : Contains (joined_by x.program.outline (use_at x i) i) (one, other)
   pub first : StandsAt x j i one a
   pub second : StandsAt x j i other b

@@ -12,7 +12,7 @@ use Rattle.fm_code.specs.declared.operations.Reg.{Reg}
 use Rattle.fm_code.specs.declared.operations.Reg.TheVariants as reg
 use Rattle.fm_types.specs.Moves.{Moves, moves_of}
 use Rattle.fm_base.specs.Kinds.{kind_words}
-use Rattle.fm_world.specs.Descriptors.{argument_words}
+use Rattle.fm_world.specs.Descriptors.{argument_word_count}
 use Rattle.fm_world.specs.Members.{field_at, field_kind, method_at}
 use Rattle.fm_world.specs.Programs.{Outline}
 use Rattle.fm_world.specs.declared.uses.Use.{Use}
@@ -45,8 +45,8 @@ method_in (resolved.OfMethod m t) = Some m.0
 method_in u = None
 
 -- the words of a field's value
-abbrev pub field_words : Outline → Use → ℕ
-field_words o u = of_field (field_in u) where
+abbrev pub field_word_count : Outline → Use → ℕ
+field_word_count o u = of_field (field_in u) where
   of_field : Option ℕ → ℕ
   of_field None = 0
   of_field (Some f) = kind_words (kind_of_field o f)
@@ -62,7 +62,7 @@ is_reference_field o u = of_field (field_in u) where
 abbrev pub words_of_call : Outline → ℕ → ℕ
 words_of_call o method =
     let m = (method_at o.classes method).method in
-    (if is_static m.flags then 0 else 1) + argument_words o.classes m.descriptor
+    (if is_static m.flags then 0 else 1) + argument_word_count o.classes m.descriptor
 
 -- the words that a call of what is named takes
 abbrev pub call_words : Outline → Use → ℕ
@@ -75,50 +75,50 @@ call_words o u = of_method (method_in u) where
 
 -- the words that an instruction takes, by what its index names
 unfoldable pub words_taken : Outline → Use → Insn → ℕ
-words_taken o u i = insns.words_taken (field_words o u) (call_words o u) i
+words_taken o u i = insns.words_taken (field_word_count o u) (call_words o u) i
 
 -- ---- what is joined, but for calls
 
 -- a word that is taken, counted from the top; one that is given, by how many given words lie below it; a local; the result; static fields and
 -- thrown objects
-pub data Place : Type 0 where
-  Taken : ℕ → Place
-  Given : ℕ → Place
-  InLocal : ℕ → Place
-  AsResult : Place
-  Outside : Place
+pub data RowPlace : Type 0 where
+  Taken : ℕ → RowPlace
+  Given : ℕ → RowPlace
+  InLocal : ℕ → RowPlace
+  AsResult : RowPlace
+  Outside : RowPlace
 
 -- each word that is moved with its copies
-abbrev pub moved_words : List ℕ → List (Place × Place)
+abbrev pub moved_words : List ℕ → List (RowPlace × RowPlace)
 moved_words [] = []
 moved_words (place ∷ places) = (Taken place, Given (length places)) ∷ moved_words places
 
 -- the places that a stack move joins
-abbrev pub joined_by_move : Option Moves → List (Place × Place)
+abbrev pub joined_by_move : Option Moves → List (RowPlace × RowPlace)
 joined_by_move None = []
 joined_by_move (Some m) = moved_words m.gives
 
 -- the places that a load joins
-abbrev pub joined_to_load : Reg → ℕ → List (Place × Place)
+abbrev pub joined_to_load : Reg → ℕ → List (RowPlace × RowPlace)
 joined_to_load reg.Int k = []
 joined_to_load reg.Long k = []
 joined_to_load reg.Ref k = (InLocal k, Given 0) ∷ []
 
 -- the places that a store joins
-abbrev pub joined_to_store : Reg → ℕ → List (Place × Place)
+abbrev pub joined_to_store : Reg → ℕ → List (RowPlace × RowPlace)
 joined_to_store reg.Int k = []
 joined_to_store reg.Long k = []
 joined_to_store reg.Ref k = (Taken 0, InLocal k) ∷ []
 
 -- the places that a return joins
-abbrev pub joined_to_return : Option Reg → List (Place × Place)
+abbrev pub joined_to_return : Option Reg → List (RowPlace × RowPlace)
 joined_to_return (Some reg.Ref) = (Taken 0, AsResult) ∷ []
 joined_to_return (Some reg.Int) = []
 joined_to_return (Some reg.Long) = []
 joined_to_return None = []
 
 -- of an array of references
-abbrev pub of_references : Elem → List (Place × Place) → List (Place × Place)
+abbrev pub of_references : Elem → List (RowPlace × RowPlace) → List (RowPlace × RowPlace)
 of_references elem.Ref places = places
 of_references elem.Boolean places = []
 of_references elem.Byte places = []
@@ -128,11 +128,11 @@ of_references elem.Int places = []
 of_references elem.Long places = []
 
 -- where the field that is named holds references
-abbrev pub of_reference_field : Outline → Use → List (Place × Place) → List (Place × Place)
+abbrev pub of_reference_field : Outline → Use → List (RowPlace × RowPlace) → List (RowPlace × RowPlace)
 of_reference_field o u places = if is_reference_field o u then places else []
 
 -- an object with what is read from it or put into it; what static fields and throwing lead to is Outside; a new object is joined with nothing yet
-unfoldable pub joined_by : Outline → Use → Insn → List (Place × Place)
+unfoldable pub joined_by : Outline → Use → Insn → List (RowPlace × RowPlace)
 joined_by o u insn.Pop = joined_by_move (moves_of insn.Pop)
 joined_by o u insn.Pop2 = joined_by_move (moves_of insn.Pop2)
 joined_by o u insn.Dup = joined_by_move (moves_of insn.Dup)

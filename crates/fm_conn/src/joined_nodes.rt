@@ -14,7 +14,7 @@ ghost use Rattle.fm_conn.specs.inner.PairLists.{method_in, IsAsked, IsTypedAs};
 
 use crate::class_numbers::Classes;
 use crate::links::push_calls;
-use crate::method::Method;
+use crate::analysed_method::AnalysedMethod;
 use crate::nodes::Nodes;
 use crate::pairs::own_pairs;
 use crate::summaries::Summaries;
@@ -46,7 +46,7 @@ pub fn classes(
 {
     match &program.method(method).body {
         Body::Coded(code) => {
-            let method = Method {
+            let method = AnalysedMethod {
                 program,
                 number: method,
                 code,
@@ -61,7 +61,7 @@ pub fn classes(
 // The same of the method with its code.
 fn classes_of(
     alloc: Global,
-    method: &Method<'_>,
+    method: &AnalysedMethod<'_>,
     flow: &Flow,
     summaries: &Summaries,
 ) -> Result<Classes, NoMemory>

@@ -10,7 +10,7 @@ ghost use Rattle.fm_conn.specs.inner.PairLists.{call_pairs, call_pairs_at, end_e
 use crate::ends::End2;
 use crate::item_nodes::ItemNodes;
 use crate::listed_ends::{first_with, numbered};
-use crate::method::Method;
+use crate::analysed_method::AnalysedMethod;
 use crate::nodes::Nodes;
 use crate::pairs::item_at;
 use crate::summaries::Summaries;
@@ -112,7 +112,7 @@ fn push_targets(
 fn push_call(
     alloc: Global,
     pairs: &mut Vec<(u32, u32)>,
-    method: &Method<'_>,
+    method: &AnalysedMethod<'_>,
     summaries: &Summaries,
     ends: &[(End2, u32)],
     call: Call,
@@ -129,7 +129,7 @@ fn push_call(
 fn push_calls_at(
     alloc: Global,
     pairs: &mut Vec<(u32, u32)>,
-    method: &Method<'_>,
+    method: &AnalysedMethod<'_>,
     summaries: &Summaries,
     at: &ItemNodes<'_>,
 ) -> Result<(), NoMemory>
@@ -152,7 +152,7 @@ fn push_calls_at(
 fn push_item(
     alloc: Global,
     pairs: &mut Vec<(u32, u32)>,
-    method: &Method<'_>,
+    method: &AnalysedMethod<'_>,
     nodes: &Nodes,
     summaries: &Summaries,
     item: u32,
@@ -173,7 +173,7 @@ fn push_item(
 pub fn push_calls(
     alloc: Global,
     pairs: &mut Vec<(u32, u32)>,
-    method: &Method<'_>,
+    method: &AnalysedMethod<'_>,
     nodes: &Nodes,
     summaries: &Summaries,
 ) -> Result<(), NoMemory>

@@ -17,7 +17,7 @@ ghost use Rattle.fm_conn.specs.inner.PairLists.{call_shape, call_shape_at, call_
 use crate::ends::End2;
 use crate::item_nodes::ItemNodes;
 use crate::links::stand_ins;
-use crate::method::Method;
+use crate::analysed_method::AnalysedMethod;
 use crate::nodes::{Nodes, is_reference};
 use crate::pairs::{item_at, own_pairs};
 use crate::rows::is_reference_kind;
@@ -47,7 +47,7 @@ pub fn shape(
 {
     match &program.method(method).body {
         Body::Coded(code) => {
-            let method = Method {
+            let method = AnalysedMethod {
                 program,
                 number: method,
                 code,
@@ -60,7 +60,7 @@ pub fn shape(
 }
 
 // The same of the method with its code.
-fn shape_of(alloc: Global, method: &Method<'_>, flow: &Flow) -> Result<Shape, NoMemory>
+fn shape_of(alloc: Global, method: &AnalysedMethod<'_>, flow: &Flow) -> Result<Shape, NoMemory>
     requires asked { IsAsked method.now }
     requires typed { IsTypedAs method.now }
     requires flow { IsFlowOf method.now.code.now flow.now }
@@ -91,7 +91,7 @@ fn class_at(least: &[u32], number: u32) -> u32
 #[tactic(auto, unfolding(crate::specs::inner::PairLists::end_entries))]
 fn ends_of(
     alloc: Global,
-    method: &Method<'_>,
+    method: &AnalysedMethod<'_>,
     nodes: &Nodes,
     least: &[u32],
 ) -> Result<Vec<(End2, u32)>, NoMemory>
@@ -110,7 +110,7 @@ fn ends_of(
 #[tactic(auto, unfolding(fm_world::specs::Programs::method_info))]
 fn push_result(
     ends: &mut Vec<(End2, u32)>,
-    method: &Method<'_>,
+    method: &AnalysedMethod<'_>,
     nodes: &Nodes,
     least: &[u32],
 ) -> Result<(), NoMemory>
@@ -144,7 +144,7 @@ fn push_if(ends: &mut Vec<(End2, u32)>, is_end: bool, end: End2, class: u32) -> 
 // The parameters that are references: the locals that hold one at first.
 fn parameters_of(
     alloc: Global,
-    method: &Method<'_>,
+    method: &AnalysedMethod<'_>,
     nodes: &Nodes,
     least: &[u32],
 ) -> Result<Vec<(End2, u32)>, NoMemory>
@@ -212,7 +212,7 @@ fn with_classes(
 #[tactic(auto, unfolding(crate::specs::inner::PairLists::call_shapes))]
 fn calls_of(
     alloc: Global,
-    method: &Method<'_>,
+    method: &AnalysedMethod<'_>,
     nodes: &Nodes,
     least: &[u32],
 ) -> Result<Vec<CallShape>, NoMemory>
@@ -232,7 +232,7 @@ fn calls_of(
 fn push_item(
     alloc: Global,
     calls: &mut Vec<CallShape>,
-    method: &Method<'_>,
+    method: &AnalysedMethod<'_>,
     nodes: &Nodes,
     least: &[u32],
     item: u32,
@@ -253,7 +253,7 @@ fn push_item(
 fn push_call(
     alloc: Global,
     calls: &mut Vec<CallShape>,
-    method: &Method<'_>,
+    method: &AnalysedMethod<'_>,
     least: &[u32],
     at: &ItemNodes<'_>,
 ) -> Result<(), NoMemory>

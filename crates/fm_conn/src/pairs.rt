@@ -12,7 +12,7 @@ ghost use Rattle.fm_conn.specs.inner.NodeTables.{table_of, words_at};
 ghost use Rattle.fm_conn.specs.inner.PairLists.{caught_pairs, item_pairs, item_pairs_at, located, method_in, own_pairs, place_of, place_with, IsAsked};
 
 use crate::item_nodes::{ItemNodes, push_pair};
-use crate::method::Method;
+use crate::analysed_method::AnalysedMethod;
 use crate::nodes::Nodes;
 use crate::rows::words_taken;
 use fm_base::NoMemory;
@@ -21,7 +21,7 @@ use fm_flow::Flow;
 use std::alloc::Global;
 
 /// An item with its nodes; none where it can't be reached.
-pub fn item_at<'a>(method: &Method<'a>, nodes: &'a Nodes, item: u32) -> Option<ItemNodes<'a>>
+pub fn item_at<'a>(method: &AnalysedMethod<'a>, nodes: &'a Nodes, item: u32) -> Option<ItemNodes<'a>>
     requires asked { IsAsked method.now }
     requires nodes { nodes.now ≡ table_of (method_in method.now) }
     requires inside { item < length method.now.code.now.items }
@@ -43,7 +43,7 @@ pub fn item_at<'a>(method: &Method<'a>, nodes: &'a Nodes, item: u32) -> Option<I
 }
 
 // Whether the item can be reached.
-fn is_reached(method: &Method<'_>, item: u32) -> bool
+fn is_reached(method: &AnalysedMethod<'_>, item: u32) -> bool
     requires asked { IsAsked method.now }
     requires inside { item < length method.now.code.now.items }
     ensures { result ≡ is_some (state_at (states_of method.now.typing.now) item) }
@@ -53,7 +53,7 @@ fn is_reached(method: &Method<'_>, item: u32) -> bool
 
 // An item that can be reached, with its instruction.
 fn reached_item<'a>(
-    method: &Method<'a>,
+    method: &AnalysedMethod<'a>,
     nodes: &'a Nodes,
     item: u32,
     insn: &'a Insn,
@@ -82,7 +82,7 @@ fn reached_item<'a>(
 // The pairs of one item.
 fn push_item(
     pairs: &mut Vec<(u32, u32)>,
-    method: &Method<'_>,
+    method: &AnalysedMethod<'_>,
     nodes: &Nodes,
     item: u32,
 ) -> Result<(), NoMemory>
@@ -102,7 +102,7 @@ fn push_item(
 // The pairs of an item that can be reached.
 fn push_pairs_at(
     pairs: &mut Vec<(u32, u32)>,
-    method: &Method<'_>,
+    method: &AnalysedMethod<'_>,
     at: &ItemNodes<'_>,
 ) -> Result<(), NoMemory>
     requires uses { IsUseIn method.now.program.now.outline at.now.resolved }
@@ -166,7 +166,7 @@ fn is_reachable(flow: &Flow, count: u32, item: u32) -> bool
 /// The pairs of all items and handlers, but for those of calls.
 pub fn own_pairs(
     alloc: Global,
-    method: &Method<'_>,
+    method: &AnalysedMethod<'_>,
     nodes: &Nodes,
     flow: &Flow,
 ) -> Result<Vec<(u32, u32)>, NoMemory>

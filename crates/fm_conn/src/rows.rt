@@ -1,7 +1,7 @@
 // How many words an instruction takes off the stack.
 
 ghost use Rattle.std.specs.Prelude.{◌≡◌, ◌<◌, ◌≤◌, length};
-ghost use Rattle.fm_conn.specs.Rows.{call_words, field_words, is_reference_field, is_reference_kind, kind_of_field, words_of_call, words_taken};
+ghost use Rattle.fm_conn.specs.Rows.{call_words, field_word_count, is_reference_field, is_reference_kind, kind_of_field, words_of_call, words_taken};
 ghost use Rattle.fm_conn.specs.Shapes.{IsUseIn};
 ghost use Rattle.fm_world.specs.Members.{fields_of, methods_of};
 
@@ -15,7 +15,7 @@ pub fn words_taken(program: &Program, resolved: Use, insn: &Insn) -> usize
     requires { IsUseIn program.now.outline resolved }
     ensures { result ≡ words_taken program.now.outline resolved insn.now }
 {
-    insn.words_taken(field_words(program, resolved), call_words(program, resolved))
+    insn.words_taken(field_word_count(program, resolved), call_words(program, resolved))
 }
 
 // What values of a field are.
@@ -28,9 +28,9 @@ fn kind_of_field(program: &Program, f: FieldId) -> Kind
 }
 
 // The words of a field's value.
-fn field_words(program: &Program, resolved: Use) -> usize
+fn field_word_count(program: &Program, resolved: Use) -> usize
     requires { IsUseIn program.now.outline resolved }
-    ensures value { result ≡ field_words program.now.outline resolved }
+    ensures value { result ≡ field_word_count program.now.outline resolved }
     ensures few { result ≤ 2 }
 {
     match resolved {

@@ -7,7 +7,7 @@ use Rattle.std.proofs.lemmas.Bool.{and_parts, ltb-true}
 use Rattle.fm_base.proofs.ListFacts.{AllByRecursion-append, AllByRecursion-get_or}
 use Rattle.fm_base.proofs.OptionFacts.{IsSomeAnd-at_some}
 use Rattle.fm_code.specs.AccessFlags.{is_interface}
-use Rattle.fm_code.specs.ConstantPool.{entry_at, utf8_at, class_name_at, named_and_typed_at, member_named, field_at, method_at, interface_method_at, EntryIsValid, MemberName}
+use Rattle.fm_code.specs.ConstantPool.{entry_at, utf8_at, class_name_at, named_and_typed_at, member_named, field_ref_at, method_ref_at, interface_method_ref_at, EntryIsValid, MemberName}
 use Rattle.fm_code.specs.Members.{receiver_words, FieldIsValid, MethodIsValid}
 use Rattle.fm_code.specs.Names.{IsClassName, IsFieldDescriptor, IsMethodDescriptor}
 use Rattle.fm_code.specs.Spells.{HasSpelling}
@@ -65,13 +65,13 @@ class_of o = option_map (λ (m : MemberName). m.class) o
 member_at_entry : (entries : List Entry) → AreEntries entries → (index : ℕ) (e : Entry) → entry_at entries index ≡ e → (name : List ℕ)
     → class_of (named_member entries index) ≡ Some name → IsClassName name
 member_at_entry entries valid index (entry.Field class member) is name found =
-    let field : class_of (field_at entries index) ≡ Some name = rw is at found in
+    let field : class_of (field_ref_at entries index) ≡ Some name = rw is at found in
     class_of_member entries valid class member name (rw is at field)
 member_at_entry entries valid index (entry.Method class member) is name found =
-    let method : class_of (method_at entries index) ≡ Some name = rw is at found in
+    let method : class_of (method_ref_at entries index) ≡ Some name = rw is at found in
     class_of_member entries valid class member name (rw is at method)
 member_at_entry entries valid index (entry.InterfaceMethod class member) is name found =
-    let method : class_of (interface_method_at entries index) ≡ Some name = rw is at found in
+    let method : class_of (interface_method_ref_at entries index) ≡ Some name = rw is at found in
     class_of_member entries valid class member name (rw is at method)
 member_at_entry entries valid index e is name found = none_there name (rw is at found)
 

@@ -9,8 +9,8 @@ use Rattle.fm_code.specs.SpellsCode.{AreOffsets}
 use Rattle.fm_code.specs.declared.instructions.Insn.{Insn}
 use Rattle.fm_code.specs.declared.code_array.Item.{Item}
 use Rattle.fm_code.proofs.InsnPrefixes.{insn_at_tells_end, insn_at_not_empty}
-use Rattle.fm_decode.specs.declared.shapes.Shape.{Shape}
-use Rattle.fm_decode.specs.declared.shapes.Shape.TheVariants as shape
+use Rattle.fm_decode.specs.declared.shapes.InsnShape.{InsnShape}
+use Rattle.fm_decode.specs.declared.shapes.InsnShape.TheVariants as shape
 use Rattle.fm_decode.specs.inner.Shapes.{shape_reading}
 use Rattle.fm_decode.specs.inner.Drafts.{shape_at, BeginsWith, IsFront, IsRead, AreDrafts}
 use Rattle.fm_decode.proofs.OperandsLemmas.{IsReadBy, plain_reads}
@@ -18,12 +18,12 @@ use Rattle.fm_decode.proofs.SwitchesLemmas.{table_reads, lookup_reads}
 
 -- ---- the instruction at the front
 
-shape_reads : (s : Shape) → IsReadBy (shape_reading s) (shape_at s)
+shape_reads : (s : InsnShape) → IsReadBy (shape_reading s) (shape_at s)
 shape_reads shape.TableSwitch = table_reads
 shape_reads shape.LookupSwitch = lookup_reads
 shape_reads s = plain_reads s (λ e. absurd cc) (λ e. absurd cc)
 
-begins : (at opcode : ℕ) (operands : List ℕ) (s : Shape) (i : Insn) (n m : ℕ) → shape_reading s ≡ reading_of opcode → shape_at s at operands ≡ Some (i, n) → m ≡ suc n
+begins : (at opcode : ℕ) (operands : List ℕ) (s : InsnShape) (i : Insn) (n m : ℕ) → shape_reading s ≡ reading_of opcode → shape_at s at operands ≡ Some (i, n) → m ≡ suc n
     → BeginsWith at (opcode ∷ operands) i m
 unfolding insn_at
 begins at opcode operands s i n m same found size =
@@ -31,7 +31,7 @@ begins at opcode operands s i n m same found size =
     let read : insn_at at (opcode ∷ take n operands) ≡ Some i = (λ k. sym same k at (take n operands)) ∙ taken.1 in
     subst (λ (k : ℕ). BeginsWith at (opcode ∷ operands) i k) (sym size) (record { within = omega (arith, taken.0); insn_is = read })
 
-begins_with_none : (at opcode : ℕ) (operands : List ℕ) (s : Shape) → shape_reading s ≡ reading_of opcode → shape_at s at operands ≡ None → (i : Insn) (n : ℕ)
+begins_with_none : (at opcode : ℕ) (operands : List ℕ) (s : InsnShape) → shape_reading s ≡ reading_of opcode → shape_at s at operands ≡ None → (i : Insn) (n : ℕ)
     → BeginsWith at (opcode ∷ operands) i n → ⊥
 unfolding insn_at
 begins_with_none at opcode operands s same none i zero begins = absurd (none-some i begins.insn_is)
@@ -48,13 +48,13 @@ operands_are : (opcode : ℕ) (operands : List ℕ) → operands_in (opcode ∷ 
 operands_are opcode operands = take_all (length (opcode ∷ operands) - 1) operands (omega arith)
 
 -- the same of bytes whose first one is the opcode
-pub begins_in : (at : ℕ) (bytes : List ℕ) (s : Shape) (i : Insn) (n : ℕ) → 0 < length bytes → shape_reading s ≡ reading_of (get_or bytes 0 0)
+pub begins_in : (at : ℕ) (bytes : List ℕ) (s : InsnShape) (i : Insn) (n : ℕ) → 0 < length bytes → shape_reading s ≡ reading_of (get_or bytes 0 0)
     → shape_at s at (operands_in bytes) ≡ Some (i, n) → BeginsWith at bytes i (1 + n)
 begins_in at [] s i n some same found = absurd (omega arith)
 begins_in at (opcode ∷ operands) s i n some same found =
     begins at opcode operands s i n (1 + n) same (ap (shape_at s at) (sym (operands_are opcode operands)) ∙ found) (omega arith)
 
-pub begins_in_none : (at : ℕ) (bytes : List ℕ) (s : Shape) → 0 < length bytes → shape_reading s ≡ reading_of (get_or bytes 0 0)
+pub begins_in_none : (at : ℕ) (bytes : List ℕ) (s : InsnShape) → 0 < length bytes → shape_reading s ≡ reading_of (get_or bytes 0 0)
     → shape_at s at (operands_in bytes) ≡ None → (i : Insn) (n : ℕ) → BeginsWith at bytes i n → ⊥
 begins_in_none at [] s some same none i n = absurd (omega arith)
 begins_in_none at (opcode ∷ operands) s some same none i n =

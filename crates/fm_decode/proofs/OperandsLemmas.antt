@@ -10,9 +10,9 @@ use Rattle.fm_code.specs.declared.opcodes.TheConstants as opcodes
 use Rattle.fm_code.specs.declared.instructions.Insn.{Insn}
 use Rattle.fm_code.specs.declared.instructions.Insn.TheVariants as insn
 use Rattle.fm_code.proofs.InsnPrefixes.{HasLength, length-bare, length-byte, length-two_bytes, length-long_jump, length-interface_call, length-array_of_arrays, length-new_array, length-left_out, length-wide}
-use Rattle.fm_decode.specs.declared.shapes.Shape.{Shape}
-use Rattle.fm_decode.specs.declared.shapes.Shape.TheVariants as shape
-use Rattle.fm_decode.specs.inner.Shapes.{indexed_insn, branch_insn, shape_reading}
+use Rattle.fm_decode.specs.declared.shapes.InsnShape.{InsnShape}
+use Rattle.fm_decode.specs.declared.shapes.InsnShape.TheVariants as shape
+use Rattle.fm_decode.specs.inner.Shapes.{indexed_insn, jump_insn, shape_reading}
 use Rattle.fm_decode.specs.inner.Operands.{Found, wide_local_at, wide_at, long_at, plain_at}
 
 -- what is found is what is read, from the first bytes, and how many they are
@@ -226,7 +226,7 @@ unknown_reads : IsReadBy malformed (plain_at shape.Unknown)
 unfolding plain_at long_at
 unknown_reads = record { takes = λ offset operands i n e. absurd cc; again = λ offset operands i n within e. absurd cc }
 
-pub plain_reads : (s : Shape) → (s ≡ shape.TableSwitch → ⊥) → (s ≡ shape.LookupSwitch → ⊥) → IsReadBy (shape_reading s) (plain_at s)
+pub plain_reads : (s : InsnShape) → (s ≡ shape.TableSwitch → ⊥) → (s ≡ shape.LookupSwitch → ⊥) → IsReadBy (shape_reading s) (plain_at s)
 unfolding plain_at
 plain_reads shape.Unknown table lookup = unknown_reads
 plain_reads (shape.Bare i) table lookup = bare_reads i
@@ -240,7 +240,7 @@ plain_reads shape.SignedShort table lookup =
 plain_reads shape.Increment table lookup =
     two_reads (λ offset a b. Some (insn.Inc a (signed_one b))) _ (λ offset a b rest. refl) (λ offset. refl) (λ offset a. refl)
 plain_reads (shape.Jump b) table lookup =
-    two_reads _ (plain_at (shape.Jump b)) (λ offset a c rest. jump_is 2 (branch_insn b) _) (λ offset. refl) (λ offset a. refl)
+    two_reads _ (plain_at (shape.Jump b)) (λ offset a c rest. jump_is 2 (jump_insn b) _) (λ offset. refl) (λ offset a. refl)
 plain_reads shape.LongJump table lookup = long_jump_reads
 plain_reads shape.InterfaceCall table lookup = interface_reads
 plain_reads shape.NewArray table lookup = new_array_reads

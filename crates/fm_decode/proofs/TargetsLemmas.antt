@@ -10,7 +10,7 @@ use Rattle.std.proofs.lemmas.Option.{none-some, same_Some}
 use Rattle.fm_base.proofs.ListFacts.{AllByRecursion-weaker}
 use Rattle.fm_code.specs.ClassBytes.{item_bytes, offset_in}
 use Rattle.fm_code.specs.InstructionTable.{insn_at}
-use Rattle.fm_code.specs.SpellsCode.{targets_of, with_targets, AreOffsets, IsSpelled, SpellsCode}
+use Rattle.fm_code.specs.SpellsCode.{targets_of, with_targets, AreOffsets, ItemIsSpelled, SpellsCode}
 use Rattle.fm_code.specs.declared.instructions.Insn.{Insn}
 use Rattle.fm_code.specs.declared.instructions.Insn.TheVariants as insn
 use Rattle.fm_code.specs.declared.code_array.Item.{Item}
@@ -366,13 +366,13 @@ laid_again offsets start (draft ∷ drafts) (item ∷ items) are laid = (
 )
 
 spelled_again : (offsets : List ℕ) (whole drafts items : List Item) → offset_at offsets ≡ offset_in whole zero → length offsets ≡ length whole → AreNumbered offsets drafts items
-    → AllByRecursion IsRead drafts → AllByRecursion (IsSpelled whole) items
+    → AllByRecursion IsRead drafts → AllByRecursion (ItemIsSpelled whole) items
 spelled_again offsets whole [] [] same count are reads = tt
 spelled_again offsets whole [] (item ∷ items) same count are reads = absurd are
 spelled_again offsets whole (draft ∷ drafts) [] same count are reads = absurd are
 spelled_again offsets whole (draft ∷ drafts) (item ∷ items) same count are reads =
     let one = are.0 in
-    let spelled : IsSpelled whole item = record {
+    let spelled : ItemIsSpelled whole item = record {
       instruction = (λ k. insn_at (one.offset_is k) (one.bytes_are k)) ∙ reads.0 ∙ ap Some (sym one.names.insn_is) ∙ ap (λ (f : ℕ → ℕ). Some (with_targets f item.insn)) same;
       targets = subst (λ (n : ℕ). AllByRecursion (λ target. target < n) (targets_of item.insn)) count one.names.within;
     } in
@@ -411,7 +411,7 @@ drafts_laid : (whole : List Item) (start : ℕ) (items : List Item) → AreOffse
 drafts_laid whole start [] laid = tt
 drafts_laid whole start (item ∷ items) laid = (laid.0, drafts_laid whole (start + length item.bytes) items laid.1)
 
-drafts_read : (whole items : List Item) → AllByRecursion (IsSpelled whole) items → AllByRecursion IsRead (drafts_of whole items)
+drafts_read : (whole items : List Item) → AllByRecursion (ItemIsSpelled whole) items → AllByRecursion IsRead (drafts_of whole items)
 drafts_read whole [] spelled = tt
 drafts_read whole (item ∷ items) spelled = (spelled.0.instruction, drafts_read whole items spelled.1)
 
@@ -423,7 +423,7 @@ items_drafts bytes items spells = record {
   insns = drafts_read items items spells.spelled;
 }
 
-drafts_numbered : (offsets : List ℕ) (whole items : List Item) → offset_at offsets ≡ offset_in whole zero → length offsets ≡ length whole → AllByRecursion (IsSpelled whole) items
+drafts_numbered : (offsets : List ℕ) (whole items : List Item) → offset_at offsets ≡ offset_in whole zero → length offsets ≡ length whole → AllByRecursion (ItemIsSpelled whole) items
     → AreNumbered offsets (drafts_of whole items) items
 drafts_numbered offsets whole [] same count spelled = tt
 drafts_numbered offsets whole (item ∷ items) same count spelled =

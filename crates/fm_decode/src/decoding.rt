@@ -7,7 +7,7 @@ ghost use Rattle.fm_code.specs.declared.code_array.TheConstants.{MAX_CODE_BYTES}
 
 use crate::drafts::drafts_of;
 use crate::error::DecodeFail;
-use crate::targets::Starts;
+use crate::targets::ItemStarts;
 use fm_code::Item;
 use std::alloc::Global;
 
@@ -24,6 +24,6 @@ pub fn decode(alloc: Global, code: &[u8]) -> Result<Vec<Item>, DecodeFail>
         → (items : List Item) → ¬ SpellsCode code.now items }
 {
     let drafts = drafts_of(alloc, code)?;
-    let starts = Starts::of(alloc, drafts.as_slice(), code.len())?;
+    let starts = ItemStarts::of(alloc, drafts.as_slice(), code.len())?;
     starts.numbered_items(alloc, drafts)
 }

@@ -7,7 +7,7 @@ ghost use Rattle.fm_decode.specs.inner.Gives.{Gives};
 
 use crate::error::DecodeFail;
 use crate::operands::plain_insn;
-use crate::shapes::{Shape, shape_of};
+use crate::shapes::{InsnShape, shape_of};
 use crate::switches::{lookup_switch, table_switch};
 use fm_code::{Insn, InsnBytes, Item};
 use std::alloc::Global;
@@ -65,15 +65,15 @@ fn insn_at(alloc: Global, at: usize, bytes: &[u8]) -> Result<(Insn, usize), Deco
 fn shaped_insn(
     alloc: Global,
     at: usize,
-    shape: Shape,
+    shape: InsnShape,
     operands: &[u8],
 ) -> Result<(Insn, usize), DecodeFail>
     requires { at ≤ 65535 }
     ensures { Gives (λ found. found) result (shape_at shape at operands.now) }
 {
     match shape {
-        Shape::TableSwitch => table_switch(alloc, at, operands),
-        Shape::LookupSwitch => lookup_switch(alloc, at, operands),
+        InsnShape::TableSwitch => table_switch(alloc, at, operands),
+        InsnShape::LookupSwitch => lookup_switch(alloc, at, operands),
         shape => plain_insn(at, shape, operands).ok_or(DecodeFail::Malformed),
     }
 }

@@ -6,7 +6,7 @@ ghost use Rattle.fm_code.specs.InstructionTable.{new_array_of, offset_from, wide
 ghost use Rattle.fm_code.specs.Numbers.{number_of_two, signed_two, signed_four_of};
 ghost use Rattle.fm_decode.specs.inner.Operands.{array_of_arrays_at, four_of, left_out_at, long_at, one_of, plain_at, two_of, wide_at};
 
-use crate::shapes::Shape;
+use crate::shapes::InsnShape;
 use fm_code::{Elem, Insn, Reg, opcodes};
 
 /// The first byte.
@@ -72,35 +72,35 @@ pub(crate) fn offset_from(at: usize, jump: i32) -> Option<u32>
 /// The instruction of a shape at an offset with what follows its opcode, and how many of these
 /// bytes belong to it.
 #[tactic(auto, unfolding(crate::specs::inner::Operands::plain_at))]
-pub(crate) fn plain_insn(at: usize, shape: Shape, operands: &[u8]) -> Option<(Insn, usize)>
+pub(crate) fn plain_insn(at: usize, shape: InsnShape, operands: &[u8]) -> Option<(Insn, usize)>
     requires { at ≤ 65535 }
     ensures { result ≡ plain_at shape at operands.now }
 {
     match shape {
-        Shape::Bare(insn) => Some((insn, 0)),
-        Shape::LeftOut(opcode, count) => left_out(opcode, usize::from(count), operands),
-        Shape::Byte(indexed) => {
+        InsnShape::Bare(insn) => Some((insn, 0)),
+        InsnShape::LeftOut(opcode, count) => left_out(opcode, usize::from(count), operands),
+        InsnShape::Byte(indexed) => {
             let index = one_of(operands)?;
             Some((indexed.insn(u16::from(index)), 1))
         }
-        Shape::Short(indexed) => {
+        InsnShape::Short(indexed) => {
             let (high, low) = two_of(operands)?;
             Some((indexed.insn(u16_of(high, low)), 2))
         }
-        Shape::SignedByte => {
+        InsnShape::SignedByte => {
             let value = one_of(operands)?;
             Some((Insn::Const(i32::from(value.cast_signed())), 1))
         }
-        Shape::SignedShort => {
+        InsnShape::SignedShort => {
             let (high, low) = two_of(operands)?;
             Some((Insn::Const(i32::from(i16_of(high, low))), 2))
         }
-        Shape::Increment => {
+        InsnShape::Increment => {
             let (local, by) = two_of(operands)?;
             let by = i16::from(by.cast_signed());
             Some((Insn::Inc(u16::from(local), by), 2))
         }
-        Shape::Jump(branch) => {
+        InsnShape::Jump(branch) => {
             let (high, low) = two_of(operands)?;
             let target = offset_from(at, i32::from(i16_of(high, low)))?;
             Some((branch.insn(target), 2))
@@ -111,23 +111,23 @@ pub(crate) fn plain_insn(at: usize, shape: Shape, operands: &[u8]) -> Option<(In
 
 /// The same for the shapes that few instructions have.
 #[tactic(auto, unfolding(crate::specs::inner::Operands::long_at))]
-fn long_insn(at: usize, shape: Shape, operands: &[u8]) -> Option<(Insn, usize)>
+fn long_insn(at: usize, shape: InsnShape, operands: &[u8]) -> Option<(Insn, usize)>
     requires { at ≤ 65535 }
     ensures { result ≡ long_at shape at operands.now }
 {
     match shape {
-        Shape::LongJump => {
+        InsnShape::LongJump => {
             let (a, b, c, d) = four_of(operands)?;
             let target = offset_from(at, i32_of(a, b, c, d))?;
             Some((Insn::Goto(target), 4))
         }
-        Shape::InterfaceCall => match four_of(operands)? {
+        InsnShape::InterfaceCall => match four_of(operands)? {
             (high, low, _, 0) => Some((Insn::Interface(u16_of(high, low)), 4)),
             _ => None,
         },
-        Shape::NewArray => Some((new_array(one_of(operands)?)?, 1)),
-        Shape::ArrayOfArrays => array_of_arrays(operands),
-        Shape::Wide => wide(operands),
+        InsnShape::NewArray => Some((new_array(one_of(operands)?)?, 1)),
+        InsnShape::ArrayOfArrays => array_of_arrays(operands),
+        InsnShape::Wide => wide(operands),
         _ => None,
     }
 }

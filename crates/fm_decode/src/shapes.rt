@@ -3,13 +3,13 @@
 
 ghost use Rattle.std.specs.Prelude.{◌≡◌};
 ghost use Rattle.fm_code.specs.InstructionTable.{reading_of};
-ghost use Rattle.fm_decode.specs.inner.Shapes.{branch_insn, indexed_insn, listed_reading, shape_reading, constant_opcodes, load_opcodes, store_opcodes, arithmetic_opcodes, conversion_opcodes, jump_opcodes, object_opcodes};
+ghost use Rattle.fm_decode.specs.inner.Shapes.{jump_insn, indexed_insn, listed_reading, shape_reading, constant_opcodes, load_opcodes, store_opcodes, arithmetic_opcodes, conversion_opcodes, jump_opcodes, object_opcodes};
 
 use fm_code::{Conv, Elem, Insn, Op, Reg, Shift, Test, opcodes};
 
 /// What follows an opcode, and which instruction it makes.
 #[derive(Debug, Drop)]
-pub(crate) enum Shape {
+pub(crate) enum InsnShape {
     /// No instruction has the opcode.
     Unknown,
     /// Nothing follows it.
@@ -27,7 +27,7 @@ pub(crate) enum Shape {
     /// A local, and a signed byte that is added to it.
     Increment,
     /// How far it is jumped, in two bytes.
-    Jump(Branch),
+    Jump(JumpKind),
     /// How far it is jumped, in four bytes.
     LongJump,
     /// An index of two bytes, a count and a byte 0.
@@ -87,7 +87,7 @@ impl Indexed {
 
 /// A jump.
 #[derive(Clone, Copy, Debug)]
-pub(crate) enum Branch {
+pub(crate) enum JumpKind {
     IfInt(Test),
     IfPair(Test),
     IfSame(bool),
@@ -95,23 +95,23 @@ pub(crate) enum Branch {
     Goto,
 }
 
-impl Branch {
+impl JumpKind {
     /// The jump with this target.
     pub(crate) fn insn(self, target: u32) -> Insn
-        ensures { result ≡ branch_insn self target }
+        ensures { result ≡ jump_insn self target }
     {
         match self {
-            Branch::IfInt(test) => Insn::IfInt(test, target),
-            Branch::IfPair(test) => Insn::IfPair(test, target),
-            Branch::IfSame(same) => Insn::IfSame(same, target),
-            Branch::IfNull(null) => Insn::IfNull(null, target),
-            Branch::Goto => Insn::Goto(target),
+            JumpKind::IfInt(test) => Insn::IfInt(test, target),
+            JumpKind::IfPair(test) => Insn::IfPair(test, target),
+            JumpKind::IfSame(same) => Insn::IfSame(same, target),
+            JumpKind::IfNull(null) => Insn::IfNull(null, target),
+            JumpKind::Goto => Insn::Goto(target),
         }
     }
 }
 
 /// The shape of the instruction that has an opcode.
-pub(crate) fn shape_of(opcode: u8) -> Shape
+pub(crate) fn shape_of(opcode: u8) -> InsnShape
     ensures { shape_reading result ≡ reading_of opcode }
 {
     match opcode {
@@ -122,214 +122,214 @@ pub(crate) fn shape_of(opcode: u8) -> Shape
         opcodes::IINC..=opcodes::DCMPG => conversion_shape(opcode),
         opcodes::IFEQ..=opcodes::RETURN => jump_shape(opcode),
         opcodes::GETSTATIC..=opcodes::JSR_W => object_shape(opcode),
-        _ => Shape::Unknown,
+        _ => InsnShape::Unknown,
     }
 }
 
 /// What puts a constant on the stack, and nop.
-fn constant_shape(opcode: u8) -> Shape
+fn constant_shape(opcode: u8) -> InsnShape
     ensures { shape_reading result ≡ listed_reading constant_opcodes opcode }
 {
     match opcode {
-        opcodes::NOP => Shape::Bare(Insn::Nop),
-        opcodes::ACONST_NULL => Shape::Bare(Insn::Null),
-        opcodes::ICONST_M1 => Shape::Bare(Insn::Const(-1)),
-        opcodes::ICONST_0 => Shape::Bare(Insn::Const(0)),
-        opcodes::ICONST_1 => Shape::Bare(Insn::Const(1)),
-        opcodes::ICONST_2 => Shape::Bare(Insn::Const(2)),
-        opcodes::ICONST_3 => Shape::Bare(Insn::Const(3)),
-        opcodes::ICONST_4 => Shape::Bare(Insn::Const(4)),
-        opcodes::ICONST_5 => Shape::Bare(Insn::Const(5)),
-        opcodes::LCONST_0 => Shape::Bare(Insn::LongConst(0)),
-        opcodes::LCONST_1 => Shape::Bare(Insn::LongConst(1)),
-        opcodes::BIPUSH => Shape::SignedByte,
-        opcodes::SIPUSH => Shape::SignedShort,
-        opcodes::LDC => Shape::Byte(Indexed::LoadPool),
-        opcodes::LDC_W | opcodes::LDC2_W => Shape::Short(Indexed::LoadPool),
-        _ => Shape::LeftOut(opcode, 0),
+        opcodes::NOP => InsnShape::Bare(Insn::Nop),
+        opcodes::ACONST_NULL => InsnShape::Bare(Insn::Null),
+        opcodes::ICONST_M1 => InsnShape::Bare(Insn::Const(-1)),
+        opcodes::ICONST_0 => InsnShape::Bare(Insn::Const(0)),
+        opcodes::ICONST_1 => InsnShape::Bare(Insn::Const(1)),
+        opcodes::ICONST_2 => InsnShape::Bare(Insn::Const(2)),
+        opcodes::ICONST_3 => InsnShape::Bare(Insn::Const(3)),
+        opcodes::ICONST_4 => InsnShape::Bare(Insn::Const(4)),
+        opcodes::ICONST_5 => InsnShape::Bare(Insn::Const(5)),
+        opcodes::LCONST_0 => InsnShape::Bare(Insn::LongConst(0)),
+        opcodes::LCONST_1 => InsnShape::Bare(Insn::LongConst(1)),
+        opcodes::BIPUSH => InsnShape::SignedByte,
+        opcodes::SIPUSH => InsnShape::SignedShort,
+        opcodes::LDC => InsnShape::Byte(Indexed::LoadPool),
+        opcodes::LDC_W | opcodes::LDC2_W => InsnShape::Short(Indexed::LoadPool),
+        _ => InsnShape::LeftOut(opcode, 0),
     }
 }
 
 /// What puts a local or an element of an array on the stack.
-fn load_shape(opcode: u8) -> Shape
+fn load_shape(opcode: u8) -> InsnShape
     ensures { shape_reading result ≡ listed_reading load_opcodes opcode }
 {
     match opcode {
-        opcodes::ILOAD => Shape::Byte(Indexed::Load(Reg::Int)),
-        opcodes::LLOAD => Shape::Byte(Indexed::Load(Reg::Long)),
-        opcodes::FLOAD | opcodes::DLOAD => Shape::LeftOut(opcode, 1),
-        opcodes::ALOAD => Shape::Byte(Indexed::Load(Reg::Ref)),
-        opcodes::ILOAD_0 => Shape::Bare(Insn::Load(Reg::Int, 0)),
-        opcodes::ILOAD_1 => Shape::Bare(Insn::Load(Reg::Int, 1)),
-        opcodes::ILOAD_2 => Shape::Bare(Insn::Load(Reg::Int, 2)),
-        opcodes::ILOAD_3 => Shape::Bare(Insn::Load(Reg::Int, 3)),
-        opcodes::LLOAD_0 => Shape::Bare(Insn::Load(Reg::Long, 0)),
-        opcodes::LLOAD_1 => Shape::Bare(Insn::Load(Reg::Long, 1)),
-        opcodes::LLOAD_2 => Shape::Bare(Insn::Load(Reg::Long, 2)),
-        opcodes::LLOAD_3 => Shape::Bare(Insn::Load(Reg::Long, 3)),
-        opcodes::ALOAD_0 => Shape::Bare(Insn::Load(Reg::Ref, 0)),
-        opcodes::ALOAD_1 => Shape::Bare(Insn::Load(Reg::Ref, 1)),
-        opcodes::ALOAD_2 => Shape::Bare(Insn::Load(Reg::Ref, 2)),
-        opcodes::ALOAD_3 => Shape::Bare(Insn::Load(Reg::Ref, 3)),
-        opcodes::IALOAD => Shape::Bare(Insn::ArrayLoad(Elem::Int)),
-        opcodes::LALOAD => Shape::Bare(Insn::ArrayLoad(Elem::Long)),
-        opcodes::AALOAD => Shape::Bare(Insn::ArrayLoad(Elem::Ref)),
-        opcodes::BALOAD => Shape::Bare(Insn::ArrayLoad(Elem::Byte)),
-        opcodes::CALOAD => Shape::Bare(Insn::ArrayLoad(Elem::Char)),
-        opcodes::SALOAD => Shape::Bare(Insn::ArrayLoad(Elem::Short)),
-        _ => Shape::LeftOut(opcode, 0),
+        opcodes::ILOAD => InsnShape::Byte(Indexed::Load(Reg::Int)),
+        opcodes::LLOAD => InsnShape::Byte(Indexed::Load(Reg::Long)),
+        opcodes::FLOAD | opcodes::DLOAD => InsnShape::LeftOut(opcode, 1),
+        opcodes::ALOAD => InsnShape::Byte(Indexed::Load(Reg::Ref)),
+        opcodes::ILOAD_0 => InsnShape::Bare(Insn::Load(Reg::Int, 0)),
+        opcodes::ILOAD_1 => InsnShape::Bare(Insn::Load(Reg::Int, 1)),
+        opcodes::ILOAD_2 => InsnShape::Bare(Insn::Load(Reg::Int, 2)),
+        opcodes::ILOAD_3 => InsnShape::Bare(Insn::Load(Reg::Int, 3)),
+        opcodes::LLOAD_0 => InsnShape::Bare(Insn::Load(Reg::Long, 0)),
+        opcodes::LLOAD_1 => InsnShape::Bare(Insn::Load(Reg::Long, 1)),
+        opcodes::LLOAD_2 => InsnShape::Bare(Insn::Load(Reg::Long, 2)),
+        opcodes::LLOAD_3 => InsnShape::Bare(Insn::Load(Reg::Long, 3)),
+        opcodes::ALOAD_0 => InsnShape::Bare(Insn::Load(Reg::Ref, 0)),
+        opcodes::ALOAD_1 => InsnShape::Bare(Insn::Load(Reg::Ref, 1)),
+        opcodes::ALOAD_2 => InsnShape::Bare(Insn::Load(Reg::Ref, 2)),
+        opcodes::ALOAD_3 => InsnShape::Bare(Insn::Load(Reg::Ref, 3)),
+        opcodes::IALOAD => InsnShape::Bare(Insn::ArrayLoad(Elem::Int)),
+        opcodes::LALOAD => InsnShape::Bare(Insn::ArrayLoad(Elem::Long)),
+        opcodes::AALOAD => InsnShape::Bare(Insn::ArrayLoad(Elem::Ref)),
+        opcodes::BALOAD => InsnShape::Bare(Insn::ArrayLoad(Elem::Byte)),
+        opcodes::CALOAD => InsnShape::Bare(Insn::ArrayLoad(Elem::Char)),
+        opcodes::SALOAD => InsnShape::Bare(Insn::ArrayLoad(Elem::Short)),
+        _ => InsnShape::LeftOut(opcode, 0),
     }
 }
 
 /// What takes a value from the stack into a local or an element of an array, and what moves words
 /// on the stack.
-fn store_shape(opcode: u8) -> Shape
+fn store_shape(opcode: u8) -> InsnShape
     ensures { shape_reading result ≡ listed_reading store_opcodes opcode }
 {
     match opcode {
-        opcodes::ISTORE => Shape::Byte(Indexed::Store(Reg::Int)),
-        opcodes::LSTORE => Shape::Byte(Indexed::Store(Reg::Long)),
-        opcodes::FSTORE | opcodes::DSTORE => Shape::LeftOut(opcode, 1),
-        opcodes::ASTORE => Shape::Byte(Indexed::Store(Reg::Ref)),
-        opcodes::ISTORE_0 => Shape::Bare(Insn::Store(Reg::Int, 0)),
-        opcodes::ISTORE_1 => Shape::Bare(Insn::Store(Reg::Int, 1)),
-        opcodes::ISTORE_2 => Shape::Bare(Insn::Store(Reg::Int, 2)),
-        opcodes::ISTORE_3 => Shape::Bare(Insn::Store(Reg::Int, 3)),
-        opcodes::LSTORE_0 => Shape::Bare(Insn::Store(Reg::Long, 0)),
-        opcodes::LSTORE_1 => Shape::Bare(Insn::Store(Reg::Long, 1)),
-        opcodes::LSTORE_2 => Shape::Bare(Insn::Store(Reg::Long, 2)),
-        opcodes::LSTORE_3 => Shape::Bare(Insn::Store(Reg::Long, 3)),
-        opcodes::ASTORE_0 => Shape::Bare(Insn::Store(Reg::Ref, 0)),
-        opcodes::ASTORE_1 => Shape::Bare(Insn::Store(Reg::Ref, 1)),
-        opcodes::ASTORE_2 => Shape::Bare(Insn::Store(Reg::Ref, 2)),
-        opcodes::ASTORE_3 => Shape::Bare(Insn::Store(Reg::Ref, 3)),
-        opcodes::IASTORE => Shape::Bare(Insn::ArrayStore(Elem::Int)),
-        opcodes::LASTORE => Shape::Bare(Insn::ArrayStore(Elem::Long)),
-        opcodes::AASTORE => Shape::Bare(Insn::ArrayStore(Elem::Ref)),
-        opcodes::BASTORE => Shape::Bare(Insn::ArrayStore(Elem::Byte)),
-        opcodes::CASTORE => Shape::Bare(Insn::ArrayStore(Elem::Char)),
-        opcodes::SASTORE => Shape::Bare(Insn::ArrayStore(Elem::Short)),
-        opcodes::POP => Shape::Bare(Insn::Pop),
-        opcodes::POP2 => Shape::Bare(Insn::Pop2),
-        opcodes::DUP => Shape::Bare(Insn::Dup),
-        opcodes::DUP_X1 => Shape::Bare(Insn::DupX1),
-        opcodes::DUP_X2 => Shape::Bare(Insn::DupX2),
-        opcodes::DUP2 => Shape::Bare(Insn::Dup2),
-        opcodes::DUP2_X1 => Shape::Bare(Insn::Dup2X1),
-        opcodes::DUP2_X2 => Shape::Bare(Insn::Dup2X2),
-        opcodes::SWAP => Shape::Bare(Insn::Swap),
-        _ => Shape::LeftOut(opcode, 0),
+        opcodes::ISTORE => InsnShape::Byte(Indexed::Store(Reg::Int)),
+        opcodes::LSTORE => InsnShape::Byte(Indexed::Store(Reg::Long)),
+        opcodes::FSTORE | opcodes::DSTORE => InsnShape::LeftOut(opcode, 1),
+        opcodes::ASTORE => InsnShape::Byte(Indexed::Store(Reg::Ref)),
+        opcodes::ISTORE_0 => InsnShape::Bare(Insn::Store(Reg::Int, 0)),
+        opcodes::ISTORE_1 => InsnShape::Bare(Insn::Store(Reg::Int, 1)),
+        opcodes::ISTORE_2 => InsnShape::Bare(Insn::Store(Reg::Int, 2)),
+        opcodes::ISTORE_3 => InsnShape::Bare(Insn::Store(Reg::Int, 3)),
+        opcodes::LSTORE_0 => InsnShape::Bare(Insn::Store(Reg::Long, 0)),
+        opcodes::LSTORE_1 => InsnShape::Bare(Insn::Store(Reg::Long, 1)),
+        opcodes::LSTORE_2 => InsnShape::Bare(Insn::Store(Reg::Long, 2)),
+        opcodes::LSTORE_3 => InsnShape::Bare(Insn::Store(Reg::Long, 3)),
+        opcodes::ASTORE_0 => InsnShape::Bare(Insn::Store(Reg::Ref, 0)),
+        opcodes::ASTORE_1 => InsnShape::Bare(Insn::Store(Reg::Ref, 1)),
+        opcodes::ASTORE_2 => InsnShape::Bare(Insn::Store(Reg::Ref, 2)),
+        opcodes::ASTORE_3 => InsnShape::Bare(Insn::Store(Reg::Ref, 3)),
+        opcodes::IASTORE => InsnShape::Bare(Insn::ArrayStore(Elem::Int)),
+        opcodes::LASTORE => InsnShape::Bare(Insn::ArrayStore(Elem::Long)),
+        opcodes::AASTORE => InsnShape::Bare(Insn::ArrayStore(Elem::Ref)),
+        opcodes::BASTORE => InsnShape::Bare(Insn::ArrayStore(Elem::Byte)),
+        opcodes::CASTORE => InsnShape::Bare(Insn::ArrayStore(Elem::Char)),
+        opcodes::SASTORE => InsnShape::Bare(Insn::ArrayStore(Elem::Short)),
+        opcodes::POP => InsnShape::Bare(Insn::Pop),
+        opcodes::POP2 => InsnShape::Bare(Insn::Pop2),
+        opcodes::DUP => InsnShape::Bare(Insn::Dup),
+        opcodes::DUP_X1 => InsnShape::Bare(Insn::DupX1),
+        opcodes::DUP_X2 => InsnShape::Bare(Insn::DupX2),
+        opcodes::DUP2 => InsnShape::Bare(Insn::Dup2),
+        opcodes::DUP2_X1 => InsnShape::Bare(Insn::Dup2X1),
+        opcodes::DUP2_X2 => InsnShape::Bare(Insn::Dup2X2),
+        opcodes::SWAP => InsnShape::Bare(Insn::Swap),
+        _ => InsnShape::LeftOut(opcode, 0),
     }
 }
 
 /// What computes with ints and longs.
-fn arithmetic_shape(opcode: u8) -> Shape
+fn arithmetic_shape(opcode: u8) -> InsnShape
     ensures { shape_reading result ≡ listed_reading arithmetic_opcodes opcode }
 {
     match opcode {
-        opcodes::IADD => Shape::Bare(Insn::IntOp(Op::Add)),
-        opcodes::LADD => Shape::Bare(Insn::LongOp(Op::Add)),
-        opcodes::ISUB => Shape::Bare(Insn::IntOp(Op::Sub)),
-        opcodes::LSUB => Shape::Bare(Insn::LongOp(Op::Sub)),
-        opcodes::IMUL => Shape::Bare(Insn::IntOp(Op::Mul)),
-        opcodes::LMUL => Shape::Bare(Insn::LongOp(Op::Mul)),
-        opcodes::IDIV => Shape::Bare(Insn::IntOp(Op::Div)),
-        opcodes::LDIV => Shape::Bare(Insn::LongOp(Op::Div)),
-        opcodes::IREM => Shape::Bare(Insn::IntOp(Op::Rem)),
-        opcodes::LREM => Shape::Bare(Insn::LongOp(Op::Rem)),
-        opcodes::INEG => Shape::Bare(Insn::IntNeg),
-        opcodes::LNEG => Shape::Bare(Insn::LongNeg),
-        opcodes::ISHL => Shape::Bare(Insn::IntShift(Shift::Left)),
-        opcodes::LSHL => Shape::Bare(Insn::LongShift(Shift::Left)),
-        opcodes::ISHR => Shape::Bare(Insn::IntShift(Shift::Right)),
-        opcodes::LSHR => Shape::Bare(Insn::LongShift(Shift::Right)),
-        opcodes::IUSHR => Shape::Bare(Insn::IntShift(Shift::RightZero)),
-        opcodes::LUSHR => Shape::Bare(Insn::LongShift(Shift::RightZero)),
-        opcodes::IAND => Shape::Bare(Insn::IntOp(Op::And)),
-        opcodes::LAND => Shape::Bare(Insn::LongOp(Op::And)),
-        opcodes::IOR => Shape::Bare(Insn::IntOp(Op::Or)),
-        opcodes::LOR => Shape::Bare(Insn::LongOp(Op::Or)),
-        opcodes::IXOR => Shape::Bare(Insn::IntOp(Op::Xor)),
-        opcodes::LXOR => Shape::Bare(Insn::LongOp(Op::Xor)),
-        _ => Shape::LeftOut(opcode, 0),
+        opcodes::IADD => InsnShape::Bare(Insn::IntOp(Op::Add)),
+        opcodes::LADD => InsnShape::Bare(Insn::LongOp(Op::Add)),
+        opcodes::ISUB => InsnShape::Bare(Insn::IntOp(Op::Sub)),
+        opcodes::LSUB => InsnShape::Bare(Insn::LongOp(Op::Sub)),
+        opcodes::IMUL => InsnShape::Bare(Insn::IntOp(Op::Mul)),
+        opcodes::LMUL => InsnShape::Bare(Insn::LongOp(Op::Mul)),
+        opcodes::IDIV => InsnShape::Bare(Insn::IntOp(Op::Div)),
+        opcodes::LDIV => InsnShape::Bare(Insn::LongOp(Op::Div)),
+        opcodes::IREM => InsnShape::Bare(Insn::IntOp(Op::Rem)),
+        opcodes::LREM => InsnShape::Bare(Insn::LongOp(Op::Rem)),
+        opcodes::INEG => InsnShape::Bare(Insn::IntNeg),
+        opcodes::LNEG => InsnShape::Bare(Insn::LongNeg),
+        opcodes::ISHL => InsnShape::Bare(Insn::IntShift(Shift::Left)),
+        opcodes::LSHL => InsnShape::Bare(Insn::LongShift(Shift::Left)),
+        opcodes::ISHR => InsnShape::Bare(Insn::IntShift(Shift::Right)),
+        opcodes::LSHR => InsnShape::Bare(Insn::LongShift(Shift::Right)),
+        opcodes::IUSHR => InsnShape::Bare(Insn::IntShift(Shift::RightZero)),
+        opcodes::LUSHR => InsnShape::Bare(Insn::LongShift(Shift::RightZero)),
+        opcodes::IAND => InsnShape::Bare(Insn::IntOp(Op::And)),
+        opcodes::LAND => InsnShape::Bare(Insn::LongOp(Op::And)),
+        opcodes::IOR => InsnShape::Bare(Insn::IntOp(Op::Or)),
+        opcodes::LOR => InsnShape::Bare(Insn::LongOp(Op::Or)),
+        opcodes::IXOR => InsnShape::Bare(Insn::IntOp(Op::Xor)),
+        opcodes::LXOR => InsnShape::Bare(Insn::LongOp(Op::Xor)),
+        _ => InsnShape::LeftOut(opcode, 0),
     }
 }
 
 /// iinc, and what converts or compares numbers.
-fn conversion_shape(opcode: u8) -> Shape
+fn conversion_shape(opcode: u8) -> InsnShape
     ensures { shape_reading result ≡ listed_reading conversion_opcodes opcode }
 {
     match opcode {
-        opcodes::IINC => Shape::Increment,
-        opcodes::I2L => Shape::Bare(Insn::Convert(Conv::IntToLong)),
-        opcodes::L2I => Shape::Bare(Insn::Convert(Conv::LongToInt)),
-        opcodes::I2B => Shape::Bare(Insn::Convert(Conv::IntToByte)),
-        opcodes::I2C => Shape::Bare(Insn::Convert(Conv::IntToChar)),
-        opcodes::I2S => Shape::Bare(Insn::Convert(Conv::IntToShort)),
-        opcodes::LCMP => Shape::Bare(Insn::LongCompare),
-        _ => Shape::LeftOut(opcode, 0),
+        opcodes::IINC => InsnShape::Increment,
+        opcodes::I2L => InsnShape::Bare(Insn::Convert(Conv::IntToLong)),
+        opcodes::L2I => InsnShape::Bare(Insn::Convert(Conv::LongToInt)),
+        opcodes::I2B => InsnShape::Bare(Insn::Convert(Conv::IntToByte)),
+        opcodes::I2C => InsnShape::Bare(Insn::Convert(Conv::IntToChar)),
+        opcodes::I2S => InsnShape::Bare(Insn::Convert(Conv::IntToShort)),
+        opcodes::LCMP => InsnShape::Bare(Insn::LongCompare),
+        _ => InsnShape::LeftOut(opcode, 0),
     }
 }
 
 /// What goes on elsewhere in the method, or leaves it.
-fn jump_shape(opcode: u8) -> Shape
+fn jump_shape(opcode: u8) -> InsnShape
     ensures { shape_reading result ≡ listed_reading jump_opcodes opcode }
 {
     match opcode {
-        opcodes::IFEQ => Shape::Jump(Branch::IfInt(Test::Eq)),
-        opcodes::IFNE => Shape::Jump(Branch::IfInt(Test::Ne)),
-        opcodes::IFLT => Shape::Jump(Branch::IfInt(Test::Lt)),
-        opcodes::IFGE => Shape::Jump(Branch::IfInt(Test::Ge)),
-        opcodes::IFGT => Shape::Jump(Branch::IfInt(Test::Gt)),
-        opcodes::IFLE => Shape::Jump(Branch::IfInt(Test::Le)),
-        opcodes::IF_ICMPEQ => Shape::Jump(Branch::IfPair(Test::Eq)),
-        opcodes::IF_ICMPNE => Shape::Jump(Branch::IfPair(Test::Ne)),
-        opcodes::IF_ICMPLT => Shape::Jump(Branch::IfPair(Test::Lt)),
-        opcodes::IF_ICMPGE => Shape::Jump(Branch::IfPair(Test::Ge)),
-        opcodes::IF_ICMPGT => Shape::Jump(Branch::IfPair(Test::Gt)),
-        opcodes::IF_ICMPLE => Shape::Jump(Branch::IfPair(Test::Le)),
-        opcodes::IF_ACMPEQ => Shape::Jump(Branch::IfSame(true)),
-        opcodes::IF_ACMPNE => Shape::Jump(Branch::IfSame(false)),
-        opcodes::GOTO => Shape::Jump(Branch::Goto),
-        opcodes::JSR => Shape::LeftOut(opcode, 2),
-        opcodes::RET => Shape::LeftOut(opcode, 1),
-        opcodes::TABLESWITCH => Shape::TableSwitch,
-        opcodes::LOOKUPSWITCH => Shape::LookupSwitch,
-        opcodes::IRETURN => Shape::Bare(Insn::Return(Some(Reg::Int))),
-        opcodes::LRETURN => Shape::Bare(Insn::Return(Some(Reg::Long))),
-        opcodes::ARETURN => Shape::Bare(Insn::Return(Some(Reg::Ref))),
-        opcodes::RETURN => Shape::Bare(Insn::Return(None)),
-        _ => Shape::LeftOut(opcode, 0),
+        opcodes::IFEQ => InsnShape::Jump(JumpKind::IfInt(Test::Eq)),
+        opcodes::IFNE => InsnShape::Jump(JumpKind::IfInt(Test::Ne)),
+        opcodes::IFLT => InsnShape::Jump(JumpKind::IfInt(Test::Lt)),
+        opcodes::IFGE => InsnShape::Jump(JumpKind::IfInt(Test::Ge)),
+        opcodes::IFGT => InsnShape::Jump(JumpKind::IfInt(Test::Gt)),
+        opcodes::IFLE => InsnShape::Jump(JumpKind::IfInt(Test::Le)),
+        opcodes::IF_ICMPEQ => InsnShape::Jump(JumpKind::IfPair(Test::Eq)),
+        opcodes::IF_ICMPNE => InsnShape::Jump(JumpKind::IfPair(Test::Ne)),
+        opcodes::IF_ICMPLT => InsnShape::Jump(JumpKind::IfPair(Test::Lt)),
+        opcodes::IF_ICMPGE => InsnShape::Jump(JumpKind::IfPair(Test::Ge)),
+        opcodes::IF_ICMPGT => InsnShape::Jump(JumpKind::IfPair(Test::Gt)),
+        opcodes::IF_ICMPLE => InsnShape::Jump(JumpKind::IfPair(Test::Le)),
+        opcodes::IF_ACMPEQ => InsnShape::Jump(JumpKind::IfSame(true)),
+        opcodes::IF_ACMPNE => InsnShape::Jump(JumpKind::IfSame(false)),
+        opcodes::GOTO => InsnShape::Jump(JumpKind::Goto),
+        opcodes::JSR => InsnShape::LeftOut(opcode, 2),
+        opcodes::RET => InsnShape::LeftOut(opcode, 1),
+        opcodes::TABLESWITCH => InsnShape::TableSwitch,
+        opcodes::LOOKUPSWITCH => InsnShape::LookupSwitch,
+        opcodes::IRETURN => InsnShape::Bare(Insn::Return(Some(Reg::Int))),
+        opcodes::LRETURN => InsnShape::Bare(Insn::Return(Some(Reg::Long))),
+        opcodes::ARETURN => InsnShape::Bare(Insn::Return(Some(Reg::Ref))),
+        opcodes::RETURN => InsnShape::Bare(Insn::Return(None)),
+        _ => InsnShape::LeftOut(opcode, 0),
     }
 }
 
 /// What names a field, a method or a class, and the jumps and the wide forms after these.
-fn object_shape(opcode: u8) -> Shape
+fn object_shape(opcode: u8) -> InsnShape
     ensures { shape_reading result ≡ listed_reading object_opcodes opcode }
 {
     match opcode {
-        opcodes::GETSTATIC => Shape::Short(Indexed::GetStatic),
-        opcodes::PUTSTATIC => Shape::Short(Indexed::PutStatic),
-        opcodes::GETFIELD => Shape::Short(Indexed::GetField),
-        opcodes::PUTFIELD => Shape::Short(Indexed::PutField),
-        opcodes::INVOKEVIRTUAL => Shape::Short(Indexed::Virtual),
-        opcodes::INVOKESPECIAL => Shape::Short(Indexed::Special),
-        opcodes::INVOKESTATIC => Shape::Short(Indexed::Static),
-        opcodes::INVOKEINTERFACE => Shape::InterfaceCall,
-        opcodes::INVOKEDYNAMIC => Shape::LeftOut(opcode, 4),
-        opcodes::NEW => Shape::Short(Indexed::New),
-        opcodes::NEWARRAY => Shape::NewArray,
-        opcodes::ANEWARRAY => Shape::Short(Indexed::NewRefs),
-        opcodes::ARRAYLENGTH => Shape::Bare(Insn::Length),
-        opcodes::ATHROW => Shape::Bare(Insn::Throw),
-        opcodes::CHECKCAST => Shape::Short(Indexed::Cast),
-        opcodes::INSTANCEOF => Shape::Short(Indexed::IsA),
-        opcodes::WIDE => Shape::Wide,
-        opcodes::MULTIANEWARRAY => Shape::ArrayOfArrays,
-        opcodes::IFNULL => Shape::Jump(Branch::IfNull(true)),
-        opcodes::IFNONNULL => Shape::Jump(Branch::IfNull(false)),
-        opcodes::GOTO_W => Shape::LongJump,
-        opcodes::JSR_W => Shape::LeftOut(opcode, 4),
-        _ => Shape::LeftOut(opcode, 0),
+        opcodes::GETSTATIC => InsnShape::Short(Indexed::GetStatic),
+        opcodes::PUTSTATIC => InsnShape::Short(Indexed::PutStatic),
+        opcodes::GETFIELD => InsnShape::Short(Indexed::GetField),
+        opcodes::PUTFIELD => InsnShape::Short(Indexed::PutField),
+        opcodes::INVOKEVIRTUAL => InsnShape::Short(Indexed::Virtual),
+        opcodes::INVOKESPECIAL => InsnShape::Short(Indexed::Special),
+        opcodes::INVOKESTATIC => InsnShape::Short(Indexed::Static),
+        opcodes::INVOKEINTERFACE => InsnShape::InterfaceCall,
+        opcodes::INVOKEDYNAMIC => InsnShape::LeftOut(opcode, 4),
+        opcodes::NEW => InsnShape::Short(Indexed::New),
+        opcodes::NEWARRAY => InsnShape::NewArray,
+        opcodes::ANEWARRAY => InsnShape::Short(Indexed::NewRefs),
+        opcodes::ARRAYLENGTH => InsnShape::Bare(Insn::Length),
+        opcodes::ATHROW => InsnShape::Bare(Insn::Throw),
+        opcodes::CHECKCAST => InsnShape::Short(Indexed::Cast),
+        opcodes::INSTANCEOF => InsnShape::Short(Indexed::IsA),
+        opcodes::WIDE => InsnShape::Wide,
+        opcodes::MULTIANEWARRAY => InsnShape::ArrayOfArrays,
+        opcodes::IFNULL => InsnShape::Jump(JumpKind::IfNull(true)),
+        opcodes::IFNONNULL => InsnShape::Jump(JumpKind::IfNull(false)),
+        opcodes::GOTO_W => InsnShape::LongJump,
+        opcodes::JSR_W => InsnShape::LeftOut(opcode, 4),
+        _ => InsnShape::LeftOut(opcode, 0),
     }
 }

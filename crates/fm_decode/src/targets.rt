@@ -9,18 +9,18 @@ use crate::error::DecodeFail;
 use fm_code::{Insn, Item, SwitchList};
 use std::alloc::Global;
 
-/// What is in `Starts` where no item starts.
+/// What is in `ItemStarts` where no item starts.
 const NO_ITEM: u32 = 4_294_967_295;
 
 /// The number of the item that starts at each offset of a code array, or `NO_ITEM`.
 #[derive(Debug, Drop)]
-pub(crate) struct Starts {
+pub(crate) struct ItemStarts {
     numbers: Vec<u32>,
 }
 
-impl Starts {
+impl ItemStarts {
     /// Where these items start, in a code array of a given number of bytes.
-    pub(crate) fn of(alloc: Global, items: &[Item], length: usize) -> Result<Starts, DecodeFail>
+    pub(crate) fn of(alloc: Global, items: &[Item], length: usize) -> Result<ItemStarts, DecodeFail>
         requires rising { AreRising (map item_offset items.now) }
         requires within { AllWithin length (map item_offset items.now) }
         requires short { length ≤ 65535 }
@@ -32,7 +32,7 @@ impl Starts {
         for (number, item) in items.iter().enumerate() {
             numbers[item.offset as usize] = number as u32;
         }
-        Ok(Starts { numbers })
+        Ok(ItemStarts { numbers })
     }
 
     /// The number of the item that starts at an offset.

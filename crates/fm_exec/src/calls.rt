@@ -15,7 +15,7 @@ use fm_world::Program;
 
 /// The words of the arguments of a method, without the receiver. Takes no memory.
 #[inline(always)]
-pub fn argument_words(program: &Program, m: MethodId) -> usize
+pub fn words_of_arguments(program: &Program, m: MethodId) -> usize
     requires { m.0 < length (methods_of program.now.outline.classes) }
     ensures { result ≡ words_of_arguments program.now.outline m.0 }
 {

@@ -19,7 +19,7 @@ mod shuffles;
 mod throws;
 
 pub use arrays::{array_length, int_of, len_of, new_array, new_references};
-pub use calls::{argument_words, leave};
+pub use calls::{words_of_arguments, leave};
 pub use casts::{cast, is_instance};
 pub use constants::{int_constant, long_constant, nop, null, text_constant};
 pub use elements::{

@@ -13,7 +13,7 @@ use crate::entries::{are_started, enter, is_object_init};
 use fm_base::{MethodId, TypeId};
 use fm_calls::{selected, special_method, words_with_receiver};
 use fm_cells::Memory;
-use fm_exec::{argument_words, fits_named, type_in};
+use fm_exec::{words_of_arguments, fits_named, type_in};
 use fm_flat::pop;
 use fm_flat_cells::object_at;
 use fm_frames::{Frames, Machine};
@@ -40,7 +40,7 @@ pub fn static_call<M: Memory>(
     if !are_started(machine, program, program.display(program.method(m).class)) {
         return false;
     }
-    enter(machine, frames, program, argument_words(program, m), m)
+    enter(machine, frames, program, words_of_arguments(program, m), m)
 }
 
 /// invokevirtual of an object; returns whether it was done. Takes no memory.

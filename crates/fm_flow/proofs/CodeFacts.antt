@@ -6,7 +6,7 @@ use Rattle.fm_code.proofs.CodeItems.{HasBytes, AreLaid-code}
 use Rattle.fm_code.specs.ClassBytes.{item_bytes}
 use Rattle.fm_code.specs.CodeRules.{HandlerIsValid}
 use Rattle.fm_code.specs.Edges.{MeetsCodeRules}
-use Rattle.fm_code.specs.SpellsCode.{targets_of, IsSpelled}
+use Rattle.fm_code.specs.SpellsCode.{targets_of, ItemIsSpelled}
 use Rattle.fm_code.specs.declared.code_array.Code.{Code}
 use Rattle.fm_code.specs.declared.code_array.Item.{Item}
 use Rattle.fm_flow.specs.inner.Walks.{EndsWithin}
@@ -37,7 +37,7 @@ items_counted code (entries, valid) =
 pub targets_inside : (code : Code) → MeetsCodeRules code →
     AllByRecursion (λ (item : Item). AllByRecursion (λ target. target < length code.items) (targets_of item.insn)) code.items
 targets_inside code (entries, valid) =
-    AllByRecursion-weaker (IsSpelled code.items) (λ (item : Item). AllByRecursion (λ target. target < length code.items) (targets_of item.insn))
+    AllByRecursion-weaker (ItemIsSpelled code.items) (λ (item : Item). AllByRecursion (λ target. target < length code.items) (targets_of item.insn))
     (λ item spelled. spelled.targets) code.items valid.spelled.spelled
 
 -- the ranges of handlers are within the code

@@ -4,7 +4,7 @@ use Rattle.fm_base.specs.declared.kinds.TypeRef.{TypeRef}
 use Rattle.fm_types.specs.Fits.{object_of}
 use Rattle.fm_types.specs.Named.{class_of_method}
 use Rattle.fm_world.specs.Chains.{is_sub}
-use Rattle.fm_world.specs.Descriptors.{argument_words}
+use Rattle.fm_world.specs.Descriptors.{argument_word_count}
 use Rattle.fm_world.specs.Lookups.{select, special_target}
 use Rattle.fm_world.specs.Members.{method_at}
 use Rattle.fm_world.specs.Programs.{class_of_type, Outline}
@@ -19,7 +19,7 @@ use Rattle.fm_frames.specs.Uses.{on_method}
 
 -- the words of a method's arguments without the receiver
 abbrev pub words_of_arguments : Outline → ℕ → ℕ
-words_of_arguments o method = argument_words o.classes (method_at o.classes method).method.descriptor
+words_of_arguments o method = argument_word_count o.classes (method_at o.classes method).method.descriptor
 
 -- the row of a method, if it is built in
 abbrev pub native_of : Outline → ℕ → Option Native

@@ -31,8 +31,8 @@ use Rattle.fm_frames.specs.declared.values.Value.TheVariants as value
 -- ---- the effect of the next instruction
 
 -- the instruction that is next in a frame
-abbrev pub insn_at : Program → Frame → Option Insn
-insn_at p f = option_and_then (λ code. insn_of code f.item) (code_at p f.method)
+abbrev pub next_insn : Program → Frame → Option Insn
+next_insn p f = option_and_then (λ code. insn_of code f.item) (code_at p f.method)
 
 -- the effect of an instruction in a frame, which sees all words of its stack and the next byte of the input
 abbrev pub effect_by : Program → State → Frame → Option Insn → Effect
@@ -45,7 +45,7 @@ abbrev pub effect_at : Program → State → Effect
 effect_at p x = of_frames x.frames where
   of_frames : List Frame → Effect
   of_frames [] = stuck
-  of_frames (f ∷ callers) = effect_by p x f (insn_at p f)
+  of_frames (f ∷ callers) = effect_by p x f (next_insn p f)
 
 -- with what the start of a class makes of it
 unfoldable pub next_effect : Program → State → Effect
@@ -173,7 +173,7 @@ is_start o method = of_start (start_of o.classes (class_of_method o method)) whe
 
 -- the item of a target of the frame's instruction
 abbrev pub target_at : Program → Frame → ℕ → ℕ
-target_at p f n = of_insn (insn_at p f) where
+target_at p f n = of_insn (next_insn p f) where
   of_insn : Option Insn → ℕ
   of_insn None = f.item
   of_insn (Some i) = slice_index_or (targets_of i) n f.item

@@ -1,7 +1,7 @@
 -- What calls one after the other change of the files.
 use Rattle.std.proofs.Common.{◌≡◌, Some, None, IsSomeAnd, refl, sym, ◌∙◌, subst, arith}
 use Rattle.fm_files.specs.Files.{Bytes, Counts, Contents, Disk, AreKept, Holds}
-use Rattle.fm_tool.specs.Outside.{HasNoFault, HasReadFault, HasWriteFault}
+use Rattle.fm_tool.specs.Outside.{HasNoFileFault, HasReadFault, HasWriteFault}
 use Rattle.fm_given.specs.Changes.{RisesOnlyAt, ChangesOnlyAt}
 
 -- ---- counts
@@ -47,14 +47,14 @@ holds_still P (Some held) (Some after) name bytes changes other holds = changes 
 -- ---- faults
 
 -- no fault, and then none
-pub faultless_then : (old between new : Disk) → HasNoFault old between → HasNoFault between new → HasNoFault old new
+pub faultless_then : (old between new : Disk) → HasNoFileFault old between → HasNoFileFault between new → HasNoFileFault old new
 faultless_then old between new first second = record {
   reads = λ name. second.reads name ∙ first.reads name;
   writes = λ name. second.writes name ∙ first.writes name;
 }
 
 -- no fault, and then that of a write
-pub write_fault_then : (name : Bytes) (old between new : Disk) → HasNoFault old between → HasWriteFault name between new → HasWriteFault name old new
+pub write_fault_then : (name : Bytes) (old between new : Disk) → HasNoFileFault old between → HasWriteFault name between new → HasWriteFault name old new
 write_fault_then name old between new first second = record {
   rose = let same = first.writes name in let rose = second.rose in omega arith;
   writes = record {
@@ -65,7 +65,7 @@ write_fault_then name old between new first second = record {
 }
 
 -- no fault, and then that of a read
-pub read_fault_then : (name : Bytes) (old between new : Disk) → HasNoFault old between → HasReadFault name between new → HasReadFault name old new
+pub read_fault_then : (name : Bytes) (old between new : Disk) → HasNoFileFault old between → HasReadFault name between new → HasReadFault name old new
 read_fault_then name old between new first second = record {
   rose = let same = first.reads name in let rose = second.rose in omega arith;
   reads = record {

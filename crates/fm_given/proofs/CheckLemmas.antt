@@ -3,7 +3,7 @@ use Rattle.std.proofs.Common.{ℕ, List, Ok, Err, sym, subst}
 use Rattle.std.specs.List.{AllByRecursion}
 use Rattle.fm_code.specs.Profile.{IsWithinLimits}
 use Rattle.fm_code.specs.declared.class_file.ClassDef.{ClassDef}
-use Rattle.fm_tool.specs.declared.refusal.Refusal.TheVariants as refusal
+use Rattle.fm_tool.specs.declared.command_refusal.CommandRefusal.TheVariants as refusal
 use Rattle.fm_untyped.specs.Untyped.{AreCheckable, AreTyped}
 use Rattle.fm_untyped.proofs.LinkedPrograms.{are_checkable}
 use Rattle.fm_world.specs.Linking.{IsLinked}
@@ -12,7 +12,7 @@ use Rattle.fm_given.specs.Given.{IsFirstUntypedName}
 use Rattle.fm_given.specs.inner.Checking.{ComesOfCheck}
 use Rattle.fm_given.specs.Judging.{ComesOfProgram}
 use Rattle.fm_given.specs.inner.Linking.{ComesOfLinks}
-use Rattle.fm_given.specs.Taking.{IsSpelled}
+use Rattle.fm_given.specs.Taking.{ClassIsSpelled}
 use Rattle.fm_given.specs.declared.refusal.JobRefusal.{JobRefusal}
 use Rattle.fm_given.specs.declared.refusal.JobRefusal.TheVariants as job_refusal
 use Rattle.fm_given.proofs.TakenLemmas.{have_spellings}
@@ -24,7 +24,7 @@ comes_unlinked classes main (job_refusal.Shared refusal.OutOfMemory) now = tt
 comes_unlinked classes main r now = absurd now
 
 -- they make this one, which may be checked
-pub may_be_checked : (classes : List ClassDef) (main : List ℕ) (program : Program) → AllByRecursion IsSpelled classes → AllByRecursion IsWithinLimits classes → IsLinked classes main (Ok program) → AreCheckable program
+pub may_be_checked : (classes : List ClassDef) (main : List ℕ) (program : Program) → AllByRecursion ClassIsSpelled classes → AllByRecursion IsWithinLimits classes → IsLinked classes main (Ok program) → AreCheckable program
 may_be_checked classes main program spelled within linked =
     subst AreCheckable (sym linked.1) (are_checkable classes main (have_spellings classes spelled) within linked.0)
 

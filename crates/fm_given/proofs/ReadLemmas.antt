@@ -9,8 +9,8 @@ use Rattle.fm_base.specs.declared.limits.TheConstants.{MAX_CLASS_FILES, MAX_FILE
 use Rattle.fm_files.specs.Files.{Bytes, Counts, Contents, Disk, RisesAt}
 use Rattle.fm_code.specs.ClassBytes.{class_bytes}
 use Rattle.fm_code.specs.declared.class_file.ClassDef.{ClassDef}
-use Rattle.fm_tool.specs.Outside.{ReadsAlone, HasNoFault, HoldsSuch}
-use Rattle.fm_tool.specs.declared.refusal.Refusal.TheVariants as refusal
+use Rattle.fm_tool.specs.Outside.{ReadsAlone, HasNoFileFault, HoldsSuch}
+use Rattle.fm_tool.specs.declared.command_refusal.CommandRefusal.TheVariants as refusal
 use Rattle.fm_given.specs.Changes.{RisesOnlyAt}
 use Rattle.fm_given.specs.Taking.{IsTaken, AreTaken, total_bytes, Reaches, IsTooLong, IsRefused, IsSeenTooLong}
 use Rattle.fm_given.specs.Given.{IsUntouched, IsUnread, IsLong, IsRefusedFile}
@@ -91,7 +91,7 @@ pub record ReadSoFar (files : List Bytes) (i : ℕ) (classes : List ClassDef) (t
   pub total_is : total ≡ total_bytes classes
   pub short : total ≤ MAX_ALL_CLASS_FILES_BYTES
   pub seen : total ≤ sum_by new.widest_read (take i files)
-  pub faultless : HasNoFault old new
+  pub faultless : HasNoFileFault old new
   pub all : ReadsAll files old new
 
 pub read_none : (files : List Bytes) (disk : Disk) → ReadSoFar files 0 [] 0 disk disk
@@ -154,7 +154,7 @@ module _ {files : List Bytes} {i : ℕ} {file : Bytes} {classes : List ClassDef}
       }
 
   -- nothing is touched where no read failed
-  untouched : HasNoFault between new → IsUntouched old new
+  untouched : HasNoFileFault between new → IsUntouched old new
   untouched none = record { faultless = faultless_then old between new before.faultless none; kept = keeps.contents ∙ same_contents }
 
   -- what is known of the file

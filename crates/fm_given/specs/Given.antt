@@ -4,7 +4,7 @@ use Rattle.fm_base.specs.declared.limits.TheConstants.{MAX_CLASS_FILES}
 use Rattle.fm_files.specs.Files.{Bytes, Contents, Disk}
 use Rattle.fm_code.specs.declared.class_file.ClassDef.{ClassDef}
 use Rattle.fm_untyped.specs.Untyped.{AreTyped, IsFirstUntyped}
-use Rattle.fm_tool.specs.Outside.{HasNoFault, HasReadFault, HoldsSuch}
+use Rattle.fm_tool.specs.Outside.{HasNoFileFault, HasReadFault, HoldsSuch}
 use Rattle.fm_world.specs.Causes.{declared_name, method_text, Refusal}
 use Rattle.fm_world.specs.Linking.{refusals}
 use Rattle.fm_world.specs.Programs.{Program, program_of}
@@ -18,7 +18,7 @@ pub record Given : Type 0 where
 
 -- nothing failed, and no contents changed
 pub record IsUntouched (old new : Disk) : Type 0 where
-  pub faultless : HasNoFault old new
+  pub faultless : HasNoFileFault old new
   pub kept : new.contents ≡ old.contents
 
 -- ---- the files
@@ -63,14 +63,14 @@ pub record AreLinked (given : Given) (contents : Contents) (classes : List Class
   pub linked : refusals classes given.main ≡ []
 
 -- all files are taken, and their classes make no program, of which this is the first cause
-pub record AreRefused (given : Given) (contents : Contents) (cause : Refusal) : Type 0 where
+pub record AreNotLinked (given : Given) (contents : Contents) (cause : Refusal) : Type 0 where
   pub classes : List ClassDef
   pub taken : AllTaken contents given.files classes
   pub first : slice_get (refusals classes given.main) 0 ≡ Some cause
 
 -- this is the first cause for which they make no program
 pub record IsNotLinked (given : Given) (cause : Option Refusal) (old new : Disk) : Type 0 where
-  pub refused : IsSomeAnd cause (AreRefused given old.contents)
+  pub refused : IsSomeAnd cause (AreNotLinked given old.contents)
   pub untouched : IsUntouched old new
 
 -- the name, with class and descriptor, of the first method of the program, class by class, that has code and isn't typed

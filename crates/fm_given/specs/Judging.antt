@@ -3,7 +3,7 @@ use Rattle.std.specs.Prelude.{◌≡◌, ℕ, List, [], Result, Ok, Err, IsSomeA
 use Rattle.fm_code.specs.declared.class_file.ClassDef.{ClassDef}
 use Rattle.fm_refuse.specs.Refused.{refusal_of}
 use Rattle.fm_untyped.specs.Untyped.{AreTyped}
-use Rattle.fm_tool.specs.declared.refusal.Refusal.TheVariants as refusal
+use Rattle.fm_tool.specs.declared.command_refusal.CommandRefusal.TheVariants as refusal
 use Rattle.fm_world.specs.Linking.{refusals, IsLinked}
 use Rattle.fm_world.specs.Programs.{Program, program_of}
 use Rattle.fm_given.specs.Given.{IsFirstUntypedName}

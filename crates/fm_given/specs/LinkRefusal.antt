@@ -3,7 +3,7 @@ use Rattle.std.specs.Prelude.{ℕ, List, [], ◌∷◌, ◌++◌, codes, Option,
 use Rattle.fm_refuse.specs.Refused.{refusal_of}
 use Rattle.fm_refuse.specs.declared.error.LinkFail.{LinkFail}
 use Rattle.fm_tool.specs.Printed.{printed}
-use Rattle.fm_tool.specs.Refusal.{memory_line}
+use Rattle.fm_tool.specs.CommandRefusal.{memory_line}
 use Rattle.fm_world.specs.Causes.{Cause, Duplicate, BuiltIn, MissingClass, BadParent, MissingField, MissingMethod, NotImplemented, NoMain, Refusal}
 
 -- the word for a cause

@@ -2,8 +2,8 @@
 use Rattle.std.specs.Prelude.{◌≡◌, List, Contains, Result, Ok, Err, Vec}
 use Rattle.fm_files.specs.Files.{Bytes, Disk, AreKept}
 use Rattle.fm_code.specs.declared.class_file.ClassDef.{ClassDef}
-use Rattle.fm_tool.specs.Outside.{HasNoFault}
-use Rattle.fm_tool.specs.declared.refusal.Refusal.TheVariants as refusal
+use Rattle.fm_tool.specs.Outside.{HasNoFileFault}
+use Rattle.fm_tool.specs.declared.command_refusal.CommandRefusal.TheVariants as refusal
 use Rattle.fm_given.specs.Changes.{ReadsOnly}
 use Rattle.fm_given.specs.Taking.{AllTaken}
 use Rattle.fm_given.specs.Given.{IsUntouched, IsUnread, IsLong, IsRefusedFile}
@@ -23,7 +23,7 @@ pub record ReadsAll (files : List Bytes) (old new : Disk) : Type 0 where
 -- all are taken, and no read failed
 pub record AreRead (files : List Bytes) (classes : List ClassDef) (old new : Disk) : Type 0 where
   pub taken : AllTaken old.contents files classes
-  pub faultless : HasNoFault old new
+  pub faultless : HasNoFileFault old new
 
 -- all are taken; or this one is too long, or refused, or its read failed; or memory couldn't be had
 abbrev pub ComesOfFiles : {Y : Type 0} → List Bytes → Disk → Disk → Result (Vec ClassDef Y) JobRefusal → Type 0

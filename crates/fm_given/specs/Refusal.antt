@@ -2,7 +2,7 @@
 use Rattle.std.specs.Prelude.{ℕ, List, [], ◌∷◌, ◌++◌, codes, string_bytes}
 use Rattle.std.specs.Fmt.{decimal}
 use Rattle.fm_tool.specs.Printed.{printed}
-use Rattle.fm_tool.specs.Refusal.{refusal_line as shared_line, refusal_status as shared_status}
+use Rattle.fm_tool.specs.CommandRefusal.{refusal_line as shared_line, refusal_status as shared_status}
 use Rattle.fm_tool.specs.declared.status.TheConstants.{CHECK, LIMIT, LINK, WRITE}
 use Rattle.fm_given.specs.ClassRefusal.{class_refusal_line, class_refusal_status}
 use Rattle.fm_given.specs.LinkRefusal.{link_fail_line}

@@ -12,8 +12,8 @@ use Rattle.fm_given.specs.declared.class_refusal.ClassRefusal.{ClassRefusal}
 -- ---- classes that are taken
 
 -- the bytes of the class spell it
-abbrev pub IsSpelled : ClassDef → Type 0
-IsSpelled c = Spells (class_bytes c) c
+abbrev pub ClassIsSpelled : ClassDef → Type 0
+ClassIsSpelled c = Spells (class_bytes c) c
 
 -- the bytes of the class spell it and are no longer than a file may be, and it is of the profile; where contents are known, the file holds them
 pub record IsTaken (contents : Contents) (file : Bytes) (c : ClassDef) : Type 0 where

@@ -9,7 +9,7 @@ ghost use Rattle.fm_world.specs.Causes.{declared_name, method_text};
 ghost use Rattle.fm_world.specs.Members.{methods_of};
 ghost use Rattle.fm_given.specs.inner.Checking.{ComesOfCheck};
 ghost use Rattle.fm_given.specs.Judging.{ComesOfProgram};
-ghost use Rattle.fm_given.specs.Taking.{IsSpelled};
+ghost use Rattle.fm_given.specs.Taking.{ClassIsSpelled};
 
 use crate::linking::link_classes;
 use crate::refusal::JobRefusal;
@@ -28,7 +28,7 @@ pub fn judge_program<'a>(
     classes: &[ClassDef],
     main: &str,
 ) -> Result<Program, JobRefusal<'a>>
-    requires spelled { AllByRecursion IsSpelled classes.now }
+    requires spelled { AllByRecursion ClassIsSpelled classes.now }
     requires within { AllByRecursion IsWithinLimits classes.now }
     ensures { ComesOfProgram classes.now (modified main.now) result }
 {
@@ -44,7 +44,7 @@ pub fn program_of<'a>(
     classes: Vec<ClassDef>,
     main: &str,
 ) -> Result<Program, JobRefusal<'a>>
-    requires spelled { AllByRecursion IsSpelled classes.items }
+    requires spelled { AllByRecursion ClassIsSpelled classes.items }
     requires within { AllByRecursion IsWithinLimits classes.items }
     ensures { ComesOfProgram classes.items (modified main.now) result }
 {

@@ -6,7 +6,7 @@ ghost use Rattle.fm_given.specs.LinkRefusal.{link_fail_line, link_line, told_lin
 
 use fm_base::NoMemory;
 use fm_refuse::{LinkBad, LinkFail};
-use fm_tool::{Refusal, printed};
+use fm_tool::{CommandRefusal, printed};
 use std::alloc::Global;
 
 /// The line that reports why there is no program, with its line end.
@@ -22,7 +22,7 @@ pub fn link_line(alloc: Global, fail: &LinkFail) -> Result<String, NoMemory>
         LinkFail::MissingMethod(bad) => told_line(alloc, "missing-method", bad),
         LinkFail::NotImplemented(bad) => told_line(alloc, "not-implemented", bad),
         LinkFail::NoMain(bad) => told_line(alloc, "no-main", bad),
-        LinkFail::NoMemory => Refusal::OutOfMemory.line(alloc),
+        LinkFail::NoMemory => CommandRefusal::OutOfMemory.line(alloc),
     }
 }
 

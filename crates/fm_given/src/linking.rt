@@ -3,7 +3,7 @@
 ghost use Rattle.std.specs.List.{AllByRecursion};
 ghost use Rattle.fm_tool.specs.Encoding.{modified};
 ghost use Rattle.fm_given.specs.inner.Linking.{ComesOfLinks};
-ghost use Rattle.fm_given.specs.Taking.{IsSpelled};
+ghost use Rattle.fm_given.specs.Taking.{ClassIsSpelled};
 
 use crate::refusal::JobRefusal;
 use fm_base::NoMemory;
@@ -20,7 +20,7 @@ pub fn link_classes<'a>(
     classes: &[ClassDef],
     main: &str,
 ) -> Result<Program, JobRefusal<'a>>
-    requires { AllByRecursion IsSpelled classes.now }
+    requires { AllByRecursion ClassIsSpelled classes.now }
     ensures { ComesOfLinks classes.now (modified main.now) result }
 {
     let name = modified(alloc, main)?;

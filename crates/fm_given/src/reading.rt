@@ -12,7 +12,7 @@ use fm_base::NoMemory;
 use fm_base::limits::{MAX_ALL_CLASS_FILES_BYTES, MAX_FILE_BYTES};
 use fm_code::ClassDef;
 use fm_files::{FileFail, Files};
-use fm_tool::Refusal;
+use fm_tool::CommandRefusal;
 use std::alloc::Global;
 
 /// The classes of the files in their order, where each is taken.
@@ -51,7 +51,7 @@ fn read_class_file<'a, F: Files>(
 {
     let bytes = match files.read(alloc, name, MAX_FILE_BYTES) {
         Ok(bytes) => bytes,
-        Err(FileFail::Failed) => return Err(JobRefusal::Shared(Refusal::Read(name))),
+        Err(FileFail::Failed) => return Err(JobRefusal::Shared(CommandRefusal::Read(name))),
         Err(FileFail::TooLong) => return Err(JobRefusal::TooLong(name)),
         Err(FileFail::NoMemory) => return Err(JobRefusal::from(NoMemory)),
     };

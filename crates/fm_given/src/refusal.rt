@@ -1,7 +1,7 @@
 // Why a job isn't done, and how that is reported.
 
 ghost use Rattle.std.specs.Prelude.{◌≡◌, IfOk, string_bytes};
-ghost use Rattle.fm_tool.specs.declared.refusal.Refusal.TheVariants as refusal;
+ghost use Rattle.fm_tool.specs.declared.command_refusal.CommandRefusal.TheVariants as refusal;
 ghost use Rattle.fm_given.specs.Refusal.{check_line, refusal_line, refusal_status};
 ghost use Rattle.fm_given.specs.declared.refusal.JobRefusal.TheVariants as job_refusal;
 
@@ -9,14 +9,14 @@ use crate::class_refusal::ClassRefusal;
 use crate::link_refusal::link_line;
 use fm_base::{Name, NoMemory};
 use fm_refuse::LinkFail;
-use fm_tool::{Refusal, printed, status};
+use fm_tool::{CommandRefusal, printed, status};
 use std::alloc::{AllocError, AllocFailed, Global};
 
 /// Why a job isn't done. Each program refuses for some of these.
 #[derive(Debug, Drop)]
 pub enum JobRefusal<'a> {
     /// For the words, for a read, or for want of memory.
-    Shared(Refusal<'a>),
+    Shared(CommandRefusal<'a>),
     /// This number of class files is above the limit.
     TooManyFiles(usize),
     /// This number of arguments is above the limit.
@@ -83,7 +83,7 @@ impl From<NoMemory> for JobRefusal<'_> {
     ghost from_gives = { λ _ e. e ≡ job_refusal.Shared refusal.OutOfMemory };
 
     fn from(_error: NoMemory) -> Self {
-        JobRefusal::Shared(Refusal::OutOfMemory)
+        JobRefusal::Shared(CommandRefusal::OutOfMemory)
     }
 }
 
@@ -91,7 +91,7 @@ impl From<AllocError> for JobRefusal<'_> {
     ghost from_gives = { λ _ e. e ≡ job_refusal.Shared refusal.OutOfMemory };
 
     fn from(_error: AllocError) -> Self {
-        JobRefusal::Shared(Refusal::OutOfMemory)
+        JobRefusal::Shared(CommandRefusal::OutOfMemory)
     }
 }
 
@@ -99,6 +99,6 @@ impl<T: Drop> From<AllocFailed<T>> for JobRefusal<'_> {
     ghost from_gives = { λ _ e. e ≡ job_refusal.Shared refusal.OutOfMemory };
 
     fn from(_error: AllocFailed<T>) -> Self {
-        JobRefusal::Shared(Refusal::OutOfMemory)
+        JobRefusal::Shared(CommandRefusal::OutOfMemory)
     }
 }

@@ -12,7 +12,7 @@ use Rattle.fm_frames.specs.Effects.{Action, Effect, Enters, MakeLiteral, nothing
 use Rattle.fm_frames.specs.Sights.{sights}
 use Rattle.fm_frames.specs.Starts.{start_actions, start_methods, started_by, to_start, with_start}
 use Rattle.fm_frames.specs.States.{Areas, Frame, Moved, State}
-use Rattle.fm_frames.specs.Steps.{attempted, effect_at, effect_by, finished, input_after, insn_at, is_deep, is_done, is_over, locals_of, next_effect, objects_made, stack_of, step}
+use Rattle.fm_frames.specs.Steps.{attempted, effect_at, effect_by, finished, input_after, next_insn, is_deep, is_done, is_over, locals_of, next_effect, objects_made, stack_of, step}
 use Rattle.fm_frames.specs.declared.ends.Ended.{Ended}
 use Rattle.fm_sound.proofs.Following.{continued_is, followed_areas}
 use Rattle.fm_sound.proofs.Opening.{IsOfStart, start_made}
@@ -74,7 +74,7 @@ unfolding next_effect
 next_apart p settled x = start_apart p.outline settled x.areas.started (effect_at p x) (of_frames x.frames) where
   found : (frames : List Frame) → Effect
   found [] = stuck
-  found (f ∷ callers) = effect_by p x f (insn_at p f)
+  found (f ∷ callers) = effect_by p x f (next_insn p f)
 
   of_insn : (f : Frame) (i : Option Insn) → IsApart p.outline (effect_by p x f i)
   of_insn f None = record { apart = inl tt }
@@ -82,7 +82,7 @@ next_apart p settled x = start_apart p.outline settled x.areas.started (effect_a
 
   of_frames : (frames : List Frame) → IsApart p.outline (found frames)
   of_frames [] = record { apart = inl tt }
-  of_frames (f ∷ callers) = of_insn f (insn_at p f)
+  of_frames (f ∷ callers) = of_insn f (next_insn p f)
 
 -- ---- the step
 

@@ -7,7 +7,7 @@ use fm_base::NoMemory;
 use fm_base::limits::MAX_FILE_BYTES;
 use fm_files::{FileFail, Files};
 use fm_given::JobRefusal;
-use fm_tool::Refusal;
+use fm_tool::CommandRefusal;
 use std::alloc::Global;
 
 /// The bytes of the file that is named for the input; none where no file is.
@@ -26,7 +26,7 @@ pub fn read_input<'a, F: Files>(
     };
     match files.read(alloc, name, MAX_FILE_BYTES) {
         Ok(bytes) => Ok(bytes),
-        Err(FileFail::Failed) => Err(JobRefusal::Shared(Refusal::Read(name))),
+        Err(FileFail::Failed) => Err(JobRefusal::Shared(CommandRefusal::Read(name))),
         Err(FileFail::TooLong) => Err(JobRefusal::TooLong(name)),
         Err(FileFail::NoMemory) => Err(JobRefusal::from(NoMemory)),
     }

@@ -22,7 +22,7 @@ use Rattle.fm_place.proofs.FullLemmas.{some-same}
 use Rattle.fm_place.proofs.WovenLemmas.{all-at, targets-of-with}
 use Rattle.fm_place.specs.Insertions.{Insertions}
 use Rattle.fm_place.specs.Woven.{anchors_of, woven, woven_code}
-use Rattle.fm_kept.proofs.LaidItems.{falls-conditional, falls-with, first_of, goes_to, insn_at, is_split_of, item_total, Jump, laid_item, LaidItem, lays, SplitAt, targets-conditional, Test, Whole, whole_insn}
+use Rattle.fm_kept.proofs.LaidItems.{falls-conditional, falls-with, first_of, goes_to, laid_insn, is_split_of, item_total, Jump, laid_item, LaidItem, lays, SplitAt, targets-conditional, Test, Whole, whole_insn}
 use Rattle.fm_kept.proofs.LaidRoles.{width}
 use Rattle.fm_kept.proofs.NewItems.{HasWhole, new_count}
 use Rattle.fm_kept.proofs.RoleLists.{element_at, entry_at, Next, next_role}
@@ -258,16 +258,16 @@ follow_edge free old plan rules n next edge =
     go role.0 (laid_item free old plan n role.0 role.1) where
       go : (r : Role) → LaidItem free old plan n r → RolesFollow old plan (roles_of free old plan) n next
       go r (Whole k same there way) =
-          let leads = subst (λ m. IsSomeAnd (insn_at free old plan m) (λ i. LeadsTo i m next)) same edge.leads in
+          let leads = subst (λ m. IsSomeAnd (laid_insn free old plan m) (λ i. LeadsTo i m next)) same edge.leads in
           let both = both-some (HasWhole free old (goes_to free old plan) r) (λ i. LeadsTo i (first_of free old plan k) next)
-          (insn_at free old plan (first_of free old plan k)) (whole_insn free old plan k r there way) leads in
+          (laid_insn free old plan (first_of free old plan k)) (whole_insn free old plan k r there way) leads in
           subst (λ m. RolesFollow old plan (roles_of free old plan) m next) (sym same)
           (from_whole free old plan rules k r next both.0 there way edge.inside both.1 both.2)
       go r (Test k same there way split) =
-          let leads = subst (λ m. IsSomeAnd (insn_at free old plan m) (λ i. LeadsTo i m next)) same edge.leads in
+          let leads = subst (λ m. IsSomeAnd (laid_insn free old plan m) (λ i. LeadsTo i m next)) same edge.leads in
           subst (λ m. RolesFollow old plan (roles_of free old plan) m next) (sym same)
           (from_test free old plan k r next there way split (subst (λ o. IsSomeAnd o (λ i. LeadsTo i (first_of free old plan k) next)) split.test leads))
       go r (Jump k kept same there way split is) =
-          let leads = subst (λ m. IsSomeAnd (insn_at free old plan m) (λ i. LeadsTo i m next)) same edge.leads in
+          let leads = subst (λ m. IsSomeAnd (laid_insn free old plan m) (λ i. LeadsTo i m next)) same edge.leads in
           subst (λ m. RolesFollow old plan (roles_of free old plan) m next) (sym same)
           (from_jump free old plan rules k kept next there way split (subst (λ o. IsSomeAnd o (λ i. LeadsTo i (first_of free old plan k + 1) next)) split.jump leads))

@@ -117,8 +117,8 @@ abbrev pub goes_to : (free : ℕ) → Code → Insertions → ℕ → ℕ
 goes_to free old plan t = first_of free old plan (slice_index (anchors_of plan old.items) t)
 
 -- the laid code's instruction
-abbrev pub insn_at : (free : ℕ) → Code → Insertions → ℕ → Option Insn
-insn_at free old plan n = insn_of (woven_code free old plan) n
+abbrev pub laid_insn : (free : ℕ) → Code → Insertions → ℕ → Option Insn
+laid_insn free old plan n = insn_of (woven_code free old plan) n
 
 -- how many laid items there are
 abbrev pub item_total : (free : ℕ) → Code → Insertions → ℕ
@@ -151,7 +151,7 @@ whole-laid free old f g (StoreAfter j h) i whole = ap (with_targets f) whole
 -- a new item that isn't split
 pub whole_insn : (free : ℕ) (old : Code) (plan : Insertions) (k : ℕ) (r : Role) → slice_get (new_roles old plan) k ≡ Some r
     → is_split_of free old plan k ≡ false
-    → IsSomeAnd (insn_at free old plan (first_of free old plan k)) (HasWhole free old (goes_to free old plan) r)
+    → IsSomeAnd (laid_insn free old plan (first_of free old plan k)) (HasWhole free old (goes_to free old plan) r)
 whole_insn free old plan k r found whole =
     let item = new_of free old plan k r found in
     let laid = laid_of old.items (woven free old plan) in
@@ -171,8 +171,8 @@ pub record SplitAt (free : ℕ) (old : Code) (plan : Insertions) (k : ℕ) (r : 
   pub target : ℕ
   pub other : ℕ
   pub branch : insn_of old item ≡ Some (conditional condition target)
-  pub test : insn_at free old plan (first_of free old plan k) ≡ Some (conditional (opposite condition) other)
-  pub jump : insn_at free old plan (first_of free old plan k + 1) ≡ Some (insn.Goto (goes_to free old plan target))
+  pub test : laid_insn free old plan (first_of free old plan k) ≡ Some (conditional (opposite condition) other)
+  pub jump : laid_insn free old plan (first_of free old plan k + 1) ≡ Some (insn.Goto (goes_to free old plan target))
   pub other_is : other ≡ (if nat_lt (k + 1) (length (woven free old plan)) then first_of free old plan k + 2 else first_of free old plan k + 1)
 
 -- which old branch it keeps
@@ -285,21 +285,21 @@ some-more P Q more (Some i) found = more i found
 
 -- each laid item has the instruction of its role
 pub insns : (free : ℕ) (old : Code) (plan : Insertions) (n : ℕ) (r : Role) → slice_get (roles_of free old plan) n ≡ Some r
-    → IsSomeAnd (insn_at free old plan n) (HasInsn free old r)
+    → IsSomeAnd (laid_insn free old plan n) (HasInsn free old r)
 insns free old plan n r found = go (laid_item free old plan n r found) where
-  go : LaidItem free old plan n r → IsSomeAnd (insn_at free old plan n) (HasInsn free old r)
+  go : LaidItem free old plan n r → IsSomeAnd (laid_insn free old plan n) (HasInsn free old r)
   go (Whole k same there way) =
-      subst (λ m. IsSomeAnd (insn_at free old plan m) (HasInsn free old r)) (sym same)
+      subst (λ m. IsSomeAnd (laid_insn free old plan m) (HasInsn free old r)) (sym same)
       (some-more (HasWhole free old (goes_to free old plan) r) (HasInsn free old r) (λ i whole. whole-has free old (goes_to free old plan) r i whole)
-      (insn_at free old plan (first_of free old plan k)) (whole_insn free old plan k r there way))
+      (laid_insn free old plan (first_of free old plan k)) (whole_insn free old plan k r there way))
   go (Test k same there way split) =
-      subst (λ m. IsSomeAnd (insn_at free old plan m) (HasInsn free old r)) (sym same)
+      subst (λ m. IsSomeAnd (laid_insn free old plan m) (HasInsn free old r)) (sym same)
       (subst (λ o. IsSomeAnd o (HasInsn free old r)) (sym split.test)
       (subst (λ x. HasInsn free old x (conditional (opposite split.condition) split.other)) (sym split.is)
       (subst (λ o. IsSomeAnd o (λ was. IsRetargeted was (conditional (opposite split.condition) split.other) ⊎ IsOpposite was (conditional (opposite split.condition) split.other)))
       (sym split.branch) (inr (record { condition = split.condition; target = split.target; other = split.other; branch = refl; test = refl })))))
   go (Jump k kept same there way split is) =
-      subst (λ m. IsSomeAnd (insn_at free old plan m) (HasInsn free old r)) (sym same)
+      subst (λ m. IsSomeAnd (laid_insn free old plan m) (HasInsn free old r)) (sym same)
       (subst (λ o. IsSomeAnd o (HasInsn free old r)) (sym split.jump)
       (subst (λ x. HasInsn free old x (insn.Goto (goes_to free old plan split.target))) (sym is) (
         subst (λ o. IsSomeAnd o IsBranch) (sym split.branch) (record { condition = split.condition; target = split.target; is = refl }),

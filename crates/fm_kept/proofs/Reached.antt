@@ -19,7 +19,7 @@ use Rattle.fm_place.specs.Insertions.{Insertions}
 use Rattle.fm_place.specs.Woven.{anchors_of, woven, woven_code}
 use Rattle.fm_kept.proofs.Caught.{anchor_inside, caught, first_le, goes_le, goes_up, handler_valid}
 use Rattle.fm_kept.proofs.FollowsOn.{follow_edge, split_step}
-use Rattle.fm_kept.proofs.LaidItems.{falls-conditional, falls-with, first_of, goes_to, holders, insn_at, is_split_of, item_total, Jump, laid_item, LaidItem, lays, some-more, split_insn, SplitAt, targets-conditional, Test, Whole, whole_insn}
+use Rattle.fm_kept.proofs.LaidItems.{falls-conditional, falls-with, first_of, goes_to, holders, laid_insn, is_split_of, item_total, Jump, laid_item, LaidItem, lays, some-more, split_insn, SplitAt, targets-conditional, Test, Whole, whole_insn}
 use Rattle.fm_kept.proofs.LaidRoles.{width}
 use Rattle.fm_kept.proofs.NewItems.{HasWhole, new_count, new_of}
 use Rattle.fm_kept.proofs.RoleLists.{After, AtStart, Before, Behind, element_at, entry_at, first_role, Here, InAfter, InBefore, InStart, is_after, IsKept, IsOf, kept_role, next_anchor, phase, Phase, role_after, role_before, role_start, stands_at, StandsAt}
@@ -191,7 +191,7 @@ step_past free old plan k r false way found past more reached =
     (inl (record {
       inside = first_inside free old plan (suc k) more;
       leads = some-more (HasWhole free old (goes_to free old plan) r) (λ i. LeadsTo i (first_of free old plan k) (first_of free old plan (suc k)))
-          (λ i whole. inr (whole_past free old (goes_to free old plan) r i whole past, step)) (insn_at free old plan (first_of free old plan k))
+          (λ i whole. inr (whole_past free old (goes_to free old plan) r i whole past, step)) (laid_insn free old plan (first_of free old plan k))
           (whole_insn free old plan k r found way);
     }))
 step_past free old plan k r true way found past more reached =
@@ -303,7 +303,7 @@ target_from free old plan j next i false way inside there named within reached =
       inside = up;
       leads = some-more (HasWhole free old (goes_to free old plan) (Keep j)) (λ x. LeadsTo x (first_of free old plan k) (goes_to free old plan next))
           (λ x is. inl (leads x (subst (λ o. IsSomeAnd o (λ was. x ≡ with_targets (goes_to free old plan) was)) there is)))
-          (insn_at free old plan (first_of free old plan k)) whole;
+          (laid_insn free old plan (first_of free old plan k)) whole;
     })) where
       leads : (x : Insn) → x ≡ with_targets (goes_to free old plan) i → Contains (targets_of x) (goes_to free old plan next)
       leads x is =

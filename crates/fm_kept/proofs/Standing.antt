@@ -11,7 +11,7 @@ use Rattle.fm_place.specs.Insertions.{Insertions}
 use Rattle.fm_place.specs.Woven.{anchors_of, woven_code}
 use Rattle.fm_kept.proofs.Caught.{caught, first_le}
 use Rattle.fm_kept.proofs.FollowsOn.{both-some, falls-kept, follow_edge, split_step}
-use Rattle.fm_kept.proofs.LaidItems.{first_of, goes_to, holders, insn_at, insns, is_split_of, item_total, Jump, laid_item, LaidItem, lays, Test, Whole, whole_insn}
+use Rattle.fm_kept.proofs.LaidItems.{first_of, goes_to, holders, laid_insn, insns, is_split_of, item_total, Jump, laid_item, LaidItem, lays, Test, Whole, whole_insn}
 use Rattle.fm_kept.proofs.LaidRoles.{width}
 use Rattle.fm_kept.proofs.NewItems.{HasWhole, new_of}
 use Rattle.fm_kept.proofs.Reached.{after_holder, begin_role, item_reached, keep-same, owner_reached}
@@ -142,12 +142,12 @@ last_new free old plan k inside all = go (cases_lt (suc k) (length (new_roles ol
 
 -- an old item falls through where the laid one does
 kept_falls : (free : ℕ) (old : Code) (plan : Insertions) (j k : ℕ) (r : Role)
-    → IsSomeAnd (insn_at free old plan (first_of free old plan k)) (λ i. falls_through i ≡ true) → r ≡ Keep j → slice_get (new_roles old plan) k ≡ Some r
+    → IsSomeAnd (laid_insn free old plan (first_of free old plan k)) (λ i. falls_through i ≡ true) → r ≡ Keep j → slice_get (new_roles old plan) k ≡ Some r
     → is_split_of free old plan k ≡ false → FallsAt old j
 kept_falls free old plan j k r falls is found way =
-    let whole = subst (λ x. IsSomeAnd (insn_at free old plan (first_of free old plan k)) (HasWhole free old (goes_to free old plan) x)) is
+    let whole = subst (λ x. IsSomeAnd (laid_insn free old plan (first_of free old plan k)) (HasWhole free old (goes_to free old plan) x)) is
     (whole_insn free old plan k r found way) in
-    let both = both-some (HasWhole free old (goes_to free old plan) (Keep j)) (λ i. falls_through i ≡ true) (insn_at free old plan (first_of free old plan k))
+    let both = both-some (HasWhole free old (goes_to free old plan) (Keep j)) (λ i. falls_through i ≡ true) (laid_insn free old plan (first_of free old plan k))
     whole falls in
     falls-kept (goes_to free old plan) both.0 (insn_of old j) both.1 both.2
 
@@ -159,13 +159,13 @@ stays_inside free old plan rules can off =
     let last : n + 1 ≡ item_total free old plan = off.last in
     let role = element_at (roles_of free old plan) n (omega (arith, each)) in
     go n role.0 last off.falls (owner_reached free old plan rules can n off.reachable role.0 role.1) (laid_item free old plan n role.0 role.1) where
-      go : (n : ℕ) (r : Role) → n + 1 ≡ item_total free old plan → IsSomeAnd (insn_at free old plan n) (λ i. falls_through i ≡ true)
+      go : (n : ℕ) (r : Role) → n + 1 ≡ item_total free old plan → IsSomeAnd (laid_insn free old plan n) (λ i. falls_through i ≡ true)
           → IsOwnerReached old (owner r) → LaidItem free old plan n r → FallsOff old
       go n r last falls reached (Whole k same there way) =
           let within = slice_get_within (new_roles old plan) k r there in
           let step : first_of free old plan (suc k) ≡ first_of free old plan k + 1 = (lays free old plan).step k within ∙ ap (λ b. first_of free old plan k + width b) way in
           last_falls free old plan rules can k r there (last_new free old plan k within (omega (arith, step))) reached
-          (λ j is. kept_falls free old plan j k r (subst (λ m. IsSomeAnd (insn_at free old plan m) (λ i. falls_through i ≡ true)) same falls) is there way)
+          (λ j is. kept_falls free old plan j k r (subst (λ m. IsSomeAnd (laid_insn free old plan m) (λ i. falls_through i ≡ true)) same falls) is there way)
           (stands_at old plan k r there)
       go n r last falls reached (Test k same there way split) =
           let within = slice_get_within (new_roles old plan) k r there in
@@ -175,7 +175,7 @@ stays_inside free old plan rules can off =
           absurd (omega (arith, step, up, end))
       go n r last falls reached (Jump k kept same there way split is) =
           absurd (false≢true (subst (λ o. IsSomeAnd o (λ i. falls_through i ≡ true)) split.jump
-          (subst (λ m. IsSomeAnd (insn_at free old plan m) (λ i. falls_through i ≡ true)) same falls)))
+          (subst (λ m. IsSomeAnd (laid_insn free old plan m) (λ i. falls_through i ≡ true)) same falls)))
 
 -- ---- together
 

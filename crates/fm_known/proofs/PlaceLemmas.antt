@@ -6,8 +6,8 @@ use Rattle.std.proofs.lemmas.List.{get_or-set_same, get_or-set_other, get_or_pas
 use Rattle.std.proofs.lemmas.List.Sums.{sum_by-append, sum_by-cons, sum_by-set}
 use Rattle.fm_known.proofs.MergingLemmas.{fits-from, fits-parts, state-refl}
 use Rattle.fm_known.proofs.RankLemmas.{rank-less}
-use Rattle.fm_known.specs.declared.known.Place.{Place}
-use Rattle.fm_known.specs.declared.known.Place.TheVariants as place
+use Rattle.fm_known.specs.declared.known_state.SlotPlace.{SlotPlace}
+use Rattle.fm_known.specs.declared.known_state.SlotPlace.TheVariants as place
 use Rattle.fm_known.specs.inner.Ranks.{IsBounded, rank, state_rank}
 use Rattle.fm_known.specs.inner.Risen.{AreCarried, HasPlace, is_lost, IsAlikeBut, slot_at, with_slot, word_at}
 use Rattle.fm_known.specs.inner.Tasks.{is_within}
@@ -80,14 +80,14 @@ raised_words-second R xs zs h y w r =
 
 -- ---- what is at a place
 
-pub slot-fits : (o : Outline) (s t : TypeState) (p : Place) → state_fits o s t ≡ true → fits o (slot_at s p) (slot_at t p) ≡ true
+pub slot-fits : (o : Outline) (s t : TypeState) (p : SlotPlace) → state_fits o s t ≡ true → fits o (slot_at s p) (slot_at t p) ≡ true
 slot-fits o s t (place.Local k) h = zip-at (Fitting o) (fits-top o slot.Top) s.locals t.locals k (fits-parts o s t h).locals
 slot-fits o s t (place.Word k) h =
     zip-at (Fitting o) (fits-top o slot.Top) (reverse s.stack) (reverse t.stack) k
     (zip-reverse (Fitting o) s.stack t.stack (fits-parts o s t h).stack)
 
 -- Top has room for all, so there is such a place
-pub place_wanted : (o : Outline) (x : Slot) (s : TypeState) (p : Place) → fits o x (slot_at s p) ≡ false → HasPlace s p
+pub place_wanted : (o : Outline) (x : Slot) (s : TypeState) (p : SlotPlace) → fits o x (slot_at s p) ≡ false → HasPlace s p
 place_wanted o x s (place.Local k) unfit =
     ⊎_elim (λ (inside : k < length s.locals). inside)
     (λ (past : length s.locals ≤ k).
@@ -102,27 +102,27 @@ place_wanted o x s (place.Word k) unfit =
 
 -- ---- a state with another slot at a place
 
-pub with_slot-locals : (p : Place) (y : Slot) (s : TypeState) → length (with_slot p y s).locals ≡ length s.locals
+pub with_slot-locals : (p : SlotPlace) (y : Slot) (s : TypeState) → length (with_slot p y s).locals ≡ length s.locals
 with_slot-locals (place.Local k) y s = length-set s.locals k y
 with_slot-locals (place.Word k) y s = refl
 
-pub with_slot-stack : (p : Place) (y : Slot) (s : TypeState) → length (with_slot p y s).stack ≡ length s.stack
+pub with_slot-stack : (p : SlotPlace) (y : Slot) (s : TypeState) → length (with_slot p y s).stack ≡ length s.stack
 with_slot-stack (place.Local k) y s = refl
 with_slot-stack (place.Word k) y s = length-reverse (set (reverse s.stack) k y) ∙ length-set (reverse s.stack) k y ∙ length-reverse s.stack
 
-pub with_slot-within : (code : Code) (p : Place) (y : Slot) (s : TypeState) → is_within code s ≡ true → is_within code (with_slot p y s) ≡ true
+pub with_slot-within : (code : Code) (p : SlotPlace) (y : Slot) (s : TypeState) → is_within code s ≡ true → is_within code (with_slot p y s) ≡ true
 with_slot-within code p y s h =
     ap (λ n. (n == code.max_locals) && nat_le (length (with_slot p y s).stack) code.max_stack) (with_slot-locals p y s)
     ∙ ap (λ n. (length s.locals == code.max_locals) && nat_le n code.max_stack) (with_slot-stack p y s)
     ∙ h
 
-pub with_slot-read : (p : Place) (y : Slot) (s : TypeState) → HasPlace s p → slot_at (with_slot p y s) p ≡ y
+pub with_slot-read : (p : SlotPlace) (y : Slot) (s : TypeState) → HasPlace s p → slot_at (with_slot p y s) p ≡ y
 with_slot-read (place.Local k) y s inside = get_or-set_same s.locals k y slot.Top inside
 with_slot-read (place.Word k) y s inside =
     let size = length-reverse s.stack in
     ap (λ zs. local_at zs k) (reverse-reverse (set (reverse s.stack) k y)) ∙ get_or-set_same (reverse s.stack) k y slot.Top (omega (arith, size, inside))
 
-pub with_slot-above : (o : Outline) → AreTree o.classes → (s : TypeState) (p : Place) (y : Slot) → fits o (slot_at s p) y ≡ true
+pub with_slot-above : (o : Outline) → AreTree o.classes → (s : TypeState) (p : SlotPlace) (y : Slot) → fits o (slot_at s p) y ≡ true
     → state_fits o s (with_slot p y s) ≡ true
 with_slot-above o tree s (place.Local k) y h =
     let same = fits-parts o s s (state-refl o tree s) in
@@ -133,7 +133,7 @@ with_slot-above o tree s (place.Word k) y h =
     fits-from o s (with_slot (place.Word k) y s)
     (record { locals = same.locals; stack = raised_words-second (Fitting o) s.stack s.stack k y same.stack h; built = same.built })
 
-pub with_slot-below : (o : Outline) (s u : TypeState) (p : Place) (y : Slot) → state_fits o s u ≡ true → fits o y (slot_at u p) ≡ true
+pub with_slot-below : (o : Outline) (s u : TypeState) (p : SlotPlace) (y : Slot) → state_fits o s u ≡ true → fits o y (slot_at u p) ≡ true
     → state_fits o (with_slot p y s) u ≡ true
 with_slot-below o s u (place.Local k) y h fitting =
     let parts = fits-parts o s u h in
@@ -147,7 +147,7 @@ with_slot-below o s u (place.Word k) y h fitting =
 pub same_slots : (P : ℕ → Type 0) (xs : List Slot) → AreCarried P (local_at xs) xs xs
 same_slots P xs = record { size = refl; among = λ k within. refl; apart = λ k without. refl }
 
-pub with_slot-alike : (s : TypeState) (p : Place) (y : Slot) → IsAlikeBut (p ∷ []) (with_slot p y s) s
+pub with_slot-alike : (s : TypeState) (p : SlotPlace) (y : Slot) → IsAlikeBut (p ∷ []) (with_slot p y s) s
 with_slot-alike s (place.Local k) y = record {
   locals = record {
     size = length-set s.locals k y;
@@ -188,7 +188,7 @@ shape_kept o h a (slot.Ref t) fitting kept = sym (other_below o a (slot.Ref t) f
 shape_kept o h a (slot.Uninit item) fitting kept = sym (other_below o a (slot.Uninit item) fitting refl)
 shape_kept o h a slot.UninitThis fitting kept = sym (other_below o a slot.UninitThis fitting refl)
 
-pub with_slot-whole : (o : Outline) (s : TypeState) (p : Place) (y : Slot) → fits o (slot_at s p) y ≡ true → is_lost p y ≡ false
+pub with_slot-whole : (o : Outline) (s : TypeState) (p : SlotPlace) (y : Slot) → fits o (slot_at s p) y ≡ true → is_lost p y ≡ false
     → is_whole s.stack ≡ true → is_whole (with_slot p y s).stack ≡ true
 with_slot-whole o s (place.Local k) y fitting kept whole = whole
 with_slot-whole o s (place.Word k) y fitting kept whole =
@@ -200,13 +200,13 @@ only_top : (a : Slot) → shape_of a ≡ 0 → a ≡ slot.Top
 only_top slot.Top h = refl
 only_top a h = absurd (omega (arith, h))
 
-lost-top : (p : Place) (y : Slot) → is_lost p y ≡ true → y ≡ slot.Top
+lost-top : (p : SlotPlace) (y : Slot) → is_lost p y ≡ true → y ≡ slot.Top
 lost-top (place.Local k) y h = absurd (false≢true h)
 lost-top (place.Word k) slot.Top h = refl
 lost-top (place.Word k) y h = absurd (false≢true h)
 
 -- a word that is Top in a whole state above is Top below, so all fit it
-pub lost-fits : (o : Outline) (s u : TypeState) (p : Place) (x y : Slot) → is_lost p y ≡ true → state_fits o s u ≡ true → is_whole s.stack ≡ true
+pub lost-fits : (o : Outline) (s u : TypeState) (p : SlotPlace) (x y : Slot) → is_lost p y ≡ true → state_fits o s u ≡ true → is_whole s.stack ≡ true
     → is_whole u.stack ≡ true → fits o y (slot_at u p) ≡ true → fits o x (slot_at s p) ≡ true
 lost-fits o s u (place.Local k) x y lost fitting first second above = absurd (false≢true lost)
 lost-fits o s u (place.Word k) x y lost fitting first second above =
@@ -246,7 +246,7 @@ sum-reverse f (x ∷ xs) =
     omega (arith, turned, joined, rest, first, last, none)
 
 -- a slot that rises, and nothing else
-pub slot-less : (o : Outline) → AreTree o.classes → (s : TypeState) (p : Place) (y : Slot) → HasPlace s p → IsBounded (slot_at s p)
+pub slot-less : (o : Outline) → AreTree o.classes → (s : TypeState) (p : SlotPlace) (y : Slot) → HasPlace s p → IsBounded (slot_at s p)
     → fits o (slot_at s p) y ≡ true → fits o y (slot_at s p) ≡ false → state_rank o (with_slot p y s) < state_rank o s
 slot-less o tree s (place.Local k) y inside bounded h back =
     let sums = sum_by-set (rank o) s.locals k y slot.Top inside in

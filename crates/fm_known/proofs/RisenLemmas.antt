@@ -4,8 +4,8 @@ use Rattle.std.proofs.lemmas.List.{length-reverse}
 use Rattle.std.proofs.lemmas.List.Elements.{Contains-append_left, Contains-append_right}
 use Rattle.fm_code.proofs.EdgesLemmas.{Contains-map}
 use Rattle.fm_known.proofs.PlaceLemmas.{same_slots}
-use Rattle.fm_known.specs.declared.known.Place.{Place}
-use Rattle.fm_known.specs.declared.known.Place.TheVariants as place
+use Rattle.fm_known.specs.declared.known_state.SlotPlace.{SlotPlace}
+use Rattle.fm_known.specs.declared.known_state.SlotPlace.TheVariants as place
 use Rattle.fm_known.specs.declared.risen.Rise.{Rise}
 use Rattle.fm_known.specs.inner.Risen.{AreCarried, DifferIn, IsAlikeBut}
 use Rattle.fm_types.specs.States.{local_at, TypeState}
@@ -29,7 +29,7 @@ words-differ words xs ys a b differ first second k without =
     ap (λ zs. local_at zs k) (sym first) ∙ differ k without ∙ ap (λ zs. local_at zs k) second
 
 -- states that differ in these locals and words alone
-pub alike-from_places : (locals words : List ℕ) (places : List Place) (xs ys us vs : List Slot) (after before : TypeState)
+pub alike-from_places : (locals words : List ℕ) (places : List SlotPlace) (xs ys us vs : List Slot) (after before : TypeState)
     → places ≡ map (λ k. place.Local k) locals ++ map (λ h. place.Word h) words
     → DifferIn locals xs ys → xs ≡ after.locals → ys ≡ before.locals → DifferIn words us vs → us ≡ reverse after.stack → vs ≡ reverse before.stack
     → length after.locals ≡ length before.locals → length after.stack ≡ length before.stack → after.built ≡ before.built
@@ -55,10 +55,10 @@ alike-from_places locals words places xs ys us vs after before is differ first s
   };
   built = built;
 } where
-  among : (p : Place) → Contains (map (λ k. place.Local k) locals ++ map (λ h. place.Word h) words) p → Contains places p
-  among p found = subst (λ (ps : List Place). Contains ps p) (sym is) found
+  among : (p : SlotPlace) → Contains (map (λ k. place.Local k) locals ++ map (λ h. place.Word h) words) p → Contains places p
+  among p found = subst (λ (ps : List SlotPlace). Contains ps p) (sym is) found
 
-pub alike-refl : (places : List Place) (s : TypeState) → IsAlikeBut places s s
+pub alike-refl : (places : List SlotPlace) (s : TypeState) → IsAlikeBut places s s
 alike-refl places s = record {
   locals = same_slots (λ k. Contains places (place.Local k)) s.locals;
   words = same_slots (λ h. Contains places (place.Word h)) (reverse s.stack);
@@ -71,7 +71,7 @@ slots-more P Q xs ys among h =
     record { size = h.size; among = λ k within. refl; apart = λ k without. h.apart k (λ found. without (among k found)) }
 
 -- states that are
-pub alike-more : (few more : List Place) (s other : TypeState) → ((p : Place) → Contains few p → Contains more p) → IsAlikeBut few s other
+pub alike-more : (few more : List SlotPlace) (s other : TypeState) → ((p : SlotPlace) → Contains few p → Contains more p) → IsAlikeBut few s other
     → IsAlikeBut more s other
 alike-more few more s other among h = record {
   locals = slots-more (λ k. Contains few (place.Local k)) (λ k. Contains more (place.Local k)) s.locals other.locals
@@ -89,7 +89,7 @@ slots-then P xs ys zs first second = record {
   apart = λ k without. first.apart k without ∙ second.apart k without;
 }
 
-pub alike-then : (few more : List Place) (a b c : TypeState) → ((p : Place) → Contains few p → Contains more p) → IsAlikeBut more a b → IsAlikeBut few b c
+pub alike-then : (few more : List SlotPlace) (a b c : TypeState) → ((p : SlotPlace) → Contains few p → Contains more p) → IsAlikeBut more a b → IsAlikeBut few b c
     → IsAlikeBut more a c
 alike-then few more a b c among first second =
     let late = alike-more few more b c among second in

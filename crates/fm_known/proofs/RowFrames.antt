@@ -12,8 +12,8 @@ use Rattle.fm_base.specs.declared.kinds.Kind.{Kind}
 use Rattle.fm_base.specs.declared.kinds.Kind.TheVariants as kind
 use Rattle.fm_base.specs.declared.kinds.TypeRef.{TypeRef}
 use Rattle.fm_known.proofs.StackFrames.{AreLow, clear-less, constant_row-carried, convert_row-carried, follows-equal, IsClear, low-given, low-of, low-push, low-size, low-top, move_of-carried, pushed-carried, Same, taken-low, with_stack, worked-carried, worked_below-carried}
-use Rattle.fm_known.specs.declared.known.Place.{Place}
-use Rattle.fm_known.specs.declared.known.Place.TheVariants as place
+use Rattle.fm_known.specs.declared.known_state.SlotPlace.{SlotPlace}
+use Rattle.fm_known.specs.declared.known_state.SlotPlace.TheVariants as place
 use Rattle.fm_known.specs.inner.Risen.{are_apart, AreCarried, called_words, is_bare, IsCarried, leaves_alone, leaves_local, leaves_word, words_taken}
 use Rattle.fm_code.specs.StackWords as insns
 use Rattle.fm_code.specs.StackWords.{element_words, reg_words}
@@ -83,7 +83,7 @@ set_carried P v xs ys k x never h = record { size = length-set xs k x ∙ h.size
 
 -- ---- loading, storing and counting up
 
-load_row-carried : (P : Place → Type 0) (v : Place → Slot) (r : Reg) (k : ℕ) (s t : TypeState) → (P (place.Local k) → ⊥) → IsClear P 0 s
+load_row-carried : (P : SlotPlace → Type 0) (v : SlotPlace → Slot) (r : Reg) (k : ℕ) (s t : TypeState) → (P (place.Local k) → ⊥) → IsClear P 0 s
     → IsCarried P v s t → Follows (IsCarried P v) (load_row r k s) (load_row r k t)
 unfolding load_row
 load_row-carried P v r k s t apart clear h =
@@ -95,7 +95,7 @@ load_row-carried P v r k s t apart clear h =
     (subst (λ (z : Slot). AreLow P v 0 (loaded r a ++ s.stack) (loaded r z ++ t.stack)) same
     (low-given P v 0 (loaded r a) s.stack t.stack (low-of P v 0 s t clear h)))))
 
-increment_row-carried : (P : Place → Type 0) (v : Place → Slot) (k : ℕ) (s t : TypeState) → (P (place.Local k) → ⊥) → IsCarried P v s t
+increment_row-carried : (P : SlotPlace → Type 0) (v : SlotPlace → Slot) (k : ℕ) (s t : TypeState) → (P (place.Local k) → ⊥) → IsCarried P v s t
     → Follows (IsCarried P v) (increment_row k s) (increment_row k t)
 unfolding increment_row
 increment_row-carried P v k s t apart h =
@@ -136,7 +136,7 @@ stored-carried P v k slots xs ys apart few h =
       by_tests false false e = written-carried P v k slots (cut_before k xs) (cut_before k ys) (λ j first last. apart j (omega (arith, few)) (omega arith))
           (cut_before-carried P v k xs ys apart h)
 
-stored_from-carried : (P : Place → Type 0) (v : Place → Slot) (k : ℕ) (slots a b : List Slot) (s t : TypeState)
+stored_from-carried : (P : SlotPlace → Type 0) (v : SlotPlace → Slot) (k : ℕ) (slots a b : List Slot) (s t : TypeState)
     → ((j : ℕ) → j ≤ k + 1 → k ≤ j + 1 → P (place.Local j) → ⊥) → length slots ≤ 2 → AreLow P v 0 a b → IsCarried P v s t
     → Follows (IsCarried P v) (stored_from k slots a s) (stored_from k slots b t)
 stored_from-carried P v k slots a b s t apart few low h =
@@ -152,7 +152,7 @@ store_of reg.Ref k s (found ∷ stack) = cond (is_reference found) (stored_from 
 store_of reg.Long k s (half ∷ []) = None
 store_of reg.Long k s (half ∷ found ∷ stack) = cond (is_long found) (stored_from k (found ∷ slot.Top ∷ []) stack s) None
 
-store_of-carried : (P : Place → Type 0) (v : Place → Slot) (r : Reg) (k : ℕ) (s t : TypeState)
+store_of-carried : (P : SlotPlace → Type 0) (v : SlotPlace → Slot) (r : Reg) (k : ℕ) (s t : TypeState)
     → ((j : ℕ) → j ≤ k + 1 → k ≤ j + 1 → P (place.Local j) → ⊥) → IsCarried P v s t
     → (a b : List Slot) → AreLow P v (reg_words r) a b → Follows (IsCarried P v) (store_of r k s a) (store_of r k t b)
 store_of-carried P v reg.Int k s t apart h a [] low = tt
@@ -180,7 +180,7 @@ store_of-carried P v reg.Long k s t apart h (x ∷ w ∷ a) (y ∷ z ∷ b) low 
     (follows-if (IsCarried P v) (is_long w) (is_long w) _ _ (λ e. e)
     (λ e. stored_from-carried P v k (w ∷ slot.Top ∷ []) a b s t apart (omega arith) top.1 h))
 
-store_row-carried : (P : Place → Type 0) (v : Place → Slot) (o : Outline) (r : Reg) (k : ℕ) (s t : TypeState)
+store_row-carried : (P : SlotPlace → Type 0) (v : SlotPlace → Slot) (o : Outline) (r : Reg) (k : ℕ) (s t : TypeState)
     → ((j : ℕ) → j ≤ k + 1 → k ≤ j + 1 → P (place.Local j) → ⊥) → IsClear P (reg_words r) s
     → IsCarried P v s t → Follows (IsCarried P v) (store_row o r k s) (store_row o r k t)
 unfolding store_row
@@ -247,11 +247,11 @@ map-reverse f (x ∷ xs) =
     reverse-append (f x ∷ []) (map f xs) ∙ ap (λ zs. zs ++ f x ∷ []) (map-reverse f xs)
     ∙ sym (ap (map f) (reverse-append (x ∷ []) xs) ∙ map-append f (reverse xs) (x ∷ []))
 
-abbrev IsPlain : (Place → Type 0) → (Place → Slot) → Type 0
-IsPlain P v = (p : Place) → P p → not (is_bare (v p)) ≡ true
+abbrev IsPlain : (SlotPlace → Type 0) → (SlotPlace → Slot) → Type 0
+IsPlain P v = (p : SlotPlace) → P p → not (is_bare (v p)) ≡ true
 
 -- the same of the words
-replaced-words : (P : Place → Type 0) (v : Place → Slot) (test : Slot → Bool) (other : Slot) (xs ys : List Slot) → IsBareTest test → IsPlain P v
+replaced-words : (P : SlotPlace → Type 0) (v : SlotPlace → Slot) (test : Slot → Bool) (other : Slot) (xs ys : List Slot) → IsBareTest test → IsPlain P v
     → AreCarried (λ h. P (place.Word h)) (λ h. v (place.Word h)) (reverse xs) (reverse ys)
     → AreCarried (λ h. P (place.Word h)) (λ h. v (place.Word h)) (reverse (replaced test other xs)) (reverse (replaced test other ys))
 replaced-words P v test other xs ys bare plain h =
@@ -262,7 +262,7 @@ replaced-words P v test other xs ys bare plain h =
     (subst (λ (zs : List Slot). AreCarried (λ h. P (place.Word h)) (λ h. v (place.Word h)) zs (map change (reverse ys))) (sym (map-reverse change xs)) turned)
 
 -- where the one has no object that passes, the other has none
-none_listed : (P : Place → Type 0) (v : Place → Slot) (test : Slot → Bool) (xs ys : List Slot) → IsBareTest test → IsPlain P v
+none_listed : (P : SlotPlace → Type 0) (v : SlotPlace → Slot) (test : Slot → Bool) (xs ys : List Slot) → IsBareTest test → IsPlain P v
     → AreCarried (λ h. P (place.Word h)) (λ h. v (place.Word h)) (reverse xs) (reverse ys) → list_any test ys ≡ false → list_any test xs ≡ false
 none_listed P v test xs ys bare plain h none =
     list_any-IsPermutation test xs (reverse xs) (IsPermutation-reverse xs) ∙ list_any_none test (reverse xs) each where
@@ -296,7 +296,7 @@ made-follows true true a true h e = absurd (false≢true e)
 made-follows true false a b h e = absurd (false≢true e)
 made-follows false q a b h e = absurd (false≢true e)
 
-new_row-carried : (P : Place → Type 0) (v : Place → Slot) (o : Outline) (item : ℕ) (u : Use) (s t : TypeState) → IsPlain P v → IsClear P 0 s
+new_row-carried : (P : SlotPlace → Type 0) (v : SlotPlace → Slot) (o : Outline) (item : ℕ) (u : Use) (s t : TypeState) → IsPlain P v → IsClear P 0 s
     → IsCarried P v s t → Follows (IsCarried P v) (new_row o item u s) (new_row o item u t)
 unfolding new_row
 new_row-carried P v o item u s t plain clear h =
@@ -312,7 +312,7 @@ new_row-carried P v o item u s t plain clear h =
       built = h.built;
     }))
 
-initialised-carried : (P : Place → Type 0) (v : Place → Slot) (test : Slot → Bool) (named : TypeRef) (s t : TypeState) → IsBareTest test
+initialised-carried : (P : SlotPlace → Type 0) (v : SlotPlace → Slot) (test : Slot → Bool) (named : TypeRef) (s t : TypeState) → IsBareTest test
     → IsPlain P v → IsCarried P v s t → IsCarried P v (initialised test named s) (initialised test named t)
 initialised-carried P v test named s t bare plain h = record {
   locals = replaced-carried (λ k. P (place.Local k)) (λ k. v (place.Local k)) test (slot.Ref named) s.locals t.locals bare
@@ -321,7 +321,7 @@ initialised-carried P v test named s t bare plain h = record {
   built = h.built;
 }
 
-constructed-carried : (P : Place → Type 0) (v : Place → Slot) (o : Outline) (method : ℕ) (news : ℕ → Option TypeRef) (named : TypeRef) (receiver : Slot) (s t : TypeState)
+constructed-carried : (P : SlotPlace → Type 0) (v : SlotPlace → Slot) (o : Outline) (method : ℕ) (news : ℕ → Option TypeRef) (named : TypeRef) (receiver : Slot) (s t : TypeState)
     → IsPlain P v → IsCarried P v s t
     → Follows (IsCarried P v) (constructed o method news named receiver s) (constructed o method news named receiver t)
 constructed-carried P v o method news named slot.Top s t plain h = tt
@@ -348,7 +348,7 @@ abbrev below_arguments : Outline → ℕ → (ℕ → Option TypeRef) → TypeRe
 below_arguments o method news named s [] = None
 below_arguments o method news named s (receiver ∷ stack) = constructed o method news named receiver (record s { stack = stack })
 
-below_arguments-carried : (P : Place → Type 0) (v : Place → Slot) (o : Outline) (method : ℕ) (news : ℕ → Option TypeRef) (named : TypeRef) (s t : TypeState)
+below_arguments-carried : (P : SlotPlace → Type 0) (v : SlotPlace → Slot) (o : Outline) (method : ℕ) (news : ℕ → Option TypeRef) (named : TypeRef) (s t : TypeState)
     → IsPlain P v → IsCarried P v s t → (a b : List Slot) → AreLow P v 1 a b
     → Follows (IsCarried P v) (below_arguments o method news named s a) (below_arguments o method news named t b)
 below_arguments-carried P v o method news named s t plain h a [] low = tt
@@ -362,7 +362,7 @@ below_arguments-carried P v o method news named s t plain h (x ∷ a) (y ∷ b) 
 arguments_counted : (o : Outline) (m : ℕ) → length (argument_words o m) ≡ length (flat_map local_slots (parameters_of o m))
 arguments_counted o m = length-reverse (flat_map local_slots (parameters_of o m))
 
-constructor_called-carried : (P : Place → Type 0) (v : Place → Slot) (o : Outline) (method : ℕ) (news : ℕ → Option TypeRef) (m : ℕ) (named : TypeRef) (s t : TypeState)
+constructor_called-carried : (P : SlotPlace → Type 0) (v : SlotPlace → Slot) (o : Outline) (method : ℕ) (news : ℕ → Option TypeRef) (m : ℕ) (named : TypeRef) (s t : TypeState)
     → IsPlain P v → IsClear P (length (argument_words o m) + 1) s → IsCarried P v s t
     → Follows (IsCarried P v) (constructor_called o method news m named s) (constructor_called o method news m named t)
 constructor_called-carried P v o method news m named s t plain clear h =
@@ -375,7 +375,7 @@ constructor_called-carried P v o method news m named s t plain clear h =
 -- ---- calls and returns
 
 -- what follows from a method, of which so much is known
-on_method-carried : (P : Place → Type 0) (v : Place → Slot) (o : Outline) (u : Use) (s : TypeState) (f g : ℕ → TypeRef → Option TypeState)
+on_method-carried : (P : SlotPlace → Type 0) (v : SlotPlace → Slot) (o : Outline) (u : Use) (s : TypeState) (f g : ℕ → TypeRef → Option TypeState)
     → IsClear P (called_words o u) s
     → ((m : ℕ) (named : TypeRef) → IsClear P (length (argument_words o m) + 1) s → Follows (IsCarried P v) (f m named) (g m named))
     → Follows (IsCarried P v) (on_method o u f) (on_method o u g)
@@ -389,13 +389,13 @@ on_method-carried P v o (resolved.OfMethod m i) s f g clear each =
     follows-same (IsCarried P v) (f m.0) (g m.0) (slice_get o.types i.0)
     (λ named. each m.0 named (λ h within. let below = clear h within in let counted = arguments_counted o m.0 in omega (arith, below, counted)))
 
-called-clear : (P : Place → Type 0) (o : Outline) (m : ℕ) (receiver : Slot) (s : TypeState) → IsClear P (length (argument_words o m) + 1) s
+called-clear : (P : SlotPlace → Type 0) (o : Outline) (m : ℕ) (receiver : Slot) (s : TypeState) → IsClear P (length (argument_words o m) + 1) s
     → IsClear P (length (argument_words o m ++ receiver ∷ [])) s
 called-clear P o m receiver s clear =
     let size = length-append (argument_words o m) (receiver ∷ []) in
     clear-less P (length (argument_words o m ++ receiver ∷ [])) (length (argument_words o m) + 1) s (omega (arith, size)) clear
 
-special_call_row-carried : (P : Place → Type 0) (v : Place → Slot) (o : Outline) (method : ℕ) (news : ℕ → Option TypeRef) (u : Use) (s t : TypeState)
+special_call_row-carried : (P : SlotPlace → Type 0) (v : SlotPlace → Slot) (o : Outline) (method : ℕ) (news : ℕ → Option TypeRef) (u : Use) (s t : TypeState)
     → IsPlain P v → IsClear P (called_words o u) s → IsCarried P v s t
     → Follows (IsCarried P v) (special_call_row o method news u s) (special_call_row o method news u t)
 unfolding special_call_row
@@ -409,7 +409,7 @@ special_call_row-carried P v o method news u s t plain clear h =
     (called-clear P o m (slot.Ref (type_of_class (class_of_method o method))) s enough) h)
     (λ g. tt))))
 
-instance_call_row-carried : (P : Place → Type 0) (v : Place → Slot) (o : Outline) (u : Use) (s t : TypeState) → IsClear P (called_words o u) s
+instance_call_row-carried : (P : SlotPlace → Type 0) (v : SlotPlace → Slot) (o : Outline) (u : Use) (s t : TypeState) → IsClear P (called_words o u) s
     → IsCarried P v s t → Follows (IsCarried P v) (instance_call_row o u s) (instance_call_row o u t)
 unfolding instance_call_row
 instance_call_row-carried P v o u s t clear h =
@@ -417,7 +417,7 @@ instance_call_row-carried P v o u s t clear h =
     (λ m named enough. follows-either (IsCarried P v) (is_initializer o m) None None _ _ (λ e. tt)
     (λ e. worked-carried P v o (argument_words o m ++ slot.Ref named ∷ []) (result_words o m) s t (called-clear P o m (slot.Ref named) s enough) h))
 
-static_call_row-carried : (P : Place → Type 0) (v : Place → Slot) (o : Outline) (u : Use) (s t : TypeState) → IsClear P (called_words o u) s
+static_call_row-carried : (P : SlotPlace → Type 0) (v : SlotPlace → Slot) (o : Outline) (u : Use) (s t : TypeState) → IsClear P (called_words o u) s
     → IsCarried P v s t → Follows (IsCarried P v) (static_call_row o u s) (static_call_row o u t)
 unfolding static_call_row
 static_call_row-carried P v o u s t clear h =
@@ -442,7 +442,7 @@ return_of o s None (Some k) = None
 return_of o s (Some r) None = None
 return_of o s (Some r) (Some k) = cond (same_reg r (returned_by k)) (worked o (stack_slots (k ∷ [])) [] s) None
 
-return_of-carried : (P : Place → Type 0) (v : Place → Slot) (o : Outline) (s t : TypeState) → IsCarried P v s t
+return_of-carried : (P : SlotPlace → Type 0) (v : SlotPlace → Slot) (o : Outline) (s t : TypeState) → IsCarried P v s t
     → (value : Option Reg) (result : Option Kind) → IsClear P (insns.words_taken 2 0 (insn.Return value)) s
     → Follows (IsCarried P v) (return_of o s value result) (return_of o t value result)
 return_of-carried P v o s t h None None clear = follows-if (IsCarried P v) s.built t.built (Some s) (Some t) (λ e. h.built ∙ e) (λ e. h)
@@ -452,7 +452,7 @@ return_of-carried P v o s t h (Some r) (Some k) clear =
     follows-if (IsCarried P v) (same_reg r (returned_by k)) (same_reg r (returned_by k)) _ _ (λ e. e)
     (λ e. worked-carried P v o (stack_slots (k ∷ [])) [] s t (subst (λ n. IsClear P n s) (sym (result_count r k e)) clear) h)
 
-return_row-carried : (P : Place → Type 0) (v : Place → Slot) (o : Outline) (method : ℕ) (value : Option Reg) (s t : TypeState)
+return_row-carried : (P : SlotPlace → Type 0) (v : SlotPlace → Slot) (o : Outline) (method : ℕ) (value : Option Reg) (s t : TypeState)
     → IsClear P (insns.words_taken 2 0 (insn.Return value)) s
     → IsCarried P v s t → Follows (IsCarried P v) (return_row o method value s) (return_row o method value t)
 unfolding return_row
@@ -470,20 +470,20 @@ few_of_kind (kind.Ref t) = let size : length (stack_slots (kind.Ref t ∷ [])) �
 
 -- ---- objects, fields and arrays
 
-get_static_row-carried : (P : Place → Type 0) (v : Place → Slot) (o : Outline) (u : Use) (s t : TypeState) → IsClear P 0 s → IsCarried P v s t
+get_static_row-carried : (P : SlotPlace → Type 0) (v : SlotPlace → Slot) (o : Outline) (u : Use) (s t : TypeState) → IsClear P 0 s → IsCarried P v s t
     → Follows (IsCarried P v) (get_static_row o u s) (get_static_row o u t)
 unfolding get_static_row
 get_static_row-carried P v o u s t clear h =
     follows-on_field (IsCarried P v) o u _ _ (λ field named. pushed-carried P v (field_words o field) s t clear h)
 
-put_static_row-carried : (P : Place → Type 0) (v : Place → Slot) (o : Outline) (u : Use) (s t : TypeState) → IsClear P 2 s → IsCarried P v s t
+put_static_row-carried : (P : SlotPlace → Type 0) (v : SlotPlace → Slot) (o : Outline) (u : Use) (s t : TypeState) → IsClear P 2 s → IsCarried P v s t
     → Follows (IsCarried P v) (put_static_row o u s) (put_static_row o u t)
 unfolding put_static_row
 put_static_row-carried P v o u s t clear h =
     follows-on_field (IsCarried P v) o u _ _
     (λ field named. worked-carried P v o (field_words o field) [] s t (clear-less P (length (field_words o field)) 2 s (few_of_kind _) clear) h)
 
-get_field_row-carried : (P : Place → Type 0) (v : Place → Slot) (o : Outline) (u : Use) (s t : TypeState) → IsClear P 1 s → IsCarried P v s t
+get_field_row-carried : (P : SlotPlace → Type 0) (v : SlotPlace → Slot) (o : Outline) (u : Use) (s t : TypeState) → IsClear P 1 s → IsCarried P v s t
     → Follows (IsCarried P v) (get_field_row o u s) (get_field_row o u t)
 unfolding get_field_row
 get_field_row-carried P v o u s t clear h =
@@ -492,7 +492,7 @@ get_field_row-carried P v o u s t clear h =
 few_more : (k : Kind) → length (stack_slots (k ∷ [])) + 1 ≤ 3
 few_more k = let few = few_of_kind k in omega (arith, few)
 
-put_field_row-carried : (P : Place → Type 0) (v : Place → Slot) (o : Outline) (method : ℕ) (u : Use) (s t : TypeState) → IsClear P 3 s
+put_field_row-carried : (P : SlotPlace → Type 0) (v : SlotPlace → Slot) (o : Outline) (method : ℕ) (u : Use) (s t : TypeState) → IsClear P 3 s
     → IsCarried P v s t → Follows (IsCarried P v) (put_field_row o method u s) (put_field_row o method u t)
 unfolding put_field_row
 put_field_row-carried P v o method u s t clear h =
@@ -500,24 +500,24 @@ put_field_row-carried P v o method u s t clear h =
     (λ field named. worked_below-carried P v o (field_words o field) (takes_field o method field named) s t
     (clear-less P (length (field_words o field) + 1) 3 s (few_more _) clear) h)
 
-cast_row-carried : (P : Place → Type 0) (v : Place → Slot) (o : Outline) (u : Use) (s t : TypeState) → IsClear P 1 s → IsCarried P v s t
+cast_row-carried : (P : SlotPlace → Type 0) (v : SlotPlace → Slot) (o : Outline) (u : Use) (s t : TypeState) → IsClear P 1 s → IsCarried P v s t
     → Follows (IsCarried P v) (cast_row o u s) (cast_row o u t)
 unfolding cast_row
 cast_row-carried P v o u s t clear h =
     follows-on_type (IsCarried P v) o u _ _ (λ named. worked-carried P v o (object_slot o ∷ []) (slot.Ref named ∷ []) s t clear h)
 
-is_a_row-carried : (P : Place → Type 0) (v : Place → Slot) (o : Outline) (u : Use) (s t : TypeState) → IsClear P 1 s → IsCarried P v s t
+is_a_row-carried : (P : SlotPlace → Type 0) (v : SlotPlace → Slot) (o : Outline) (u : Use) (s t : TypeState) → IsClear P 1 s → IsCarried P v s t
     → Follows (IsCarried P v) (is_a_row o u s) (is_a_row o u t)
 unfolding is_a_row
 is_a_row-carried P v o u s t clear h =
     follows-on_type (IsCarried P v) o u _ _ (λ named. worked-carried P v o (object_slot o ∷ []) int_word s t clear h)
 
-throw_row-carried : (P : Place → Type 0) (v : Place → Slot) (o : Outline) (s t : TypeState) → IsClear P 1 s → IsCarried P v s t
+throw_row-carried : (P : SlotPlace → Type 0) (v : SlotPlace → Slot) (o : Outline) (s t : TypeState) → IsClear P 1 s → IsCarried P v s t
     → Follows (IsCarried P v) (throw_row o s) (throw_row o t)
 unfolding throw_row
 throw_row-carried P v o s t clear h = worked-carried P v o (slot.Ref (throwable_type o) ∷ []) [] s t clear h
 
-array_load_row-carried : (P : Place → Type 0) (v : Place → Slot) (o : Outline) (e : Elem) (s t : TypeState) → IsClear P 2 s → IsCarried P v s t
+array_load_row-carried : (P : SlotPlace → Type 0) (v : SlotPlace → Slot) (o : Outline) (e : Elem) (s t : TypeState) → IsClear P 2 s → IsCarried P v s t
     → Follows (IsCarried P v) (array_load_row o e s) (array_load_row o e t)
 unfolding array_load_row
 array_load_row-carried P v o e s t clear h =
@@ -532,33 +532,33 @@ stored_count o elem.Int = refl
 stored_count o elem.Long = refl
 stored_count o elem.Ref = refl
 
-array_store_row-carried : (P : Place → Type 0) (v : Place → Slot) (o : Outline) (e : Elem) (s t : TypeState) → IsClear P (element_words e + 2) s → IsCarried P v s t
+array_store_row-carried : (P : SlotPlace → Type 0) (v : SlotPlace → Slot) (o : Outline) (e : Elem) (s t : TypeState) → IsClear P (element_words e + 2) s → IsCarried P v s t
     → Follows (IsCarried P v) (array_store_row o e s) (array_store_row o e t)
 unfolding array_store_row
 array_store_row-carried P v o e s t clear h =
     worked_below-carried P v o (stored_element o e ++ int_word) (on_array (is_array_of e) [] (λ t. [])) s t
     (subst (λ n. IsClear P n s) (sym (stored_count o e)) clear) h
 
-length_row-carried : (P : Place → Type 0) (v : Place → Slot) (o : Outline) (s t : TypeState) → IsClear P 1 s → IsCarried P v s t
+length_row-carried : (P : SlotPlace → Type 0) (v : SlotPlace → Slot) (o : Outline) (s t : TypeState) → IsClear P 1 s → IsCarried P v s t
     → Follows (IsCarried P v) (length_row o s) (length_row o t)
 unfolding length_row
 length_row-carried P v o s t clear h = worked_below-carried P v o [] (on_array (λ t. nat_lt 0 t.dims) int_word (λ t. int_word)) s t clear h
 
-new_array_row-carried : (P : Place → Type 0) (v : Place → Slot) (o : Outline) (e : Elem) (s t : TypeState) → IsClear P 1 s → IsCarried P v s t
+new_array_row-carried : (P : SlotPlace → Type 0) (v : SlotPlace → Slot) (o : Outline) (e : Elem) (s t : TypeState) → IsClear P 1 s → IsCarried P v s t
     → Follows (IsCarried P v) (new_array_row o e s) (new_array_row o e t)
 unfolding new_array_row
 new_array_row-carried P v o e s t clear h =
     follows-same (IsCarried P v) _ _ (base_of_elem e)
     (λ b. worked-carried P v o int_word (slot.Ref (record { dims = 1; base = b }) ∷ []) s t clear h)
 
-new_references_row-carried : (P : Place → Type 0) (v : Place → Slot) (o : Outline) (u : Use) (s t : TypeState) → IsClear P 1 s → IsCarried P v s t
+new_references_row-carried : (P : SlotPlace → Type 0) (v : SlotPlace → Slot) (o : Outline) (u : Use) (s t : TypeState) → IsClear P 1 s → IsCarried P v s t
     → Follows (IsCarried P v) (new_references_row o u s) (new_references_row o u t)
 unfolding new_references_row
 new_references_row-carried P v o u s t clear h =
     follows-on_type (IsCarried P v) o u _ _
     (λ named. follows-same (IsCarried P v) _ _ (array_of named) (λ array. worked-carried P v o int_word (slot.Ref array ∷ []) s t clear h))
 
-multi_array_row-carried : (P : Place → Type 0) (v : Place → Slot) (o : Outline) (u : Use) (dimensions : ℕ) (s t : TypeState) → IsClear P dimensions s
+multi_array_row-carried : (P : SlotPlace → Type 0) (v : SlotPlace → Slot) (o : Outline) (u : Use) (dimensions : ℕ) (s t : TypeState) → IsClear P dimensions s
     → IsCarried P v s t → Follows (IsCarried P v) (multi_array_row o u dimensions s) (multi_array_row o u dimensions t)
 unfolding multi_array_row
 multi_array_row-carried P v o u dimensions s t clear h =
@@ -584,12 +584,12 @@ apart_here : (P : ℕ → Type 0) (local : ℕ) → ((k : ℕ) → P k → are_a
 apart_here P local apart = apart_all P local apart local (omega arith) (omega arith)
 
 -- what objects that aren't initialised would be changed isn't at the places
-all_plain : (P : Place → Type 0) (v : Place → Slot) → ((k : ℕ) → P (place.Local k) → not (is_bare (v (place.Local k))) ≡ true)
+all_plain : (P : SlotPlace → Type 0) (v : SlotPlace → Slot) → ((k : ℕ) → P (place.Local k) → not (is_bare (v (place.Local k))) ≡ true)
     → ((h : ℕ) → P (place.Word h) → not (is_bare (v (place.Word h))) ≡ true) → IsPlain P v
 all_plain P v locals words (place.Local k) within = locals k within
 all_plain P v locals words (place.Word h) within = words h within
 
-row-frames : (P : Place → Type 0) (v : Place → Slot) (o : Outline) (method item : ℕ) (news : ℕ → Option TypeRef) (u : Use) (i : Insn) (s t : TypeState)
+row-frames : (P : SlotPlace → Type 0) (v : SlotPlace → Slot) (o : Outline) (method item : ℕ) (news : ℕ → Option TypeRef) (u : Use) (i : Insn) (s t : TypeState)
     → AllZip IsShaped s.stack t.stack → ((k : ℕ) → P (place.Local k) → leaves_local i k (v (place.Local k)) ≡ true)
     → ((h : ℕ) → P (place.Word h) → leaves_word i (v (place.Word h)) ≡ true) → IsClear P (words_taken o u i) s → IsCarried P v s t
     → Follows (IsCarried P v) (row_after o method item news u i s) (row_after o method item news u i t)
@@ -678,8 +678,8 @@ row-frames P v o method item news u (insn.Static index) s t shaped alone plain c
 row-frames P v o method item news u (insn.LeftOut opcode) s t shaped alone plain clear h = tt
 
 -- the stacks have the same longs, and the row leaves each of the places alone
-pub row-carried : (P : Place → Type 0) (v : Place → Slot) (o : Outline) (method item : ℕ) (news : ℕ → Option TypeRef) (u : Use) (i : Insn) (s t : TypeState)
-    → AllZip IsShaped s.stack t.stack → ((p : Place) → P p → leaves_alone i (length s.stack - words_taken o u i) p (v p) ≡ true) → IsCarried P v s t
+pub row-carried : (P : SlotPlace → Type 0) (v : SlotPlace → Slot) (o : Outline) (method item : ℕ) (news : ℕ → Option TypeRef) (u : Use) (i : Insn) (s t : TypeState)
+    → AllZip IsShaped s.stack t.stack → ((p : SlotPlace) → P p → leaves_alone i (length s.stack - words_taken o u i) p (v p) ≡ true) → IsCarried P v s t
     → Follows (IsCarried P v) (row_after o method item news u i s) (row_after o method item news u i t)
 row-carried P v o method item news u i s t shaped alone h =
     row-frames P v o method item news u i s t shaped (λ k within. alone (place.Local k) within)

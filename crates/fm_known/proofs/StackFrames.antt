@@ -5,8 +5,8 @@ use Rattle.std.specs.List.{AllByRecursion, AllZip}
 use Rattle.std.specs.Option.{option_map}
 use Rattle.std.proofs.lemmas.Bool.{cases_eq, cases_lt, false≢true}
 use Rattle.std.proofs.lemmas.List.{get_or_append_left, get_or_past, get_or_push, length-reverse, reverse-append}
-use Rattle.fm_known.specs.declared.known.Place.{Place}
-use Rattle.fm_known.specs.declared.known.Place.TheVariants as place
+use Rattle.fm_known.specs.declared.known_state.SlotPlace.{SlotPlace}
+use Rattle.fm_known.specs.declared.known_state.SlotPlace.TheVariants as place
 use Rattle.fm_known.specs.inner.Risen.{AreCarried, IsCarried}
 use Rattle.fm_code.specs.StackWords.{conv_words}
 use Rattle.fm_code.specs.declared.operations.Conv.{Conv}
@@ -60,24 +60,24 @@ word-past : (xs : List Slot) (h : ℕ) → length xs ≤ h → local_at (reverse
 word-past xs h past = let size = length-reverse xs in get_or_past (reverse xs) h slot.Top (omega (arith, size, past))
 
 -- the words differ at some places only, and none of them is among a given number of topmost words
-pub record AreLow (P : Place → Type 0) (v : Place → Slot) (m : ℕ) (xs ys : List Slot) : Type 0 where
+pub record AreLow (P : SlotPlace → Type 0) (v : SlotPlace → Slot) (m : ℕ) (xs ys : List Slot) : Type 0 where
   pub words : AreCarried (λ h. P (place.Word h)) (λ h. v (place.Word h)) (reverse xs) (reverse ys)
   pub low : (h : ℕ) → P (place.Word h) → h + m < length xs
 
-abbrev pub IsClear : (Place → Type 0) → ℕ → TypeState → Type 0
+abbrev pub IsClear : (SlotPlace → Type 0) → ℕ → TypeState → Type 0
 IsClear P m s = (h : ℕ) → P (place.Word h) → h + m < length s.stack
 
-pub low-size : (P : Place → Type 0) (v : Place → Slot) (m : ℕ) (xs ys : List Slot) → AreLow P v m xs ys → length xs ≡ length ys
+pub low-size : (P : SlotPlace → Type 0) (v : SlotPlace → Slot) (m : ℕ) (xs ys : List Slot) → AreLow P v m xs ys → length xs ≡ length ys
 low-size P v m xs ys h = sym (length-reverse xs) ∙ h.words.size ∙ length-reverse ys
 
-low-less : (P : Place → Type 0) (v : Place → Slot) (m n : ℕ) (xs ys : List Slot) → m ≤ n → AreLow P v n xs ys → AreLow P v m xs ys
+low-less : (P : SlotPlace → Type 0) (v : SlotPlace → Slot) (m n : ℕ) (xs ys : List Slot) → m ≤ n → AreLow P v n xs ys → AreLow P v m xs ys
 low-less P v m n xs ys less h = record { words = h.words; low = λ k within. let below = h.low k within in omega (arith, less, below) }
 
-pub clear-less : (P : Place → Type 0) (m n : ℕ) (s : TypeState) → m ≤ n → IsClear P n s → IsClear P m s
+pub clear-less : (P : SlotPlace → Type 0) (m n : ℕ) (s : TypeState) → m ≤ n → IsClear P n s → IsClear P m s
 clear-less P m n s less clear = λ h within. let below = clear h within in omega (arith, less, below)
 
 -- the topmost word is the same, and so it goes on below it
-pub low-top : (P : Place → Type 0) (v : Place → Slot) (m n : ℕ) (x y : Slot) (xs ys : List Slot) → n ≡ m + 1 → AreLow P v n (x ∷ xs) (y ∷ ys)
+pub low-top : (P : SlotPlace → Type 0) (v : SlotPlace → Slot) (m n : ℕ) (x y : Slot) (xs ys : List Slot) → n ≡ m + 1 → AreLow P v n (x ∷ xs) (y ∷ ys)
     → (x ≡ y) × AreLow P v m xs ys
 low-top P v m n x y xs ys more h = (same, record { words = record { size = turned; among = among; apart = apart }; low = low }) where
   size : length xs ≡ length ys
@@ -107,7 +107,7 @@ low-top P v m n x y xs ys more h = (same, record { words = record { size = turne
       (cases_lt k (length xs))
 
 -- one more word on top of both
-pub low-push : (P : Place → Type 0) (v : Place → Slot) (m : ℕ) (x : Slot) (xs ys : List Slot) → AreLow P v m xs ys → AreLow P v m (x ∷ xs) (x ∷ ys)
+pub low-push : (P : SlotPlace → Type 0) (v : SlotPlace → Slot) (m : ℕ) (x : Slot) (xs ys : List Slot) → AreLow P v m xs ys → AreLow P v m (x ∷ xs) (x ∷ ys)
 low-push P v m x xs ys h = record { words = record { size = turned; among = among; apart = apart }; low = low } where
   size : length xs ≡ length ys
   size = low-size P v m xs ys h
@@ -134,11 +134,11 @@ low-push P v m x xs ys h = record { words = record { size = turned; among = amon
       (cases_eq k (length xs)))
       (cases_lt k (length xs))
 
-pub low-given : (P : Place → Type 0) (v : Place → Slot) (m : ℕ) (given xs ys : List Slot) → AreLow P v m xs ys → AreLow P v m (given ++ xs) (given ++ ys)
+pub low-given : (P : SlotPlace → Type 0) (v : SlotPlace → Slot) (m : ℕ) (given xs ys : List Slot) → AreLow P v m xs ys → AreLow P v m (given ++ xs) (given ++ ys)
 low-given P v m [] xs ys h = h
 low-given P v m (x ∷ given) xs ys h = low-push P v m x (given ++ xs) (given ++ ys) (low-given P v m given xs ys h)
 
-pub taken-low : (P : Place → Type 0) (v : Place → Slot) (o : Outline) (wanted : List Slot) (m n : ℕ) → n ≡ length wanted + m → (xs ys : List Slot)
+pub taken-low : (P : SlotPlace → Type 0) (v : SlotPlace → Slot) (o : Outline) (wanted : List Slot) (m n : ℕ) → n ≡ length wanted + m → (xs ys : List Slot)
     → AreLow P v n xs ys → Follows (AreLow P v m) (taken o wanted xs) (taken o wanted ys)
 taken-low P v o [] m n e xs ys h = low-less P v m n xs ys (omega (arith, e)) h
 taken-low P v o (w ∷ more) m n e xs [] h = tt
@@ -148,7 +148,7 @@ taken-low P v o (w ∷ more) m n e (x ∷ xs) (y ∷ ys) h =
     follows-if (AreLow P v m) (fits o x w) (fits o y w) (taken o more xs) (taken o more ys) (λ f. ap (λ z. fits o z w) top.0 ∙ f)
     (λ f. taken-low P v o more m (length more + m) refl xs ys top.1)
 
-drop-low : (P : Place → Type 0) (v : Place → Slot) (count m n : ℕ) → n ≡ count + m → (xs ys : List Slot) → AreLow P v n xs ys
+drop-low : (P : SlotPlace → Type 0) (v : SlotPlace → Slot) (count m n : ℕ) → n ≡ count + m → (xs ys : List Slot) → AreLow P v n xs ys
     → AreLow P v m (drop count xs) (drop count ys)
 drop-low P v zero m n e xs ys h = low-less P v m n xs ys (omega (arith, e)) h
 drop-low P v (suc count) m n e [] [] h = low-less P v m n [] [] (omega (arith, e)) h
@@ -157,7 +157,7 @@ drop-low P v (suc count) m n e (x ∷ xs) [] h = absurd (let size = low-size P v
 drop-low P v (suc count) m n e (x ∷ xs) (y ∷ ys) h =
     drop-low P v count m (count + m) refl xs ys (low-top P v (count + m) n x y xs ys (omega (arith, e)) h).1
 
-get-low : (P : Place → Type 0) (v : Place → Slot) (depth m n : ℕ) → n ≡ depth + m + 1 → (xs ys : List Slot) → AreLow P v n xs ys
+get-low : (P : SlotPlace → Type 0) (v : SlotPlace → Slot) (depth m n : ℕ) → n ≡ depth + m + 1 → (xs ys : List Slot) → AreLow P v n xs ys
     → slice_get xs depth ≡ slice_get ys depth
 get-low P v depth m n e [] [] h = refl
 get-low P v depth m n e [] (y ∷ ys) h = absurd (let size = low-size P v n [] (y ∷ ys) h in omega (arith, size))
@@ -166,7 +166,7 @@ get-low P v zero m n e (x ∷ xs) (y ∷ ys) h = ap Some (low-top P v m n x y xs
 get-low P v (suc depth) m n e (x ∷ xs) (y ∷ ys) h =
     get-low P v depth m (depth + m + 1) refl xs ys (low-top P v (depth + m + 1) n x y xs ys (omega (arith, e)) h).1
 
-words-low : (P : Place → Type 0) (v : Place → Slot) (n : ℕ) (depths : List ℕ) (xs ys : List Slot) → AllByRecursion (λ depth. depth < n) depths
+words-low : (P : SlotPlace → Type 0) (v : SlotPlace → Slot) (n : ℕ) (depths : List ℕ) (xs ys : List Slot) → AllByRecursion (λ depth. depth < n) depths
     → AreLow P v n xs ys → words_at xs depths ≡ words_at ys depths
 words-low P v n [] xs ys all h = refl
 words-low P v n (depth ∷ depths) xs ys all h =
@@ -177,7 +177,7 @@ words-low P v n (depth ∷ depths) xs ys all h =
     (words-low P v n depths xs ys all.1 h)
 
 -- moves of words above the places
-moved-low : (P : Place → Type 0) (v : Place → Slot) (m : Moves) (xs ys : List Slot) → AllByRecursion (λ depth. depth < m.takes) m.gives
+moved-low : (P : SlotPlace → Type 0) (v : SlotPlace → Slot) (m : Moves) (xs ys : List Slot) → AllByRecursion (λ depth. depth < m.takes) m.gives
     → AreLow P v m.takes xs ys → Follows (AreLow P v 0) (moved m xs) (moved m ys)
 moved-low P v m xs ys all h =
     by_tests (nat_lt (length xs) m.takes) (nat_lt (length ys) m.takes) (ap (λ n. nat_lt n m.takes) (low-size P v m.takes xs ys h)) where
@@ -223,19 +223,19 @@ moved-shaped m a b h =
 
 -- ---- what is taken from the stack and put on it
 
-pub with_stack : (P : Place → Type 0) (v : Place → Slot) (m : ℕ) (s t : TypeState) (a b : List Slot) → IsCarried P v s t → AreLow P v m a b
+pub with_stack : (P : SlotPlace → Type 0) (v : SlotPlace → Slot) (m : ℕ) (s t : TypeState) (a b : List Slot) → IsCarried P v s t → AreLow P v m a b
     → IsCarried P v (record s { stack = a }) (record t { stack = b })
 with_stack P v m s t a b h low = record { locals = h.locals; words = low.words; built = h.built }
 
-pub low-of : (P : Place → Type 0) (v : Place → Slot) (m : ℕ) (s t : TypeState) → IsClear P m s → IsCarried P v s t → AreLow P v m s.stack t.stack
+pub low-of : (P : SlotPlace → Type 0) (v : SlotPlace → Slot) (m : ℕ) (s t : TypeState) → IsClear P m s → IsCarried P v s t → AreLow P v m s.stack t.stack
 low-of P v m s t clear h = record { words = h.words; low = clear }
 
-pub pushed-carried : (P : Place → Type 0) (v : Place → Slot) (given : List Slot) (s t : TypeState) → IsClear P 0 s → IsCarried P v s t
+pub pushed-carried : (P : SlotPlace → Type 0) (v : SlotPlace → Slot) (given : List Slot) (s t : TypeState) → IsClear P 0 s → IsCarried P v s t
     → IsCarried P v (pushed given s) (pushed given t)
 pushed-carried P v given s t clear h =
     with_stack P v 0 s t (given ++ s.stack) (given ++ t.stack) h (low-given P v 0 given s.stack t.stack (low-of P v 0 s t clear h))
 
-pub worked-carried : (P : Place → Type 0) (v : Place → Slot) (o : Outline) (wanted given : List Slot) (s t : TypeState) → IsClear P (length wanted) s
+pub worked-carried : (P : SlotPlace → Type 0) (v : SlotPlace → Slot) (o : Outline) (wanted given : List Slot) (s t : TypeState) → IsClear P (length wanted) s
     → IsCarried P v s t → Follows (IsCarried P v) (worked o wanted given s) (worked o wanted given t)
 worked-carried P v o wanted given s t clear h =
     follows-map (AreLow P v 0) (IsCarried P v) (λ stack. record s { stack = given ++ stack }) (λ stack. record t { stack = given ++ stack })
@@ -243,7 +243,7 @@ worked-carried P v o wanted given s t clear h =
     (taken-low P v o wanted 0 (length wanted) (omega arith) s.stack t.stack (low-of P v (length wanted) s t clear h))
     (λ a b low. with_stack P v 0 s t (given ++ a) (given ++ b) h (low-given P v 0 given a b low))
 
-from_below-carried : (P : Place → Type 0) (v : Place → Slot) (given : Slot → Option (List Slot)) (s t : TypeState) → IsCarried P v s t → (a b : List Slot)
+from_below-carried : (P : SlotPlace → Type 0) (v : SlotPlace → Slot) (given : Slot → Option (List Slot)) (s t : TypeState) → IsCarried P v s t → (a b : List Slot)
     → AreLow P v 1 a b → Follows (IsCarried P v) (from_below given s a) (from_below given t b)
 from_below-carried P v given s t h a [] low = tt
 from_below-carried P v given s t h [] (y ∷ b) low = absurd (let size = low-size P v 1 [] (y ∷ b) low in omega (arith, size))
@@ -254,14 +254,14 @@ from_below-carried P v given s t h (x ∷ a) (y ∷ b) low =
     (λ us vs same. with_stack P v 0 s t (us ++ a) (vs ++ b) h
     (subst (λ (zs : List Slot). AreLow P v 0 (us ++ a) (zs ++ b)) same (low-given P v 0 us a b top.1)))
 
-pub worked_below-carried : (P : Place → Type 0) (v : Place → Slot) (o : Outline) (wanted : List Slot) (given : Slot → Option (List Slot)) (s t : TypeState)
+pub worked_below-carried : (P : SlotPlace → Type 0) (v : SlotPlace → Slot) (o : Outline) (wanted : List Slot) (given : Slot → Option (List Slot)) (s t : TypeState)
     → IsClear P (length wanted + 1) s → IsCarried P v s t → Follows (IsCarried P v) (worked_below o wanted given s) (worked_below o wanted given t)
 worked_below-carried P v o wanted given s t clear h =
     follows-then (AreLow P v 1) (IsCarried P v) (from_below given s) (from_below given t) (taken o wanted s.stack) (taken o wanted t.stack)
     (taken-low P v o wanted 1 (length wanted + 1) refl s.stack t.stack (low-of P v (length wanted + 1) s t clear h))
     (from_below-carried P v given s t h)
 
-pub constant_row-carried : (P : Place → Type 0) (v : Place → Slot) (o : Outline) (u : Use) (s t : TypeState) → IsClear P 0 s → IsCarried P v s t
+pub constant_row-carried : (P : SlotPlace → Type 0) (v : SlotPlace → Slot) (o : Outline) (u : Use) (s t : TypeState) → IsClear P 0 s → IsCarried P v s t
     → Follows (IsCarried P v) (constant_row o u s) (constant_row o u t)
 unfolding constant_row
 constant_row-carried P v o (resolved.OfType i) s t clear h = tt
@@ -276,7 +276,7 @@ constant_row-carried P v o resolved.Unused s t clear h = tt
 abbrev move_of : Option Moves → TypeState → Option TypeState
 move_of m s = option_and_then (λ m. option_and_then (λ stack. cond (is_whole stack) (Some (record s { stack = stack })) None) (moved m s.stack)) m
 
-pub move_of-carried : (P : Place → Type 0) (v : Place → Slot) (m : Moves) (s t : TypeState) → AllByRecursion (λ depth. depth < m.takes) m.gives
+pub move_of-carried : (P : SlotPlace → Type 0) (v : SlotPlace → Slot) (m : Moves) (s t : TypeState) → AllByRecursion (λ depth. depth < m.takes) m.gives
     → IsClear P m.takes s → AllZip IsShaped s.stack t.stack → IsCarried P v s t → Follows (IsCarried P v) (move_of (Some m) s) (move_of (Some m) t)
 move_of-carried P v m s t all clear shaped h =
     follows-then (Both (AreLow P v 0) (AllZip IsShaped)) (IsCarried P v) _ _ (moved m s.stack) (moved m t.stack)
@@ -285,7 +285,7 @@ move_of-carried P v m s t all clear shaped h =
     (λ a b both. follows-if (IsCarried P v) (is_whole a) (is_whole b) _ _ (λ e. whole-shaped a b both.second e)
     (λ e. with_stack P v 0 s t a b h both.first))
 
-pub convert_row-carried : (P : Place → Type 0) (v : Place → Slot) (o : Outline) (c : Conv) (s t : TypeState) → IsClear P (conv_words c) s → IsCarried P v s t
+pub convert_row-carried : (P : SlotPlace → Type 0) (v : SlotPlace → Slot) (o : Outline) (c : Conv) (s t : TypeState) → IsClear P (conv_words c) s → IsCarried P v s t
     → Follows (IsCarried P v) (convert_row o c s) (convert_row o c t)
 unfolding convert_row
 convert_row-carried P v o conv.IntToLong s t clear h = worked-carried P v o int_word long_words s t clear h

@@ -7,8 +7,8 @@ ghost use Rattle.fm_known.specs.inner.Tasks.{IsSound, task};
 ghost use Rattle.fm_rows.specs.Members.{NamesMember};
 ghost use Rattle.fm_types.specs.Typed.{use_by};
 
-use crate::known::Place;
-use crate::method::{Method, parameter_slots};
+use crate::known_state::SlotPlace;
+use crate::checked_method::{CheckedMethod, parameter_slots};
 use crate::risen::Rise;
 use fm_base::NoMemory;
 use fm_code::Insn;
@@ -69,7 +69,7 @@ fn called_words(alloc: Global, program: &Program, resolved: Use) -> Result<usize
 }
 
 /// The words of the stack that the row of the instruction takes at most.
-pub fn words_taken(alloc: Global, method: &Method<'_>, insn: &Insn) -> Result<usize, NoMemory>
+pub fn words_taken(alloc: Global, method: &CheckedMethod<'_>, insn: &Insn) -> Result<usize, NoMemory>
     requires { IsSound (task method.now) }
     ensures { IfOk result (λ count. count ≡ words_taken (task method.now).program.outline
         (use_by (task method.now).program (task method.now).number insn.now) insn.now) }
@@ -91,8 +91,8 @@ fn leaves_alone(insn: &Insn, below: usize, rise: Rise) -> bool
     ensures { result ≡ leaves_alone insn.now below rise.place rise.slot }
 {
     match rise.place {
-        Place::Local(local) => leaves_local(insn, local, rise.slot),
-        Place::Word(word) => {
+        SlotPlace::Local(local) => leaves_local(insn, local, rise.slot),
+        SlotPlace::Word(word) => {
             if usize::from(word) >= below {
                 return false;
             }

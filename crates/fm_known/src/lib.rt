@@ -3,13 +3,13 @@
 #![tactic(auto)]
 
 mod frames;
-mod known;
+mod known_state;
 mod merging;
-mod method;
+mod checked_method;
 mod risen;
 
 pub use frames::{all_left_alone, words_taken};
-pub use known::{Known, Place, slot_in};
+pub use known_state::{KnownState, SlotPlace, slot_in};
 pub use merging::{join_state, law_bounded, law_bounded_state, state_fits};
-pub use method::{Method, parameter_slots};
+pub use checked_method::{CheckedMethod, parameter_slots};
 pub use risen::{Rise, is_lost, local_rises, locals_of, noted, risen_places, rises_of};

@@ -8,7 +8,7 @@ ghost use Rattle.fm_known.specs.inner.Risen.{known_state};
 ghost use Rattle.fm_types.specs.States.{all_fit, state_fits};
 ghost use Rattle.fm_types.specs.Typings.{type_state};
 
-use crate::known::Known;
+use crate::known_state::KnownState;
 use fm_base::NoMemory;
 use fm_rows::is_whole;
 use fm_types::{Slot, Stack, State, fits, join};
@@ -39,14 +39,14 @@ fn have_same_sizes(a: &State, b: &State) -> bool
 }
 
 // Whether the state has as many locals and words of the stack as are known.
-fn have_known_sizes(a: &State, known: &Known) -> bool
+fn have_known_sizes(a: &State, known: &KnownState) -> bool
     ensures { result ≡ have_same_sizes (type_state a.now) (known_state known.now) }
 {
     a.locals.len() == known.locals.len() && a.stack.len() == known.words.len()
 }
 
 /// Whether the state fits what is known.
-pub fn state_fits(program: &Program, a: &State, known: &Known) -> bool
+pub fn state_fits(program: &Program, a: &State, known: &KnownState) -> bool
     ensures { result
         ≡ state_fits program.now.outline (type_state a.now) (known_state known.now) }
 {

@@ -2,10 +2,10 @@
 
 ghost use Rattle.std.specs.Prelude.{◌≡◌, ◌≤◌, IfOk, OnOk, length, map};
 ghost use Rattle.fm_known.specs.inner.Risen.{DifferIn, IsPlaced, IsRisenIn, is_local, is_lost, known_state, local_rises, locals_of, noted, rise_of};
-ghost use Rattle.fm_known.specs.declared.known.Place.TheVariants as place;
+ghost use Rattle.fm_known.specs.declared.known_state.SlotPlace.TheVariants as place;
 ghost use Rattle.fm_types.specs.Typings.{type_state};
 
-use crate::known::{Known, Place, slot_in};
+use crate::known_state::{KnownState, SlotPlace, slot_in};
 use fm_base::{NoMemory, Seq};
 use fm_types::{Slot, State};
 use std::alloc::Global;
@@ -14,13 +14,13 @@ use std::alloc::Global;
 #[derive(Clone, Copy)]
 pub struct Rise {
     /// Where it rose.
-    pub place: Place,
+    pub place: SlotPlace,
     /// What is there.
     pub slot: Slot,
 }
 
 /// What is at these places, in their order.
-pub fn rises_of(alloc: Global, known: &Known, places: &[Place]) -> Result<Vec<Rise>, NoMemory>
+pub fn rises_of(alloc: Global, known: &KnownState, places: &[SlotPlace]) -> Result<Vec<Rise>, NoMemory>
     ensures { IfOk result
         (λ rises. rises.items ≡ map (rise_of (known_state known.now)) places.now) }
 {
@@ -41,7 +41,7 @@ pub fn local_rises(alloc: Global, state: &State, count: u16) -> Result<Vec<Rise>
     let mut rises = Vec::with_capacity(alloc, usize::from(count))?;
     for local in 0..count {
         rises.push(Rise {
-            place: Place::Local(local),
+            place: SlotPlace::Local(local),
             slot: slot_in(state.locals.as_slice(), local),
         })?;
     }
@@ -49,10 +49,10 @@ pub fn local_rises(alloc: Global, state: &State, count: u16) -> Result<Vec<Rise>
 }
 
 // Whether the place is a local's.
-fn is_local(place: Place) -> bool
+fn is_local(place: SlotPlace) -> bool
     ensures { result ≡ is_local place }
 {
-    matches!(place, Place::Local(_))
+    matches!(place, SlotPlace::Local(_))
 }
 
 /// Those of them that are in locals, in their order.
@@ -69,11 +69,11 @@ pub fn locals_of(alloc: Global, rises: &[Rise]) -> Result<Vec<Rise>, NoMemory>
 }
 
 /// Whether it is a word of the stack of which nothing is known any longer.
-pub fn is_lost(place: Place, slot: Slot) -> bool
+pub fn is_lost(place: SlotPlace, slot: Slot) -> bool
     ensures { result ≡ is_lost place slot }
 {
     match (place, slot) {
-        (Place::Word(_), Slot::Top) => true,
+        (SlotPlace::Word(_), Slot::Top) => true,
         _ => false,
     }
 }
@@ -103,23 +103,23 @@ fn differing_places(alloc: Global, slots: &[Slot], others: &[Slot]) -> Result<Ve
 }
 
 // These locals as places.
-fn local_places(alloc: Global, locals: &[u16]) -> Result<Vec<Place>, NoMemory>
+fn local_places(alloc: Global, locals: &[u16]) -> Result<Vec<SlotPlace>, NoMemory>
     ensures { IfOk result (λ places. places.items ≡ map (λ k. place.Local k) locals.now) }
 {
     let mut places = Vec::with_capacity(alloc, locals.len())?;
     for local in locals {
-        places.push(Place::Local(*local))?;
+        places.push(SlotPlace::Local(*local))?;
     }
     Ok(places)
 }
 
 // These words of the stack as places.
-fn word_places(alloc: Global, words: &[u16]) -> Result<Vec<Place>, NoMemory>
+fn word_places(alloc: Global, words: &[u16]) -> Result<Vec<SlotPlace>, NoMemory>
     ensures { IfOk result (λ places. places.items ≡ map (λ h. place.Word h) words.now) }
 {
     let mut places = Vec::with_capacity(alloc, words.len())?;
     for word in words {
-        places.push(Place::Word(*word))?;
+        places.push(SlotPlace::Word(*word))?;
     }
     Ok(places)
 }
@@ -130,7 +130,7 @@ pub fn risen_places(
     alloc: Global,
     before: &State,
     after: &State,
-) -> Result<Option<Seq<Place>>, NoMemory>
+) -> Result<Option<Seq<SlotPlace>>, NoMemory>
     requires locals { length after.now.locals.items ≡ length before.now.locals.items }
     requires stack { length after.now.stack ≡ length before.now.stack }
     requires few_locals { length after.now.locals.items ≤ 65535 }
@@ -152,9 +152,9 @@ pub fn risen_places(
 /// those. At most `most` places are noted one by one.
 pub fn noted(
     most: usize,
-    known: Option<Seq<Place>>,
-    rose: Option<Seq<Place>>,
-) -> Result<Option<Seq<Place>>, NoMemory>
+    known: Option<Seq<SlotPlace>>,
+    rose: Option<Seq<SlotPlace>>,
+) -> Result<Option<Seq<SlotPlace>>, NoMemory>
     ensures { IfOk result (λ all. all ≡ noted most known rose) }
 {
     let Some(known) = known else {

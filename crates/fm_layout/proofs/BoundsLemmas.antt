@@ -7,7 +7,7 @@ use Rattle.fm_code.proofs.CodeItems.{HasBytes}
 use Rattle.fm_code.proofs.InsnPrefixes.{insn_at_not_empty}
 use Rattle.fm_code.specs.ClassBytes.{item_bytes, offset_in}
 use Rattle.fm_code.specs.Operands.{opcode_of}
-use Rattle.fm_code.specs.SpellsCode.{IsSpelled, with_targets}
+use Rattle.fm_code.specs.SpellsCode.{ItemIsSpelled, with_targets}
 use Rattle.fm_code.specs.declared.code_array.TheConstants.{MAX_CODE_BYTES}
 use Rattle.fm_code.specs.declared.code_array.Item.{Item}
 use Rattle.fm_code.specs.declared.opcodes.TheConstants.{GOTO_W}
@@ -121,7 +121,7 @@ kept_sizes_le old (new ∷ items) k m e = go new.kept m e (λ k m. kept_sizes_le
 
 pub old_filled : (old : List Item) → AreOldItems old → AllByRecursion HasBytes old
 old_filled old are =
-    AllByRecursion-weaker (IsSpelled old) HasBytes
+    AllByRecursion-weaker (ItemIsSpelled old) HasBytes
     (λ item spelled. insn_at_not_empty item.offset item.bytes (with_targets (offset_in old zero) item.insn) spelled.instruction) old are.spelled.spelled
 
 short_items : (n : ℕ) (old : List Item) → length (flat_map item_bytes old) ≤ n → AllByRecursion (λ (item : Item). length item.bytes ≤ n) old

@@ -6,7 +6,7 @@ use Rattle.fm_code.proofs.Bytes.{length-signed_four}
 use Rattle.fm_code.specs.Fits.{AreBytes}
 use Rattle.fm_code.specs.InstructionTable.{insn_at}
 use Rattle.fm_code.specs.Operands.{opcode_of}
-use Rattle.fm_code.specs.SpellsCode.{IsSpelled, with_targets, targets_of}
+use Rattle.fm_code.specs.SpellsCode.{ItemIsSpelled, with_targets, targets_of}
 use Rattle.fm_code.specs.declared.code_array.Item.{Item}
 use Rattle.fm_code.specs.declared.opcodes.TheConstants.{GOTO_W}
 use Rattle.fm_code.specs.declared.operations.Reg.TheVariants as reg
@@ -44,7 +44,7 @@ goto_w_facts starts start item n r is moved near within = go (opcode_of item == 
   }
   go false e = absurd (subst (λ (x : Room). IsMoved x) (sym e) moved)
 
-moved_old : (old : List Item) (item : Item) (i : Insn) (starts : List ℕ) (start : ℕ) (r : Room) → IsSpelled old item → AreBytes item.bytes → IsSameButTargets i item.insn
+moved_old : (old : List Item) (item : Item) (i : Insn) (starts : List ℕ) (start : ℕ) (r : Room) → ItemIsSpelled old item → AreBytes item.bytes → IsSameButTargets i item.insn
     → room_of (Some item) i ≡ r → IsMoved r → start ≤ 65535 → AreOffsetsWithin starts → MovedFacts starts start (Some item) i r
 moved_old old item (insn.IfInt t n) starts start r spelled bytes same e moved near within = absurd (subst (λ (x : Room). IsMoved x) (sym e) moved)
 moved_old old item (insn.IfPair t n) starts start r spelled bytes same e moved near within = absurd (subst (λ (x : Room). IsMoved x) (sym e) moved)
@@ -60,7 +60,7 @@ moved_old old item (insn.Lookup others keys targets) starts start r spelled byte
 moved_old old item i starts start r spelled bytes same e moved near within =
     record { size = ap (size_at start) e; read = kept_read old item i start (slice_index starts) spelled same refl }
 
-moved_inserted : (old : List Item) (i : Insn) (starts : List ℕ) (start : ℕ) (r : Room) → AllByRecursion (IsSpelled old) old → IsInserted i → room_of None i ≡ r
+moved_inserted : (old : List Item) (i : Insn) (starts : List ℕ) (start : ℕ) (r : Room) → AllByRecursion (ItemIsSpelled old) old → IsInserted i → room_of None i ≡ r
     → MovedFacts starts start None i r
 moved_inserted old insn.Null starts start r spelled inserted e =
     record { size = ap (size_at start) e; read = plain_read old insn.Null None start (slice_index starts) spelled inserted refl }
@@ -78,7 +78,7 @@ moved_inserted old i starts start r spelled inserted e = absurd inserted
 abbrev pub kept_of : List Item → Option ℕ → Option Item
 kept_of old kept = option_and_then (λ k. slice_get old k) kept
 
-pub moved_facts : (old : List Item) (kept : Option ℕ) (i : Insn) (starts : List ℕ) (start : ℕ) (r : Room) → AllByRecursion (IsSpelled old) old
+pub moved_facts : (old : List Item) (kept : Option ℕ) (i : Insn) (starts : List ℕ) (start : ℕ) (r : Room) → AllByRecursion (ItemIsSpelled old) old
     → AllByRecursion (λ (item : Item). AreBytes item.bytes) old → IsOrigin old i kept → room_of (kept_of old kept) i ≡ r → IsMoved r → start ≤ 65535 → AreOffsetsWithin starts
     → MovedFacts starts start (kept_of old kept) i r
 moved_facts old None i starts start r spelled bytes inserted e moved near within = moved_inserted old i starts start r spelled inserted e
@@ -86,7 +86,7 @@ moved_facts old (Some k) i starts start r spelled bytes origin e moved near with
   go : (o : Option Item) → slice_get old k ≡ o → IsSomeAnd o (λ item. IsSameButTargets i item.insn) → room_of o i ≡ r → MovedFacts starts start o i r
   go None found same room_is = absurd same
   go (Some item) found same room_is =
-      moved_old old item i starts start r (at_index (IsSpelled old) old k item spelled found) (at_index (λ (x : Item). AreBytes x.bytes) old k item bytes found) same room_is moved near within
+      moved_old old item i starts start r (at_index (ItemIsSpelled old) old k item spelled found) (at_index (λ (x : Item). AreBytes x.bytes) old k item bytes found) same room_is moved near within
 
 -- ---- branches
 

@@ -7,7 +7,7 @@ use Rattle.fm_code.specs.ClassBytes.{offset_in}
 use Rattle.fm_code.specs.Fits.{FitsTwo}
 use Rattle.fm_code.specs.InstructionTable.{insn_at, jump, jump_to, long_jump}
 use Rattle.fm_code.specs.Numbers.{two}
-use Rattle.fm_code.specs.SpellsCode.{IsSpelled, with_targets}
+use Rattle.fm_code.specs.SpellsCode.{ItemIsSpelled, with_targets}
 use Rattle.fm_code.specs.declared.code_array.Item.{Item}
 use Rattle.fm_code.specs.declared.opcodes.TheConstants.{WIDE}
 use Rattle.fm_code.specs.declared.operations.Reg.TheVariants as reg
@@ -94,7 +94,7 @@ same_untargeted i j same plain =
     (sym (untargeted z i plain) ∙ same ∙ untargeted z j other, other)
 
 -- a kept instruction without targets
-pub kept_read : (old : List Item) (item : Item) (i : Insn) (start : ℕ) (f : ℕ → ℕ) → IsSpelled old item → IsSameButTargets i item.insn → names_target i ≡ false
+pub kept_read : (old : List Item) (item : Item) (i : Insn) (start : ℕ) (f : ℕ → ℕ) → ItemIsSpelled old item → IsSameButTargets i item.insn → names_target i ≡ false
     → insn_at start item.bytes ≡ Some (with_targets f i)
 kept_read old item i start f spelled same plain =
     let (whole, other) = same_untargeted i item.insn same plain in
@@ -152,10 +152,10 @@ inserted_read i start f inserted = absurd inserted
 
 -- ---- instructions that are copied or inserted
 
-pub plain_read : (old : List Item) (i : Insn) (kept : Option ℕ) (start : ℕ) (f : ℕ → ℕ) → AllByRecursion (IsSpelled old) old → IsOrigin old i kept
+pub plain_read : (old : List Item) (i : Insn) (kept : Option ℕ) (start : ℕ) (f : ℕ → ℕ) → AllByRecursion (ItemIsSpelled old) old → IsOrigin old i kept
     → names_target i ≡ false → insn_at start (plain_bytes (option_and_then (λ k. slice_get old k) kept) i) ≡ Some (with_targets f i)
 plain_read old i None start f spelled inserted plain = inserted_read i start f inserted
 plain_read old i (Some k) start f spelled origin plain = go (slice_get old k) refl origin where
   go : (o : Option Item) → slice_get old k ≡ o → IsSomeAnd o (λ item. IsSameButTargets i item.insn) → insn_at start (plain_bytes o i) ≡ Some (with_targets f i)
   go None e same = absurd same
-  go (Some item) e same = kept_read old item i start f (at_index (IsSpelled old) old k item spelled e) same plain
+  go (Some item) e same = kept_read old item i start f (at_index (ItemIsSpelled old) old k item spelled e) same plain

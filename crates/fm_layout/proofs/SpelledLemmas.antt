@@ -8,7 +8,7 @@ use Rattle.fm_base.proofs.ListFacts.{AllByRecursion-append, AllByRecursion-weake
 use Rattle.fm_code.proofs.Bytes.{length-signed_four, length-two}
 use Rattle.fm_code.specs.ClassBytes.{item_bytes, offset_in}
 use Rattle.fm_code.specs.Fits.{AreBytes}
-use Rattle.fm_code.specs.SpellsCode.{AreOffsets, IsSpelled, SpellsCode, targets_of, with_targets}
+use Rattle.fm_code.specs.SpellsCode.{AreOffsets, ItemIsSpelled, SpellsCode, targets_of, with_targets}
 use Rattle.fm_code.specs.declared.code_array.Item.{Item}
 use Rattle.fm_code.specs.declared.instructions.Insn.{Insn}
 use Rattle.fm_code.specs.declared.instructions.Insn.TheVariants as insn
@@ -106,7 +106,7 @@ wide_chunk start first false (Some taken) to target =
 
 -- what holds of the old items
 pub record OldFacts (old : List Item) : Type 0 where
-  pub spelled : AllByRecursion (IsSpelled old) old
+  pub spelled : AllByRecursion (ItemIsSpelled old) old
   pub bytes : AllByRecursion (λ (item : Item). AreBytes item.bytes) old
 
 moved_of : (old : List Item) (count : ℕ) (starts : List ℕ) (start : ℕ) (new : NewItem) (r : Room) → OldFacts old → ItemFits old count starts start new r → IsMoved r → start ≤ 65535
@@ -412,7 +412,7 @@ laid_spelled old items rooms known origins targets wider settled short within =
       record {
         bytes_are = refl;
         offsets = chunks.offsets;
-        spelled = AllByRecursion-weaker (IsGood laid) (IsSpelled laid) (λ item both. record { instruction = both.0; targets = both.1 }) laid good;
+        spelled = AllByRecursion-weaker (IsGood laid) (ItemIsSpelled laid) (λ item both. record { instruction = both.0; targets = both.1 }) laid good;
       },
       omega arith,
     )

@@ -13,7 +13,7 @@ use Rattle.fm_code.specs.Fits.{AreBytes}
 use Rattle.fm_code.specs.InstructionTable.{insn_at, padding_at, reading_of, switch, table_switch, lookup_switch, signed_fours, offset_from, offsets_from, is_number, are_rising, pairs_of}
 use Rattle.fm_code.specs.Numbers.{signed_four, signed_four_of, number_of_four}
 use Rattle.fm_code.specs.ClassBytes.{offset_in}
-use Rattle.fm_code.specs.SpellsCode.{IsSpelled, with_targets}
+use Rattle.fm_code.specs.SpellsCode.{ItemIsSpelled, with_targets}
 use Rattle.fm_code.specs.declared.code_array.Item.{Item}
 use Rattle.fm_code.specs.declared.instructions.Insn.{Insn}
 use Rattle.fm_code.specs.declared.instructions.Insn.TheVariants as insn
@@ -474,7 +474,7 @@ same_lookup others keys targets (insn.Goto n) e = cc
 same_lookup others keys targets (insn.Table l o ts) e = cc
 same_lookup others keys targets j e = cc
 
-pub table_fits : (old : List Item) (item : Item) (low : ℤ) (others : ℕ) (targets : List ℕ) → IsSpelled old item → IsSameButTargets (insn.Table low others targets) item.insn
+pub table_fits : (old : List Item) (item : Item) (low : ℤ) (others : ℕ) (targets : List ℕ) → ItemIsSpelled old item → IsSameButTargets (insn.Table low others targets) item.insn
     → TableFits item low targets
 table_fits old item low others targets spelled same =
     let f = offset_in old zero in
@@ -482,7 +482,7 @@ table_fits old item low others targets spelled same =
     let read : insn_at item.offset item.bytes ≡ Some (insn.Table low (f s.others) (map f s.old_targets)) = spelled.instruction ∙ ap (λ i. Some (with_targets f i)) s.is in
     (f s.others, map f s.old_targets, length-map-of f s.old_targets ∙ s.count, old_table item low (f s.others) (map f s.old_targets) read)
 
-pub lookup_fits : (old : List Item) (item : Item) (others : ℕ) (keys : List ℤ) (targets : List ℕ) → IsSpelled old item → IsSameButTargets (insn.Lookup others keys targets) item.insn
+pub lookup_fits : (old : List Item) (item : Item) (others : ℕ) (keys : List ℤ) (targets : List ℕ) → ItemIsSpelled old item → IsSameButTargets (insn.Lookup others keys targets) item.insn
     → LookupFits item keys targets
 lookup_fits old item others keys targets spelled same =
     let f = offset_in old zero in

@@ -90,7 +90,7 @@ fn laid_in_rooms(
     let mut start = 0;
     let mut first = 0;
     for index in 0..items.len() {
-        let place = Place {
+        let place = LaidPlace {
             start,
             first,
             follows: index + 1 < items.len(),
@@ -115,7 +115,7 @@ fn laid_in_rooms(
 /// Where the laid items of a new one are: their offset, the number of the first, whether a new item
 /// follows, and their room.
 #[derive(Clone, Copy, Debug)]
-struct Place {
+struct LaidPlace {
     start: u32,
     first: u32,
     follows: bool,
@@ -127,7 +127,7 @@ fn put_laid(
     alloc: Global,
     starts: &[u32],
     firsts: &[u32],
-    place: Place,
+    place: LaidPlace,
     kept: Option<&Item>,
     insn: &Insn,
     out: &mut Vec<Item>,
@@ -157,7 +157,7 @@ fn put_wide(
     alloc: Global,
     starts: &[u32],
     firsts: &[u32],
-    place: Place,
+    place: LaidPlace,
     branch: Branch,
     out: &mut Vec<Item>,
 ) -> Result<(), NoMemory>

@@ -15,7 +15,7 @@ use crate::ready::{Numbered, Ready, numbered_files};
 use fm_code::ClassDef;
 use fm_declare::types_by_text;
 use fm_lookup::Members;
-use fm_parts::{Tables, tables_of};
+use fm_parts::{ProgramTables, tables_of};
 use fm_refuse::LinkFail;
 use fm_world::Program;
 use std::alloc::Global;
@@ -52,7 +52,7 @@ fn link_classes(
     fields: Members,
     methods: Members,
     main: &[u8],
-) -> Result<Tables, LinkFail>
+) -> Result<ProgramTables, LinkFail>
     requires { AreReady ready fields methods }
     ensures refuses { Refuses (later_refusals (given_in ready.entry.files.now) main.now) result }
     ensures tables { IfOk result (AreTablesOf (given_in ready.entry.files.now) main.now) }

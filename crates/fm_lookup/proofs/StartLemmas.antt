@@ -14,14 +14,14 @@ use Rattle.fm_lookup.proofs.SignatureLemmas.{and_left, and_right}
 use Rattle.fm_above.specs.declared.hierarchy.Hierarchy.{Hierarchy}
 use Rattle.fm_lookup.specs.declared.members.MemberRow.{MemberRow}
 use Rattle.fm_lookup.specs.declared.members.Nearest.{Nearest}
-use Rattle.fm_lookup.specs.declared.starts.Along.TheVariants as along
-use Rattle.fm_lookup.specs.declared.starts.Starts.{Starts}
+use Rattle.fm_lookup.specs.declared.search_starts.Along.TheVariants as along
+use Rattle.fm_lookup.specs.declared.search_starts.SearchStarts.{SearchStarts}
 use Rattle.fm_lookup.specs.inner.FoundMembers.{first_along}
 use Rattle.fm_above.specs.inner.Hierarchy.{distinct_path, IsHierarchy}
 use Rattle.fm_above.specs.inner.ListTables.{list_in}
 use Rattle.fm_lookup.specs.inner.MemberTables.{number_of_key, own_by, own_in, searched_interfaces, start_in, AreStarts, AreStartsOf, IsStart}
 use Rattle.fm_lookup.specs.inner.NearestSteps.{or_else}
-use Rattle.fm_lookup.specs.inner.Starts.{list_along, place_in, ArePlaces}
+use Rattle.fm_lookup.specs.inner.SearchStarts.{list_along, place_in, ArePlaces}
 
 -- ---- what is found from a place on
 
@@ -40,7 +40,7 @@ none_before rows signatures list signature start is i low within (Some k) e =
     let row = row_of_own rows signatures any_flags signature (get_or list i 0) k e in
     absurd (is i k low within row.within row.signed row.class_is)
 
-pub first_along-is : (n : Nearest) (rows : List MemberRow) (s : Starts) (signatures : List ℕ) (class : ℕ) (list : List ℕ) (signature : ℕ)
+pub first_along-is : (n : Nearest) (rows : List MemberRow) (s : SearchStarts) (signatures : List ℕ) (class : ℕ) (list : List ℕ) (signature : ℕ)
     → ((x : ℕ) → own_in n rows signature x ≡ own_by rows signatures any_flags signature x)
     → IsStart list rows signatures signature (start_in s class signature)
     → first_along n rows s class list signature ≡ first_found (own_by rows signatures any_flags signature) list
@@ -54,7 +54,7 @@ first_along-is n rows s signatures class list signature same is =
 -- ---- places are noted
 
 -- none is noted yet
-pub none_noted : (list_of : ℕ → List ℕ) (rows : List MemberRow) (signatures : List ℕ) (s : Starts) → s.places.entries ≡ []
+pub none_noted : (list_of : ℕ → List ℕ) (rows : List MemberRow) (signatures : List ℕ) (s : SearchStarts) → s.places.entries ≡ []
     → AreStarts list_of rows signatures s
 none_noted list_of rows signatures s empty class signature i k before within =
     absurd (omega (arith, before, zero_place)) where
@@ -67,7 +67,7 @@ pub place_fits : (rows : List MemberRow) (signatures list places : List ℕ) (si
 place_fits rows signatures list places signature first are low i k before within k_within signed class_is =
     omega (arith, before, low k k_within signed, are i within, ap (λ c. get_or places c 0) class_is)
 
-pub start_added : (list_of : ℕ → List ℕ) (rows : List MemberRow) (signatures : List ℕ) (old new : Starts) (class signature fresh x : ℕ)
+pub start_added : (list_of : ℕ → List ℕ) (rows : List MemberRow) (signatures : List ℕ) (old new : SearchStarts) (class signature fresh x : ℕ)
     → ((n d : ℕ) → number_of_key new.places n d ≡ cond (nat_eq class n && nat_eq signature d) (Some x) (number_of_key old.places n d))
     → x ≡ unwrap_or (number_of_key old.places class signature) fresh → IsStart (list_of class) rows signatures signature fresh
     → AreStarts list_of rows signatures old → AreStarts list_of rows signatures new
@@ -127,13 +127,13 @@ placed_one list places new left is so_far i from within = by_class (cases_eq (ge
 -- ---- the lists are those of the classes
 
 pub starts_along_paths : (classes : List DeclaredClass) (h : Hierarchy) → IsHierarchy classes h → (rows : List MemberRow) (signatures : List ℕ)
-    (s : Starts) → AreStarts (list_along h along.Paths) rows signatures s → AreStartsOf classes (distinct_path classes) rows signatures s
+    (s : SearchStarts) → AreStarts (list_along h along.Paths) rows signatures s → AreStartsOf classes (distinct_path classes) rows signatures s
 starts_along_paths classes h is rows signatures s are class signature within =
     subst (λ list. IsStart list rows signatures signature (start_in s class signature))
     (list_in-row (distinct_path classes) (length classes) class h.paths.items is.paths within) (are class signature)
 
 pub starts_along_interfaces : (classes : List DeclaredClass) (h : Hierarchy) → IsHierarchy classes h → (rows : List MemberRow) (signatures : List ℕ)
-    (s : Starts) → AreStarts (list_along h along.Interfaces) rows signatures s
+    (s : SearchStarts) → AreStarts (list_along h along.Interfaces) rows signatures s
     → AreStartsOf classes (searched_interfaces classes) rows signatures s
 starts_along_interfaces classes h is rows signatures s are class signature within =
     subst (λ list. IsStart list rows signatures signature (start_in s class signature))

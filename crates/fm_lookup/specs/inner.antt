@@ -5,4 +5,4 @@ pub mod NearestSteps
 pub mod FoundMembers
 pub mod MemberSteps
 pub mod Owners
-pub mod Starts
+pub mod SearchStarts

@@ -7,11 +7,11 @@ mod lookups;
 mod member_rows;
 mod members;
 mod owners;
-mod starts;
+mod search_starts;
 
 pub use asked::{Asked, asked_members};
 pub use lookups::{Fields, Methods};
 pub use member_rows::{fields_of, methods_of};
 pub use members::{MemberRow, Members, row_at};
 pub use owners::push_at;
-pub use starts::{Along, Starts, list_along};
+pub use search_starts::{Along, SearchStarts, list_along};

@@ -15,8 +15,8 @@ ghost use Rattle.fm_world.specs.Members.{method_among, methods_of};
 ghost use Rattle.fm_world.specs.declared.declarations.DeclaredClass.{DeclaredClass};
 
 use crate::asked::Asked;
-use crate::members::{Kept, Members, Nearest, Signatures, row_at};
-use crate::starts::{Along, Starts};
+use crate::members::{MemberFilter, Members, Nearest, Signatures, row_at};
+use crate::search_starts::{Along, SearchStarts};
 use fm_above::{Hierarchy, is_interface_at, list_at};
 use fm_base::NoMemory;
 use fm_code::{ACC_PRIVATE, ACC_STATIC, has_flag};
@@ -32,7 +32,7 @@ pub struct Fields {
     nearest: Nearest,
     // for each signature whether some interface declares a field of it
     in_interfaces: Vec<bool>,
-    starts: Starts,
+    starts: SearchStarts,
 }
 
 impl Fields {
@@ -48,10 +48,10 @@ impl Fields {
             → AreFieldRows texts classes members → AreFields texts classes fields) }
     {
         let signatures = Signatures::of(alloc, members.rows.as_slice())?;
-        let nearest = Nearest::of(alloc, &members, &signatures, hierarchy, Kept::All)?;
+        let nearest = Nearest::of(alloc, &members, &signatures, hierarchy, MemberFilter::All)?;
         let in_interfaces = of_interfaces(alloc, hierarchy.classes, &members, &signatures)?;
         let marks = in_interfaces.as_slice();
-        let starts = Starts::of(
+        let starts = SearchStarts::of(
             alloc,
             hierarchy,
             Along::Paths,
@@ -135,7 +135,7 @@ impl Fields {
 fn first_along(
     nearest: &Nearest,
     members: &Members,
-    starts: &Starts,
+    starts: &SearchStarts,
     class: u32,
     classes: &[u32],
     signature: u32,
@@ -210,7 +210,7 @@ pub struct Methods {
     nearest: Nearest,
     of_objects: Nearest,
     pub selectable: Nearest,
-    starts: Starts,
+    starts: SearchStarts,
     // the text <init>
     constructor: u32,
 }
@@ -231,12 +231,12 @@ impl Methods {
             → AreMethods texts classes methods) }
     {
         let signatures = Signatures::of(alloc, members.rows.as_slice())?;
-        let nearest = Nearest::of(alloc, &members, &signatures, hierarchy, Kept::All)?;
-        let of_objects = Nearest::of(alloc, &members, &signatures, hierarchy, Kept::OfObjects)?;
-        let selectable = Nearest::of(alloc, &members, &signatures, hierarchy, Kept::Selectable)?;
+        let nearest = Nearest::of(alloc, &members, &signatures, hierarchy, MemberFilter::All)?;
+        let of_objects = Nearest::of(alloc, &members, &signatures, hierarchy, MemberFilter::OfObjects)?;
+        let selectable = Nearest::of(alloc, &members, &signatures, hierarchy, MemberFilter::Selectable)?;
         let in_interfaces = of_interfaces(alloc, hierarchy.classes, &members, &signatures)?;
         let marks = in_interfaces.as_slice();
-        let starts = Starts::of(
+        let starts = SearchStarts::of(
             alloc,
             hierarchy,
             Along::Interfaces,

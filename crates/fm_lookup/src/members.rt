@@ -148,7 +148,7 @@ pub struct Nearest {
 
 /// Which members a table has.
 #[derive(Clone, Copy, Debug)]
-pub enum Kept {
+pub enum MemberFilter {
     All,
     // Those that aren't static.
     OfObjects,
@@ -163,7 +163,7 @@ impl Nearest {
         members: &Members,
         signatures: &Signatures,
         hierarchy: &Hierarchy,
-        kept: Kept,
+        kept: MemberFilter,
     ) -> Result<Nearest, NoMemory>
         requires { AreSignatures members.now.rows.items signatures.now }
         ensures { IfOk result (λ nearest. (classes : List DeclaredClass)
@@ -214,7 +214,7 @@ impl Nearest {
         signatures: &Signatures,
         class: u32,
         parent: Option<u32>,
-        kept: Kept,
+        kept: MemberFilter,
     ) -> Result<u32, NoMemory>
         requires signatures { AreSignatures members.now.rows.items signatures.now }
         requires tables { AreTops self.old }
@@ -269,7 +269,7 @@ fn put_section(
     signatures: &[u32],
     section: (u32, u32),
     inherited: u32,
-    kept: Kept,
+    kept: MemberFilter,
 ) -> Result<u32, NoMemory>
     requires table { IsTable layers.old inherited }
     requires room { (k : ℕ) → k < length signatures.now
@@ -296,7 +296,7 @@ fn put_kept(
     signatures: &[u32],
     table: u32,
     member: u32,
-    kept: Kept,
+    kept: MemberFilter,
 ) -> Result<u32, NoMemory>
     requires table { IsTable layers.old table }
     requires room { (k : ℕ) → k < length signatures.now
@@ -315,12 +315,12 @@ fn put_kept(
 }
 
 // Whether a table has members of these flags.
-fn is_kept(flags: u16, kept: Kept) -> bool
+fn is_kept(flags: u16, kept: MemberFilter) -> bool
     ensures { result ≡ passes_of kept flags }
 {
     match kept {
-        Kept::All => true,
-        Kept::OfObjects => !has_flag(flags, ACC_STATIC),
-        Kept::Selectable => !has_flag(flags, ACC_STATIC) && !has_flag(flags, ACC_PRIVATE),
+        MemberFilter::All => true,
+        MemberFilter::OfObjects => !has_flag(flags, ACC_STATIC),
+        MemberFilter::Selectable => !has_flag(flags, ACC_STATIC) && !has_flag(flags, ACC_PRIVATE),
     }
 }

@@ -27,8 +27,8 @@ use Rattle.fm_frames.specs.inner.Doings.{int_in, long_in}
 use Rattle.fm_frames.specs.inner.Looks.{look_at, look_head}
 use Rattle.fm_native.specs.Texts.{HoldsTexts}
 use Rattle.fm_native.specs.declared.asked.Held.{Held}
-use Rattle.fm_native.specs.declared.asked.Refusal.{Refusal}
-use Rattle.fm_native.specs.declared.asked.Refusal.TheVariants as refusal
+use Rattle.fm_native.specs.declared.asked.OperandRefusal.{OperandRefusal}
+use Rattle.fm_native.specs.declared.asked.OperandRefusal.TheVariants as refusal
 use Rattle.fm_native.specs.inner.Asked.{asked, asked_by, AsksHeld, AsksInt, AsksLong, AsksText, IsHeldAt, IsTextAt, on_cell, on_found, text_of, units_in}
 use Rattle.fm_types.specs.Fits.{fits_type}
 use Rattle.fm_world.specs.Chains.{same_type}
@@ -37,7 +37,7 @@ use Rattle.fm_world.specs.Programs.{Outline}
 -- ---- objects
 
 -- what is found of an operand that was looked at
-abbrev pub found_by : Look → Result Held Refusal
+abbrev pub found_by : Look → Result Held OperandRefusal
 found_by look.Other = Err refusal.Other
 found_by look.Null = Err refusal.Null
 found_by (look.Gone cell) = Err (refusal.Unfit cell)
@@ -99,7 +99,7 @@ held-at x operand cell head e =
 abbrev pub text_follows : Outline → ℕ → (List ℕ → Effect) → Looks → Effect
 text_follows o operand follows it = if fits_type o.classes it.type (text_type o) then follows it.units else faulty operand
 
-pub text-refused : (o : Outline) (store : Store) (s : List Sight) (operand : ℕ) (r : Refusal) → AsksHeld o store s operand (Err r) → AsksText o store s operand (Err r)
+pub text-refused : (o : Outline) (store : Store) (s : List Sight) (operand : ℕ) (r : OperandRefusal) → AsksHeld o store s operand (Err r) → AsksText o store s operand (Err r)
 text-refused o store s operand r asks follows = asks (thrown_null o) (text_follows o operand follows)
 
 -- an object that was found is what follows
@@ -178,7 +178,7 @@ is_text-told o t text held object told head_is t_is text_is is =
 
 -- ---- numbers
 
-abbrev pub found_number : Option ℤ → Result ℤ Refusal
+abbrev pub found_number : Option ℤ → Result ℤ OperandRefusal
 found_number None = Err refusal.Other
 found_number (Some n) = Ok n
 

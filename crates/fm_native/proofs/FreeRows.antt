@@ -17,7 +17,7 @@ use Rattle.fm_frames.specs.declared.values.Value.TheVariants as value
 use Rattle.fm_frames.specs.inner.Doings.{DoesIn, NextFits, silent}
 use Rattle.fm_frames.specs.inner.Places.{CountsFrees}
 use Rattle.fm_native.specs.declared.asked.Held.{Held}
-use Rattle.fm_native.specs.declared.asked.Refusal.{Refusal}
+use Rattle.fm_native.specs.declared.asked.OperandRefusal.{OperandRefusal}
 use Rattle.fm_native.specs.inner.Asked.{AsksHeldOrNull, IsHeldAt, on_found, passed_by, refused}
 use Rattle.fm_world.specs.Programs.{Outline, Program}
 
@@ -26,7 +26,7 @@ use Rattle.fm_world.specs.Programs.{Outline, Program}
 abbrev pub freeing : Effect
 freeing = acting 1 (Free 0 ∷ [])
 
-pub free-is : (o : Outline) (store : Store) (x : State) (byte : Option ℕ) (s : List Sight) (found : Result (Option Held) Refusal)
+pub free-is : (o : Outline) (store : Store) (x : State) (byte : Option ℕ) (s : List Sight) (found : Result (Option Held) OperandRefusal)
     → AsksHeldOrNull o store s 0 found → IfOk found (λ held. IfSome held (IsHeldAt store x 0))
     → native_effect o table.FreeMeFree byte s ≡ passed_by (words 1 []) o 0 found (λ held. freeing)
 unfolding native_effect free_native
@@ -52,7 +52,7 @@ pub link-null : (o : Outline) (store : Store) (byte : Option ℕ) (s : List Sigh
 unfolding native_effect free_native
 link-null o store byte s asks = asks passed_over linked
 
-pub link-refused : (o : Outline) (store : Store) (byte : Option ℕ) (s : List Sight) (r : Refusal) → AsksHeldOrNull o store s 1 (Err r)
+pub link-refused : (o : Outline) (store : Store) (byte : Option ℕ) (s : List Sight) (r : OperandRefusal) → AsksHeldOrNull o store s 1 (Err r)
     → native_effect o table.FreeMeLink byte s ≡ refused o 1 r
 unfolding native_effect free_native
 link-refused o store byte s r asks = asks passed_over linked

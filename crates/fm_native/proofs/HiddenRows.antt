@@ -11,7 +11,7 @@ use Rattle.fm_frames.specs.Operands.{on_inner, on_inner_of, on_passing, on_text}
 use Rattle.fm_frames.specs.Sights.{inner_of, looks, Looks, Sight, type_numbered}
 use Rattle.fm_frames.specs.States.{null, State}
 use Rattle.fm_native.specs.declared.asked.Held.{Held}
-use Rattle.fm_native.specs.declared.asked.Refusal.{Refusal}
+use Rattle.fm_native.specs.declared.asked.OperandRefusal.{OperandRefusal}
 use Rattle.fm_native.specs.declared.asked.Text.{Text}
 use Rattle.fm_native.specs.declared.hidden.Built.{Built}
 use Rattle.fm_native.specs.inner.Asked.{asked, AsksText, IsHeldAt, on_cell, on_found, refused, units_in}
@@ -20,7 +20,7 @@ use Rattle.fm_native.specs.inner.Shown.{AsksUnits}
 use Rattle.fm_world.specs.Programs.{Outline}
 
 -- what follows whatever the object is
-pub whole-is : (test : Looks → Bool) (o : Outline) (store : Store) (x : State) (s : List Sight) (operand : ℕ) (e : Effect) (found : Result Held Refusal)
+pub whole-is : (test : Looks → Bool) (o : Outline) (store : Store) (x : State) (s : List Sight) (operand : ℕ) (e : Effect) (found : Result Held OperandRefusal)
     → AsksFitting test o store s operand found → IfOk found (IsHeldAt store x operand) → on_passing o test s operand (λ it. e) ≡ asked o operand found (λ held. e)
 whole-is test o store x s operand e (Ok held) asks known = asks (λ it. e) ∙ ap (on_found o store (λ it. e)) known.at
 whole-is test o store x s operand e (Err r) asks known = asks (λ it. e)
@@ -31,13 +31,13 @@ whole-is test o store x s operand e (Err r) asks known = asks (λ it. e)
 abbrev pub cleared : Outline → Effect
 cleared o = acting 1 (Put (OfOperand 0) 0 (text_kind o) (Plain null) ∷ [])
 
-pub builder-init : (o : Outline) (store : Store) (x : State) (byte : Option ℕ) (s : List Sight) (found : Result Held Refusal)
+pub builder-init : (o : Outline) (store : Store) (x : State) (byte : Option ℕ) (s : List Sight) (found : Result Held OperandRefusal)
     → AsksFitting (is_builder o) o store s 0 found → IfOk found (IsHeldAt store x 0)
     → native_effect o table.BuilderInit byte s ≡ asked o 0 found (λ held. cleared o)
 unfolding native_effect builder_native
 builder-init o store x byte s found asks known = whole-is (is_builder o) o store x s 0 (cleared o) found asks known
 
-pub throwable-init : (o : Outline) (store : Store) (x : State) (byte : Option ℕ) (s : List Sight) (found : Result Held Refusal)
+pub throwable-init : (o : Outline) (store : Store) (x : State) (byte : Option ℕ) (s : List Sight) (found : Result Held OperandRefusal)
     → AsksFitting (is_throwable o) o store s 0 found → IfOk found (IsHeldAt store x 0)
     → native_effect o table.ThrowableInit byte s ≡ asked o 0 found (λ held. cleared o)
 unfolding native_effect throwable_native
@@ -46,7 +46,7 @@ throwable-init o store x byte s found asks known = whole-is (is_throwable o) o s
 abbrev pub kept_message : Outline → Effect
 kept_message o = acting 2 (Put (OfOperand 1) 0 (text_kind o) (OfOperand 0) ∷ [])
 
-pub throwable-init-of : (o : Outline) (store : Store) (x : State) (byte : Option ℕ) (s : List Sight) (found : Result Held Refusal)
+pub throwable-init-of : (o : Outline) (store : Store) (x : State) (byte : Option ℕ) (s : List Sight) (found : Result Held OperandRefusal)
     → AsksFitting (is_throwable o) o store s 1 found → IfOk found (IsHeldAt store x 1)
     → native_effect o table.ThrowableInitOf byte s ≡ asked o 1 found (λ held. kept_message o)
 unfolding native_effect throwable_native
@@ -55,7 +55,7 @@ throwable-init-of o store x byte s found asks known = whole-is (is_throwable o) 
 abbrev pub told_message : Outline → Effect
 told_message o = words 1 (OfPlace 0 0 (text_kind o) ∷ [])
 
-pub message-is : (o : Outline) (store : Store) (x : State) (byte : Option ℕ) (s : List Sight) (found : Result Held Refusal)
+pub message-is : (o : Outline) (store : Store) (x : State) (byte : Option ℕ) (s : List Sight) (found : Result Held OperandRefusal)
     → AsksFitting (is_throwable o) o store s 0 found → IfOk found (IsHeldAt store x 0)
     → native_effect o table.GetMessage byte s ≡ asked o 0 found (λ held. told_message o)
 unfolding native_effect throwable_native
@@ -67,13 +67,13 @@ message-is o store x byte s found asks known = whole-is (is_throwable o) o store
 abbrev pub appended : Outline → (operand : ℕ) → List ℕ → Effect
 appended o operand units = record (acting (operand + 1) (has_text o operand units)) { gives = OfOperand operand ∷ [] }
 
-pub append-refused : (o : Outline) (store : Store) (byte : Option ℕ) (s : List Sight) (shown : table.Shown) (r : Refusal) → AsksBuilt o store s (shown_words shown) (Err r)
+pub append-refused : (o : Outline) (store : Store) (byte : Option ℕ) (s : List Sight) (shown : table.Shown) (r : OperandRefusal) → AsksBuilt o store s (shown_words shown) (Err r)
     → native_effect o (table.Append shown) byte s ≡ refused o (shown_words shown) r
 unfolding native_effect builder_native
 append-refused o store byte s shown r asks =
     asks (λ units. on_shown o shown s (λ added. appended o (shown_words shown) (units ++ added)))
 
-pub append-is : (o : Outline) (store : Store) (byte : Option ℕ) (s : List Sight) (shown : table.Shown) (built : Built) (operand : ℕ) (found : Result (Vec ℕ) Refusal)
+pub append-is : (o : Outline) (store : Store) (byte : Option ℕ) (s : List Sight) (shown : table.Shown) (built : Built) (operand : ℕ) (found : Result (Vec ℕ) OperandRefusal)
     → AsksBuilt o store s (shown_words shown) (Ok built) → AsksUnits o s shown operand found
     → native_effect o (table.Append shown) byte s
     ≡ asked o operand found (λ added. appended o (shown_words shown) (units_so_far store built.text ++ added.items))
@@ -82,12 +82,12 @@ append-is o store byte s shown built operand found asks asks-units =
     asks (λ units. on_shown o shown s (λ added. appended o (shown_words shown) (units ++ added)))
     ∙ asks-units (λ added. appended o (shown_words shown) (units_so_far store built.text ++ added))
 
-pub built-length : (o : Outline) (store : Store) (byte : Option ℕ) (s : List Sight) (found : Result Built Refusal) → AsksBuilt o store s 0 found
+pub built-length : (o : Outline) (store : Store) (byte : Option ℕ) (s : List Sight) (found : Result Built OperandRefusal) → AsksBuilt o store s 0 found
     → native_effect o table.BuilderLength byte s ≡ asked o 0 found (λ built. words 1 (int_word (pos (length (units_so_far store built.text)))))
 unfolding native_effect builder_native
 built-length o store byte s found asks = asks (λ units. words 1 (int_word (pos (length units))))
 
-pub built-text : (o : Outline) (store : Store) (byte : Option ℕ) (s : List Sight) (found : Result Built Refusal) → AsksBuilt o store s 0 found
+pub built-text : (o : Outline) (store : Store) (byte : Option ℕ) (s : List Sight) (found : Result Built OperandRefusal) → AsksBuilt o store s 0 found
     → native_effect o table.BuilderToString byte s ≡ asked o 0 found (λ built. making 1 (text_made o (units_so_far store built.text)))
 unfolding native_effect builder_native
 built-text o store byte s found asks = asks (λ units. making 1 (text_made o units))
@@ -96,12 +96,12 @@ built-text o store byte s found asks = asks (λ units. making 1 (text_made o uni
 abbrev begun_with : Outline → List Sight → Effect
 begun_with o s = on_text o s 0 (λ units. acting 2 (has_text o 1 units))
 
-pub buffer-refused : (o : Outline) (store : Store) (byte : Option ℕ) (s : List Sight) (r : Refusal) → AsksFitting (is_builder o) o store s 1 (Err r)
+pub buffer-refused : (o : Outline) (store : Store) (byte : Option ℕ) (s : List Sight) (r : OperandRefusal) → AsksFitting (is_builder o) o store s 1 (Err r)
     → native_effect o table.BufferInitOf byte s ≡ refused o 1 r
 unfolding native_effect builder_native
 buffer-refused o store byte s r asks = asks (λ it. begun_with o s)
 
-pub buffer-is : (o : Outline) (store : Store) (x : State) (byte : Option ℕ) (s : List Sight) (held : Held) (found : Result Text Refusal)
+pub buffer-is : (o : Outline) (store : Store) (x : State) (byte : Option ℕ) (s : List Sight) (held : Held) (found : Result Text OperandRefusal)
     → AsksFitting (is_builder o) o store s 1 (Ok held) → IsHeldAt store x 1 held → AsksText o store s 0 found
     → native_effect o table.BufferInitOf byte s ≡ asked o 0 found (λ text. acting 2 (has_text o 1 (units_in store text)))
 unfolding native_effect builder_native
@@ -113,7 +113,7 @@ buffer-is o store x byte s held found asks known asks-text =
 abbrev text_of_throwable : Outline → TypeRef → Option (List ℕ) → Effect
 text_of_throwable o t message = making 1 (text_made o (throwable_text o t message))
 
-pub shown-refused : (o : Outline) (store : Store) (byte : Option ℕ) (s : List Sight) (r : Refusal) → AsksFitting (is_throwable o) o store s 0 (Err r)
+pub shown-refused : (o : Outline) (store : Store) (byte : Option ℕ) (s : List Sight) (r : OperandRefusal) → AsksFitting (is_throwable o) o store s 0 (Err r)
     → native_effect o table.ThrowableToString byte s ≡ refused o 0 r
 unfolding native_effect throwable_native
 shown-refused o store byte s r asks = asks (λ it. on_inner o 0 it (λ message. text_of_throwable o it.type message))
@@ -128,7 +128,7 @@ typed-at o store held hides =
     ∙ ap (λ (h : Head). on_inner_of o 0 (inner_of o store hides.object) (λ message. text_of_throwable o (type_numbered o h.class) message)) hides.head_is
     ∙ sym (ap (on_found o store (λ it. on_inner o 0 it (λ message. text_of_throwable o (type_numbered o held.head.class) message))) hides.at)
 
-pub shown-is : (o : Outline) (store : Store) (byte : Option ℕ) (s : List Sight) (held : Held) (found : Result (Option Text) Refusal)
+pub shown-is : (o : Outline) (store : Store) (byte : Option ℕ) (s : List Sight) (held : Held) (found : Result (Option Text) OperandRefusal)
     → AsksFitting (is_throwable o) o store s 0 (Ok held) → HidesText o store held → AsksInner o store held found
     → native_effect o table.ThrowableToString byte s
     ≡ asked o 0 found (λ message. making 1 (text_made o (throwable_text o (type_numbered o held.head.class) (option_map (units_in store) message))))

@@ -16,8 +16,8 @@ use Rattle.fm_frames.specs.NativeRows.{is_builder}
 use Rattle.fm_frames.specs.Operands.{on_inner, on_inner_of, thrown_null}
 use Rattle.fm_frames.specs.Sights.{has_hidden_field, led_to, looks, Looks, Lost, NoField, Sight, Text as Units, text_in, type_numbered}
 use Rattle.fm_native.specs.declared.asked.Held.{Held}
-use Rattle.fm_native.specs.declared.asked.Refusal.{Refusal}
-use Rattle.fm_native.specs.declared.asked.Refusal.TheVariants as refusal
+use Rattle.fm_native.specs.declared.asked.OperandRefusal.{OperandRefusal}
+use Rattle.fm_native.specs.declared.asked.OperandRefusal.TheVariants as refusal
 use Rattle.fm_native.specs.declared.asked.Text.{Text}
 use Rattle.fm_native.specs.inner.Asked.{AsksHeld, on_cell, on_found, units_in}
 use Rattle.fm_native.specs.inner.Hidden.{AsksBuilt, AsksFitting, AsksInner, HidesText}
@@ -29,7 +29,7 @@ use Rattle.fm_world.specs.Programs.{Outline}
 abbrev passing : (Looks → Bool) → ℕ → (Looks → Effect) → Looks → Effect
 passing test operand follows it = if test it then follows it else faulty operand
 
-pub fitting-refused : (test : Looks → Bool) (o : Outline) (store : Store) (s : List Sight) (operand : ℕ) (r : Refusal) → AsksHeld o store s operand (Err r)
+pub fitting-refused : (test : Looks → Bool) (o : Outline) (store : Store) (s : List Sight) (operand : ℕ) (r : OperandRefusal) → AsksHeld o store s operand (Err r)
     → AsksFitting test o store s operand (Err r)
 fitting-refused test o store s operand r asks follows = asks (thrown_null o) (passing test operand follows)
 
@@ -155,11 +155,11 @@ inner-found o store held cell head object hides is there at head_is text operand
 
 -- ---- texts that are built
 
-pub built-refused : (o : Outline) (store : Store) (s : List Sight) (operand : ℕ) (r : Refusal) → AsksFitting (is_builder o) o store s operand (Err r)
+pub built-refused : (o : Outline) (store : Store) (s : List Sight) (operand : ℕ) (r : OperandRefusal) → AsksFitting (is_builder o) o store s operand (Err r)
     → AsksBuilt o store s operand (Err r)
 built-refused o store s operand r asks follows = asks _
 
-pub built-lost : (o : Outline) (store : Store) (s : List Sight) (operand : ℕ) (held : Held) (r : Refusal) → AsksFitting (is_builder o) o store s operand (Ok held)
+pub built-lost : (o : Outline) (store : Store) (s : List Sight) (operand : ℕ) (held : Held) (r : OperandRefusal) → AsksFitting (is_builder o) o store s operand (Ok held)
     → AsksInner o store held (Err r) → AsksBuilt o store s operand (Err r)
 built-lost o store s operand held r asks inner follows = asks _ ∙ inner operand _
 

@@ -13,7 +13,7 @@ use Rattle.fm_frames.specs.NativeRows.{at_sign, base_text, dotted, native_effect
 use Rattle.fm_frames.specs.Natives as table
 use Rattle.fm_frames.specs.Sights.{looks, Sight, type_numbered}
 use Rattle.fm_native.specs.declared.asked.Held.{Held}
-use Rattle.fm_native.specs.declared.asked.Refusal.{Refusal}
+use Rattle.fm_native.specs.declared.asked.OperandRefusal.{OperandRefusal}
 use Rattle.fm_native.specs.inner.Asked.{AsksHeld, IsHeldAt, on_found, refused}
 use Rattle.fm_native.specs.inner.Names.{base_name, class_text, type_name_of}
 use Rattle.fm_native.specs.Serving.{HoldsNames}
@@ -57,7 +57,7 @@ spelled-is o t bytes spelled is told = told ∙ ap dotted (is ∙ by_dims t.dims
 
 -- ---- the text of an object
 
-pub object-refused : (o : Outline) (store : Store) (byte : Option ℕ) (s : List Sight) (r : Refusal) → AsksHeld o store s 0 (Err r)
+pub object-refused : (o : Outline) (store : Store) (byte : Option ℕ) (s : List Sight) (r : OperandRefusal) → AsksHeld o store s 0 (Err r)
     → native_effect o table.ObjectToString byte s ≡ refused o 0 r
 unfolding native_effect object_native
 object-refused o store byte s r asks = asks (thrown_null o) (λ it. making 1 (text_made o (object_text o it)))

@@ -14,8 +14,8 @@ use Rattle.fm_frames.specs.declared.values.Value.{Value}
 use Rattle.fm_frames.specs.inner.Looks.{look_at}
 use Rattle.fm_native.proofs.Asks.{found_by, held-asked, text_follows, units-are}
 use Rattle.fm_native.specs.declared.asked.Held.{Held}
-use Rattle.fm_native.specs.declared.asked.Refusal.{Refusal}
-use Rattle.fm_native.specs.declared.asked.Refusal.TheVariants as refusal
+use Rattle.fm_native.specs.declared.asked.OperandRefusal.{OperandRefusal}
+use Rattle.fm_native.specs.declared.asked.OperandRefusal.TheVariants as refusal
 use Rattle.fm_native.specs.inner.Asked.{asked_by, AsksHeldOrNull, AsksOther, AsksTextOrNull, on_cell, on_found, passed_by, text_of, units_in}
 use Rattle.fm_types.specs.Fits.{fits_type}
 use Rattle.fm_world.specs.Programs.{Outline}
@@ -23,7 +23,7 @@ use Rattle.fm_world.specs.Programs.{Outline}
 -- ---- objects
 
 -- what is found of an operand that was looked at
-abbrev pub found_or_null_by : Look → Result (Option Held) Refusal
+abbrev pub found_or_null_by : Look → Result (Option Held) OperandRefusal
 found_or_null_by look.Other = Err refusal.Other
 found_or_null_by look.Null = Ok None
 found_or_null_by (look.Gone cell) = Err (refusal.Unfit cell)
@@ -40,7 +40,7 @@ held-or-null-asked o store stack operand seen is of_null follows = held-asked o 
 
 -- ---- texts
 
-pub null-text-refused : (o : Outline) (store : Store) (s : List Sight) (operand : ℕ) (r : Refusal) → AsksHeldOrNull o store s operand (Err r)
+pub null-text-refused : (o : Outline) (store : Store) (s : List Sight) (operand : ℕ) (r : OperandRefusal) → AsksHeldOrNull o store s operand (Err r)
     → AsksTextOrNull o store s operand (Err r)
 null-text-refused o store s operand r asks follows = asks (follows (codes "null")) (text_follows o operand follows)
 
@@ -74,7 +74,7 @@ equal_follows o units it =
 abbrev no_other : Effect
 no_other = words 2 (int_word (pos 0))
 
-pub other-refused : (o : Outline) (store : Store) (s : List Sight) (r : Refusal) → AsksHeldOrNull o store s 0 (Err r) → AsksOther o store s (Err r)
+pub other-refused : (o : Outline) (store : Store) (s : List Sight) (r : OperandRefusal) → AsksHeldOrNull o store s 0 (Err r) → AsksOther o store s (Err r)
 other-refused o store s r asks text = asks no_other (equal_follows o (units_in store text))
 
 pub other-none : (o : Outline) (store : Store) (s : List Sight) → AsksHeldOrNull o store s 0 (Ok None) → AsksOther o store s (Ok None)

@@ -12,7 +12,7 @@ use Rattle.fm_frames.specs.States.{State}
 use Rattle.fm_frames.specs.inner.Doings.{DoesIn, seen}
 use Rattle.fm_native.specs.Doing.{DoesRow}
 use Rattle.fm_native.specs.declared.asked.Held.{Held}
-use Rattle.fm_native.specs.declared.asked.Refusal.{Refusal}
+use Rattle.fm_native.specs.declared.asked.OperandRefusal.{OperandRefusal}
 use Rattle.fm_native.specs.declared.asked.Text.{Text}
 use Rattle.fm_native.specs.inner.Asked.{asked, AsksHeld, AsksInt, AsksText, IsHeldAt, on_cell, on_found, refused, units_in}
 use Rattle.fm_world.specs.Programs.{Outline, Program}
@@ -37,7 +37,7 @@ equals-is o byte s = refl
 abbrev pub hashed : Looks → Effect
 hashed it = words 1 (int_word (hash_of it.birth))
 
-pub hash_code-is : (o : Outline) (store : Store) (byte : Option ℕ) (s : List Sight) (found : Result Held Refusal) → AsksHeld o store s 0 found
+pub hash_code-is : (o : Outline) (store : Store) (byte : Option ℕ) (s : List Sight) (found : Result Held OperandRefusal) → AsksHeld o store s 0 found
     → native_effect o ObjectHashCode byte s ≡ asked o 0 found (on_cell o store hashed)
 unfolding native_effect object_native
 hash_code-is o store byte s found asks = asks (thrown_null o) hashed
@@ -51,17 +51,17 @@ hashed-at o store x operand held known =
 
 -- ---- String
 
-pub length-is : (o : Outline) (store : Store) (byte : Option ℕ) (s : List Sight) (found : Result Text Refusal) → AsksText o store s 0 found
+pub length-is : (o : Outline) (store : Store) (byte : Option ℕ) (s : List Sight) (found : Result Text OperandRefusal) → AsksText o store s 0 found
     → native_effect o StringLength byte s ≡ asked o 0 found (λ text. words 1 (int_word (pos (length (units_in store text)))))
 unfolding native_effect string_native
 length-is o store byte s found asks = asks (λ units. words 1 (int_word (pos (length units))))
 
-pub hash-is : (o : Outline) (store : Store) (byte : Option ℕ) (s : List Sight) (found : Result Text Refusal) → AsksText o store s 0 found
+pub hash-is : (o : Outline) (store : Store) (byte : Option ℕ) (s : List Sight) (found : Result Text OperandRefusal) → AsksText o store s 0 found
     → native_effect o StringHashCode byte s ≡ asked o 0 found (λ text. words 1 (int_word (hash_from (pos 0) (units_in store text))))
 unfolding native_effect string_native
 hash-is o store byte s found asks = asks (λ units. words 1 (int_word (hash_from (pos 0) units)))
 
-pub itself-is : (o : Outline) (store : Store) (byte : Option ℕ) (s : List Sight) (found : Result Text Refusal) → AsksText o store s 0 found
+pub itself-is : (o : Outline) (store : Store) (byte : Option ℕ) (s : List Sight) (found : Result Text OperandRefusal) → AsksText o store s 0 found
     → native_effect o StringToString byte s ≡ asked o 0 found (λ text. words 1 (OfOperand 0 ∷ []))
 unfolding native_effect string_native
 itself-is o store byte s found asks = asks (λ units. words 1 (OfOperand 0 ∷ []))
@@ -70,12 +70,12 @@ itself-is o store byte s found asks = asks (λ units. words 1 (OfOperand 0 ∷ [
 abbrev on_others : Outline → List Sight → List ℕ → Effect
 on_others o s units = on_text o s 0 (λ others. words 2 (int_word (compared units others)))
 
-pub compared-refused : (o : Outline) (store : Store) (byte : Option ℕ) (s : List Sight) (r : Refusal) → AsksText o store s 1 (Err r)
+pub compared-refused : (o : Outline) (store : Store) (byte : Option ℕ) (s : List Sight) (r : OperandRefusal) → AsksText o store s 1 (Err r)
     → native_effect o CompareTo byte s ≡ refused o 1 r
 unfolding native_effect string_native
 compared-refused o store byte s r asks = asks (on_others o s)
 
-pub compared-is : (o : Outline) (store : Store) (byte : Option ℕ) (s : List Sight) (text : Text) (found : Result Text Refusal) → AsksText o store s 1 (Ok text)
+pub compared-is : (o : Outline) (store : Store) (byte : Option ℕ) (s : List Sight) (text : Text) (found : Result Text OperandRefusal) → AsksText o store s 1 (Ok text)
     → AsksText o store s 0 found
     → native_effect o CompareTo byte s ≡ asked o 0 found (λ other. words 2 (int_word (compared (units_in store text) (units_in store other))))
 unfolding native_effect string_native
@@ -86,19 +86,19 @@ compared-is o store byte s text found asks asks-other =
 abbrev on_place : Outline → List Sight → List ℕ → Effect
 on_place o s units = on_int s 0 (λ i. char_at o units i)
 
-pub char-refused : (o : Outline) (store : Store) (byte : Option ℕ) (s : List Sight) (r : Refusal) → AsksText o store s 1 (Err r)
+pub char-refused : (o : Outline) (store : Store) (byte : Option ℕ) (s : List Sight) (r : OperandRefusal) → AsksText o store s 1 (Err r)
     → native_effect o CharAt byte s ≡ refused o 1 r
 unfolding native_effect string_native
 char-refused o store byte s r asks = asks (on_place o s)
 
-pub char-is : (o : Outline) (store : Store) (byte : Option ℕ) (s : List Sight) (text : Text) (found : Result ℤ Refusal) → AsksText o store s 1 (Ok text)
+pub char-is : (o : Outline) (store : Store) (byte : Option ℕ) (s : List Sight) (text : Text) (found : Result ℤ OperandRefusal) → AsksText o store s 1 (Ok text)
     → AsksInt o s 0 found → native_effect o CharAt byte s ≡ asked o 0 found (λ i. char_at o (units_in store text) i)
 unfolding native_effect string_native
 char-is o store byte s text found asks asks-int = asks (on_place o s) ∙ asks-int (λ i. char_at o (units_in store text) i)
 
 -- ---- the end of the run, and the input
 
-pub exit-is : (o : Outline) (byte : Option ℕ) (s : List Sight) (found : Result ℤ Refusal) → AsksInt o s 0 found
+pub exit-is : (o : Outline) (byte : Option ℕ) (s : List Sight) (found : Result ℤ OperandRefusal) → AsksInt o s 0 found
     → native_effect o Exit byte s ≡ asked o 0 found (λ n. going 1 (Exits n))
 unfolding native_effect stream_native
 exit-is o byte s found asks = asks (λ n. going 1 (Exits n))

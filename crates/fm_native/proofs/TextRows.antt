@@ -7,7 +7,7 @@ use Rattle.fm_frames.specs.NativeRows.{equal_to, native_effect, shown_words, str
 use Rattle.fm_frames.specs.Natives as table
 use Rattle.fm_frames.specs.Operands.{on_int}
 use Rattle.fm_frames.specs.Sights.{Sight}
-use Rattle.fm_native.specs.declared.asked.Refusal.{Refusal}
+use Rattle.fm_native.specs.declared.asked.OperandRefusal.{OperandRefusal}
 use Rattle.fm_native.specs.declared.asked.Text.{Text}
 use Rattle.fm_native.specs.inner.Asked.{asked, AsksInt, AsksOther, AsksText, equals_other, part_up_to, refused, units_in}
 use Rattle.fm_native.specs.inner.Shown.{AsksUnits, print_row, shown_bytes}
@@ -15,7 +15,7 @@ use Rattle.fm_world.specs.Programs.{Outline}
 
 -- ---- equals
 
-pub equal-refused : (o : Outline) (store : Store) (byte : Option ℕ) (s : List Sight) (r : Refusal) → AsksText o store s 1 (Err r)
+pub equal-refused : (o : Outline) (store : Store) (byte : Option ℕ) (s : List Sight) (r : OperandRefusal) → AsksText o store s 1 (Err r)
     → native_effect o table.StringEquals byte s ≡ refused o 1 r
 unfolding native_effect string_native
 equal-refused o store byte s r asks = asks (λ units. equal_to o units s)
@@ -24,7 +24,7 @@ equal-refused o store byte s r asks = asks (λ units. equal_to o units s)
 abbrev pub told_equal : Bool → Effect
 told_equal equal = words 2 (int_word (if equal then pos 1 else pos 0))
 
-pub equal-is : (o : Outline) (store : Store) (byte : Option ℕ) (s : List Sight) (text : Text) (found : Result (Option Text) Refusal) → AsksText o store s 1 (Ok text)
+pub equal-is : (o : Outline) (store : Store) (byte : Option ℕ) (s : List Sight) (text : Text) (found : Result (Option Text) OperandRefusal) → AsksText o store s 1 (Ok text)
     → AsksOther o store s found → native_effect o table.StringEquals byte s ≡ asked o 0 found (λ other. told_equal (equals_other store text other))
 unfolding native_effect string_native
 equal-is o store byte s text found asks asks-other = asks (λ units. equal_to o units s) ∙ asks-other text
@@ -35,12 +35,12 @@ equal-is o store byte s text found asks asks-other = asks (λ units. equal_to o 
 abbrev from_begin : Outline → List Sight → List ℕ → Effect
 from_begin o s units = on_int s 1 (λ begin. part_up_to o s units begin)
 
-pub part-refused : (o : Outline) (store : Store) (byte : Option ℕ) (s : List Sight) (r : Refusal) → AsksText o store s 2 (Err r)
+pub part-refused : (o : Outline) (store : Store) (byte : Option ℕ) (s : List Sight) (r : OperandRefusal) → AsksText o store s 2 (Err r)
     → native_effect o table.Substring byte s ≡ refused o 2 r
 unfolding native_effect string_native
 part-refused o store byte s r asks = asks (λ units. from_begin o s units)
 
-pub part-begun : (o : Outline) (store : Store) (byte : Option ℕ) (s : List Sight) (text : Text) (found : Result ℤ Refusal) → AsksText o store s 2 (Ok text)
+pub part-begun : (o : Outline) (store : Store) (byte : Option ℕ) (s : List Sight) (text : Text) (found : Result ℤ OperandRefusal) → AsksText o store s 2 (Ok text)
     → AsksInt o s 1 found → native_effect o table.Substring byte s ≡ asked o 1 found (λ begin. part_up_to o s (units_in store text) begin)
 unfolding native_effect string_native
 part-begun o store byte s text found asks asks-begin =
@@ -48,7 +48,7 @@ part-begun o store byte s text found asks asks-begin =
 
 -- ---- what is printed
 
-pub print-is : (o : Outline) (byte : Option ℕ) (s : List Sight) (shown : table.Shown) (ends_line : Bool) (operand : ℕ) (found : Result (Vec ℕ) Refusal)
+pub print-is : (o : Outline) (byte : Option ℕ) (s : List Sight) (shown : table.Shown) (ends_line : Bool) (operand : ℕ) (found : Result (Vec ℕ) OperandRefusal)
     → AsksUnits o s shown operand found
     → native_effect o (print_row shown ends_line) byte s
     ≡ asked o operand found (λ units. printing (shown_words shown + 1) (shown_bytes units.items ends_line))

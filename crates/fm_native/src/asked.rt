@@ -31,7 +31,7 @@ pub struct Text {
 
 /// Why an operand isn't what a row requires.
 #[derive(Clone, Copy, Debug)]
-pub enum Refusal {
+pub enum OperandRefusal {
     /// It is of another sort than each typed program has there.
     Other,
     Null,
@@ -45,7 +45,7 @@ pub enum Refusal {
 pub fn refuse<M: Memory>(
     machine: &mut Machine<M>,
     program: &Program,
-    refusal: Refusal,
+    refusal: OperandRefusal,
 ) -> Result<(), NoMemory>
     requires { CanStep program.now machine.old }
     ensures { OnOk result ((operand : ℕ) → IsAt program.now.outline machine.old operand refusal
@@ -53,16 +53,16 @@ pub fn refuse<M: Memory>(
         (refused program.now.outline operand refusal)) }
 {
     match refusal {
-        Refusal::Other => {
+        OperandRefusal::Other => {
             machine.stuck(program);
             Ok(())
         }
-        Refusal::Null => machine.throw_new(program, NULL_POINTER_EXCEPTION),
-        Refusal::Unfit(cell) => {
+        OperandRefusal::Null => machine.throw_new(program, NULL_POINTER_EXCEPTION),
+        OperandRefusal::Unfit(cell) => {
             machine.fault(program, cell);
             Ok(())
         }
-        Refusal::Lost(cell) => {
+        OperandRefusal::Lost(cell) => {
             machine.fault(program, cell);
             Ok(())
         }
@@ -74,7 +74,7 @@ pub fn held_at<M: Memory>(
     machine: &Machine<M>,
     program: &Program,
     place: usize,
-) -> Result<Held, Refusal>
+) -> Result<Held, OperandRefusal>
     ensures value { AsksHeld program.now.outline machine.now.areas.store
         (seen program.now machine.now) place result }
     ensures held { IfOk result (IsHeldAt machine.now.areas.store machine.now place) }
@@ -83,9 +83,9 @@ pub fn held_at<M: Memory>(
     // For its clause: a program has fewer than 2^32 classes.
     let _classes = program.classes();
     match machine.look(place) {
-        Look::Other => Err(Refusal::Other),
-        Look::Null => Err(Refusal::Null),
-        Look::Gone(cell) => Err(Refusal::Unfit(cell)),
+        Look::Other => Err(OperandRefusal::Other),
+        Look::Null => Err(OperandRefusal::Null),
+        Look::Gone(cell) => Err(OperandRefusal::Unfit(cell)),
         Look::Object(cell, head) => Ok(Held { cell, head }),
     }
 }
@@ -95,7 +95,7 @@ pub fn held_or_null_at<M: Memory>(
     machine: &Machine<M>,
     program: &Program,
     place: usize,
-) -> Result<Option<Held>, Refusal>
+) -> Result<Option<Held>, OperandRefusal>
     ensures value { AsksHeldOrNull program.now.outline machine.now.areas.store
         (seen program.now machine.now) place result }
     ensures held { IfOk result (λ found. IfSome found
@@ -105,9 +105,9 @@ pub fn held_or_null_at<M: Memory>(
     // For its clause: a program has fewer than 2^32 classes.
     let _classes = program.classes();
     match machine.look(place) {
-        Look::Other => Err(Refusal::Other),
+        Look::Other => Err(OperandRefusal::Other),
         Look::Null => Ok(None),
-        Look::Gone(cell) => Err(Refusal::Unfit(cell)),
+        Look::Gone(cell) => Err(OperandRefusal::Unfit(cell)),
         Look::Object(cell, head) => Ok(Some(Held { cell, head })),
     }
 }
@@ -128,7 +128,7 @@ pub fn text_at<M: Memory>(
     machine: &Machine<M>,
     program: &Program,
     place: usize,
-) -> Result<Text, Refusal>
+) -> Result<Text, OperandRefusal>
     requires runnable { IsRunnable program.now }
     requires texts { HoldsTexts program.now.outline machine.now.areas.store }
     ensures value { AsksText program.now.outline machine.now.areas.store
@@ -142,7 +142,7 @@ pub fn text_at<M: Memory>(
     if fits {
         return Ok(text_of(held, is_text(t)));
     }
-    Err(Refusal::Unfit(held.cell))
+    Err(OperandRefusal::Unfit(held.cell))
 }
 
 /// The text that an operand leads to; none where it is null. Takes no memory.
@@ -150,7 +150,7 @@ pub fn text_or_null_at<M: Memory>(
     machine: &Machine<M>,
     program: &Program,
     place: usize,
-) -> Result<Option<Text>, Refusal>
+) -> Result<Option<Text>, OperandRefusal>
     requires runnable { IsRunnable program.now }
     requires texts { HoldsTexts program.now.outline machine.now.areas.store }
     ensures value { AsksTextOrNull program.now.outline machine.now.areas.store
@@ -166,7 +166,7 @@ pub fn text_or_null_at<M: Memory>(
     if fits {
         return Ok(Some(text_of(held, is_text(t))));
     }
-    Err(Refusal::Unfit(held.cell))
+    Err(OperandRefusal::Unfit(held.cell))
 }
 
 /// The int that an operand is. Takes no memory.
@@ -174,7 +174,7 @@ pub fn int_at<M: Memory>(
     machine: &Machine<M>,
     program: &Program,
     place: usize,
-) -> Result<i32, Refusal>
+) -> Result<i32, OperandRefusal>
     ensures value { AsksInt program.now.outline (seen program.now machine.now) place result }
     ensures at { IfErr result (IsAt program.now.outline machine.now place) }
 {
@@ -182,7 +182,7 @@ pub fn int_at<M: Memory>(
     let _classes = program.classes();
     match machine.int_operand(place) {
         Some(n) => Ok(n),
-        None => Err(Refusal::Other),
+        None => Err(OperandRefusal::Other),
     }
 }
 
@@ -191,7 +191,7 @@ pub fn long_at<M: Memory>(
     machine: &Machine<M>,
     program: &Program,
     place: usize,
-) -> Result<i64, Refusal>
+) -> Result<i64, OperandRefusal>
     ensures value { AsksLong program.now.outline (seen program.now machine.now) place result }
     ensures at { IfErr result (IsAt program.now.outline machine.now place) }
 {
@@ -199,6 +199,6 @@ pub fn long_at<M: Memory>(
     let _classes = program.classes();
     match machine.long_operand(place) {
         Some(n) => Ok(n),
-        None => Err(Refusal::Other),
+        None => Err(OperandRefusal::Other),
     }
 }

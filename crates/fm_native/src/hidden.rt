@@ -15,7 +15,7 @@ ghost use Rattle.fm_frames.specs.inner.Doings.{seen, CanStep, DoesIn};
 ghost use Rattle.fm_types.specs.Fits.{fits_type};
 ghost use Rattle.fm_types.specs.Named.{throwable_type};
 
-use crate::asked::{Held, Refusal, Text, held_at};
+use crate::asked::{Held, OperandRefusal, Text, held_at};
 use crate::contents::units_of;
 use fm_base::{Kind, NoMemory, TypeId, TypeRef};
 use fm_cells::{Cell, Memory};
@@ -63,7 +63,7 @@ pub fn builder_at<M: Memory>(
     machine: &Machine<M>,
     program: &Program,
     place: usize,
-) -> Result<Held, Refusal>
+) -> Result<Held, OperandRefusal>
     requires runnable { IsRunnable program.now }
     requires hidden { HoldsHidden program.now.outline machine.now.areas.store }
     ensures value { AsksFitting (is_builder program.now.outline) program.now.outline
@@ -78,7 +78,7 @@ pub fn builder_at<M: Memory>(
     if fits {
         return Ok(held);
     }
-    Err(Refusal::Unfit(held.cell))
+    Err(OperandRefusal::Unfit(held.cell))
 }
 
 /// The throwable to which an operand leads. Takes no memory.
@@ -86,7 +86,7 @@ pub fn throwable_at<M: Memory>(
     machine: &Machine<M>,
     program: &Program,
     place: usize,
-) -> Result<Held, Refusal>
+) -> Result<Held, OperandRefusal>
     requires runnable { IsRunnable program.now }
     requires hidden { HoldsHidden program.now.outline machine.now.areas.store }
     ensures value { AsksFitting (is_throwable program.now.outline) program.now.outline
@@ -101,7 +101,7 @@ pub fn throwable_at<M: Memory>(
     if fits {
         return Ok(held);
     }
-    Err(Refusal::Unfit(held.cell))
+    Err(OperandRefusal::Unfit(held.cell))
 }
 
 /// The text that the hidden field of an object leads to; none where it is null. Takes no memory.
@@ -109,7 +109,7 @@ pub fn inner_of<M: Memory>(
     machine: &Machine<M>,
     program: &Program,
     held: Held,
-) -> Result<Option<Text>, Refusal>
+) -> Result<Option<Text>, OperandRefusal>
     requires hides { HidesText program.now.outline machine.now.areas.store held }
     requires runnable { IsRunnable program.now }
     requires texts { HoldsTexts program.now.outline machine.now.areas.store }
@@ -124,7 +124,7 @@ pub fn inner_of<M: Memory>(
         return Ok(None);
     }
     let Some(head) = machine.head(cell) else {
-        return Err(Refusal::Lost(cell));
+        return Err(OperandRefusal::Lost(cell));
     };
     let fits = is_text(type_numbered(program, TypeId(head.class)));
     if fits {
@@ -133,7 +133,7 @@ pub fn inner_of<M: Memory>(
             len: head.len,
         }));
     }
-    Err(Refusal::Lost(cell))
+    Err(OperandRefusal::Lost(cell))
 }
 
 /// The text that is built at an operand. Takes no memory.
@@ -141,7 +141,7 @@ pub fn built_at<M: Memory>(
     machine: &Machine<M>,
     program: &Program,
     place: usize,
-) -> Result<Built, Refusal>
+) -> Result<Built, OperandRefusal>
     requires runnable { IsRunnable program.now }
     requires hidden { HoldsHidden program.now.outline machine.now.areas.store }
     requires texts { HoldsTexts program.now.outline machine.now.areas.store }

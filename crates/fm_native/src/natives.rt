@@ -137,7 +137,7 @@ const BUILT_INS: [BuiltIn; 44] = [
 ];
 
 // The built-in method at a place of a table, if there is that place.
-fn method_at(methods: &[BuiltIn], place: usize) -> Option<BuiltIn>
+fn listed_method(methods: &[BuiltIn], place: usize) -> Option<BuiltIn>
     ensures { result ≡ slice_get methods.now place }
 {
     match methods.get(place) {
@@ -150,7 +150,7 @@ fn method_at(methods: &[BuiltIn], place: usize) -> Option<BuiltIn>
 fn built_in_of(row: u16) -> Option<BuiltIn>
     ensures { option_map native_as result ≡ native_of_row row }
 {
-    method_at(&BUILT_INS, row as usize)
+    listed_method(&BUILT_INS, row as usize)
 }
 
 // Does a method of Object.

@@ -10,7 +10,7 @@ ghost use Rattle.fm_frames.specs.NativeRows.{shown_words};
 ghost use Rattle.fm_frames.specs.Natives as table;
 ghost use Rattle.fm_frames.specs.Runnable.{IsRunnable};
 
-use crate::asked::{Refusal, int_at, long_at, text_or_null_at};
+use crate::asked::{OperandRefusal, int_at, long_at, text_or_null_at};
 use crate::contents::units_of;
 use crate::spelling::{ascii_units, boolean_units, char_units, decimal_units};
 use fm_base::NoMemory;
@@ -73,7 +73,7 @@ pub fn shown_at<M: Memory>(
     machine: &Machine<M>,
     program: &Program,
     primitive: Primitive,
-) -> Result<Showing, Refusal>
+) -> Result<Showing, OperandRefusal>
     ensures value { AsksShown program.now.outline (seen program.now machine.now) primitive result }
     ensures at { IfErr result (IsAt program.now.outline machine.now (operand_of primitive)) }
 {
@@ -102,7 +102,7 @@ fn text_units_at<M: Memory>(
     alloc: Global,
     machine: &Machine<M>,
     program: &Program,
-) -> Result<Result<Vec<u16>, Refusal>, NoMemory>
+) -> Result<Result<Vec<u16>, OperandRefusal>, NoMemory>
     requires runnable { IsRunnable program.now }
     requires texts { HoldsTexts program.now.outline machine.now.areas.store }
     ensures value { IfOk result (λ found. AsksUnits program.now.outline
@@ -122,7 +122,7 @@ pub fn units_at<M: Memory>(
     machine: &Machine<M>,
     program: &Program,
     shown: Shown,
-) -> Result<Result<Vec<u16>, Refusal>, NoMemory>
+) -> Result<Result<Vec<u16>, OperandRefusal>, NoMemory>
     requires runnable { IsRunnable program.now }
     requires texts { HoldsTexts program.now.outline machine.now.areas.store }
     ensures value { IfOk result (λ found. AsksUnits program.now.outline

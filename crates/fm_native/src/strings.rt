@@ -10,7 +10,7 @@ ghost use Rattle.fm_frames.specs.Natives.{CharAt, CompareTo, StringEquals, Strin
 ghost use Rattle.fm_frames.specs.Runnable.{IsRunnable};
 ghost use Rattle.fm_frames.specs.inner.Doings.{seen, CanStep, DoesIn};
 
-use crate::asked::{Refusal, Text, held_or_null_at, int_at, refuse, text_at, text_of};
+use crate::asked::{OperandRefusal, Text, held_or_null_at, int_at, refuse, text_at, text_of};
 use crate::contents::{unit_at, units_of};
 use crate::shown::{Primitive, shown_at, units_shown};
 use crate::units::{compare_units, hash_units};
@@ -49,7 +49,7 @@ pub fn to_string<M: Memory>(machine: &mut Machine<M>, program: &Program) -> Resu
 }
 
 // The text on top of the stack; none where null or another object is there.
-fn other_on_top<M: Memory>(machine: &Machine<M>, program: &Program) -> Result<Option<Text>, Refusal>
+fn other_on_top<M: Memory>(machine: &Machine<M>, program: &Program) -> Result<Option<Text>, OperandRefusal>
     requires runnable { IsRunnable program.now }
     requires texts { HoldsTexts program.now.outline machine.now.areas.store }
     ensures value { AsksOther program.now.outline machine.now.areas.store

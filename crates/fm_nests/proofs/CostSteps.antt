@@ -24,7 +24,7 @@ use Rattle.fm_frames.specs.Runnable.{IsRunnable, IsUseIn}
 use Rattle.fm_frames.specs.Sights.{Sight, sights}
 use Rattle.fm_frames.specs.Starts.{fields_at, set_constant, start_actions, start_methods, start_of_class, to_start, with_start}
 use Rattle.fm_frames.specs.States.{Frame, State}
-use Rattle.fm_frames.specs.Steps.{cost, effect_by, insn_at, next_effect, objects_made}
+use Rattle.fm_frames.specs.Steps.{cost, effect_by, next_insn, next_effect, objects_made}
 use Rattle.fm_frames.specs.declared.values.Value.{Value}
 use Rattle.fm_frames.specs.declared.values.Value.TheVariants as value
 use Rattle.fm_frames.specs.inner.Frames.{place_of, stack_in, topmost}
@@ -174,7 +174,7 @@ nest-alone o started u dimensions s = ap (for_class o started (multi_array_effec
 -- the effect by the frames, and by the instruction of the topmost one
 abbrev frames_effect : Program → State → List Frame → Effect
 frames_effect p x [] = stuck
-frames_effect p x (f ∷ callers) = effect_by p x f (insn_at p f)
+frames_effect p x (f ∷ callers) = effect_by p x f (next_insn p f)
 
 abbrev price : Program → State → Effect → ℕ
 price p x e = max 1 (objects_made (with_start p.outline x.areas.started e).actions)
@@ -183,7 +183,7 @@ pub cost-none : (p : Program) (x : State) → x.frames ≡ [] → cost p x ≡ 1
 unfolding cost next_effect
 cost-none p x none = ap (λ frames. price p x (frames_effect p x frames)) none
 
-pub cost-at : (p : Program) (x : State) (f : Frame) (callers : List Frame) (found : Option Insn) → x.frames ≡ f ∷ callers → insn_at p f ≡ found
+pub cost-at : (p : Program) (x : State) (f : Frame) (callers : List Frame) (found : Option Insn) → x.frames ≡ f ∷ callers → next_insn p f ≡ found
     → cost p x ≡ price p x (effect_by p x f found)
 unfolding cost next_effect
 cost-at p x f callers found is at = ap (λ frames. price p x (frames_effect p x frames)) is ∙ ap (λ i. price p x (effect_by p x f i)) at
@@ -197,7 +197,7 @@ index-inside : (p : Program) (method : ℕ) (operand : Option ℕ) → IsRunnabl
 index-inside p method None runnable = tt
 index-inside p method (Some index) runnable = runnable.uses (class_of_method p.outline method) index
 
-pub cost-cheap : (p : Program) (x : State) (f : Frame) (callers : List Frame) (i : Insn) → IsRunnable p → x.frames ≡ f ∷ callers → insn_at p f ≡ Some i → nest_of i ≡ None
+pub cost-cheap : (p : Program) (x : State) (f : Frame) (callers : List Frame) (i : Insn) → IsRunnable p → x.frames ≡ f ∷ callers → next_insn p f ≡ Some i → nest_of i ≡ None
     → cost p x ≡ 1
 cost-cheap p x f callers i runnable is at other =
     let own : IsCheap p.outline (effect_by p x f (Some i)) =
@@ -209,7 +209,7 @@ cost-cheap p x f callers i runnable is at other =
     omega (arith, told, few)
 
 pub cost-nest : (p : Program) (x : State) (f : Frame) (callers : List Frame) (index dimensions : ℕ) → x.frames ≡ f ∷ callers
-    → insn_at p f ≡ Some (insn.MultiArray index dimensions)
+    → next_insn p f ≡ Some (insn.MultiArray index dimensions)
     → cost p x ≡ max 1 (objects_made (multi_array_effect p.outline (use_in p f.method index) dimensions (seen p x)).actions)
 unfolding effect_of
 cost-nest p x f callers index dimensions is at =
@@ -247,17 +247,17 @@ abbrev insn_by : Option Code → ℕ → Option Insn
 insn_by code item = option_and_then (λ code. insn_of code item) code
 
 pub found-insn : (p : Program) (frames : List Frame) (method item : ℕ) (top : IsOnTop frames method item) (code : Option Code) → code ≡ code_at p method
-    → insn_at p top.frame ≡ insn_by code item
+    → next_insn p top.frame ≡ insn_by code item
 found-insn p frames method item top code is =
     (λ i. insn_by (code_at p (top.method_is i)) (top.item_is i)) ∙ ap (λ code. insn_by code item) (sym is)
 
 pub insn-found : (p : Program) (frames : List Frame) (method item : ℕ) (top : IsOnTop frames method item) (code : Code) (found : Item) → Some code ≡ code_at p method
-    → slice_get code.items item ≡ Some found → insn_at p top.frame ≡ Some found.insn
+    → slice_get code.items item ≡ Some found → next_insn p top.frame ≡ Some found.insn
 insn-found p frames method item top code found is at =
     found-insn p frames method item top (Some code) is ∙ ap (option_map (λ (item : Item). item.insn)) at
 
 pub insn-missing : (p : Program) (frames : List Frame) (method item : ℕ) (top : IsOnTop frames method item) (code : Code) → Some code ≡ code_at p method
-    → slice_get code.items item ≡ None → insn_at p top.frame ≡ None
+    → slice_get code.items item ≡ None → next_insn p top.frame ≡ None
 insn-missing p frames method item top code is at =
     found-insn p frames method item top (Some code) is ∙ ap (option_map (λ (item : Item). item.insn)) at
 
@@ -339,4 +339,4 @@ next-made p x runnable = by_frames x.frames where
 
   by_frames : (frames : List Frame) → AllByRecursion (IsMade p.outline) (with_start p.outline x.areas.started (frames_effect p x frames)).actions
   by_frames [] = tt
-  by_frames (f ∷ callers) = by_insn f (insn_at p f)
+  by_frames (f ∷ callers) = by_insn f (next_insn p f)

@@ -12,7 +12,7 @@ use Rattle.fm_frames.specs.Rows.{effect_of}
 use Rattle.fm_frames.specs.Sights.{sights}
 use Rattle.fm_frames.specs.Starts.{with_start}
 use Rattle.fm_frames.specs.States.{Frame, State}
-use Rattle.fm_frames.specs.Steps.{cost, effect_at, effect_by, insn_at, next_effect, objects_made}
+use Rattle.fm_frames.specs.Steps.{cost, effect_at, effect_by, next_insn, next_effect, objects_made}
 use Rattle.fm_paired.specs.Hidden.{HiddenComesFirst}
 use Rattle.fm_paired.specs.Pairing.{AreasPaired, FramesPaired, StatesPaired}
 use Rattle.fm_paired.proofs.SightsSame.{sights_same}
@@ -21,7 +21,7 @@ use Rattle.fm_paired.proofs.SightsSame.{sights_same}
 abbrev insn_with : Program → ℕ → ℕ → Option Insn
 insn_with p method item = option_and_then (λ (code : Code). insn_of code item) (code_at p method)
 
-pub insn_same : (p : Program) (one other : Store) (f g : Frame) → FramesPaired one other f g → insn_at p g ≡ insn_at p f
+pub insn_same : (p : Program) (one other : Store) (f g : Frame) → FramesPaired one other f g → next_insn p g ≡ next_insn p f
 insn_same p one other f g h = ap (λ m. insn_with p m g.item) h.method ∙ ap (insn_with p f.method) h.item
 
 module _ (p : Program) (hidden : HiddenComesFirst p.outline) (z w : State) (areas : AreasPaired p.outline z.areas w.areas) (input : w.input ≡ z.input) where
@@ -40,7 +40,7 @@ module _ (p : Program) (hidden : HiddenComesFirst p.outline) (z w : State) (area
   at_frames [] (g ∷ gs) h = absurd h
   at_frames (f ∷ fs) [] h = absurd h
   at_frames (f ∷ fs) (g ∷ gs) h =
-      ap (effect_by p (record w { frames = g ∷ gs }) g) (insn_same p z.areas.store w.areas.store f g h.0) ∙ frame_effect f g fs gs h.0 (insn_at p f)
+      ap (effect_by p (record w { frames = g ∷ gs }) g) (insn_same p z.areas.store w.areas.store f g h.0) ∙ frame_effect f g fs gs h.0 (next_insn p f)
 
 pub effect_same : (p : Program) → HiddenComesFirst p.outline → (x y : State) → StatesPaired p.outline x y → next_effect p y ≡ next_effect p x
 unfolding next_effect

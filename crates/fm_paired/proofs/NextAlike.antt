@@ -40,7 +40,7 @@ use Rattle.fm_frames.specs.Runnable.{IsUseIn}
 use Rattle.fm_frames.specs.Sights.{sights}
 use Rattle.fm_frames.specs.Starts.{fields_at, set_constant, start_actions, start_methods, start_of_class, to_start, with_start}
 use Rattle.fm_frames.specs.States.{Frame, State}
-use Rattle.fm_frames.specs.Steps.{effect_by, insn_at, next_effect}
+use Rattle.fm_frames.specs.Steps.{effect_by, next_insn, next_effect}
 use Rattle.fm_frames.specs.declared.values.Value.{Value}
 use Rattle.fm_frames.specs.declared.values.Value.TheVariants as value
 use Rattle.fm_same.proofs.NativeMethods.{has_row}
@@ -178,7 +178,7 @@ module _ (p : Program) (typings : Typings) (typed : AreTyped p typings) (ready :
       others = λ m t used row native. no_free f.method i m t row (named (resolved.OfMethod m t) used) native;
     }
 
-    found_insn : insn_at p f ≡ Some i
+    found_insn : next_insn p f ≡ Some i
     found_insn = ap (λ found. option_and_then (λ (c : Code). insn_of c f.item) found) stands.code_is ∙ insn_is
 
     own_alike : EffectAlike o store f (next_effect p x)

@@ -5,7 +5,7 @@ use Rattle.fm_records.proofs.CodeLaws.{AreCodes-all}
 use Rattle.fm_records.proofs.ProgramMade.{program-made}
 use Rattle.fm_records.proofs.TablesMade.{AreTables-made}
 use Rattle.fm_records.specs.inner.Made.{AreMade}
-use Rattle.fm_parts.specs.declared.tables.Tables.{Tables}
+use Rattle.fm_parts.specs.declared.program_tables.ProgramTables.{ProgramTables}
 use Rattle.fm_parts.specs.inner.Assembled.{parts_from, IsTables}
 use Rattle.fm_world.specs.Members.{fields_of, slot_of}
 use Rattle.fm_world.specs.Programs.{classes_of, codes_of, given_number, main_of, program_of, uses_of}
@@ -14,7 +14,7 @@ use Rattle.fm_world.specs.inner.Tables.{numbers_below, outline_in, program_in, A
 slots_in : List ClassDef → List ℕ
 slots_in given = map (slot_of (classes_of given)) (numbers_below (length (fields_of (classes_of given))))
 
-all-made : (given : List ClassDef) (main : ℕ × ℕ) (t : Tables) (is : IsTables given main t)
+all-made : (given : List ClassDef) (main : ℕ × ℕ) (t : ProgramTables) (is : IsTables given main t)
     → AreMade (parts_from (classes_of given) t) is.told.method_kinds is.told.field_kinds (codes_of given) (slots_in given) is.told.firsts
 unfolding slots_in
 all-made given main t is = record {
@@ -34,19 +34,19 @@ all-made given main t is = record {
 }
 
 -- the tables are those that a program asks for
-pub are_tables : (given : List ClassDef) (main : ℕ × ℕ) (t : Tables) → IsTables given main t → AreTables (parts_from (classes_of given) t)
+pub are_tables : (given : List ClassDef) (main : ℕ × ℕ) (t : ProgramTables) → IsTables given main t → AreTables (parts_from (classes_of given) t)
 are_tables given main t is =
     AreTables-made (parts_from (classes_of given) t) is.told.method_kinds is.told.field_kinds (codes_of given) (slots_in given) is.told.firsts
     (all-made given main t is)
 
 -- what indices are resolved to asks for no main class
-uses-named : (given : List ClassDef) (main : ℕ × ℕ) (t : Tables) → IsTables given main t
+uses-named : (given : List ClassDef) (main : ℕ × ℕ) (t : ProgramTables) → IsTables given main t
     → t.named.uses.items ≡ uses_of (outline_in (parts_from (classes_of given) t)) given
 unfolding uses_of
 uses-named given main t is = is.named.uses
 
 -- and their program is that of the class files
-pub is_program : (given : List ClassDef) (name : List ℕ) (main : ℕ × ℕ) (t : Tables) → IsTables given main t
+pub is_program : (given : List ClassDef) (name : List ℕ) (main : ℕ × ℕ) (t : ProgramTables) → IsTables given main t
     → given_number (classes_of given) name ≡ Some main.0 → main_of (classes_of given) main.0 ≡ Some main.1
     → program_in (parts_from (classes_of given) t) ≡ program_of given name
 is_program given name main t is class_is method_is =

@@ -12,14 +12,14 @@ use Rattle.fm_above.specs.inner.Hierarchy.{AreSound, IsHierarchy}
 use Rattle.fm_lookup.specs.inner.MemberRows.{method_alike, row_alike}
 use Rattle.fm_lookup.specs.inner.MemberTables.{signature_of, AreMethods}
 use Rattle.fm_parts.proofs.AnswerSteps.{flags-at}
-use Rattle.fm_parts.specs.declared.tables.Tables.{Tables}
+use Rattle.fm_parts.specs.declared.program_tables.ProgramTables.{ProgramTables}
 use Rattle.fm_parts.specs.inner.Answers.{AreAnswers}
 use Rattle.fm_parts.specs.inner.Assembled.{parts_from, AreCounted, IsTables}
 use Rattle.fm_records.proofs.Answering.{calls-answered, classes-answered}
 use Rattle.fm_records.specs.inner.Classes.{bare_outline}
 use Rattle.fm_tables.specs.inner.MemberLists.{flags_in}
 use Rattle.fm_tables.specs.inner.Named.{outline_named, IsNamed}
-use Rattle.fm_tables.specs.inner.Told.{IsTold}
+use Rattle.fm_tables.specs.inner.MemberInfos.{AreMemberInfos}
 use Rattle.fm_world.specs.Members.{first_method, methods_of}
 use Rattle.fm_world.specs.Programs.{class_info, classes_of}
 use Rattle.fm_world.specs.declared.declarations.DeclaredClass.{DeclaredClass}
@@ -43,14 +43,14 @@ signatures-counted texts classes m are =
     ∙ length-map rows (λ (r : MemberRow). signature_of rows r.name r.descriptor)
     ∙ sym (length-map rows (row_alike texts)) ∙ ap length are.rows.rows.same ∙ length-map (methods_of classes) method_alike
 
-answers-classes : (texts : List (List ℕ)) (given : List ClassDef) (h : Hierarchy) (m : Methods) (t : Tables) → AreSound (classes_of given)
+answers-classes : (texts : List (List ℕ)) (given : List ClassDef) (h : Hierarchy) (m : Methods) (t : ProgramTables) → AreSound (classes_of given)
     → IsHierarchy (classes_of given) h → AreMethods texts (classes_of given) m → AreAnswers h m t.answers
     → AnswerForClasses (parts_from (classes_of given) t)
 answers-classes texts given h m t sound hierarchy methods are =
     classes-answered texts (parts_from (classes_of given) t) h m hierarchy methods (interfaces_only (classes_of given) sound) are.displays
     are.interfaces are.signatures are.nodes are.levels are.tops (signatures-counted texts (classes_of given) m methods)
 
-answers-calls : (texts : List (List ℕ)) (given : List ClassDef) (h : Hierarchy) (m : Methods) (t : Tables)
+answers-calls : (texts : List (List ℕ)) (given : List ClassDef) (h : Hierarchy) (m : Methods) (t : ProgramTables)
     → IsHierarchy (classes_of given) h → AreMethods texts (classes_of given) m → AreAnswers h m t.answers
     → AnswerForCalls (parts_from (classes_of given) t)
 answers-calls texts given h m t hierarchy methods are =
@@ -64,11 +64,11 @@ answers-calls texts given h m t hierarchy methods are =
     calls-answered texts (parts_from classes t) h m (flags_in m.members.rows.items) hierarchy methods
     (found ∙ ap (λ n. Some n) (sym object)) are.signatures (flags-at m.members.rows.items) count are.own
 
-pub tables-made : (texts : List (List ℕ)) (given : List ClassDef) (main : ℕ × ℕ) (h : Hierarchy) (m : Methods) (t : Tables)
+pub tables-made : (texts : List (List ℕ)) (given : List ClassDef) (main : ℕ × ℕ) (h : Hierarchy) (m : Methods) (t : ProgramTables)
     → AreSound (classes_of given) → IsHierarchy (classes_of given) h → AreMethods texts (classes_of given) m
     → AreCounted (classes_of given) t.named t.told
     → t.classes.items ≡ map (class_info (bare_outline (classes_of given))) (numbers_below (length (classes_of given)))
-    → IsNamed given t.named → IsTold (outline_named given t.named) given t.told → AreAnswers h m t.answers → t.main ≡ main
+    → IsNamed given t.named → AreMemberInfos (outline_named given t.named) given t.told → AreAnswers h m t.answers → t.main ≡ main
     → IsTables given main t
 tables-made texts given main h m t sound hierarchy methods counted classes named told answers main_is = record {
   few = record {

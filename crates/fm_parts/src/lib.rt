@@ -5,7 +5,7 @@
 #![tactic(auto)]
 
 mod answers;
-mod tables;
+mod program_tables;
 
 pub use answers::{Answers, answers_of};
-pub use tables::{Tables, tables_of};
+pub use program_tables::{ProgramTables, tables_of};

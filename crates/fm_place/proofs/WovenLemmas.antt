@@ -9,7 +9,7 @@ use Rattle.fm_base.proofs.ListFacts.{AllByRecursion-append}
 use Rattle.fm_base.specs.declared.limits.TheConstants.{MAX_LOCAL_WORDS}
 use Rattle.fm_code.proofs.EdgesLemmas.{Contains-first, Contains-later}
 use Rattle.fm_code.specs.Fits.{FitsTwo}
-use Rattle.fm_code.specs.SpellsCode.{IsSpelled, targets_of, with_targets}
+use Rattle.fm_code.specs.SpellsCode.{ItemIsSpelled, targets_of, with_targets}
 use Rattle.fm_code.specs.declared.code_array.Code.{Code}
 use Rattle.fm_code.specs.declared.code_array.Item.{Item}
 use Rattle.fm_code.specs.declared.instructions.Insn.{Insn}
@@ -237,10 +237,10 @@ woven_is_laid_out free code plan old suits few = record {
       AllByRecursion-append Named (flat_map (λ h. null_stored (local_of code h)) (range_with_len 0 (length plan.holders)))
       (woven_from free code plan anchors 0 code.items)
       (all-flat Named (λ h. null_stored (local_of code h)) (range_with_len 0 (length plan.holders)) (λ h found. (tt, (tt, tt))))
-      (all-from_items Named free code plan anchors (λ j item. IsSpelled code.items item)
+      (all-from_items Named free code plan anchors (λ j item. ItemIsSpelled code.items item)
       (λ j h found. (tt, (tt, (tt, (tt, tt)))))
       (λ j h found. (tt, (tt, tt)))
-      named 0 code.items (λ k item is. all-at (IsSpelled code.items) code.items k item old.spelled.spelled is));
+      named 0 code.items (λ k item is. all-at (ItemIsSpelled code.items) code.items k item old.spelled.spelled is));
   in_order =
       filter_map-append (λ (new : NewItem). new.kept) (flat_map (λ h. null_stored (local_of code h)) (range_with_len 0 (length plan.holders)))
       (woven_from free code plan anchors 0 code.items)
@@ -272,7 +272,7 @@ woven_is_laid_out free code plan old suits few = record {
       let all = length-woven free code plan in
       omega (arith, below, all)
 
-  named : (j : ℕ) (item : Item) → IsSpelled code.items item → Named (kept anchors j item.insn)
+  named : (j : ℕ) (item : Item) → ItemIsSpelled code.items item → Named (kept anchors j item.insn)
   named j item spelled =
       subst (AllByRecursion (λ target. target < length (woven free code plan))) (sym (targets-of-with (slice_index anchors) item.insn))
       (all-map (λ t. t < length (woven free code plan)) (λ t. t < length code.items) (slice_index anchors) (targets_of item.insn) reaches spelled.targets)

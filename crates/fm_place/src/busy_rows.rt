@@ -10,7 +10,7 @@ ghost use Rattle.fm_types.specs.Typings.{states_of, type_state};
 
 use crate::groups::Groups;
 use fm_base::{NoMemory, Row};
-use fm_conn::{Classes, Method};
+use fm_conn::{Classes, AnalysedMethod};
 use fm_flow::{Flow, LiveRows};
 use fm_types::{State, Typing};
 use std::alloc::Global;
@@ -18,7 +18,7 @@ use std::alloc::Global;
 /// A method with its flow, its live locals and its classes.
 #[derive(Clone, Copy)]
 pub struct Seen<'a> {
-    pub method: Method<'a>,
+    pub method: AnalysedMethod<'a>,
     pub flow: &'a Flow,
     pub live: &'a LiveRows,
     pub classes: &'a Classes,

@@ -25,7 +25,7 @@ use crate::limits::MAX_HOLDING_STACK_WORDS;
 use fm_base::limits::MAX_LOCAL_WORDS;
 use fm_base::{MethodId, NoMemory};
 use fm_code::{Code, Insn};
-use fm_conn::{Classes, End2, Method, Summaries, is_reference, is_reference_kind, words_taken};
+use fm_conn::{Classes, End2, AnalysedMethod, Summaries, is_reference, is_reference_kind, words_taken};
 use fm_rows::is_constructor;
 use fm_types::{Slot, State, Typing};
 use fm_world::{Body, Call, Program, Use};
@@ -67,7 +67,7 @@ pub fn sites(
 {
     match &program.method(method).body {
         Body::Coded(code) => {
-            let method = Method {
+            let method = AnalysedMethod {
                 program,
                 number: method,
                 code,
@@ -75,7 +75,7 @@ pub fn sites(
             };
             sites_of(
                 alloc,
-                &Known {
+                &JoinedMethod {
                     method,
                     classes,
                     summaries,
@@ -88,7 +88,7 @@ pub fn sites(
 
 // The same of what is known of the method.
 #[tactic(auto, unfolding(crate::specs::Sites::sites_of))]
-fn sites_of(alloc: Global, known: &Known<'_>) -> Result<Vec<Site>, NoMemory>
+fn sites_of(alloc: Global, known: &JoinedMethod<'_>) -> Result<Vec<Site>, NoMemory>
     requires { IsKnown known.now }
     ensures { IfOk result
         (λ found. found.items ≡ sites_of (facts_in known.now) (typed_in known.now)) }
@@ -114,13 +114,13 @@ pub fn item_count(code: &Code) -> Result<u32, NoMemory>
 
 // A method, its classes, and which ends of the methods that it calls are linked.
 #[derive(Clone, Copy)]
-pub struct Known<'a> {
-    pub method: Method<'a>,
+pub struct JoinedMethod<'a> {
+    pub method: AnalysedMethod<'a>,
     pub classes: &'a Classes,
     pub summaries: &'a Summaries,
 }
 
-impl Known<'_> {
+impl JoinedMethod<'_> {
     // Puts the item after the last site, if it is one. Answers how many captured sites there are now.
     fn push_site(
         &self,
@@ -259,7 +259,7 @@ impl Known<'_> {
         let Some(state) = self.state_at(item) else {
             return Ok(false);
         };
-        let insn = insn_at(self.method.code, item);
+        let insn = insn_of(self.method.code, item);
         if makes_array(insn) {
             return Ok(true);
         }
@@ -324,7 +324,7 @@ fn any_gives_old(summaries: &Summaries, targets: &[MethodId]) -> bool
 }
 
 // Whether one of the locals holds a reference at first, and is in the class.
-fn any_parameter_in(known: &Known<'_>, class: u32, locals: &[Slot]) -> bool
+fn any_parameter_in(known: &JoinedMethod<'_>, class: u32, locals: &[Slot]) -> bool
     requires { IsKnown known.now }
     ensures { result ≡ list_any (is_parameter_in (facts_in known.now) (typed_in known.now) class locals.now)
         (range_with_len 0 known.now.method.code.now.max_locals) }
@@ -351,7 +351,7 @@ fn holder_in(code: &Code, captured: u32) -> Option<u16>
 }
 
 // The instruction of an item.
-fn insn_at(code: &Code, item: u32) -> &Insn
+fn insn_of(code: &Code, item: u32) -> &Insn
     requires { item < length code.now.items }
     ensures { insn_of code.now item ≡ Some result.now }
 {

@@ -12,7 +12,7 @@ use Rattle.fm_base.proofs.ListFacts.{AllByRecursion-append, AllByRecursion-weake
 use Rattle.fm_base.proofs.OptionFacts.{IsSomeAnd-from_some, IsSome-from_some}
 use Rattle.fm_base.proofs.TextsLemmas.{IsModifiedUtf8-plain}
 use Rattle.fm_code.specs.ClassBytes.{pool_bytes}
-use Rattle.fm_code.specs.ConstantPool.{entry_at, utf8_at, class_name_at, named_and_typed_at, method_at, EntryIsValid, SpellsPool}
+use Rattle.fm_code.specs.ConstantPool.{entry_at, utf8_at, class_name_at, named_and_typed_at, method_ref_at, EntryIsValid, SpellsPool}
 use Rattle.fm_code.specs.Fits.{EntryFits}
 use Rattle.fm_code.specs.FreeEntries.{Content, of_utf8, of_class, of_name_and_type, of_method, has_content, is_some_text, is_some_pair, index_of, Sought, placed, sought_class_text, sought_class, sought_name, sought_descriptor, sought_pair, sought_free, with_free, free_class, free_name, free_descriptor, free_method}
 use Rattle.fm_code.specs.Names.{object, IsFieldType, IsMethodDescriptor, FieldType}
@@ -73,7 +73,7 @@ abbrev Stands : List Entry → Content → ℕ → Type 0
 Stands all (of_utf8 text) i = utf8_at all i ≡ Some text
 Stands all (of_class text) i = class_name_at all i ≡ Some text
 Stands all (of_name_and_type n d) i = named_and_typed_at all i ≡ Some (n, d)
-Stands all (of_method m) i = method_at all i ≡ Some m
+Stands all (of_method m) i = method_ref_at all i ≡ Some m
 
 stands_by : (all : List Entry) (content : Content) (i : ℕ) (e : Entry) → entry_at all i ≡ e → Has all content e → Stands all content i
 stands_by all (of_utf8 text) i (entry.Utf8 name) is h = rw is (ap (λ (x : List ℕ). Some x) h)
@@ -270,9 +270,9 @@ made_entries : (entries added missing : List Entry) (index : ℕ) → sought_fre
 made_entries entries added missing index is e = e ∙ ap (λ (s : Sought). entries ++ s.missing) (sym is)
 
 -- the index is that of FreeMe.free
-pub free_named : (entries added missing : List Entry) (index : ℕ) → sought_free entries ≡ record { index = index; missing = missing } → added ≡ entries ++ missing → method_at added index ≡ Some free_method
+pub free_named : (entries added missing : List Entry) (index : ℕ) → sought_free entries ≡ record { index = index; missing = missing } → added ≡ entries ++ missing → method_ref_at added index ≡ Some free_method
 free_named entries added missing index is e =
-    subst (λ (all : List Entry). method_at all index ≡ Some free_method) (sym (made_entries entries added missing index is e)) (subst (λ (i : ℕ). method_at (with_free entries) i ≡ Some free_method) (ap (λ (s : Sought). s.index) is) (steps entries).method.stands)
+    subst (λ (all : List Entry). method_ref_at all index ≡ Some free_method) (sym (made_entries entries added missing index is e)) (subst (λ (i : ℕ). method_ref_at (with_free entries) i ≡ Some free_method) (ap (λ (s : Sought). s.index) is) (steps entries).method.stands)
 
 -- each entry is supported with them, where it is without
 pub free_supported : (entries : List Entry) → AllByRecursion EntryIsSupported entries → AllByRecursion EntryIsSupported (with_free entries)

@@ -5,7 +5,7 @@ use Rattle.std.specs.List.{AllByRecursion}
 use Rattle.std.proofs.lemmas.Bool.{cases_lt}
 use Rattle.std.proofs.lemmas.List.{get_or_past, get_or_append_left}
 use Rattle.fm_base.proofs.OptionFacts.{Some-from_is_some, IsSome-from_some, Some-from_some_and, IsSomeAnd-from_some}
-use Rattle.fm_code.specs.ConstantPool.{takes_two, AreSlots, entry_at, utf8_at, class_name_at, named_and_typed_at, method_at, MemberName, EntryIsValid, NamesMember}
+use Rattle.fm_code.specs.ConstantPool.{takes_two, AreSlots, entry_at, utf8_at, class_name_at, named_and_typed_at, method_ref_at, MemberName, EntryIsValid, NamesMember}
 use Rattle.fm_code.specs.declared.constant_pool.Entry.{Entry}
 use Rattle.fm_code.specs.declared.constant_pool.Entry.TheVariants as entry
 
@@ -56,7 +56,7 @@ pub pair_from : (entries : List Entry) (i name descriptor : ℕ) (n d : List ℕ
 pair_from entries i name descriptor n d is h k = rw (is, h, k) refl
 
 pub method_from : (entries : List Entry) (i class member : ℕ) (m : MemberName) → entry_at entries i ≡ entry.Method class member → class_name_at entries class ≡ Some m.class → named_and_typed_at entries member ≡ Some (m.name, m.descriptor)
-    → method_at entries i ≡ Some m
+    → method_ref_at entries i ≡ Some m
 method_from entries i class member m is h k = rw (is, h, k) refl
 
 -- ---- more entries

@@ -3,7 +3,7 @@
 ghost use Rattle.std.specs.Prelude.{◌≡◌, ◌↔◌, ◌&&◌, ℕ, ◌+◌, ◌<◌, ◌≤◌, ◌^◌, ◌++◌, List, length, option_copied, IfOk, OnOk, OnErr};
 ghost use Rattle.std.specs.Option.{option_map};
 ghost use Rattle.fm_code.specs.ClassBytes.{pool_bytes};
-ghost use Rattle.fm_code.specs.ConstantPool.{method_at, MemberName, SpellsPool};
+ghost use Rattle.fm_code.specs.ConstantPool.{method_ref_at, MemberName, SpellsPool};
 ghost use Rattle.fm_code.specs.FreeEntries.{free_class, free_descriptor, free_method, free_name, has_content, index_of, is_some_pair, is_some_text, of_class, of_method, of_name_and_type, of_utf8, placed, sought_free, with_free};
 ghost use Rattle.fm_code.specs.declared.constant_pool.Entry.{Entry as EntryRecord};
 ghost use Rattle.fm_pool.specs.inner.FreePlaces.{content_of, missing_at, missing_in, places_in};
@@ -30,7 +30,7 @@ pub fn find_or_add_free(alloc: Global, pool: &mut Pool) -> Result<u16, AddFail>
     requires { SpellsPool (pool_bytes pool.old) pool.old }
     ensures found { IfOk result (λ index. index ≡ (sought_free pool.old.entries).index) }
     ensures added { OnOk result (pool.new.entries ≡ with_free pool.old.entries) }
-    ensures named { IfOk result (λ index. method_at pool.new.entries index ≡ Some free_method) }
+    ensures named { IfOk result (λ index. method_ref_at pool.new.entries index ≡ Some free_method) }
     ensures spelled { OnOk result (SpellsPool (pool_bytes pool.new) pool.new) }
     // It is full exactly where it would have more than 65,535 indices.
     ensures full { let count = length (with_free pool.old.entries) in

@@ -1,7 +1,7 @@
 // A pool with what is known of its texts, each of which is judged once.
 
 ghost use Rattle.std.specs.Prelude.{◌≡◌, ◌↔◌, true, IfOk, IsSome, IsSomeAnd, IsTrue, Some};
-ghost use Rattle.fm_code.specs.ConstantPool.{class_name_at, field_at, interface_method_at, method_at, utf8_at};
+ghost use Rattle.fm_code.specs.ConstantPool.{class_name_at, field_ref_at, interface_method_ref_at, method_ref_at, utf8_at};
 ghost use Rattle.fm_code.specs.Members.{ReturnsNothing};
 ghost use Rattle.fm_code.specs.Names.{is_binary_name, is_method_name, is_unqualified, IsFieldDescriptor, IsMethodDescriptor};
 ghost use Rattle.fm_code.specs.Operands.{TakesWords};
@@ -105,7 +105,7 @@ impl KnownPool {
 
     /// Whether the entry of a field is at an index.
     pub fn has_field(&self, index: u16) -> bool
-        ensures { IsTrue result ↔ IsSome (field_at self.now.entries index) }
+        ensures { IsTrue result ↔ IsSome (field_ref_at self.now.entries index) }
     {
         match self.pool.entry(index) {
             Some(Entry::Field(class, member)) => self
@@ -118,7 +118,7 @@ impl KnownPool {
 
     /// Whether the entry of a method of a class is at an index.
     pub fn has_method(&self, index: u16) -> bool
-        ensures { IsTrue result ↔ IsSome (method_at self.now.entries index) }
+        ensures { IsTrue result ↔ IsSome (method_ref_at self.now.entries index) }
     {
         match self.pool.entry(index) {
             Some(Entry::Method(class, member)) => self
@@ -131,7 +131,7 @@ impl KnownPool {
 
     /// Whether the entry of a method of an interface is at an index.
     pub fn names_interface_method(&self, index: u16) -> bool
-        ensures { IsTrue result ↔ IsSome (interface_method_at self.now.entries index) }
+        ensures { IsTrue result ↔ IsSome (interface_method_ref_at self.now.entries index) }
     {
         match self.pool.entry(index) {
             Some(Entry::InterfaceMethod(class, member)) => self
@@ -146,7 +146,7 @@ impl KnownPool {
     /// words with the receiver's (JVMS 6.5.invokeinterface).
     pub fn has_interface_method(&self, index: u16, words: u8) -> bool
         ensures { IsTrue result
-            ↔ IsSomeAnd (interface_method_at self.now.entries index) (λ m. TakesWords words m.descriptor) }
+            ↔ IsSomeAnd (interface_method_ref_at self.now.entries index) (λ m. TakesWords words m.descriptor) }
     {
         let Some(Entry::InterfaceMethod(class, member)) = self.pool.entry(index) else {
             return false;

@@ -6,7 +6,7 @@ use Rattle.fm_base.specs.Texts.{IsModifiedUtf8}
 use Rattle.fm_base.proofs.ListFacts.{AllByRecursion-get_or, AllByRecursion-weaker}
 use Rattle.fm_base.proofs.OptionFacts.{IsSomeAnd-at_some, IsSomeAnd-weaker}
 use Rattle.fm_code.specs.AccessFlags.{is_interface}
-use Rattle.fm_code.specs.ConstantPool.{entry_at, utf8_at, class_name_at, named_and_typed_at, MemberName, member_named, field_at, method_at, interface_method_at, EntryIsValid}
+use Rattle.fm_code.specs.ConstantPool.{entry_at, utf8_at, class_name_at, named_and_typed_at, MemberName, member_named, field_ref_at, method_ref_at, interface_method_ref_at, EntryIsValid}
 use Rattle.fm_code.specs.Members.{MethodIsValid, receiver_words}
 use Rattle.fm_code.specs.Names.{IsClassName, IsMethodDescriptor}
 use Rattle.fm_code.specs.Profile.{class_named}
@@ -68,15 +68,15 @@ of_member entries pool class member name found = go (class_name_at entries class
   go (Some text) is None e = no_text name e
   go (Some text) is (Some pair) e = let same : text ≡ name = cc in (class_text entries pool class name (is ∙ ap Some same)).class
 
-field_class : (entries : List Entry) → PoolIsValid entries → (i : ℕ) (e : Entry) → entry_at entries i ≡ e → (name : List ℕ) → class_of (field_at entries i) ≡ Some name → IsClassName name
+field_class : (entries : List Entry) → PoolIsValid entries → (i : ℕ) (e : Entry) → entry_at entries i ≡ e → (name : List ℕ) → class_of (field_ref_at entries i) ≡ Some name → IsClassName name
 field_class entries pool i (entry.Field class member) is name found = of_member entries pool class member name (rw is at found)
 field_class entries pool i e is name found = no_text name (rw is at found)
 
-method_class : (entries : List Entry) → PoolIsValid entries → (i : ℕ) (e : Entry) → entry_at entries i ≡ e → (name : List ℕ) → class_of (method_at entries i) ≡ Some name → IsClassName name
+method_class : (entries : List Entry) → PoolIsValid entries → (i : ℕ) (e : Entry) → entry_at entries i ≡ e → (name : List ℕ) → class_of (method_ref_at entries i) ≡ Some name → IsClassName name
 method_class entries pool i (entry.Method class member) is name found = of_member entries pool class member name (rw is at found)
 method_class entries pool i e is name found = no_text name (rw is at found)
 
-interface_class : (entries : List Entry) → PoolIsValid entries → (i : ℕ) (e : Entry) → entry_at entries i ≡ e → (name : List ℕ) → class_of (interface_method_at entries i) ≡ Some name → IsClassName name
+interface_class : (entries : List Entry) → PoolIsValid entries → (i : ℕ) (e : Entry) → entry_at entries i ≡ e → (name : List ℕ) → class_of (interface_method_ref_at entries i) ≡ Some name → IsClassName name
 interface_class entries pool i (entry.InterfaceMethod class member) is name found = of_member entries pool class member name (rw is at found)
 interface_class entries pool i e is name found = no_text name (rw is at found)
 

@@ -1,9 +1,9 @@
 // Programs with calls, texts, handlers, jumps and switches.
 
-use crate::files::{ClassFile, NOTHING, Program, Repeated};
+use crate::files::{ClassFile, NOTHING, TestProgram, Repeated};
 
 /// One of two methods that a call may lead to puts its argument into a static field.
-pub const VIRTUAL_ESCAPE: Program<'static> = Program {
+pub const VIRTUAL_ESCAPE: TestProgram<'static> = TestProgram {
     read: &[VIRTUAL_ESCAPE_READ, VIRTUAL_ESCAPE_A, VIRTUAL_ESCAPE_B],
     written: &[VIRTUAL_ESCAPE_WRITTEN, VIRTUAL_ESCAPE_A, VIRTUAL_ESCAPE_B],
 };
@@ -65,7 +65,7 @@ const VIRTUAL_ESCAPE_B: ClassFile<'static> = ClassFile {
 };
 
 /// Two methods call one another and return their argument.
-pub const MUTUAL_RECURSION: Program<'static> = Program {
+pub const MUTUAL_RECURSION: TestProgram<'static> = TestProgram {
     read: &[MUTUAL_RECURSION_READ],
     written: &[MUTUAL_RECURSION_WRITTEN],
 };
@@ -106,7 +106,7 @@ const MUTUAL_RECURSION_WRITTEN: ClassFile<'static> = ClassFile {
 };
 
 /// A method of an interface is called of an object that has none.
-pub const INTERFACE_MISS: Program<'static> = Program {
+pub const INTERFACE_MISS: TestProgram<'static> = TestProgram {
     read: &[INTERFACE_MISS_READ, INTERFACE_MISS_I],
     written: &[INTERFACE_MISS_WRITTEN, INTERFACE_MISS_I],
 };
@@ -151,7 +151,7 @@ const INTERFACE_MISS_I: ClassFile<'static> = ClassFile {
 };
 
 /// A text is joined as javac writes it.
-pub const TEXT_CONCATENATION: Program<'static> = Program {
+pub const TEXT_CONCATENATION: TestProgram<'static> = TestProgram {
     read: &[TEXT_CONCATENATION_READ],
     written: &[TEXT_CONCATENATION_WRITTEN],
 };
@@ -197,7 +197,7 @@ const TEXT_CONCATENATION_WRITTEN: ClassFile<'static> = ClassFile {
 };
 
 /// The same by a StringBuffer, in a class file of the version 48.0.
-pub const STRING_BUFFER: Program<'static> = Program {
+pub const STRING_BUFFER: TestProgram<'static> = TestProgram {
     read: &[STRING_BUFFER_READ],
     written: &[STRING_BUFFER_WRITTEN],
 };
@@ -243,7 +243,7 @@ const STRING_BUFFER_WRITTEN: ClassFile<'static> = ClassFile {
 };
 
 /// A method returns a literal.
-pub const LITERAL_FACTORY: Program<'static> = Program {
+pub const LITERAL_FACTORY: TestProgram<'static> = TestProgram {
     read: &[LITERAL_FACTORY_READ],
     written: &[LITERAL_FACTORY_WRITTEN],
 };
@@ -278,7 +278,7 @@ const LITERAL_FACTORY_WRITTEN: ClassFile<'static> = ClassFile {
 };
 
 /// A handler asks an object that was made before.
-pub const HANDLER: Program<'static> = Program {
+pub const HANDLER: TestProgram<'static> = TestProgram {
     read: &[HANDLER_READ],
     written: &[HANDLER_WRITTEN],
 };
@@ -320,7 +320,7 @@ const HANDLER_WRITTEN: ClassFile<'static> = ClassFile {
 };
 
 /// A constructor throws.
-pub const THROWING_CONSTRUCTOR: Program<'static> = Program {
+pub const THROWING_CONSTRUCTOR: TestProgram<'static> = TestProgram {
     read: &[THROWING_CONSTRUCTOR_READ, THROWING_CONSTRUCTOR_X],
     written: &[THROWING_CONSTRUCTOR_WRITTEN, THROWING_CONSTRUCTOR_X],
 };
@@ -366,7 +366,7 @@ const THROWING_CONSTRUCTOR_X: ClassFile<'static> = ClassFile {
 };
 
 /// A loop leads back to the first instruction.
-pub const JUMP_TO_START: Program<'static> = Program {
+pub const JUMP_TO_START: TestProgram<'static> = TestProgram {
     read: &[JUMP_TO_START_READ],
     written: &[JUMP_TO_START_WRITTEN],
 };
@@ -401,7 +401,7 @@ const JUMP_TO_START_WRITTEN: ClassFile<'static> = ClassFile {
 };
 
 /// A switch is at an offset where its padding changes.
-pub const SWITCH_PADDING: Program<'static> = Program {
+pub const SWITCH_PADDING: TestProgram<'static> = TestProgram {
     read: &[SWITCH_PADDING_READ],
     written: &[SWITCH_PADDING_WRITTEN],
 };

@@ -1,9 +1,9 @@
 // Programs that free by themselves, that end otherwise than by a return, or that ask what is given to them.
 
-use crate::files::{ClassFile, NOTHING, Program, Repeated};
+use crate::files::{ClassFile, NOTHING, TestProgram, Repeated};
 
 /// Main frees one object twice.
-pub const HAND_FREED: Program<'static> = Program {
+pub const HAND_FREED: TestProgram<'static> = TestProgram {
     read: &[HAND_FREED_READ],
     written: &[],
 };
@@ -23,7 +23,7 @@ const HAND_FREED_READ: ClassFile<'static> = ClassFile {
 };
 
 /// Main puts an object before itself into a chain, and frees the chain.
-pub const CHAINS_BY_HAND: Program<'static> = Program {
+pub const CHAINS_BY_HAND: TestProgram<'static> = TestProgram {
     read: &[CHAINS_BY_HAND_READ],
     written: &[],
 };
@@ -44,7 +44,7 @@ const CHAINS_BY_HAND_READ: ClassFile<'static> = ClassFile {
 };
 
 /// The start of the class throws.
-pub const INIT_FAILED: Program<'static> = Program {
+pub const INIT_FAILED: TestProgram<'static> = TestProgram {
     read: &[INIT_FAILED_READ],
     written: &[INIT_FAILED_READ],
 };
@@ -63,7 +63,7 @@ const INIT_FAILED_READ: ClassFile<'static> = ClassFile {
 };
 
 /// Main exits with -1.
-pub const EXIT_MINUS_ONE: Program<'static> = Program {
+pub const EXIT_MINUS_ONE: TestProgram<'static> = TestProgram {
     read: &[EXIT_MINUS_ONE_READ],
     written: &[EXIT_MINUS_ONE_READ],
 };
@@ -82,7 +82,7 @@ const EXIT_MINUS_ONE_READ: ClassFile<'static> = ClassFile {
 };
 
 /// Main exits with 76.
-pub const EXIT_76: Program<'static> = Program {
+pub const EXIT_76: TestProgram<'static> = TestProgram {
     read: &[EXIT_76_READ],
     written: &[EXIT_76_READ],
 };
@@ -101,7 +101,7 @@ const EXIT_76_READ: ClassFile<'static> = ClassFile {
 };
 
 /// The number of the arguments is printed.
-pub const ARGUMENTS: Program<'static> = Program {
+pub const ARGUMENTS: TestProgram<'static> = TestProgram {
     read: &[ARGUMENTS_READ],
     written: &[ARGUMENTS_READ],
 };
@@ -121,7 +121,7 @@ const ARGUMENTS_READ: ClassFile<'static> = ClassFile {
 };
 
 /// The first byte of the input is printed.
-pub const INPUT: Program<'static> = Program {
+pub const INPUT: TestProgram<'static> = TestProgram {
     read: &[INPUT_READ],
     written: &[INPUT_READ],
 };

@@ -33,7 +33,7 @@ pub struct ClassFile<'a> {
 
 /// A program of the main class M, its class files in the order in which they are named.
 #[derive(Clone, Copy)]
-pub struct Program<'a> {
+pub struct TestProgram<'a> {
     /// The class files that are read.
     pub read: &'a [ClassFile<'a>],
     /// Those that freeme writes of them; none where it refuses them.

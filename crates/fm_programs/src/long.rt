@@ -1,10 +1,10 @@
 // Long programs: branches that don't reach, and methods and pools at their limits. A piece occurs
 // many times in each.
 
-use crate::files::{ClassFile, Program, Repeated};
+use crate::files::{ClassFile, TestProgram, Repeated};
 
 /// A goto back over 32,768 bytes with what is inserted, which becomes a goto_w.
-pub const WIDE_GOTO: Program<'static> = Program {
+pub const WIDE_GOTO: TestProgram<'static> = TestProgram {
     read: &[WIDE_GOTO_READ],
     written: &[WIDE_GOTO_WRITTEN],
 };
@@ -41,7 +41,7 @@ const WIDE_GOTO_WRITTEN: ClassFile<'static> = ClassFile {
 };
 
 /// The same over one byte less, which stays.
-pub const WIDE_GOTO_NARROW: Program<'static> = Program {
+pub const WIDE_GOTO_NARROW: TestProgram<'static> = TestProgram {
     read: &[WIDE_GOTO_NARROW_READ],
     written: &[WIDE_GOTO_NARROW_WRITTEN],
 };
@@ -78,7 +78,7 @@ const WIDE_GOTO_NARROW_WRITTEN: ClassFile<'static> = ClassFile {
 };
 
 /// A method that gets as long as a method may be.
-pub const TOO_LONG_FITS: Program<'static> = Program {
+pub const TOO_LONG_FITS: TestProgram<'static> = TestProgram {
     read: &[TOO_LONG_FITS_READ],
     written: &[TOO_LONG_FITS_WRITTEN],
 };
@@ -115,7 +115,7 @@ const TOO_LONG_FITS_WRITTEN: ClassFile<'static> = ClassFile {
 };
 
 /// A method that would get one byte longer than that.
-pub const TOO_LONG: Program<'static> = Program {
+pub const TOO_LONG: TestProgram<'static> = TestProgram {
     read: &[TOO_LONG_READ],
     written: &[],
 };
@@ -136,7 +136,7 @@ const TOO_LONG_READ: ClassFile<'static> = ClassFile {
 };
 
 /// A conditional branch that isn't reached, at the end: its test names its own goto_w.
-pub const LAST_BRANCH: Program<'static> = Program {
+pub const LAST_BRANCH: TestProgram<'static> = TestProgram {
     read: &[LAST_BRANCH_READ],
     written: &[LAST_BRANCH_WRITTEN],
 };
@@ -173,7 +173,7 @@ const LAST_BRANCH_WRITTEN: ClassFile<'static> = ClassFile {
 };
 
 /// A pool with one entry too many for those of `FreeMe.free`.
-pub const POOL_FULL: Program<'static> = Program {
+pub const POOL_FULL: TestProgram<'static> = TestProgram {
     read: &[POOL_FULL_READ],
     written: &[],
 };
@@ -193,7 +193,7 @@ const POOL_FULL_READ: ClassFile<'static> = ClassFile {
 };
 
 /// A pool with just room for the entries of `FreeMe.free`.
-pub const POOL_FITS: Program<'static> = Program {
+pub const POOL_FITS: TestProgram<'static> = TestProgram {
     read: &[POOL_FITS_READ],
     written: &[POOL_FITS_WRITTEN],
 };
@@ -229,7 +229,7 @@ const POOL_FITS_WRITTEN: ClassFile<'static> = ClassFile {
 };
 
 /// A pool that has them, though no instruction calls it.
-pub const POOL_HAS_THEM: Program<'static> = Program {
+pub const POOL_HAS_THEM: TestProgram<'static> = TestProgram {
     read: &[POOL_HAS_THEM_READ],
     written: &[POOL_HAS_THEM_WRITTEN],
 };

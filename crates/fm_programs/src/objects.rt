@@ -1,9 +1,9 @@
 // Programs that make objects and arrays: in loops, in methods that are called, and linked to one another.
 
-use crate::files::{ClassFile, NOTHING, Program, Repeated};
+use crate::files::{ClassFile, NOTHING, TestProgram, Repeated};
 
 /// An array of one int is made and popped.
-pub const ARRAY_POPPED: Program<'static> = Program {
+pub const ARRAY_POPPED: TestProgram<'static> = TestProgram {
     read: &[ARRAY_POPPED_READ],
     written: &[ARRAY_POPPED_WRITTEN],
 };
@@ -34,7 +34,7 @@ const ARRAY_POPPED_WRITTEN: ClassFile<'static> = ClassFile {
 };
 
 /// An array is held by a local, and its length printed.
-pub const ARRAY_LENGTH: Program<'static> = Program {
+pub const ARRAY_LENGTH: TestProgram<'static> = TestProgram {
     read: &[ARRAY_LENGTH_READ],
     written: &[ARRAY_LENGTH_WRITTEN],
 };
@@ -70,7 +70,7 @@ const ARRAY_LENGTH_WRITTEN: ClassFile<'static> = ClassFile {
 };
 
 /// The same of an array of bytes.
-pub const BYTE_ARRAY: Program<'static> = Program {
+pub const BYTE_ARRAY: TestProgram<'static> = TestProgram {
     read: &[BYTE_ARRAY_READ],
     written: &[BYTE_ARRAY_WRITTEN],
 };
@@ -106,7 +106,7 @@ const BYTE_ARRAY_WRITTEN: ClassFile<'static> = ClassFile {
 };
 
 /// A point is made in each turn of a loop.
-pub const POINTS_IN_LOOP: Program<'static> = Program {
+pub const POINTS_IN_LOOP: TestProgram<'static> = TestProgram {
     read: &[POINTS_IN_LOOP_READ, POINTS_IN_LOOP_POINT],
     written: &[POINTS_IN_LOOP_WRITTEN, POINTS_IN_LOOP_POINT],
 };
@@ -156,7 +156,7 @@ const POINTS_IN_LOOP_POINT: ClassFile<'static> = ClassFile {
 };
 
 /// A method makes the object and returns it.
-pub const FACTORY: Program<'static> = Program {
+pub const FACTORY: TestProgram<'static> = TestProgram {
     read: &[FACTORY_READ],
     written: &[FACTORY_WRITTEN],
 };
@@ -192,7 +192,7 @@ const FACTORY_WRITTEN: ClassFile<'static> = ClassFile {
 };
 
 /// A method returns its argument, so its call is no site.
-pub const FACTORY_ID: Program<'static> = Program {
+pub const FACTORY_ID: TestProgram<'static> = TestProgram {
     read: &[FACTORY_ID_READ],
     written: &[FACTORY_ID_READ],
 };
@@ -212,7 +212,7 @@ const FACTORY_ID_READ: ClassFile<'static> = ClassFile {
 };
 
 /// Two nodes, of which one leads to the other.
-pub const LINKED_NODES: Program<'static> = Program {
+pub const LINKED_NODES: TestProgram<'static> = TestProgram {
     read: &[LINKED_NODES_READ, LINKED_NODES_NODE],
     written: &[LINKED_NODES_WRITTEN, LINKED_NODES_NODE],
 };
@@ -267,7 +267,7 @@ const LINKED_NODES_NODE: ClassFile<'static> = ClassFile {
 };
 
 /// A list is built in a loop, and nothing asks it.
-pub const CHAINS: Program<'static> = Program {
+pub const CHAINS: TestProgram<'static> = TestProgram {
     read: &[CHAINS_READ, CHAINS_NODE],
     written: &[CHAINS_WRITTEN, CHAINS_NODE],
 };
@@ -316,7 +316,7 @@ const CHAINS_NODE: ClassFile<'static> = ClassFile {
 };
 
 /// A local holds one object and then another, and their hashes are printed.
-pub const BIRTH_HASHES: Program<'static> = Program {
+pub const BIRTH_HASHES: TestProgram<'static> = TestProgram {
     read: &[BIRTH_HASHES_READ],
     written: &[BIRTH_HASHES_WRITTEN],
 };
@@ -358,7 +358,7 @@ const BIRTH_HASHES_WRITTEN: ClassFile<'static> = ClassFile {
 };
 
 /// An object is put into a static field.
-pub const ESCAPING_STATIC: Program<'static> = Program {
+pub const ESCAPING_STATIC: TestProgram<'static> = TestProgram {
     read: &[ESCAPING_STATIC_READ],
     written: &[ESCAPING_STATIC_READ],
 };

@@ -12,7 +12,7 @@ use Rattle.fm_code.specs.declared.instructions.Insn.TheVariants as insn
 use Rattle.fm_frames.specs.Runnable.{IsUseIn}
 use Rattle.fm_frames.specs.Sights.{type_numbered}
 use Rattle.fm_frames.specs.States.{Frame, State}
-use Rattle.fm_frames.specs.Steps.{insn_at}
+use Rattle.fm_frames.specs.Steps.{next_insn}
 use Rattle.fm_ready.specs.Ready.{CanRun, is_constant, is_field, is_method, is_type, is_wanted, IsGoing, IsNext}
 use Rattle.fm_sound.proofs.CallCases.{used_at}
 use Rattle.fm_sound.proofs.FramesStand.{typing_of}
@@ -70,7 +70,7 @@ pub record MeetsRow (p : Program) (f : Frame) (i : Insn) (u : Use) : Type 0 wher
   pub row : row_after p.outline f.method f.item (made_at p f.method code) u i known ≡ Some after
 
 meets_by : (p : Program) (typings : Typings) (z : State) (f : Frame) (callers : List Frame) (i : Insn) (u : Use)
-    → IsSoundBy p typings (record z { frames = f ∷ callers }) → insn_at p f ≡ Some i → use_by p f.method i ≡ u → MeetsRow p f i u
+    → IsSoundBy p typings (record z { frames = f ∷ callers }) → next_insn p f ≡ Some i → use_by p f.method i ≡ u → MeetsRow p f i u
 meets_by p typings z f callers i u sound at named =
     let stands : StandsWithout p typings 0 f = sound.frames.0 in
     let typing : IsTypingOf p f.method stands.code (typings f.method) = typing_of p typings sound.typed f.method stands.code stands.code_is in

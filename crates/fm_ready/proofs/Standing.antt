@@ -9,7 +9,7 @@ use Rattle.fm_code.specs.declared.code_array.TheConstants.{MAX_CODE_BYTES}
 use Rattle.fm_code.specs.declared.instructions.Insn.{Insn}
 use Rattle.fm_frames.proofs.StepCounts.{costs_some}
 use Rattle.fm_frames.specs.States.{Frame, State}
-use Rattle.fm_frames.specs.Steps.{insn_at}
+use Rattle.fm_frames.specs.Steps.{next_insn}
 use Rattle.fm_frames.specs.inner.Doings.{CanStep, NextFits}
 use Rattle.fm_frames.specs.inner.Targets.{IsAt, IsAtIn}
 use Rattle.fm_ready.specs.Ready.{CanRun, IsGoing, IsNext}
@@ -149,7 +149,7 @@ can_step p x can going =
 
 -- ---- the next instruction
 
-at_frames : (p : Program) (frames : List Frame) (f : Frame) (callers : List Frame) (i : Insn) → frames ≡ f ∷ callers → insn_at p f ≡ Some i → IsAtIn p frames i
+at_frames : (p : Program) (frames : List Frame) (f : Frame) (callers : List Frame) (i : Insn) → frames ≡ f ∷ callers → next_insn p f ≡ Some i → IsAtIn p frames i
 at_frames p frames f callers i is at = subst (λ all. IsAtIn p all i) (sym is) at
 
 -- a jump is where its targets are listed

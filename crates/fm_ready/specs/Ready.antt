@@ -9,7 +9,7 @@ use Rattle.fm_calls.specs.inner.Actions.{unmade}
 use Rattle.fm_frames.specs.ObjectRows.{kind_of_field}
 use Rattle.fm_frames.specs.Starts.{start_actions}
 use Rattle.fm_frames.specs.States.{Frame, State}
-use Rattle.fm_frames.specs.Steps.{cost, insn_at}
+use Rattle.fm_frames.specs.Steps.{cost, next_insn}
 use Rattle.fm_frames.specs.inner.Opening.{opening_classes}
 use Rattle.fm_sound.specs.HeldCells.{HoldsCells}
 use Rattle.fm_sound.specs.Making.{MakesAreResolved}
@@ -58,7 +58,7 @@ pub record IsNext (p : Program) (x : State) (i : Insn) (u : Use) : Type 0 where
   pub frame : Frame
   pub callers : List Frame
   pub frames_is : x.frames ≡ frame ∷ callers
-  pub insn_is : insn_at p frame ≡ Some i
+  pub insn_is : next_insn p frame ≡ Some i
   pub use_is : use_by p frame.method i ≡ u
 
 -- ---- what instructions name

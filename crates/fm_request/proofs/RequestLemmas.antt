@@ -13,10 +13,10 @@ use Rattle.clap.specs.declared.parser.matches.Found.{Found}
 use Rattle.fm_base.specs.declared.limits.TheConstants.{MAX_STEPS, DEFAULT_STEPS, MAX_LIVE_WORDS, DEFAULT_LIVE_WORDS, MAX_FRAMES, DEFAULT_FRAMES}
 use Rattle.fm_request.proofs.CommandLemmas.{faults_by, is_fault, matched_by}
 use Rattle.fm_request.proofs.MatchLemmas.{first_found, first_is, same_value}
-use Rattle.fm_request.specs.Request.{AskNothing, Asks, HasNoValues, HasValuesOf, IsBudget, IsNumber, Job, faults_in, fmrun_command, fmrun_rules, job_of, matched_in}
+use Rattle.fm_request.specs.FmrunRequest.{AskNothing, Asks, HasNoValues, HasValuesOf, IsBudget, IsNumber, FmrunJob, faults_in, fmrun_command, fmrun_rules, job_of, matched_in}
 use Rattle.fm_request.specs.Values.{IsValue, command_with}
-use Rattle.fm_request.specs.inner.Request.{IsNoBudget, IsNoNumber}
-use Rattle.fm_request.specs.declared.request.Request.{Request}
+use Rattle.fm_request.specs.inner.FmrunRequest.{IsNoBudget, IsNoNumber}
+use Rattle.fm_request.specs.declared.fmrun_request.FmrunRequest.{FmrunRequest}
 
 -- the command by its arguments
 pub is_command : (app : App) → app ≡ command_with (codes "fmrun") fmrun_rules → app ≡ fmrun_command
@@ -43,7 +43,7 @@ unfolding faults_in
 faults_are app words result = faults_by fmrun_command app words result is_free_command
 
 -- what the matches hold is what the words ask for
-pub asked_by : (words : List (List ℕ)) (asked : Option Request) → faults_in words ≡ []
+pub asked_by : (words : List (List ℕ)) (asked : Option FmrunRequest) → faults_in words ≡ []
     → MatchOption asked (HasNoValues (matched_in words)) (λ r. HasValuesOf (matched_in words) (job_of r)) → MatchOption asked (AskNothing words) (λ r. Asks words (job_of r))
 asked_by words None faultless h = λ job asks. h job asks.values
 asked_by words (Some r) faultless h = record { faultless = faultless; values = h }
@@ -58,7 +58,7 @@ one_budget None least most default m n a b = a ∙ sym b
 one_budget (Some digits) least most default m n a b = sym a.value ∙ b.value
 
 -- words ask for one job at most
-pub asks_one : (words : List (List ℕ)) (a b : Job) → Asks words a → Asks words b → a ≡ b
+pub asks_one : (words : List (List ℕ)) (a b : FmrunJob) → Asks words a → Asks words b → a ≡ b
 asks_one words a b p q =
     let found = matched_in words in
     let steps = one_budget (first_of (codes "steps") found) _ _ _ a.steps b.steps p.values.steps q.values.steps in
@@ -101,14 +101,14 @@ budget_within None least most default n above within is = subst (λ (m : ℕ). (
 budget_within (Some digits) least most default n above within is = (is.above, is.within)
 
 -- the budgets of a job that is asked for are within their limits
-pub steps_within : (words : List (List ℕ)) (job : Job) → Asks words job → job.steps ≤ MAX_STEPS
+pub steps_within : (words : List (List ℕ)) (job : FmrunJob) → Asks words job → job.steps ≤ MAX_STEPS
 steps_within words job asks =
     (budget_within (first_of (codes "steps") (matched_in words)) 0 MAX_STEPS DEFAULT_STEPS job.steps (omega arith) (omega arith) asks.values.steps).1
 
-pub words_within : (words : List (List ℕ)) (job : Job) → Asks words job → job.words ≤ MAX_LIVE_WORDS
+pub words_within : (words : List (List ℕ)) (job : FmrunJob) → Asks words job → job.words ≤ MAX_LIVE_WORDS
 words_within words job asks =
     (budget_within (first_of (codes "words") (matched_in words)) 0 MAX_LIVE_WORDS DEFAULT_LIVE_WORDS job.words (omega arith) (omega arith) asks.values.words).1
 
-pub frames_within : (words : List (List ℕ)) (job : Job) → Asks words job → (1 ≤ job.frames) × (job.frames ≤ MAX_FRAMES)
+pub frames_within : (words : List (List ℕ)) (job : FmrunJob) → Asks words job → (1 ≤ job.frames) × (job.frames ≤ MAX_FRAMES)
 frames_within words job asks =
     budget_within (first_of (codes "frames") (matched_in words)) 1 MAX_FRAMES DEFAULT_FRAMES job.frames (omega arith) (omega arith) asks.values.frames

@@ -1,4 +1,4 @@
 pub mod inner
 pub mod Values
 pub mod Arguments
-pub mod Request
+pub mod FmrunRequest

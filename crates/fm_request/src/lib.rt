@@ -5,11 +5,11 @@
 #![tactic(auto)]
 
 mod arguments;
-mod request;
+mod fmrun_request;
 #[cfg(test)]
 mod tests;
 mod values;
 
 pub use arguments::arguments_of;
-pub use request::{Request, request_of};
+pub use fmrun_request::{FmrunRequest, request_of};
 pub use values::{are_values, command, files, is_value};

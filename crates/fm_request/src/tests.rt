@@ -1,7 +1,7 @@
 // What words ask for, in clap's ways, and the arguments that a text gives.
 
 use crate::arguments::arguments_of;
-use crate::request::{Request, request_of};
+use crate::fmrun_request::{FmrunRequest, request_of};
 use fm_base::{NoMemory, Units};
 use std::alloc::Global;
 use std::test::Fail;
@@ -65,7 +65,7 @@ fn or_dash<'a>(text: Option<&'a str>) -> &'a str {
 }
 
 // The values of a request, a space between each two.
-fn values(alloc: Global, request: &Request<'_>) -> Result<String, NoMemory> {
+fn values(alloc: Global, request: &FmrunRequest<'_>) -> Result<String, NoMemory> {
     let (steps, words, frames) = (request.steps, request.words, request.frames);
     let input = or_dash(request.input);
     let arguments = or_dash(request.arguments);

@@ -37,31 +37,31 @@ pub record IsCodeOf (given : List ClassDef) (class : ℕ) (code : Code) : Type 0
   pub code_is : code_of member ≡ Some code
 
 -- methods beside their codes
-Told : List ClassDef → List OwnedMethod → List (Option Code) → Type 0
-Told given [] [] = Unit {0}
-Told given [] (o ∷ codes) = ⊥
-Told given (m ∷ methods) [] = ⊥
-Told given (m ∷ methods) (o ∷ codes) = ((code : Code) → o ≡ Some code → IsCodeOf given m.class code) × Told given methods codes
+AreBesideCodes : List ClassDef → List OwnedMethod → List (Option Code) → Type 0
+AreBesideCodes given [] [] = Unit {0}
+AreBesideCodes given [] (o ∷ codes) = ⊥
+AreBesideCodes given (m ∷ methods) [] = ⊥
+AreBesideCodes given (m ∷ methods) (o ∷ codes) = ((code : Code) → o ≡ Some code → IsCodeOf given m.class code) × AreBesideCodes given methods codes
 
-Told-append : (given : List ClassDef) (methods more : List OwnedMethod) (codes others : List (Option Code)) → Told given methods codes → Told given more others
-    → Told given (methods ++ more) (codes ++ others)
-unfolding Told
-Told-append given [] more [] others first second = second
-Told-append given [] more (o ∷ codes) others first second = absurd first
-Told-append given (m ∷ methods) more [] others first second = absurd first
-Told-append given (m ∷ methods) more (o ∷ codes) others first second = (first.0, Told-append given methods more codes others first.1 second)
+AreBesideCodes-append : (given : List ClassDef) (methods more : List OwnedMethod) (codes others : List (Option Code)) → AreBesideCodes given methods codes → AreBesideCodes given more others
+    → AreBesideCodes given (methods ++ more) (codes ++ others)
+unfolding AreBesideCodes
+AreBesideCodes-append given [] more [] others first second = second
+AreBesideCodes-append given [] more (o ∷ codes) others first second = absurd first
+AreBesideCodes-append given (m ∷ methods) more [] others first second = absurd first
+AreBesideCodes-append given (m ∷ methods) more (o ∷ codes) others first second = (first.0, AreBesideCodes-append given methods more codes others first.1 second)
 
-Told-none : (given : List ClassDef) (methods : List OwnedMethod) → Told given methods (replicate (length methods) None)
-unfolding Told
-Told-none given [] = tt
-Told-none given (m ∷ methods) = (λ code is. absurd (none-some code is), Told-none given methods)
+AreBesideCodes-none : (given : List ClassDef) (methods : List OwnedMethod) → AreBesideCodes given methods (replicate (length methods) None)
+unfolding AreBesideCodes
+AreBesideCodes-none given [] = tt
+AreBesideCodes-none given (m ∷ methods) = (λ code is. absurd (none-some code is), AreBesideCodes-none given methods)
 
-Told-members : (given : List ClassDef) (class place : ℕ) (c : ClassDef) → slice_get given place ≡ Some c → class ≡ length built_in + place → (members : List Member)
+AreBesideCodes-members : (given : List ClassDef) (class place : ℕ) (c : ClassDef) → slice_get given place ≡ Some c → class ≡ length built_in + place → (members : List Member)
     → ((m : Member) → Contains members m → Contains c.methods m)
-    → Told given (map (λ m. record { class = class; method = m }) (map (declared_method c.pool.entries) members)) (map code_of members)
-unfolding Told
-Told-members given class place c at is [] among = tt
-Told-members given class place c at is (m ∷ members) among = (
+    → AreBesideCodes given (map (λ m. record { class = class; method = m }) (map (declared_method c.pool.entries) members)) (map code_of members)
+unfolding AreBesideCodes
+AreBesideCodes-members given class place c at is [] among = tt
+AreBesideCodes-members given class place c at is (m ∷ members) among = (
   λ code has. record {
     place = place;
     file = c;
@@ -71,44 +71,44 @@ Told-members given class place c at is (m ∷ members) among = (
     among = among m (0, omega arith, refl);
     code_is = has;
   },
-  Told-members given class place c at is members (λ n there. among n (Contains-later m members n there)),
+  AreBesideCodes-members given class place c at is members (λ n there. among n (Contains-later m members n there)),
 )
 
-Told-files : (given : List ClassDef) (class place file : ℕ) (files : List ClassDef) → class ≡ length built_in + place
+AreBesideCodes-files : (given : List ClassDef) (class place file : ℕ) (files : List ClassDef) → class ≡ length built_in + place
     → ((k : ℕ) (c : ClassDef) → slice_get files k ≡ Some c → slice_get given (place + k) ≡ Some c)
-    → Told given (methods_from class (declared_from file files)) (flat_map (λ c. map code_of c.methods) files)
-unfolding Told
-Told-files given class place file [] is each = tt
-Told-files given class place file (c ∷ files) is each =
+    → AreBesideCodes given (methods_from class (declared_from file files)) (flat_map (λ c. map code_of c.methods) files)
+unfolding AreBesideCodes
+AreBesideCodes-files given class place file [] is each = tt
+AreBesideCodes-files given class place file (c ∷ files) is each =
     let here : place + 0 ≡ place = omega arith in
-    Told-append given (map (λ m. record { class = class; method = m }) (map (declared_method c.pool.entries) c.methods))
+    AreBesideCodes-append given (map (λ m. record { class = class; method = m }) (map (declared_method c.pool.entries) c.methods))
     (methods_from (class + 1) (declared_from (file + 1) files)) (map code_of c.methods) (flat_map (λ d. map code_of d.methods) files)
-    (Told-members given class place c (ap (slice_get given) (sym here) ∙ each 0 c refl) is c.methods (λ m there. there))
-    (Told-files given (class + 1) (place + 1) (file + 1) files (omega (arith, is))
+    (AreBesideCodes-members given class place c (ap (slice_get given) (sym here) ∙ each 0 c refl) is c.methods (λ m there. there))
+    (AreBesideCodes-files given (class + 1) (place + 1) (file + 1) files (omega (arith, is))
     (λ k d at. let next : place + 1 + k ≡ place + suc k = omega arith in ap (slice_get given) next ∙ each (suc k) d at))
 
-Told-at : (given : List ClassDef) (methods : List OwnedMethod) (codes : List (Option Code)) → Told given methods codes → (k : ℕ) (code : Code)
+AreBesideCodes-at : (given : List ClassDef) (methods : List OwnedMethod) (codes : List (Option Code)) → AreBesideCodes given methods codes → (k : ℕ) (code : Code)
     → get_or codes k None ≡ Some code
     → IsCodeOf given (get_or methods k (record { class = 0; method = no_method })).class code
-unfolding Told
-Told-at given [] [] told k code is = absurd (none-some code is)
-Told-at given [] (o ∷ codes) told k code is = absurd told
-Told-at given (m ∷ methods) [] told k code is = absurd told
-Told-at given (m ∷ methods) (o ∷ codes) told zero code is = told.0 code is
-Told-at given (m ∷ methods) (o ∷ codes) told (suc k) code is = Told-at given methods codes told.1 k code is
+unfolding AreBesideCodes
+AreBesideCodes-at given [] [] told k code is = absurd (none-some code is)
+AreBesideCodes-at given [] (o ∷ codes) told k code is = absurd told
+AreBesideCodes-at given (m ∷ methods) [] told k code is = absurd told
+AreBesideCodes-at given (m ∷ methods) (o ∷ codes) told zero code is = told.0 code is
+AreBesideCodes-at given (m ∷ methods) (o ∷ codes) told (suc k) code is = AreBesideCodes-at given methods codes told.1 k code is
 
-Told-all : (given : List ClassDef) → Told given (methods_of (classes_of given)) (codes_of given)
+AreBesideCodes-all : (given : List ClassDef) → AreBesideCodes given (methods_of (classes_of given)) (codes_of given)
 unfolding codes_of
-Told-all given =
-    subst (λ ms. Told given ms (codes_of given)) (sym (all_methods given))
-    (Told-append given (methods_of built_in) (methods_from (length built_in) (declared_from 0 given)) (replicate (length (methods_of built_in)) None)
-    (flat_map (λ c. map code_of c.methods) given) (Told-none given (methods_of built_in))
-    (Told-files given (length built_in) 0 0 given (omega arith) (λ k c at. ap (slice_get given) (zero-add k) ∙ at)))
+AreBesideCodes-all given =
+    subst (λ ms. AreBesideCodes given ms (codes_of given)) (sym (all_methods given))
+    (AreBesideCodes-append given (methods_of built_in) (methods_from (length built_in) (declared_from 0 given)) (replicate (length (methods_of built_in)) None)
+    (flat_map (λ c. map code_of c.methods) given) (AreBesideCodes-none given (methods_of built_in))
+    (AreBesideCodes-files given (length built_in) 0 0 given (omega arith) (λ k c at. ap (slice_get given) (zero-add k) ∙ at)))
 
 -- code is that of a method of a file
 pub code_there : (given : List ClassDef) (method : ℕ) (code : Code) → slice_index_or (codes_of given) method None ≡ Some code
     → IsCodeOf given (method_at (classes_of given) method).class code
-code_there given method code is = Told-at given (methods_of (classes_of given)) (codes_of given) (Told-all given) method code is
+code_there given method code is = AreBesideCodes-at given (methods_of (classes_of given)) (codes_of given) (AreBesideCodes-all given) method code is
 
 -- ---- what the indices of a file are resolved to
 

@@ -11,7 +11,7 @@ use Rattle.fm_base.specs.declared.kinds.Base.TheVariants as base
 use Rattle.fm_base.specs.declared.kinds.TypeRef.{TypeRef}
 use Rattle.fm_code.specs.AccessFlags.{is_interface}
 use Rattle.fm_code.specs.CodeRules.{CodeIsValid}
-use Rattle.fm_code.specs.ConstantPool.{class_name_at, entry_at, MemberName, method_at}
+use Rattle.fm_code.specs.ConstantPool.{class_name_at, entry_at, MemberName, method_ref_at}
 use Rattle.fm_code.specs.Edges.{insn_of}
 use Rattle.fm_code.specs.Members.{code_of, MethodAttrIsValid, MethodIsValid}
 use Rattle.fm_code.specs.Names.{base_descriptor, field_descriptor, FieldType, IsClassName, IsFieldType, is_binary_name, object}
@@ -82,7 +82,7 @@ record IsMethodref (entries : List Entry) (index : ℕ) : Type 0 where
   named : ℕ
   entry_is : entry_at entries index ≡ entry.Method class named
 
-methodref : (entries : List Entry) (index : ℕ) → IsSome (method_at entries index) → IsMethodref entries index
+methodref : (entries : List Entry) (index : ℕ) → IsSome (method_ref_at entries index) → IsMethodref entries index
 methodref entries index some = by_entry (entry_at entries index) refl where
   by_entry : (e : Entry) → entry_at entries index ≡ e → IsMethodref entries index
   by_entry (entry.Method class named) is = record { class = class; named = named; entry_is = is }

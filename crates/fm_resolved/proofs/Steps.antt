@@ -12,7 +12,7 @@ use Rattle.fm_code.specs.AccessFlags.{is_abstract, is_interface, is_native, is_p
 use Rattle.fm_code.specs.Edges.{insn_of}
 use Rattle.fm_code.specs.Members.{MethodIsValid}
 use Rattle.fm_code.specs.Spells.{HasSpelling}
-use Rattle.fm_code.specs.SpellsCode.{IsSpelled, targets_of}
+use Rattle.fm_code.specs.SpellsCode.{ItemIsSpelled, targets_of}
 use Rattle.fm_code.specs.declared.class_file.ClassDef.{ClassDef}
 use Rattle.fm_code.specs.declared.class_file.Member.{Member}
 use Rattle.fm_code.specs.declared.code_array.Code.{Code}
@@ -51,7 +51,7 @@ pub targets_there : (given : List ClassDef) → AllByRecursion HasSpelling given
     → insn_of code place ≡ Some i
     → AllByRecursion (λ target. target < length code.items) (targets_of i)
 targets_there given spelled method code place i code_is insn_is = by_item (slice_get code.items place) refl insn_is where
-  all : AllByRecursion (IsSpelled code.items) code.items
+  all : AllByRecursion (ItemIsSpelled code.items) code.items
   all =
       let there = code_there given method code code_is in
       (valid_code there.file (spelled_at given there.place there.file spelled there.file_is) there.member code there.among there.code_is).spelled.spelled
@@ -61,7 +61,7 @@ targets_there given spelled method code place i code_is insn_is = by_item (slice
   by_item None at e = absurd (none-some i e)
   by_item (Some item) at e =
       let P : Insn → Type 0 = λ j. AllByRecursion (λ target. target < length code.items) (targets_of j) in
-      subst P (same_Some item.insn i e) (each_one (IsSpelled code.items) code.items item all (contains_at code.items place item at)).targets
+      subst P (same_Some item.insn i e) (each_one (ItemIsSpelled code.items) code.items item all (contains_at code.items place item at)).targets
 
 -- ---- items
 

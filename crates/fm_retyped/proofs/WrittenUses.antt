@@ -13,7 +13,7 @@ use Rattle.fm_again.proofs.Outlines.{either_class, outline_same}
 use Rattle.fm_again.proofs.PoolStays.{entry_same, member_same, method_entry, method_named}
 use Rattle.fm_again.proofs.UsedWithin.{unused_past}
 use Rattle.fm_again.proofs.Uses.{row_within, use_at, uses_same}
-use Rattle.fm_code.specs.ConstantPool.{method_at}
+use Rattle.fm_code.specs.ConstantPool.{method_ref_at}
 use Rattle.fm_code.specs.Edges.{insn_of}
 use Rattle.fm_code.specs.FreeEntries.{free_method}
 use Rattle.fm_code.specs.Members.{code_of}
@@ -112,7 +112,7 @@ second_is_none : (class member : ℕ) → entry.Second ≡ entry.Method class me
 second_is_none class member is = cc
 
 -- an entry that names the method is there, and is resolved to it
-free_within : (entries : List Entry) (index : ℕ) → method_at entries index ≡ Some free_method → index < length entries
+free_within : (entries : List Entry) (index : ℕ) → method_ref_at entries index ≡ Some free_method → index < length entries
 free_within entries index named = by_place (cases_lt index (length entries)) where
   by_place : (index < length entries) ⊎ (length entries ≤ index) → index < length entries
   by_place (inl within) = within
@@ -120,7 +120,7 @@ free_within entries index named = by_place (cases_lt index (length entries)) whe
       let e = method_entry entries index free_method named in
       absurd (second_is_none e.0 e.1 (sym (get_or_past entries index entry.Second past) ∙ e.2))
 
-free_at : (o : Outline) → HasFree o → (entries : List Entry) (index : ℕ) → method_at entries index ≡ Some free_method
+free_at : (o : Outline) → HasFree o → (entries : List Entry) (index : ℕ) → method_ref_at entries index ≡ Some free_method
     → resolved_at o entries index ≡ free_use
 free_at o has entries index named =
     let e = method_entry entries index free_method named in

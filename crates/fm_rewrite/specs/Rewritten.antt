@@ -122,7 +122,7 @@ pub record AreRewritten (given : List ClassDef) (main : List ℕ) (made : Rewrit
   pub counts_are : made.counts.items ≡ counts_of (full_plans (program_of given main) full.facts) given
 
 -- the program doesn't call FreeMe, and by exact facts, over least typings, this is the first cause
-pub record AreRefused (given : List ClassDef) (main : List ℕ) (cause : RewriteFail) : Type 0 where
+pub record AreNotRewritten (given : List ClassDef) (main : List ℕ) (cause : RewriteFail) : Type 0 where
   pub no_call : first_call (program_of given main) ≡ None
   pub facts : Facts
   pub exact : AreFacts (program_of given main) facts
@@ -133,6 +133,6 @@ pub record AreRefused (given : List ClassDef) (main : List ℕ) (cause : Rewrite
 abbrev pub ComesOfRewriting : List ClassDef → List ℕ → Result Rewritten RewriteFail → Type 0
 ComesOfRewriting given main (Ok made) = AreRewritten given main made
 ComesOfRewriting given main (Err (fail.CallsFree method offset)) = first_call (program_of given main) ≡ Some (method.0, offset)
-ComesOfRewriting given main (Err (fail.PoolFull class indices)) = AreRefused given main (fail.PoolFull class indices)
-ComesOfRewriting given main (Err (fail.MethodTooLong method bytes)) = AreRefused given main (fail.MethodTooLong method bytes)
+ComesOfRewriting given main (Err (fail.PoolFull class indices)) = AreNotRewritten given main (fail.PoolFull class indices)
+ComesOfRewriting given main (Err (fail.MethodTooLong method bytes)) = AreNotRewritten given main (fail.MethodTooLong method bytes)
 ComesOfRewriting given main (Err fail.NoMemory) = Unit {0}

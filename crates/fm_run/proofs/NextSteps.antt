@@ -10,7 +10,7 @@ use Rattle.fm_frames.specs.Rows.{effect_of}
 use Rattle.fm_frames.specs.Sights.{sights}
 use Rattle.fm_frames.specs.Starts.{with_start}
 use Rattle.fm_frames.specs.States.{Frame, State}
-use Rattle.fm_frames.specs.Steps.{effect_by, insn_at, next_effect}
+use Rattle.fm_frames.specs.Steps.{effect_by, next_insn, next_effect}
 use Rattle.fm_frames.specs.inner.Doings.{DoesIn}
 use Rattle.fm_frames.specs.inner.Frames.{stack_in}
 use Rattle.fm_frames.specs.inner.Targets.{IsAt}
@@ -24,7 +24,7 @@ use Rattle.fm_world.specs.declared.uses.Use.{Use}
 -- the effect of the topmost frame's instruction
 abbrev effect_in : Program → State → List Frame → Effect
 effect_in p x [] = stuck
-effect_in p x (f ∷ callers) = effect_by p x f (insn_at p f)
+effect_in p x (f ∷ callers) = effect_by p x f (next_insn p f)
 
 -- that of a row
 abbrev row_effect : Program → State → (method : ℕ) → Insn → List Frame → Effect
@@ -36,7 +36,7 @@ abbrev pub own_effect : Program → State → (method : ℕ) → Insn → Effect
 own_effect p x method i = effect_of p.outline method (use_by p method i) i (slice_get x.input 0) (seen p x)
 
 in-frames : (p : Program) (x : State) (i : Insn) (frames : List Frame) (f : Frame) (callers : List Frame) → frames ≡ f ∷ callers
-    → insn_at p f ≡ Some i → effect_in p x frames ≡ row_effect p x f.method i frames
+    → next_insn p f ≡ Some i → effect_in p x frames ≡ row_effect p x f.method i frames
 in-frames p x i frames f callers is insn_is =
     let P : List Frame → Type 0 = λ frames. effect_in p x frames ≡ row_effect p x f.method i frames in
     subst P (sym is) (ap (effect_by p x f) insn_is)

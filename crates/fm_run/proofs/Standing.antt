@@ -5,7 +5,7 @@ use Rattle.fm_code.specs.Edges.{insn_of}
 use Rattle.fm_code.specs.declared.code_array.Code.{Code}
 use Rattle.fm_code.specs.declared.instructions.Insn.{Insn}
 use Rattle.fm_frames.specs.States.{Frame, State}
-use Rattle.fm_frames.specs.Steps.{insn_at}
+use Rattle.fm_frames.specs.Steps.{next_insn}
 use Rattle.fm_frames.specs.inner.Frames.{place, place_of, topmost}
 use Rattle.fm_frames.specs.declared.frames.Cursor.{Cursor}
 use Rattle.fm_ready.proofs.Standing.{IsStanding}
@@ -35,7 +35,7 @@ item-inside p x s at code is code_is =
 pub stands-here : (p : Program) (x : State) (s : IsStanding p x) (at : ℕ × ℕ) (code : Code) (i : Insn) → at ≡ place_of s.frame → code_at p at.0 ≡ Some code
     → insn_of code at.1 ≡ Some i → StandsIn p x at.0 i
 stands-here p x s at code i is code_is insn_is =
-    let here : insn_at p s.frame ≡ Some i =
+    let here : next_insn p s.frame ≡ Some i =
     ap (λ (q : ℕ × ℕ). option_and_then (λ code. insn_of code q.1) (code_at p q.0)) (sym is)
     ∙ ap (λ found. option_and_then (λ code. insn_of code at.1) found) code_is ∙ insn_is in
     record {

@@ -13,7 +13,7 @@ use Rattle.fm_frames.specs.declared.turns.StepFail.TheVariants as fail
 use Rattle.fm_report.specs.Reports.{end_status, report_line}
 use Rattle.fm_run.specs.Running.{BreaksRun, FailsRun, RunsTo}
 use Rattle.fm_runner.specs.declared.runs.Budgets.{Budgets}
-use Rattle.fm_runner.specs.declared.runs.Told.{Told}
+use Rattle.fm_runner.specs.declared.runs.RunReport.{RunReport}
 use Rattle.fm_world.specs.Programs.{Program}
 
 -- the budgets are within their limits
@@ -32,7 +32,7 @@ opened_run p b arguments input =
     (opening p choice (record { arguments = arguments; input = input; depth = b.frames }) (opened b.words (Some b.store) empty_lists)).state
 
 -- the run reached its end, and this is reported: the line of its report, and the status of its end
-pub record IsToldOf (p : Program) (b : Budgets) (arguments : List (List ℕ)) (input : List ℕ) (told : Told) (before after : Output) : Type 0 where
+pub record IsToldOf (p : Program) (b : Budgets) (arguments : List (List ℕ)) (input : List ℕ) (told : RunReport) (before after : Output) : Type 0 where
   pub last : State
   pub runs : RunsTo p choice b.steps (opened_run p b arguments input) last before after
   pub line_is : string_bytes told.line ≡ report_line p (report_of last)
@@ -40,7 +40,7 @@ pub record IsToldOf (p : Program) (b : Budgets) (arguments : List (List ℕ)) (i
 
 -- it reached its end; or the put of what a step prints failed; or memory couldn't be had after its
 -- first steps, which may be none
-abbrev pub ComesOfRun : Program → Budgets → (arguments : List (List ℕ)) → (input : List ℕ) → (before after : Output) → Result Told StepFail → Type 0
+abbrev pub ComesOfRun : Program → Budgets → (arguments : List (List ℕ)) → (input : List ℕ) → (before after : Output) → Result RunReport StepFail → Type 0
 ComesOfRun p b arguments input before after (Ok told) = IsToldOf p b arguments input told before after
 ComesOfRun p b arguments input before after (Err fail.SinkFailed) = FailsRun p choice b.steps (opened_run p b arguments input) before after
 ComesOfRun p b arguments input before after (Err fail.NoMemory) = BreaksRun p choice b.steps (opened_run p b arguments input) before after

@@ -7,4 +7,4 @@
 
 mod runs;
 
-pub use runs::{Budgets, Told, run_program};
+pub use runs::{Budgets, RunReport, run_program};

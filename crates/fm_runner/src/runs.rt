@@ -31,7 +31,7 @@ pub struct Budgets {
 
 /// The report of a run.
 #[derive(Debug, Drop)]
-pub struct Told {
+pub struct RunReport {
     /// The line of the report, with its line end.
     pub line: String,
     /// The exit status.
@@ -48,7 +48,7 @@ pub fn run_program<O: Sink>(
     arguments: &[Units],
     input: &[u8],
     out: &mut O,
-) -> Result<Told, StepFail>
+) -> Result<RunReport, StepFail>
     requires can { CanRun program.now }
     requires typed { AreTyped program.now }
     requires within { AreWithin budgets }
@@ -64,7 +64,7 @@ pub fn run_program<O: Sink>(
     let _births = machine.births();
     let report = run(alloc, &mut machine, program, budgets.steps, out)?;
     let line = report_line(alloc, program, &report)?;
-    Ok(Told {
+    Ok(RunReport {
         line,
         status: end_status(report.end),
     })

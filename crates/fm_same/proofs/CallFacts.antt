@@ -23,7 +23,7 @@ use Rattle.fm_types.specs.States.{TypeState}
 use Rattle.fm_types.specs.Typed.{FitsAt, made_at, MeetsItem, state_at, use_by, use_in}
 use Rattle.fm_types.specs.declared.slots.Slot as slots
 use Rattle.fm_world.specs.Causes.{static_method_wanted}
-use Rattle.fm_world.specs.Descriptors.{argument_words, parameter_kinds}
+use Rattle.fm_world.specs.Descriptors.{argument_word_count, parameter_kinds}
 use Rattle.fm_world.specs.Members.{method_at}
 use Rattle.fm_world.specs.Numbers.{type_of_class}
 use Rattle.fm_world.specs.Programs.{class_id, code_at, Outline, Program, targets}
@@ -158,7 +158,7 @@ target_fits x i c call target is among =
     let alike : IsAlike o.classes c.m.0 target = subst (λ m. IsAlike o.classes m target) same (target_alike x.program call target among) in
     record {
       parameters = ap (parameter_kinds o.classes) alike.descriptor;
-      arguments = ap (argument_words o.classes) alike.descriptor;
+      arguments = ap (argument_word_count o.classes) alike.descriptor;
       flags = alike_static o c.m.0 target c.static alike c.flags
           (λ static. static_itself x i call target is (c.wanted ∙ ap Some static) among ∙ same);
     }

@@ -139,7 +139,7 @@ module _ (p : Program) (facts : Facts) (exact : AreFacts p facts) (f : Frame) (i
       pair_at (Slot f.item depth) (Slot next depth) first second
       (inl (record { depth = depth; next = next; below = omega (arith, same); edge = edge; before = refl; after = refl }))
 
-  pub joined_class : (one other : pairs.Place) (a b : Node) → Contains (pairs.joined_by p.outline used i) (one, other) → StandsAt x f.item i one a
+  pub joined_class : (one other : pairs.RowPlace) (a b : Node) → Contains (pairs.joined_by p.outline used i) (one, other) → StandsAt x f.item i one a
       → StandsAt x f.item i other b → IsNode x a → IsNode x b → facts.class f.method a ≡ facts.class f.method b
   joined_class one other a b row first second first_node second_node =
       pair_at a b first_node second_node (inr (inl (record { one = one; other = other; row = row; first = first; second = second })))

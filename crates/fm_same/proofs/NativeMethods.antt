@@ -24,7 +24,7 @@ use Rattle.fm_types.specs.declared.slots.Slot.TheVariants as slot
 use Rattle.fm_world.specs.BuiltIns.{built_in, string_name}
 use Rattle.fm_world.specs.Declarations.{no_method}
 use Rattle.fm_base.specs.Kinds.{kind_words}
-use Rattle.fm_world.specs.Descriptors.{argument_words, base_in, class_number, declared_kind, kind_with, of_class, parameter_types, result_type}
+use Rattle.fm_world.specs.Descriptors.{argument_word_count, base_in, class_number, declared_kind, kind_with, of_class, parameter_types, result_type}
 use Rattle.fm_world.specs.Members.{method_at, methods_of, OwnedMethod}
 use Rattle.fm_world.specs.Numbers.{type_of_class}
 use Rattle.fm_world.specs.Programs.{Outline}
@@ -61,7 +61,7 @@ sums_alike cs ds (t ∷ ts) =
     ∙ ap (λ n. kind_words (declared_kind ds t) + n) (sums_alike cs ds ts)
     ∙ sym (sum_by-cons kind_words (declared_kind ds t) (map (declared_kind ds) ts))
 
-argument_words-alike : (cs ds : List DeclaredClass) (descriptor : List ℕ) → argument_words cs descriptor ≡ argument_words ds descriptor
+argument_words-alike : (cs ds : List DeclaredClass) (descriptor : List ℕ) → argument_word_count cs descriptor ≡ argument_word_count ds descriptor
 argument_words-alike cs ds descriptor = sums_alike cs ds (parameter_types descriptor)
 
 -- ---- the table
@@ -90,7 +90,7 @@ receiver_words m = cond (is_static m.flags) 0 1
 
 abbrev fits_row : DeclaredMethod → Option Native → Bool
 fits_row m None = true
-fits_row m (Some row) = (receiver_words m + argument_words [] m.descriptor == native_words row) && has_ends row m
+fits_row m (Some row) = (receiver_words m + argument_word_count [] m.descriptor == native_words row) && has_ends row m
 
 abbrev fits : DeclaredMethod → Bool
 fits m = fits_row m (option_and_then native_of_row m.row)
@@ -225,14 +225,14 @@ module _ (o : Outline) (given : List DeclaredClass) (classes : o.classes ≡ bui
   has_row_by : (number : ℕ) → here.row ≡ Some number → native_of_row number ≡ Some row → HasRow o target row
   has_row_by number number_is row_is =
       let found : option_and_then native_of_row here.row ≡ Some row = ap (option_and_then native_of_row) number_is ∙ row_is in
-      let parts = and_parts (receiver_words here + argument_words [] here.descriptor == native_words row) (has_ends row here)
+      let parts = and_parts (receiver_words here + argument_word_count [] here.descriptor == native_words row) (has_ends row here)
       (sym (ap (fits_row here) found) ∙ fits_here) in
       record {
         number = number;
         number_is = number_is;
         row_is = row_is;
         words = ap (λ n. receiver_words here + n) (argument_words-alike o.classes [] here.descriptor)
-            ∙ eqb-true (receiver_words here + argument_words [] here.descriptor) (native_words row) parts.0;
+            ∙ eqb-true (receiver_words here + argument_word_count [] here.descriptor) (native_words row) parts.0;
         ends = ends_are o given classes target row parts.1;
         free = free_is_static here row parts.1;
       }

@@ -15,7 +15,7 @@ use Rattle.fm_world.specs.Programs.{Outline, Program}
 use Rattle.fm_frames.specs.Acts.{same_cell, Sources, value_of}
 use Rattle.fm_frames.specs.Effects.{Effect, Next, Falls, Jumps, JumpsIfSame, Calls, Returns, Throws, Enters, Exits, Faults, Source, OfOperand, OfMade}
 use Rattle.fm_frames.specs.States.{Frame, State, word_at}
-use Rattle.fm_frames.specs.Steps.{caught, Caught, continued, fault_of, InFrames, insn_at, is_start, Leaves, new_frame, returned, start_frames, stopped, target_at, thrown_by, type_at}
+use Rattle.fm_frames.specs.Steps.{caught, Caught, continued, fault_of, InFrames, next_insn, is_start, Leaves, new_frame, returned, start_frames, stopped, target_at, thrown_by, type_at}
 use Rattle.fm_frames.specs.Steps as steps
 use Rattle.fm_frames.specs.declared.values.Value.{Value}
 use Rattle.fm_same.specs.Advances.{point_of}
@@ -28,7 +28,7 @@ use Rattle.fm_same.proofs.CallsKeep.{called_coloured, calling_coloured, no_words
 use Rattle.fm_same.proofs.EdgesKeep.{edge_to_next, edge_to_target, item_with_state}
 use Rattle.fm_same.proofs.GoesOnKeep.{frame_goes, frames-later}
 use Rattle.fm_same.proofs.RegionLemmas.{region_global}
-use Rattle.fm_same.proofs.ReturnsKeep.{Kept, return_kept}
+use Rattle.fm_same.proofs.ReturnsKeep.{ReturnIsColoured, return_kept}
 use Rattle.fm_same.proofs.SourcesKeep.{source_gives}
 use Rattle.fm_same.proofs.ThrowsKeep.{thrown_coloured}
 use Rattle.fm_sound.specs.Placing.{ReadAgrees}
@@ -55,7 +55,7 @@ module _ (p : Program) (facts : Facts) (exact : AreFacts p facts) (f : Frame) (c
   from = record { locals = f.locals; stack = f.stack; areas = x.areas; made = made }
 
   abbrev To : List Frame → Type 0
-  To frames = Kept p facts (f ∷ callers) colour x.areas.store.births frames x.areas
+  To frames = ReturnIsColoured p facts (f ∷ callers) colour x.areas.store.births frames x.areas
 
   pub frames_now : AreFramesColoured p.outline facts x.areas.store colour (f ∷ callers)
   frames_now = frames-later p.outline facts store x.areas.store colour (f ∷ callers) gone.extends coloured
@@ -136,7 +136,7 @@ module _ (p : Program) (facts : Facts) (exact : AreFacts p facts) (f : Frame) (c
   -- out of the frame
   throws : (s : Source) → IsObjectSource s → ComesFrom point home (point.class Global) s → ((k : ℕ) → stores_over k at.insn ≡ false)
       → (c : Caught) → caught p (type_at p.outline x.areas.store (value_of from s)) (value_of from s) (f ∷ callers) ≡ c
-      → Stand p facts (thrown_by x c).frames → Kept p facts (f ∷ callers) colour x.areas.store.births (thrown_by x c).frames (thrown_by x c).areas
+      → Stand p facts (thrown_by x c).frames → ReturnIsColoured p facts (f ∷ callers) colour x.areas.store.births (thrown_by x c).frames (thrown_by x c).areas
   throws s is_object comes keeps (InFrames frames) is stands =
       let has : HasColour x.areas.store colour Everywhere (value_of from s) =
       subst (λ r. HasColour x.areas.store colour r (value_of from s))
@@ -156,7 +156,7 @@ returns_to : (p : Program) (facts : Facts) (exact : AreFacts p facts) (f g : Fra
     → (b : Bool) → is_start p.outline f.method ≡ b
     → Stand p facts (cond b (record x { frames = g ∷ callers })
     (record x { frames = record g { item = g.item + 1; stack = take n f.stack ++ g.stack } ∷ callers })).frames
-    → Kept p facts (f ∷ g ∷ callers) colour x.areas.store.births
+    → ReturnIsColoured p facts (f ∷ g ∷ callers) colour x.areas.store.births
     (cond b (record x { frames = g ∷ callers }) (record x { frames = record g { item = g.item + 1; stack = take n f.stack ++ g.stack } ∷ callers })).frames
     (cond b (record x { frames = g ∷ callers }) (record x { frames = record g { item = g.item + 1; stack = take n f.stack ++ g.stack } ∷ callers })).areas
 returns_to p facts exact f g callers at below x colour coloured shared home i n evenly true is stands =
@@ -171,9 +171,9 @@ returns_kept : (p : Program) (facts : Facts) (exact : AreFacts p facts) (f : Fra
     (below : StandBelow p facts f callers) (x : State) (colour : Colour)
     (coloured : AreFramesColoured p.outline facts x.areas.store colour (f ∷ callers)) (shared : AreAreasColoured p.outline colour x.areas)
     (home : ℕ) (i : Insn) (n : ℕ) → EndsEvenly p.outline (point_of p facts f at.code) home i (Returns n)
-    → Kept p facts (f ∷ callers) colour x.areas.store.births x.frames x.areas
+    → ReturnIsColoured p facts (f ∷ callers) colour x.areas.store.births x.frames x.areas
     → Stand p facts (returned p n f callers x).frames
-    → Kept p facts (f ∷ callers) colour x.areas.store.births (returned p n f callers x).frames (returned p n f callers x).areas
+    → ReturnIsColoured p facts (f ∷ callers) colour x.areas.store.births (returned p n f callers x).frames (returned p n f callers x).areas
 returns_kept p facts exact f [] at below x colour coloured shared home i n evenly same stands = same
 returns_kept p facts exact f (g ∷ callers) at below x colour coloured shared home i n evenly same stands =
     returns_to p facts exact f g callers at below x colour coloured shared home i n evenly (is_start p.outline f.method) refl stands
@@ -185,7 +185,7 @@ module _ (p : Program) (facts : Facts) (exact : AreFacts p facts) (f : Frame) (c
   pub next_kept : length f.stack ≡ depth_at (method_of p facts f at.code) f.item → (nx : Next) → LeadsRight at.insn nx
       → ((next : ℕ) → IsGoing nx → IsNormalEdge at.code f.item next → GoesOn (point_of p facts f at.code) home e next)
       → EndsEvenly p.outline (point_of p facts f at.code) home at.insn nx → Stand p facts (follow nx).frames
-      → Kept p facts (f ∷ callers) colour x.areas.store.births (follow nx).frames (follow nx).areas
+      → ReturnIsColoured p facts (f ∷ callers) colour x.areas.store.births (follow nx).frames (follow nx).areas
   next_kept depth Falls leads goes ends stands =
       falls p facts exact f callers at below store colour coloured home x frames_are made gone e reads (λ next edge. goes next tt edge) leads stands.0
   next_kept depth (Jumps n) leads goes ends stands =

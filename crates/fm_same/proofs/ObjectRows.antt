@@ -50,10 +50,10 @@ reference_field : (o : Outline) (u : Use) (f : FieldId) (n : TypeId) (t : TypeRe
     → pairs.is_reference_field o u ≡ true
 reference_field o u f n t is kind_is = ap (pairs.is_reference_field o) is ∙ ap pairs.is_reference_kind kind_is
 
-field_words_is : (o : Outline) (u : Use) (f : FieldId) (n : TypeId) → u ≡ resolved.OfField f n → pairs.field_words o u ≡ kind_words (kind_of_field o f.0)
-field_words_is o u f n is = ap (pairs.field_words o) is
+field_words_is : (o : Outline) (u : Use) (f : FieldId) (n : TypeId) → u ≡ resolved.OfField f n → pairs.field_word_count o u ≡ kind_words (kind_of_field o f.0)
+field_words_is o u f n is = ap (pairs.field_word_count o) is
 
-row_there : (b : Bool) (places : List (pairs.Place × pairs.Place)) (place : pairs.Place × pairs.Place) → b ≡ true → Contains places place
+row_there : (b : Bool) (places : List (pairs.RowPlace × pairs.RowPlace)) (place : pairs.RowPlace × pairs.RowPlace) → b ≡ true → Contains places place
     → Contains (cond b places []) place
 row_there true places place e h = h
 row_there false places place e h = absurd (false≢true e)
@@ -268,7 +268,7 @@ module _ (p : Program) (facts : Facts) (exact : AreFacts p facts) (f : Frame) wh
   put_by_kind index h m n is k kind_is =
       let i : Insn = insn.PutField index in
       let u : Use = used p facts exact f i h in
-      let count : pairs.field_words p.outline u ≡ kind_words k = field_words_is p.outline u m n is ∙ ap kind_words kind_is in
+      let count : pairs.field_word_count p.outline u ≡ kind_words k = field_words_is p.outline u m n is ∙ ap kind_words kind_is in
       put_obeys p facts exact f i h (λ l. refl) refl (kind_words k + 1) (kind_words k) (slot_of p.outline.classes m.0) (kind_words k - 1) k
       (omega (arith, count))
       (λ ref k_is.
@@ -306,7 +306,7 @@ module _ (p : Program) (facts : Facts) (exact : AreFacts p facts) (f : Frame) wh
   set_by_kind index h m n is (kind.Ref ref) kind_is =
       let i : Insn = insn.PutStatic index in
       let u : Use = used p facts exact f i h in
-      let count : pairs.field_words p.outline u ≡ 1 = field_words_is p.outline u m n is ∙ ap kind_words kind_is in
+      let count : pairs.field_word_count p.outline u ≡ 1 = field_words_is p.outline u m n is ∙ ap kind_words kind_is in
       let after : RowGives i h (put_static_row p.outline u h.state) =
       row_gives i h (put_static_row p.outline u h.state) (row p facts exact f i h) in
       let top : (s : slots.Slot) × (slice_get h.state.stack 0 ≡ Some s) × (is_reference s ≡ true) =
@@ -324,7 +324,7 @@ module _ (p : Program) (facts : Facts) (exact : AreFacts p facts) (f : Frame) wh
   set_by_kind index h m n is k kind_is =
       let i : Insn = insn.PutStatic index in
       let u : Use = used p facts exact f i h in
-      let count : pairs.field_words p.outline u ≡ kind_words k = field_words_is p.outline u m n is ∙ ap kind_words kind_is in
+      let count : pairs.field_word_count p.outline u ≡ kind_words k = field_words_is p.outline u m n is ∙ ap kind_words kind_is in
       goes_obey p facts exact f i h (acting (kind_words k) (SetStatic (slot_of p.outline.classes m.0) k (OfOperand (kind_words k - 1)) ∷ [])) 0
       (tt, tt) refl tt (λ next edge q s at node. absurd (cc)) tt (λ l unwritten. refl) (omega (arith, count))
 

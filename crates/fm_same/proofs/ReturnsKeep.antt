@@ -155,7 +155,7 @@ first_of (x ∷ words) = ⊎_elim
 
 -- ---- a return
 
-pub record Kept (p : Program) (facts : Facts) (before : List Frame) (colour : Colour) (births : ℕ) (frames : List Frame) (areas : Areas) : Type 0 where
+pub record ReturnIsColoured (p : Program) (facts : Facts) (before : List Frame) (colour : Colour) (births : ℕ) (frames : List Frame) (areas : Areas) : Type 0 where
   pub other : Colour
   pub frames_coloured : AreFramesColoured p.outline facts areas.store other frames
   pub areas_coloured : AreAreasColoured p.outline other areas
@@ -253,7 +253,7 @@ module _ (p : Program) (facts : Facts) (exact : AreFacts p facts) (f g : Frame) 
 
     -- no word of the result is a reference
     plain_kept : ((q : ℕ) (v : Value) → slice_get (take n f.stack) q ≡ Some v → IsReference v → ⊥)
-        → Kept p facts (f ∷ g ∷ callers) colour areas.store.births (resumed ∷ callers) areas
+        → ReturnIsColoured p facts (f ∷ g ∷ callers) colour areas.store.births (resumed ∷ callers) areas
     plain_kept none = record {
       other = colour;
       frames_coloured = (resumed_coloured (λ r. r) (λ class. refl) (λ q v found leads. absurd (none q v found leads)), below);
@@ -304,7 +304,7 @@ module _ (p : Program) (facts : Facts) (exact : AreFacts p facts) (f g : Frame) 
           (subst (λ a. HasColour areas.store (mapped m colour) (region_g (facts.class g.method a)) v) (sym is.1) has)
 
       same_kept : region_f (facts.class f.method Return) ≡ region_g (facts.class g.method (Slot (g.item + 1) (length g.stack)))
-          → Kept p facts (f ∷ g ∷ callers) colour areas.store.births (resumed ∷ callers) areas
+          → ReturnIsColoured p facts (f ∷ g ∷ callers) colour areas.store.births (resumed ∷ callers) areas
       same_kept same = record {
         other = colour;
         frames_coloured = (
@@ -316,7 +316,7 @@ module _ (p : Program) (facts : Facts) (exact : AreFacts p facts) (f g : Frame) 
       }
 
       own_kept : region_f (facts.class f.method Return) ≡ Own (length (g ∷ callers)) (facts.class f.method Return)
-          → Kept p facts (f ∷ g ∷ callers) colour areas.store.births (resumed ∷ callers) areas
+          → ReturnIsColoured p facts (f ∷ g ∷ callers) colour areas.store.births (resumed ∷ callers) areas
       own_kept own =
           let to : Region = region_g (facts.class g.method (Slot (g.item + 1) (length g.stack))) in
           let m : Region → Region = moved (length (g ∷ callers)) (facts.class f.method Return) to in
@@ -340,7 +340,7 @@ module _ (p : Program) (facts : Facts) (exact : AreFacts p facts) (f g : Frame) 
             advances = λ birth less. moved_cases (length (g ∷ callers)) (facts.class f.method Return) to (colour birth);
           }
 
-      one_kept : Kept p facts (f ∷ g ∷ callers) colour areas.store.births (resumed ∷ callers) areas
+      one_kept : ReturnIsColoured p facts (f ∷ g ∷ callers) colour areas.store.births (resumed ∷ callers) areas
       one_kept =
           ⊎_elim same_kept own_kept
           (region_return p facts exact f g at.code at.code_is h callers (g.item + 1) evenly_first.1 edge top_node)
@@ -358,7 +358,7 @@ module _ (p : Program) (facts : Facts) (exact : AreFacts p facts) (f g : Frame) 
         none v (ap (λ i. slice_get f.stack i) (sym zero_is) ∙ there.1) leads
 
     -- whether the result is a reference or not
-    pub return_kept : Kept p facts (f ∷ g ∷ callers) colour areas.store.births (resumed ∷ callers) areas
+    pub return_kept : ReturnIsColoured p facts (f ∷ g ∷ callers) colour areas.store.births (resumed ∷ callers) areas
     return_kept = ⊎_elim
         (λ (none : n ≡ 0). plain_kept (no_words none))
         (λ (some : n ≢ 0). ⊎_elim

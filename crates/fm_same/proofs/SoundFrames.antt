@@ -28,7 +28,7 @@ use Rattle.fm_world.specs.declared.uses.Use.TheVariants as resolved
 use Rattle.fm_frames.specs.CallRows.{words_of_arguments}
 use Rattle.fm_frames.specs.Runnable.{IsUseIn}
 use Rattle.fm_frames.specs.States.{Frame}
-use Rattle.fm_frames.specs.Steps.{insn_at}
+use Rattle.fm_frames.specs.Steps.{next_insn}
 use Rattle.fm_frames.specs.declared.values.Value.{Value}
 use Rattle.fm_sound.specs.Sound as sound
 use Rattle.fm_same.specs.Regions.{argument}
@@ -160,7 +160,7 @@ called_words o (insn.Static index) named words h =
 called_words o i named words h = absurd (none-some words h)
 
 insn_same : (p : Program) (f : Frame) (code : Code) (i other : Insn) → code_at p f.method ≡ Some code → insn_of code f.item ≡ Some i
-    → insn_at p f ≡ Some other → i ≡ other
+    → next_insn p f ≡ Some other → i ≡ other
 insn_same p f code i other code_is insn_is at =
     same_Some i other (sym insn_is ∙ sym (ap (λ o. option_and_then (λ (c : Code). insn_of c f.item) o) code_is) ∙ at)
 

@@ -21,7 +21,7 @@ use Rattle.fm_frames.specs.ObjectRows.{kind_of_field}
 use Rattle.fm_frames.specs.Sights.{sights}
 use Rattle.fm_frames.specs.Starts.{fields_at, set_constant, start_actions, start_methods, start_of_class, to_start, with_start}
 use Rattle.fm_frames.specs.States.{Frame, State}
-use Rattle.fm_frames.specs.Steps.{effect_at, effect_by, insn_at, is_start, next_effect}
+use Rattle.fm_frames.specs.Steps.{effect_at, effect_by, next_insn, is_start, next_effect}
 use Rattle.fm_frames.specs.declared.values.Value.{Value}
 use Rattle.fm_frames.specs.declared.values.Value.TheVariants as value
 use Rattle.fm_same.specs.Advances.{OwesAt, point_of}
@@ -128,7 +128,7 @@ class_owes o x i store stack numbers started e owes (Some class) =
 
 -- ---- at a state
 
-insn_is : (p : Program) (f : Frame) (code : Code) (i : Insn) → code_at p f.method ≡ Some code → insn_of code f.item ≡ Some i → insn_at p f ≡ Some i
+insn_is : (p : Program) (f : Frame) (code : Code) (i : Insn) → code_at p f.method ≡ Some code → insn_of code f.item ≡ Some i → next_insn p f ≡ Some i
 insn_is p f code i code_is is = ap (λ o. option_and_then (λ (c : Code). insn_of c f.item) o) code_is ∙ is
 
 module _ (p : Program) (facts : Facts) (exact : AreFacts p facts) (numbers : HoldsNumbers p.outline) where

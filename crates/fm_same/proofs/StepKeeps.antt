@@ -20,7 +20,7 @@ use Rattle.fm_same.specs.Standing.{Stand}
 use Rattle.fm_same.proofs.ActsKeep.{acts_go, WentTo}
 use Rattle.fm_same.proofs.GoesOnKeep.{areas-agree, frames-agree, frames-later, grown, grown_agrees, grown_new, went_first}
 use Rattle.fm_same.proofs.NextKeeps.{next_kept}
-use Rattle.fm_same.proofs.ReturnsKeep.{Kept}
+use Rattle.fm_same.proofs.ReturnsKeep.{ReturnIsColoured}
 use Rattle.fm_same.proofs.SourcesKeep.{acts_have}
 use Rattle.fm_same.proofs.StoreChanges.{Agree}
 use Rattle.fm_sound.specs.Placing.{PlacesAgree}
@@ -76,7 +76,7 @@ module _ (p : Program) (facts : Facts) (exact : AreFacts p facts) (choose : Choo
       (went_first p.outline with_born home y.areas (areas-agree p.outline y.areas colour with_born agree coloured.areas))
 
   over : (births : ℕ) (next : State) → y.areas.store.births ≤ births → next.areas.store.births ≡ births → IsStill y.areas.store with_born next.areas.store
-      → Kept p facts (f ∷ callers) with_born births next.frames next.areas → GoesOver p facts before next colour
+      → ReturnIsColoured p facts (f ∷ callers) with_born births next.frames next.areas → GoesOver p facts before next colour
   over births next le same still kept = record {
     other = kept.other;
     coloured = record { frames = kept.frames_coloured; areas = kept.areas_coloured };

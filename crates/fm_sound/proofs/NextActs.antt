@@ -13,7 +13,7 @@ use Rattle.fm_frames.specs.Rows.{effect_of}
 use Rattle.fm_frames.specs.Sights.{Sight, sights}
 use Rattle.fm_frames.specs.Starts.{with_start}
 use Rattle.fm_frames.specs.States.{Frame, State}
-use Rattle.fm_frames.specs.Steps.{effect_by, insn_at, is_over, next_effect}
+use Rattle.fm_frames.specs.Steps.{effect_by, next_insn, is_over, next_effect}
 use Rattle.fm_sound.specs.Acting.{ActsFit}
 use Rattle.fm_sound.specs.Going.{StandsAtRow}
 use Rattle.fm_sound.specs.Laws.{NextActsFit}
@@ -100,7 +100,7 @@ module _ (p : Program) (typings : Typings) (ready : StepsAreResolved p) (made : 
           insn_fits p made.makeable z.areas.store f stands.known kinds meets.whole after i (use_by p f.method i) (made_at p f.method stands.code) byte
           (ready.fields f.method i (use_by p f.method i) named) (made.made f.method i (use_by p f.method i) named) call row
 
-      found_insn : insn_at p f ≡ Some i
+      found_insn : next_insn p f ≡ Some i
       found_insn = ap (λ found. option_and_then (λ (c : Code). insn_of c f.item) found) stands.code_is ∙ insn_is
 
       acts_fit : is_over o z.areas (next_effect p x).actions ≡ false → ActsFit o z.areas.store f [] (next_effect p x).actions

@@ -17,7 +17,7 @@ use Rattle.fm_frames.specs.Effects.{Effect, OfLiteral, Plain}
 use Rattle.fm_frames.specs.ObjectRows.{kind_of_field}
 use Rattle.fm_frames.specs.Starts.{fields_at, set_constant, start_actions, start_methods, start_of_class, to_start, with_start}
 use Rattle.fm_frames.specs.States.{Frame, State}
-use Rattle.fm_frames.specs.Steps.{effect_by, insn_at, next_effect}
+use Rattle.fm_frames.specs.Steps.{effect_by, next_insn, next_effect}
 use Rattle.fm_frames.specs.declared.values.Value.{Value}
 use Rattle.fm_frames.specs.declared.values.Value.TheVariants as value
 use Rattle.fm_sound.specs.Making.{HaveTextFirst}
@@ -73,7 +73,7 @@ module _ (p : Program) (typings : Typings) (ready : StepsAreResolved p) (first :
   abbrev x : State
   x = record z { frames = f ∷ callers }
 
-  frame_agrees : (found : Option Insn) → insn_at p f ≡ found → PlacesAgree p.outline z.areas.store f.stack (effect_by p x f found)
+  frame_agrees : (found : Option Insn) → next_insn p f ≡ found → PlacesAgree p.outline z.areas.store f.stack (effect_by p x f found)
   frame_agrees None is = stucks p.outline z.areas.store f.stack
   frame_agrees (Some i) is =
       row_agrees p.outline z.areas.store f.stack first.throwables f.method (use_by p f.method i) i (slice_get z.input 0)
@@ -88,4 +88,4 @@ module _ (p : Program) (typings : Typings) (ready : StepsAreResolved p) (first :
 
   pub next_agrees : PlacesAgree p.outline z.areas.store f.stack (next_effect p x)
   unfolding next_effect
-  next_agrees = started_agrees p.outline z.areas.store f.stack z.areas.started (effect_by p x f (insn_at p f)) (frame_agrees (insn_at p f) refl)
+  next_agrees = started_agrees p.outline z.areas.store f.stack z.areas.started (effect_by p x f (next_insn p f)) (frame_agrees (next_insn p f) refl)

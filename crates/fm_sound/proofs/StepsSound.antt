@@ -22,7 +22,7 @@ use Rattle.fm_frames.specs.Rows.{effect_of}
 use Rattle.fm_frames.specs.Sights.{sights}
 use Rattle.fm_frames.specs.Starts.{start_actions, start_methods, started_by, to_start, with_start}
 use Rattle.fm_frames.specs.States.{Areas, Frame, Moved, State}
-use Rattle.fm_frames.specs.Steps.{attempted, Caught, caught, caught_in, continued, effect_by, finished, frames_needed, handler_of, InFrames, input_after, insn_at, is_deep, is_over, is_start, Leaves, new_frame, next_effect, objects_made, returned, start_frames, step, stopped, thrown_by, type_at}
+use Rattle.fm_frames.specs.Steps.{attempted, Caught, caught, caught_in, continued, effect_by, finished, frames_needed, handler_of, InFrames, input_after, next_insn, is_deep, is_over, is_start, Leaves, new_frame, next_effect, objects_made, returned, start_frames, step, stopped, thrown_by, type_at}
 use Rattle.fm_frames.specs.declared.ends.Ended.{Ended}
 use Rattle.fm_frames.specs.declared.ends.Ended.TheVariants as end
 use Rattle.fm_frames.specs.declared.values.Value.{Value}
@@ -261,7 +261,7 @@ module _ (p : Program) (typings : Typings) (ready : StepsAreResolved p) (choose 
           (ready.fields f.method i (use_by p f.method i)
           (record { code = stands.code; code_is = stands.code_is; item = f.item; insn_is = insn_is; use_is = refl })) call row)
 
-      found_insn : insn_at p f ≡ Some i
+      found_insn : next_insn p f ≡ Some i
       found_insn = ap (λ o. option_and_then (λ (c : Code). insn_of c f.item) o) stands.code_is ∙ insn_is
 
       step_leads : StepLeads p f i after (next_effect p x) (next_effect p x).next

@@ -27,7 +27,7 @@ use Rattle.fm_frames.specs.CallRows.{words_of_arguments}
 use Rattle.fm_frames.specs.Elements.{int_bits, is_text_type, pack_of}
 use Rattle.fm_frames.specs.Sights.{type_numbered}
 use Rattle.fm_frames.specs.States.{Areas, Frame, State}
-use Rattle.fm_frames.specs.Steps.{insn_at, is_start}
+use Rattle.fm_frames.specs.Steps.{next_insn, is_start}
 use Rattle.fm_frames.specs.declared.values.Value.{Value}
 use Rattle.fm_frames.specs.declared.values.Value.TheVariants as value
 
@@ -169,7 +169,7 @@ method_named p g i = of_use (use_by p g.method i) where
 -- same name and descriptor, whose words are taken already (JVMS 2.6.4).
 pub record Calling (p : Program) (typings : Typings) (f g : Frame) : Type 0 where
   pub called : Insn
-  pub at : insn_at p g ≡ Some called
+  pub at : next_insn p g ≡ Some called
   pub named : ℕ
   pub names : method_named p g called ≡ Some named
   pub same_name : (method_at p.outline.classes f.method).method.name ≡ (method_at p.outline.classes named).method.name

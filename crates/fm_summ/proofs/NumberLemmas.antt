@@ -56,7 +56,7 @@ number_in-none (name ∷ names) (value ∷ values) n none =
     ∙ number_in-none names values n (λ k below. none (suc k) (omega arith))
 
 -- a number has a place or none
-pub record Place (names : List ℕ) (n : ℕ) : Type 0 where
+pub record HasIndex (names : List ℕ) (n : ℕ) : Type 0 where
   pub index : ℕ
   pub inside : index < length names
   pub is : get_or names index 0 ≡ n
@@ -66,13 +66,13 @@ later : (name : ℕ) (names : List ℕ) (n : ℕ) → name ≢ n → ((k : ℕ) 
 later name names n apart none zero below = apart
 later name names n apart none (suc k) below = none k (omega arith)
 
-place_or_none : (names : List ℕ) (n : ℕ) → Place names n ⊎ ((k : ℕ) → k < length names → get_or names k 0 ≢ n)
+place_or_none : (names : List ℕ) (n : ℕ) → HasIndex names n ⊎ ((k : ℕ) → k < length names → get_or names k 0 ≢ n)
 place_or_none [] n = inr (λ k below. absurd (omega arith))
 place_or_none (name ∷ names) n =
     ⊎_elim (λ (same : name ≡ n). inl (record { index = 0; inside = omega arith; is = same }))
     (λ (apart : name ≢ n).
     ⊎_elim
-    (λ (found : Place names n). inl (record { index = suc found.index; inside = let inside = found.inside in omega arith; is = found.is }))
+    (λ (found : HasIndex names n). inl (record { index = suc found.index; inside = let inside = found.inside in omega arith; is = found.is }))
     (λ none. inr (later name names n apart none))
     (place_or_none names n))
     (cases_eq name n)
@@ -142,7 +142,7 @@ merges_only : (pairs indexed : List (ℕ × ℕ)) (names roots values : List ℕ
     number_in names values a ≡ number_in names values b → AreJoined pairs a b
 merges_only pairs indexed names roots values s a b same =
     ⊎_elim
-    (λ (one : Place names a).
+    (λ (one : HasIndex names a).
     let root = get_or roots one.index 0 in
     let up = roots_inside pairs indexed names roots values s one.index one.inside in
     let value = value_at pairs indexed names roots values s a one.index one.inside one.is in
@@ -150,7 +150,7 @@ merges_only pairs indexed names roots values s a b same =
     let to_root : AreJoined pairs a (get_or names root 0) =
     subst (λ v. AreJoined pairs v (get_or names root 0)) one.is (path_named names indexed pairs s.are one.index path.0 root path.1) in
     ⊎_elim
-    (λ (other : Place names b).
+    (λ (other : HasIndex names b).
     let value_too = value_at pairs indexed names roots values s b other.index other.inside other.is in
     let path_too = (s.least.each other.index other.inside).joined in
     let root_too = get_or roots other.index 0 in
@@ -166,7 +166,7 @@ merges_only pairs indexed names roots values s a b same =
     (λ none.
     let stays = number_in-none names values a none in
     ⊎_elim
-    (λ (other : Place names b).
+    (λ (other : HasIndex names b).
     let up = roots_inside pairs indexed names roots values s other.index other.inside in
     let value = value_at pairs indexed names roots values s b other.index other.inside other.is in
     absurd (none (get_or roots other.index 0) (omega (arith, up, other.inside)) (sym value ∙ sym same ∙ stays)))
@@ -177,7 +177,7 @@ merges_only pairs indexed names roots values s a b same =
 merges_down : (pairs indexed : List (ℕ × ℕ)) (names roots values : List ℕ) → Setting pairs indexed names roots values → (n : ℕ) → number_in names values n ≤ n
 merges_down pairs indexed names roots values s n =
     ⊎_elim
-    (λ (place : Place names n).
+    (λ (place : HasIndex names n).
     let up = roots_inside pairs indexed names roots values s place.index place.inside in
     let value = value_at pairs indexed names roots values s n place.index place.inside place.is in
     let lower = lower_place names s.rising (get_or roots place.index 0) place.index up place.inside in

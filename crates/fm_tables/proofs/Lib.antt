@@ -1,4 +1,4 @@
 pub mod Described
 pub mod NamedSteps
-pub mod ToldSteps
+pub mod MemberInfoSteps
 pub mod UseSteps

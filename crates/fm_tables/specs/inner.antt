@@ -2,4 +2,4 @@
 pub mod MemberLists
 pub mod Named
 pub mod Resolved
-pub mod Told
+pub mod MemberInfos

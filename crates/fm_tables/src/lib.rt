@@ -7,11 +7,11 @@
 mod arguments;
 mod member_lists;
 mod named;
-mod told;
+mod member_infos;
 mod uses;
 
 pub use arguments::argument_array;
 pub use member_lists::{descriptor_marks, descriptors_of, flags_of};
 pub use named::{Named, named_of};
-pub use told::{Told, ToldFields, told_members};
+pub use member_infos::{MemberInfos, FieldInfos, member_infos};
 pub use uses::{Resolving, uses_of};

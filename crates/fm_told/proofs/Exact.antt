@@ -4,7 +4,7 @@ use Rattle.std.proofs.lemmas.Option.{none-some}
 use Rattle.fm_code.specs.declared.class_file.ClassDef.{ClassDef}
 use Rattle.fm_place.proofs.FullLemmas.{some-same}
 use Rattle.fm_place.specs.Safe.{full_plans}
-use Rattle.fm_rewrite.specs.Rewritten.{AreRefused, AreRewritten}
+use Rattle.fm_rewrite.specs.Rewritten.{AreNotRewritten, AreRewritten}
 use Rattle.fm_rewrite.specs.declared.error.RewriteFail.{RewriteFail}
 use Rattle.fm_rewrite.specs.declared.rewriting.Rewritten.{Rewritten}
 use Rattle.fm_told.proofs.LeastFacts.{plans_same}
@@ -22,7 +22,7 @@ written_by : (given : List ClassDef) (main : List ℕ) (made : Rewritten) (is : 
 written_by given main made is = record { exact = is.full.exact; least = is.least }
 
 -- those by which they are refused
-refused_by : (given : List ClassDef) (main : List ℕ) (cause : RewriteFail) (is : AreRefused given main cause) → AreLeastFacts (program_of given main) is.facts
+refused_by : (given : List ClassDef) (main : List ℕ) (cause : RewriteFail) (is : AreNotRewritten given main cause) → AreLeastFacts (program_of given main) is.facts
 refused_by given main cause is = record { exact = is.exact; least = is.least }
 
 pub written_in_one_way : WrittenInOneWay

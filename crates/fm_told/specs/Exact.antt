@@ -6,7 +6,7 @@ use Rattle.fm_code.specs.declared.class_file.ClassDef.{ClassDef}
 use Rattle.fm_conn.specs.Facts.{AreFacts, Facts}
 use Rattle.fm_place.specs.Rewriting.{marks_with, Plans, rewritten}
 use Rattle.fm_place.specs.Safe.{full_plans}
-use Rattle.fm_rewrite.specs.Rewritten.{AreRefused, AreRewritten, counts_of, first_cause}
+use Rattle.fm_rewrite.specs.Rewritten.{AreNotRewritten, AreRewritten, counts_of, first_cause}
 use Rattle.fm_rewrite.specs.declared.error.RewriteFail.{RewriteFail}
 use Rattle.fm_rewrite.specs.declared.rewriting.Rewritten.{Rewritten}
 use Rattle.fm_world.specs.Programs.{Program, program_of}
@@ -38,9 +38,9 @@ WrittenInOneWay =
 
 -- classes that are written aren't refused
 abbrev pub WrittenOrRefused : Type 0
-WrittenOrRefused = (given : List ClassDef) (main : List ℕ) (made : Rewritten) (cause : RewriteFail) → AreRewritten given main made → AreRefused given main cause → ⊥
+WrittenOrRefused = (given : List ClassDef) (main : List ℕ) (made : Rewritten) (cause : RewriteFail) → AreRewritten given main made → AreNotRewritten given main cause → ⊥
 
 -- and classes that are refused have one cause
 abbrev pub RefusedForOneCause : Type 0
 RefusedForOneCause =
-    (given : List ClassDef) (main : List ℕ) (cause other : RewriteFail) → AreRefused given main cause → AreRefused given main other → cause ≡ other
+    (given : List ClassDef) (main : List ℕ) (cause other : RewriteFail) → AreNotRewritten given main cause → AreNotRewritten given main other → cause ≡ other

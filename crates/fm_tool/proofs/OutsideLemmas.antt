@@ -3,7 +3,7 @@ use Rattle.std.proofs.Common.{◌≡◌, ◌<◌, ⊎_elim, refl, sym, subst, ar
 use Rattle.fm_base.proofs.OptionFacts.{IsSomeAnd-weaker}
 use Rattle.std.proofs.lemmas.Bool.{cases_eq}
 use Rattle.fm_files.specs.Files.{Bytes, Counts, Contents, Disk, AreKept, RisesAt, Holds}
-use Rattle.fm_tool.specs.Outside.{HasNoFault, HoldsSuch, IsKnownSuch}
+use Rattle.fm_tool.specs.Outside.{HasNoFileFault, HoldsSuch, IsKnownSuch}
 
 -- counts of which one alone could rise and didn't are as before
 pub kept_unless_risen : (this : Bytes) (old new : Counts) → RisesAt this old new → ¬ (old this < new this) → AreKept old new
@@ -13,13 +13,13 @@ kept_unless_risen this old new rises not_risen name =
       at_this = let low = rises.never_falls in let high : ¬ (old this < new this) = not_risen in omega arith
 
 -- nothing failed where files are as before
-pub no_fault_where_same : (old new : Disk) → new ≡ old → HasNoFault old new
+pub no_fault_where_same : (old new : Disk) → new ≡ old → HasNoFileFault old new
 no_fault_where_same old new same =
-    let P : Disk → Type 0 = λ d. HasNoFault old d in subst P (sym same) (record { reads = λ name. refl; writes = λ name. refl })
+    let P : Disk → Type 0 = λ d. HasNoFileFault old d in subst P (sym same) (record { reads = λ name. refl; writes = λ name. refl })
 
 -- nor where the one read that could fail didn't
 pub no_fault_unless_risen : (this : Bytes) (old new : Disk) → RisesAt this old.read_faults new.read_faults → ¬ (old.read_faults this < new.read_faults this)
-    → AreKept old.write_faults new.write_faults → HasNoFault old new
+    → AreKept old.write_faults new.write_faults → HasNoFileFault old new
 no_fault_unless_risen this old new rises not_risen writes = record { reads = kept_unless_risen this old.read_faults new.read_faults rises not_risen; writes = writes }
 
 -- ---- known contents

@@ -2,6 +2,6 @@ pub mod Encoding
 pub mod Line
 pub mod Outside
 pub mod Printed
-pub mod Refusal
+pub mod CommandRefusal
 pub mod Status
 pub mod Words

@@ -4,7 +4,7 @@ use Rattle.fm_base.specs.declared.limits.TheConstants.{MAX_FILE_BYTES}
 use Rattle.fm_files.specs.Files.{Bytes, Contents, Disk, AreKept, RisesAt}
 
 -- no read and no write of any name failed
-pub record HasNoFault (old new : Disk) : Type 0 where
+pub record HasNoFileFault (old new : Disk) : Type 0 where
   pub reads : AreKept old.read_faults new.read_faults
   pub writes : AreKept old.write_faults new.write_faults
 

@@ -8,7 +8,7 @@
 mod encoding;
 mod line;
 mod printing;
-mod refusal;
+mod command_refusal;
 pub mod status;
 #[cfg(test)]
 mod tests;
@@ -17,5 +17,5 @@ mod words;
 pub use encoding::modified;
 pub use line::put_line;
 pub use printing::printed;
-pub use refusal::Refusal;
+pub use command_refusal::CommandRefusal;
 pub use words::command_words;

@@ -1,6 +1,6 @@
 // What no clause says: that lines can be had and put where there is memory, and the words of a process.
 
-use crate::{Refusal, command_words, modified, printed, put_line};
+use crate::{CommandRefusal, command_words, modified, printed, put_line};
 use fm_base::Name;
 use fm_files::MemSink;
 use std::env;
@@ -10,9 +10,9 @@ use std::test::Fail;
 fn each_refusal_is_put_as_its_line_with_its_status(rt: HostRuntime) -> Result<(), Fail> {
     let alloc = rt.alloc();
     let rows = [
-        (Refusal::Words, 64, "refused: words\n"),
-        (Refusal::Read("a/M.class"), 65, "refused: read a/M.class\n"),
-        (Refusal::OutOfMemory, 76, "refused: memory\n"),
+        (CommandRefusal::Words, 64, "refused: words\n"),
+        (CommandRefusal::Read("a/M.class"), 65, "refused: read a/M.class\n"),
+        (CommandRefusal::OutOfMemory, 76, "refused: memory\n"),
     ];
     for (refusal, status, text) in rows {
         let mut out = MemSink::new(alloc, Vec::new(alloc));

@@ -8,8 +8,8 @@ use Rattle.fm_base.proofs.OptionFacts.{IsSomeAnd-at_some, IsSomeAnd-from_some, s
 use Rattle.fm_known.proofs.MergingLemmas.{fits-from, fits-parts}
 use Rattle.fm_known.proofs.PlaceLemmas.{lost-fits, place_wanted, slot-fits, slot-less, with_slot-above, with_slot-alike, with_slot-below, with_slot-read, with_slot-whole, with_slot-within, zip-from, zip-turned}
 use Rattle.fm_walk.proofs.WalkLemmas.{fits_at, fits_one, first_unfit, noted-tracked, Went-given, Went-none, Went-then, with_waiting-waits}
-use Rattle.fm_known.specs.declared.known.Place.{Place}
-use Rattle.fm_known.specs.declared.known.Place.TheVariants as place
+use Rattle.fm_known.specs.declared.known_state.SlotPlace.{SlotPlace}
+use Rattle.fm_known.specs.declared.known_state.SlotPlace.TheVariants as place
 use Rattle.fm_known.specs.declared.risen.Rise.{Rise}
 use Rattle.fm_known.specs.inner.Ranks.{IsBounded, state_rank, rank_at}
 use Rattle.fm_known.specs.inner.Risen.{HasPlace, is_lost, IsAlikeBut, IsCarried, noted, rise_of, slot_at, with_slot}
@@ -30,7 +30,7 @@ use Rattle.fm_world.specs.Programs.{Outline}
 -- ---- a slot is carried to an item
 
 -- the state that is given is there
-given-there : (item : ℕ) (rose : Option (List Place)) (new : TypeState) (w : Walked) → item < length w.states
+given-there : (item : ℕ) (rose : Option (List SlotPlace)) (new : TypeState) (w : Walked) → item < length w.states
     → ((j : ℕ) → is_marked w j ≡ true → Contains w.waiting j) → state_at (with_state item rose new w).states item ≡ Some new
 given-there item rose new w inside marked =
     let waits = with_waiting-waits item (record w { states = set w.states item (Some new); risen = set w.risen item rose }) marked in
@@ -58,13 +58,13 @@ carried_first t item rise state w here stands can is unfit =
           ∙ slot-fits t.program.outline can.brought state rise.place e))
 
 -- in a typing the state that both fit, which has room for the join of both
-record AboveBoth (t : Task) (states : List (Option TypeState)) (item : ℕ) (p : Place) (own brought : TypeState) : Type 0 where
+record AboveBoth (t : Task) (states : List (Option TypeState)) (item : ℕ) (p : SlotPlace) (own brought : TypeState) : Type 0 where
   state : TypeState
   is : state_at states item ≡ Some state
   below : state_fits t.program.outline own state ≡ true
   room : fits t.program.outline (join t.program.outline (slot_at own p) (slot_at brought p)) (slot_at state p) ≡ true
 
-above_both : (t : Task) (states : List (Option TypeState)) (item : ℕ) (p : Place) (own brought : TypeState) → IsSound t → IsForced t item own
+above_both : (t : Task) (states : List (Option TypeState)) (item : ℕ) (p : SlotPlace) (own brought : TypeState) → IsSound t → IsForced t item own
     → IsForced t item brought → IsTypingOf t.program t.number t.code states → AboveBoth t states item p own brought
 above_both t states item p own brought sound first second typing =
     let o = t.program.outline in
@@ -95,7 +95,7 @@ carried_lost t item rise state w sound stands can is unfit lost states typing =
     (ap (is_lost rise.place) (sym same) ∙ lost) above.below kept.forced.whole (typing.items item above.state above.is).whole above.room)
 
 -- the state with the join of both is below those of all typings
-pub raised_forced : (t : Task) (item : ℕ) (p : Place) (own brought : TypeState) (x : Slot) → IsSound t → IsForced t item own → IsForced t item brought
+pub raised_forced : (t : Task) (item : ℕ) (p : SlotPlace) (own brought : TypeState) (x : Slot) → IsSound t → IsForced t item own → IsForced t item brought
     → slot_at brought p ≡ x → is_lost p (join t.program.outline (slot_at own p) x) ≡ false
     → IsForced t item (with_slot p (join t.program.outline (slot_at own p) x) own)
 raised_forced t item p own brought x sound first second is kept = record {
@@ -139,7 +139,7 @@ carried_raised t item most rise state w sound stands can later is bounded unfit 
   new : TypeState
   new = with_slot rise.place joined state
 
-  rose : Option (List Place)
+  rose : Option (List SlotPlace)
   rose = noted most (risen_at w item) (Some (rise.place ∷ []))
 
   now : Walked
@@ -174,7 +174,7 @@ carried_raised t item most rise state w sound stands can later is bounded unfit 
       (noted-tracked w item most (Some (rise.place ∷ [])) new state is
       (λ places e.
       let same : rise.place ∷ [] ≡ places = cc in
-      subst (λ (xs : List Place). IsAlikeBut xs new state) same (with_slot-alike state rise.place joined)))
+      subst (λ (xs : List SlotPlace). IsAlikeBut xs new state) same (with_slot-alike state rise.place joined)))
 
   there : state_at now.states item ≡ Some new
   there = given-there item rose new w (let one = stands.one_each in let below = kept.forced.inside in omega arith) stands.marked
@@ -224,17 +224,17 @@ can_carry_later t a b j rises went can = can_later t a b j rises went.rises can
 -- ---- states that are alike
 
 -- states that are alike have the slots that are carried
-pub slot_carried : (P : Place → Type 0) (v : Place → Slot) (s other : TypeState) (p : Place) → IsCarried P v s other → P p → slot_at s p ≡ v p
+pub slot_carried : (P : SlotPlace → Type 0) (v : SlotPlace → Slot) (s other : TypeState) (p : SlotPlace) → IsCarried P v s other → P p → slot_at s p ≡ v p
 slot_carried P v s other (place.Local k) h within = h.locals.among k within
 slot_carried P v s other (place.Word k) h within = h.words.among k within
 
-pub all_held : (s brought : TypeState) (places : List Place) → ((p : Place) → Contains places p → slot_at brought p ≡ slot_at s p)
+pub all_held : (s brought : TypeState) (places : List SlotPlace) → ((p : SlotPlace) → Contains places p → slot_at brought p ≡ slot_at s p)
     → All (λ rise. slot_at brought rise.place ≡ rise.slot) (map (rise_of s) places)
 all_held s brought places holds = λ n d below.
     let found = Contains-from_map (rise_of s) places (get_or (map (rise_of s) places) n d) (Contains-get_or (map (rise_of s) places) n d below) in
     subst (λ (rise : Rise). slot_at brought rise.place ≡ rise.slot) found.2 (holds found.0 found.1)
 
-same_place : (p q : Place) → (p ≡ q) ⊎ (p ≢ q)
+same_place : (p q : SlotPlace) → (p ≡ q) ⊎ (p ≢ q)
 same_place (place.Local j) (place.Local k) =
     ⊎_elim (λ (same : j ≡ k). inl (ap (λ n. place.Local n) same)) (λ (apart : j ≢ k). inr (λ e. apart (let same : j ≡ k = cc in same))) (cases_eq j k)
 same_place (place.Word j) (place.Word k) =
@@ -242,7 +242,7 @@ same_place (place.Word j) (place.Word k) =
 same_place (place.Local j) (place.Word k) = inr (λ e. cc)
 same_place (place.Word j) (place.Local k) = inr (λ e. cc)
 
-among_or_not : (xs : List Place) (p : Place) → Contains xs p ⊎ (Contains xs p → ⊥)
+among_or_not : (xs : List SlotPlace) (p : SlotPlace) → Contains xs p ⊎ (Contains xs p → ⊥)
 among_or_not [] p = inr (λ found. let inside = found.1 in omega arith)
 among_or_not (x ∷ xs) p =
     ⊎_elim (λ (same : p ≡ x). inl (0, omega arith, sym same))
@@ -253,7 +253,7 @@ among_or_not (x ∷ xs) p =
     (same_place p x)
 
 -- what a state brings fits at each place
-slot_room : (o : Outline) (P : Place → Type 0) (v : Place → Slot) (a known u : TypeState) (p : Place) → IsCarried P v a known
+slot_room : (o : Outline) (P : SlotPlace → Type 0) (v : SlotPlace → Slot) (a known u : TypeState) (p : SlotPlace) → IsCarried P v a known
     → state_fits o known u ≡ true → (P p ⊎ (P p → ⊥)) → (P p → fits o (v p) (slot_at u p) ≡ true) → fits o (slot_at a p) (slot_at u p) ≡ true
 slot_room o P v a known u p carried fitting (inl within) room =
     ap (λ x. fits o x (slot_at u p)) (slot_carried P v a known p carried within) ∙ room within
@@ -263,8 +263,8 @@ slot_room o P v a known u (place.Word k) carried fitting (inr without) room =
     ap (λ x. fits o x (slot_at u (place.Word k))) (carried.words.apart k without) ∙ slot-fits o known u (place.Word k) fitting
 
 -- a state fits where one that is like it fits and there is room at the other places
-carried_fits : (o : Outline) (places : List Place) (v : Place → Slot) (a known u : TypeState) → IsCarried (λ p. Contains places p) v a known
-    → state_fits o known u ≡ true → ((p : Place) → Contains places p → fits o (v p) (slot_at u p) ≡ true)
+carried_fits : (o : Outline) (places : List SlotPlace) (v : SlotPlace → Slot) (a known u : TypeState) → IsCarried (λ p. Contains places p) v a known
+    → state_fits o known u ≡ true → ((p : SlotPlace) → Contains places p → fits o (v p) (slot_at u p) ≡ true)
     → state_fits o a u ≡ true
 carried_fits o places v a known u carried fitting room =
     let parts = fits-parts o known u fitting in
@@ -272,7 +272,7 @@ carried_fits o places v a known u carried fitting room =
     let turned = length-reverse known.stack in
     let other = length-reverse u.stack in
     let words = carried.words.size in
-    let each : (p : Place) → fits o (slot_at a p) (slot_at u p) ≡ true =
+    let each : (p : SlotPlace) → fits o (slot_at a p) (slot_at u p) ≡ true =
     λ p. slot_room o (λ q. Contains places q) v a known u p carried fitting (among_or_not places p) (λ found. room p found) in
     fits-from o a u (record {
       locals = zip-from (Fitting o) a.locals u.locals (carried.locals.size ∙ zip-length (Fitting o) known.locals u.locals parts.locals)
@@ -285,9 +285,9 @@ carried_fits o places v a known u carried fitting room =
 -- ---- what an item has room for
 
 -- an item has room for what a state brings that is like one for which it has
-pub room_fits : (t : Task) (states : List (Option TypeState)) (j : ℕ) (places : List Place) (v : Place → Slot) (a known : TypeState)
+pub room_fits : (t : Task) (states : List (Option TypeState)) (j : ℕ) (places : List SlotPlace) (v : SlotPlace → Slot) (a known : TypeState)
     → IsCarried (λ p. Contains places p) v a known → FitsAt t.program states j known
-    → ((p : Place) → Contains places p → HasRoom t states j (record { place = p; slot = v p })) → FitsAt t.program states j a
+    → ((p : SlotPlace) → Contains places p → HasRoom t states j (record { place = p; slot = v p })) → FitsAt t.program states j a
 room_fits t states j places v a known carried fitting room =
     let found = fits_one t states j known fitting in
     fits_at t states j a found.state found.is

@@ -22,19 +22,19 @@ use Rattle.fm_types.proofs.Zips.{zip-length}
 use Rattle.fm_types.specs.Fits.{AreTree}
 use Rattle.fm_types.specs.States.{state_fits, TypeState}
 use Rattle.fm_types.specs.Typed.{FitsAt, state_at}
-use Rattle.fm_known.specs.declared.known.Known.{Known}
-use Rattle.fm_known.specs.declared.known.Place.{Place}
+use Rattle.fm_known.specs.declared.known_state.KnownState.{KnownState}
+use Rattle.fm_known.specs.declared.known_state.SlotPlace.{SlotPlace}
 use Rattle.fm_world.specs.Programs.{Outline}
 use Rattle.fm_code.specs.Edges.{IsEdge, IsReachable}
 
 -- ---- states as they are seen
 
-pub state_seen : (states slice : List (Option Known)) (j : ℕ) (o : Option TypeState) → slice ≡ states → o ≡ state_at (states_seen slice) j
+pub state_seen : (states slice : List (Option KnownState)) (j : ℕ) (o : Option TypeState) → slice ≡ states → o ≡ state_at (states_seen slice) j
     → state_at (states_seen states) j ≡ o
-state_seen states slice j o same is = ap (λ (xs : List (Option Known)). state_at (states_seen xs) j) (sym same) ∙ sym is
+state_seen states slice j o same is = ap (λ (xs : List (Option KnownState)). state_at (states_seen xs) j) (sym same) ∙ sym is
 
 -- the same of a copy
-pub state_copied : (states slice : List (Option Known)) (j : ℕ) (own copy : TypeState) → slice ≡ states → Some own ≡ state_at (states_seen slice) j → copy ≡ own
+pub state_copied : (states slice : List (Option KnownState)) (j : ℕ) (own copy : TypeState) → slice ≡ states → Some own ≡ state_at (states_seen slice) j → copy ≡ own
     → state_at (states_seen states) j ≡ Some copy
 state_copied states slice j own copy same is copied = state_seen states slice j (Some own) same is ∙ ap Some (sym copied)
 
@@ -139,7 +139,7 @@ with_waiting-waits item w marked = by_mark (is_marked w item) refl where
   by_mark false is = waits-pushed item w marked
 
 -- what an item's state is where it was looked up
-pub seen_read : (states : List (Option Known)) (item : ℕ) (d : Option Known) (state : Known) → item < length states → d ≡ get_or states item d
+pub seen_read : (states : List (Option KnownState)) (item : ℕ) (d : Option KnownState) (state : KnownState) → item < length states → d ≡ get_or states item d
     → d ≡ Some state → state_at (states_seen states) item ≡ Some (known_state state)
 seen_read states item d state inside read is =
     get_or-map (option_map known_state) states item d None inside ∙ ap (option_map known_state) (sym read ∙ is)
@@ -152,20 +152,20 @@ set_twice (z ∷ xs) (suc k) x y = ap (λ zs. z ∷ zs) (set_twice xs k x y)
 -- ---- what rose
 
 -- nothing rose since
-pub tracked-same : (w : Walked) (j : ℕ) (locals : List Place) (s : TypeState) → risen_at w j ≡ Some locals → state_at w.states j ≡ Some s
+pub tracked-same : (w : Walked) (j : ℕ) (locals : List SlotPlace) (s : TypeState) → risen_at w j ≡ Some locals → state_at w.states j ≡ Some s
     → IsTracked w j locals s
 tracked-same w j locals s known is =
     record { known = locals; before = s; is_known = known; was = is; among = λ k found. found; alike = alike-refl locals s }
 
 -- what is noted in all
-record NotedParts (known rose : Option (List Place)) (locals : List Place) : Type 0 where
-  early : List Place
-  late : List Place
+record NotedParts (known rose : Option (List SlotPlace)) (locals : List SlotPlace) : Type 0 where
+  early : List SlotPlace
+  late : List SlotPlace
   is_known : known ≡ Some early
   is_rose : rose ≡ Some late
   all : locals ≡ early ++ late
 
-noted-parts : (most : ℕ) (known rose : Option (List Place)) (locals : List Place) → noted most known rose ≡ Some locals → NotedParts known rose locals
+noted-parts : (most : ℕ) (known rose : Option (List SlotPlace)) (locals : List SlotPlace) → noted most known rose ≡ Some locals → NotedParts known rose locals
 noted-parts most None rose locals e = absurd cc
 noted-parts most (Some early) None locals e = absurd cc
 noted-parts most (Some early) (Some late) locals e = by_test (nat_le most (length early)) e where
@@ -173,14 +173,14 @@ noted-parts most (Some early) (Some late) locals e = by_test (nat_le most (lengt
   by_test true h = absurd cc
   by_test false h = record { early = early; late = late; is_known = refl; is_rose = refl; all = cc }
 
-pub noted-tracked : (w : Walked) (item most : ℕ) (rose : Option (List Place)) (new old : TypeState) → state_at w.states item ≡ Some old
-    → IsRisenIn rose new old → (locals : List Place) → noted most (risen_at w item) rose ≡ Some locals → IsTracked w item locals new
+pub noted-tracked : (w : Walked) (item most : ℕ) (rose : Option (List SlotPlace)) (new old : TypeState) → state_at w.states item ≡ Some old
+    → IsRisenIn rose new old → (locals : List SlotPlace) → noted most (risen_at w item) rose ≡ Some locals → IsTracked w item locals new
 noted-tracked w item most rose new old is risen locals e =
     let parts = noted-parts most (risen_at w item) rose locals e in
-    let in_all : (k : Place) → Contains parts.early k → Contains locals k = λ k found.
-    subst (λ (xs : List Place). Contains xs k) (sym parts.all) (Contains-append_left parts.early parts.late k found) in
-    let late_in_all : (k : Place) → Contains parts.late k → Contains locals k = λ k found.
-    subst (λ (xs : List Place). Contains xs k) (sym parts.all) (Contains-append_right parts.early parts.late k found) in
+    let in_all : (k : SlotPlace) → Contains parts.early k → Contains locals k = λ k found.
+    subst (λ (xs : List SlotPlace). Contains xs k) (sym parts.all) (Contains-append_left parts.early parts.late k found) in
+    let late_in_all : (k : SlotPlace) → Contains parts.late k → Contains locals k = λ k found.
+    subst (λ (xs : List SlotPlace). Contains xs k) (sym parts.all) (Contains-append_right parts.early parts.late k found) in
     record {
       known = parts.early;
       before = old;
@@ -202,7 +202,7 @@ given_at states item j s inside =
     (cases_eq j item)
 
 -- the same of what rose
-rise_given_at : (risen : List (Option (List Place))) (item j : ℕ) (rose : Option (List Place)) → item < length risen
+rise_given_at : (risen : List (Option (List SlotPlace))) (item j : ℕ) (rose : Option (List SlotPlace)) → item < length risen
     → ((j ≡ item) × (get_or (set risen item rose) j None ≡ rose)) ⊎ ((j ≢ item) × (get_or (set risen item rose) j None ≡ get_or risen j None))
 rise_given_at risen item j rose inside =
     ⊎_elim
@@ -211,7 +211,7 @@ rise_given_at risen item j rose inside =
     (cases_eq j item)
 
 -- what is given ranks below what was there
-given_less : (t : Task) (item : ℕ) (rose : Option (List Place)) (new : TypeState) (w : Walked) → item < length w.states
+given_less : (t : Task) (item : ℕ) (rose : Option (List SlotPlace)) (new : TypeState) (w : Walked) → item < length w.states
     → ((j : ℕ) → is_marked w j ≡ true → Contains w.waiting j)
     → state_rank t.program.outline new < rank_at t.program.outline t.code (state_at w.states item)
     → work_left t (with_state item rose new w) ≤ work_left t w
@@ -225,10 +225,10 @@ given_less t item rose new w inside marked less =
     omega arith
 
 -- a state that is new, or above the old one
-pub Went-given : (t : Task) (item : ℕ) (rose : Option (List Place)) (new : TypeState) (w : Walked) → IsSound t → Stands t w → IsKept t item new → (item ≡ 0 → ⊥)
+pub Went-given : (t : Task) (item : ℕ) (rose : Option (List SlotPlace)) (new : TypeState) (w : Walked) → IsSound t → Stands t w → IsKept t item new → (item ≡ 0 → ⊥)
     → ((s : TypeState) → state_at w.states item ≡ Some s → state_fits t.program.outline s new ≡ true)
     → state_rank t.program.outline new < rank_at t.program.outline t.code (state_at w.states item)
-    → ((locals : List Place) → rose ≡ Some locals → IsTracked w item locals new)
+    → ((locals : List SlotPlace) → rose ≡ Some locals → IsTracked w item locals new)
     → Went t w (with_state item rose new w)
 Went-given t item rose new w sound stands kept later above less tracked =
     let put : Walked = record w { states = set w.states item (Some new); risen = set w.risen item rose } in
@@ -242,7 +242,7 @@ Went-given t item rose new w sound stands kept later above less tracked =
     let one_rise = stands.one_rise in
     let risen = λ (j : ℕ). rise_given_at w.risen item j rose (omega (arith, one, one_rise, inside)) in
     let rise_seen : (j : ℕ) → risen_at (with_state item rose new w) j ≡ get_or (set w.risen item rose) j None =
-    λ j. ap (λ (xs : List (Option (List Place))). get_or xs j None) waits.risen in
+    λ j. ap (λ (xs : List (Option (List SlotPlace))). get_or xs j None) waits.risen in
     let rise_kept : (j : ℕ) → j ≢ item → risen_at (with_state item rose new w) j ≡ risen_at w j =
     λ j apart. rise_seen j ∙ get_or-set_other w.risen item j rose None apart in
     record {
@@ -299,10 +299,10 @@ Went-given t item rose new w sound stands kept later above less tracked =
     }
 
 -- and a state that fits it was brought
-Brings-given : (t : Task) (item : ℕ) (rose : Option (List Place)) (s new : TypeState) (w : Walked) → IsSound t → Stands t w → IsKept t item new → (item ≡ 0 → ⊥)
+Brings-given : (t : Task) (item : ℕ) (rose : Option (List SlotPlace)) (s new : TypeState) (w : Walked) → IsSound t → Stands t w → IsKept t item new → (item ≡ 0 → ⊥)
     → ((s : TypeState) → state_at w.states item ≡ Some s → state_fits t.program.outline s new ≡ true) → state_fits t.program.outline s new ≡ true
     → state_rank t.program.outline new < rank_at t.program.outline t.code (state_at w.states item)
-    → ((locals : List Place) → rose ≡ Some locals → IsTracked w item locals new)
+    → ((locals : List SlotPlace) → rose ≡ Some locals → IsTracked w item locals new)
     → Brings t item s w (with_state item rose new w)
 Brings-given t item rose s new w sound stands kept later above fits less tracked =
     let waits = with_waiting-waits item (record w { states = set w.states item (Some new); risen = set w.risen item rose }) stands.marked in
@@ -403,7 +403,7 @@ joined_less t s old joined sound bounded join unfit =
       by_fit true e = absurd (false≢true (sym unfit ∙ state-trans t.program.outline sound.tree s joined old join.second e))
 
 -- a state that is joined
-pub Brings-joined : (t : Task) (item most : ℕ) (rose : Option (List Place)) (s old joined : TypeState) (w : Walked) → IsSound t → Stands t w → IsForced t item s → (item ≡ 0 → ⊥)
+pub Brings-joined : (t : Task) (item most : ℕ) (rose : Option (List SlotPlace)) (s old joined : TypeState) (w : Walked) → IsSound t → Stands t w → IsForced t item s → (item ≡ 0 → ⊥)
     → state_at w.states item ≡ Some old → join_state t.program.outline old s ≡ Some joined → IsBoundedState old
     → state_fits t.program.outline s old ≡ false → IsRisenIn rose joined old
     → Brings t item s w (with_state item (noted most (risen_at w item) rose) joined w)

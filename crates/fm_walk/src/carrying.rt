@@ -7,7 +7,7 @@ ghost use Rattle.fm_known.specs.inner.Tasks.{IsSound, task};
 
 use crate::walk::{Walk, most_noted, state_of};
 use fm_base::NoMemory;
-use fm_known::{Method, Rise, is_lost, law_bounded};
+use fm_known::{CheckedMethod, Rise, is_lost, law_bounded};
 use fm_types::{fits, join};
 use std::alloc::Global;
 
@@ -16,7 +16,7 @@ impl Walk {
     fn carry(
         &mut self,
         alloc: Global,
-        method: &Method<'_>,
+        method: &CheckedMethod<'_>,
         item: u32,
         rise: Rise,
     ) -> Result<bool, NoMemory>
@@ -51,7 +51,7 @@ impl Walk {
     pub fn carry_all(
         &mut self,
         alloc: Global,
-        method: &Method<'_>,
+        method: &CheckedMethod<'_>,
         item: u32,
         rises: &[Rise],
     ) -> Result<bool, NoMemory>

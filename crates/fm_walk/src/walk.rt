@@ -14,7 +14,7 @@ ghost use Rattle.fm_types.specs.Typings.{type_state};
 use fm_base::{NoMemory, Seq};
 use fm_code::Code;
 use fm_known::{
-    Known, Method, Place, join_state, law_bounded_state, noted, risen_places, state_fits,
+    KnownState, CheckedMethod, SlotPlace, join_state, law_bounded_state, noted, risen_places, state_fits,
 };
 use fm_types::{Slot, State};
 use std::alloc::Global;
@@ -24,15 +24,15 @@ use std::mem;
 #[derive(Drop)]
 pub struct Walk {
     /// One for each item; none where none was brought yet.
-    pub states: Vec<Option<Known>>,
+    pub states: Vec<Option<KnownState>>,
     waiting: Vec<u32>,
     is_waiting: Vec<bool>,
     // Of each item the places at which something rose since it was gone over; none where more rose.
-    risen: Vec<Option<Seq<Place>>>,
+    risen: Vec<Option<Seq<SlotPlace>>>,
 }
 
 // A vector of `items` items without a state.
-fn no_states(alloc: Global, items: usize) -> Result<Vec<Option<Known>>, NoMemory>
+fn no_states(alloc: Global, items: usize) -> Result<Vec<Option<KnownState>>, NoMemory>
     ensures { IfOk result (λ states. states_seen states.items ≡ replicate items None) }
 {
     let mut states = Vec::with_capacity(alloc, items)?;
@@ -43,7 +43,7 @@ fn no_states(alloc: Global, items: usize) -> Result<Vec<Option<Known>>, NoMemory
 }
 
 /// The state of an item, if it has one.
-pub fn state_of(states: &[Option<Known>], item: u32) -> Option<&Known>
+pub fn state_of(states: &[Option<KnownState>], item: u32) -> Option<&KnownState>
     ensures { option_map known_state (option_copied result)
         ≡ state_at (states_seen states.now) item }
 {
@@ -54,7 +54,7 @@ pub fn state_of(states: &[Option<Known>], item: u32) -> Option<&Known>
 }
 
 // Gives an item a state.
-fn put(states: &mut Vec<Option<Known>>, item: u32, known: Known)
+fn put(states: &mut Vec<Option<KnownState>>, item: u32, known: KnownState)
     requires { item < length states.old.items }
     ensures { states_seen states.new.items
         ≡ slice_set (states_seen states.old.items) item (Some (known_state known)) }
@@ -63,7 +63,7 @@ fn put(states: &mut Vec<Option<Known>>, item: u32, known: Known)
 }
 
 // A vector of `items` items of which nothing is carried on yet.
-fn nothing_noted(alloc: Global, items: usize) -> Result<Vec<Option<Seq<Place>>>, NoMemory>
+fn nothing_noted(alloc: Global, items: usize) -> Result<Vec<Option<Seq<SlotPlace>>>, NoMemory>
     ensures { IfOk result (λ risen. risen.items ≡ replicate items None) }
 {
     let mut risen = Vec::with_capacity(alloc, items)?;
@@ -74,7 +74,7 @@ fn nothing_noted(alloc: Global, items: usize) -> Result<Vec<Option<Seq<Place>>>,
 }
 
 // Puts a slot at a place of an item's state, where it has one.
-fn put_slot(states: &mut Vec<Option<Known>>, item: u32, place: Place, slot: Slot)
+fn put_slot(states: &mut Vec<Option<KnownState>>, item: u32, place: SlotPlace, slot: Slot)
     requires item { item < length states.old.items }
     requires place { (s : TypeState) → state_at (states_seen states.old.items) item ≡ Some s
         → HasPlace s place }
@@ -130,7 +130,7 @@ impl Walk {
     }
 
     // Notes that this rose at an item.
-    fn note(&mut self, item: u32, rose: Option<Seq<Place>>, most: usize) -> Result<(), NoMemory>
+    fn note(&mut self, item: u32, rose: Option<Seq<SlotPlace>>, most: usize) -> Result<(), NoMemory>
         requires { item < length (walked self.old).risen }
         ensures { OnOk result (walked self.new ≡ with_risen item
             (noted most (risen_at (walked self.old) item) rose) (walked self.old)) }
@@ -141,7 +141,7 @@ impl Walk {
     }
 
     /// Gives an item its first state, and lets it wait.
-    pub fn begin(&mut self, item: u32, known: Known) -> Result<(), NoMemory>
+    pub fn begin(&mut self, item: u32, known: KnownState) -> Result<(), NoMemory>
         requires states { item < length (walked self.old).states }
         requires marks { item < length (walked self.old).marks }
         requires risen { item < length (walked self.old).risen }
@@ -157,8 +157,8 @@ impl Walk {
     fn raise_state(
         &mut self,
         item: u32,
-        known: Known,
-        rose: Option<Seq<Place>>,
+        known: KnownState,
+        rose: Option<Seq<SlotPlace>>,
         most: usize,
     ) -> Result<(), NoMemory>
         requires states { item < length (walked self.old).states }
@@ -179,7 +179,7 @@ impl Walk {
         &mut self,
         alloc: Global,
         item: u32,
-        place: Place,
+        place: SlotPlace,
         slot: Slot,
         most: usize,
     ) -> Result<(), NoMemory>
@@ -214,7 +214,7 @@ impl Walk {
     }
 
     /// What rose at an item since it was gone over; from here on nothing did.
-    pub fn take_risen(&mut self, alloc: Global, item: u32) -> Option<Seq<Place>>
+    pub fn take_risen(&mut self, alloc: Global, item: u32) -> Option<Seq<SlotPlace>>
         requires { item < length (walked self.old).risen }
         ensures taken { result ≡ risen_at (walked self.old) item }
         ensures left { walked self.new ≡ with_risen item (Some []) (walked self.old) }
@@ -226,7 +226,7 @@ impl Walk {
     pub fn bring(
         &mut self,
         alloc: Global,
-        method: &Method<'_>,
+        method: &CheckedMethod<'_>,
         item: u32,
         brought: &State,
     ) -> Result<bool, NoMemory>
@@ -242,7 +242,7 @@ impl Walk {
             return Ok(false);
         }
         let Some(known) = state_of(self.states.as_slice(), item) else {
-            let first = Known::new(alloc, brought)?;
+            let first = KnownState::new(alloc, brought)?;
             self.begin(item, first)?;
             return Ok(true);
         };
@@ -261,7 +261,7 @@ impl Walk {
             return Ok(false);
         };
         let rose = risen_places(alloc, &state, &joined)?;
-        let raised = Known::new(alloc, &joined)?;
+        let raised = KnownState::new(alloc, &joined)?;
         self.raise_state(item, raised, rose, most_noted(method.code))?;
         Ok(true)
     }

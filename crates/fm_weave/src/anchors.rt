@@ -42,7 +42,7 @@ fn anchors_after(
     let mut number = first;
     for index in 0..items.len() {
         anchors.push(number)?;
-        number += count_of(leading(freeing, index), leading(taking, index));
+        number += new_item_count(leading(freeing, index), leading(taking, index));
         freeing = later(freeing, index);
         taking = later(taking, index);
     }
@@ -52,7 +52,7 @@ fn anchors_after(
 
 /// How many new items an old one becomes, with `freed` holders that are freed before it, and
 /// `stored` that take its object.
-fn count_of(freed: usize, stored: usize) -> u32
+fn new_item_count(freed: usize, stored: usize) -> u32
     requires { count_by freed stored < 2 ^ 32 }
     ensures { result ≡ count_by freed stored }
 {

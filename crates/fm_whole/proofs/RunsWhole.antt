@@ -17,10 +17,10 @@ use Rattle.fm_sound.proofs.StartActs.{start_alone}
 use Rattle.fm_whole.specs.CellsResolved.{CellsAreResolved}
 use Rattle.fm_whole.proofs.OpeningWhole.{Opened, opening_open}
 use Rattle.fm_whole.proofs.StartsSuit.{NumbersAreConstants}
-use Rattle.fm_whole.proofs.StepKeeps.{Kept, RowsOwe, step_kept}
+use Rattle.fm_whole.proofs.StepKeeps.{IsWholeStill, RowsOwe, step_kept}
 
 module _ (p : Program) (typings : Typings) (typed : AreTyped p typings) (steps : StepsAreResolved p) (makes : MakesAreResolved p) (cells : CellsAreResolved p) (numbers : NumbersAreConstants p.outline) (rows : RowsOwe p typings typed steps cells) (choose : Choose) where
-  after_kept : (x : Moved) → Kept p typings x.state → (k : ℕ) → Kept p typings (after p (lawful choose) k x).state
+  after_kept : (x : Moved) → IsWholeStill p typings x.state → (k : ℕ) → IsWholeStill p typings (after p (lawful choose) k x).state
   unfolding after
   after_kept x kept zero = kept
   after_kept x kept (suc k) =
@@ -28,7 +28,7 @@ module _ (p : Program) (typings : Typings) (typed : AreTyped p typings) (steps :
 
   pub runs_kept : MainIsReady p → (job : Job) → length job.input ≤ MAX_FILE_BYTES → ArgumentsFit job.arguments → (budget : ℕ) (limit : Option ℕ)
       (free : List (List ℕ)) → budget ≤ MAX_LIVE_WORDS → (k : ℕ)
-      → Kept p typings (after p (lawful choose) k (opening p (lawful choose) job (opened budget limit free))).state
+      → IsWholeStill p typings (after p (lawful choose) k (opening p (lawful choose) job (opened budget limit free))).state
   runs_kept main job input given budget limit free few k =
       let first : Opened p typings (opening p (lawful choose) job (opened budget limit free)).state =
       opening_open p typings typed steps makes cells numbers main choose job given budget limit free in

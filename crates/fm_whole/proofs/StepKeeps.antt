@@ -25,7 +25,7 @@ use Rattle.fm_frames.specs.Rows.{effect_of}
 use Rattle.fm_frames.specs.Sights.{sights, type_numbered}
 use Rattle.fm_frames.specs.Starts.{start_actions, start_methods, started_by, to_start, with_start}
 use Rattle.fm_frames.specs.States.{Areas, Frame, Moved, State, word_at}
-use Rattle.fm_frames.specs.Steps.{attempted, Caught, caught, caught_in, continued, effect_by, finished, handler_of, InFrames, insn_at, is_deep, is_over, is_start, Leaves, next_effect, objects_made, returned, stack_after, step, stopped, thrown_by, type_at, written}
+use Rattle.fm_frames.specs.Steps.{attempted, Caught, caught, caught_in, continued, effect_by, finished, handler_of, InFrames, next_insn, is_deep, is_over, is_start, Leaves, next_effect, objects_made, returned, stack_after, step, stopped, thrown_by, type_at, written}
 use Rattle.fm_frames.specs.declared.ends.Ended.{Ended}
 use Rattle.fm_frames.specs.declared.ends.Ended.TheVariants as end
 use Rattle.fm_frames.specs.declared.values.Value.{Value}
@@ -129,20 +129,20 @@ caught_no_fault p t v (f ∷ callers) method offset cell is = by_handler (handle
 -- ---- states
 
 -- a whole state that is no fault
-pub record Kept (p : Program) (typings : Typings) (x : State) : Type 0 where
+pub record IsWholeStill (p : Program) (typings : Typings) (x : State) : Type 0 where
   pub whole : IsWholeBy p typings x
   pub no_fault : HasNoFault x
 
 module _ (p : Program) (typings : Typings) (y : State) (running : y.ended ≡ None) (areas : AreasAreWhole p.outline y.areas) where
   kept_with : (frames : List Frame) → IsSoundBy p typings (record y { frames = frames }) → AllByRecursion (FrameIsWhole p typings y.areas.store) frames
-      → Kept p typings (record y { frames = frames })
+      → IsWholeStill p typings (record y { frames = frames })
   kept_with frames sound whole = record {
     whole = record { sound = sound; frames = whole; areas = areas };
     no_fault = λ method offset cell is. none-some (end.Fault method offset cell) (sym running ∙ is);
   }
 
   kept_stopped : (e : Ended) → IsSoundBy p typings (stopped y e) → AllByRecursion (FrameIsWhole p typings y.areas.store) y.frames
-      → ((method : MethodId) (offset cell : ℕ) → e ≡ end.Fault method offset cell → ⊥) → Kept p typings (stopped y e)
+      → ((method : MethodId) (offset cell : ℕ) → e ≡ end.Fault method offset cell → ⊥) → IsWholeStill p typings (stopped y e)
   kept_stopped e sound whole other = record {
     whole = record { sound = sound; frames = whole; areas = areas };
     no_fault = λ method offset cell is. other method offset cell (same_Some e (end.Fault method offset cell) is);
@@ -150,14 +150,14 @@ module _ (p : Program) (typings : Typings) (y : State) (running : y.ended ≡ No
 
   either_kept : (b : Bool) (one other : List Frame) → IsSoundBy p typings (cond b (record y { frames = one }) (record y { frames = other }))
       → AllByRecursion (FrameIsWhole p typings y.areas.store) (cond b (record y { frames = one }) (record y { frames = other })).frames
-      → Kept p typings (cond b (record y { frames = one }) (record y { frames = other }))
+      → IsWholeStill p typings (cond b (record y { frames = one }) (record y { frames = other }))
   either_kept true one other sound whole = kept_with one sound whole
   either_kept false one other sound whole = kept_with other sound whole
 
   thrown_kept : (t : TypeRef) (v : Value) (frames : List Frame) (c : Caught) → caught p t v frames ≡ c → IsSoundBy p typings (thrown_by y c)
       → AllByRecursion (FrameIsWhole p typings y.areas.store) y.frames
       → ((after : List Frame) → caught p t v frames ≡ InFrames after → AllByRecursion (FrameIsWhole p typings y.areas.store) after)
-      → Kept p typings (thrown_by y c)
+      → IsWholeStill p typings (thrown_by y c)
   thrown_kept t v frames (InFrames after) is sound whole each = kept_with after sound (each after is)
   thrown_kept t v frames (Leaves e) is sound whole each =
       kept_stopped e sound whole (λ method offset cell same. caught_no_fault p t v frames method offset cell (is ∙ ap Leaves same))
@@ -184,7 +184,7 @@ module _ (p : Program) (typings : Typings) (steps : StepsAreResolved p) (cells :
 
   returned_kept : (callers : List Frame) → StandBelow p typings f callers → AllByRecursion (FrameIsWhole p typings y.areas.store) callers → (n : ℕ)
       → HaveKinds (result_words o f.method) (take n f.stack) → AllZip (Cell o y.areas.store own news) (result_words o f.method) (take n f.stack)
-      → IsSoundBy p typings (returned p n f callers y) → Kept p typings (returned p n f callers y)
+      → IsSoundBy p typings (returned p n f callers y) → IsWholeStill p typings (returned p n f callers y)
   returned_kept [] below whole n has suits sound = kept_stopped p typings y running areas end.Returned sound all (λ method offset cell is. absurd (cc))
   returned_kept (g ∷ callers) below whole n has suits sound =
       either_kept p typings y running areas (is_start o f.method) (g ∷ callers)
@@ -219,7 +219,7 @@ module _ (p : Program) (typings : Typings) (steps : StepsAreResolved p) (cells :
     next_kept : (callers : List Frame) → StandBelow p typings f callers → AllByRecursion (FrameIsWhole p typings y.areas.store) (f ∷ callers) → (next : Next)
         → StepLeads p f i after e next → NextSuits p store own news after f e next
         → IsSoundBy p typings (continued p (sources_of f y.areas made) (record e { next = next }) f callers y)
-        → Kept p typings (continued p (sources_of f y.areas made) (record e { next = next }) f callers y)
+        → IsWholeStill p typings (continued p (sources_of f y.areas made) (record e { next = next }) f callers y)
     unfolding continued
     next_kept callers below here Falls leads suits sound =
         kept_with p typings y running areas _ sound
@@ -303,7 +303,7 @@ module _ (p : Program) (typings : Typings) (typed : AreTyped p typings) (steps :
           (steps.fields f.method i (use_by p f.method i)
           (record { code = standing.code; code_is = standing.code_is; item = f.item; insn_is = insn_is; use_is = refl })) call row)
 
-      found_insn : insn_at p f ≡ Some i
+      found_insn : next_insn p f ≡ Some i
       found_insn = ap (λ found. option_and_then (λ (c : Code). insn_of c f.item) found) standing.code_is ∙ insn_is
 
       -- what holds of the effect with its class's start
@@ -326,7 +326,7 @@ module _ (p : Program) (typings : Typings) (typed : AreTyped p typings) (steps :
       actions = (next_effect p x).actions
 
       finished_kept : (price : ℕ) (result : Performed) → WentTo oo z.areas.store (types_after [] actions) result
-          → IsSoundBy p typings (finished p price (next_effect p x) x result) → Kept p typings (finished p price (next_effect p x) x result)
+          → IsSoundBy p typings (finished p price (next_effect p x) x result) → IsWholeStill p typings (finished p price (next_effect p x) x result)
       finished_kept price (Did areas made) went sound =
           let here = frames-later p typings z.areas.store areas.store went.extends (f ∷ callers) whole.frames in
           next_kept p typings steps cells typed f i after at_row standing z.areas.store _ not_ended went.areas here (next_effect p x) made went callers
@@ -338,11 +338,11 @@ module _ (p : Program) (typings : Typings) (typed : AreTyped p typings) (steps :
 
       attempt_kept : (is_over oo z.areas actions ≡ false → ActsFit oo z.areas.store f [] actions)
           → IsSoundBy p typings (attempted p (lawful choose) x (next_effect p x)).state
-          → Kept p typings (attempted p (lawful choose) x (next_effect p x)).state
+          → IsWholeStill p typings (attempted p (lawful choose) x (next_effect p x)).state
       attempt_kept fit =
-          moved_by (λ s. IsSoundBy p typings s → Kept p typings s) (is_deep x (next_effect p x).next) _ _
+          moved_by (λ s. IsSoundBy p typings s → IsWholeStill p typings s) (is_deep x (next_effect p x).next) _ _
           (λ deep sound. kept_stopped p typings x not_ended whole.areas _ sound whole.frames (λ method offset cell is. absurd (cc)))
-          (λ shallow. moved_by (λ s. IsSoundBy p typings s → Kept p typings s) (is_over oo z.areas actions) _ _
+          (λ shallow. moved_by (λ s. IsSoundBy p typings s → IsWholeStill p typings s) (is_over oo z.areas actions) _ _
           (λ over sound. kept_stopped p typings x not_ended whole.areas _ sound whole.frames (λ method offset cell is. absurd (cc)))
           (λ within sound. finished_kept (max 1 (objects_made actions))
           (performed oo (lawful choose) f.locals f.stack actions z.areas [])
@@ -356,7 +356,7 @@ module _ (p : Program) (typings : Typings) (typed : AreTyped p typings) (steps :
         (found.0, found.1)
 
     frame_kept : (is_over oo z.areas (next_effect p x).actions ≡ false → ActsFit oo z.areas.store f [] (next_effect p x).actions)
-        → IsSoundBy p typings (attempted p (lawful choose) x (next_effect p x)).state → Kept p typings (attempted p (lawful choose) x (next_effect p x)).state
+        → IsSoundBy p typings (attempted p (lawful choose) x (next_effect p x)).state → IsWholeStill p typings (attempted p (lawful choose) x (next_effect p x)).state
     frame_kept fit =
         let parts = option_and_then-some
         (λ other. row_after oo f.method f.item (made_at p f.method standing.code) (use_by p f.method other) other standing.known)
@@ -369,15 +369,15 @@ by_frames : (p : Program) (typings : Typings) (typed : AreTyped p typings) (step
     → ((f : Frame) (callers : List Frame) → frames ≡ f ∷ callers → is_over p.outline z.areas (next_effect p (record z { frames = frames })).actions ≡ false
     → ActsFit p.outline z.areas.store f [] (next_effect p (record z { frames = frames })).actions)
     → IsSoundBy p typings (attempted p (lawful choose) (record z { frames = frames }) (next_effect p (record z { frames = frames }))).state
-    → Kept p typings (attempted p (lawful choose) (record z { frames = frames }) (next_effect p (record z { frames = frames }))).state
+    → IsWholeStill p typings (attempted p (lawful choose) (record z { frames = frames }) (next_effect p (record z { frames = frames }))).state
 by_frames p typings typed steps makes cells numbers rows choose z [] whole not_ended fit sound =
     let some = whole.sound.running not_ended in absurd (omega (arith, some))
 by_frames p typings typed steps makes cells numbers rows choose z (f ∷ callers) whole not_ended fit sound =
     frame_kept p typings typed steps makes cells numbers rows choose z f callers whole not_ended (fit f callers refl) sound
 
 pub step_kept : (p : Program) (typings : Typings) (typed : AreTyped p typings) (steps : StepsAreResolved p) → MakesAreResolved p → (cells : CellsAreResolved p)
-    → NumbersAreConstants p.outline → RowsOwe p typings typed steps cells → (choose : Choose) (x : State) → Kept p typings x
-    → Kept p typings (step p (lawful choose) x).state
+    → NumbersAreConstants p.outline → RowsOwe p typings typed steps cells → (choose : Choose) (x : State) → IsWholeStill p typings x
+    → IsWholeStill p typings (step p (lawful choose) x).state
 unfolding step
 step_kept p typings typed steps makes cells numbers rows choose x kept =
     by_end x.ended refl (step_sound p typings steps choose x kept.whole.sound (λ running. next_acts_fit p typings steps makes x kept.whole.sound)) where
@@ -385,7 +385,7 @@ step_kept p typings typed steps makes cells numbers rows choose x kept =
       moved_with (Some e) = record { state = x; printed = [] }
       moved_with None = attempted p (lawful choose) x (next_effect p x)
 
-      by_end : (ended : Option Ended) → x.ended ≡ ended → IsSoundBy p typings (moved_with ended).state → Kept p typings (moved_with ended).state
+      by_end : (ended : Option Ended) → x.ended ≡ ended → IsSoundBy p typings (moved_with ended).state → IsWholeStill p typings (moved_with ended).state
       by_end (Some e) is sound = kept
       by_end None is sound =
           by_frames p typings typed steps makes cells numbers rows choose x x.frames kept.whole is

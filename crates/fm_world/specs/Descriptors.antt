@@ -126,5 +126,5 @@ abbrev pub result_kind : List DeclaredClass → List ℕ → Option Kind
 result_kind classes descriptor = kind_in classes (result_type descriptor)
 
 -- the words of a method's arguments, without the receiver
-abbrev pub argument_words : List DeclaredClass → List ℕ → ℕ
-argument_words classes descriptor = sum_by kind_words (parameter_kinds classes descriptor)
+abbrev pub argument_word_count : List DeclaredClass → List ℕ → ℕ
+argument_word_count classes descriptor = sum_by kind_words (parameter_kinds classes descriptor)

@@ -4,7 +4,7 @@ use Rattle.std.specs.List.{flat_map, filter_map, range_with_len}
 use Rattle.fm_base.specs.declared.kinds.Base.{Base}
 use Rattle.fm_base.specs.declared.kinds.Base.TheVariants as base
 use Rattle.fm_base.specs.declared.kinds.TypeRef.{TypeRef}
-use Rattle.fm_code.specs.ConstantPool.{entry_at, class_name_at, MemberName, field_at, method_at, interface_method_at}
+use Rattle.fm_code.specs.ConstantPool.{entry_at, class_name_at, MemberName, field_ref_at, method_ref_at, interface_method_ref_at}
 use Rattle.fm_code.specs.Members.{code_of}
 use Rattle.fm_code.specs.Operands.{pool_index}
 use Rattle.fm_code.specs.declared.constant_pool.Entry.{Entry}
@@ -76,9 +76,9 @@ uses_in_order c = filter (is_used c) (pool_indices c)
 abbrev pub named_member : List Entry → ℕ → Option MemberName
 named_member entries index = of_entry (entry_at entries index) where
   of_entry : Entry → Option MemberName
-  of_entry (entry.Field class member) = field_at entries index
-  of_entry (entry.Method class member) = method_at entries index
-  of_entry (entry.InterfaceMethod class member) = interface_method_at entries index
+  of_entry (entry.Field class member) = field_ref_at entries index
+  of_entry (entry.Method class member) = method_ref_at entries index
+  of_entry (entry.InterfaceMethod class member) = interface_method_ref_at entries index
   of_entry e = None
 
 -- the class or the array that an entry names, by itself or as the class of a member

@@ -10,7 +10,7 @@ use Rattle.fm_base.specs.declared.limits.TheConstants.{MAX_FILE_BYTES}
 use Rattle.fm_code.specs.AccessFlags.{is_interface}
 use Rattle.fm_code.specs.ClassBytes.{class_bytes}
 use Rattle.fm_code.specs.CodeRules.{CodeAttrIsValid, CodeIsValid, HandlerIsValid}
-use Rattle.fm_code.specs.ConstantPool.{class_name_at, method_at, utf8_at}
+use Rattle.fm_code.specs.ConstantPool.{class_name_at, method_ref_at, utf8_at}
 use Rattle.fm_code.specs.Fits.{MemberAttrFits, MemberFits}
 use Rattle.fm_code.specs.FreeEntries.{free_method, sought_free, with_free}
 use Rattle.fm_code.specs.Members.{AreDifferent, AreDistinct, FieldIsValid, is_coded, MethodAttrIsValid, MethodIsValid}
@@ -45,7 +45,7 @@ coded_same free plan (a ∷ attributes) =
     one (attribute.Coded name code) = refl
     one (attribute.Other raw) = refl
 
-module _ (entries more : List Entry) (free : ℕ) (named : IsSome (method_at (entries ++ more) free)) where
+module _ (entries more : List Entry) (free : ℕ) (named : IsSome (method_ref_at (entries ++ more) free)) where
   -- a code that isn't changed
   same_code : (code : Code) → CodeIsValid entries code → CodeIsValid (entries ++ more) code
   same_code code valid = record {
@@ -203,7 +203,7 @@ pub changed_spelled : ChangedHaveSpellings
 changed_spelled plans first c (bytes, spells) short few can =
     let entries = c.pool.entries in
     let more = (sought_free entries).missing in
-    let named = IsSome-from_some (method_at (with_free entries) (free_index c)) free_method (free_named entries (with_free entries) more (free_index c) refl refl) in
+    let named = IsSome-from_some (method_ref_at (with_free entries) (free_index c)) free_method (free_named entries (with_free entries) more (free_index c) refl refl) in
     let codes_are = codes_short MAX_FILE_BYTES c short in (
       class_bytes (changed plans first c),
       record {

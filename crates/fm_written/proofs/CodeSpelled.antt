@@ -8,10 +8,10 @@ use Rattle.fm_code.proofs.CodeItems.{HasBytes}
 use Rattle.fm_code.proofs.InsnPrefixes.{insn_at_not_empty}
 use Rattle.fm_code.specs.ClassBytes.{code_bytes, item_bytes, offset_in}
 use Rattle.fm_code.specs.CodeRules.{CodeAttrIsValid, CodeIsValid, HandlerIsValid}
-use Rattle.fm_code.specs.ConstantPool.{method_at}
+use Rattle.fm_code.specs.ConstantPool.{method_ref_at}
 use Rattle.fm_code.specs.Fits.{CodeAttrFits, CodeFits, FitsTwo, VarFits}
 use Rattle.fm_code.specs.Operands.{OperandIsValid}
-use Rattle.fm_code.specs.SpellsCode.{IsSpelled, LocalFits, LocalsFit, SpellsCode, with_targets}
+use Rattle.fm_code.specs.SpellsCode.{ItemIsSpelled, LocalFits, LocalsFit, SpellsCode, with_targets}
 use Rattle.fm_code.specs.declared.code_array.Code.{Code}
 use Rattle.fm_code.specs.declared.code_array.CodeAttr.{CodeAttr}
 use Rattle.fm_code.specs.declared.code_array.CodeAttr.TheVariants as code_attribute
@@ -103,10 +103,10 @@ not_empty (item ∷ items) some filled = let both = length-append item.bytes (fl
 
 filled_items : (items : List Item) → SpellsCode (flat_map item_bytes items) items → AllByRecursion HasBytes items
 filled_items items spells =
-    AllByRecursion-weaker (IsSpelled items) HasBytes
+    AllByRecursion-weaker (ItemIsSpelled items) HasBytes
     (λ item spelled. insn_at_not_empty item.offset item.bytes (with_targets (offset_in items zero) item.insn) spelled.instruction) items spells.spelled
 
-module _ (entries more : List Entry) (free : ℕ) (named : IsSome (method_at (entries ++ more) free)) (code : Code) (plan : Insertions) (can : CanWeave free code plan)
+module _ (entries more : List Entry) (free : ℕ) (named : IsSome (method_ref_at (entries ++ more) free)) (code : Code) (plan : Insertions) (can : CanWeave free code plan)
     (valid : CodeIsValid entries code) where
   abbrev new_items : List NewItem
   new_items = woven free code plan

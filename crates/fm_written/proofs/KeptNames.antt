@@ -4,7 +4,7 @@ use Rattle.std.specs.List.{AllByRecursion}
 use Rattle.fm_base.proofs.ListFacts.{AllByRecursion-weaker}
 use Rattle.fm_base.proofs.OptionFacts.{IsSome-from_some, IsSomeAnd-from_some, Some-from_is_some, Some-from_some_and, same_value}
 use Rattle.fm_code.specs.CodeRules.{CodeAttrIsValid, HandlerIsValid, VarIsValid}
-use Rattle.fm_code.specs.ConstantPool.{class_name_at, entry_at, field_at, interface_method_at, member_named, MemberName, method_at, named_and_typed_at, utf8_at}
+use Rattle.fm_code.specs.ConstantPool.{class_name_at, entry_at, field_ref_at, interface_method_ref_at, member_named, MemberName, method_ref_at, named_and_typed_at, utf8_at}
 use Rattle.fm_code.specs.Members.{FieldAttrIsValid, FieldIsValid, IsValue, Suits, suited_descriptors}
 use Rattle.fm_code.specs.Operands.{IsAnyMethod, IsConstant, opcode_of, OperandIsValid}
 use Rattle.fm_code.specs.declared.class_file.Member.{Member}
@@ -46,23 +46,23 @@ module _ (entries more : List Entry) where
     by (Some c) named None typed = absurd (no_member m (rw (named, typed) at is))
     by None named pair typed = absurd (no_member m (rw named at is))
 
-  pub field_kept : (index : ℕ) (m : MemberName) → field_at entries index ≡ Some m → field_at (entries ++ more) index ≡ Some m
+  pub field_kept : (index : ℕ) (m : MemberName) → field_ref_at entries index ≡ Some m → field_ref_at (entries ++ more) index ≡ Some m
   field_kept index m is = by (entry_at entries index) refl where
-    by : (e : Entry) → entry_at entries index ≡ e → field_at (entries ++ more) index ≡ Some m
+    by : (e : Entry) → entry_at entries index ≡ e → field_ref_at (entries ++ more) index ≡ Some m
     by (entry.Field class member) at_index =
         let stays = entry_kept entries more index (entry.Field class member) at_index (λ e. cc) in rw stays (named_kept class member m (rw at_index at is))
     by e at_index = absurd (no_member m (rw at_index at is))
 
-  pub method_kept : (index : ℕ) (m : MemberName) → method_at entries index ≡ Some m → method_at (entries ++ more) index ≡ Some m
+  pub method_kept : (index : ℕ) (m : MemberName) → method_ref_at entries index ≡ Some m → method_ref_at (entries ++ more) index ≡ Some m
   method_kept index m is = by (entry_at entries index) refl where
-    by : (e : Entry) → entry_at entries index ≡ e → method_at (entries ++ more) index ≡ Some m
+    by : (e : Entry) → entry_at entries index ≡ e → method_ref_at (entries ++ more) index ≡ Some m
     by (entry.Method class member) at_index =
         let stays = entry_kept entries more index (entry.Method class member) at_index (λ e. cc) in rw stays (named_kept class member m (rw at_index at is))
     by e at_index = absurd (no_member m (rw at_index at is))
 
-  pub interface_method_kept : (index : ℕ) (m : MemberName) → interface_method_at entries index ≡ Some m → interface_method_at (entries ++ more) index ≡ Some m
+  pub interface_method_kept : (index : ℕ) (m : MemberName) → interface_method_ref_at entries index ≡ Some m → interface_method_ref_at (entries ++ more) index ≡ Some m
   interface_method_kept index m is = by (entry_at entries index) refl where
-    by : (e : Entry) → entry_at entries index ≡ e → interface_method_at (entries ++ more) index ≡ Some m
+    by : (e : Entry) → entry_at entries index ≡ e → interface_method_ref_at (entries ++ more) index ≡ Some m
     by (entry.InterfaceMethod class member) at_index =
         let stays = entry_kept entries more index (entry.InterfaceMethod class member) at_index (λ e. cc) in
         rw stays (named_kept class member m (rw at_index at is))
@@ -84,22 +84,22 @@ module _ (entries more : List Entry) where
     by two e at_index own = absurd own
 
   any_kept : (index : ℕ) → IsAnyMethod entries index → IsAnyMethod (entries ++ more) index
-  any_kept index (inl of_class) = inl (still_some (method_at entries index) (method_at (entries ++ more) index) (method_kept index) of_class)
+  any_kept index (inl of_class) = inl (still_some (method_ref_at entries index) (method_ref_at (entries ++ more) index) (method_kept index) of_class)
   any_kept index (inr of_interface) =
-      inr (still_some (interface_method_at entries index) (interface_method_at (entries ++ more) index) (interface_method_kept index) of_interface)
+      inr (still_some (interface_method_ref_at entries index) (interface_method_ref_at (entries ++ more) index) (interface_method_kept index) of_interface)
 
   operand_in : (offset : ℕ) (bytes : List ℕ) (i : Insn) → OperandIsValid entries (record { offset = offset; bytes = bytes; insn = i })
       → OperandIsValid (entries ++ more) (record { offset = offset; bytes = bytes; insn = i })
   operand_in offset bytes (insn.LoadPool index) valid = constant_kept (opcode_of (record { offset = offset; bytes = bytes; insn = insn.LoadPool index }) == LDC2_W) index valid
-  operand_in offset bytes (insn.GetStatic index) valid = still_some (field_at entries index) (field_at (entries ++ more) index) (field_kept index) valid
-  operand_in offset bytes (insn.PutStatic index) valid = still_some (field_at entries index) (field_at (entries ++ more) index) (field_kept index) valid
-  operand_in offset bytes (insn.GetField index) valid = still_some (field_at entries index) (field_at (entries ++ more) index) (field_kept index) valid
-  operand_in offset bytes (insn.PutField index) valid = still_some (field_at entries index) (field_at (entries ++ more) index) (field_kept index) valid
-  operand_in offset bytes (insn.Virtual index) valid = still_some (method_at entries index) (method_at (entries ++ more) index) (method_kept index) valid
+  operand_in offset bytes (insn.GetStatic index) valid = still_some (field_ref_at entries index) (field_ref_at (entries ++ more) index) (field_kept index) valid
+  operand_in offset bytes (insn.PutStatic index) valid = still_some (field_ref_at entries index) (field_ref_at (entries ++ more) index) (field_kept index) valid
+  operand_in offset bytes (insn.GetField index) valid = still_some (field_ref_at entries index) (field_ref_at (entries ++ more) index) (field_kept index) valid
+  operand_in offset bytes (insn.PutField index) valid = still_some (field_ref_at entries index) (field_ref_at (entries ++ more) index) (field_kept index) valid
+  operand_in offset bytes (insn.Virtual index) valid = still_some (method_ref_at entries index) (method_ref_at (entries ++ more) index) (method_kept index) valid
   operand_in offset bytes (insn.Special index) valid = any_kept index valid
   operand_in offset bytes (insn.Static index) valid = any_kept index valid
   operand_in offset bytes (insn.Interface index) valid =
-      still_such (interface_method_at entries index) (interface_method_at (entries ++ more) index) _ (interface_method_kept index) valid
+      still_such (interface_method_ref_at entries index) (interface_method_ref_at (entries ++ more) index) _ (interface_method_kept index) valid
   operand_in offset bytes (insn.New index) valid = still_some (class_name_at entries index) (class_name_at (entries ++ more) index) (class_kept entries more index) valid
   operand_in offset bytes (insn.NewRefs index) valid = still_some (class_name_at entries index) (class_name_at (entries ++ more) index) (class_kept entries more index) valid
   operand_in offset bytes (insn.Cast index) valid = still_some (class_name_at entries index) (class_name_at (entries ++ more) index) (class_kept entries more index) valid

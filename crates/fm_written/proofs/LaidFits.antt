@@ -3,7 +3,7 @@ use Rattle.std.proofs.Common.{◌≡◌, ℕ, ◌+◌, Bool, true, false, List, 
 use Rattle.std.specs.Prelude.{nat_lt, slice_get, slice_index}
 use Rattle.std.specs.List.{AllByRecursion}
 use Rattle.fm_base.proofs.ListFacts.{AllByRecursion-append}
-use Rattle.fm_code.specs.ConstantPool.{method_at}
+use Rattle.fm_code.specs.ConstantPool.{method_ref_at}
 use Rattle.fm_code.specs.Operands.{OperandIsValid}
 use Rattle.fm_code.specs.SpellsCode.{LocalsFit, with_targets}
 use Rattle.fm_code.specs.declared.code_array.Item.{Item}
@@ -118,18 +118,18 @@ kept_fits locals entries starts firsts start item i same (local, operand) = by (
       λ k. record { offset = start; bytes = bytes k; insn = whole k } in
       subst (λ (x : Item). ItemFits locals entries x) (sym made) (local, there)
 
-inserted_fits : (free locals : ℕ) (entries : List Entry) → IsSome (method_at entries free) → (starts firsts : List ℕ) (start : ℕ) (i : Insn) → InsertedFits free locals i
+inserted_fits : (free locals : ℕ) (entries : List Entry) → IsSome (method_ref_at entries free) → (starts firsts : List ℕ) (start : ℕ) (i : Insn) → InsertedFits free locals i
     → ItemFits locals entries (moved_item starts firsts start None i)
 inserted_fits free locals entries named starts firsts start insn.Null fits = (tt, tt)
 inserted_fits free locals entries named starts firsts start insn.Dup fits = (tt, tt)
 inserted_fits free locals entries named starts firsts start (insn.Load reg.Ref local) fits = (fits, tt)
 inserted_fits free locals entries named starts firsts start (insn.Store reg.Ref local) fits = (fits, tt)
-inserted_fits free locals entries named starts firsts start (insn.Static index) fits = (tt, inl (subst (λ n. IsSome (method_at entries n)) (sym fits) named))
+inserted_fits free locals entries named starts firsts start (insn.Static index) fits = (tt, inl (subst (λ n. IsSome (method_ref_at entries n)) (sym fits) named))
 inserted_fits free locals entries named starts firsts start i fits = absurd fits
 
 -- ---- all items
 
-pub laid_fits : (free locals : ℕ) (entries : List Entry) → IsSome (method_at entries free) → (old : List Item) → AllByRecursion (ItemFits locals entries) old
+pub laid_fits : (free locals : ℕ) (entries : List Entry) → IsSome (method_ref_at entries free) → (old : List Item) → AllByRecursion (ItemFits locals entries) old
     → (starts firsts : List ℕ) (start first : ℕ) (items : List NewItem) (rooms : List Room) → AllByRecursion (HasOrigin old) items
     → AllByRecursion (NewFits free locals) items → AllByRecursion (ItemFits locals entries) (laid_from old starts firsts start first items rooms)
 laid_fits free locals entries named old known =

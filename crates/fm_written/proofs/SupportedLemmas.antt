@@ -7,7 +7,7 @@ use Rattle.std.proofs.lemmas.List.{length-map}
 use Rattle.fm_base.proofs.ListFacts.{AllByRecursion-weaker}
 use Rattle.fm_base.proofs.OptionFacts.{IsSome-from_some, Some-from_is_some, Some-from_some_and}
 use Rattle.fm_code.specs.AccessFlags.{is_interface}
-use Rattle.fm_code.specs.ConstantPool.{class_name_at, entry_at, field_at, interface_method_at, MemberName, method_at}
+use Rattle.fm_code.specs.ConstantPool.{class_name_at, entry_at, field_ref_at, interface_method_ref_at, MemberName, method_ref_at}
 use Rattle.fm_code.specs.FreeEntries.{free_class, free_method, sought_free, with_free}
 use Rattle.fm_code.specs.Members.{code_of, MethodAttrIsValid, MethodIsValid}
 use Rattle.fm_code.specs.CodeRules.{CodeIsValid}
@@ -74,14 +74,14 @@ kept_supported entries starts firsts start item i same supported = by (names_tar
 free_is_no_array : ¬ IsFloatingArray free_class
 free_is_no_array is = false≢true (array_begins free_class is)
 
-inserted_supported : (free locals : ℕ) (entries : List Entry) → method_at entries free ≡ Some free_method → (starts firsts : List ℕ) (start : ℕ) (i : Insn) → InsertedFits free locals i
+inserted_supported : (free locals : ℕ) (entries : List Entry) → method_ref_at entries free ≡ Some free_method → (starts firsts : List ℕ) (start : ℕ) (i : Insn) → InsertedFits free locals i
     → HasSupportedInsn entries (moved_item starts firsts start None i)
 inserted_supported free locals entries named starts firsts start insn.Null fits = (refl, refl, refl, tt)
 inserted_supported free locals entries named starts firsts start insn.Dup fits = (refl, refl, refl, tt)
 inserted_supported free locals entries named starts firsts start (insn.Load reg.Ref local) fits = (refl, refl, refl, tt)
 inserted_supported free locals entries named starts firsts start (insn.Store reg.Ref local) fits = (refl, refl, refl, tt)
 inserted_supported free locals entries named starts firsts start (insn.Static index) fits =
-    let there : method_at entries index ≡ Some free_method = ap (method_at entries) fits ∙ named in
+    let there : method_ref_at entries index ≡ Some free_method = ap (method_ref_at entries) fits ∙ named in
     let class : Option (List ℕ) → Type 0 = λ o. IfSome o (λ name. ¬ IsFloatingArray name) in
     (refl, refl, ap is_some there, subst class (sym (ap (option_map (λ (m : MemberName). m.class)) there)) free_is_no_array)
 inserted_supported free locals entries named starts firsts start i fits = absurd fits
@@ -99,16 +99,16 @@ module _ (entries more : List Entry) where
   -- an instruction names the same class
   named_same : (offset : ℕ) (bytes : List ℕ) (i : Insn) → OperandIsValid entries (record { offset = offset; bytes = bytes; insn = i }) → calls_of_class entries i ≡ true
       → class_named (entries ++ more) i ≡ class_named entries i
-  named_same offset bytes (insn.GetStatic index) valid called = same_of field_at index (field_kept entries more index) valid
-  named_same offset bytes (insn.PutStatic index) valid called = same_of field_at index (field_kept entries more index) valid
-  named_same offset bytes (insn.GetField index) valid called = same_of field_at index (field_kept entries more index) valid
-  named_same offset bytes (insn.PutField index) valid called = same_of field_at index (field_kept entries more index) valid
-  named_same offset bytes (insn.Virtual index) valid called = same_of method_at index (method_kept entries more index) valid
-  named_same offset bytes (insn.Special index) valid called = same_of method_at index (method_kept entries more index) called
-  named_same offset bytes (insn.Static index) valid called = same_of method_at index (method_kept entries more index) called
+  named_same offset bytes (insn.GetStatic index) valid called = same_of field_ref_at index (field_kept entries more index) valid
+  named_same offset bytes (insn.PutStatic index) valid called = same_of field_ref_at index (field_kept entries more index) valid
+  named_same offset bytes (insn.GetField index) valid called = same_of field_ref_at index (field_kept entries more index) valid
+  named_same offset bytes (insn.PutField index) valid called = same_of field_ref_at index (field_kept entries more index) valid
+  named_same offset bytes (insn.Virtual index) valid called = same_of method_ref_at index (method_kept entries more index) valid
+  named_same offset bytes (insn.Special index) valid called = same_of method_ref_at index (method_kept entries more index) called
+  named_same offset bytes (insn.Static index) valid called = same_of method_ref_at index (method_kept entries more index) called
   named_same offset bytes (insn.Interface index) valid called =
-      let v = Some-from_some_and (interface_method_at entries index) _ valid in
-      same_of interface_method_at index (interface_method_kept entries more index) (IsSome-from_some (interface_method_at entries index) v.0 v.1)
+      let v = Some-from_some_and (interface_method_ref_at entries index) _ valid in
+      same_of interface_method_ref_at index (interface_method_kept entries more index) (IsSome-from_some (interface_method_ref_at entries index) v.0 v.1)
   named_same offset bytes (insn.New index) valid called = class_same index valid
   named_same offset bytes (insn.NewRefs index) valid called = class_same index valid
   named_same offset bytes (insn.Cast index) valid called = class_same index valid
@@ -125,8 +125,8 @@ module _ (entries more : List Entry) where
 
   -- and may call what it calls
   calls_kept : (i : Insn) → calls_of_class entries i ≡ true → calls_of_class (entries ++ more) i ≡ true
-  calls_kept (insn.Special index) called = still_some (method_at entries index) (method_at (entries ++ more) index) (method_kept entries more index) called
-  calls_kept (insn.Static index) called = still_some (method_at entries index) (method_at (entries ++ more) index) (method_kept entries more index) called
+  calls_kept (insn.Special index) called = still_some (method_ref_at entries index) (method_ref_at (entries ++ more) index) (method_kept entries more index) called
+  calls_kept (insn.Static index) called = still_some (method_ref_at entries index) (method_ref_at (entries ++ more) index) (method_kept entries more index) called
   calls_kept i called = refl
 
   item_kept : (item : Item) → OperandIsValid entries item → ItemIsSupported entries item → HasSupportedInsn (entries ++ more) item
@@ -167,7 +167,7 @@ first_can free plan (attribute.Constant name value ∷ attributes) code can is =
 first_can free plan (attribute.Coded name own ∷ attributes) code can is = let same : own ≡ code = cc in subst (λ (c : Code). CanWeave free c plan) same can.0
 first_can free plan (attribute.Other raw ∷ attributes) code can is = first_can free plan attributes code can.1 is
 
-module _ (entries more : List Entry) (free : ℕ) (named : method_at (entries ++ more) free ≡ Some free_method) where
+module _ (entries more : List Entry) (free : ℕ) (named : method_ref_at (entries ++ more) free ≡ Some free_method) where
   code_supported : (code : Code) (plan : Insertions) → CanWeave free code plan → AllByRecursion (OperandIsValid entries) code.items → AllByRecursion (ItemIsSupported entries) code.items
       → AllByRecursion (ItemIsSupported (entries ++ more)) (woven_code free code plan).items
   unfolding laid_of

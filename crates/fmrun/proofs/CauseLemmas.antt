@@ -10,7 +10,7 @@ use Rattle.fm_given.proofs.KnownLemmas.{bytes_stop, long_stops, missing_stops}
 use Rattle.fm_given.proofs.RefusalLemmas.{class_status}
 use Rattle.fm_given.proofs.VerdictLemmas.{Links}
 use Rattle.fm_given.specs.Causes.{FailsARead, HasTooMany, IsMissing, IsKnownLong, IsKnownRefused, IsKnownUnlinked, IsKnownUntyped}
-use Rattle.fm_given.specs.Given.{AreMany, AreRefused, IsNotLinked}
+use Rattle.fm_given.specs.Given.{AreMany, AreNotLinked, IsNotLinked}
 use Rattle.fm_given.specs.LinkRefusal.{cause_line}
 use Rattle.fm_given.specs.Refusal.{many_arguments_line, many_line, refusal_status}
 use Rattle.fm_given.specs.Taking.{total_bytes, IsTooLong, IsRefused}
@@ -18,17 +18,17 @@ use Rattle.fm_given.specs.declared.refusal.JobRefusal.{JobRefusal}
 use Rattle.fm_given.specs.declared.refusal.JobRefusal.TheVariants as job_refusal
 use Rattle.fm_refuse.specs.Refused.{refusal_of}
 use Rattle.fm_request.proofs.RequestLemmas.{asks_one}
-use Rattle.fm_request.specs.Request.{Job, Asks, AskNothing}
+use Rattle.fm_request.specs.FmrunRequest.{FmrunJob, Asks, AskNothing}
 use Rattle.fm_tool.proofs.LineLemmas.{instead_for_file, instead_for_words}
 use Rattle.fm_tool.specs.Encoding.{modified}
 use Rattle.fm_tool.specs.Status.{ComesExactly}
-use Rattle.fm_tool.specs.declared.refusal.Refusal.TheVariants as refusal
+use Rattle.fm_tool.specs.declared.command_refusal.CommandRefusal.TheVariants as refusal
 use Rattle.fm_tool.specs.declared.status.TheConstants.{DONE, WORDS, READ, LIMIT, LINK, CHECK, WRITE, OUT_OF_MEMORY}
 use Rattle.fm_world.specs.Causes.{Refusal}
 use Rattle.fmrun.proofs.EndStatuses.{among_refusals, job_of_told, kind_of, not_for_words, own_among, refusal_among, run_apart}
 use Rattle.fmrun.proofs.ToldLemmas.{FailsSo, IsLinePut, fails_so, is_among, is_line_put, told_of_file, told_of_words}
 use Rattle.fmrun.proofs.Verdicts.{JobVerdict, Runs, input_long, input_missing, one_end, passes, passes_input, ready_passes, status_of}
-use Rattle.fmrun.specs.Causes.{AskFor, AskToRead, HasLongInput, HasManyArguments, IsForBytes, IsForCheck, IsForLimit, IsForLink, IsForRead, IsForRun, IsForWords, IsKnownReady, IsKnownRun, LacksInput, MissesFile, SaysCheck, SaysLimit, SaysLink, SaysRead, SaysRefused, SaysRun, SaysWords, refusals}
+use Rattle.fmrun.specs.Causes.{AskFor, AskToRead, HasLongInput, HasManyArguments, IsForBytes, IsForCheck, IsForLimit, IsForLink, IsForRead, IsForRun, IsForWords, IsKnownReady, IsKnownRun, LacksInput, MissesFile, SaysCheck, SaysLimit, SaysLink, SaysRead, SaysRefused, SaysRun, SaysWords, refusal_statuses}
 use Rattle.fmrun.specs.Jobs.{given_of, job_arguments}
 use Rattle.fmrun.specs.TopCall.{AreManyArguments, ComesOf, ComesOfJob, ComesTo, HasInput, HasRun, IsTold, Outcome, outcome_status}
 use Rattle.fmrun.specs.declared.outcome.JobFail.TheVariants as fail
@@ -54,7 +54,7 @@ module _ (words : List Bytes) (old new : Disk) (before after report report' : Ou
   read_said o j is line = absurd (omega arith)
 
   -- 70
-  cause_said : (job : Job) (cause : Option Refusal) → Asks words job → HasInput job old.contents → IsNotLinked (given_of job) cause old new → after ≡ before → report' ≡ with_piece (cause_line cause) report → SaysLink words old new before after report report'
+  cause_said : (job : FmrunJob) (cause : Option Refusal) → Asks words job → HasInput job old.contents → IsNotLinked (given_of job) cause old new → after ≡ before → report' ≡ with_piece (cause_line cause) report → SaysLink words old new before after report report'
   cause_said job None asked input unlinked silent line = absurd unlinked.refused
   cause_said job (Some cause) asked input unlinked silent line = record {
     job = job;
@@ -138,7 +138,7 @@ module _ (words : List Bytes) (old new : Disk) (before after report report' : Ou
 -- ---- the cause of each status
 
 -- too many files or arguments have one status, and memory may be lacking
-many_status : (job : Job) (old new : Disk) (before after : Output) → HasTooMany (given_of job) ⊎ HasManyArguments job → (o : Outcome) → ComesTo job old new before after o → Contains (LIMIT ∷ instead_for_words) (outcome_status o)
+many_status : (job : FmrunJob) (old new : Disk) (before after : Output) → HasTooMany (given_of job) ⊎ HasManyArguments job → (o : Outcome) → ComesTo job old new before after o → Contains (LIMIT ∷ instead_for_words) (outcome_status o)
 many_status job old new before after many o comes = go many o comes where
   both : {X : Type 0} → HasTooMany (given_of job) ⊎ HasManyArguments job → length (job_arguments job) ≤ MAX_ARGUMENTS → length job.files ≤ MAX_CLASS_FILES → X
   both (inl files) few_arguments few = absurd (omega arith)
@@ -156,21 +156,21 @@ many_status job old new before after many o comes = go many o comes where
   go m (Err (fail.Refused (job_refusal.TooLong file))) c = (0, omega arith, refl)
   go m (Err (fail.Refused (job_refusal.Class file r))) c = both m c.0.0 c.0.1.reaches.few
   go m (Err (fail.Refused (job_refusal.Link link))) c =
-      let found = Some-from_some_and (refusal_of link) (AreRefused (given_of job) old.contents) c.0.1.1.refused in both m c.0.0 found.2.taken.few
+      let found = Some-from_some_and (refusal_of link) (AreNotLinked (given_of job) old.contents) c.0.1.1.refused in both m c.0.0 found.2.taken.few
   go m (Err (fail.Refused (job_refusal.Check name))) c = both m c.0.0 c.0.1.1.linked.taken.few
   go m (Err (fail.Refused (job_refusal.Write name))) c = absurd c.0.1
 
 module _ {words : List Bytes} {old new : Disk} {before after : Output} (o : Outcome) (comes : ComesOf words old new before after o) where
   -- the job that was asked for comes out so, or memory was lacking before
-  of_job : (job : Job) → Asks words job → ComesTo job old new before after o ⊎ (outcome_status o ≡ OUT_OF_MEMORY)
+  of_job : (job : FmrunJob) → Asks words job → ComesTo job old new before after o ⊎ (outcome_status o ≡ OUT_OF_MEMORY)
   of_job job asked = go comes where
     go : ComesOf words old new before after o → ComesTo job old new before after o ⊎ (outcome_status o ≡ OUT_OF_MEMORY)
-    go (inl j) = let P : Job → Type 0 = λ k. ComesTo k old new before after o in inl (subst P (asks_one words j.job job j.asked asked) j.comes)
+    go (inl j) = let P : FmrunJob → Type 0 = λ k. ComesTo k old new before after o in inl (subst P (asks_one words j.job job j.asked asked) j.comes)
     go (inr (inl nothing)) = absurd (nothing.unasked job asked)
     go (inr (inr lacking)) = inr (ap outcome_status lacking.refused)
 
   -- a verdict of its files decides the kind of outcome, unless there was a fault or memory was lacking
-  decided : (status : ℕ) (job : Job) (held : Bytes → Option Bytes) → old.contents ≡ Some held → Asks words job → length (job_arguments job) ≤ MAX_ARGUMENTS → JobVerdict held job status
+  decided : (status : ℕ) (job : FmrunJob) (held : Bytes → Option Bytes) → old.contents ≡ Some held → Asks words job → length (job_arguments job) ≤ MAX_ARGUMENTS → JobVerdict held job status
       → Contains (status ∷ instead_for_file) (kind_of o) ⊎ (outcome_status o ≡ OUT_OF_MEMORY)
   decided status job held known asked few verdict = ⊎_elim
       (λ (job_comes : ComesTo job old new before after o). inl (status_of job old held known new before after few status o verdict job_comes))
@@ -322,7 +322,7 @@ module _ {words : List Bytes} {old new : Disk} {before after : Output} (report r
 
 module _ {words : List Bytes} {old new : Disk} {before after : Output} (report report' : Output) (result : ℕ) where
   -- the line of the run is put
-  run_put : (o : Outcome) (comes : ComesOf words old new before after o) → ¬ Contains refusals (outcome_status o) → IsLinePut o report report' → result ≡ outcome_status o → SaysRun words old new before after report report' result
+  run_put : (o : Outcome) (comes : ComesOf words old new before after o) → ¬ Contains refusal_statuses (outcome_status o) → IsLinePut o report report' → result ≡ outcome_status o → SaysRun words old new before after report report' result
   run_put (Ok told) comes none line is =
       let j = job_of_told told comes in
       let P : ℕ → Type 0 = λ s. HasRun j.job (string_bytes told.line) s old new before after in
@@ -330,10 +330,10 @@ module _ {words : List Bytes} {old new : Disk} {before after : Output} (report r
   run_put (Err (fail.Refused r)) comes none line is = absurd (none (refusal_among r comes))
   run_put (Err fail.Output) comes none line is = absurd (none (8, omega arith, refl))
 
-  run_only : (o : Outcome) → ComesOf words old new before after o → IsTold o report report' result → ¬ Contains refusals result → SaysRun words old new before after report report' result
+  run_only : (o : Outcome) → ComesOf words old new before after o → IsTold o report report' result → ¬ Contains refusal_statuses result → SaysRun words old new before after report report' result
   run_only o comes tells none =
       let put = is_line_put report report' result o tells result (λ e. none (8, omega arith, sym e)) (λ e. none (9, omega arith, sym e)) refl in
-      let P : ℕ → Type 0 = λ s. ¬ Contains refusals s in
+      let P : ℕ → Type 0 = λ s. ¬ Contains refusal_statuses s in
       run_put o comes (subst P (sym put.0) none) put.1 (sym put.0)
 
   -- a run that is reported, or isn't
@@ -348,11 +348,11 @@ module _ {words : List Bytes} {old new : Disk} {before after : Output} (report r
   run_told (Err fail.Output) comes tells is = absurd (omega arith)
 
   -- it has the status of the definitions' run
-  end_told : (o : Outcome) → ComesOf words old new before after o → (status : ℕ) (job : Job) → Asks words job → IsKnownRun status old job → kind_of o ≡ DONE → outcome_status o ≡ status
+  end_told : (o : Outcome) → ComesOf words old new before after o → (status : ℕ) (job : FmrunJob) → Asks words job → IsKnownRun status old job → kind_of o ≡ DONE → outcome_status o ≡ status
   end_told (Ok told) comes status job asked known is =
       let j = job_of_told told comes in
       let found = Some-from_is_some old.contents known.known in
-      let P : Job → Type 0 = λ k. HasRun k (string_bytes told.line) told.status old new before after in
+      let P : FmrunJob → Type 0 = λ k. HasRun k (string_bytes told.line) told.status old new before after in
       one_end job old new before after found.0 found.1 (string_bytes told.line) told.status status (subst P (asks_one words j.job job j.asked asked) j.comes)
       known.classes known.input known.ready known.last known.printed known.run known.status_is
   end_told (Err (fail.Refused r)) comes status job asked known is = absurd (not_done r comes is)

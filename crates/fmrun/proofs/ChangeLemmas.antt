@@ -8,15 +8,15 @@ use Rattle.fm_given.specs.Refusal.{refusal_line, refusal_status}
 use Rattle.fm_given.specs.declared.refusal.JobRefusal.{JobRefusal}
 use Rattle.fm_given.specs.declared.refusal.JobRefusal.TheVariants as job_refusal
 use Rattle.fm_request.proofs.RequestLemmas.{asks_one}
-use Rattle.fm_request.specs.Request.{Job, Asks, AskNothing}
+use Rattle.fm_request.specs.FmrunRequest.{FmrunJob, Asks, AskNothing}
 use Rattle.fm_tool.proofs.OutsideLemmas.{no_fault_where_same}
-use Rattle.fm_tool.specs.Outside.{HasNoFault}
-use Rattle.fm_tool.specs.declared.refusal.Refusal.TheVariants as refusal
+use Rattle.fm_tool.specs.Outside.{HasNoFileFault}
+use Rattle.fm_tool.specs.declared.command_refusal.CommandRefusal.TheVariants as refusal
 use Rattle.fm_tool.specs.declared.status.TheConstants.{WRITE, OUT_OF_MEMORY}
 use Rattle.fmrun.proofs.EndStatuses.{among_before_run, job_of_failed, job_of_told, not_for_write, refusal_among, run_apart}
 use Rattle.fmrun.proofs.JobLemmas.{none_within}
 use Rattle.fmrun.proofs.ToldLemmas.{FailsSo, IsLinePut, fails_so, is_line_put, output_faultless, report_fails, report_faultless}
-use Rattle.fmrun.specs.Causes.{IsFaultless, IsForMemory, IsForWrite, IsSilent, IsStatus, OnlyReads, SaysMemory, SaysUnprinted, SaysUntold, before_run, refusals}
+use Rattle.fmrun.specs.Causes.{IsFaultless, IsForMemory, IsForWrite, IsSilent, IsStatus, OnlyReads, SaysMemory, SaysUnprinted, SaysUntold, before_run, refusal_statuses}
 use Rattle.fmrun.specs.TopCall.{ComesOf, ComesTo, IsTold, Outcome, StaysWithin, outcome_status}
 use Rattle.fmrun.specs.declared.outcome.JobFail.TheVariants as fail
 
@@ -74,7 +74,7 @@ module _ (words : List Bytes) (old new : Disk) (before after report report' : Ou
     unwritten : outcome_status o ≢ WRITE
     unwritten e = none (1, omega arith, sym e ∙ put.0)
 
-    reads : FailsSo old new (outcome_status o) → HasNoFault old new
+    reads : FailsSo old new (outcome_status o) → HasNoFileFault old new
     reads (inl faultless) = faultless
     reads (inr e) = absurd (none (0, omega arith, sym e ∙ put.0))
 
@@ -83,7 +83,7 @@ module _ (words : List Bytes) (old new : Disk) (before after report report' : Ou
     output (inr failed) = absurd (unwritten (ap outcome_status failed))
 
   -- a refusal leaves the output as it was
-  job_silent : (job : Job) (o : Outcome) → ComesTo job old new before after o → Contains before_run (outcome_status o) → after ≡ before
+  job_silent : (job : FmrunJob) (o : Outcome) → ComesTo job old new before after o → Contains before_run (outcome_status o) → after ≡ before
   job_silent job (Ok told) comes among = absurd (let bounds = among_before_run told.status among in run_apart comes told.status bounds.low (let high = bounds.high in omega arith) refl)
   job_silent job (Err fail.Output) comes among = absurd (let bounds = among_before_run WRITE among in let high = bounds.high in omega arith)
   job_silent job (Err (fail.Refused (job_refusal.Shared refusal.OutOfMemory))) comes among = absurd (let bounds = among_before_run OUT_OF_MEMORY among in let high = bounds.high in omega arith)
@@ -107,8 +107,8 @@ module _ (words : List Bytes) (old new : Disk) (before after report report' : Ou
 
   pub only_reads : (o : Outcome) → ComesOf words old new before after o → OnlyReads words old new
   only_reads o comes = record { asked = λ job asked. stays job asked comes; unasked = λ none. unchanged none comes } where
-    stays : (job : Job) → Asks words job → ComesOf words old new before after o → StaysWithin job old new
-    stays job asked (inl j) = let P : Job → Type 0 = λ k. StaysWithin k old new in subst P (asks_one words j.job job j.asked asked) j.within
+    stays : (job : FmrunJob) → Asks words job → ComesOf words old new before after o → StaysWithin job old new
+    stays job asked (inl j) = let P : FmrunJob → Type 0 = λ k. StaysWithin k old new in subst P (asks_one words j.job job j.asked asked) j.within
     stays job asked (inr (inl nothing)) = absurd (nothing.unasked job asked)
     stays job asked (inr (inr lacking)) = let P : Disk → Type 0 = λ d. StaysWithin job old d in subst P (sym lacking.kept) (none_within job old)
 
@@ -119,8 +119,8 @@ module _ (words : List Bytes) (old new : Disk) (before after report report' : Ou
 
   -- ---- all statuses
 
-  among_all : {status : ℕ} → Contains refusals status → result ≡ status → IsStatus result
-  among_all among is = let P : ℕ → Type 0 = Contains refusals in inl (subst P (sym is) among)
+  among_all : {status : ℕ} → Contains refusal_statuses status → result ≡ status → IsStatus result
+  among_all among is = let P : ℕ → Type 0 = Contains refusal_statuses in inl (subst P (sym is) among)
 
   pub is_status : (o : Outcome) → ComesOf words old new before after o → IsTold o report report' result → IsStatus result
   is_status (Ok told) comes (inl put) = let j = job_of_told told comes in inr ((report_of j.comes.last).end, put.0 ∙ j.comes.status_is)

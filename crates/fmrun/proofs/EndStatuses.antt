@@ -20,12 +20,12 @@ use Rattle.fm_given.specs.declared.refusal.JobRefusal.{JobRefusal}
 use Rattle.fm_given.specs.declared.refusal.JobRefusal.TheVariants as job_refusal
 use Rattle.fm_report.specs.Reports.{end_status}
 use Rattle.fm_report.specs.declared.status.TheConstants.{FAULT, OTHER_EXIT}
-use Rattle.fm_request.specs.Request.{Job}
-use Rattle.fm_runner.specs.declared.runs.Told.{Told}
+use Rattle.fm_request.specs.FmrunRequest.{FmrunJob}
+use Rattle.fm_runner.specs.declared.runs.RunReport.{RunReport}
 use Rattle.fm_tool.proofs.LineLemmas.{instead_for_file}
-use Rattle.fm_tool.specs.declared.refusal.Refusal.TheVariants as refusal
+use Rattle.fm_tool.specs.declared.command_refusal.CommandRefusal.TheVariants as refusal
 use Rattle.fm_tool.specs.declared.status.TheConstants.{DONE, WORDS, WRITE}
-use Rattle.fmrun.specs.Causes.{before_run, refusals}
+use Rattle.fmrun.specs.Causes.{before_run, refusal_statuses}
 use Rattle.fmrun.specs.TopCall.{ComesOf, ComesOfJob, ComesTo, HasRun, Outcome, outcome_status}
 use Rattle.fmrun.specs.declared.outcome.JobFail.TheVariants as fail
 
@@ -53,7 +53,7 @@ fault_status (end.Exit n) is = absurd (exit_apart (cast_unsigned w32 n % 256) (n
 fault_status e is = absurd (omega arith)
 
 -- nor has a run a status of a refusal
-pub run_apart : {job : Job} {line : List ℕ} {status : ℕ} {old new : Disk} {before after : Output} → HasRun job line status old new before after → (s : ℕ) → 64 ≤ s → s ≤ 79 → status ≡ s → ⊥
+pub run_apart : {job : FmrunJob} {line : List ℕ} {status : ℕ} {old new : Disk} {before after : Output} → HasRun job line status old new before after → (s : ℕ) → 64 ≤ s → s ≤ 79 → status ≡ s → ⊥
 run_apart ran s from to is = end_apart (report_of ran.last).end s from to (sym ran.status_is ∙ is)
 
 -- ---- refusals
@@ -77,8 +77,8 @@ one_between least most statuses are status among =
     record { low = leb-true least status own.0; high = leb-true status most own.1 }
 
 -- the statuses of refusals are between these
-pub among_refusals : (status : ℕ) → Contains refusals status → IsBetween 64 79 status
-among_refusals = one_between 64 79 refusals refl
+pub among_refusals : (status : ℕ) → Contains refusal_statuses status → IsBetween 64 79 status
+among_refusals = one_between 64 79 refusal_statuses refl
 
 -- and those before the run between these
 pub among_before_run : (status : ℕ) → Contains before_run status → IsBetween 64 71 status
@@ -86,7 +86,7 @@ among_before_run = one_between 64 71 before_run refl
 
 module _ {words : List Bytes} {old new : Disk} {before after : Output} where
   -- a run that is reported is that of a job
-  pub job_of_told : (told : Told) → ComesOf words old new before after (Ok told) → ComesOfJob words old new before after (Ok told)
+  pub job_of_told : (told : RunReport) → ComesOf words old new before after (Ok told) → ComesOfJob words old new before after (Ok told)
   job_of_told told (inl j) = j
   job_of_told told (inr (inl nothing)) = absurd (let other = nothing.refused in cc)
   job_of_told told (inr (inr lacking)) = absurd (let other = lacking.refused in cc)
@@ -99,13 +99,13 @@ module _ {words : List Bytes} {old new : Disk} {before after : Output} where
 
   -- no job is refused for a write, or for what isn't built
   not_of_job : (r : JobRefusal) (status : ℕ) → (ComesOfJob words old new before after (Err (fail.Refused r)) → ⊥) → ¬ (r ≡ job_refusal.Shared refusal.Words) → ¬ (r ≡ job_refusal.Shared refusal.OutOfMemory)
-      → ComesOf words old new before after (Err (fail.Refused r)) → Contains refusals status
+      → ComesOf words old new before after (Err (fail.Refused r)) → Contains refusal_statuses status
   not_of_job r status none unlike_words unlike_memory (inl j) = absurd (none j)
   not_of_job r status none unlike_words unlike_memory (inr (inl nothing)) = absurd (unlike_words (let same = nothing.refused in cc))
   not_of_job r status none unlike_words unlike_memory (inr (inr lacking)) = absurd (unlike_memory (let same = lacking.refused in cc))
 
   -- the status of a refusal is among these
-  pub refusal_among : (r : JobRefusal) → ComesOf words old new before after (Err (fail.Refused r)) → Contains refusals (refusal_status r)
+  pub refusal_among : (r : JobRefusal) → ComesOf words old new before after (Err (fail.Refused r)) → Contains refusal_statuses (refusal_status r)
   refusal_among (job_refusal.Shared refusal.Words) comes = (0, omega arith, refl)
   refusal_among (job_refusal.Shared (refusal.Read file)) comes = (1, omega arith, refl)
   refusal_among (job_refusal.Shared refusal.OutOfMemory) comes = (9, omega arith, refl)
@@ -148,7 +148,7 @@ own_among (Ok told) s other among = absurd (go (Contains-cons_cases s instead_fo
 own_among (Err e) s other among = among
 
 -- a job isn't refused for its words
-pub not_for_words : (job : Job) (old new : Disk) (before after : Output) (o : Outcome) → ComesTo job old new before after o → outcome_status o ≢ WORDS
+pub not_for_words : (job : FmrunJob) (old new : Disk) (before after : Output) (o : Outcome) → ComesTo job old new before after o → outcome_status o ≢ WORDS
 not_for_words job old new before after (Ok told) comes is = run_apart comes WORDS (omega arith) (omega arith) is
 not_for_words job old new before after (Err (fail.Refused (job_refusal.Shared refusal.Words))) comes is = comes.0.1
 not_for_words job old new before after (Err (fail.Refused (job_refusal.Class file r))) comes is = let c = class_status r in let low = c.low in omega arith

@@ -14,16 +14,16 @@ use Rattle.fm_given.proofs.TakenLemmas.{are_spelled}
 use Rattle.fm_given.specs.Given.{IsUntouched, IsNotLinked, AreChecked}
 use Rattle.fm_given.specs.Judging.{ComesOfProgram}
 use Rattle.fm_given.specs.Reading.{AreRead, ComesOfFiles, ReadsAll}
-use Rattle.fm_given.specs.Taking.{AllTaken, AreTaken, IsSpelled}
+use Rattle.fm_given.specs.Taking.{AllTaken, AreTaken, ClassIsSpelled}
 use Rattle.fm_given.specs.declared.refusal.JobRefusal.{JobRefusal}
 use Rattle.fm_given.specs.declared.refusal.JobRefusal.TheVariants as job_refusal
 use Rattle.fm_input.specs.Reading.{ComesOfInput, IsInputOf, IsInputRead, ReadsInput}
 use Rattle.fm_refuse.specs.Refused.{refusal_of}
-use Rattle.fm_request.specs.Request.{Job, job_of}
-use Rattle.fm_request.specs.declared.request.Request.{Request}
+use Rattle.fm_request.specs.FmrunRequest.{FmrunJob, job_of}
+use Rattle.fm_request.specs.declared.fmrun_request.FmrunRequest.{FmrunRequest}
 use Rattle.fm_tool.specs.Encoding.{modified}
 use Rattle.fm_tool.specs.Outside.{HoldsSuch}
-use Rattle.fm_tool.specs.declared.refusal.Refusal.TheVariants as refusal
+use Rattle.fm_tool.specs.declared.command_refusal.CommandRefusal.TheVariants as refusal
 use Rattle.fm_world.specs.Causes.{Refusal}
 use Rattle.fm_world.specs.Linking.{refusals}
 use Rattle.fmrun.specs.Jobs.{given_of, budgets_of, input_files, job_arguments, job_files, IsReady}
@@ -65,7 +65,7 @@ are_accepted contents [] (c ∷ classes) taken = absurd taken
 are_accepted contents (f ∷ files) [] taken = absurd taken
 
 -- and spelled,
-pub taken_spelled : {contents : Contents} {files : List Bytes} {classes : List ClassDef} → AllTaken contents files classes → AllByRecursion IsSpelled classes
+pub taken_spelled : {contents : Contents} {files : List Bytes} {classes : List ClassDef} → AllTaken contents files classes → AllByRecursion ClassIsSpelled classes
 taken_spelled {contents} {files} {classes} all = are_spelled contents files classes all.taken
 
 pub taken_accepted : {contents : Contents} {files : List Bytes} {classes : List ClassDef} → AllTaken contents files classes → AllByRecursion Profile classes
@@ -82,12 +82,12 @@ input_is_short (Some file) contents input is = is.0
 
 -- ---- a job whose class files are read
 
-pub record HasClasses (job : Job) (classes : List ClassDef) (old between : Disk) : Type 0 where
+pub record HasClasses (job : FmrunJob) (classes : List ClassDef) (old between : Disk) : Type 0 where
   pub read : AreRead job.files classes old between
   pub all : ReadsAll job.files old between
 
 -- by the names and the classes as slices
-pub classes_of : {names : List (Bor Bytes)} {classes items : List ClassDef} {old between : Disk} (request : Request) → names ≡ request.files.items → classes ≡ items
+pub classes_of : {names : List (Bor Bytes)} {classes items : List ClassDef} {old between : Disk} (request : FmrunRequest) → names ≡ request.files.items → classes ≡ items
     → ReadsAll (map (λ n. n.now) names) old between → AreRead (map (λ n. n.now) names) items old between → HasClasses (job_of request) classes old between
 classes_of {names} {classes} {items} {old} {between} request same lent all read =
     let files : map (λ n. n.now) names ≡ (job_of request).files = ap (map (λ n. n.now)) same in
@@ -97,14 +97,14 @@ classes_of {names} {classes} {items} {old} {between} request same lent all read 
     record { read = subst P files (subst Q (sym lent) read); all = subst R files all }
 
 -- a refusal of the class files by the names
-pub unread_of : {names : List (Bor Bytes)} (old between : Disk) (request : Request) → names ≡ request.files.items → (r : JobRefusal) → ComesOfFiles {Y = Global} (map (λ n. n.now) names) old between (Err r)
+pub unread_of : {names : List (Bor Bytes)} (old between : Disk) (request : FmrunRequest) → names ≡ request.files.items → (r : JobRefusal) → ComesOfFiles {Y = Global} (map (λ n. n.now) names) old between (Err r)
     → ComesOfFiles {Y = Global} (job_of request).files old between (Err r)
 unread_of {names} old between request same r now =
     let files : map (λ n. n.now) names ≡ (job_of request).files = ap (map (λ n. n.now)) same in
     let P : List Bytes → Type 0 = λ fs. ComesOfFiles {Y = Global} fs old between (Err r) in subst P files now
 
 -- and what was read
-pub all_of_names : {names : List (Bor Bytes)} {old between : Disk} (request : Request) → names ≡ request.files.items → ReadsAll (map (λ n. n.now) names) old between → ReadsAll (job_of request).files old between
+pub all_of_names : {names : List (Bor Bytes)} {old between : Disk} (request : FmrunRequest) → names ≡ request.files.items → ReadsAll (map (λ n. n.now) names) old between → ReadsAll (job_of request).files old between
 all_of_names {names} {old} {between} request same all =
     let files : map (λ n. n.now) names ≡ (job_of request).files = ap (map (λ n. n.now)) same in
     let R : List Bytes → Type 0 = λ fs. ReadsAll fs old between in subst R files all
@@ -118,19 +118,19 @@ pub few_of : {arguments items given : List (List ℕ)} → arguments ≡ items �
 few_of lent are few = let P : List (List ℕ) → Type 0 = λ xs. length xs ≤ MAX_ARGUMENTS in subst P (lent ∙ are) few
 
 -- memory can't be had before anything is read
-pub ends_at_once : (job : Job) (disk : Disk) (out : Output) → ComesTo job disk disk out out (Err (fail.Refused (job_refusal.Shared refusal.OutOfMemory)))
+pub ends_at_once : (job : FmrunJob) (disk : Disk) (out : Output) → ComesTo job disk disk out out (Err (fail.Refused (job_refusal.Shared refusal.OutOfMemory)))
 ends_at_once job disk out = inl (record { faultless = record { reads = λ name. refl; writes = λ name. refl }; kept = refl }, refl)
 
 -- only the class files were read
-pub classes_within : (job : Job) (old between : Disk) → ReadsAll job.files old between → StaysWithin job old between
+pub classes_within : (job : FmrunJob) (old between : Disk) → ReadsAll job.files old between → StaysWithin job old between
 classes_within job old between = reads_among job.files (input_files job.input) old between
 
 -- nothing was read
-pub none_within : (job : Job) (disk : Disk) → StaysWithin job disk disk
+pub none_within : (job : FmrunJob) (disk : Disk) → StaysWithin job disk disk
 none_within job disk = reads_none (job_files job) disk
 
 -- a class file isn't taken
-pub ends_unread : (job : Job) (old between : Disk) (out : Output) → length (job_arguments job) ≤ MAX_ARGUMENTS → (r : JobRefusal) → ComesOfFiles {Y = Global} job.files old between (Err r)
+pub ends_unread : (job : FmrunJob) (old between : Disk) (out : Output) → length (job_arguments job) ≤ MAX_ARGUMENTS → (r : JobRefusal) → ComesOfFiles {Y = Global} job.files old between (Err r)
     → ComesTo job old between out out (Err (fail.Refused r))
 ends_unread job old between out few (job_refusal.TooLong file) now = ((few, inl now), refl)
 ends_unread job old between out few (job_refusal.Class file r) now = ((few, now), refl)
@@ -138,9 +138,9 @@ ends_unread job old between out few (job_refusal.Shared (refusal.Read file)) now
 ends_unread job old between out few (job_refusal.Shared refusal.OutOfMemory) now = inl (now, refl)
 ends_unread job old between out few r now = absurd now
 
-module _ {job : Job} {classes : List ClassDef} {old between : Disk} (has : HasClasses job classes old between) where
+module _ {job : FmrunJob} {classes : List ClassDef} {old between : Disk} (has : HasClasses job classes old between) where
   -- the classes are spelled and of the profile, and not too many
-  pub spelled : AllByRecursion IsSpelled classes
+  pub spelled : AllByRecursion ClassIsSpelled classes
   spelled = taken_spelled has.read.taken
 
   pub accepted : AllByRecursion Profile classes

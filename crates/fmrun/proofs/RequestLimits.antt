@@ -5,7 +5,7 @@ use Rattle.fm_base.specs.declared.limits.TheConstants.{MAX_ARGUMENTS, MAX_COMMAN
 use Rattle.fm_request.proofs.ArgumentLemmas.{argument_lengths}
 use Rattle.fm_request.specs.Arguments.{arguments_of}
 use Rattle.fm_request.proofs.RequestLemmas.{steps_within, words_within}
-use Rattle.fm_request.specs.Request.{Asks, Job}
+use Rattle.fm_request.specs.FmrunRequest.{Asks, FmrunJob}
 use Rattle.fm_request.specs.Values.{IsValue}
 use Rattle.fm_sound.specs.Making.{ArgumentsFit, AreUnits}
 use Rattle.fmrun.specs.Jobs.{IsWithinLimits}
@@ -16,7 +16,7 @@ value_within None is = tt
 value_within (Some text) is = is.1
 
 -- so what words ask for is within the limits
-pub within_limits : (words : List (List ℕ)) (job : Job) → Asks words job → IsWithinLimits job
+pub within_limits : (words : List (List ℕ)) (job : FmrunJob) → Asks words job → IsWithinLimits job
 within_limits words job asks = record {
   budgets = record { words = words_within words job asks; store = omega arith; steps = steps_within words job asks };
   text = value_within job.arguments asks.values.text_is_value;

@@ -22,7 +22,7 @@ use Rattle.fm_held.specs.MostHeld.{all_most_held, MadeIsMostHeld}
 use Rattle.fm_ready.specs.Ready.{CanRun}
 use Rattle.fm_report.specs.declared.status.TheConstants.{FAULT}
 use Rattle.fm_request.proofs.RequestLemmas.{asks_one}
-use Rattle.fm_request.specs.Request.{Job}
+use Rattle.fm_request.specs.FmrunRequest.{FmrunJob}
 use Rattle.fm_resolved.specs.Laws.{ProgramsCanRun}
 use Rattle.fm_runner.proofs.Opened.{job_of, last_after, opening-silent}
 use Rattle.fm_same.specs.Resolved.{CallsNoFreeMe}
@@ -30,7 +30,7 @@ use Rattle.fm_tool.specs.Encoding.{modified}
 use Rattle.fm_whole.specs.Whole.{HasNoFault}
 use Rattle.fmrun.proofs.EndStatuses.{among_refusals, fault_status, IsFault}
 use Rattle.fmrun.proofs.JobLemmas.{taken_accepted, taken_few, taken_spelled}
-use Rattle.fmrun.specs.Causes.{AskFor, IsForFault, IsForRun, IsKnownFreeless, refusals, ReportsMostHeld, SaysFault, SaysRun}
+use Rattle.fmrun.specs.Causes.{AskFor, IsForFault, IsForRun, IsKnownFreeless, refusal_statuses, ReportsMostHeld, SaysFault, SaysRun}
 use Rattle.fmrun.specs.Jobs.{budgets_of, given_of, job_arguments, job_program}
 
 -- ---- 83
@@ -41,14 +41,14 @@ ended_in None (method, offset, cell, is) last same none = absurd (cc)
 ended_in (Some e) (method, offset, cell, is) last same none = none method offset cell (same ∙ ap Some is)
 
 -- classes of which none calls FreeMe end in 0, and others in 1
-abbrev Frees : Job → Ends
+abbrev Frees : FmrunJob → Ends
 Frees job classes status =
     (CallsNoFreeMe (job_program job classes) × (status ≡ 0)) ⊎ ((CallsNoFreeMe (job_program job classes) → ⊥) × (status ≡ 1))
 
 not_both : (status : ℕ) → status ≡ 0 → status ≡ 1 → ⊥
 not_both status first second = omega arith
 
-frees_once : (job : Job) → EndsOnce (Frees job)
+frees_once : (job : FmrunJob) → EndsOnce (Frees job)
 frees_once job classes s t (inl p) (inl q) = p.1 ∙ sym q.1
 frees_once job classes s t (inl p) (inr q) = absurd (q.0 p.0)
 frees_once job classes s t (inr p) (inl q) = absurd (p.0 q.0)
@@ -65,7 +65,7 @@ module _ (words : List Bytes) (old new : Disk) (before after report report' : Ou
   known_frees : AskFor words (IsKnownFreeless old) → SaysFault words old new before after report report' → ⊥
   known_frees (job, (asked, known)) fault =
       let found = Some-from_is_some old.contents known.known in
-      let P : Job → Type 0 = λ j. (classes : List ClassDef) × AllTaken old.contents j.files classes × (CallsNoFreeMe (job_program j classes) → ⊥) in
+      let P : FmrunJob → Type 0 = λ j. (classes : List ClassDef) × AllTaken old.contents j.files classes × (CallsNoFreeMe (job_program j classes) → ⊥) in
       let own = subst P (asks_one words fault.run.job job fault.run.asked asked)
       (fault.run.ran.classes, fault.run.ran.ready.checked.linked.taken, fault.frees) in
       not_both 0 refl (one_judgement (Frees job) (frees_once job) found.0 job.files 0 1
@@ -80,19 +80,19 @@ module _ (words : List Bytes) (old new : Disk) (before after report report' : Ou
         last = inr (own.2, refl);
       })))
 
-  no_refusal : Contains refusals FAULT → ⊥
+  no_refusal : Contains refusal_statuses FAULT → ⊥
   no_refusal among = let bounds = among_refusals FAULT among in let high = bounds.high in omega arith
 
   pub is_for_fault : (result : ℕ) → IsForRun words old new before after report report' result → IsForFault words old new before after report report' result
   is_for_fault result run = record { only = only; never = λ known is. known_frees known (only is) } where
     only : result ≡ FAULT → SaysFault words old new before after report report'
     only is =
-        let P : ℕ → Type 0 = λ s. (Contains refusals s → ⊥) → SaysRun words old new before after report report' s in
+        let P : ℕ → Type 0 = λ s. (Contains refusal_statuses s → ⊥) → SaysRun words old new before after report report' s in
         fault_said (subst P is run.only no_refusal)
 
   -- ---- cells
 
-  can_run : ProgramsCanRun → (job : Job) (classes : List ClassDef) → AreChecked (given_of job) old.contents classes → CanRun (job_program job classes)
+  can_run : ProgramsCanRun → (job : FmrunJob) (classes : List ClassDef) → AreChecked (given_of job) old.contents classes → CanRun (job_program job classes)
   can_run law job classes checked =
       let taken = checked.linked.taken in
       let spelled = have_spellings classes (taken_spelled taken) in

@@ -13,7 +13,7 @@ use Rattle.fm_frames.specs.declared.turns.StepFail.{StepFail}
 use Rattle.fm_frames.specs.declared.turns.StepFail.TheVariants as step_fail
 use Rattle.fm_given.proofs.TakenLemmas.{have_spellings}
 use Rattle.fm_given.specs.Judging.{ComesOfProgram}
-use Rattle.fm_given.specs.Taking.{IsSpelled}
+use Rattle.fm_given.specs.Taking.{ClassIsSpelled}
 use Rattle.fm_given.specs.declared.refusal.JobRefusal.{JobRefusal}
 use Rattle.fm_given.specs.declared.refusal.JobRefusal.TheVariants as job_refusal
 use Rattle.fm_ready.specs.Ready.{CanRun}
@@ -22,10 +22,10 @@ use Rattle.fm_run.specs.Running.{BreaksRun, FailsRun, RunsTo}
 use Rattle.fm_runner.proofs.Opened.{job_of, last_after, typings_are, typings_of}
 use Rattle.fm_runner.specs.Runs.{AreWithin, ComesOfRun, IsToldOf, choice, opened_run}
 use Rattle.fm_runner.specs.declared.runs.Budgets.{Budgets}
-use Rattle.fm_runner.specs.declared.runs.Told.{Told}
+use Rattle.fm_runner.specs.declared.runs.RunReport.{RunReport}
 use Rattle.fm_same.specs.Resolved.{CallsNoFreeMe}
 use Rattle.fm_sound.specs.Making.{ArgumentsFit}
-use Rattle.fm_tool.specs.declared.refusal.Refusal.TheVariants as refusal
+use Rattle.fm_tool.specs.declared.command_refusal.CommandRefusal.TheVariants as refusal
 use Rattle.fm_untyped.specs.Untyped.{AreTyped}
 use Rattle.fm_whole.specs.NoFault.{LinkedProgramsNeverFault}
 use Rattle.fm_whole.specs.Whole.{HasNoFault}
@@ -41,7 +41,7 @@ are_within classes = AllByRecursion-weaker Profile IsWithinLimits (λ c accepted
 
 module _ (classes : List ClassDef) (main : List ℕ) where
   -- the program can be run
-  pub can_run : ProgramsCanRun → (program : Program) → AllByRecursion IsSpelled classes → AllByRecursion Profile classes → length classes ≤ MAX_CLASS_FILES
+  pub can_run : ProgramsCanRun → (program : Program) → AllByRecursion ClassIsSpelled classes → AllByRecursion Profile classes → length classes ≤ MAX_CLASS_FILES
       → ComesOfProgram classes main (Ok program) → CanRun program
   can_run law program spelled accepted few comes =
       subst CanRun (sym comes.0.1)
@@ -64,7 +64,7 @@ module _ (classes : List ClassDef) (main : List ℕ) where
       are_program = record { linked = comes.0.0; typed = comes.1 }
 
       -- a run of the program doesn't end in a fault where no method calls FreeMe
-      never_faults : LinkedProgramsNeverFault → AllByRecursion IsSpelled classes → AllByRecursion Profile classes → length classes ≤ MAX_CLASS_FILES
+      never_faults : LinkedProgramsNeverFault → AllByRecursion ClassIsSpelled classes → AllByRecursion Profile classes → length classes ≤ MAX_CLASS_FILES
           → AreWithin b → ArgumentsFit arguments → length input ≤ MAX_FILE_BYTES → (last : State)
           → RunsTo (program_of classes main) choice b.steps (opened_run (program_of classes main) b arguments input) last before after
           → CallsNoFreeMe (program_of classes main) → HasNoFault last
@@ -77,8 +77,8 @@ module _ (classes : List ClassDef) (main : List ℕ) where
           subst (λ (m : Moved). HasNoFault m.state) (last_after p b arguments input last before after runs) kept.1
 
       -- their run is reported
-      pub comes_told : LinkedProgramsNeverFault → AllByRecursion IsSpelled classes → AllByRecursion Profile classes → length classes ≤ MAX_CLASS_FILES
-          → AreWithin b → ArgumentsFit arguments → length input ≤ MAX_FILE_BYTES → (told : Told) → ComesOfRun program b arguments input before after (Ok told)
+      pub comes_told : LinkedProgramsNeverFault → AllByRecursion ClassIsSpelled classes → AllByRecursion Profile classes → length classes ≤ MAX_CLASS_FILES
+          → AreWithin b → ArgumentsFit arguments → length input ≤ MAX_FILE_BYTES → (told : RunReport) → ComesOfRun program b arguments input before after (Ok told)
           → ComesOfClasses classes main b arguments input before after (Ok told)
       comes_told law spelled accepted few within given short told now =
           let P : Program → Type 0 = λ p. IsToldOf p b arguments input told before after in

@@ -4,11 +4,11 @@ use Rattle.fm_files.specs.Files.{Bytes, Disk}
 use Rattle.fm_files.specs.Sink.{Output, with_piece}
 use Rattle.fm_given.specs.Refusal.{refusal_line, refusal_status}
 use Rattle.fm_given.specs.declared.refusal.JobRefusal.TheVariants as job_refusal
-use Rattle.fm_request.specs.Request.{Job}
+use Rattle.fm_request.specs.FmrunRequest.{FmrunJob}
 use Rattle.fm_tool.proofs.LineLemmas.{instead_for_file, instead_for_words, is_put, put_fails, told_among}
 use Rattle.fm_tool.proofs.OutsideLemmas.{no_fault_where_same}
-use Rattle.fm_tool.specs.Outside.{HasNoFault}
-use Rattle.fm_tool.specs.declared.refusal.Refusal.TheVariants as refusal
+use Rattle.fm_tool.specs.Outside.{HasNoFileFault}
+use Rattle.fm_tool.specs.declared.command_refusal.CommandRefusal.TheVariants as refusal
 use Rattle.fm_tool.specs.declared.status.TheConstants.{READ, WRITE, OUT_OF_MEMORY}
 use Rattle.fmrun.specs.TopCall.{ComesOf, ComesTo, IsTold, Outcome, outcome_line, outcome_status}
 use Rattle.fmrun.specs.declared.outcome.JobFail.TheVariants as fail
@@ -53,9 +53,9 @@ module _ (report report' : Output) (result : ℕ) where
 
 -- nothing failed, or a read did
 abbrev pub FailsSo : Disk → Disk → ℕ → Type 0
-FailsSo old new status = HasNoFault old new ⊎ (status ≡ READ)
+FailsSo old new status = HasNoFileFault old new ⊎ (status ≡ READ)
 
-job_fails : (job : Job) (old new : Disk) (before after : Output) (o : Outcome) → ComesTo job old new before after o → FailsSo old new (outcome_status o)
+job_fails : (job : FmrunJob) (old new : Disk) (before after : Output) (o : Outcome) → ComesTo job old new before after o → FailsSo old new (outcome_status o)
 job_fails job old new before after (Ok told) comes = inl comes.untouched.faultless
 job_fails job old new before after (Err fail.Output) comes = inl comes.untouched.faultless
 job_fails job old new before after (Err (fail.Refused (job_refusal.Shared refusal.Words))) comes = absurd comes.0.1
@@ -77,7 +77,7 @@ fails_so words old new before after o (inr (inl nothing)) = inl (no_fault_where_
 fails_so words old new before after o (inr (inr lacking)) = inl (no_fault_where_same old new lacking.kept)
 
 -- the faults of the output didn't rise, but where it failed
-job_output : (job : Job) (old new : Disk) (before after : Output) (o : Outcome) → ComesTo job old new before after o → (after.faults ≡ before.faults) ⊎ (o ≡ Err fail.Output)
+job_output : (job : FmrunJob) (old new : Disk) (before after : Output) (o : Outcome) → ComesTo job old new before after o → (after.faults ≡ before.faults) ⊎ (o ≡ Err fail.Output)
 job_output job old new before after (Ok told) comes = inl (ap (λ (x : Output). x.faults) comes.runs.put)
 job_output job old new before after (Err fail.Output) comes = inr refl
 job_output job old new before after (Err (fail.Refused (job_refusal.Shared refusal.OutOfMemory))) (inl none) = inl (ap (λ (x : Output). x.faults) none.1)

@@ -14,18 +14,18 @@ use Rattle.fm_frames.specs.inner.Doings.{silent}
 use Rattle.fm_given.proofs.KnownLemmas.{all_taken, bytes_stop, long_stops, not_empty, not_typed}
 use Rattle.fm_given.proofs.VerdictLemmas.{Ends, EndsOnce, Links, Verdict, links_once, one_verdict}
 use Rattle.fm_given.specs.ClassRefusal.{class_refusal_status}
-use Rattle.fm_given.specs.Given.{AreRefused, given_program}
+use Rattle.fm_given.specs.Given.{AreNotLinked, given_program}
 use Rattle.fm_given.specs.Taking.{total_bytes, AllTaken, IsTooLong, IsRefused}
 use Rattle.fm_given.specs.declared.refusal.JobRefusal.TheVariants as job_refusal
 use Rattle.fm_input.specs.Reading.{IsInputOf}
 use Rattle.fm_refuse.specs.Refused.{refusal_of}
 use Rattle.fm_report.specs.Reports.{end_status}
-use Rattle.fm_request.specs.Request.{Job}
+use Rattle.fm_request.specs.FmrunRequest.{FmrunJob}
 use Rattle.fm_runner.specs.Runs.{choice}
 use Rattle.fm_tool.proofs.LineLemmas.{instead_for_file}
 use Rattle.fm_tool.proofs.OutsideLemmas.{known_such}
 use Rattle.fm_tool.specs.Encoding.{modified}
-use Rattle.fm_tool.specs.declared.refusal.Refusal.TheVariants as refusal
+use Rattle.fm_tool.specs.declared.command_refusal.CommandRefusal.TheVariants as refusal
 use Rattle.fm_tool.specs.declared.status.TheConstants.{DONE, READ, LIMIT, LINK, CHECK, WRITE, OUT_OF_MEMORY}
 use Rattle.fm_world.specs.Linking.{refusals}
 use Rattle.fm_world.specs.Programs.{Program}
@@ -90,18 +90,18 @@ abbrev pub Runs : Ends
 Runs classes status = status ≡ DONE
 
 -- the verdict on the class files of a job
-abbrev pub Last : (Bytes → Option Bytes) → Job → Ends
+abbrev pub Last : (Bytes → Option Bytes) → FmrunJob → Ends
 Last held job = Inputs (Links Runs (modified job.main)) held job.input
 
-last_once : (held : Bytes → Option Bytes) (job : Job) → EndsOnce (Last held job)
+last_once : (held : Bytes → Option Bytes) (job : FmrunJob) → EndsOnce (Last held job)
 last_once held job =
     inputs_once (Links Runs (modified job.main)) held job.input (links_once Runs (modified job.main) (λ classes s t a b. a ∙ sym b))
 
 -- the verdict on its files
-abbrev pub JobVerdict : (Bytes → Option Bytes) → Job → ℕ → Type 0
+abbrev pub JobVerdict : (Bytes → Option Bytes) → FmrunJob → ℕ → Type 0
 JobVerdict held job status = Verdict (Last held job) held job.files status
 
-module _ (job : Job) (old : Disk) (held : Bytes → Option Bytes) (known : old.contents ≡ Some held) where
+module _ (job : FmrunJob) (old : Disk) (held : Bytes → Option Bytes) (known : old.contents ≡ Some held) where
   pub input_known : (input : Bytes) → IsInputOf job.input old.contents input → IsInputOf job.input (Some held) input
   input_known input = let P : Contents → Type 0 = λ c. IsInputOf job.input c input in subst P known
 
@@ -141,7 +141,7 @@ module _ (job : Job) (old : Disk) (held : Bytes → Option Bytes) (known : old.c
         let bad = comes.0.1 in
         inl (inr (inl (bytes_stop job.files old.contents held known (class_refusal_status r) file.now bad.before r refl bad.reaches (known_such old.contents held file.now (IsRefused r (total_bytes bad.before)) known bad.refused))))
     verdict_of (Err (fail.Refused (job_refusal.Link link))) comes =
-        let found = Some-from_some_and (refusal_of link) (AreRefused (given_of job) old.contents) comes.0.1.1.refused in
+        let found = Some-from_some_and (refusal_of link) (AreNotLinked (given_of job) old.contents) comes.0.1.1.refused in
         let bad = found.2 in
         inl (passes_input bad.classes LINK bad.taken comes.0.1.0 (inl (not_empty (refusals bad.classes (modified job.main)) found.0 bad.first, refl)))
     verdict_of (Err (fail.Refused (job_refusal.Check name))) comes =
@@ -173,7 +173,7 @@ one_run p choose budget opened x y a b = ⊎_elim
     (cases_lt a.count b.count)
 
 -- the run of a job with these classes reaches an end of this status
-record EndsAs (held : Bytes → Option Bytes) (job : Job) (classes : List ClassDef) (status : ℕ) : Type 0 where
+record EndsAs (held : Bytes → Option Bytes) (job : FmrunJob) (classes : List ClassDef) (status : ℕ) : Type 0 where
   input : Bytes
   input_is : IsInputOf job.input (Some held) input
   last : State
@@ -181,7 +181,7 @@ record EndsAs (held : Bytes → Option Bytes) (job : Job) (classes : List ClassD
   run : IsRun (job_program job classes) choice job.steps (silent (opened_job job classes input)) (record { state = last; printed = printed })
   status_is : status ≡ end_status (report_of last).end
 
-ends_once : (held : Bytes → Option Bytes) (job : Job) → EndsOnce (EndsAs held job)
+ends_once : (held : Bytes → Option Bytes) (job : FmrunJob) → EndsOnce (EndsAs held job)
 ends_once held job classes s t a b =
     let p = job_program job classes in
     let input : b.input ≡ a.input = same_input job.input held b.input a.input b.input_is a.input_is in
@@ -190,7 +190,7 @@ ends_once held job classes s t a b =
     a.status_is ∙ ap (λ (m : Moved). end_status (report_of m.state).end) same ∙ sym b.status_is
 
 -- a run that is known is the one that was done
-pub one_end : (job : Job) (old new : Disk) (before after : Output) (held : Bytes → Option Bytes) → old.contents ≡ Some held → (line : List ℕ) (s t : ℕ) → HasRun job line s old new before after
+pub one_end : (job : FmrunJob) (old new : Disk) (before after : Output) (held : Bytes → Option Bytes) → old.contents ≡ Some held → (line : List ℕ) (s t : ℕ) → HasRun job line s old new before after
     → (classes : List ClassDef) (input : Bytes) → IsReady job old.contents classes input → (last : State) (printed : List ℕ)
     → IsRun (job_program job classes) choice job.steps (silent (opened_job job classes input)) (record { state = last; printed = printed }) → t ≡ end_status (report_of last).end → s ≡ t
 one_end job old new before after held known line s t ran classes input ready last printed run is =

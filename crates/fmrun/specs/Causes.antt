@@ -20,11 +20,11 @@ use Rattle.fm_given.specs.declared.class_refusal.ClassRefusal.{ClassRefusal}
 use Rattle.fm_held.specs.MostHeld.{all_most_held}
 use Rattle.fm_report.specs.Reports.{end_status}
 use Rattle.fm_report.specs.declared.status.TheConstants.{FAULT}
-use Rattle.fm_request.specs.Request.{Job, Asks, AskNothing}
+use Rattle.fm_request.specs.FmrunRequest.{FmrunJob, Asks, AskNothing}
 use Rattle.fm_runner.specs.Runs.{choice}
 use Rattle.fm_same.specs.Resolved.{CallsNoFreeMe}
-use Rattle.fm_tool.specs.Outside.{HasNoFault, IsKnownMissing, IsKnownSuch}
-use Rattle.fm_tool.specs.Refusal.{memory_line, read_line, words_line}
+use Rattle.fm_tool.specs.Outside.{HasNoFileFault, IsKnownMissing, IsKnownSuch}
+use Rattle.fm_tool.specs.CommandRefusal.{memory_line, read_line, words_line}
 use Rattle.fm_tool.specs.Status.{ComesExactly}
 use Rattle.fm_tool.specs.declared.status.TheConstants.{WORDS, READ, MALFORMED, VERSION, LIMIT, UNSUPPORTED, LINK, CHECK, WRITE, OUT_OF_MEMORY}
 use Rattle.fm_world.specs.Causes.{Refusal}
@@ -38,21 +38,21 @@ abbrev pub before_run : List ℕ
 before_run = WORDS ∷ READ ∷ MALFORMED ∷ VERSION ∷ LIMIT ∷ UNSUPPORTED ∷ LINK ∷ CHECK ∷ []
 
 -- and of all refusals
-abbrev pub refusals : List ℕ
-refusals = WORDS ∷ READ ∷ MALFORMED ∷ VERSION ∷ LIMIT ∷ UNSUPPORTED ∷ LINK ∷ CHECK ∷ WRITE ∷ OUT_OF_MEMORY ∷ []
+abbrev pub refusal_statuses : List ℕ
+refusal_statuses = WORDS ∷ READ ∷ MALFORMED ∷ VERSION ∷ LIMIT ∷ UNSUPPORTED ∷ LINK ∷ CHECK ∷ WRITE ∷ OUT_OF_MEMORY ∷ []
 
 -- there is no status but these and those of ends
 abbrev pub IsStatus : ℕ → Type 0
-IsStatus result = Contains refusals result ⊎ ((e : Ended) × (result ≡ end_status e))
+IsStatus result = Contains refusal_statuses result ⊎ ((e : Ended) × (result ≡ end_status e))
 
 -- ---- what words ask for
 
 -- the words ask for a job such as this
-abbrev pub AskFor : List Bytes → (Job → Type 0) → Type 0
-AskFor words P = (job : Job) × (Asks words job × P job)
+abbrev pub AskFor : List Bytes → (FmrunJob → Type 0) → Type 0
+AskFor words P = (job : FmrunJob) × (Asks words job × P job)
 
 -- for one that has no more arguments than may be, so that its files are read
-abbrev pub AskToRead : List Bytes → (Job → Type 0) → Type 0
+abbrev pub AskToRead : List Bytes → (FmrunJob → Type 0) → Type 0
 AskToRead words P = AskFor words (λ job. (length (job_arguments job) ≤ MAX_ARGUMENTS) × P job)
 
 -- nothing was printed, and the line of a refusal is the one piece that the report got
@@ -77,14 +77,14 @@ IsForWords words old new before after report report' result =
 
 -- the read of a class file failed, and those before it are taken; or that of the file of the input, and all class files are taken
 pub record SaysRead (words : List Bytes) (old new : Disk) (before after report report' : Output) : Type 0 where
-  pub job : Job
+  pub job : FmrunJob
   pub asked : Asks words job
   pub file : Bytes
   pub unread : IsUnread job.files file old new ⊎ IsInputUnread job file old new
   pub refused : IsRefusedBy (read_line file) before after report report'
 
 -- all class files are taken, and the file of the input is known not to be there
-pub record LacksInput (old : Disk) (job : Job) : Type 0 where
+pub record LacksInput (old : Disk) (job : FmrunJob) : Type 0 where
   pub file : Bytes
   pub named : job.input ≡ Some file
   pub classes : List ClassDef
@@ -104,7 +104,7 @@ IsForRead words old new before after report report' result =
 
 -- a class file is refused by its bytes with this status, where contents are known, and those before it are taken
 pub record SaysRefused (status : ℕ) (words : List Bytes) (old new : Disk) (before after report report' : Output) : Type 0 where
-  pub job : Job
+  pub job : FmrunJob
   pub asked : Asks words job
   pub file : Bytes
   pub refusal : ClassRefusal
@@ -122,14 +122,14 @@ IsForBytes status words old new before after report report' result =
 
 -- there are too many class files,
 pub record SaysMany (words : List Bytes) (old new : Disk) (before after report report' : Output) : Type 0 where
-  pub job : Job
+  pub job : FmrunJob
   pub asked : Asks words job
   pub many : AreMany job.files (length job.files) old new
   pub refused : IsRefusedBy (many_line (length job.files)) before after report report'
 
 -- or too many arguments,
 pub record SaysManyArguments (words : List Bytes) (old new : Disk) (before after report report' : Output) : Type 0 where
-  pub job : Job
+  pub job : FmrunJob
   pub asked : Asks words job
   pub many : AreManyArguments job (length (job_arguments job)) old new
   pub refused : IsRefusedBy (many_arguments_line (length (job_arguments job))) before after report report'
@@ -137,7 +137,7 @@ pub record SaysManyArguments (words : List Bytes) (old new : Disk) (before after
 -- or a file is too long, or the class files up to it are, where contents are known; and enough
 -- bytes were read to show it
 pub record SaysLong (words : List Bytes) (old new : Disk) (before after report report' : Output) : Type 0 where
-  pub job : Job
+  pub job : FmrunJob
   pub asked : Asks words job
   pub file : Bytes
   pub long : IsLong job.files file old new ⊎ IsInputLong job file old new
@@ -151,11 +151,11 @@ SaysLimit words old new before after report report' =
     ⊎ (SaysLong words old new before after report report' ⊎ SaysRefused LIMIT words old new before after report report'))
 
 -- there are too many arguments, though not too many class files
-abbrev pub HasManyArguments : Job → Type 0
+abbrev pub HasManyArguments : FmrunJob → Type 0
 HasManyArguments job = (length job.files ≤ MAX_CLASS_FILES) × (MAX_ARGUMENTS < length (job_arguments job))
 
 -- all class files are taken, and the file of the input is known to be too long
-pub record HasLongInput (old : Disk) (job : Job) : Type 0 where
+pub record HasLongInput (old : Disk) (job : FmrunJob) : Type 0 where
   pub file : Bytes
   pub named : job.input ≡ Some file
   pub classes : List ClassDef
@@ -173,7 +173,7 @@ pub record IsForLimit (words : List Bytes) (old new : Disk) (before after report
 
 -- all files are taken, and the classes make no program; the line names the first cause
 pub record SaysLink (words : List Bytes) (old new : Disk) (before after report report' : Output) : Type 0 where
-  pub job : Job
+  pub job : FmrunJob
   pub asked : Asks words job
   pub cause : Refusal
   pub input : HasInput job old.contents
@@ -190,7 +190,7 @@ IsForLink words old new before after report report' result =
 
 -- they make one, and a method of it isn't typed; the line names the first
 pub record SaysCheck (words : List Bytes) (old new : Disk) (before after report report' : Output) : Type 0 where
-  pub job : Job
+  pub job : FmrunJob
   pub asked : Asks words job
   pub name : Bytes
   pub input : HasInput job old.contents
@@ -208,21 +208,21 @@ IsForCheck words old new before after report report' result =
 -- the run reached its end: the status, what the output got and the one line of the report are those
 -- of it
 pub record SaysRun (words : List Bytes) (old new : Disk) (before after report report' : Output) (result : ℕ) : Type 0 where
-  pub job : Job
+  pub job : FmrunJob
   pub asked : Asks words job
   pub line : List ℕ
   pub ran : HasRun job line result old new before after
   pub told : report' ≡ with_piece line report
 
 -- contents are known, all class files are taken, their classes make a program of typed methods, and the input is read
-pub record IsKnownReady (old : Disk) (job : Job) : Type 0 where
+pub record IsKnownReady (old : Disk) (job : FmrunJob) : Type 0 where
   pub known : IsSome old.contents
   pub classes : List ClassDef
   pub input : Bytes
   pub ready : IsReady job old.contents classes input
 
 -- and the run reaches an end of this status
-pub record IsKnownRun (status : ℕ) (old : Disk) (job : Job) : Type 0 where
+pub record IsKnownRun (status : ℕ) (old : Disk) (job : FmrunJob) : Type 0 where
   pub known : IsSome old.contents
   pub classes : List ClassDef
   pub input : Bytes
@@ -235,7 +235,7 @@ pub record IsKnownRun (status : ℕ) (old : Disk) (job : Job) : Type 0 where
 -- each status that isn't of a refusal comes only of the run; where a job is ready, only that of its
 -- run is returned, unless a read or a put fails or memory can't be had
 pub record IsForRun (words : List Bytes) (old new : Disk) (before after report report' : Output) (result : ℕ) : Type 0 where
-  pub only : ¬ Contains refusals result → SaysRun words old new before after report report' result
+  pub only : ¬ Contains refusal_statuses result → SaysRun words old new before after report report' result
   pub ready : AskFor words (IsKnownReady old) → SaysRun words old new before after report report' result ⊎ Contains (READ ∷ WRITE ∷ OUT_OF_MEMORY ∷ []) result
   pub ends : (status : ℕ) → AskFor words (IsKnownRun status old) → Contains (status ∷ READ ∷ WRITE ∷ OUT_OF_MEMORY ∷ []) result
 
@@ -247,7 +247,7 @@ pub record SaysFault (words : List Bytes) (old new : Disk) (before after report 
   pub frees : ¬ CallsNoFreeMe (job_program run.job run.ran.classes)
 
 -- contents are known, all class files are taken, and their classes make a program of typed methods, none of which calls FreeMe
-pub record IsKnownFreeless (old : Disk) (job : Job) : Type 0 where
+pub record IsKnownFreeless (old : Disk) (job : FmrunJob) : Type 0 where
   pub known : IsSome old.contents
   pub classes : List ClassDef
   pub checked : AreChecked (given_of job) old.contents classes
@@ -271,7 +271,7 @@ ReportsMostHeld words old new before after report report' result =
 
 -- the put of what the run prints failed, and the report got nothing
 pub record SaysUnprinted (words : List Bytes) (old new : Disk) (before after report report' : Output) : Type 0 where
-  pub job : Job
+  pub job : FmrunJob
   pub asked : Asks words job
   pub failed : HasFailed job old new before after
   pub silent : report' ≡ report
@@ -312,7 +312,7 @@ IsForMemory words old new before after report report' result =
 -- at a status that isn't for a read, a put or memory no count of faults rose in this call
 abbrev pub IsFaultless : Disk → Disk → Output → Output → Output → Output → ℕ → Type 0
 IsFaultless old new before after report report' result =
-    ¬ Contains (READ ∷ WRITE ∷ OUT_OF_MEMORY ∷ []) result → HasNoFault old new × (after.faults ≡ before.faults) × (report'.faults ≡ report.faults)
+    ¬ Contains (READ ∷ WRITE ∷ OUT_OF_MEMORY ∷ []) result → HasNoFileFault old new × (after.faults ≡ before.faults) × (report'.faults ≡ report.faults)
 
 -- nothing is printed before the run: a refusal leaves the output as it was
 abbrev pub IsSilent : Output → Output → ℕ → Type 0
@@ -321,5 +321,5 @@ IsSilent before after result = Contains before_run result → after ≡ before
 -- a job reads only its files, and words that ask for nothing leave the files as they were; no
 -- contents change and no write fails
 pub record OnlyReads (words : List Bytes) (old new : Disk) : Type 0 where
-  pub asked : (job : Job) → Asks words job → StaysWithin job old new
+  pub asked : (job : FmrunJob) → Asks words job → StaysWithin job old new
   pub unasked : AskNothing words → new ≡ old

@@ -7,14 +7,14 @@ use Rattle.fm_frames.specs.States.{State}
 use Rattle.fm_given.specs.Given.{Given, given_program, AreChecked}
 use Rattle.fm_input.specs.Reading.{IsInputOf}
 use Rattle.fm_request.specs.Arguments.{arguments_of}
-use Rattle.fm_request.specs.Request.{Job}
+use Rattle.fm_request.specs.FmrunRequest.{FmrunJob}
 use Rattle.fm_runner.specs.Runs.{AreWithin, opened_run}
 use Rattle.fm_runner.specs.declared.runs.Budgets.{Budgets}
 use Rattle.fm_tool.specs.Encoding.{modified}
 use Rattle.fm_world.specs.Programs.{Program}
 
 -- the class files, and the main class as class files spell it
-abbrev pub given_of : Job → Given
+abbrev pub given_of : FmrunJob → Given
 given_of job = record { files = job.files; main = modified job.main }
 
 -- the arguments that a text gives; none where no text is named for them
@@ -23,11 +23,11 @@ text_arguments None = []
 text_arguments (Some text) = arguments_of text
 
 -- the arguments of main
-abbrev pub job_arguments : Job → List (List ℕ)
+abbrev pub job_arguments : FmrunJob → List (List ℕ)
 job_arguments job = text_arguments job.arguments
 
 -- the budgets of the run; no word of the command line says how large the store may be
-abbrev pub budgets_of : Job → Budgets
+abbrev pub budgets_of : FmrunJob → Budgets
 budgets_of job = record { steps = job.steps; words = job.words; store = MAX_MADE_WORDS; frames = job.frames }
 
 -- the file of the input, where one is named
@@ -36,24 +36,24 @@ input_files None = []
 input_files (Some file) = file ∷ []
 
 -- all files of a job
-abbrev pub job_files : Job → List Bytes
+abbrev pub job_files : FmrunJob → List Bytes
 job_files job = job.files ++ input_files job.input
 
 -- the program that classes of a job make
-abbrev pub job_program : Job → List ClassDef → Program
+abbrev pub job_program : FmrunJob → List ClassDef → Program
 job_program job classes = given_program (given_of job) classes
 
 -- the state at the opening of its run, with this input
-abbrev pub opened_job : Job → List ClassDef → Bytes → State
+abbrev pub opened_job : FmrunJob → List ClassDef → Bytes → State
 opened_job job classes input = opened_run (job_program job classes) (budgets_of job) (job_arguments job) input
 
 -- all class files are taken, their classes make a program of typed methods, there aren't too many arguments, and this is the input
-pub record IsReady (job : Job) (contents : Contents) (classes : List ClassDef) (input : Bytes) : Type 0 where
+pub record IsReady (job : FmrunJob) (contents : Contents) (classes : List ClassDef) (input : Bytes) : Type 0 where
   pub checked : AreChecked (given_of job) contents classes
   pub few : length (job_arguments job) ≤ MAX_ARGUMENTS
   pub input_is : IsInputOf job.input contents input
 
 -- the budgets of the words are within their limits, and the text of the arguments isn't too long
-pub record IsWithinLimits (job : Job) : Type 0 where
+pub record IsWithinLimits (job : FmrunJob) : Type 0 where
   pub budgets : AreWithin (budgets_of job)
   pub text : IfSome job.arguments (λ text. length text ≤ MAX_COMMAND_LINE_VALUE_BYTES)

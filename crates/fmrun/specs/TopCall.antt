@@ -15,14 +15,14 @@ use Rattle.fm_given.specs.declared.refusal.JobRefusal.TheVariants as job_refusal
 use Rattle.fm_input.specs.Reading.{IsInputOf}
 use Rattle.fm_refuse.specs.Refused.{refusal_of}
 use Rattle.fm_report.specs.Reports.{report_line, end_status}
-use Rattle.fm_request.specs.Request.{Job, Asks, AskNothing}
+use Rattle.fm_request.specs.FmrunRequest.{FmrunJob, Asks, AskNothing}
 use Rattle.fm_run.specs.Running.{BreaksRun, FailsRun, RunsTo}
 use Rattle.fm_runner.specs.Runs.{choice}
 use Rattle.fm_same.specs.Resolved.{CallsNoFreeMe}
-use Rattle.fm_runner.specs.declared.runs.Told.{Told}
+use Rattle.fm_runner.specs.declared.runs.RunReport.{RunReport}
 use Rattle.fm_tool.specs.Line.{Tells}
 use Rattle.fm_tool.specs.Outside.{HasReadFault, HoldsSuch}
-use Rattle.fm_tool.specs.declared.refusal.Refusal.TheVariants as refusal
+use Rattle.fm_tool.specs.declared.command_refusal.CommandRefusal.TheVariants as refusal
 use Rattle.fm_tool.specs.declared.status.TheConstants.{WRITE}
 use Rattle.fm_whole.specs.Whole.{HasNoFault}
 use Rattle.fmrun.specs.Jobs.{given_of, job_arguments, job_files, job_program, opened_job, IsReady}
@@ -32,20 +32,20 @@ use Rattle.fmrun.specs.declared.outcome.JobFail.TheVariants as fail
 -- ---- what a job does whatever its outcome
 
 -- it reads only its files, and no write fails and no contents change
-abbrev pub StaysWithin : Job → Disk → Disk → Type 0
+abbrev pub StaysWithin : FmrunJob → Disk → Disk → Type 0
 StaysWithin job = ReadsAll (job_files job)
 
 -- ---- why a job isn't run, though its class files are as they should be
 
 -- there are too many arguments, though not too many files, and nothing is touched
-pub record AreManyArguments (job : Job) (count : ℕ) (old new : Disk) : Type 0 where
+pub record AreManyArguments (job : FmrunJob) (count : ℕ) (old new : Disk) : Type 0 where
   pub few_files : length job.files ≤ MAX_CLASS_FILES
   pub count_is : count ≡ length (job_arguments job)
   pub many : MAX_ARGUMENTS < count
   pub kept : new ≡ old
 
 -- all class files are taken, and the read of the file of the input failed, and nothing else, and no contents changed
-pub record IsInputUnread (job : Job) (file : Bytes) (old new : Disk) : Type 0 where
+pub record IsInputUnread (job : FmrunJob) (file : Bytes) (old new : Disk) : Type 0 where
   pub named : job.input ≡ Some file
   pub classes : List ClassDef
   pub taken : AllTaken old.contents job.files classes
@@ -53,7 +53,7 @@ pub record IsInputUnread (job : Job) (file : Bytes) (old new : Disk) : Type 0 wh
   pub kept : new.contents ≡ old.contents
 
 -- all class files are taken, and the file of the input is too long, which was seen
-pub record IsInputLong (job : Job) (file : Bytes) (old new : Disk) : Type 0 where
+pub record IsInputLong (job : FmrunJob) (file : Bytes) (old new : Disk) : Type 0 where
   pub named : job.input ≡ Some file
   pub classes : List ClassDef
   pub taken : AllTaken old.contents job.files classes
@@ -62,7 +62,7 @@ pub record IsInputLong (job : Job) (file : Bytes) (old new : Disk) : Type 0 wher
   pub untouched : IsUntouched old new
 
 -- the input is read
-pub record HasInput (job : Job) (contents : Contents) : Type 0 where
+pub record HasInput (job : FmrunJob) (contents : Contents) : Type 0 where
   pub input : Bytes
   pub input_is : IsInputOf job.input contents input
 
@@ -71,7 +71,7 @@ pub record HasInput (job : Job) (contents : Contents) : Type 0 where
 -- the run was opened with these classes and this input, and reached its end: what it printed went
 -- to the output, each step's bytes in one put, and this is its line and its status. Where no method
 -- of the program calls FreeMe it didn't end in a fault
-pub record HasRun (job : Job) (line : List ℕ) (status : ℕ) (old new : Disk) (before after : Output) : Type 0 where
+pub record HasRun (job : FmrunJob) (line : List ℕ) (status : ℕ) (old new : Disk) (before after : Output) : Type 0 where
   pub classes : List ClassDef
   pub input : Bytes
   pub ready : IsReady job old.contents classes input
@@ -83,7 +83,7 @@ pub record HasRun (job : Job) (line : List ℕ) (status : ℕ) (old new : Disk) 
   pub untouched : IsUntouched old new
 
 -- the put of what one of its steps prints failed, after what the steps before it printed went out
-pub record HasFailed (job : Job) (old new : Disk) (before after : Output) : Type 0 where
+pub record HasFailed (job : FmrunJob) (old new : Disk) (before after : Output) : Type 0 where
   pub classes : List ClassDef
   pub input : Bytes
   pub ready : IsReady job old.contents classes input
@@ -91,7 +91,7 @@ pub record HasFailed (job : Job) (old new : Disk) (before after : Output) : Type
   pub untouched : IsUntouched old new
 
 -- memory couldn't be had after some of its first steps, and what they printed went out
-pub record HasBroken (job : Job) (old new : Disk) (before after : Output) : Type 0 where
+pub record HasBroken (job : FmrunJob) (old new : Disk) (before after : Output) : Type 0 where
   pub classes : List ClassDef
   pub input : Bytes
   pub ready : IsReady job old.contents classes input
@@ -102,10 +102,10 @@ pub record HasBroken (job : Job) (old new : Disk) (before after : Output) : Type
 
 -- with the report of the run, or with why it isn't done
 abbrev pub Outcome : Type 0
-Outcome = Result Told JobFail
+Outcome = Result RunReport JobFail
 
 -- what a refusal says of the files of a job that has not too many arguments
-abbrev pub IsRefusedByFiles : Job → Disk → Disk → JobRefusal → Type 0
+abbrev pub IsRefusedByFiles : FmrunJob → Disk → Disk → JobRefusal → Type 0
 IsRefusedByFiles job old new (job_refusal.TooLong file) = IsLong job.files file.now old new ⊎ IsInputLong job file.now old new
 IsRefusedByFiles job old new (job_refusal.Class file refusal) = IsRefusedFile job.files file.now refusal old new
 IsRefusedByFiles job old new (job_refusal.Shared (refusal.Read file)) = IsUnread job.files file.now old new ⊎ IsInputUnread job file.now old new
@@ -114,13 +114,13 @@ IsRefusedByFiles job old new (job_refusal.Check name) = HasInput job old.content
 IsRefusedByFiles job old new r = ⊥
 
 -- what a refusal says of a job
-abbrev pub IsRefusedAs : Job → Disk → Disk → JobRefusal → Type 0
+abbrev pub IsRefusedAs : FmrunJob → Disk → Disk → JobRefusal → Type 0
 IsRefusedAs job old new (job_refusal.TooManyFiles count) = AreMany job.files count old new
 IsRefusedAs job old new (job_refusal.TooManyArguments count) = AreManyArguments job count old new
 IsRefusedAs job old new r = (length (job_arguments job) ≤ MAX_ARGUMENTS) × IsRefusedByFiles job old new r
 
 -- what a job that comes out so does to the files and to the output
-abbrev pub ComesTo : Job → Disk → Disk → Output → Output → Outcome → Type 0
+abbrev pub ComesTo : FmrunJob → Disk → Disk → Output → Output → Outcome → Type 0
 ComesTo job old new before after (Ok told) = HasRun job (string_bytes told.line) told.status old new before after
 ComesTo job old new before after (Err fail.Output) = HasFailed job old new before after
 ComesTo job old new before after (Err (fail.Refused (job_refusal.Shared refusal.OutOfMemory))) =
@@ -131,7 +131,7 @@ ComesTo job old new before after (Err (fail.Refused r)) = IsRefusedAs job old ne
 
 -- the words ask for a job, which comes out so
 pub record ComesOfJob (words : List Bytes) (old new : Disk) (before after : Output) (outcome : Outcome) : Type 0 where
-  pub job : Job
+  pub job : FmrunJob
   pub asked : Asks words job
   pub within : StaysWithin job old new
   pub comes : ComesTo job old new before after outcome

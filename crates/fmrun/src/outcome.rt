@@ -2,7 +2,7 @@
 
 ghost use Rattle.std.specs.Prelude.{◌≡◌};
 ghost use Rattle.fm_given.specs.declared.refusal.JobRefusal.TheVariants as job_refusal;
-ghost use Rattle.fm_tool.specs.declared.refusal.Refusal.TheVariants as refusal;
+ghost use Rattle.fm_tool.specs.declared.command_refusal.CommandRefusal.TheVariants as refusal;
 ghost use Rattle.fmrun.specs.declared.outcome.JobFail.TheVariants as fail;
 ghost use Rattle.fmrun.specs.inner.Fails.{IsOfStep};
 

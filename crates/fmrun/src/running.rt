@@ -4,7 +4,7 @@ ghost use Rattle.std.specs.List.{AllByRecursion};
 ghost use Rattle.std.specs.Prelude.{◌≤◌, length};
 ghost use Rattle.fm_base.specs.declared.limits.TheConstants.{MAX_ARGUMENTS, MAX_CLASS_FILES, MAX_FILE_BYTES};
 ghost use Rattle.fm_code.specs.Profile.{Profile};
-ghost use Rattle.fm_given.specs.Taking.{IsSpelled};
+ghost use Rattle.fm_given.specs.Taking.{ClassIsSpelled};
 ghost use Rattle.fm_runner.specs.Runs.{AreWithin};
 ghost use Rattle.fm_sound.specs.Making.{ArgumentsFit};
 ghost use Rattle.fm_tool.specs.Encoding.{modified};
@@ -16,7 +16,7 @@ use fm_code::ClassDef;
 use fm_files::Sink;
 use fm_given::program_of;
 use fm_resolved::{law_can_run, law_linked_no_fault};
-use fm_runner::{Budgets, Told, run_program};
+use fm_runner::{Budgets, RunReport, run_program};
 use std::alloc::Global;
 
 /// Runs the program of classes with a main class of this name, where they make one of typed
@@ -30,8 +30,8 @@ pub fn run_classes<'a, O: Sink>(
     arguments: &[Units],
     input: &[u8],
     out: &mut O,
-) -> Result<Told, JobFail<'a>>
-    requires spelled { AllByRecursion IsSpelled classes.items }
+) -> Result<RunReport, JobFail<'a>>
+    requires spelled { AllByRecursion ClassIsSpelled classes.items }
     requires accepted { AllByRecursion Profile classes.items }
     requires few_files { length classes.items ≤ MAX_CLASS_FILES }
     requires within { AreWithin budgets }

@@ -3,7 +3,7 @@
 ghost use Rattle.std.specs.List.{AllByRecursion};
 ghost use Rattle.std.specs.Prelude.{◌≡◌, ◌^◌, ◌<◌, ◌≤◌, IfOk, IfSome, length, option_map};
 ghost use Rattle.fm_base.specs.declared.limits.TheConstants.{MAX_COMMAND_LINE_VALUE_BYTES};
-ghost use Rattle.fm_request.specs.Request.{job_of};
+ghost use Rattle.fm_request.specs.FmrunRequest.{job_of};
 ghost use Rattle.fm_sound.specs.Making.{AreUnits};
 ghost use Rattle.fm_tool.specs.Words.{texts};
 ghost use Rattle.fm_tool.specs.declared.status.TheConstants.{MALFORMED, UNSUPPORTED, VERSION};
@@ -19,10 +19,10 @@ use fm_files::{Files, Sink};
 use fm_given::{JobRefusal, read_classes};
 use fm_held::law_most_held;
 use fm_input::read_input;
-use fm_request::{Request, arguments_of, request_of};
+use fm_request::{FmrunRequest, arguments_of, request_of};
 use fm_resolved::law_can_run;
-use fm_runner::{Budgets, Told};
-use fm_tool::{Refusal, put_line, status};
+use fm_runner::{Budgets, RunReport};
+use fm_tool::{CommandRefusal, put_line, status};
 use std::alloc::Global;
 
 /// Does what the words of the command line ask for, puts the line that reports it, and returns the
@@ -97,7 +97,7 @@ pub fn fmrun_run<F: Files, O: Sink, R: Sink>(
 }
 
 // Puts the line of an outcome, if it has one, and returns its status, or that of the put.
-fn tell<R: Sink>(alloc: Global, outcome: Result<Told, JobFail<'_>>, report: &mut R) -> u8
+fn tell<R: Sink>(alloc: Global, outcome: Result<RunReport, JobFail<'_>>, report: &mut R) -> u8
     ensures { IsTold outcome.entry (R.output report.old) (R.output report.new) result }
 {
     match outcome {
@@ -116,24 +116,24 @@ fn do_words<'a, F: Files, O: Sink>(
     words: &'a [String],
     files: &mut F,
     out: &mut O,
-) -> Result<Told, JobFail<'a>>
+) -> Result<RunReport, JobFail<'a>>
     ensures { ComesOf (texts words.now) (F.disk files.old) (F.disk files.new)
         (O.output out.old) (O.output out.new) result }
 {
     let asked = request_of(alloc, words)?;
     match asked {
         Some(request) => do_job(alloc, request, files, out),
-        None => Err(JobFail::Refused(JobRefusal::Shared(Refusal::Words))),
+        None => Err(JobFail::Refused(JobRefusal::Shared(CommandRefusal::Words))),
     }
 }
 
 // Reads the files, and runs the program where all are taken and make one of typed methods.
 fn do_job<'a, F: Files, O: Sink>(
     alloc: Global,
-    request: Request<'a>,
+    request: FmrunRequest<'a>,
     files: &mut F,
     out: &mut O,
-) -> Result<Told, JobFail<'a>>
+) -> Result<RunReport, JobFail<'a>>
     requires { IsWithinLimits (job_of request) }
     ensures within { StaysWithin (job_of request.entry) (F.disk files.old) (F.disk files.new) }
     ensures comes { ComesTo (job_of request.entry) (F.disk files.old) (F.disk files.new)

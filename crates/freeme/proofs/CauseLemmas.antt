@@ -6,9 +6,9 @@ use Rattle.fm_base.proofs.OptionFacts.{Some-from_is_some, Some-from_some_and}
 use Rattle.fm_files.specs.Files.{Bytes, Disk, AreKept}
 use Rattle.fm_files.specs.Sink.{Output, with_piece}
 use Rattle.fm_tool.specs.Line.{Tells}
-use Rattle.fm_tool.specs.Outside.{HasNoFault}
+use Rattle.fm_tool.specs.Outside.{HasNoFileFault}
 use Rattle.fm_tool.specs.Status.{ComesExactly}
-use Rattle.fm_tool.specs.declared.refusal.Refusal.TheVariants as refusal
+use Rattle.fm_tool.specs.declared.command_refusal.CommandRefusal.TheVariants as refusal
 use Rattle.fm_tool.proofs.LineLemmas.{instead_for_file, instead_for_words, told_among, is_put, put_fails, told_of_file, told_of_words, comes_of_file, comes_of_words}
 use Rattle.fm_tool.proofs.OutsideLemmas.{no_fault_where_same, known_such}
 use Rattle.fm_tool.specs.declared.status.TheConstants.{DONE, WORDS, READ, MALFORMED, VERSION, LIMIT, UNSUPPORTED, LINK, CHECK, WRITE, OUT_OF_MEMORY}
@@ -18,18 +18,18 @@ use Rattle.fm_refuse.specs.Refused.{refusal_of}
 use Rattle.fm_analysis.specs.Analysed.{AreLeastTypings}
 use Rattle.fm_place.specs.Safe.{full_plans}
 use Rattle.fm_rewrite.specs.FreeCalls.{first_call}
-use Rattle.fm_rewrite.specs.Rewritten.{AreRefused as AreRefusedFor, first_cause}
+use Rattle.fm_rewrite.specs.Rewritten.{AreNotRewritten, first_cause}
 use Rattle.fm_rewrite.specs.declared.error.RewriteFail.{RewriteFail}
 use Rattle.fm_rewrite.specs.declared.error.RewriteFail.TheVariants as fail
 use Rattle.fm_world.specs.Causes.{Refusal}
 use Rattle.fm_world.specs.Linking.{refusals}
 use Rattle.fm_world.specs.Programs.{program_of}
 use Rattle.fm_given.specs.ClassRefusal.{class_refusal_status}
-use Rattle.fm_given.specs.Given.{AreMany, IsUntouched, AreRefused, IsNotLinked, given_program}
+use Rattle.fm_given.specs.Given.{AreMany, IsUntouched, AreNotLinked, IsNotLinked, given_program}
 use Rattle.freeme.specs.Causes.{AskFor, AskForGiven, BecomesAs, IsKnownAs, cause_status, SaysWords, SaysRead, SaysRefused, SaysLimit, SaysLink, SaysCheck, SaysNotFreed, SaysDone, SaysUnwritten, SaysWrite, SaysMemory, LacksLine, IsForWords, IsForRead, IsForBytes, IsForLimit, IsForLink, IsForCheck, IsForRewrite, IsForDone, IsForWrite, IsForMemory, IsFaultless, KeepsContents, ChangesOnly}
 use Rattle.fm_given.specs.Causes.{FailsARead, FailsAWrite, IsMissing, HasTooMany, IsKnownLong, IsKnownRefused, IsKnownUnlinked, IsKnownUntyped}
 use Rattle.fm_given.specs.LinkRefusal.{cause_line}
-use Rattle.freeme.specs.Request.{Job, Asks, AskNothing, given_of, main_name}
+use Rattle.freeme.specs.FreemeRequest.{FreemeJob, Asks, AskNothing, given_of, main_name}
 use Rattle.fm_given.specs.Taking.{total_bytes, AllTaken, IsTooLong, IsRefused}
 use Rattle.freeme.specs.TopCall.{IsFirstCause, StaysWithin, IsBroken, ComesTo, ComesOfJob, ComesOf, Outcome, outcome_line, outcome_status}
 use Rattle.freeme.specs.Refusal.{rewrite_status}
@@ -37,7 +37,7 @@ use Rattle.freeme.specs.declared.refusal.FreeRefusal.TheVariants as free_refusal
 use Rattle.freeme.specs.declared.status.TheConstants.{CALLS_FREE, POOL_FULL, METHOD_TOO_LONG}
 use Rattle.fm_given.specs.declared.refusal.JobRefusal.TheVariants as job_refusal
 use Rattle.fm_given.specs.Refusal.{many_line}
-use Rattle.fm_tool.specs.Refusal.{memory_line}
+use Rattle.fm_tool.specs.CommandRefusal.{memory_line}
 use Rattle.freeme.proofs.JobLemmas.{reads_within}
 use Rattle.fm_given.proofs.ReadLemmas.{reads_none}
 use Rattle.freeme.proofs.RequestLemmas.{asks_one}
@@ -159,9 +159,9 @@ module _ (words : List Bytes) (old new : Disk) (before after : Output) where
 -- nothing failed, or a read did, or a write
 abbrev FailsSo : Disk → Disk → ℕ → Type 0
 FailsSo old new status =
-    HasNoFault old new ⊎ (((status ≡ READ) × AreKept old.write_faults new.write_faults) ⊎ ((status ≡ WRITE) × AreKept old.read_faults new.read_faults))
+    HasNoFileFault old new ⊎ (((status ≡ READ) × AreKept old.write_faults new.write_faults) ⊎ ((status ≡ WRITE) × AreKept old.read_faults new.read_faults))
 
-job_fails : (job : Job) (old new : Disk) (o : Outcome) → ComesTo job old new o → FailsSo old new (outcome_status o)
+job_fails : (job : FreemeJob) (old new : Disk) (o : Outcome) → ComesTo job old new o → FailsSo old new (outcome_status o)
 job_fails job old new (Ok lines) comes = inl comes.written.faultless
 job_fails job old new (Err (free_refusal.Job (job_refusal.Shared refusal.Words))) comes = absurd comes
 job_fails job old new (Err (free_refusal.Job (job_refusal.TooManyArguments count))) comes = absurd comes
@@ -181,7 +181,7 @@ fails_so words old new o (inr (inl nothing)) = inl (no_fault_where_same old new 
 fails_so words old new o (inr (inr lacking)) = inl (no_fault_where_same old new lacking.kept)
 
 -- contents are kept but where classes are written
-job_keeps : (job : Job) (old new : Disk) (o : Outcome) → ComesTo job old new o → outcome_status o ≢ DONE → outcome_status o ≢ WRITE → outcome_status o ≢ OUT_OF_MEMORY → new.contents ≡ old.contents
+job_keeps : (job : FreemeJob) (old new : Disk) (o : Outcome) → ComesTo job old new o → outcome_status o ≢ DONE → outcome_status o ≢ WRITE → outcome_status o ≢ OUT_OF_MEMORY → new.contents ≡ old.contents
 job_keeps job old new (Ok lines) comes done write memory = absurd (done refl)
 job_keeps job old new (Err (free_refusal.Job (job_refusal.Shared refusal.Words))) comes done write memory = absurd comes
 job_keeps job old new (Err (free_refusal.Job (job_refusal.TooManyArguments count))) comes done write memory = absurd comes
@@ -238,7 +238,7 @@ rewrites_once main known found classes s t (inl a) (inr b) = a.1 ∙ found_known
 rewrites_once main known found classes s t (inr a) (inl b) = a.1 ∙ sym (found_known main known found classes b.0 a.0) ∙ sym b.1
 rewrites_once main known found classes s t (inr a) (inr b) = a.1 ∙ sym b.1
 
-by_facts : (main : List ℕ) (classes : List ClassDef) (cause : RewriteFail) → AreRefusedFor classes main cause → FindsFacts main (rewrite_status cause) classes
+by_facts : (main : List ℕ) (classes : List ClassDef) (cause : RewriteFail) → AreNotRewritten classes main cause → FindsFacts main (rewrite_status cause) classes
 by_facts main classes cause refused = record {
   no_call = refused.no_call;
   facts = refused.facts;
@@ -255,10 +255,10 @@ found_of main classes (fail.MethodTooLong method bytes) first = inr (by_facts ma
 found_of main classes fail.NoMemory first = absurd first
 
 -- the verdict on the files of a job
-abbrev JobVerdict : (known found : ℕ) → (Bytes → Option Bytes) → Job → ℕ → Type 0
+abbrev JobVerdict : (known found : ℕ) → (Bytes → Option Bytes) → FreemeJob → ℕ → Type 0
 JobVerdict known found held job status = Verdict (Links (Rewrites (main_name job) known found) (main_name job)) held job.files status
 
-module _ (job : Job) (old new : Disk) (held : Bytes → Option Bytes) (known : old.contents ≡ Some held) (sought : ℕ) where
+module _ (job : FreemeJob) (old new : Disk) (held : Bytes → Option Bytes) (known : old.contents ≡ Some held) (sought : ℕ) where
   all_known : (classes : List ClassDef) → AllTaken old.contents job.files classes → AllTaken (Some held) job.files classes
   all_known = all_taken job.files old.contents held known
 
@@ -304,7 +304,7 @@ module _ (job : Job) (old new : Disk) (held : Bytes → Option Bytes) (known : o
   verdict_of (Err (free_refusal.Job (job_refusal.TooLong file))) comes = inl (inr (inl (long_stops job.files old.contents held known file.now comes.before comes.reaches (known_such old.contents held file.now (IsTooLong (total_bytes comes.before)) known comes.long))))
   verdict_of (Err (free_refusal.Job (job_refusal.Class file r))) comes = inl (inr (inl (bytes_stop job.files old.contents held known (class_refusal_status r) file.now comes.before r refl comes.reaches (known_such old.contents held file.now (IsRefused r (total_bytes comes.before)) known comes.refused))))
   verdict_of (Err (free_refusal.Job (job_refusal.Link fail))) comes =
-      let found = Some-from_some_and (refusal_of fail) (AreRefused (given_of job) old.contents) comes.refused in
+      let found = Some-from_some_and (refusal_of fail) (AreNotLinked (given_of job) old.contents) comes.refused in
       let refused = found.2 in
       inl (inr (inr (record { classes = refused.classes; taken = all_known refused.classes refused.taken; last = inl (not_empty (refusals refused.classes (main_name job)) found.0 refused.first, refl) })))
   verdict_of (Err (free_refusal.Job (job_refusal.Check name))) comes = inl (inr (inr (record { classes = comes.classes; taken = all_known comes.classes comes.linked.taken; last = inr (comes.linked.linked, inl (not_typed (given_program (given_of job) comes.classes) name comes.untyped, refl)) })))
@@ -328,7 +328,7 @@ module _ (job : Job) (old new : Disk) (held : Bytes → Option Bytes) (known : o
 -- ---- the cause of each status
 
 -- too many files have one status, and memory may be lacking
-many_status : (job : Job) (old new : Disk) → HasTooMany (given_of job) → (o : Outcome) → ComesTo job old new o → Contains (LIMIT ∷ instead_for_words) (outcome_status o)
+many_status : (job : FreemeJob) (old new : Disk) → HasTooMany (given_of job) → (o : Outcome) → ComesTo job old new o → Contains (LIMIT ∷ instead_for_words) (outcome_status o)
 many_status job old new many (Ok lines) comes = absurd (let few = comes.freed.checked.linked.taken.few in omega arith)
 many_status job old new many (Err (free_refusal.Rewrite cause name)) comes = absurd (let few = comes.checked.linked.taken.few in omega arith)
 many_status job old new many (Err (free_refusal.Job (job_refusal.Shared refusal.Words))) comes = absurd comes
@@ -339,12 +339,12 @@ many_status job old new many (Err (free_refusal.Job (job_refusal.TooManyFiles co
 many_status job old new many (Err (free_refusal.Job (job_refusal.TooLong file))) comes = (0, omega arith, refl)
 many_status job old new many (Err (free_refusal.Job (job_refusal.Class file r))) comes = absurd (let few = comes.reaches.few in omega arith)
 many_status job old new many (Err (free_refusal.Job (job_refusal.Link fail))) comes =
-    absurd (let found = Some-from_some_and (refusal_of fail) (AreRefused (given_of job) old.contents) comes.refused in let few = found.2.taken.few in omega arith)
+    absurd (let found = Some-from_some_and (refusal_of fail) (AreNotLinked (given_of job) old.contents) comes.refused in let few = found.2.taken.few in omega arith)
 many_status job old new many (Err (free_refusal.Job (job_refusal.Check name))) comes = absurd (let few = comes.linked.taken.few in omega arith)
 many_status job old new many (Err (free_refusal.Job (job_refusal.Write name))) comes = (1, omega arith, refl)
 
 -- a job isn't refused for its words
-not_for_words : (job : Job) (old new : Disk) (o : Outcome) → ComesTo job old new o → outcome_status o ≢ WORDS
+not_for_words : (job : FreemeJob) (old new : Disk) (o : Outcome) → ComesTo job old new o → outcome_status o ≢ WORDS
 not_for_words job old new (Err (free_refusal.Job (job_refusal.Shared refusal.Words))) comes is = comes
 not_for_words job old new (Err (free_refusal.Job (job_refusal.Class file r))) comes is = let c = class_status r in let low = c.low in omega arith
 not_for_words job old new (Err (free_refusal.Rewrite cause name)) comes is = let r = rewrite_bounds cause in let low = r.0 in omega arith
@@ -359,15 +359,15 @@ keeping_statuses = WORDS ∷ READ ∷ MALFORMED ∷ VERSION ∷ LIMIT ∷ UNSUPP
 
 module _ (words : List Bytes) (old new : Disk) (o : Outcome) (comes : ComesOf words old new o) where
   -- the job that was asked for comes out so, or memory was lacking before
-  of_job : (job : Job) → Asks words job → ComesTo job old new o ⊎ (outcome_status o ≡ OUT_OF_MEMORY)
+  of_job : (job : FreemeJob) → Asks words job → ComesTo job old new o ⊎ (outcome_status o ≡ OUT_OF_MEMORY)
   of_job job asked = go comes where
     go : ComesOf words old new o → ComesTo job old new o ⊎ (outcome_status o ≡ OUT_OF_MEMORY)
-    go (inl j) = let P : Job → Type 0 = λ k. ComesTo k old new o in inl (subst P (asks_one words j.job job j.asked asked) j.comes)
+    go (inl j) = let P : FreemeJob → Type 0 = λ k. ComesTo k old new o in inl (subst P (asks_one words j.job job j.asked asked) j.comes)
     go (inr (inl nothing)) = absurd (nothing.unasked job asked)
     go (inr (inr lacking)) = inr (ap outcome_status lacking.refused)
 
   -- a verdict of its files decides the status, unless there was a fault or memory was lacking
-  decided : (status : ℕ) (job : Job) (held : Bytes → Option Bytes) → old.contents ≡ Some held → Asks words job → JobVerdict status (outcome_status o) held job status → Contains (status ∷ instead_for_file) (outcome_status o)
+  decided : (status : ℕ) (job : FreemeJob) (held : Bytes → Option Bytes) → old.contents ≡ Some held → Asks words job → JobVerdict status (outcome_status o) held job status → Contains (status ∷ instead_for_file) (outcome_status o)
   decided status job held known asked verdict = ⊎_elim
       (λ (job_comes : ComesTo job old new o). status_of job old new held known status status o verdict job_comes)
       (λ (lacking : outcome_status o ≡ OUT_OF_MEMORY). (3, omega arith, sym lacking))
@@ -532,7 +532,7 @@ module _ {words : List Bytes} {old new : Disk} {before after : Output} {result :
   is_faultless among_these =
       let unlike : (s : ℕ) → list_any (λ y. eqb y s) faultless_statuses ≡ false → result ≢ s = λ s none. unlike_elements s faultless_statuses none result among_these in
       let own = own_line_put result (unlike WRITE refl) (unlike OUT_OF_MEMORY refl) refl in (
-        ⊎_elim (λ (none : HasNoFault old new). none)
+        ⊎_elim (λ (none : HasNoFileFault old new). none)
             (λ (rest : _). ⊎_elim (λ (p : _). absurd (unlike READ refl (sym own.0 ∙ p.0))) (λ (p : _). absurd (unlike WRITE refl (sym own.0 ∙ p.0))) rest)
             (fails_so words old new o comes),
         own.1,
@@ -546,8 +546,8 @@ module _ {words : List Bytes} {old new : Disk} {before after : Output} {result :
 
   pub changes_only : ChangesOnly words old new
   changes_only = record { asked = λ job asked. stays job asked comes; unasked = λ none. unchanged none comes } where
-    stays : (job : Job) → Asks words job → ComesOf words old new o → StaysWithin job old new
-    stays job asked (inl j) = let P : Job → Type 0 = λ k. StaysWithin k old new in subst P (asks_one words j.job job j.asked asked) j.within
+    stays : (job : FreemeJob) → Asks words job → ComesOf words old new o → StaysWithin job old new
+    stays job asked (inl j) = let P : FreemeJob → Type 0 = λ k. StaysWithin k old new in subst P (asks_one words j.job job j.asked asked) j.within
     stays job asked (inr (inl nothing)) = absurd (nothing.unasked job asked)
     stays job asked (inr (inr lacking)) = let P : Disk → Type 0 = λ d. StaysWithin job old d in subst P (sym lacking.kept) (reads_within job old old (reads_none job.files old))
 

@@ -12,7 +12,7 @@ use Rattle.fm_place.specs.Safe.{full_plans}
 use Rattle.fm_rewrite.proofs.JudgedLemmas.{classes_counted}
 use Rattle.fm_rewrite.proofs.ProgramMeantLemmas.{methods_counted}
 use Rattle.fm_rewrite.specs.FreeCalls.{call_among, call_in_method, first_call}
-use Rattle.fm_rewrite.specs.Rewritten.{AreRefused, ComesOfRewriting, first_cause, first_full, first_long, full_from, full_pool, long_among, long_from, long_method, method_too_long, pool_full}
+use Rattle.fm_rewrite.specs.Rewritten.{AreNotRewritten, ComesOfRewriting, first_cause, first_full, first_long, full_from, full_pool, long_among, long_from, long_method, method_too_long, pool_full}
 use Rattle.fm_rewrite.specs.declared.error.RewriteFail.{RewriteFail}
 use Rattle.fm_rewrite.specs.declared.error.RewriteFail.TheVariants as fail
 use Rattle.fm_rewrite.specs.inner.ByPlans.{method_count}
@@ -116,14 +116,14 @@ method_inside plans given method bytes e = by (first_full plans given) refl (fir
 
 -- ---- numbers of a program
 
-pool_there : (given : List ClassDef) (main : List ℕ) (class : ClassId) (indices : ℕ) → AreRefused given main (fail.PoolFull class indices)
+pool_there : (given : List ClassDef) (main : List ℕ) (class : ClassId) (indices : ℕ) → AreNotRewritten given main (fail.PoolFull class indices)
     → class.0 < length (program_of given main).outline.classes
 pool_there given main class indices refused =
     let inside = pool_inside (full_plans (program_of given main) refused.facts) given class indices refused.first in
     let count = classes_counted given main in
     omega (arith, inside, count)
 
-method_there : (given : List ClassDef) (main : List ℕ) (method : MethodId) (bytes : ℕ) → AreRefused given main (fail.MethodTooLong method bytes)
+method_there : (given : List ClassDef) (main : List ℕ) (method : MethodId) (bytes : ℕ) → AreNotRewritten given main (fail.MethodTooLong method bytes)
     → method.0 < length (methods_of (program_of given main).outline.classes)
 method_there given main method bytes refused =
     let inside = method_inside (full_plans (program_of given main) refused.facts) given method bytes refused.first in

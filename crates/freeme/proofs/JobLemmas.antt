@@ -16,8 +16,8 @@ use Rattle.fm_code.specs.ConstantPool.{class_name_at}
 use Rattle.fm_code.specs.Profile.{IsWithinLimits, Profile}
 use Rattle.fm_code.specs.Spells.{HasSpelling, Spells}
 use Rattle.fm_code.specs.declared.class_file.ClassDef.{ClassDef}
-use Rattle.fm_tool.specs.Outside.{HasNoFault, HasWriteFault}
-use Rattle.fm_tool.specs.declared.refusal.Refusal.TheVariants as refusal
+use Rattle.fm_tool.specs.Outside.{HasNoFileFault, HasWriteFault}
+use Rattle.fm_tool.specs.declared.command_refusal.CommandRefusal.TheVariants as refusal
 use Rattle.fm_untyped.specs.Untyped.{AreTyped}
 use Rattle.fm_refuse.specs.Refused.{refusal_of}
 use Rattle.fm_retyped.specs.Retyped.{SafeClassesAreTyped}
@@ -36,8 +36,8 @@ use Rattle.fm_written.specs.Names.{AreNew}
 use Rattle.fm_written.specs.Changed.{IsShort}
 use Rattle.fm_given.specs.Given.{IsFirstUntypedName, IsUntouched, IsNotLinked, IsNotTyped, AreChecked, given_program}
 use Rattle.fm_given.specs.Changes.{RisesOnlyAt, ChangesOnlyAt}
-use Rattle.freeme.specs.Request.{Job, given_of, job_of, main_name}
-use Rattle.fm_given.specs.Taking.{AreTaken, IsSpelled}
+use Rattle.freeme.specs.FreemeRequest.{FreemeJob, given_of, job_of, main_name}
+use Rattle.fm_given.specs.Taking.{AreTaken, ClassIsSpelled}
 use Rattle.freeme.specs.TopCall.{AreFreed, AreTakenAgain, IsFirstCause, IsNotFreed, StaysWithin, IsDone, ComesTo, told_name}
 use Rattle.freeme.specs.Writing.{HasName, class_text, written_name, class_lines, IsClassFileIn, IsFileOf, AreWritten, AllWritten}
 use Rattle.fm_given.specs.Judging.{ComesOfProgram}
@@ -49,15 +49,15 @@ use Rattle.freeme.specs.declared.refusal.FreeRefusal.TheVariants as free_refusal
 use Rattle.fm_given.specs.declared.refusal.JobRefusal.{JobRefusal}
 use Rattle.fm_given.specs.declared.refusal.JobRefusal.TheVariants as job_refusal
 use Rattle.fm_given.proofs.ChangesLemmas.{rises_of_kept, rises_then, changes_of_kept, changes_then, faultless_then, write_fault_then}
-use Rattle.freeme.specs.declared.request.Request.{Request}
+use Rattle.freeme.specs.declared.freeme_request.FreemeRequest.{FreemeRequest}
 use Rattle.fm_given.proofs.TakenLemmas.{are_spelled, are_within}
 
 -- ---- classes that are taken
 
 -- and so they have names
-pub have_names : (classes : List ClassDef) → AllByRecursion IsSpelled classes → AllByRecursion HasName classes
-have_names classes spelled = AllByRecursion-weaker IsSpelled HasName named classes spelled where
-  named : (c : ClassDef) → IsSpelled c → HasName c
+pub have_names : (classes : List ClassDef) → AllByRecursion ClassIsSpelled classes → AllByRecursion HasName classes
+have_names classes spelled = AllByRecursion-weaker ClassIsSpelled HasName named classes spelled where
+  named : (c : ClassDef) → ClassIsSpelled c → HasName c
   named c spells = let found = Some-from_some_and (class_name_at c.pool.entries c.this_class) _ spells.this_class in IsSome-from_some (class_name_at c.pool.entries c.this_class) found.0 found.1
 
 -- they are accepted, and no longer than a file may be
@@ -83,8 +83,8 @@ have_profiles contents [] (c ∷ classes) taken = absurd taken
 have_profiles contents (f ∷ files) [] taken = absurd taken
 
 -- the only bytes that spell a class are its own
-are_spelled_so : (classes : List ClassDef) → AllByRecursion HasSpelling classes → AllByRecursion IsSpelled classes
-are_spelled_so classes = AllByRecursion-weaker HasSpelling IsSpelled (λ c h. subst (λ (bytes : List ℕ). Spells bytes c) h.1.bytes_are h.1) classes
+are_spelled_so : (classes : List ClassDef) → AllByRecursion HasSpelling classes → AllByRecursion ClassIsSpelled classes
+are_spelled_so classes = AllByRecursion-weaker HasSpelling ClassIsSpelled (λ c h. subst (λ (bytes : List ℕ). Spells bytes c) h.1.bytes_are h.1) classes
 
 -- classes whose names as texts are new each are apart
 apart_of : (classes : List ClassDef) → AreNew (map class_text classes) → AreApart classes
@@ -99,7 +99,7 @@ apart_of classes new place = at (slice_get classes place) refl where
 
 -- ---- after the files are read
 
-module _ (job : Job) (old new : Disk) (classes : List ClassDef) (read : AreRead job.files classes old new) (all : ReadsAll job.files old new) where
+module _ (job : FreemeJob) (old new : Disk) (classes : List ClassDef) (read : AreRead job.files classes old new) (all : ReadsAll job.files old new) where
   -- nothing else was done
   pub read_untouched : IsUntouched old new
   read_untouched = record { faultless = read.faultless; kept = all.writes.contents }
@@ -129,7 +129,7 @@ module _ (job : Job) (old new : Disk) (classes : List ClassDef) (read : AreRead 
     untouched = read_untouched;
   }
 
-pub reads_within : (job : Job) (old new : Disk) → ReadsAll job.files old new → StaysWithin job old new
+pub reads_within : (job : FreemeJob) (old new : Disk) → ReadsAll job.files old new → StaysWithin job old new
 reads_within job old new all = record {
   reads = all.reads;
   writes = rises_of_kept (IsClassFileIn job.folder) old.write_faults new.write_faults all.writes.faults;
@@ -179,7 +179,7 @@ writes_in folder classes old new (Err (job_refusal.Shared refusal.OutOfMemory)) 
 }
 writes_in folder classes old new (Err r) comes = absurd comes
 
-module _ (job : Job) (old between new : Disk) (all : ReadsAll job.files old between) (keeps : KeepsReads between new) where
+module _ (job : FreemeJob) (old between new : Disk) (all : ReadsAll job.files old between) (keeps : KeepsReads between new) where
   same_contents : between.contents ≡ old.contents
   same_contents = all.writes.contents
 
@@ -195,7 +195,7 @@ module _ (job : Job) (old between new : Disk) (all : ReadsAll job.files old betw
     contents = let P : Contents → Type 0 = λ c. ChangesOnlyAt (IsClassFileIn job.folder) c new.contents in subst P same_contents writes.contents;
   }
 
-  module _ (made : Rewritten) (faultless : HasNoFault old between) (freed : AreFreed job old.contents made) where
+  module _ (made : Rewritten) (faultless : HasNoFileFault old between) (freed : AreFreed job old.contents made) where
     written : (begun done : List ClassDef) → AreWritten job.folder done begun between.contents new.contents → AreWritten job.folder done begun old.contents new.contents
     written begun done = let P : Contents → Type 0 = λ c. AreWritten job.folder done begun c new.contents in subst P same_contents
 
@@ -238,12 +238,12 @@ module _ (job : Job) (old between new : Disk) (all : ReadsAll job.files old betw
 -- ---- a request whose files are read, by their names and their classes as slices
 
 -- the files of the request are these, and these classes were read of them
-pub record Reads (request : Request) (names : List (Bor Bytes)) (classes : List ClassDef) (old between : Disk) : Type 0 where
+pub record Reads (request : FreemeRequest) (names : List (Bor Bytes)) (classes : List ClassDef) (old between : Disk) : Type 0 where
   pub files_are : map (λ n. n.now) names ≡ (job_of request).files
   pub read : AreRead (job_of request).files classes old between
   pub all : ReadsAll (job_of request).files old between
 
-pub reads_of : {names : List (Bor Bytes)} {classes items : List ClassDef} {old between : Disk} (request : Request) → names ≡ request.files.items → classes ≡ items
+pub reads_of : {names : List (Bor Bytes)} {classes items : List ClassDef} {old between : Disk} (request : FreemeRequest) → names ≡ request.files.items → classes ≡ items
     → ReadsAll (map (λ n. n.now) names) old between → AreRead (map (λ n. n.now) names) items old between → Reads request names classes old between
 reads_of {names} {classes} {items} {old} {between} request same lent all read =
     let files : map (λ n. n.now) names ≡ (job_of request).files = ap (map (λ n. n.now)) same in
@@ -252,8 +252,8 @@ reads_of {names} {classes} {items} {old} {between} request same lent all read =
     let R : List Bytes → Type 0 = λ fs. ReadsAll fs old between in
     record { files_are = files; read = subst P files (subst Q (sym lent) read); all = subst R files all }
 
-module _ {request : Request} {names : List (Bor Bytes)} {classes : List ClassDef} {old between : Disk} (reads : Reads request names classes old between) where
-  pub spelled : AllByRecursion IsSpelled classes
+module _ {request : FreemeRequest} {names : List (Bor Bytes)} {classes : List ClassDef} {old between : Disk} (reads : Reads request names classes old between) where
+  pub spelled : AllByRecursion ClassIsSpelled classes
   spelled = are_spelled old.contents (job_of request).files classes reads.read.taken.taken
 
   pub named : AllByRecursion HasName classes
@@ -304,7 +304,7 @@ module _ {request : Request} {names : List (Bor Bytes)} {classes : List ClassDef
       typed = checked.typed;
     }
 
-    made_spelled : AllByRecursion IsSpelled made.classes.items
+    made_spelled : AllByRecursion ClassIsSpelled made.classes.items
     made_spelled =
         are_spelled_so made.classes.items
         (written_spelled classes (main_name (job_of request)) made judged (short_classes old.contents (job_of request).files classes reads.read.taken.taken) rewritten)
@@ -327,8 +327,8 @@ module _ {request : Request} {names : List (Bor Bytes)} {classes : List ClassDef
 
     -- and by slices of both
     module _ {written : List ClassDef} (lent : written ≡ made.classes.items) where
-      pub lent_spelled : AllByRecursion IsSpelled written
-      lent_spelled = subst (AllByRecursion IsSpelled) (sym lent) made_spelled
+      pub lent_spelled : AllByRecursion ClassIsSpelled written
+      lent_spelled = subst (AllByRecursion ClassIsSpelled) (sym lent) made_spelled
 
       pub lent_named : AllByRecursion HasName written
       lent_named = have_names written lent_spelled

@@ -10,8 +10,8 @@ use Rattle.clap.specs.declared.parser.matches.ArgMatches.{ArgMatches}
 use Rattle.fm_request.specs.Values.{command_with}
 use Rattle.fm_request.proofs.CommandLemmas.{faults_by, is_fault, matched_by}
 use Rattle.fm_request.proofs.MatchLemmas.{same_value}
-use Rattle.freeme.specs.Request.{AskNothing, Asks, HasNoValues, HasValuesOf, Job, faults_in, freeme_command, freeme_rules, job_of, matched_in}
-use Rattle.freeme.specs.declared.request.Request.{Request}
+use Rattle.freeme.specs.FreemeRequest.{AskNothing, Asks, HasNoValues, HasValuesOf, FreemeJob, faults_in, freeme_command, freeme_rules, job_of, matched_in}
+use Rattle.freeme.specs.declared.freeme_request.FreemeRequest.{FreemeRequest}
 
 -- the command by its arguments
 pub is_command : (app : App) → app ≡ command_with (codes "freeme") freeme_rules → app ≡ freeme_command
@@ -38,7 +38,7 @@ unfolding faults_in
 faults_are app words result = faults_by freeme_command app words result is_free_command
 
 -- what the matches hold is what the words ask for
-pub asked_by : (words : List (List ℕ)) (asked : Option Request) → faults_in words ≡ [] →
+pub asked_by : (words : List (List ℕ)) (asked : Option FreemeRequest) → faults_in words ≡ [] →
     MatchOption asked (HasNoValues (matched_in words)) (λ r. HasValuesOf (matched_in words) (job_of r)) → MatchOption asked (AskNothing words) (λ r. Asks words (job_of r))
 asked_by words None faultless h = λ job asks. h job asks.values
 asked_by words (Some r) faultless h = record { faultless = faultless; values = h }
@@ -47,13 +47,13 @@ asked_by words (Some r) faultless h = record { faultless = faultless; values = h
 pub faulty : (words : List (List ℕ)) (kind : ErrorKind) → ¬ (kind ≡ OutOfMemory) → (kind ≡ OutOfMemory) ⊎ IsAmong kind (faults_in words) → AskNothing words
 faulty words kind known fails = λ job asks. is_fault (faults_in words) kind known fails asks.faultless
 
-same_job : (a b : Job) → a.folder ≡ b.folder → a.main ≡ b.main → a.files ≡ b.files → a ≡ b
+same_job : (a b : FreemeJob) → a.folder ≡ b.folder → a.main ≡ b.main → a.files ≡ b.files → a ≡ b
 same_job a b folder main files =
     ap (λ f. record a { folder = f }) folder ∙ (ap (λ m. record a { folder = b.folder; main = m }) main
     ∙ ap (λ l. record b { files = l }) files)
 
 -- words ask for one job at most, and for a file at least
-pub asks_one : (words : List (List ℕ)) (a b : Job) → Asks words a → Asks words b → a ≡ b
+pub asks_one : (words : List (List ℕ)) (a b : FreemeJob) → Asks words a → Asks words b → a ≡ b
 asks_one words a b p q =
     let found = matched_in words in
     same_job a b
@@ -61,5 +61,5 @@ asks_one words a b p q =
     (same_value (first_of (codes "main") found) a.main b.main p.values.main q.values.main)
     (same_value (all_of (codes "file") found) a.files b.files p.values.files q.values.files)
 
-pub asks_some_file : (words : List (List ℕ)) (job : Job) → Asks words job → 0 < length job.files
+pub asks_some_file : (words : List (List ℕ)) (job : FreemeJob) → Asks words job → 0 < length job.files
 asks_some_file words job asks = asks.values.some_file

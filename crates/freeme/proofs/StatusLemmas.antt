@@ -4,11 +4,11 @@ use Rattle.fm_files.specs.Files.{Bytes, Disk}
 use Rattle.fm_files.specs.Sink.{Output}
 use Rattle.fm_tool.specs.Line.{Tells}
 use Rattle.fm_tool.proofs.LineLemmas.{told_among}
-use Rattle.fm_tool.specs.declared.refusal.Refusal.TheVariants as refusal
+use Rattle.fm_tool.specs.declared.command_refusal.CommandRefusal.TheVariants as refusal
 use Rattle.fm_tool.specs.declared.status.TheConstants.{DONE, WORDS, READ, MALFORMED, VERSION, LIMIT, UNSUPPORTED, LINK, CHECK, WRITE, OUT_OF_MEMORY}
 use Rattle.fm_rewrite.specs.declared.error.RewriteFail.TheVariants as fail
 use Rattle.freeme.specs.Causes.{IsStatus}
-use Rattle.freeme.specs.Request.{Job}
+use Rattle.freeme.specs.FreemeRequest.{FreemeJob}
 use Rattle.freeme.specs.TopCall.{ComesOf, ComesTo, Outcome, outcome_line, outcome_status}
 use Rattle.freeme.specs.declared.refusal.FreeRefusal.TheVariants as free_refusal
 use Rattle.freeme.specs.declared.status.TheConstants.{CALLS_FREE, POOL_FULL, METHOD_TOO_LONG}
@@ -16,7 +16,7 @@ use Rattle.fm_given.specs.declared.class_refusal.ClassRefusal.TheVariants as ref
 use Rattle.fm_given.specs.declared.refusal.JobRefusal.TheVariants as job_refusal
 
 -- the status of a job that comes out so is one of these
-job_status : (job : Job) (old new : Disk) (o : Outcome) → ComesTo job old new o → IsStatus (outcome_status o)
+job_status : (job : FreemeJob) (old new : Disk) (o : Outcome) → ComesTo job old new o → IsStatus (outcome_status o)
 job_status job old new (Ok lines) comes = (0, omega arith, refl)
 job_status job old new (Err (free_refusal.Job (job_refusal.Shared refusal.Words))) comes = (1, omega arith, refl)
 job_status job old new (Err (free_refusal.Job (job_refusal.Shared (refusal.Read file)))) comes = (2, omega arith, refl)

@@ -10,7 +10,7 @@ use Rattle.fm_analysis.specs.Analysed.{AreAnalysable, IsAccepted}
 use Rattle.fm_base.proofs.ListFacts.{AllByRecursion-weaker}
 use Rattle.fm_base.proofs.OptionFacts.{Some-from_some_and}
 use Rattle.fm_code.specs.AccessFlags.{is_interface}
-use Rattle.fm_code.specs.ConstantPool.{class_name_at, entry_at, method_at}
+use Rattle.fm_code.specs.ConstantPool.{class_name_at, entry_at, method_ref_at}
 use Rattle.fm_code.specs.FreeEntries.{free_method, sought_free, with_free}
 use Rattle.fm_code.specs.Members.{code_of, MethodIsValid}
 use Rattle.fm_code.specs.Profile.{NameIsSupported, Profile}
@@ -114,7 +114,7 @@ low_stack facts x held = by (nat_lt MAX_HOLDING_STACK_WORDS x.code.max_stack) re
 -- the index of FreeMe.free is one of the pool
 free_within : (c : ClassDef) → free_index c < length (with_free c.pool.entries)
 free_within c = by (cases_lt (free_index c) (length (with_free c.pool.entries))) where
-  named : method_at (with_free c.pool.entries) (free_index c) ≡ Some free_method
+  named : method_ref_at (with_free c.pool.entries) (free_index c) ≡ Some free_method
   named = free_named c.pool.entries (with_free c.pool.entries) (sought_free c.pool.entries).missing (free_index c) refl refl
 
   by : (free_index c < length (with_free c.pool.entries)) ⊎ (length (with_free c.pool.entries) ≤ free_index c) → free_index c < length (with_free c.pool.entries)

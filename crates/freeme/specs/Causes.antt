@@ -3,8 +3,8 @@ use Rattle.std.specs.Prelude.{◌≡◌, ℕ, ◌<◌, ◌⊎◌, List, [], ◌�
 use Rattle.fm_files.specs.Files.{Bytes, Disk}
 use Rattle.fm_files.specs.Sink.{Output, FailsPut, with_piece}
 use Rattle.fm_code.specs.declared.class_file.ClassDef.{ClassDef}
-use Rattle.fm_tool.specs.Outside.{HasNoFault}
-use Rattle.fm_tool.specs.Refusal.{words_line, read_line, memory_line}
+use Rattle.fm_tool.specs.Outside.{HasNoFileFault}
+use Rattle.fm_tool.specs.CommandRefusal.{words_line, read_line, memory_line}
 use Rattle.fm_tool.specs.Status.{ComesExactly}
 use Rattle.fm_tool.specs.declared.status.TheConstants.{DONE, WORDS, READ, MALFORMED, VERSION, LIMIT, UNSUPPORTED, LINK, CHECK, WRITE, OUT_OF_MEMORY}
 use Rattle.fm_conn.specs.Facts.{AreFacts, Facts}
@@ -19,7 +19,7 @@ use Rattle.fm_given.specs.ClassRefusal.{class_refusal_line, class_refusal_status
 use Rattle.fm_given.specs.LinkRefusal.{link_line}
 use Rattle.fm_given.specs.Refusal.{check_line, many_line, long_line, write_line}
 use Rattle.freeme.specs.Refusal.{rewrite_line, rewrite_status}
-use Rattle.freeme.specs.Request.{Job, Asks, AskNothing, given_of, main_name}
+use Rattle.freeme.specs.FreemeRequest.{FreemeJob, Asks, AskNothing, given_of, main_name}
 use Rattle.freeme.specs.TopCall.{StaysWithin, IsDone, IsUnwritten, IsBroken, IsNotFreed, Outcome, ComesOf, outcome_line}
 use Rattle.freeme.specs.declared.status.TheConstants.{CALLS_FREE, POOL_FULL, METHOD_TOO_LONG}
 use Rattle.fm_given.specs.Causes.{FailsARead, FailsAWrite, HasTooMany, IsMissing, IsKnownLong, IsKnownRefused, IsKnownUnlinked, IsKnownUntyped}
@@ -32,8 +32,8 @@ IsStatus result =
     Contains (DONE ∷ WORDS ∷ READ ∷ MALFORMED ∷ VERSION ∷ LIMIT ∷ UNSUPPORTED ∷ LINK ∷ CHECK ∷ CALLS_FREE ∷ POOL_FULL ∷ METHOD_TOO_LONG ∷ WRITE ∷ OUT_OF_MEMORY ∷ []) result
 
 -- the words ask for a job such as this
-abbrev pub AskFor : List Bytes → (Job → Type 0) → Type 0
-AskFor words P = (job : Job) × (Asks words job × P job)
+abbrev pub AskFor : List Bytes → (FreemeJob → Type 0) → Type 0
+AskFor words P = (job : FreemeJob) × (Asks words job × P job)
 
 -- the words ask for a job with class files and a main class such as these
 abbrev pub AskForGiven : List Bytes → (Given → Type 0) → Type 0
@@ -55,7 +55,7 @@ IsForWords words old new before after result = ComesExactly WORDS (WRITE ∷ OUT
 
 -- the read of a file of the job failed, those before it are taken, nothing else failed, no contents changed, and the sink got one line
 pub record SaysRead (words : List Bytes) (old new : Disk) (before after : Output) : Type 0 where
-  pub job : Job
+  pub job : FreemeJob
   pub asked : Asks words job
   pub file : Bytes
   pub unread : IsUnread job.files file old new
@@ -71,7 +71,7 @@ IsForRead words old new before after result =
 -- a file of the job is refused by its bytes with this status, where contents are known, those before it are taken, nothing failed, no contents
 -- changed, and the sink got one line
 pub record SaysRefused (status : ℕ) (words : List Bytes) (old new : Disk) (before after : Output) : Type 0 where
-  pub job : Job
+  pub job : FreemeJob
   pub asked : Asks words job
   pub file : Bytes
   pub refusal : ClassRefusal
@@ -88,7 +88,7 @@ IsForBytes status words old new before after result =
 
 -- there are too many files, the files are as they were, and the sink got one line
 pub record SaysMany (words : List Bytes) (old new : Disk) (before after : Output) : Type 0 where
-  pub job : Job
+  pub job : FreemeJob
   pub asked : Asks words job
   pub many : AreMany job.files (length job.files) old new
   pub line : after ≡ with_piece (many_line (length job.files)) before
@@ -97,7 +97,7 @@ pub record SaysMany (words : List Bytes) (old new : Disk) (before after : Output
 -- read to show it; those before it are taken, nothing failed, no contents changed, and the sink got
 -- one line
 pub record SaysLong (words : List Bytes) (old new : Disk) (before after : Output) : Type 0 where
-  pub job : Job
+  pub job : FreemeJob
   pub asked : Asks words job
   pub file : Bytes
   pub long : IsLong job.files file old new
@@ -119,7 +119,7 @@ pub record IsForLimit (words : List Bytes) (old new : Disk) (before after : Outp
 
 -- all files of the job are taken, their classes make no program, nothing failed, no contents changed, and the sink got one line, of the first cause
 pub record SaysLink (words : List Bytes) (old new : Disk) (before after : Output) : Type 0 where
-  pub job : Job
+  pub job : FreemeJob
   pub asked : Asks words job
   pub cause : Refusal
   pub unlinked : IsNotLinked (given_of job) (Some cause) old new
@@ -135,7 +135,7 @@ IsForLink words old new before after result =
 -- all files of the job are taken, their classes make a program, a method of it isn't typed, nothing failed, no contents changed, and the sink got one
 -- line, of the first such method
 pub record SaysCheck (words : List Bytes) (old new : Disk) (before after : Output) : Type 0 where
-  pub job : Job
+  pub job : FreemeJob
   pub asked : Asks words job
   pub name : Bytes
   pub untyped : IsNotTyped (given_of job) name old new
@@ -152,7 +152,7 @@ IsForCheck words old new before after result =
 -- cause of this status not to rewrite it, of which the line names the first one, nothing failed, no
 -- contents changed, and the sink got that line
 pub record SaysNotFreed (status : ℕ) (words : List Bytes) (old new : Disk) (before after : Output) : Type 0 where
-  pub job : Job
+  pub job : FreemeJob
   pub asked : Asks words job
   pub cause : RewriteFail
   pub status_is : rewrite_status cause ≡ status
@@ -175,7 +175,7 @@ BecomesAs status classes main None =
 
 -- contents are known, all files of the job are taken, their classes make a program, its methods are
 -- typed, and this is its status
-pub record IsKnownAs (status : ℕ) (old : Disk) (job : Job) : Type 0 where
+pub record IsKnownAs (status : ℕ) (old : Disk) (job : FreemeJob) : Type 0 where
   pub known : IsSome old.contents
   pub classes : List ClassDef
   pub checked : AreChecked (given_of job) old.contents classes
@@ -191,7 +191,7 @@ IsForRewrite status words old new before after result =
 -- all files of the job are taken, their classes make a program, its methods are typed, its classes are written with what frees their dead objects, nothing
 -- failed, every other name is as before, and the sink got the lines of the classes as one piece
 pub record SaysDone (words : List Bytes) (old new : Disk) (before after : Output) : Type 0 where
-  pub job : Job
+  pub job : FreemeJob
   pub asked : Asks words job
   pub lines : List ℕ
   pub done : IsDone job lines old new
@@ -206,7 +206,7 @@ IsForDone words old new before after result =
 
 -- the first classes of the job are written and the write of the next one failed, and nothing else, and the sink got one line
 pub record SaysUnwritten (words : List Bytes) (old new : Disk) (before after : Output) : Type 0 where
-  pub job : Job
+  pub job : FreemeJob
   pub asked : Asks words job
   pub name : Bytes
   pub unwritten : IsUnwritten job name old new
@@ -250,7 +250,7 @@ IsForMemory words old new before after result = result ≡ OUT_OF_MEMORY → Say
 -- at a status that isn't for a fault or for memory, no count of faults rose in this call
 abbrev pub IsFaultless : Disk → Disk → Output → Output → ℕ → Type 0
 IsFaultless old new before after result =
-    Contains (DONE ∷ WORDS ∷ MALFORMED ∷ VERSION ∷ LIMIT ∷ UNSUPPORTED ∷ LINK ∷ CHECK ∷ CALLS_FREE ∷ POOL_FULL ∷ METHOD_TOO_LONG ∷ []) result → HasNoFault old new × (after.faults ≡ before.faults)
+    Contains (DONE ∷ WORDS ∷ MALFORMED ∷ VERSION ∷ LIMIT ∷ UNSUPPORTED ∷ LINK ∷ CHECK ∷ CALLS_FREE ∷ POOL_FULL ∷ METHOD_TOO_LONG ∷ []) result → HasNoFileFault old new × (after.faults ≡ before.faults)
 
 -- a refusal before the first write leaves all contents as they were
 abbrev pub KeepsContents : Disk → Disk → ℕ → Type 0
@@ -260,5 +260,5 @@ KeepsContents old new result =
 -- a job reads only its files and changes no name but those of class files in its folder, and words
 -- that ask for nothing leave the files as they were
 pub record ChangesOnly (words : List Bytes) (old new : Disk) : Type 0 where
-  pub asked : (job : Job) → Asks words job → StaysWithin job old new
+  pub asked : (job : FreemeJob) → Asks words job → StaysWithin job old new
   pub unasked : AskNothing words → new ≡ old

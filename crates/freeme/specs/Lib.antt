@@ -1,5 +1,5 @@
 pub mod inner
-pub mod Request
+pub mod FreemeRequest
 pub mod Refusal
 pub mod Writing
 pub mod TopCall

@@ -5,7 +5,7 @@ use Rattle.fm_given.specs.Refusal.{refusal_line as job_line, refusal_status as j
 use Rattle.fm_rewrite.specs.declared.error.RewriteFail.{RewriteFail}
 use Rattle.fm_rewrite.specs.declared.error.RewriteFail.TheVariants as fail
 use Rattle.fm_tool.specs.Printed.{printed}
-use Rattle.fm_tool.specs.Refusal.{memory_line}
+use Rattle.fm_tool.specs.CommandRefusal.{memory_line}
 use Rattle.fm_tool.specs.declared.status.TheConstants.{OUT_OF_MEMORY}
 use Rattle.freeme.specs.declared.refusal.FreeRefusal.{FreeRefusal}
 use Rattle.freeme.specs.declared.refusal.FreeRefusal.TheVariants as free_refusal

@@ -15,17 +15,17 @@ use Rattle.fm_rewrite.specs.declared.error.RewriteFail.{RewriteFail}
 use Rattle.fm_rewrite.specs.declared.error.RewriteFail.TheVariants as fail
 use Rattle.fm_rewrite.specs.declared.rewriting.Rewritten.{Rewritten}
 use Rattle.fm_tool.specs.Line.{Tells}
-use Rattle.fm_tool.specs.declared.refusal.Refusal.TheVariants as refusal
+use Rattle.fm_tool.specs.declared.command_refusal.CommandRefusal.TheVariants as refusal
 use Rattle.fm_tool.specs.declared.status.TheConstants.{DONE}
 use Rattle.fm_untyped.specs.Untyped.{AreTyped}
 use Rattle.fm_world.specs.Causes.{declared_name, method_text}
 use Rattle.fm_world.specs.Linking.{refusals}
 use Rattle.fm_world.specs.Programs.{class_info, Outline, program_of}
 use Rattle.fm_given.specs.Given.{given_program, IsUntouched, AreMany, IsUnread, IsLong, IsRefusedFile, IsNotLinked, IsNotTyped, AreChecked}
-use Rattle.fm_given.specs.Taking.{IsSpelled}
+use Rattle.fm_given.specs.Taking.{ClassIsSpelled}
 use Rattle.fm_given.specs.Changes.{RisesOnlyAt, ChangesOnlyAt, ReadsOnly}
 use Rattle.freeme.specs.Refusal.{refusal_line, refusal_status}
-use Rattle.freeme.specs.Request.{Job, Asks, AskNothing, given_of, main_name}
+use Rattle.freeme.specs.FreemeRequest.{FreemeJob, Asks, AskNothing, given_of, main_name}
 use Rattle.freeme.specs.Writing.{IsClassFileIn, written_name, class_lines, AllWritten, SomeWritten, FailsToWrite}
 use Rattle.freeme.specs.declared.refusal.FreeRefusal.{FreeRefusal}
 use Rattle.freeme.specs.declared.refusal.FreeRefusal.TheVariants as free_refusal
@@ -34,7 +34,7 @@ use Rattle.fm_given.specs.declared.refusal.JobRefusal.TheVariants as job_refusal
 -- ---- what a job does whatever its outcome
 
 -- a job reads only its files, and changes no name but those of class files in its folder
-pub record StaysWithin (job : Job) (old new : Disk) : Type 0 where
+pub record StaysWithin (job : FreemeJob) (old new : Disk) : Type 0 where
   pub reads : ReadsOnly (Contains job.files) old new
   pub writes : RisesOnlyAt (IsClassFileIn job.folder) old.write_faults new.write_faults
   pub contents : ChangesOnlyAt (IsClassFileIn job.folder) old.contents new.contents
@@ -52,11 +52,11 @@ pub record AreTakenAgain (given : List ClassDef) (main : List ℕ) (made : Rewri
 -- with a holder for each held site that is freed at all places of its class, with the counts of
 -- each; no pool of them is full, and no method too long. The bytes of each class spell it, it is of
 -- the profile, and all of them are taken again.
-pub record AreFreed (job : Job) (contents : Contents) (made : Rewritten) : Type 0 where
+pub record AreFreed (job : FreemeJob) (contents : Contents) (made : Rewritten) : Type 0 where
   pub classes : List ClassDef
   pub checked : AreChecked (given_of job) contents classes
   pub rewritten : AreRewritten classes (main_name job) made
-  pub spelled : AllByRecursion IsSpelled made.classes.items
+  pub spelled : AllByRecursion ClassIsSpelled made.classes.items
   pub profile : AllByRecursion Profile made.classes.items
   pub again : AreTakenAgain classes (main_name job) made rewritten
 
@@ -73,7 +73,7 @@ AreStill folder (file ∷ files) (c ∷ classes) (count ∷ counts) old new =
 AreStill folder files classes counts old new = ⊥
 
 -- they are written, and these are their lines
-pub record IsDone (job : Job) (lines : List ℕ) (old new : Disk) : Type 0 where
+pub record IsDone (job : FreemeJob) (lines : List ℕ) (old new : Disk) : Type 0 where
   pub made : Rewritten
   pub freed : AreFreed job old.contents made
   pub written : AllWritten job.folder made.classes.items old new
@@ -81,13 +81,13 @@ pub record IsDone (job : Job) (lines : List ℕ) (old new : Disk) : Type 0 where
   pub lines_are : lines ≡ class_lines made.classes.items made.counts.items
 
 -- the write of one of them, to this name, failed
-pub record IsUnwritten (job : Job) (name : Bytes) (old new : Disk) : Type 0 where
+pub record IsUnwritten (job : FreemeJob) (name : Bytes) (old new : Disk) : Type 0 where
   pub made : Rewritten
   pub freed : AreFreed job old.contents made
   pub fails : FailsToWrite job.folder made.classes.items name old new
 
 -- some of them are written
-pub record IsBroken (job : Job) (old new : Disk) : Type 0 where
+pub record IsBroken (job : FreemeJob) (old new : Disk) : Type 0 where
   pub made : Rewritten
   pub freed : AreFreed job old.contents made
   pub written : SomeWritten job.folder made.classes.items old new
@@ -106,7 +106,7 @@ IsFirstCause classes main cause = ComesOfRewriting classes main (Err cause)
 
 -- its class files make a program of typed methods, and this is the first cause for which it isn't rewritten: a method calls FreeMe, or else the pool of a
 -- class with a held site is full, or else a method is too long
-pub record IsNotFreed (job : Job) (cause : RewriteFail) (name : Bytes) (old new : Disk) : Type 0 where
+pub record IsNotFreed (job : FreemeJob) (cause : RewriteFail) (name : Bytes) (old new : Disk) : Type 0 where
   pub classes : List ClassDef
   pub checked : AreChecked (given_of job) old.contents classes
   pub refused : IsFirstCause classes (main_name job) cause
@@ -118,7 +118,7 @@ abbrev pub Outcome : Type 0
 Outcome = Result (String Global) FreeRefusal
 
 -- what a job that comes out so does to the files
-abbrev pub ComesTo : Job → Disk → Disk → Outcome → Type 0
+abbrev pub ComesTo : FreemeJob → Disk → Disk → Outcome → Type 0
 ComesTo job old new (Ok lines) = IsDone job (string_bytes lines) old new
 ComesTo job old new (Err (free_refusal.Rewrite cause name)) = IsNotFreed job cause name old new
 ComesTo job old new (Err (free_refusal.Job (job_refusal.Write name))) = IsUnwritten job (string_bytes name) old new
@@ -136,7 +136,7 @@ ComesTo job old new (Err (free_refusal.Job (job_refusal.TooManyArguments count))
 
 -- the words ask for a job, which comes out so
 pub record ComesOfJob (words : List Bytes) (old new : Disk) (outcome : Outcome) : Type 0 where
-  pub job : Job
+  pub job : FreemeJob
   pub asked : Asks words job
   pub within : StaysWithin job old new
   pub comes : ComesTo job old new outcome

@@ -7,7 +7,7 @@ use Rattle.fm_code.specs.ClassBytes.{class_bytes}
 use Rattle.fm_code.specs.ConstantPool.{class_name_at}
 use Rattle.fm_code.specs.declared.class_file.ClassDef.{ClassDef}
 use Rattle.fm_rewrite.specs.declared.counts.Count.{Count}
-use Rattle.fm_tool.specs.Outside.{HasNoFault, HasWriteFault}
+use Rattle.fm_tool.specs.Outside.{HasNoFileFault, HasWriteFault}
 use Rattle.fm_tool.specs.Printed.{printed}
 use Rattle.fm_given.specs.Changes.{ChangesOnlyAt}
 
@@ -59,13 +59,13 @@ pub record AreWritten (folder : Bytes) (written begun : List ClassDef) (old new 
 -- all classes are written, and nothing failed
 pub record AllWritten (folder : Bytes) (classes : List ClassDef) (old new : Disk) : Type 0 where
   pub written : AreWritten folder classes classes old.contents new.contents
-  pub faultless : HasNoFault old new
+  pub faultless : HasNoFileFault old new
 
 -- the first of them are written, and nothing failed
 pub record SomeWritten (folder : Bytes) (classes : List ClassDef) (old new : Disk) : Type 0 where
   pub count : ℕ
   pub written : AreWritten folder (take count classes) (take count classes) old.contents new.contents
-  pub faultless : HasNoFault old new
+  pub faultless : HasNoFileFault old new
 
 -- the first of them are written, and the write of the next one failed, and nothing else
 pub record FailsToWrite (folder : Bytes) (classes : List ClassDef) (name : Bytes) (old new : Disk) : Type 0 where

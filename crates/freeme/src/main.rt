@@ -9,7 +9,7 @@
 
 mod freeing;
 mod refusal;
-mod request;
+mod freeme_request;
 mod status;
 #[cfg(test)]
 mod tests;

@@ -2,7 +2,7 @@
 
 ghost use Rattle.std.specs.Prelude.{◌≡◌, IfOk, string_bytes};
 ghost use Rattle.fm_given.specs.declared.refusal.JobRefusal.TheVariants as job_refusal;
-ghost use Rattle.fm_tool.specs.declared.refusal.Refusal.TheVariants as refusal;
+ghost use Rattle.fm_tool.specs.declared.command_refusal.CommandRefusal.TheVariants as refusal;
 ghost use Rattle.freeme.specs.Refusal.{refusal_line, refusal_status, rewrite_line, rewrite_status};
 ghost use Rattle.freeme.specs.declared.refusal.FreeRefusal.TheVariants as free_refusal;
 
@@ -10,7 +10,7 @@ use crate::status;
 use fm_base::{Name, NoMemory};
 use fm_given::JobRefusal;
 use fm_rewrite::RewriteFail;
-use fm_tool::{Refusal, printed, status as shared_status};
+use fm_tool::{CommandRefusal, printed, status as shared_status};
 use std::alloc::{AllocError, AllocFailed, Global};
 
 /// Why a job isn't done.
@@ -61,7 +61,7 @@ fn rewrite_line(alloc: Global, fail: RewriteFail, name: &Name) -> Result<String,
         RewriteFail::MethodTooLong(_, bytes) => {
             Ok(format!(in alloc; "refused: long {name} {bytes}\n")?)
         }
-        RewriteFail::NoMemory => Refusal::OutOfMemory.line(alloc),
+        RewriteFail::NoMemory => CommandRefusal::OutOfMemory.line(alloc),
     }
 }
 
@@ -89,7 +89,7 @@ impl From<NoMemory> for FreeRefusal<'_> {
     ghost from_gives = { λ _ e. e ≡ free_refusal.Job (job_refusal.Shared refusal.OutOfMemory) };
 
     fn from(_error: NoMemory) -> Self {
-        FreeRefusal::Job(JobRefusal::Shared(Refusal::OutOfMemory))
+        FreeRefusal::Job(JobRefusal::Shared(CommandRefusal::OutOfMemory))
     }
 }
 
@@ -97,7 +97,7 @@ impl From<AllocError> for FreeRefusal<'_> {
     ghost from_gives = { λ _ e. e ≡ free_refusal.Job (job_refusal.Shared refusal.OutOfMemory) };
 
     fn from(_error: AllocError) -> Self {
-        FreeRefusal::Job(JobRefusal::Shared(Refusal::OutOfMemory))
+        FreeRefusal::Job(JobRefusal::Shared(CommandRefusal::OutOfMemory))
     }
 }
 
@@ -105,6 +105,6 @@ impl<T: Drop> From<AllocFailed<T>> for FreeRefusal<'_> {
     ghost from_gives = { λ _ e. e ≡ free_refusal.Job (job_refusal.Shared refusal.OutOfMemory) };
 
     fn from(_error: AllocFailed<T>) -> Self {
-        FreeRefusal::Job(JobRefusal::Shared(Refusal::OutOfMemory))
+        FreeRefusal::Job(JobRefusal::Shared(CommandRefusal::OutOfMemory))
     }
 }

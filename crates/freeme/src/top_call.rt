@@ -4,13 +4,13 @@ ghost use Rattle.fm_tool.specs.Line.{Tells};
 ghost use Rattle.fm_tool.specs.Words.{texts};
 ghost use Rattle.fm_tool.specs.declared.status.TheConstants.{MALFORMED, UNSUPPORTED, VERSION};
 ghost use Rattle.freeme.specs.Causes.{ChangesOnly, IsFaultless, IsForBytes, IsForCheck, IsForDone, IsForLimit, IsForLink, IsForMemory, IsForRead, IsForRewrite, IsForWords, IsForWrite, IsStatus, KeepsContents};
-ghost use Rattle.freeme.specs.Request.{job_of};
+ghost use Rattle.freeme.specs.FreemeRequest.{job_of};
 ghost use Rattle.freeme.specs.TopCall.{ComesOf, ComesTo, IsTopCall, StaysWithin, outcome_line, outcome_status};
 ghost use Rattle.freeme.specs.declared.status.TheConstants.{CALLS_FREE, METHOD_TOO_LONG, POOL_FULL};
 
 use crate::freeing::{class_lines, freed_classes};
 use crate::refusal::FreeRefusal;
-use crate::request::{Request, request_of};
+use crate::freeme_request::{FreemeRequest, request_of};
 use crate::writing::write_classes;
 use fm_again::law_links;
 use fm_base::NoMemory;
@@ -20,7 +20,7 @@ use fm_files::{Files, Sink};
 use fm_given::{JobRefusal, judge_program, read_classes};
 use fm_retyped::law_typed;
 use fm_rewrite::Count;
-use fm_tool::{Refusal, put_line, status};
+use fm_tool::{CommandRefusal, put_line, status};
 use std::alloc::Global;
 
 /// Does what the words of the command line ask for, puts the lines that report it, and returns the
@@ -86,7 +86,7 @@ fn do_words<'a, F: Files>(
 {
     match request_of(alloc, words)? {
         Some(request) => do_job(alloc, request, files),
-        None => Err(FreeRefusal::Job(JobRefusal::Shared(Refusal::Words))),
+        None => Err(FreeRefusal::Job(JobRefusal::Shared(CommandRefusal::Words))),
     }
 }
 
@@ -94,7 +94,7 @@ fn do_words<'a, F: Files>(
 // a program of typed methods that may be rewritten.
 fn do_job<'a, F: Files>(
     alloc: Global,
-    request: Request<'a>,
+    request: FreemeRequest<'a>,
     files: &mut F,
 ) -> Result<String, FreeRefusal<'a>>
     ensures within { StaysWithin (job_of request.entry) (F.disk files.old) (F.disk files.new) }

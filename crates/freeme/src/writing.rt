@@ -4,7 +4,7 @@ ghost use Rattle.std.specs.Prelude.{◌≡◌, IfOk, string_bytes};
 ghost use Rattle.std.specs.List.{AllByRecursion};
 ghost use Rattle.freeme.specs.Writing.{HasName, class_text, written_name};
 ghost use Rattle.freeme.specs.inner.Writing.{AreApart, ComesOfClass, ComesOfClasses, KeepsReads};
-ghost use Rattle.fm_given.specs.Taking.{IsSpelled};
+ghost use Rattle.fm_given.specs.Taking.{ClassIsSpelled};
 
 use fm_base::NoMemory;
 use fm_code::ClassDef;
@@ -39,7 +39,7 @@ pub fn write_classes<'a, F: Files>(
     classes: &[ClassDef],
     files: &mut F,
 ) -> Result<(), JobRefusal<'a>>
-    requires spelled { AllByRecursion IsSpelled classes.now }
+    requires spelled { AllByRecursion ClassIsSpelled classes.now }
     requires apart { AreApart classes.now }
     ensures keeps { KeepsReads (F.disk files.old) (F.disk files.new) }
     ensures comes { ComesOfClasses folder.now classes.now
@@ -58,7 +58,7 @@ fn write_one<'a, F: Files>(
     class: &ClassDef,
     files: &mut F,
 ) -> Result<(), JobRefusal<'a>>
-    requires { IsSpelled class.now }
+    requires { ClassIsSpelled class.now }
     ensures keeps { KeepsReads (F.disk files.old) (F.disk files.new) }
     ensures comes { ComesOfClass folder.now class.now (F.disk files.old) (F.disk files.new) result }
 {

@@ -2,8 +2,8 @@
 use Rattle.std.specs.Prelude.{◌≡◌, ℕ, zero, suc, ◌+◌, ◌-◌, ◌/◌, ◌%◌, ◌<◌, ◌≤◌, ◌⊎◌, ◌||◌, not, Bool, true, false, List, [], length, map, Option, Some, None, All, Contains, if◌then◌else◌}
 use Rattle.std.specs.List.{slice_index_or, AllByRecursion}
 use Rattle.fm_base.specs.declared.kinds.TypeRef.{TypeRef}
-use Rattle.fm_known.specs.declared.known.Known.{Known}
-use Rattle.fm_known.specs.declared.known.Place.{Place}
+use Rattle.fm_known.specs.declared.known_state.KnownState.{KnownState}
+use Rattle.fm_known.specs.declared.known_state.SlotPlace.{SlotPlace}
 use Rattle.fm_known.specs.declared.risen.Rise.{Rise}
 use Rattle.fm_catch.specs.declared.catching.Giving.{Giving}
 use Rattle.fm_catch.specs.declared.catching.Giving.TheVariants as giving
@@ -140,7 +140,7 @@ pub record IsLaidSoFar (handlers : List Handler) (spans : List Span) (levels : L
 
 -- a state was given to the handlers of a run's entries, but for the words of its stack
 pub record Keeps (s : TypeState) (run given : Run) : Type 0 where
-  pub known : Known
+  pub known : KnownState
   pub is : given.given ≡ Some known
   pub bare : known_state known ≡ without_words s
   pub same : given.entries.items ≡ run.entries.items
@@ -154,7 +154,7 @@ pub record IsHeld (t : Task) (states : List (Option TypeState)) (s : TypeState) 
 
 -- the same of the handlers of all entries of a run, and what was given to them
 abbrev pub IsGiven : Task → List (Option TypeState) → Run → Type 0
-IsGiven t states run = (given : Known) → run.given ≡ Some given → (h : Handler) → Contains run.entries.items h → IsHeld t states (known_state given) h
+IsGiven t states run = (given : KnownState) → run.given ≡ Some given → (h : Handler) → Contains run.entries.items h → IsHeld t states (known_state given) h
 
 -- the same of all runs
 abbrev pub AreGiven : Task → List (Option TypeState) → List Run → Type 0
@@ -241,7 +241,7 @@ pub record GivesAll (W : Wanted) (t : Task) (item : ℕ) (given : List Level) (o
   pub done : (h : Handler) → Holds t.code.handlers item h → W new.states h
 
 -- what was given has room for a state that is built or isn't
-abbrev pub is_open_to : Bool → Option Known → Bool
+abbrev pub is_open_to : Bool → Option KnownState → Bool
 is_open_to built None = false
 is_open_to built (Some given) = built || not given.built
 
@@ -256,20 +256,20 @@ pub record IsAsked (t : Task) (item : ℕ) (rises : List Rise) : Type 0 where
   pub slots : (rise : Rise) → Contains rises rise → slot_at brought rise.place ≡ rise.slot
 
 -- a state rose to where it has room for a slot, at its place if at all
-pub record RaisesOne (t : Task) (rise : Rise) (a b : TypeState) (old new : List Place) : Type 0 where
-  pub still : (p : Place) → Contains old p → Contains new p
-  pub only : (p : Place) → Contains new p → Contains old p ⊎ (rise.place ≡ p)
+pub record RaisesOne (t : Task) (rise : Rise) (a b : TypeState) (old new : List SlotPlace) : Type 0 where
+  pub still : (p : SlotPlace) → Contains old p → Contains new p
+  pub only : (p : SlotPlace) → Contains new p → Contains old p ⊎ (rise.place ≡ p)
   pub alike : IsAlikeBut new b a
-  pub above : (p : Place) → fits t.program.outline (slot_at a p) (slot_at b p) ≡ true
+  pub above : (p : SlotPlace) → fits t.program.outline (slot_at a p) (slot_at b p) ≡ true
   pub room : fits t.program.outline rise.slot (slot_at b rise.place) ≡ true
   pub forced :
       (item : ℕ) (caught : TypeRef) (brought : TypeState) → IsForced t item (handler_state caught a) → IsForced t item brought
       → slot_at brought rise.place ≡ rise.slot → IsForced t item (handler_state caught b)
 
 -- a state rose to where it has room for these slots, at these places
-pub record IsRaised (t : Task) (rises : List Rise) (old new : TypeState) (places : List Place) : Type 0 where
+pub record IsRaised (t : Task) (rises : List Rise) (old new : TypeState) (places : List SlotPlace) : Type 0 where
   pub alike : IsAlikeBut places new old
-  pub local : (p : Place) → Contains places p → is_local p ≡ true
+  pub local : (p : SlotPlace) → Contains places p → is_local p ≡ true
   pub room : (rise : Rise) → Contains rises rise → fits t.program.outline rise.slot (slot_at new rise.place) ≡ true
   pub forced :
       (item : ℕ) (caught : TypeRef) → IsForced t item (handler_state caught old) → IsAsked t item rises
@@ -283,9 +283,9 @@ pub record LeavesAll (rises : List Rise) (run given : Run) (left : List Rise) : 
 
 -- what was given to it rose, and what is where it did is left
 pub record RaisesRun (t : Task) (rises : List Rise) (run given : Run) (left : List Rise) : Type 0 where
-  pub before : Known
-  pub after : Known
-  pub places : List Place
+  pub before : KnownState
+  pub after : KnownState
+  pub places : List SlotPlace
   pub was : run.given ≡ Some before
   pub is : given.given ≡ Some after
   pub same : given.entries.items ≡ run.entries.items

@@ -9,7 +9,7 @@ use Rattle.fm_code.specs.declared.code_array.Handler.{Handler}
 use Rattle.fm_code.specs.declared.instructions.Insn.{Insn}
 use Rattle.fm_known.specs.inner.Tasks.{Task}
 use Rattle.fm_known.specs.inner.Risen.{IsAlikeBut, locals_of}
-use Rattle.fm_known.specs.declared.known.Place.{Place}
+use Rattle.fm_known.specs.declared.known_state.SlotPlace.{SlotPlace}
 use Rattle.fm_known.specs.declared.risen.Rise.{Rise}
 use Rattle.fm_types.specs.Fits.{fits}
 use Rattle.fm_types.specs.States.{state_fits, TypeState}
@@ -63,16 +63,16 @@ pub record GoesOver (t : Task) (item : ℕ) (old new : Walked) : Type 0 where
   pub met : (s : TypeState) → state_at old.states item ≡ Some s → IsMet t new.states item s
 
 -- a state below this one, and the same but for these places, met all that is asked of the item
-pub record IsNearlyMet (t : Task) (states : List (Option TypeState)) (places : List Place) (j : ℕ) (s : TypeState) : Type 0 where
+pub record IsNearlyMet (t : Task) (states : List (Option TypeState)) (places : List SlotPlace) (j : ℕ) (s : TypeState) : Type 0 where
   pub before : TypeState
   pub met : IsMet t states j before
   pub alike : IsAlikeBut places s before
   pub below : state_fits t.program.outline before s ≡ true
 
 -- what is known of an item's state where this rose since the item was gone over
-abbrev pub IsMetBut : Task → List (Option TypeState) → Option (List Place) → ℕ → Type 0
+abbrev pub IsMetBut : Task → List (Option TypeState) → Option (List SlotPlace) → ℕ → Type 0
 IsMetBut t states rose j =
-    (s : TypeState) (places : List Place) → state_at states j ≡ Some s → rose ≡ Some places → IsNearlyMet t states places j s
+    (s : TypeState) (places : List SlotPlace) → state_at states j ≡ Some s → rose ≡ Some places → IsNearlyMet t states places j s
 
 -- each item with a state is met but for what rose there, and waits where something did
 pub record Walking (t : Task) (w : Walked) : Type 0 where

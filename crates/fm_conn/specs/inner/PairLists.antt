@@ -19,31 +19,31 @@ use Rattle.fm_world.specs.declared.calls.Call.{Call}
 use Rattle.fm_world.specs.declared.uses.Use.{Use}
 use Rattle.fm_conn.specs.Nodes.{TypedMethod}
 use Rattle.fm_conn.specs.Pairs.{call_of, use_at}
-use Rattle.fm_conn.specs.Rows.{is_reference_kind, joined_by, Place, Taken, Given, InLocal, AsResult, Outside, words_taken}
+use Rattle.fm_conn.specs.Rows.{is_reference_kind, joined_by, RowPlace, Taken, Given, InLocal, AsResult, Outside, words_taken}
 use Rattle.fm_conn.specs.Shapes.{HasUsesIn}
 use Rattle.fm_conn.specs.Summaries.{ends_at}
 use Rattle.fm_conn.specs.declared.ends.End2.{End2}
 use Rattle.fm_conn.specs.declared.ends.End2.TheVariants as end
 use Rattle.fm_conn.specs.declared.item_nodes.ItemNodes.{ItemNodes}
-use Rattle.fm_conn.specs.declared.method.Method.{Method}
+use Rattle.fm_conn.specs.declared.analysed_method.AnalysedMethod.{AnalysedMethod}
 use Rattle.fm_conn.specs.declared.shapes.CallShape.{CallShape}
 use Rattle.fm_conn.specs.declared.summaries.Summaries.{Summaries}
 use Rattle.fm_conn.specs.inner.ListedEnds.{first_with, numbered}
 use Rattle.fm_conn.specs.inner.NodeTables.{class_at, global_number, local_number, NodeTable, return_number, slot_number, table_of}
 
 -- the method that is asked, as definitions see it
-abbrev pub method_in : Method → TypedMethod
+abbrev pub method_in : AnalysedMethod → TypedMethod
 method_in m = record { program = m.program.now; number = m.number.0; code = m.code.now; states = states_of m.typing.now }
 
 -- the method is there, and has few items, each with a state or none; what its uses name is there
-pub record IsAsked (m : Method) : Type 0 where
+pub record IsAsked (m : AnalysedMethod) : Type 0 where
   pub number : m.number.0 < length (methods_of m.program.now.outline.classes)
   pub uses : HasUsesIn m.program.now
   pub few : length m.code.now.items < 65536
   pub one_each : length m.typing.now.states ≡ length m.code.now.items
 
 -- the states are a typing of it
-abbrev pub IsTypedAs : Method → Type 0
+abbrev pub IsTypedAs : AnalysedMethod → Type 0
 IsTypedAs m = IsTypingOf m.program.now m.number.0 m.code.now (states_of m.typing.now)
 
 -- a pair, where both are nodes
@@ -91,7 +91,7 @@ at_place (Some place) list = list place
 -- ---- what an item pairs, but for calls
 
 -- the number of the node at a place of a row
-abbrev pub place_number : NodeTable → ItemPlace → Place → Option ℕ
+abbrev pub place_number : NodeTable → ItemPlace → RowPlace → Option ℕ
 place_number t x (Taken n) = slot_number t x.item (x.depth - 1 - n)
 place_number t x (Given n) = slot_number t (x.item + 1) (x.below + n)
 place_number t x (InLocal k) = local_number t k
@@ -99,11 +99,11 @@ place_number t x AsResult = Some (return_number t)
 place_number t x Outside = Some (global_number t)
 
 -- a pair of a row, by numbers
-abbrev pub place_pair : NodeTable → ItemPlace → Place × Place → List (ℕ × ℕ)
+abbrev pub place_pair : NodeTable → ItemPlace → RowPlace × RowPlace → List (ℕ × ℕ)
 place_pair t x places = number_pair (place_number t x places.0) (place_number t x places.1)
 
 -- the pairs of a row, by numbers
-abbrev pub joined_pairs : NodeTable → ItemPlace → List (Place × Place) → List (ℕ × ℕ)
+abbrev pub joined_pairs : NodeTable → ItemPlace → List (RowPlace × RowPlace) → List (ℕ × ℕ)
 joined_pairs t x places = flat_map (place_pair t x) places
 
 -- the words that stay, at an item that follows

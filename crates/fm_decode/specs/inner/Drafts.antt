@@ -6,13 +6,13 @@ use Rattle.fm_code.specs.InstructionTable.{insn_at}
 use Rattle.fm_code.specs.SpellsCode.{AreOffsets}
 use Rattle.fm_code.specs.declared.instructions.Insn.{Insn}
 use Rattle.fm_code.specs.declared.code_array.Item.{Item}
-use Rattle.fm_decode.specs.declared.shapes.Shape.{Shape}
-use Rattle.fm_decode.specs.declared.shapes.Shape.TheVariants as shape
+use Rattle.fm_decode.specs.declared.shapes.InsnShape.{InsnShape}
+use Rattle.fm_decode.specs.declared.shapes.InsnShape.TheVariants as shape
 use Rattle.fm_decode.specs.inner.Operands.{Found, plain_at}
 use Rattle.fm_decode.specs.inner.Switches.{table_at, lookup_at}
 
 -- the instruction of a shape, and how many operand bytes belong to it
-abbrev pub shape_at : Shape → ℕ → List ℕ → Found
+abbrev pub shape_at : InsnShape → ℕ → List ℕ → Found
 shape_at shape.TableSwitch = table_at
 shape_at shape.LookupSwitch = lookup_at
 shape_at s = plain_at s

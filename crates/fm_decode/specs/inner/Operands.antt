@@ -7,10 +7,10 @@ use Rattle.fm_code.specs.InstructionTable.{new_array_of, offset_from, wide_local
 use Rattle.fm_code.specs.declared.opcodes.TheConstants as opcodes
 use Rattle.fm_code.specs.declared.instructions.Insn.{Insn}
 use Rattle.fm_code.specs.declared.instructions.Insn.TheVariants as insn
-use Rattle.fm_decode.specs.declared.shapes.Shape.{Shape}
-use Rattle.fm_decode.specs.declared.shapes.Shape.TheVariants as shape
+use Rattle.fm_decode.specs.declared.shapes.InsnShape.{InsnShape}
+use Rattle.fm_decode.specs.declared.shapes.InsnShape.TheVariants as shape
 use Rattle.fm_decode.specs.inner.Gives.{◌>>=◌}
-use Rattle.fm_decode.specs.inner.Shapes.{indexed_insn, branch_insn}
+use Rattle.fm_decode.specs.inner.Shapes.{indexed_insn, jump_insn}
 
 abbrev pub one_of : List ℕ → Option ℕ
 one_of [] = None
@@ -50,7 +50,7 @@ wide_at (opcode ∷ a ∷ b ∷ rest) = wide_local_at opcode (number_of_two a b)
 wide_at operands = None
 
 -- the shapes that few instructions have
-unfoldable pub long_at : Shape → ℕ → List ℕ → Found
+unfoldable pub long_at : InsnShape → ℕ → List ℕ → Found
 long_at shape.LongJump offset operands = do
   four ← four_of operands
   target ← offset_from (pos offset +ℤ signed_four_of four.0 four.1 four.2 four.3)
@@ -64,7 +64,7 @@ long_at shape.ArrayOfArrays offset operands = array_of_arrays_at operands
 long_at shape.Wide offset operands = wide_at operands
 long_at other offset operands = None
 
-unfoldable pub plain_at : Shape → ℕ → List ℕ → Found
+unfoldable pub plain_at : InsnShape → ℕ → List ℕ → Found
 plain_at (shape.Bare i) offset operands = Some (i, 0)
 plain_at (shape.LeftOut opcode count) offset operands = left_out_at opcode count operands
 plain_at (shape.Byte i) offset operands = do
@@ -85,5 +85,5 @@ plain_at shape.Increment offset operands = do
 plain_at (shape.Jump b) offset operands = do
   two ← two_of operands
   target ← offset_from (pos offset +ℤ signed_two two.0 two.1)
-  Some (branch_insn b target, 2)
+  Some (jump_insn b target, 2)
 plain_at other offset operands = long_at other offset operands

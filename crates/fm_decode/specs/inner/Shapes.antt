@@ -5,12 +5,12 @@ use Rattle.fm_code.specs.InstructionTable.{Reading, malformed, bare, byte, signe
 use Rattle.fm_code.specs.declared.opcodes.TheConstants as opcodes
 use Rattle.fm_code.specs.declared.instructions.Insn.{Insn}
 use Rattle.fm_code.specs.declared.instructions.Insn.TheVariants as insn
-use Rattle.fm_decode.specs.declared.shapes.Shape.{Shape}
-use Rattle.fm_decode.specs.declared.shapes.Shape.TheVariants as shape
+use Rattle.fm_decode.specs.declared.shapes.InsnShape.{InsnShape}
+use Rattle.fm_decode.specs.declared.shapes.InsnShape.TheVariants as shape
 use Rattle.fm_decode.specs.declared.shapes.Indexed.{Indexed}
 use Rattle.fm_decode.specs.declared.shapes.Indexed.TheVariants as indexed
-use Rattle.fm_decode.specs.declared.shapes.Branch.{Branch}
-use Rattle.fm_decode.specs.declared.shapes.Branch.TheVariants as branch
+use Rattle.fm_decode.specs.declared.shapes.JumpKind.{JumpKind}
+use Rattle.fm_decode.specs.declared.shapes.JumpKind.TheVariants as branch
 
 -- the instruction with an index
 abbrev pub indexed_insn : Indexed → ℕ → Insn
@@ -30,15 +30,15 @@ indexed_insn indexed.Cast = insn.Cast
 indexed_insn indexed.IsA = insn.IsA
 
 -- the jump to a target
-abbrev pub branch_insn : Branch → ℕ → Insn
-branch_insn (branch.IfInt test) = insn.IfInt test
-branch_insn (branch.IfPair test) = insn.IfPair test
-branch_insn (branch.IfSame same) = insn.IfSame same
-branch_insn (branch.IfNull null) = insn.IfNull null
-branch_insn branch.Goto = insn.Goto
+abbrev pub jump_insn : JumpKind → ℕ → Insn
+jump_insn (branch.IfInt test) = insn.IfInt test
+jump_insn (branch.IfPair test) = insn.IfPair test
+jump_insn (branch.IfSame same) = insn.IfSame same
+jump_insn (branch.IfNull null) = insn.IfNull null
+jump_insn branch.Goto = insn.Goto
 
 -- how the operands are read
-abbrev pub shape_reading : Shape → Reading
+abbrev pub shape_reading : InsnShape → Reading
 shape_reading shape.Unknown = malformed
 shape_reading (shape.Bare i) = bare i
 shape_reading (shape.LeftOut opcode count) = left_out opcode count
@@ -47,7 +47,7 @@ shape_reading (shape.Short i) = short (indexed_insn i)
 shape_reading shape.SignedByte = signed_byte insn.Const
 shape_reading shape.SignedShort = signed_short insn.Const
 shape_reading shape.Increment = increment
-shape_reading (shape.Jump b) = jump (branch_insn b)
+shape_reading (shape.Jump b) = jump (jump_insn b)
 shape_reading shape.LongJump = long_jump insn.Goto
 shape_reading shape.InterfaceCall = interface_call
 shape_reading shape.NewArray = new_array

@@ -4,7 +4,7 @@ use Rattle.fm_code.specs.declared.instructions.Insn.{Insn}
 use Rattle.fm_world.specs.Programs.{Program}
 use Rattle.fm_frames.specs.Acts.{same_cell}
 use Rattle.fm_frames.specs.States.{Frame, State, word_at}
-use Rattle.fm_frames.specs.Steps.{insn_at, stack_of, target_at}
+use Rattle.fm_frames.specs.Steps.{next_insn, stack_of, target_at}
 
 -- the item is this target of the instruction of the topmost frame
 abbrev pub IsTargetIn : Program → List Frame → ℕ → ℕ → Type 0
@@ -18,7 +18,7 @@ IsTarget p x target item = IsTargetIn p x.frames target item
 -- the topmost frame is at this instruction
 abbrev pub IsAtIn : Program → List Frame → Insn → Type 0
 IsAtIn p [] insn = ⊥
-IsAtIn p (f ∷ callers) insn = insn_at p f ≡ Some insn
+IsAtIn p (f ∷ callers) insn = next_insn p f ≡ Some insn
 
 -- the state's next instruction is this one
 abbrev pub IsAt : Program → State → Insn → Type 0

@@ -1,7 +1,7 @@
 -- The outcome of checking a program.
 use Rattle.std.specs.Prelude.{Result, Ok, Err}
 use Rattle.fm_untyped.specs.Untyped.{AreTyped}
-use Rattle.fm_tool.specs.declared.refusal.Refusal.TheVariants as refusal
+use Rattle.fm_tool.specs.declared.command_refusal.CommandRefusal.TheVariants as refusal
 use Rattle.fm_world.specs.Programs.{Program}
 use Rattle.fm_given.specs.Given.{IsFirstUntypedName}
 use Rattle.fm_given.specs.declared.refusal.JobRefusal.{JobRefusal}

@@ -2,7 +2,7 @@
 use Rattle.std.specs.Prelude.{ℕ, List, Result, Ok, Err, IsSomeAnd}
 use Rattle.fm_code.specs.declared.class_file.ClassDef.{ClassDef}
 use Rattle.fm_refuse.specs.Refused.{refusal_of}
-use Rattle.fm_tool.specs.declared.refusal.Refusal.TheVariants as refusal
+use Rattle.fm_tool.specs.declared.command_refusal.CommandRefusal.TheVariants as refusal
 use Rattle.fm_world.specs.Linking.{IsLinked}
 use Rattle.fm_world.specs.Programs.{Program}
 use Rattle.fm_given.specs.declared.refusal.JobRefusal.{JobRefusal}

@@ -4,8 +4,8 @@ use Rattle.fm_base.specs.declared.limits.TheConstants.{MAX_FILE_BYTES, MAX_ALL_C
 use Rattle.fm_files.specs.Files.{Bytes, Disk}
 use Rattle.fm_code.specs.ClassBytes.{class_bytes}
 use Rattle.fm_code.specs.declared.class_file.ClassDef.{ClassDef}
-use Rattle.fm_tool.specs.Outside.{HasNoFault, HasReadFault, HoldsSuch}
-use Rattle.fm_tool.specs.declared.refusal.Refusal.TheVariants as refusal
+use Rattle.fm_tool.specs.Outside.{HasNoFileFault, HasReadFault, HoldsSuch}
+use Rattle.fm_tool.specs.declared.command_refusal.CommandRefusal.TheVariants as refusal
 use Rattle.fm_given.specs.Taking.{IsTaken, IsTooLong, IsRefused}
 use Rattle.fm_given.specs.declared.class_refusal.ClassRefusal.{ClassRefusal}
 use Rattle.fm_given.specs.declared.refusal.JobRefusal.{JobRefusal}
@@ -17,18 +17,18 @@ pub record IsRead (file : Bytes) (total : ℕ) (class : ClassDef) (size : ℕ) (
   pub size_is : size ≡ length (class_bytes class)
   pub short : total + size ≤ MAX_ALL_CLASS_FILES_BYTES
   pub seen : size ≤ new.widest_read file
-  pub faultless : HasNoFault old new
+  pub faultless : HasNoFileFault old new
 
 -- it is too long, or with the others, which was seen
 pub record IsLongFile (file : Bytes) (total : ℕ) (old new : Disk) : Type 0 where
   pub long : HoldsSuch old.contents file (IsTooLong total)
   pub seen : (MAX_FILE_BYTES < new.widest_read file) ⊎ (MAX_ALL_CLASS_FILES_BYTES < total + new.widest_read file)
-  pub faultless : HasNoFault old new
+  pub faultless : HasNoFileFault old new
 
 -- it is refused by its bytes
 pub record IsBadFile (file : Bytes) (total : ℕ) (refusal : ClassRefusal) (old new : Disk) : Type 0 where
   pub refused : HoldsSuch old.contents file (IsRefused refusal total)
-  pub faultless : HasNoFault old new
+  pub faultless : HasNoFileFault old new
 
 -- one of these, or its read failed, or memory couldn't be had
 abbrev pub ComesOfFile : Bytes → ℕ → Disk → Disk → Result (ClassDef × ℕ) JobRefusal → Type 0
@@ -36,5 +36,5 @@ ComesOfFile file total old new (Ok (class, size)) = IsRead file total class size
 ComesOfFile file total old new (Err (job_refusal.TooLong name)) = (name.now ≡ file) × IsLongFile file total old new
 ComesOfFile file total old new (Err (job_refusal.Class name refusal)) = (name.now ≡ file) × IsBadFile file total refusal old new
 ComesOfFile file total old new (Err (job_refusal.Shared (refusal.Read name))) = (name.now ≡ file) × HasReadFault file old new
-ComesOfFile file total old new (Err (job_refusal.Shared refusal.OutOfMemory)) = HasNoFault old new
+ComesOfFile file total old new (Err (job_refusal.Shared refusal.OutOfMemory)) = HasNoFileFault old new
 ComesOfFile file total old new (Err r) = ⊥

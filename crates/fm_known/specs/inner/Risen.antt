@@ -1,9 +1,9 @@
 -- What rose at an item, place by place: which places the item's row leaves alone, and states that differ in such places only.
 use Rattle.std.specs.Prelude.{◌≡◌, ℕ, ◌+◌, ◌<◌, ◌++◌, ◌&&◌, ◌||◌, not, nat_le, nat_lt, Bool, true, false, List, [], length, map, reverse, Option, Some, None, Contains, slice_set, if◌then◌else◌}
 use Rattle.std.specs.List.{filter, flat_map, range_with_len}
-use Rattle.fm_known.specs.declared.known.Known.{Known}
-use Rattle.fm_known.specs.declared.known.Place.{Place}
-use Rattle.fm_known.specs.declared.known.Place.TheVariants as place
+use Rattle.fm_known.specs.declared.known_state.KnownState.{KnownState}
+use Rattle.fm_known.specs.declared.known_state.SlotPlace.{SlotPlace}
+use Rattle.fm_known.specs.declared.known_state.SlotPlace.TheVariants as place
 use Rattle.fm_known.specs.declared.risen.Rise.{Rise}
 use Rattle.fm_code.specs.StackWords as insns
 use Rattle.fm_code.specs.declared.instructions.Insn.{Insn}
@@ -19,7 +19,7 @@ use Rattle.fm_world.specs.declared.uses.Use.TheVariants as resolved
 -- ---- places of a state
 
 -- what is kept of an item, as a state: its words come with the top last
-abbrev pub known_state : Known → TypeState
+abbrev pub known_state : KnownState → TypeState
 known_state k = record { locals = k.locals.items; stack = reverse k.words.items; built = k.built }
 
 -- the state with no words on its stack
@@ -31,27 +31,27 @@ abbrev pub word_at : List Slot → ℕ → Slot
 word_at stack h = local_at (reverse stack) h
 
 -- what is at a place
-abbrev pub slot_at : TypeState → Place → Slot
+abbrev pub slot_at : TypeState → SlotPlace → Slot
 slot_at s (place.Local k) = local_at s.locals k
 slot_at s (place.Word h) = word_at s.stack h
 
 -- the state with this slot at a place
-abbrev pub with_slot : Place → Slot → TypeState → TypeState
+abbrev pub with_slot : SlotPlace → Slot → TypeState → TypeState
 with_slot (place.Local k) x s = record s { locals = slice_set s.locals k x }
 with_slot (place.Word h) x s = record s { stack = reverse (slice_set (reverse s.stack) h x) }
 
 -- the state has such a place
-abbrev pub HasPlace : TypeState → Place → Type 0
+abbrev pub HasPlace : TypeState → SlotPlace → Type 0
 HasPlace s (place.Local k) = k < length s.locals
 HasPlace s (place.Word h) = h < length s.stack
 
 -- the place is a local's
-abbrev pub is_local : Place → Bool
+abbrev pub is_local : SlotPlace → Bool
 is_local (place.Local k) = true
 is_local (place.Word h) = false
 
 -- a word of the stack that isn't known any longer: no long has it, so no typing does
-abbrev pub is_lost : Place → Slot → Bool
+abbrev pub is_lost : SlotPlace → Slot → Bool
 is_lost (place.Local k) x = false
 is_lost (place.Word h) slot.Top = true
 is_lost (place.Word h) x = false
@@ -97,12 +97,12 @@ words_taken o u (insn.Interface index) = called_words o u
 words_taken o u i = insns.words_taken 2 0 i
 
 -- the row neither looks at what is at a place nor changes it, where it takes no word below this number
-abbrev pub leaves_alone : Insn → ℕ → Place → Slot → Bool
+abbrev pub leaves_alone : Insn → ℕ → SlotPlace → Slot → Bool
 leaves_alone i below (place.Local k) s = leaves_local i k s
 leaves_alone i below (place.Word h) s = nat_lt h below && leaves_word i s
 
 -- what is at a place of the state
-abbrev pub rise_of : TypeState → Place → Rise
+abbrev pub rise_of : TypeState → SlotPlace → Rise
 rise_of s p = record { place = p; slot = slot_at s p }
 
 -- what is in each of a given number of locals
@@ -126,13 +126,13 @@ pub record AreCarried (P : ℕ → Type 0) (holds : ℕ → Slot) (slots others 
   pub apart : (k : ℕ) → (P k → ⊥) → local_at slots k ≡ local_at others k
 
 -- the same of the locals of two states, and of their words
-pub record IsCarried (P : Place → Type 0) (holds : Place → Slot) (s other : TypeState) : Type 0 where
+pub record IsCarried (P : SlotPlace → Type 0) (holds : SlotPlace → Slot) (s other : TypeState) : Type 0 where
   pub locals : AreCarried (λ k. P (place.Local k)) (λ k. holds (place.Local k)) s.locals other.locals
   pub words : AreCarried (λ h. P (place.Word h)) (λ h. holds (place.Word h)) (reverse s.stack) (reverse other.stack)
   pub built : s.built ≡ other.built
 
 -- states that are alike but for these places
-abbrev pub IsAlikeBut : List Place → TypeState → TypeState → Type 0
+abbrev pub IsAlikeBut : List SlotPlace → TypeState → TypeState → Type 0
 IsAlikeBut places s other = IsCarried (λ p. Contains places p) (slot_at s) s other
 
 -- lists differ in no other places
@@ -145,13 +145,13 @@ pub record IsPlaced (place : ℕ) (slot other : Slot) (old new : List ℕ) : Typ
   pub placed : (Contains new place → ⊥) → slot ≡ other
 
 -- where places are given, the states are alike but for these
-abbrev pub IsRisenIn : Option (List Place) → TypeState → TypeState → Type 0
-IsRisenIn rose s other = (places : List Place) → rose ≡ Some places → IsAlikeBut places s other
+abbrev pub IsRisenIn : Option (List SlotPlace) → TypeState → TypeState → Type 0
+IsRisenIn rose s other = (places : List SlotPlace) → rose ≡ Some places → IsAlikeBut places s other
 
 -- ---- what rose at an item in all
 
 -- the places at which something rose at first and then, unless more rose than these, or there are too many
-abbrev pub noted : ℕ → Option (List Place) → Option (List Place) → Option (List Place)
+abbrev pub noted : ℕ → Option (List SlotPlace) → Option (List SlotPlace) → Option (List SlotPlace)
 noted most None rose = None
 noted most (Some known) None = None
 noted most (Some known) (Some more) = if nat_le most (length known) then None else Some (known ++ more)

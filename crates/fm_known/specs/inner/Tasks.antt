@@ -2,7 +2,7 @@
 use Rattle.std.specs.Prelude.{ℕ, ◌<◌, ◌==◌, ◌&&◌, nat_le, Bool, length}
 use Rattle.fm_code.specs.Edges.{MeetsCodeRules}
 use Rattle.fm_code.specs.declared.code_array.Code.{Code}
-use Rattle.fm_known.specs.declared.method.Method.{Method}
+use Rattle.fm_known.specs.declared.checked_method.CheckedMethod.{CheckedMethod}
 use Rattle.fm_rows.specs.Members.{UsesNameMembers}
 use Rattle.fm_types.specs.Fits.{AreTree}
 use Rattle.fm_types.specs.States.{TypeState}
@@ -16,7 +16,7 @@ pub record Task : Type 0 where
   pub code : Code
 
 -- the method that the code walks over
-abbrev pub task : Method → Task
+abbrev pub task : CheckedMethod → Task
 task m = record { program = m.program.now; number = m.number.0; code = m.code.now }
 
 -- what linking and class files make sure of

@@ -339,14 +339,14 @@ fn first_other(alloc: Global) -> Result<Option<usize>, Fail> {
 }
 
 // The field, or the method, that an index of M is resolved to.
-fn field_at(program: &Program, index: u16) -> Option<FieldId> {
+fn field_of_index(program: &Program, index: u16) -> Option<FieldId> {
     match program.use_of(MAIN_CLASS, index) {
         Use::OfField(field, _) => Some(field),
         _ => None,
     }
 }
 
-fn method_at(program: &Program, index: u16) -> Option<MethodId> {
+fn method_of_index(program: &Program, index: u16) -> Option<MethodId> {
     match program.use_of(MAIN_CLASS, index) {
         Use::OfMethod(method, _) => Some(method),
         _ => None,
@@ -356,14 +356,14 @@ fn method_at(program: &Program, index: u16) -> Option<MethodId> {
 // Whether the names of M are resolved to fields and methods of the right classes.
 fn are_resolved(program: &Program) -> bool {
     // C has the field of B
-    field_at(program, 0x20) == Some(FieldId(2))
-        && field_at(program, 0x21) == Some(FieldId(3))
-        && field_at(program, 0x22) == Some(FieldId(3))
-        && method_at(program, 0x23) == Some(OF_A)
-        && method_at(program, 0x24) == Some(OF_I)
-        && method_at(program, 0x25) == Some(OF_OBJECT)
-        && method_at(program, 0x26) == Some(OF_OBJECT)
-        && method_at(program, 0x27) == Some(OF_I)
+    field_of_index(program, 0x20) == Some(FieldId(2))
+        && field_of_index(program, 0x21) == Some(FieldId(3))
+        && field_of_index(program, 0x22) == Some(FieldId(3))
+        && method_of_index(program, 0x23) == Some(OF_A)
+        && method_of_index(program, 0x24) == Some(OF_I)
+        && method_of_index(program, 0x25) == Some(OF_OBJECT)
+        && method_of_index(program, 0x26) == Some(OF_OBJECT)
+        && method_of_index(program, 0x27) == Some(OF_I)
 }
 
 // Whether the program has these numbers.

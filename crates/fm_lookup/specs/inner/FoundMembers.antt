@@ -11,7 +11,7 @@ use Rattle.fm_lookup.specs.declared.lookups.Fields.{Fields}
 use Rattle.fm_lookup.specs.declared.lookups.Methods.{Methods}
 use Rattle.fm_lookup.specs.declared.members.MemberRow.{MemberRow}
 use Rattle.fm_lookup.specs.declared.members.Nearest.{Nearest}
-use Rattle.fm_lookup.specs.declared.starts.Starts.{Starts}
+use Rattle.fm_lookup.specs.declared.search_starts.SearchStarts.{SearchStarts}
 use Rattle.fm_above.specs.inner.Hierarchy.{is_superclass_in}
 use Rattle.fm_above.specs.inner.ListTables.{list_in}
 use Rattle.fm_lookup.specs.inner.MemberRows.{section_of}
@@ -23,7 +23,7 @@ abbrev pub is_marked : List Bool → ℕ → Bool
 is_marked marks place = slice_index_or marks place false
 
 -- the first member of the signature that a class of the list declares, from the noted place on
-abbrev pub first_along : Nearest → List MemberRow → Starts → ℕ → List ℕ → ℕ → Option ℕ
+abbrev pub first_along : Nearest → List MemberRow → SearchStarts → ℕ → List ℕ → ℕ → Option ℕ
 first_along n rows s class list signature = first_found (own_in n rows signature) (drop (start_in s class signature) list)
 
 -- the field of a signature from a class on

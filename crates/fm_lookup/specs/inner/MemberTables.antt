@@ -11,12 +11,12 @@ use Rattle.fm_world.specs.declared.declarations.DeclaredClass.{DeclaredClass}
 use Rattle.fm_world.specs.inner.Layers.{value_at, HasRoom}
 use Rattle.fm_lookup.specs.declared.lookups.Fields.{Fields}
 use Rattle.fm_lookup.specs.declared.lookups.Methods.{Methods}
-use Rattle.fm_lookup.specs.declared.members.Kept.{Kept}
-use Rattle.fm_lookup.specs.declared.members.Kept.TheVariants as kept
+use Rattle.fm_lookup.specs.declared.members.MemberFilter.{MemberFilter}
+use Rattle.fm_lookup.specs.declared.members.MemberFilter.TheVariants as kept
 use Rattle.fm_lookup.specs.declared.members.MemberRow.{MemberRow}
 use Rattle.fm_lookup.specs.declared.members.Nearest.{Nearest}
 use Rattle.fm_lookup.specs.declared.members.Signatures.{Signatures}
-use Rattle.fm_lookup.specs.declared.starts.Starts.{Starts}
+use Rattle.fm_lookup.specs.declared.search_starts.SearchStarts.{SearchStarts}
 use Rattle.fm_above.specs.inner.Hierarchy.{distinct_path}
 use Rattle.fm_lookup.specs.inner.MemberRows.{no_row, AreFieldRows, AreMethodRows}
 
@@ -63,7 +63,7 @@ abbrev pub flags_of : List MemberRow → ℕ → ℕ
 flags_of rows member = (slice_index_or rows member no_row).flags
 
 -- which flags a table keeps
-abbrev pub passes_of : Kept → ℕ → Bool
+abbrev pub passes_of : MemberFilter → ℕ → Bool
 passes_of kept.All = any_flags
 passes_of kept.OfObjects = is_instance
 passes_of kept.Selectable = is_selectable
@@ -103,15 +103,15 @@ IsStart list rows signatures signature start =
     → (slice_index_or rows k no_row).class ≡ slice_index list i → ⊥
 
 -- the place that is noted for a class and a signature; 0 where none is
-abbrev pub start_in : Starts → ℕ → ℕ → ℕ
+abbrev pub start_in : SearchStarts → ℕ → ℕ → ℕ
 start_in s class signature = unwrap_or (number_of_key s.places class signature) 0
 
 -- each place is so in the list of its class
-abbrev pub AreStarts : (ℕ → List ℕ) → List MemberRow → List ℕ → Starts → Type 0
+abbrev pub AreStarts : (ℕ → List ℕ) → List MemberRow → List ℕ → SearchStarts → Type 0
 AreStarts list_of rows signatures s = (class signature : ℕ) → IsStart (list_of class) rows signatures signature (start_in s class signature)
 
 -- each place of the program's classes is so
-abbrev pub AreStartsOf : List DeclaredClass → (ℕ → List ℕ) → List MemberRow → List ℕ → Starts → Type 0
+abbrev pub AreStartsOf : List DeclaredClass → (ℕ → List ℕ) → List MemberRow → List ℕ → SearchStarts → Type 0
 AreStartsOf classes list_of rows signatures s =
     (class signature : ℕ) → class < length classes → IsStart (list_of class) rows signatures signature (start_in s class signature)
 

@@ -15,38 +15,38 @@ use Rattle.fm_frames.specs.Steps.{stack_of}
 use Rattle.fm_frames.specs.declared.values.Value.TheVariants as value
 use Rattle.fm_frames.specs.inner.Doings.{before}
 use Rattle.fm_native.specs.declared.asked.Held.{Held}
-use Rattle.fm_native.specs.declared.asked.Refusal.{Refusal}
-use Rattle.fm_native.specs.declared.asked.Refusal.TheVariants as refusal
+use Rattle.fm_native.specs.declared.asked.OperandRefusal.{OperandRefusal}
+use Rattle.fm_native.specs.declared.asked.OperandRefusal.TheVariants as refusal
 use Rattle.fm_native.specs.declared.asked.Text.{Text}
 use Rattle.fm_world.specs.Programs.{Outline}
 
 -- ---- refusals
 
 -- the effect of an operand that isn't what is asked for; at null what follows of it
-abbrev pub refused_by : Effect → Outline → ℕ → Refusal → Effect
+abbrev pub refused_by : Effect → Outline → ℕ → OperandRefusal → Effect
 refused_by of_null o operand refusal.Other = stuck
 refused_by of_null o operand refusal.Null = of_null
 refused_by of_null o operand (refusal.Unfit cell) = faulty operand
 refused_by of_null o operand (refusal.Lost cell) = going 0 (Faults (OfPlace operand 0 (text_kind o)))
 
 -- the same where null throws
-abbrev pub refused : Outline → ℕ → Refusal → Effect
+abbrev pub refused : Outline → ℕ → OperandRefusal → Effect
 refused o operand r = refused_by (thrown_null o) o operand r
 
 -- the cell of a refusal is the one to which the operand leads
-abbrev pub IsAt : Outline → State → ℕ → Refusal → Type 0
+abbrev pub IsAt : Outline → State → ℕ → OperandRefusal → Type 0
 IsAt o x operand refusal.Other = Unit {0}
 IsAt o x operand refusal.Null = Unit {0}
 IsAt o x operand (refusal.Unfit cell) = cell_of (word_at (stack_of x) operand) ≡ cell.0
 IsAt o x operand (refusal.Lost cell) = cell_of (value_of (before x) (OfPlace operand 0 (text_kind o))) ≡ cell.0
 
 -- what follows of what was found, or of a refusal
-abbrev pub asked_by : {A : Type 0} → Effect → Outline → ℕ → Result A Refusal → (A → Effect) → Effect
+abbrev pub asked_by : {A : Type 0} → Effect → Outline → ℕ → Result A OperandRefusal → (A → Effect) → Effect
 asked_by of_null o operand (Ok found) follows = follows found
 asked_by of_null o operand (Err r) follows = refused_by of_null o operand r
 
 -- the same where null throws
-abbrev pub asked : {A : Type 0} → Outline → ℕ → Result A Refusal → (A → Effect) → Effect
+abbrev pub asked : {A : Type 0} → Outline → ℕ → Result A OperandRefusal → (A → Effect) → Effect
 asked o operand found follows = asked_by (thrown_null o) o operand found follows
 
 -- ---- objects
@@ -68,19 +68,19 @@ abbrev pub on_cell : Outline → Store → (Looks → Effect) → Held → Effec
 on_cell o store follows held = on_found o store follows (object_at store held.cell.0)
 
 -- an object was asked for at an operand, and this is what was found
-abbrev pub AsksHeld : Outline → Store → List Sight → ℕ → Result Held Refusal → Type 0
+abbrev pub AsksHeld : Outline → Store → List Sight → ℕ → Result Held OperandRefusal → Type 0
 AsksHeld o store s operand found =
     (of_null : Effect) (follows : Looks → Effect)
     → on_held of_null s operand follows ≡ asked_by of_null o operand found (on_cell o store follows)
 
 -- the same where null is passed over: what follows of null, of an object, or of a refusal
-abbrev pub passed_by : {A : Type 0} → Effect → Outline → ℕ → Result (Option A) Refusal → (A → Effect) → Effect
+abbrev pub passed_by : {A : Type 0} → Effect → Outline → ℕ → Result (Option A) OperandRefusal → (A → Effect) → Effect
 passed_by of_null o operand (Ok None) follows = of_null
 passed_by of_null o operand (Ok (Some found)) follows = follows found
 passed_by of_null o operand (Err r) follows = refused o operand r
 
 -- an object or null was asked for at an operand, and this is what was found
-abbrev pub AsksHeldOrNull : Outline → Store → List Sight → ℕ → Result (Option Held) Refusal → Type 0
+abbrev pub AsksHeldOrNull : Outline → Store → List Sight → ℕ → Result (Option Held) OperandRefusal → Type 0
 AsksHeldOrNull o store s operand found =
     (of_null : Effect) (follows : Looks → Effect)
     → on_held of_null s operand follows ≡ passed_by of_null o operand found (on_cell o store follows)
@@ -96,12 +96,12 @@ abbrev pub text_of : (is_text : Bool) → Held → Text
 text_of is_text held = record { cell = held.cell; len = (if is_text then held.head.len else 0) }
 
 -- a text was asked for at an operand, and this is what was found
-abbrev pub AsksText : Outline → Store → List Sight → ℕ → Result Text Refusal → Type 0
+abbrev pub AsksText : Outline → Store → List Sight → ℕ → Result Text OperandRefusal → Type 0
 AsksText o store s operand found =
     (follows : List ℕ → Effect) → on_text o s operand follows ≡ asked o operand found (λ text. follows (units_in store text))
 
 -- the same where null is read as the word null
-abbrev pub AsksTextOrNull : Outline → Store → List Sight → ℕ → Result (Option Text) Refusal → Type 0
+abbrev pub AsksTextOrNull : Outline → Store → List Sight → ℕ → Result (Option Text) OperandRefusal → Type 0
 AsksTextOrNull o store s operand found =
     (follows : List ℕ → Effect)
     → on_text_or_null o s operand follows ≡ passed_by (follows (codes "null")) o operand found (λ text. follows (units_in store text))
@@ -112,7 +112,7 @@ equals_other store text None = false
 equals_other store text (Some other) = bytes_eq (units_in store other) (units_in store text)
 
 -- a text that may be equal to another one was asked for, and this is what was found
-abbrev pub AsksOther : Outline → Store → List Sight → Result (Option Text) Refusal → Type 0
+abbrev pub AsksOther : Outline → Store → List Sight → Result (Option Text) OperandRefusal → Type 0
 AsksOther o store s found =
     (text : Text)
     → equal_to o (units_in store text) s ≡ asked o 0 found (λ other. words 2 (int_word (if equals_other store text other then pos 1 else pos 0)))
@@ -130,9 +130,9 @@ abbrev pub part_up_to : Outline → List Sight → List ℕ → ℤ → Effect
 part_up_to o s units begin = on_int s 0 (λ end. part_of o units begin end)
 
 -- an int was asked for at an operand, and this is what was found
-abbrev pub AsksInt : Outline → List Sight → ℕ → Result ℤ Refusal → Type 0
+abbrev pub AsksInt : Outline → List Sight → ℕ → Result ℤ OperandRefusal → Type 0
 AsksInt o s operand found = (follows : ℤ → Effect) → on_int s operand follows ≡ asked o operand found follows
 
 -- the same of a long
-abbrev pub AsksLong : Outline → List Sight → ℕ → Result ℤ Refusal → Type 0
+abbrev pub AsksLong : Outline → List Sight → ℕ → Result ℤ OperandRefusal → Type 0
 AsksLong o s operand found = (follows : ℤ → Effect) → on_long s operand follows ≡ asked o operand found follows

@@ -11,7 +11,7 @@ use Rattle.fm_frames.specs.Operands.{on_inner, on_passing}
 use Rattle.fm_frames.specs.Sights.{has_hidden_field, Looks, Sight, type_numbered}
 use Rattle.fm_frames.specs.States.{State}
 use Rattle.fm_native.specs.declared.asked.Held.{Held}
-use Rattle.fm_native.specs.declared.asked.Refusal.{Refusal}
+use Rattle.fm_native.specs.declared.asked.OperandRefusal.{OperandRefusal}
 use Rattle.fm_native.specs.declared.asked.Text.{Text}
 use Rattle.fm_native.specs.declared.hidden.Built.{Built}
 use Rattle.fm_native.specs.inner.Asked.{asked, IsHeldAt, IsTextAt, on_cell, units_in}
@@ -20,7 +20,7 @@ use Rattle.fm_types.specs.Named.{built_in_type, throwable_type}
 use Rattle.fm_world.specs.Programs.{Outline}
 
 -- an object that passes a test was asked for at an operand, and this is what was found
-abbrev pub AsksFitting : (Looks → Bool) → Outline → Store → List Sight → ℕ → Result Held Refusal → Type 0
+abbrev pub AsksFitting : (Looks → Bool) → Outline → Store → List Sight → ℕ → Result Held OperandRefusal → Type 0
 AsksFitting test o store s operand found =
     (follows : Looks → Effect) → on_passing o test s operand follows ≡ asked o operand found (on_cell o store follows)
 
@@ -44,7 +44,7 @@ pub record HidesText (o : Outline) (store : Store) (held : Held) : Type 0 where
   pub cell : slice_index_or object.elements 0 0 < 2 ^ 32
 
 -- it was asked what the hidden field of an object leads to, and this is what was found
-abbrev pub AsksInner : Outline → Store → Held → Result (Option Text) Refusal → Type 0
+abbrev pub AsksInner : Outline → Store → Held → Result (Option Text) OperandRefusal → Type 0
 AsksInner o store held found =
     (operand : ℕ) (follows : Option (List ℕ) → Effect)
     → on_cell o store (λ it. on_inner o operand it follows) held ≡ asked o operand found (λ text. follows (option_map (units_in store) text))
@@ -55,7 +55,7 @@ units_so_far store None = []
 units_so_far store (Some text) = units_in store text
 
 -- a text that is built was asked for at an operand, and this is what was found
-abbrev pub AsksBuilt : Outline → Store → List Sight → ℕ → Result Built Refusal → Type 0
+abbrev pub AsksBuilt : Outline → Store → List Sight → ℕ → Result Built OperandRefusal → Type 0
 AsksBuilt o store s operand found =
     (follows : List ℕ → Effect) → on_built o s operand follows ≡ asked o operand found (λ built. follows (units_so_far store built.text))
 

@@ -7,7 +7,7 @@ use Rattle.fm_frames.specs.NativeRows.{on_shown, printed_units}
 use Rattle.fm_frames.specs.Sights.{Sight}
 use Rattle.fm_frames.specs.Natives as table
 use Rattle.fm_native.specs.Showing.{shown_of, shown_units}
-use Rattle.fm_native.specs.declared.asked.Refusal.{Refusal}
+use Rattle.fm_native.specs.declared.asked.OperandRefusal.{OperandRefusal}
 use Rattle.fm_native.specs.declared.shown.Primitive.{Primitive}
 use Rattle.fm_native.specs.declared.shown.Primitive.TheVariants as primitive
 use Rattle.fm_native.specs.declared.shown.Showing.{Showing}
@@ -24,7 +24,7 @@ operand_of primitive.Char = 0
 operand_of primitive.Boolean = 0
 
 -- a value to be shown was asked for, and this is what was found
-abbrev pub AsksShown : Outline → List Sight → Primitive → Result Showing Refusal → Type 0
+abbrev pub AsksShown : Outline → List Sight → Primitive → Result Showing OperandRefusal → Type 0
 AsksShown o s shown found =
     (follows : List ℕ → Effect) → on_shown o (shown_of shown) s follows ≡ asked o (operand_of shown) found (λ showing. follows (shown_units showing))
 
@@ -34,7 +34,7 @@ operand_as (appended.Primitive primitive) = operand_of primitive
 operand_as appended.Text = 0
 
 -- the units of what is shown were asked for, and this is what was found
-abbrev pub AsksUnits : Outline → List Sight → table.Shown → ℕ → Result (Vec ℕ) Refusal → Type 0
+abbrev pub AsksUnits : Outline → List Sight → table.Shown → ℕ → Result (Vec ℕ) OperandRefusal → Type 0
 AsksUnits o s shown operand found =
     (follows : List ℕ → Effect) → on_shown o shown s follows ≡ asked o operand found (λ units. follows units.items)
 

@@ -2,18 +2,18 @@
 use Rattle.std.specs.Prelude.{◌≡◌, ℕ, ◌^◌, ◌<◌, List, length, map, None}
 use Rattle.fm_code.specs.declared.class_file.ClassDef.{ClassDef}
 use Rattle.fm_records.specs.inner.Classes.{bare_outline}
-use Rattle.fm_parts.specs.declared.tables.Tables.{Tables}
+use Rattle.fm_parts.specs.declared.program_tables.ProgramTables.{ProgramTables}
 use Rattle.fm_tables.specs.inner.Named.{outline_named, IsNamed}
 use Rattle.fm_tables.specs.declared.named.Named.{Named}
-use Rattle.fm_tables.specs.declared.told.Told.{Told}
-use Rattle.fm_tables.specs.inner.Told.{IsTold}
+use Rattle.fm_tables.specs.declared.member_infos.MemberInfos.{MemberInfos}
+use Rattle.fm_tables.specs.inner.MemberInfos.{AreMemberInfos}
 use Rattle.fm_world.specs.Programs.{class_info, classes_of}
 use Rattle.fm_world.specs.declared.declarations.DeclaredClass.{DeclaredClass}
 use Rattle.fm_world.specs.declared.parts.Parts.{Parts}
 use Rattle.fm_world.specs.inner.Tables.{numbers_below, AnswerForCalls, AnswerForClasses, AreFew}
 
 -- the parts with nothing known yet of which classes are made
-abbrev pub parts_from : List DeclaredClass → Tables → Parts
+abbrev pub parts_from : List DeclaredClass → ProgramTables → Parts
 parts_from declared t = record {
   declared = declared;
   classes = t.classes.items;
@@ -37,7 +37,7 @@ parts_from declared t = record {
 }
 
 -- numbers of 32 bits number all classes, types, texts, methods and fields
-pub record AreCounted (classes : List DeclaredClass) (n : Named) (t : Told) : Type 0 where
+pub record AreCounted (classes : List DeclaredClass) (n : Named) (t : MemberInfos) : Type 0 where
   pub declared : length classes < 2 ^ 32
   pub methods : length t.methods.items < 2 ^ 32
   pub fields : length t.fields.infos.items < 2 ^ 32
@@ -45,11 +45,11 @@ pub record AreCounted (classes : List DeclaredClass) (n : Named) (t : Told) : Ty
   pub texts : length n.literals.units.items < 2 ^ 32
 
 -- the tables are those of the files' classes, with this main class and this main method
-pub record IsTables (given : List ClassDef) (main : ℕ × ℕ) (t : Tables) : Type 0 where
+pub record IsTables (given : List ClassDef) (main : ℕ × ℕ) (t : ProgramTables) : Type 0 where
   pub few : AreFew (parts_from (classes_of given) t)
   pub classes : t.classes.items ≡ map (class_info (bare_outline (classes_of given))) (numbers_below (length (classes_of given)))
   pub named : IsNamed given t.named
-  pub told : IsTold (outline_named given t.named) given t.told
+  pub told : AreMemberInfos (outline_named given t.named) given t.told
   pub answers : AnswerForClasses (parts_from (classes_of given) t)
   pub calls : AnswerForCalls (parts_from (classes_of given) t)
   pub main_is : t.main ≡ main

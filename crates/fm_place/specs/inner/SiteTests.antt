@@ -16,20 +16,20 @@ use Rattle.fm_types.specs.declared.slots.Slot.TheVariants as slot
 use Rattle.fm_world.specs.Members.{methods_of}
 use Rattle.fm_place.specs.FactsBy.{facts_by}
 use Rattle.fm_place.specs.Sites.{new_item}
-use Rattle.fm_place.specs.declared.found_sites.Known.{Known}
+use Rattle.fm_place.specs.declared.found_sites.JoinedMethod.{JoinedMethod}
 
 -- ---- what is known
 
 -- the method, as definitions see it
-abbrev pub typed_in : Known → TypedMethod
+abbrev pub typed_in : JoinedMethod → TypedMethod
 typed_in k = method_in k.method
 
 -- the facts of the method
-abbrev pub facts_in : Known → Facts
+abbrev pub facts_in : JoinedMethod → Facts
 facts_in k = facts_by k.classes.now k.summaries.now
 
 -- the states, the classes and the summaries are those of the method
-pub record IsKnown (k : Known) : Type 0 where
+pub record IsKnown (k : JoinedMethod) : Type 0 where
   pub number : k.method.number.0 < length (methods_of k.method.program.now.outline.classes)
   pub uses : HasUsesIn k.method.program.now
   pub typed : IsTypedAs k.method

@@ -7,7 +7,7 @@ use Rattle.fm_code.specs.declared.instructions.Insn.TheVariants as insn
 use Rattle.fm_world.specs.Programs.{code_at, Program}
 use Rattle.fm_frames.specs.Acts.{Choose}
 use Rattle.fm_frames.specs.States.{Frame, State}
-use Rattle.fm_frames.specs.Steps.{cost, insn_at, next_effect}
+use Rattle.fm_frames.specs.Steps.{cost, next_insn, next_effect}
 use Rattle.fm_frames.specs.inner.Doings.{DoesIn}
 use Rattle.fm_sound.specs.HeldCells.{HoldsCells}
 use Rattle.fm_sound.specs.Sound.{IsSound}
@@ -19,7 +19,7 @@ pub record StandsAt (p : Program) (x : State) (i : Insn) : Type 0 where
   pub frame : Frame
   pub callers : List Frame
   pub frames_is : x.frames ≡ frame ∷ callers
-  pub insn_is : insn_at p frame ≡ Some i
+  pub insn_is : next_insn p frame ≡ Some i
 
 -- it is there in this method
 pub record StandsIn (p : Program) (x : State) (method : ℕ) (i : Insn) : Type 0 where

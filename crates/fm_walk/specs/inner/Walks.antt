@@ -7,8 +7,8 @@ use Rattle.fm_code.specs.Edges.{IsReachable}
 use Rattle.fm_known.specs.inner.Tasks.{is_within, Task}
 use Rattle.fm_known.specs.inner.Ranks.{rank_at}
 use Rattle.fm_known.specs.inner.Risen.{IsAlikeBut, known_state, slot_at}
-use Rattle.fm_known.specs.declared.known.Known.{Known}
-use Rattle.fm_known.specs.declared.known.Place.{Place}
+use Rattle.fm_known.specs.declared.known_state.KnownState.{KnownState}
+use Rattle.fm_known.specs.declared.known_state.SlotPlace.{SlotPlace}
 use Rattle.fm_known.specs.declared.risen.Rise.{Rise}
 use Rattle.fm_types.specs.Fits.{fits}
 use Rattle.fm_types.specs.States.{is_whole, state_fits, TypeState}
@@ -42,10 +42,10 @@ pub record Walked : Type 0 where
   pub states : List (Option TypeState)
   pub waiting : List ℕ
   pub marks : List Bool
-  pub risen : List (Option (List Place))
+  pub risen : List (Option (List SlotPlace))
 
 -- the states that are kept
-abbrev pub states_seen : List (Option Known) → List (Option TypeState)
+abbrev pub states_seen : List (Option KnownState) → List (Option TypeState)
 states_seen states = map (option_map known_state) states
 
 -- the walk as definitions speak of it
@@ -66,15 +66,15 @@ with_waiting item w =
     if is_marked w item then w else record w { waiting = w.waiting ++ item ∷ []; marks = slice_set w.marks item true }
 
 -- what rose at an item
-abbrev pub risen_at : Walked → ℕ → Option (List Place)
+abbrev pub risen_at : Walked → ℕ → Option (List SlotPlace)
 risen_at w item = slice_index_or w.risen item None
 
 -- this is what rose there
-abbrev pub with_risen : ℕ → Option (List Place) → Walked → Walked
+abbrev pub with_risen : ℕ → Option (List SlotPlace) → Walked → Walked
 with_risen item rose w = record w { risen = slice_set w.risen item rose }
 
 -- the item has this state, and waits, since this rose
-abbrev pub with_state : ℕ → Option (List Place) → TypeState → Walked → Walked
+abbrev pub with_state : ℕ → Option (List SlotPlace) → TypeState → Walked → Walked
 with_state item rose s w =
     with_waiting item (record w { states = slice_set w.states item (Some s); risen = slice_set w.risen item rose })
 
@@ -100,12 +100,12 @@ pub record Stands (t : Task) (w : Walked) : Type 0 where
   pub waiting : (j : ℕ) → Contains w.waiting j → j < length t.code.items
 
 -- Where something rose at places of an item, it did at fewer before, and its state was the same but for these.
-pub record IsTracked (old : Walked) (j : ℕ) (places : List Place) (s : TypeState) : Type 0 where
-  pub known : List Place
+pub record IsTracked (old : Walked) (j : ℕ) (places : List SlotPlace) (s : TypeState) : Type 0 where
+  pub known : List SlotPlace
   pub before : TypeState
   pub is_known : risen_at old j ≡ Some known
   pub was : state_at old.states j ≡ Some before
-  pub among : (p : Place) → Contains known p → Contains places p
+  pub among : (p : SlotPlace) → Contains known p → Contains places p
   pub alike : IsAlikeBut places s before
 
 -- states only rise, items whose states do wait, and what rose there is noted
@@ -114,7 +114,7 @@ pub record Rises (o : Outline) (old new : Walked) : Type 0 where
   pub changed : (j : ℕ) → ((state_at new.states j ≡ state_at old.states j) × (risen_at new j ≡ risen_at old j)) ⊎ Contains new.waiting j
   pub still : (j : ℕ) → Contains old.waiting j → Contains new.waiting j
   pub tracks :
-      (j : ℕ) (places : List Place) (s : TypeState) → risen_at new j ≡ Some places → state_at new.states j ≡ Some s → IsTracked old j places s
+      (j : ℕ) (places : List SlotPlace) (s : TypeState) → risen_at new j ≡ Some places → state_at new.states j ≡ Some s → IsTracked old j places s
 
 -- what each step of the walk leaves
 pub record Went (t : Task) (old new : Walked) : Type 0 where

@@ -7,9 +7,9 @@ use Rattle.fm_given.specs.declared.refusal.JobRefusal.TheVariants as job_refusal
 use Rattle.fm_run.specs.Running.{BreaksRun, FailsRun}
 use Rattle.fm_runner.specs.Runs.{IsToldOf, choice, opened_run}
 use Rattle.fm_runner.specs.declared.runs.Budgets.{Budgets}
-use Rattle.fm_runner.specs.declared.runs.Told.{Told}
+use Rattle.fm_runner.specs.declared.runs.RunReport.{RunReport}
 use Rattle.fm_same.specs.Resolved.{CallsNoFreeMe}
-use Rattle.fm_tool.specs.declared.refusal.Refusal.TheVariants as refusal
+use Rattle.fm_tool.specs.declared.command_refusal.CommandRefusal.TheVariants as refusal
 use Rattle.fm_untyped.specs.Untyped.{AreTyped}
 use Rattle.fm_world.specs.Linking.{refusals}
 use Rattle.fm_whole.specs.Whole.{HasNoFault}
@@ -24,13 +24,13 @@ pub record AreProgram (classes : List ClassDef) (main : List ℕ) : Type 0 where
 
 -- the run of the program is reported, and where no method of it calls FreeMe it didn't end in a
 -- fault
-pub record TellsRun (p : Program) (b : Budgets) (arguments : List (List ℕ)) (input : List ℕ) (report : Told) (before after : Output) : Type 0 where
+pub record TellsRun (p : Program) (b : Budgets) (arguments : List (List ℕ)) (input : List ℕ) (report : RunReport) (before after : Output) : Type 0 where
   pub told : IsToldOf p b arguments input report before after
   pub no_fault : CallsNoFreeMe p → HasNoFault told.last
 
 -- the run of their program is reported; or the put of what it prints failed; or memory couldn't be
 -- had, before it or after some of its steps; or they make no program of typed methods
-abbrev pub ComesOfClasses : List ClassDef → List ℕ → Budgets → (arguments : List (List ℕ)) → (input : List ℕ) → Output → Output → Result Told JobFail → Type 0
+abbrev pub ComesOfClasses : List ClassDef → List ℕ → Budgets → (arguments : List (List ℕ)) → (input : List ℕ) → Output → Output → Result RunReport JobFail → Type 0
 ComesOfClasses classes main b arguments input before after (Ok told) =
     AreProgram classes main × TellsRun (program_of classes main) b arguments input told before after
 ComesOfClasses classes main b arguments input before after (Err fail.Output) =

@@ -5,7 +5,7 @@ ghost use Rattle.std.specs.List.{AllByRecursion};
 ghost use Rattle.std.specs.Prelude.{◌≤◌, length};
 ghost use Rattle.fm_base.specs.declared.limits.TheConstants.{MAX_CLASS_FILES};
 ghost use Rattle.fm_code.specs.Profile.{Profile};
-ghost use Rattle.fm_given.specs.Taking.{IsSpelled};
+ghost use Rattle.fm_given.specs.Taking.{ClassIsSpelled};
 
 use crate::running::run_classes;
 use crate::tests::samples::{LENGTH_PLACE, MAKES_NEST, PRINTS_LENGTH, with_byte};
@@ -116,7 +116,7 @@ fn ends_of_nests<'a>(nests: &'a [u8]) -> [End<'a>; 2] {
 
 // Whether the run of the classes ends so in a store of `end.words` words.
 fn run_ends_so(alloc: Global, classes: Vec<ClassDef>, end: End<'_>) -> Result<bool, NoMemory>
-    requires spelled { AllByRecursion IsSpelled classes.items }
+    requires spelled { AllByRecursion ClassIsSpelled classes.items }
     requires accepted { AllByRecursion Profile classes.items }
     requires few { length classes.items ≤ MAX_CLASS_FILES }
 {

@@ -7,7 +7,7 @@ use Rattle.fm_rewrite.specs.Rewritten.{AreRewritten}
 use Rattle.fm_rewrite.specs.declared.error.RewriteFail.{RewriteFail}
 use Rattle.fm_rewrite.specs.declared.error.RewriteFail.TheVariants as fail
 use Rattle.fm_rewrite.specs.declared.rewriting.Rewritten.{Rewritten}
-use Rattle.fm_tool.specs.declared.refusal.Refusal.TheVariants as refusal
+use Rattle.fm_tool.specs.declared.command_refusal.CommandRefusal.TheVariants as refusal
 use Rattle.fm_world.specs.Members.{methods_of}
 use Rattle.fm_world.specs.Programs.{Outline, program_of}
 use Rattle.freeme.specs.TopCall.{IsFirstCause, told_name}

@@ -3,8 +3,8 @@ use Rattle.std.specs.Prelude.{◌≡◌, ℕ, List, map, take, Contains, Result,
 use Rattle.fm_files.specs.Files.{Bytes, Disk, AreKept, OthersAreKept, Holds}
 use Rattle.fm_code.specs.ClassBytes.{class_bytes}
 use Rattle.fm_code.specs.declared.class_file.ClassDef.{ClassDef}
-use Rattle.fm_tool.specs.Outside.{HasNoFault, HasWriteFault}
-use Rattle.fm_tool.specs.declared.refusal.Refusal.TheVariants as refusal
+use Rattle.fm_tool.specs.Outside.{HasNoFileFault, HasWriteFault}
+use Rattle.fm_tool.specs.declared.command_refusal.CommandRefusal.TheVariants as refusal
 use Rattle.fm_given.specs.Given.{IsUntouched}
 use Rattle.freeme.specs.Writing.{class_text, written_name, AllWritten, SomeWritten, FailsToWrite}
 use Rattle.fm_given.specs.declared.refusal.JobRefusal.{JobRefusal}
@@ -23,7 +23,7 @@ pub record KeepsReads (old new : Disk) : Type 0 where
 pub record IsWritten (name : Bytes) (class : ClassDef) (old new : Disk) : Type 0 where
   pub holds : Holds new.contents name (class_bytes class)
   pub others : OthersAreKept name old.contents new.contents
-  pub faultless : HasNoFault old new
+  pub faultless : HasNoFileFault old new
 
 -- the write of one failed
 pub record IsWriteFailed (name : Bytes) (old new : Disk) : Type 0 where

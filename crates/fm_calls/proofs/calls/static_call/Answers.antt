@@ -17,9 +17,9 @@ returns-in-Some-clause-told g c =
     let x = c.args.machine.now in
     told-ok c.enter.result _ _
     (steps-as p g.M.Memory.choose x c.enter.new.machine (g.S.Sink.output c.args.out.now) (g.S.Sink.output c.enter.new.out) _ _
-    (static-is p x.areas.started c.args.m c.args.named (get_or o.types c.args.named.0 (type_of_class 0)) c.argument_words-words.result c.in-Some.field-0
+    (static-is p x.areas.started c.args.m c.args.named (get_or o.types c.args.named.0 (type_of_class 0)) c.words_of_arguments-words.result c.in-Some.field-0
     (slice_get x.input 0) (seen p x) c.requires.can.runnable c.requires.rows (sym c.row_of.ensures ∙ c.in-Some.is)
-    (slice_get-get_or o.types c.args.named.0 (type_of_class 0) c.requires.named) c.argument_words-words.ensures))
+    (slice_get-get_or o.types c.args.named.0 (type_of_class 0) c.requires.named) c.words_of_arguments-words.ensures))
     c.enter.ensures.told
 
 pub returns-in-Some-clause-failed : goal.returns-in-Some-clause-failed
@@ -28,9 +28,9 @@ returns-in-Some-clause-failed g c failed =
     let o = p.outline in
     let x = c.args.machine.now in
     fails-as p g.M.Memory.choose x (g.S.Sink.output c.args.out.now) (g.S.Sink.output c.enter.new.out) _ _
-    (static-is p x.areas.started c.args.m c.args.named (get_or o.types c.args.named.0 (type_of_class 0)) c.argument_words-words.result c.in-Some.field-0
+    (static-is p x.areas.started c.args.m c.args.named (get_or o.types c.args.named.0 (type_of_class 0)) c.words_of_arguments-words.result c.in-Some.field-0
     (slice_get x.input 0) (seen p x) c.requires.can.runnable c.requires.rows (sym c.row_of.ensures ∙ c.in-Some.is)
-    (slice_get-get_or o.types c.args.named.0 (type_of_class 0) c.requires.named) c.argument_words-words.ensures)
+    (slice_get-get_or o.types c.args.named.0 (type_of_class 0) c.requires.named) c.words_of_arguments-words.ensures)
     (c.enter.ensures.failed failed)
 
 pub coded_call-requires-clause-coded : goal.coded_call-requires-clause-coded

@@ -23,11 +23,11 @@ returns-then-not-branch g c byte =
     let o = p.outline in
     let x = c.args.machine.now in
     let y = c.start.new.machine in
-    let e = going c.argument_words-words.result (Calls c.args.m.0) in
+    let e = going c.words_of_arguments-words.result (Calls c.args.m.0) in
     let owner = ap (λ (i : MethodInfo). i.class.0) c.method.ensures ∙ method-class p c.args.m.0 in
     subst (λ e. Steps p g.M.Memory.choose x y e)
-    (sym (static-coded o c.args.m c.args.named (get_or o.types c.args.named.0 (type_of_class 0)) c.argument_words-words.result byte (seen p x)
-    (slice_get-get_or o.types c.args.named.0 (type_of_class 0) c.requires.named) c.requires.coded c.argument_words-words.ensures))
+    (sym (static-coded o c.args.m c.args.named (get_or o.types c.args.named.0 (type_of_class 0)) c.words_of_arguments-words.result byte (seen p x)
+    (slice_get-get_or o.types c.args.named.0 (type_of_class 0) c.requires.named) c.requires.coded c.words_of_arguments-words.ensures))
     (subst (λ n. Steps p g.M.Memory.choose x y (starting n e)) owner
     (subst (StartsBefore p g.M.Memory.choose x y c.method.result.now.class.0 e) c.if-not-branch.true (c.in_ok-start.ensures e tt (λ a l. refl) refl)))
 
@@ -37,7 +37,7 @@ call-requires g c =
     let o = p.outline in
     let x = c.args.machine.now in
     let y = c.start.new.machine in
-    let e = going c.argument_words-words.result (Calls c.args.m.0) in
+    let e = going c.words_of_arguments-words.result (Calls c.args.m.0) in
     let owner = ap (λ (i : MethodInfo). i.class.0) c.method.ensures ∙ method-class p c.args.m.0 in
     let so = subst (StartsBefore p g.M.Memory.choose x y c.method.result.now.class.0 e) c.if-not-branch.false (c.in_ok-start.ensures e tt (λ a l. refl) refl) in
     so.0
@@ -48,13 +48,13 @@ returns g c byte =
     let o = p.outline in
     let x = c.args.machine.now in
     let y = c.start.new.machine in
-    let e = going c.argument_words-words.result (Calls c.args.m.0) in
+    let e = going c.words_of_arguments-words.result (Calls c.args.m.0) in
     let owner = ap (λ (i : MethodInfo). i.class.0) c.method.ensures ∙ method-class p c.args.m.0 in
     let so = subst (StartsBefore p g.M.Memory.choose x y c.method.result.now.class.0 e) c.if-not-branch.false (c.in_ok-start.ensures e tt (λ a l. refl) refl) in
     told-ok c.call.result _ _
     (λ does.
     subst (λ e. Steps p g.M.Memory.choose x c.call.new.self e)
-    (sym (static-coded o c.args.m c.args.named (get_or o.types c.args.named.0 (type_of_class 0)) c.argument_words-words.result byte (seen p x)
-    (slice_get-get_or o.types c.args.named.0 (type_of_class 0) c.requires.named) c.requires.coded c.argument_words-words.ensures))
+    (sym (static-coded o c.args.m c.args.named (get_or o.types c.args.named.0 (type_of_class 0)) c.words_of_arguments-words.result byte (seen p x)
+    (slice_get-get_or o.types c.args.named.0 (type_of_class 0) c.requires.named) c.requires.coded c.words_of_arguments-words.ensures))
     (subst (λ n. Steps p g.M.Memory.choose x c.call.new.self (starting n e)) owner (so.2 c.call.new.self does)))
     c.call.ensures

@@ -22,7 +22,7 @@ returns-in_default g c byte =
     let t = get_or o.types c.args.named.0 (type_of_class 0) in
     subst (λ e. Steps p g.M.Memory.choose x c.refuse.new.machine e)
     (sym (interface-named o c.args.m c.args.named t byte (seen p x) (slice_get-get_or o.types c.args.named.0 (type_of_class 0) c.requires.named)))
-    (subst (λ n. Steps p g.M.Memory.choose x c.refuse.new.machine (on_any o (seen p x) n (interface_of o c.args.m t byte (seen p x)))) c.argument_words-words.ensures
+    (subst (λ n. Steps p g.M.Memory.choose x c.refuse.new.machine (on_any o (seen p x) n (interface_of o c.args.m t byte (seen p x)))) c.words_of_arguments-words.ensures
     (c.in_ok-refuse.ensures (sym c.in_default.ensures.value) (interface_of o c.args.m t byte (seen p x))))
 
 pub returns-then-not-implements : goal.returns-then-not-implements
@@ -30,8 +30,8 @@ returns-then-not-implements g c byte =
     let p = c.args.program.now in
     let o = p.outline in
     let x = c.args.machine.now in
-    let it = subst (λ n. Seen o x.areas.store (stack_of x) n c.in-Some.field-0-0 c.in-Some.head) c.argument_words-words.ensures
-    (object-found o x.areas.store (stack_of x) c.argument_words-words.result c.in-Some.field-0-0 c.in-Some.head c.in-Some.ensures.value) in
+    let it = subst (λ n. Seen o x.areas.store (stack_of x) n c.in-Some.field-0-0 c.in-Some.head) c.words_of_arguments-words.ensures
+    (object-found o x.areas.store (stack_of x) c.words_of_arguments-words.result c.in-Some.field-0-0 c.in-Some.head c.in-Some.ensures.value) in
     let told : false ≡ is_sub o.classes c.type_in-t.result c.type_of.result = search rules in
     carried p g.M.Memory.choose x c.throw_new.new.self (interface_effect o (used.OfMethod c.args.m c.args.named) byte (seen p x))
     (thrown o (codes "java/lang/IncompatibleClassChangeError"))
@@ -44,8 +44,8 @@ returns-in_default-selected g c byte =
     let p = c.args.program.now in
     let o = p.outline in
     let x = c.args.machine.now in
-    let it = subst (λ n. Seen o x.areas.store (stack_of x) n c.in-Some.field-0-0 c.in-Some.head) c.argument_words-words.ensures
-    (object-found o x.areas.store (stack_of x) c.argument_words-words.result c.in-Some.field-0-0 c.in-Some.head c.in-Some.ensures.value) in
+    let it = subst (λ n. Seen o x.areas.store (stack_of x) n c.in-Some.field-0-0 c.in-Some.head) c.words_of_arguments-words.ensures
+    (object-found o x.areas.store (stack_of x) c.words_of_arguments-words.result c.in-Some.field-0-0 c.in-Some.head c.in-Some.ensures.value) in
     let told : true ≡ is_sub o.classes c.type_in-t.result c.type_of.result = search rules in
     carried p g.M.Memory.choose x c.stuck.new.self (interface_effect o (used.OfMethod c.args.m c.args.named) byte (seen p x)) stuck
     (interface-selected o x.areas.store (stack_of x) c.args.m c.args.named c.type_of.result byte c.in-Some.field-0-0 c.in-Some.head c.type_in-t.result None
@@ -57,8 +57,8 @@ returns g c =
     let p = c.args.program.now in
     let o = p.outline in
     let x = c.args.machine.now in
-    let it = subst (λ n. Seen o x.areas.store (stack_of x) n c.in-Some.field-0-0 c.in-Some.head) c.argument_words-words.ensures
-    (object-found o x.areas.store (stack_of x) c.argument_words-words.result c.in-Some.field-0-0 c.in-Some.head c.in-Some.ensures.value) in
+    let it = subst (λ n. Seen o x.areas.store (stack_of x) n c.in-Some.field-0-0 c.in-Some.head) c.words_of_arguments-words.ensures
+    (object-found o x.areas.store (stack_of x) c.words_of_arguments-words.result c.in-Some.field-0-0 c.in-Some.head c.in-Some.ensures.value) in
     let told : true ≡ is_sub o.classes c.type_in-t.result c.type_of.result = search rules in (
       refl,
       λ byte. interface-selected o x.areas.store (stack_of x) c.args.m c.args.named c.type_of.result byte c.in-Some.field-0-0 c.in-Some.head c.type_in-t.result

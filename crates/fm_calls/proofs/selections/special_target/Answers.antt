@@ -19,8 +19,8 @@ returns-in-Other g c byte =
     let o = p.outline in
     let x = c.args.machine.now in
     carried p g.M.Memory.choose x c.stuck.new.self (special_effect o c.args.caller.0 (used.OfMethod c.args.m c.args.named) byte (seen p x)) stuck
-    (special-seen o x.areas.store (stack_of x) c.args.caller.0 c.args.m c.args.named (get_or o.types c.args.named.0 (type_of_class 0)) byte c.argument_words.result look.Other
-    (slice_get-get_or o.types c.args.named.0 (type_of_class 0) c.requires.named) c.argument_words.ensures c.in-Other.ensures)
+    (special-seen o x.areas.store (stack_of x) c.args.caller.0 c.args.m c.args.named (get_or o.types c.args.named.0 (type_of_class 0)) byte c.words_of_arguments.result look.Other
+    (slice_get-get_or o.types c.args.named.0 (type_of_class 0) c.requires.named) c.words_of_arguments.ensures c.in-Other.ensures)
     (c.stuck.ensures c.requires.can.runnable g.M.Memory.choose)
 
 pub returns-in_ok-throw_new-in-Null : goal.returns-in_ok-throw_new-in-Null
@@ -29,8 +29,8 @@ returns-in_ok-throw_new-in-Null g c byte =
     let o = p.outline in
     let x = c.args.machine.now in
     carried p g.M.Memory.choose x c.throw_new.new.self (special_effect o c.args.caller.0 (used.OfMethod c.args.m c.args.named) byte (seen p x)) (thrown_null o)
-    (special-seen o x.areas.store (stack_of x) c.args.caller.0 c.args.m c.args.named (get_or o.types c.args.named.0 (type_of_class 0)) byte c.argument_words.result look.Null
-    (slice_get-get_or o.types c.args.named.0 (type_of_class 0) c.requires.named) c.argument_words.ensures c.in-Null.ensures)
+    (special-seen o x.areas.store (stack_of x) c.args.caller.0 c.args.m c.args.named (get_or o.types c.args.named.0 (type_of_class 0)) byte c.words_of_arguments.result look.Null
+    (slice_get-get_or o.types c.args.named.0 (type_of_class 0) c.requires.named) c.words_of_arguments.ensures c.in-Null.ensures)
     (c.in_ok-throw_new-in-Null.ensures (codes "java/lang/NullPointerException") (null-is p c.requires.can.runnable))
 
 pub returns-in-Gone : goal.returns-in-Gone
@@ -41,8 +41,8 @@ returns-in-Gone g c =
     let t = get_or o.types c.args.named.0 (type_of_class 0) in (
       refl,
       λ byte.
-          special-seen o x.areas.store (stack_of x) c.args.caller.0 c.args.m c.args.named t byte c.argument_words.result (look.Gone c.in-Gone.field-0)
-          (slice_get-get_or o.types c.args.named.0 (type_of_class 0) c.requires.named) c.argument_words.ensures c.in-Gone.ensures
+          special-seen o x.areas.store (stack_of x) c.args.caller.0 c.args.m c.args.named t byte c.words_of_arguments.result (look.Gone c.in-Gone.field-0)
+          (slice_get-get_or o.types c.args.named.0 (type_of_class 0) c.requires.named) c.words_of_arguments.ensures c.in-Gone.ensures
           ∙ special-entered o c.args.caller.0 c.args.m c.special_method.result t byte (seen p x) c.special_method.ensures,
     )
 
@@ -54,7 +54,7 @@ returns-in-Object g c =
     let t = get_or o.types c.args.named.0 (type_of_class 0) in (
       refl,
       λ byte.
-          special-seen o x.areas.store (stack_of x) c.args.caller.0 c.args.m c.args.named t byte c.argument_words.result (look.Object c.in-Object.field-0 c.in-Object.field-1)
-          (slice_get-get_or o.types c.args.named.0 (type_of_class 0) c.requires.named) c.argument_words.ensures c.in-Object.ensures
+          special-seen o x.areas.store (stack_of x) c.args.caller.0 c.args.m c.args.named t byte c.words_of_arguments.result (look.Object c.in-Object.field-0 c.in-Object.field-1)
+          (slice_get-get_or o.types c.args.named.0 (type_of_class 0) c.requires.named) c.words_of_arguments.ensures c.in-Object.ensures
           ∙ special-entered o c.args.caller.0 c.args.m c.special_method-in-Object.result t byte (seen p x) c.special_method-in-Object.ensures,
     )

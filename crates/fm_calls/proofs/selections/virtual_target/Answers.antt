@@ -23,7 +23,7 @@ returns-in_default g c byte =
     let t = get_or o.types c.args.named.0 (type_of_class 0) in
     subst (λ e. Steps p g.M.Memory.choose x c.refuse.new.machine e)
     (sym (virtual-named o c.args.m c.args.named t byte (seen p x) (slice_get-get_or o.types c.args.named.0 (type_of_class 0) c.requires.named)))
-    (subst (λ n. Steps p g.M.Memory.choose x c.refuse.new.machine (on_any o (seen p x) n (virtual_of o c.args.m t byte (seen p x)))) c.argument_words-words.ensures
+    (subst (λ n. Steps p g.M.Memory.choose x c.refuse.new.machine (on_any o (seen p x) n (virtual_of o c.args.m t byte (seen p x)))) c.words_of_arguments-words.ensures
     (c.in_ok-refuse.ensures (sym c.in_default.ensures.value) (virtual_of o c.args.m t byte (seen p x))))
 
 pub returns-then-not-fits : goal.returns-then-not-fits
@@ -32,8 +32,8 @@ returns-then-not-fits g c byte =
     let o = p.outline in
     let x = c.args.machine.now in
     let n = words_of_arguments o c.args.m.0 in
-    let it = subst (λ n. Seen o x.areas.store (stack_of x) n c.in-Some.cell c.in-Some.head) c.argument_words-words.ensures
-    (object-found o x.areas.store (stack_of x) c.argument_words-words.result c.in-Some.cell c.in-Some.head c.in-Some.ensures.value) in
+    let it = subst (λ n. Seen o x.areas.store (stack_of x) n c.in-Some.cell c.in-Some.head) c.words_of_arguments-words.ensures
+    (object-found o x.areas.store (stack_of x) c.words_of_arguments-words.result c.in-Some.cell c.in-Some.head c.in-Some.ensures.value) in
     let t = type_numbered o c.args.named.0 in
     let at = slice_get-get_or o.types c.args.named.0 (type_of_class 0) c.requires.named in
     let told : false ≡ fits_type o.classes (type_numbered o c.in-Some.head.class) t = search rules in
@@ -47,8 +47,8 @@ returns-in_default-selected g c byte =
     let p = c.args.program.now in
     let o = p.outline in
     let x = c.args.machine.now in
-    let it = subst (λ n. Seen o x.areas.store (stack_of x) n c.in-Some.cell c.in-Some.head) c.argument_words-words.ensures
-    (object-found o x.areas.store (stack_of x) c.argument_words-words.result c.in-Some.cell c.in-Some.head c.in-Some.ensures.value) in
+    let it = subst (λ n. Seen o x.areas.store (stack_of x) n c.in-Some.cell c.in-Some.head) c.words_of_arguments-words.ensures
+    (object-found o x.areas.store (stack_of x) c.words_of_arguments-words.result c.in-Some.cell c.in-Some.head c.in-Some.ensures.value) in
     let t = type_numbered o c.args.named.0 in
     let at = slice_get-get_or o.types c.args.named.0 (type_of_class 0) c.requires.named in
     let fits : true ≡ fits_type o.classes (type_numbered o c.in-Some.head.class) t = search rules in
@@ -63,8 +63,8 @@ returns g c =
     let p = c.args.program.now in
     let o = p.outline in
     let x = c.args.machine.now in
-    let it = subst (λ n. Seen o x.areas.store (stack_of x) n c.in-Some.cell c.in-Some.head) c.argument_words-words.ensures
-    (object-found o x.areas.store (stack_of x) c.argument_words-words.result c.in-Some.cell c.in-Some.head c.in-Some.ensures.value) in
+    let it = subst (λ n. Seen o x.areas.store (stack_of x) n c.in-Some.cell c.in-Some.head) c.words_of_arguments-words.ensures
+    (object-found o x.areas.store (stack_of x) c.words_of_arguments-words.result c.in-Some.cell c.in-Some.head c.in-Some.ensures.value) in
     let t = type_numbered o c.args.named.0 in
     let at = slice_get-get_or o.types c.args.named.0 (type_of_class 0) c.requires.named in
     let fits : true ≡ fits_type o.classes (type_numbered o c.in-Some.head.class) t = search rules in

@@ -3,7 +3,7 @@ use Rattle.std.proofs.lemmas.List.{take_all}
 use Rattle.std.proofs.lemmas.List.Elements.{Contains-get_or}
 use Rattle.fm_catch.proofs.GivingLemmas.{IsRaised-more, IsRaised-none}
 use Rattle.fm_known.proofs.RisenLemmas.{nothing}
-use Rattle.fm_known.specs.declared.known.Place.{Place}
+use Rattle.fm_known.specs.declared.known_state.SlotPlace.{SlotPlace}
 use Rattle.fm_known.specs.declared.risen.Rise.{Rise}
 use Rattle.fm_known.specs.inner.Risen.{known_state}
 use Rattle.fm_catch.specs.inner.Runs.{IsRaised}
@@ -13,7 +13,7 @@ use Rattle.fm_catch.proofs.catching.raise.Goals as goal
 pub loop-rise-init : goal.loop-rise-init
 loop-rise-init c =
     let s = known_state c.args.given.now in
-    subst (λ (places : List Place). IsRaised (task c.args.method.now) [] s s places) (sym c.new-places.ensures.items)
+    subst (λ (places : List SlotPlace). IsRaised (task c.args.method.now) [] s s places) (sym c.new-places.ensures.items)
     (IsRaised-none (task c.args.method.now) s)
 
 pub raise_one-requires-clause-local : goal.raise_one-requires-clause-local

@@ -1,7 +1,7 @@
 use Rattle.std.proofs.Common.{◌≡◌, ◌∙◌, sym, ap, subst, true, false, List}
 use Rattle.fm_catch.proofs.GivingLemmas.{RaisesOne-none, RaisesOne-set}
 use Rattle.fm_known.proofs.PlaceLemmas.{place_wanted}
-use Rattle.fm_known.specs.declared.known.Place.{Place}
+use Rattle.fm_known.specs.declared.known_state.SlotPlace.{SlotPlace}
 use Rattle.fm_known.specs.inner.Risen.{known_state, slot_at, with_slot}
 use Rattle.fm_catch.specs.inner.Runs.{RaisesOne}
 use Rattle.fm_known.specs.inner.Tasks.{task}
@@ -39,7 +39,7 @@ returns c =
     let after : known_state c.set.new.self ≡ with_slot c.args.rise.place (join o (slot_at s c.args.rise.place) c.args.rise.slot) s =
     c.set.ensures ∙ ap (λ x. with_slot c.args.rise.place x s) joined in
     let States : TypeState → Type 0 = λ x. RaisesOne t c.args.rise s x c.args.places.now.items c.push.new.self.items in
-    let Places : List Place → Type 0 =
+    let Places : List SlotPlace → Type 0 =
     λ xs. RaisesOne t c.args.rise s (with_slot c.args.rise.place (join o (slot_at s c.args.rise.place) c.args.rise.slot) s) c.args.places.now.items xs in
     subst States (sym after)
     (subst Places (sym c.in_ok-push.ensures.items) (RaisesOne-set t c.args.rise s c.args.places.now.items c.requires.sound c.requires.local unfit))

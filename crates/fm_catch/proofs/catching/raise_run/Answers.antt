@@ -1,6 +1,6 @@
 use Rattle.std.proofs.Common.{◌∙◌, refl, ap, inr, map, List}
 use Rattle.fm_catch.proofs.RunLemmas.{if_ok}
-use Rattle.fm_known.specs.declared.known.Place.{Place}
+use Rattle.fm_known.specs.declared.known_state.SlotPlace.{SlotPlace}
 use Rattle.fm_known.specs.inner.Risen.{known_state, rise_of}
 use Rattle.fm_catch.proofs.catching.raise_run.Goals as goal
 
@@ -16,6 +16,6 @@ returns c =
       is = refl;
       same = refl;
       raised = c.in_ok-places.ensures;
-      left_is = is ∙ ap (λ (places : List Place). map (rise_of (known_state c.raise.new.given)) places) c.as_slice.ensures.value;
+      left_is = is ∙ ap (λ (places : List SlotPlace). map (rise_of (known_state c.raise.new.given)) places) c.as_slice.ensures.value;
     }))
     c.rises_of.ensures

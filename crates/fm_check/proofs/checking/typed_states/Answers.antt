@@ -2,14 +2,14 @@ use Rattle.std.proofs.Common.{◌≡◌, ◌∙◌, refl, sym, ap, List, [], ◌
 use Rattle.std.specs.Option.{option_map}
 use Rattle.std.specs.Vec.Iter.{into_iter_items}
 use Rattle.std.proofs.lemmas.List.{append_assoc, append-nil, map-append}
-use Rattle.fm_known.specs.declared.known.Known.{Known}
+use Rattle.fm_known.specs.declared.known_state.KnownState.{KnownState}
 use Rattle.fm_walk.specs.inner.Walks.{states_seen}
 use Rattle.fm_types.specs.States.{TypeState}
 use Rattle.fm_types.specs.Typings.{type_state}
 use Rattle.fm_types.specs.declared.states.State.{State}
 use Rattle.fm_check.proofs.checking.typed_states.Goals as goal
 
-nothing_left : (xs : List (Option Known)) → 0 ≡ length xs → xs ≡ []
+nothing_left : (xs : List (Option KnownState)) → 0 ≡ length xs → xs ≡ []
 nothing_left [] e = refl
 nothing_left (x ∷ xs) e = absurd (omega arith)
 
@@ -31,7 +31,7 @@ loop-known-preserved c =
           ∙ ap (λ (xs : List (Option TypeState)). xs ++ states_seen rest) (map-append Seen here.typed.items (c.state_of.result ∷ []))
           ∙ append_assoc (map Seen here.typed.items) (Seen c.state_of.result ∷ []) (states_seen rest)
           ∙ ap (λ (x : Option TypeState). map Seen here.typed.items ++ x ∷ states_seen rest) c.state_of.ensures
-          ∙ sym (ap (λ (xs : List (Option Known)). map Seen here.typed.items ++ states_seen xs) steps)
+          ∙ sym (ap (λ (xs : List (Option KnownState)). map Seen here.typed.items ++ states_seen xs) steps)
           ∙ here.invariant.seen;
     }
 
@@ -43,5 +43,5 @@ returns c =
     let empty : into_iter_items here.known-iterator ≡ [] =
     nothing_left (into_iter_items here.known-iterator) (sym none.0 ∙ here.invariant.count) in
     sym (append-nil (map Seen here.typed.items))
-    ∙ sym (ap (λ (xs : List (Option Known)). map Seen here.typed.items ++ states_seen xs) empty)
+    ∙ sym (ap (λ (xs : List (Option KnownState)). map Seen here.typed.items ++ states_seen xs) empty)
     ∙ here.invariant.seen

@@ -6,7 +6,7 @@ use Rattle.fm_walk.proofs.Outcomes.{ok_weaker}
 use Rattle.fm_check.proofs.RiseLemmas.{asked-alone, GoesOver-carried, ready, words_below}
 use Rattle.fm_walk.proofs.WalkLemmas.{state_seen}
 use Rattle.fm_known.specs.declared.risen.Rise.{Rise}
-use Rattle.fm_known.specs.declared.known.Place.{Place}
+use Rattle.fm_known.specs.declared.known_state.SlotPlace.{SlotPlace}
 use Rattle.fm_known.specs.inner.Risen.{known_state, rise_of, words_taken}
 use Rattle.fm_check.specs.inner.Steps.{CarriesOnGuarded, GoesOverGuarded, IsReady}
 use Rattle.fm_walk.specs.inner.Walks.{Untypable, walked}
@@ -38,7 +38,7 @@ carry_on-requires-clause-ready c =
     let alone = asked-alone insn c.saturating_sub-below.result (words_below t insn own) own locals c.as_slice-in-Some-risen.result.now c.in_ok-rises.rises.items
     c.as_slice-in-Some-risen-2.result.now c.as_slice-in-Some-risen-2.ensures.value c.in_ok-rises.ensures c.as_slice-in-Some-risen.ensures enough
     (c.all_left_alone.ensures c.if-all_left_alone.true) in
-    let found = c.in_ok-rises.ensures ∙ ap (λ (xs : List Place). map (rise_of own) xs) c.as_slice-in-Some-risen.ensures in
+    let found = c.in_ok-rises.ensures ∙ ap (λ (xs : List SlotPlace). map (rise_of own) xs) c.as_slice-in-Some-risen.ensures in
     subst (λ (rises : List Rise). IsReady t w c.args.item insn rises) (sym (c.as_slice-then-all_left_alone.ensures.value ∙ found))
     (ready t c.args.item insn own locals w c.requires.sound c.requires.stands at
     (read_insn c.args.method.now.code.now c.as_slice-2.result.now c.args.item c.index-as_slice-item.result c.as_slice-2.ensures c.requires.inside)
@@ -63,7 +63,7 @@ returns-then-all_left_alone c =
     let alone = asked-alone i c.saturating_sub-below.result (words_below t i own) own known c.as_slice-in-Some-risen.result.now c.in_ok-rises.rises.items
     c.as_slice-in-Some-risen-2.result.now c.as_slice-in-Some-risen-2.ensures.value c.in_ok-rises.ensures c.as_slice-in-Some-risen.ensures enough
     (c.all_left_alone.ensures c.if-all_left_alone.true) in
-    let carried = c.in_ok-rises.ensures ∙ ap (λ (xs : List Place). map (rise_of own) xs) c.as_slice-in-Some-risen.ensures in
+    let carried = c.in_ok-rises.ensures ∙ ap (λ (xs : List SlotPlace). map (rise_of own) xs) c.as_slice-in-Some-risen.ensures in
     let levels = c.carry_on.new.levels.items in
     let On : List Rise → Type 0 = λ rises. CarriesOnGuarded t c.args.item i rises levels old new in
     ok_weaker (On c.as_slice-then-all_left_alone.result.now) (GoesOverGuarded t c.args.item levels old new) (Untypable t) c.carry_on.result

@@ -3,7 +3,7 @@ use Rattle.std.specs.List.{slice_index_or}
 use Rattle.fm_catch.proofs.GivingLemmas.{guarded-first}
 use Rattle.fm_walk.proofs.Outcomes.{match_true}
 use Rattle.fm_check.proofs.ItemLemmas.{popped-rise, Stands-taken, taken-inside, taken-met, takes-popped, waiting_marked, Walking-more}
-use Rattle.fm_known.specs.declared.known.Place.{Place}
+use Rattle.fm_known.specs.declared.known_state.SlotPlace.{SlotPlace}
 use Rattle.fm_check.specs.inner.Steps.{GoesOverGuarded, IsMetBut}
 use Rattle.fm_catch.specs.inner.Runs.{IsGuarded, IsLaid}
 use Rattle.fm_walk.specs.inner.Walks.{Untypable, walked}
@@ -41,8 +41,8 @@ go_over-requires-clause-met c =
     let popped = walked c.next.new.self in
     let taken = walked c.take_risen-risen.new.self in
     let takes = takes-popped c.in-Some.item w popped taken c.in-Some.ensures.some c.take_risen-risen.ensures.left in
-    let same = c.take_risen-risen.ensures.taken ∙ ap (λ (risen : List (Option (List Place))). slice_index_or risen c.in-Some.item None) c.in-Some.ensures.some.risen in
-    subst (λ (rose : Option (List Place)). IsMetBut t taken.states rose c.in-Some.item) (sym same)
+    let same = c.take_risen-risen.ensures.taken ∙ ap (λ (risen : List (Option (List SlotPlace))). slice_index_or risen c.in-Some.item None) c.in-Some.ensures.some.risen in
+    subst (λ (rose : Option (List SlotPlace)). IsMetBut t taken.states rose c.in-Some.item) (sym same)
     (taken-met t c.in-Some.item w taken c.loop-item.invariant.0 takes)
 
 pub loop-item-init : goal.loop-item-init

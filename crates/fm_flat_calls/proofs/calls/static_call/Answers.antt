@@ -20,8 +20,8 @@ returns-clause-did g c told byte steps =
     let x = c.args.machine.now in
     let class = c.method.result.now.class.0 in
     let owner = ap (λ (i : MethodInfo). i.class.0) c.method.ensures ∙ method-class p c.args.m.0 in
-    static-over p g.M.Memory.choose x c.args.frames.now c.enter.new.frames c.argument_words.result c.args.m c.args.named
-    (get_or o.types c.args.named.0 (type_of_class 0)) class steps byte (c.enter.ensures.did told) c.argument_words.ensures
+    static-over p g.M.Memory.choose x c.args.frames.now c.enter.new.frames c.words_of_arguments.result c.args.m c.args.named
+    (get_or o.types c.args.named.0 (type_of_class 0)) class steps byte (c.enter.ensures.did told) c.words_of_arguments.ensures
     (slice_get-get_or o.types c.args.named.0 (type_of_class 0) c.requires.named) owner
     (none-starts o x.areas.started class c.display.result.now (reverse (chain_of o.classes class)) c.display.ensures.value
     (c.are_started.ensures (search rules)))

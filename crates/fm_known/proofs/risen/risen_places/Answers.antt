@@ -1,7 +1,7 @@
 use Rattle.std.proofs.Common.{rules, ◌≡◌, ◌∙◌, sym, subst, List, ◌++◌, map}
 use Rattle.fm_known.proofs.RisenLemmas.{alike-from_places}
-use Rattle.fm_known.specs.declared.known.Place.{Place}
-use Rattle.fm_known.specs.declared.known.Place.TheVariants as place
+use Rattle.fm_known.specs.declared.known_state.SlotPlace.{SlotPlace}
+use Rattle.fm_known.specs.declared.known_state.SlotPlace.TheVariants as place
 use Rattle.fm_known.specs.inner.Risen.{IsAlikeBut}
 use Rattle.fm_types.specs.Typings.{type_state}
 use Rattle.fm_known.proofs.risen.risen_places.Goals as goal
@@ -15,7 +15,7 @@ returns c = λ found e.
     let words = c.in_ok-words.words.items in
     let is : c.extend_from_slice.new.self.items ≡ map (λ k. place.Local k) locals ++ map (λ h. place.Word h) words = search rules in
     let same : c.extend_from_slice.new.self.items ≡ found = sym c.new.ensures ∙ (let one : c.new.result ≡ found = cc in one) in
-    subst (λ (places : List Place). IsAlikeBut places after before) same
+    subst (λ (places : List SlotPlace). IsAlikeBut places after before) same
     (alike-from_places locals words c.extend_from_slice.new.self.items c.as_slice-3.result.now c.as_slice-4.result.now c.as_slice.result.now
     c.as_slice-2.result.now after before is c.in_ok-locals.ensures c.as_slice-3.ensures.value c.as_slice-4.ensures.value c.in_ok-words.ensures
     c.as_slice.ensures c.as_slice-2.ensures c.requires.locals c.requires.stack built)

@@ -1,5 +1,5 @@
 use Rattle.std.proofs.Common.{◌≡◌, map, take}
-use Rattle.fm_known.specs.declared.known.Place.TheVariants as place
+use Rattle.fm_known.specs.declared.known_state.SlotPlace.TheVariants as place
 use Rattle.fm_known.proofs.risen.word_places.Given as goal
 
 abbrev pub invariant-loop-word : goal.invariant-loop-word

@@ -5,4 +5,4 @@ use Rattle.fm_native.specs.declared.natives.TheConstants.{BUILT_INS}
 use Rattle.fm_native.proofs.natives.built_in_of.Goals as goal
 
 pub returns : goal.returns
-returns c = ap (option_map native_as) c.method_at.ensures ∙ sym (slice_get-map native_as BUILT_INS c.args.row)
+returns c = ap (option_map native_as) c.listed_method.ensures ∙ sym (slice_get-map native_as BUILT_INS c.args.row)

@@ -1,7 +1,7 @@
 use Rattle.std.proofs.Common.{◌≡◌, ◌∙◌, ap, set, List, Option, None}
 use Rattle.std.proofs.lemmas.List.{get_or_default}
 use Rattle.fm_walk.proofs.WalkLemmas.{set_twice}
-use Rattle.fm_known.specs.declared.known.Place.{Place}
+use Rattle.fm_known.specs.declared.known_state.SlotPlace.{SlotPlace}
 use Rattle.fm_known.specs.inner.Risen.{noted}
 use Rattle.fm_walk.specs.inner.Walks.{risen_at, walked}
 use Rattle.fm_walk.proofs.walk.Walk.note.Goals as goal
@@ -11,7 +11,7 @@ returns c =
     let w = walked c.args.self.now in
     let read : c.replace-known.result ≡ risen_at w c.args.item =
     c.replace-known.ensures.value ∙ c.index_mut.ensures.value ∙ get_or_default w.risen c.args.item c.index_mut.result.now None c.requires in
-    ap (λ (risen : List (Option (List Place))). record w { risen = risen })
+    ap (λ (risen : List (Option (List SlotPlace))). record w { risen = risen })
     (set_twice w.risen c.args.item c.replace-known.new.dest c.in_ok-self.field-0
-    ∙ ap (λ (rose : Option (List Place)). set w.risen c.args.item rose)
-    (c.in_ok-self.ensures ∙ ap (λ (known : Option (List Place)). noted c.args.most known c.args.rose) read))
+    ∙ ap (λ (rose : Option (List SlotPlace)). set w.risen c.args.item rose)
+    (c.in_ok-self.ensures ∙ ap (λ (known : Option (List SlotPlace)). noted c.args.most known c.args.rose) read))

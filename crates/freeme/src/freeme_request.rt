@@ -1,0 +1,85 @@
+// What the words of the command line ask for.
+
+ghost use Rattle.std.specs.Prelude.{◌≡◌, false, IfOk, MatchOption};
+ghost use Rattle.clap.specs.Words.{app_of, found_of, rows_of, rule_of};
+ghost use Rattle.fm_tool.specs.Words.{texts};
+ghost use Rattle.fm_request.specs.Values.{wanted_option_rule};
+ghost use Rattle.freeme.specs.FreemeRequest.{Asks, AskNothing, HasValuesOf, HasNoValues, freeme_command, job_of};
+
+#[cfg(test)]
+mod tests;
+
+use clap::error::ErrorKind;
+use clap::{Arg, ArgMatches, Command};
+use fm_base::NoMemory;
+use fm_request::{are_values, command, files, is_value};
+use std::alloc::Global;
+
+/// The folder to write into, the main class and the files to read, in order, as the words
+/// `--out DIR --main CLASS FILE...` name them.
+#[derive(Drop)]
+pub struct FreemeRequest<'a> {
+    pub folder: &'a str,
+    pub main: &'a str,
+    pub files: Vec<&'a str>,
+}
+
+/// What the words ask for, or None where they ask for nothing.
+pub fn request_of(alloc: Global, words: &[String]) -> Result<Option<FreemeRequest<'_>>, NoMemory>
+    ensures { IfOk result (λ asked. MatchOption asked (AskNothing (texts words.now))
+        (λ r. Asks (texts words.now) (job_of r))) }
+{
+    let command = freeme_command(alloc)?;
+    match command.try_get_matches_from(words) {
+        Ok(matches) => request_in(alloc, &matches),
+        Err(error) => match error.kind() {
+            ErrorKind::OutOfMemory => Err(NoMemory),
+            _ => Ok(None),
+        },
+    }
+}
+
+// The command `freeme --out DIR --main CLASS FILE...`.
+fn freeme_command<'a>(alloc: Global) -> Result<Command<'a>, NoMemory>
+    ensures { IfOk result (λ command. app_of command ≡ freeme_command) }
+{
+    let command = command(alloc, "freeme")
+        .arg(option(alloc, "out"))?
+        .arg(option(alloc, "main"))?
+        .arg(files(alloc))?;
+    Ok(command)
+}
+
+// An option that has to be given, with its value.
+fn option<'a>(alloc: Global, name: &'a str) -> Arg<'a>
+    ensures rule { rule_of result ≡ wanted_option_rule name.entry.now }
+    ensures local { result.global ≡ false }
+{
+    Arg::new(alloc, name).long(name).required(true)
+}
+
+// The request that was matched, or None where a value is missing, empty or too long.
+fn request_in<'a>(alloc: Global, matches: &ArgMatches<'a>) -> Result<Option<FreemeRequest<'a>>, NoMemory>
+    ensures { let rows = rows_of (found_of matches.now) in
+        IfOk result (λ asked. MatchOption asked (HasNoValues rows)
+        (λ r. HasValuesOf rows (job_of r))) }
+{
+    let Some(folder) = matches.get_str("out") else {
+        return Ok(None);
+    };
+    let Some(main) = matches.get_str("main") else {
+        return Ok(None);
+    };
+    let Some(files) = matches.get_strs("file") else {
+        return Ok(None);
+    };
+    if files.is_empty() || !is_value(folder) || !is_value(main) || !are_values(files) {
+        return Ok(None);
+    }
+    let files = Vec::from_slice(alloc, files)?;
+    Ok(Some(FreemeRequest {
+        folder,
+        main,
+        files,
+    }))
+}
