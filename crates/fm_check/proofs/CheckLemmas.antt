@@ -9,8 +9,8 @@ use Rattle.fm_types.specs.declared.states.Typing.{Typing}
 use Rattle.fm_base.proofs.OptionFacts.{IsSomeAnd-at_some, IsSomeAnd-from_some, same_value, Some-from_some_and}
 use Rattle.fm_check.specs.Checking.{coded, HasCode, IsCheckable, IsLeastTyping, IsNarrow, IsTooWide}
 use Rattle.fm_check.specs.inner.Steps.{IsLeast}
-use Rattle.fm_walk.specs.inner.Walks.{Untypable}
-use Rattle.fm_known.specs.inner.Tasks.{IsSound, Task}
+use Rattle.fm_check_walk.specs.inner.Walks.{Untypable}
+use Rattle.fm_check_walk.specs.inner.Tasks.{IsSound, Task}
 use Rattle.fm_code.specs.declared.code_array.Code.{Code}
 use Rattle.fm_types.specs.States.{TypeState}
 use Rattle.fm_types.specs.Typed.{IsTypingOf, Typed}

@@ -7,18 +7,18 @@ use Rattle.std.proofs.lemmas.Bool.{and_from, and_parts, cases_eq, cases_lt, eqb-
 use Rattle.std.proofs.lemmas.List.{append-nil, get_or-set_same, get_or-replicate, get_or-set_other, get_or_past, length-replicate, reverse-reverse}
 use Rattle.std.proofs.lemmas.List.Elements.{All-contains, All-from_recursion, Contains-append_left, Contains-push, Contains-push_cases}
 use Rattle.std.proofs.lemmas.Option.{slice_get_past}
-use Rattle.fm_catch.proofs.HandlerLemmas.{each_handler, handlers_later}
+use Rattle.fm_check_handlers.proofs.HandlerLemmas.{each_handler, handlers_later}
 use Rattle.fm_base.proofs.OptionFacts.{IsSomeAnd-at_some, IsSomeAnd-from_some, option_map-some, same_value, Some-from_some_and}
-use Rattle.fm_known.proofs.MergingLemmas.{state-refl, state-trans}
-use Rattle.fm_walk.proofs.WalkLemmas.{fits_at, fits_later, fits_one, given_at, kept-locals, kept-stack, reachable-more, Went-none, Went-then, with_waiting-waits}
-use Rattle.fm_known.proofs.RisenLemmas.{alike-then, same_locals}
-use Rattle.fm_known.specs.declared.known_state.SlotPlace.{SlotPlace}
-use Rattle.fm_known.specs.inner.Ranks.{rank_at}
-use Rattle.fm_known.specs.inner.Risen.{IsAlikeBut}
-use Rattle.fm_walk.specs.inner.Walks.{Brings, is_marked, IsForced, IsKept, not_begun, Pops, risen_at, Rises, Stands, Untypable, Walked, Went, with_risen, with_state, work_left}
+use Rattle.fm_check_walk.proofs.MergingLemmas.{state-refl, state-trans}
+use Rattle.fm_check_walk.proofs.WalkLemmas.{fits_at, fits_later, fits_one, given_at, kept-locals, kept-stack, reachable-more, Went-none, Went-then, with_waiting-waits}
+use Rattle.fm_check_walk.proofs.RisenLemmas.{alike-then, same_locals}
+use Rattle.fm_check_walk.specs.declared.known_state.SlotPlace.{SlotPlace}
+use Rattle.fm_check_walk.specs.inner.Ranks.{rank_at}
+use Rattle.fm_check_walk.specs.inner.Risen.{IsAlikeBut}
+use Rattle.fm_check_walk.specs.inner.Walks.{Brings, is_marked, IsForced, IsKept, not_begun, Pops, risen_at, Rises, Stands, Untypable, Walked, Went, with_risen, with_state, work_left}
 use Rattle.fm_check.specs.inner.Steps.{BringsAll, BringsOn, falls_off, GoesOver, HasSettled, IsItem, IsLeast, IsMet, IsMetBut, IsNearlyMet, next_items, Takes, Walking}
-use Rattle.fm_catch.specs.inner.Runs.{BringsHandlers}
-use Rattle.fm_known.specs.inner.Tasks.{IsSound, is_within, Task}
+use Rattle.fm_check_handlers.specs.inner.Runs.{BringsHandlers}
+use Rattle.fm_check_walk.specs.inner.Tasks.{IsSound, is_within, Task}
 use Rattle.fm_code.specs.Edges.{Catches, falls_through, insn_of, IsEdge, IsFlowPath, IsNormalEdge, IsReachable, LeadsTo}
 use Rattle.fm_code.specs.SpellsCode.{targets_of}
 use Rattle.fm_code.specs.declared.code_array.Code.{Code}

@@ -4,23 +4,23 @@ use Rattle.std.specs.Prelude.{IsSomeAnd}
 use Rattle.std.specs.List.{AllByRecursion, AllZip}
 use Rattle.std.proofs.lemmas.Bool.{eqb-true}
 use Rattle.std.proofs.lemmas.List.Elements.{All-contains, Contains-get_or, recursion_from_All}
-use Rattle.fm_walk.proofs.CarryLemmas.{all_held, all_room_later, room_fits, slot_carried}
+use Rattle.fm_check_walk.proofs.CarryLemmas.{all_held, all_room_later, room_fits, slot_carried}
 use Rattle.fm_base.proofs.OptionFacts.{IsSomeAnd-at_some, IsSomeAnd-from_some, Some-from_some_and}
 use Rattle.fm_base.specs.declared.kinds.TypeRef.{TypeRef}
 use Rattle.fm_check.proofs.ItemLemmas.{after-row, item_small, leads_from, leads_to, met_later, next_forced, next_inside}
-use Rattle.fm_catch.proofs.HandlerLemmas.{caught_alike, caught_forced, each_handler, locals_held, locals_in}
-use Rattle.fm_walk.proofs.WalkLemmas.{kept-locals, kept-stack, fits_one, Went-none, Went-then}
-use Rattle.fm_known.proofs.PlaceLemmas.{same_longs}
-use Rattle.fm_known.proofs.RowFrames.{row-carried}
-use Rattle.fm_known.specs.declared.known_state.SlotPlace.{SlotPlace}
-use Rattle.fm_known.specs.declared.known_state.SlotPlace.TheVariants as place
-use Rattle.fm_known.specs.declared.risen.Rise.{Rise}
-use Rattle.fm_known.specs.inner.Risen.{is_local, IsAlikeBut, IsCarried, IsLeftAlone, leaves_alone, locals_of, rise_of, slot_at, words_taken}
-use Rattle.fm_catch.specs.declared.runs.Level.{Level}
-use Rattle.fm_catch.specs.inner.Runs.{GivesAll, has_room}
-use Rattle.fm_walk.specs.inner.Walks.{Carries, HasRoom, IsForced, IsKept, Stands, Walked}
+use Rattle.fm_check_handlers.proofs.HandlerLemmas.{caught_alike, caught_forced, each_handler, locals_held, locals_in}
+use Rattle.fm_check_walk.proofs.WalkLemmas.{kept-locals, kept-stack, fits_one, Went-none, Went-then}
+use Rattle.fm_check_walk.proofs.PlaceLemmas.{same_longs}
+use Rattle.fm_check_walk.proofs.RowFrames.{row-carried}
+use Rattle.fm_check_walk.specs.declared.known_state.SlotPlace.{SlotPlace}
+use Rattle.fm_check_walk.specs.declared.known_state.SlotPlace.TheVariants as place
+use Rattle.fm_check_walk.specs.declared.risen.Rise.{Rise}
+use Rattle.fm_check_walk.specs.inner.Risen.{is_local, IsAlikeBut, IsCarried, IsLeftAlone, leaves_alone, locals_of, rise_of, slot_at, words_taken}
+use Rattle.fm_check_handlers.specs.declared.runs.Level.{Level}
+use Rattle.fm_check_handlers.specs.inner.Runs.{GivesAll, has_room}
+use Rattle.fm_check_walk.specs.inner.Walks.{Carries, HasRoom, IsForced, IsKept, Stands, Walked}
 use Rattle.fm_check.specs.inner.Steps.{CarriesAll, CarriesOn, falls_off, GoesOver, HandlerHasRoom, IsMet, IsNearlyMet, IsReady, next_items}
-use Rattle.fm_known.specs.inner.Tasks.{IsSound, Task}
+use Rattle.fm_check_walk.specs.inner.Tasks.{IsSound, Task}
 use Rattle.fm_code.proofs.EdgesLemmas.{Contains-filter, Contains-from_filter, Contains-map}
 use Rattle.fm_code.specs.Edges.{Catches, falls_through, insn_of, IsNormalEdge, LeadsTo}
 use Rattle.fm_code.specs.declared.code_array.Handler.{Handler}

@@ -3,7 +3,7 @@ use Rattle.std.specs.Prelude.{◌≡◌, ℕ, ◌<◌, ◌≤◌, ◌⊎◌, tru
 use Rattle.fm_base.specs.declared.limits.TheConstants.{MAX_LOCAL_WORDS, MAX_STACK_WORDS}
 use Rattle.fm_code.specs.Edges.{MeetsCodeRules}
 use Rattle.fm_code.specs.declared.code_array.Code.{Code}
-use Rattle.fm_rows.specs.Members.{UsesNameMembers}
+use Rattle.fm_check_rows.specs.Members.{UsesNameMembers}
 use Rattle.fm_types.specs.Fits.{AreTree}
 use Rattle.fm_types.specs.States.{state_fits, TypeState}
 use Rattle.fm_types.specs.Typed.{IsTyping, state_at}

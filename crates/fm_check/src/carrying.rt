@@ -3,16 +3,16 @@
 
 ghost use Rattle.std.specs.Prelude.{ℕ, Contains, IfOk, MatchBool};
 ghost use Rattle.fm_check.specs.inner.Steps.{CarriesOnGuarded, CarriesAll, IsReady};
-ghost use Rattle.fm_catch.specs.inner.Runs.{IsGuarded};
-ghost use Rattle.fm_walk.specs.inner.Walks.{CanCarry, Carries, Stands, Untypable, walked};
-ghost use Rattle.fm_known.specs.inner.Tasks.{IsSound, task};
+ghost use Rattle.fm_check_handlers.specs.inner.Runs.{IsGuarded};
+ghost use Rattle.fm_check_walk.specs.inner.Walks.{CanCarry, Carries, Stands, Untypable, walked};
+ghost use Rattle.fm_check_walk.specs.inner.Tasks.{IsSound, task};
 
 use crate::steps::next_items;
 use fm_base::NoMemory;
-use fm_catch::{Giving, Level, give_to_levels};
+use fm_check_handlers::{Giving, Level, give_to_levels};
 use fm_code::Insn;
-use fm_known::{CheckedMethod, Rise, locals_of};
-use fm_walk::Walk;
+use fm_check_walk::{CheckedMethod, Rise, locals_of};
+use fm_check_walk::Walk;
 use std::alloc::Global;
 
 // Carries slots to each item of the list.

@@ -4,10 +4,10 @@ ghost use Rattle.std.specs.Prelude.{◌≡◌, ℕ, ◌<◌, ◌-◌, ◌++◌, 
 ghost use Rattle.std.specs.Option.{option_copied, option_map};
 ghost use Rattle.fm_check.specs.Checking.{HasCode, IsCheckable, IsLeastTyping, IsNarrow, IsTooWide, coded};
 ghost use Rattle.fm_check.specs.inner.Judgements.{Judged};
-ghost use Rattle.fm_known.specs.inner.Risen.{known_state};
+ghost use Rattle.fm_check_walk.specs.inner.Risen.{known_state};
 ghost use Rattle.fm_check.specs.inner.Steps.{IsLeast};
-ghost use Rattle.fm_walk.specs.inner.Walks.{Untypable, states_seen};
-ghost use Rattle.fm_known.specs.inner.Tasks.{IsSound, task};
+ghost use Rattle.fm_check_walk.specs.inner.Walks.{Untypable, states_seen};
+ghost use Rattle.fm_check_walk.specs.inner.Tasks.{IsSound, task};
 ghost use Rattle.fm_code.specs.AccessFlags.{is_static};
 ghost use Rattle.fm_types.specs.Typed.{Typed, entry_slots, entry_state, receiver_slots};
 ghost use Rattle.fm_types.specs.Typings.{states_of, type_state};
@@ -20,10 +20,10 @@ use crate::steps::run;
 use fm_base::limits::{MAX_LOCAL_WORDS, MAX_STACK_WORDS};
 use fm_base::{MethodId, NoMemory, Seq};
 use fm_code::{ACC_STATIC, Code, has_flag};
-use fm_known::{KnownState, CheckedMethod, parameter_slots};
-use fm_rows::{class_of_method, is_constructor};
+use fm_check_walk::{KnownState, CheckedMethod, parameter_slots};
+use fm_check_rows::{class_of_method, is_constructor};
 use fm_types::{Slot, Stack, State, Typing};
-use fm_walk::{Walk, is_within};
+use fm_check_walk::{Walk, is_within};
 use fm_world::{Body, Program, type_of_class};
 use std::alloc::Global;
 

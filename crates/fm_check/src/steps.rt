@@ -2,20 +2,20 @@
 
 ghost use Rattle.std.specs.Prelude.{◌≡◌, ℕ, ◌+◌, ◌<◌, Contains, IfOk, MatchBool, Some, if◌then◌else◌, length};
 ghost use Rattle.fm_check.specs.inner.Steps.{GoesOverGuarded, BringsAll, BringsOn, HasSettled, IsItem, IsMetBut, Walking, falls_off, next_items};
-ghost use Rattle.fm_catch.specs.inner.Runs.{IsGuarded};
-ghost use Rattle.fm_walk.specs.inner.Walks.{IsForced, Stands, Untypable, walked};
-ghost use Rattle.fm_known.specs.inner.Tasks.{IsSound, task};
+ghost use Rattle.fm_check_handlers.specs.inner.Runs.{IsGuarded};
+ghost use Rattle.fm_check_walk.specs.inner.Walks.{IsForced, Stands, Untypable, walked};
+ghost use Rattle.fm_check_walk.specs.inner.Tasks.{IsSound, task};
 ghost use Rattle.fm_code.specs.Edges.{LeadsTo};
 ghost use Rattle.fm_types.specs.Typings.{type_state};
 
 use crate::carrying::carry_on;
 use fm_base::{NoMemory, Seq};
-use fm_catch::{Level, bring_to_runs, levels_of};
+use fm_check_handlers::{Level, bring_to_runs, levels_of};
 use fm_code::{Code, Insn};
-use fm_known::{CheckedMethod, SlotPlace, all_left_alone, rises_of, words_taken};
-use fm_rows::apply;
+use fm_check_walk::{CheckedMethod, SlotPlace, all_left_alone, rises_of, words_taken};
+use fm_check_rows::apply;
 use fm_types::State;
-use fm_walk::{Walk, state_of};
+use fm_check_walk::{Walk, state_of};
 use std::alloc::Global;
 
 // Whether control can go on past the last item after the instruction of this item.

@@ -1,13 +1,13 @@
 -- What is known of classes whose names differ while their superclasses are judged, and once their tables are made.
 use Rattle.std.proofs.Common.{◌≡◌, ◌∙◌, ap, subst, ℕ, List, map, Option}
 use Rattle.fm_code.specs.declared.class_file.ClassDef.{ClassDef}
-use Rattle.fm_declare.specs.declared.class_numbers.ClassNumbers.{ClassNumbers}
-use Rattle.fm_declare.specs.declared.given.GivenFile.{GivenFile}
-use Rattle.fm_declare.specs.inner.ClassNumbering.{NumbersClasses}
-use Rattle.fm_declare.specs.inner.Files.{AreFiles}
-use Rattle.fm_above.specs.declared.hierarchy.Ancestors.{Ancestors}
-use Rattle.fm_above.specs.inner.Hierarchy.{AreAncestors}
-use Rattle.fm_above.specs.inner.NamedParents.{NamesClasses}
+use Rattle.fm_link_names.specs.declared.class_numbers.ClassNumbers.{ClassNumbers}
+use Rattle.fm_link_names.specs.declared.given.GivenFile.{GivenFile}
+use Rattle.fm_link_names.specs.inner.ClassNumbering.{NumbersClasses}
+use Rattle.fm_link_names.specs.inner.Files.{AreFiles}
+use Rattle.fm_link_supers.specs.declared.hierarchy.Ancestors.{Ancestors}
+use Rattle.fm_link_supers.specs.inner.Hierarchy.{AreAncestors}
+use Rattle.fm_link_supers.specs.inner.NamedParents.{NamesClasses}
 use Rattle.fm_world.specs.Descriptors.{class_number}
 use Rattle.fm_world.specs.Programs.{classes_of}
 use Rattle.fm_world.specs.declared.declarations.DeclaredClass.{DeclaredClass}

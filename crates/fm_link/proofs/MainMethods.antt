@@ -9,22 +9,22 @@ use Rattle.std.proofs.lemmas.Option.{none-some, same_Some, slice_get-get_or}
 use Rattle.std.proofs.lemmas.List.Quantifiers.{position-Some}
 use Rattle.fm_code.specs.AccessFlags.{is_static}
 use Rattle.fm_code.specs.declared.class_file.ClassDef.{ClassDef}
-use Rattle.fm_declare.specs.declared.given.GivenFile.{GivenFile}
-use Rattle.fm_declare.specs.inner.Numbering.{texts_in}
-use Rattle.fm_above.proofs.Downwards.{or_true, same_number, walk_within}
-use Rattle.fm_lookup.proofs.FirstOnes.{first_from-is, first_is_one, position-is}
-use Rattle.fm_lookup.proofs.NearestLemmas.{first_found-cons, widened}
-use Rattle.fm_above.proofs.ParentTables.{row_within}
-use Rattle.fm_lookup.proofs.SectionLemmas.{is_named as is_member_named, own_method-position, position_from-append, position_from-map}
-use Rattle.fm_lookup.proofs.SectionRows.{AreSections-methods}
-use Rattle.fm_lookup.specs.declared.members.MemberRow.{MemberRow}
-use Rattle.fm_lookup.specs.declared.members.Members.{Members}
-use Rattle.fm_lookup.specs.inner.MemberRows.{method_alike, no_row, row_alike, section_of, AreMethodRows, AreSections, Owned}
-use Rattle.fm_lookup.specs.inner.MemberTables.{first_from}
-use Rattle.fm_lookup.specs.inner.NearestSteps.{or_else}
-use Rattle.fm_refuse.specs.declared.linking.Linking.{Linking}
-use Rattle.fm_refuse.specs.inner.GivenClasses.{class_in, given_in}
-use Rattle.fm_refuse.specs.inner.Linking.{IsLinking}
+use Rattle.fm_link_names.specs.declared.given.GivenFile.{GivenFile}
+use Rattle.fm_link_names.specs.inner.Numbering.{texts_in}
+use Rattle.fm_link_supers.proofs.Downwards.{or_true, same_number, walk_within}
+use Rattle.fm_link_members.proofs.FirstOnes.{first_from-is, first_is_one, position-is}
+use Rattle.fm_link_members.proofs.NearestLemmas.{first_found-cons, widened}
+use Rattle.fm_link_supers.proofs.ParentTables.{row_within}
+use Rattle.fm_link_members.proofs.SectionLemmas.{is_named as is_member_named, own_method-position, position_from-append, position_from-map}
+use Rattle.fm_link_members.proofs.SectionRows.{AreSections-methods}
+use Rattle.fm_link_members.specs.declared.members.MemberRow.{MemberRow}
+use Rattle.fm_link_members.specs.declared.members.Members.{Members}
+use Rattle.fm_link_members.specs.inner.MemberRows.{method_alike, no_row, row_alike, section_of, AreMethodRows, AreSections, Owned}
+use Rattle.fm_link_members.specs.inner.MemberTables.{first_from}
+use Rattle.fm_link_members.specs.inner.NearestSteps.{or_else}
+use Rattle.fm_link_refusals.specs.declared.linking.Linking.{Linking}
+use Rattle.fm_link_refusals.specs.inner.GivenClasses.{class_in, given_in}
+use Rattle.fm_link_refusals.specs.inner.Linking.{IsLinking}
 use Rattle.fm_link.specs.inner.MainClass.{is_main_at, is_main_in, is_main_row, is_named, main_between, main_descriptor, main_found, main_method_in, main_name, number_among, own_main_in}
 use Rattle.fm_world.specs.BuiltIns.{built_in}
 use Rattle.fm_world.specs.Causes.{is_there_and, no_main, NoMain, own_name, Refusal, refused_if}

@@ -5,19 +5,19 @@ use Rattle.std.proofs.lemmas.Option.{get_or_from_slice_get, slice_get-get_or, sl
 use Rattle.std.specs.List.{AllByRecursion}
 use Rattle.fm_code.specs.Spells.{HasSpelling}
 use Rattle.fm_code.specs.declared.class_file.ClassDef.{ClassDef}
-use Rattle.fm_declare.proofs.FileLemmas.{extends_through, file_kept}
-use Rattle.fm_declare.specs.declared.given.GivenFile.{GivenFile}
-use Rattle.fm_declare.specs.inner.Files.{AreFiles, IsFile}
-use Rattle.fm_declare.specs.declared.texts.Texts.{Texts}
-use Rattle.fm_declare.specs.inner.Numbering.{texts_in, AreTexts, Extends}
+use Rattle.fm_link_names.proofs.FileLemmas.{extends_through, file_kept}
+use Rattle.fm_link_names.specs.declared.given.GivenFile.{GivenFile}
+use Rattle.fm_link_names.specs.inner.Files.{AreFiles, IsFile}
+use Rattle.fm_link_names.specs.declared.texts.Texts.{Texts}
+use Rattle.fm_link_names.specs.inner.Numbering.{texts_in, AreTexts, Extends}
 use Rattle.fm_link.specs.inner.Judged.{later_refusals, member_refusals, name_refusals, IsReady}
-use Rattle.fm_lookup.proofs.RowSteps.{rows_extend}
-use Rattle.fm_lookup.specs.declared.members.Members.{Members}
-use Rattle.fm_lookup.specs.inner.MemberRows.{field_alike, method_alike, AreFieldRows, AreMethodRows}
-use Rattle.fm_refuse.proofs.FirstRefusals.{first-append, first_after, refuses_after}
-use Rattle.fm_refuse.specs.Refused.{IsFirst, Refuses}
-use Rattle.fm_refuse.specs.declared.error.LinkFail.{LinkFail}
-use Rattle.fm_refuse.specs.inner.GivenClasses.{class_in, given_in, AreNumbered}
+use Rattle.fm_link_members.proofs.RowSteps.{rows_extend}
+use Rattle.fm_link_members.specs.declared.members.Members.{Members}
+use Rattle.fm_link_members.specs.inner.MemberRows.{field_alike, method_alike, AreFieldRows, AreMethodRows}
+use Rattle.fm_link_refusals.proofs.FirstRefusals.{first-append, first_after, refuses_after}
+use Rattle.fm_link_refusals.specs.Refused.{IsFirst, Refuses}
+use Rattle.fm_link_refusals.specs.declared.error.LinkFail.{LinkFail}
+use Rattle.fm_link_refusals.specs.inner.GivenClasses.{class_in, given_in, AreNumbered}
 use Rattle.fm_world.specs.Causes.{Refusal}
 use Rattle.fm_world.specs.Lookups.{constructor_name}
 use Rattle.fm_world.specs.Members.{fields_of, methods_of}

@@ -2,9 +2,9 @@
 use Rattle.std.proofs.Common.{◌≡◌, sym, ◌∙◌, ap, subst, ℕ, List}
 use Rattle.fm_code.specs.declared.class_file.ClassDef.{ClassDef}
 use Rattle.fm_link.specs.inner.Made.{AreTablesOf}
-use Rattle.fm_parts.proofs.ProgramSteps.{are_tables, is_program}
-use Rattle.fm_parts.specs.declared.program_tables.ProgramTables.{ProgramTables}
-use Rattle.fm_parts.specs.inner.Assembled.{parts_from}
+use Rattle.fm_link_program.proofs.ProgramSteps.{are_tables, is_program}
+use Rattle.fm_link_program.specs.declared.program_tables.ProgramTables.{ProgramTables}
+use Rattle.fm_link_program.specs.inner.Assembled.{parts_from}
 use Rattle.fm_world.specs.Programs.{classes_of, program_of}
 use Rattle.fm_world.specs.declared.declarations.DeclaredClass.{DeclaredClass}
 use Rattle.fm_world.specs.inner.Tables.{program_in, AreTables}

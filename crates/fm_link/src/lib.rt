@@ -11,5 +11,5 @@ mod ready;
 #[cfg(test)]
 mod tests;
 
-pub use fm_refuse::{LinkBad, LinkFail};
+pub use fm_link_refusals::{LinkBad, LinkFail};
 pub use linking::link;

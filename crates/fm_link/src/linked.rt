@@ -1,21 +1,21 @@
 // Superclasses are judged and their tables made; then what classes do with members is judged.
 
 ghost use Rattle.std.specs.Prelude.{◌≡◌, IfOk, List};
-ghost use Rattle.fm_declare.specs.inner.Numbering.{texts_in, AreTexts};
+ghost use Rattle.fm_link_names.specs.inner.Numbering.{texts_in, AreTexts};
 ghost use Rattle.fm_link.specs.inner.Judged.{class_refusals, member_refusals, AreLinked, AreReady};
 ghost use Rattle.fm_link.specs.inner.MainClass.{AreMain};
-ghost use Rattle.fm_refuse.specs.Refused.{Refuses};
-ghost use Rattle.fm_refuse.specs.inner.GivenClasses.{given_in, AreNumbered};
-ghost use Rattle.fm_refuse.specs.inner.Linking.{IsLinking};
+ghost use Rattle.fm_link_refusals.specs.Refused.{Refuses};
+ghost use Rattle.fm_link_refusals.specs.inner.GivenClasses.{given_in, AreNumbered};
+ghost use Rattle.fm_link_refusals.specs.inner.Linking.{IsLinking};
 ghost use Rattle.fm_world.specs.Programs.{classes_of};
 ghost use Rattle.fm_world.specs.declared.declarations.DeclaredClass.{DeclaredClass};
 
 use crate::main_class::main_of;
 use crate::ready::Ready;
-use fm_above::{Ancestors, Hierarchy};
-use fm_declare::{ClassNumbers, GivenFile, Texts, classes_by_text};
-use fm_lookup::{Fields, Members, Methods, asked_members};
-use fm_refuse::{
+use fm_link_supers::{Ancestors, Hierarchy};
+use fm_link_names::{ClassNumbers, GivenFile, Texts, classes_by_text};
+use fm_link_members::{Fields, Members, Methods, asked_members};
+use fm_link_refusals::{
     LinkFail, Linking, arrays_by_text, refuse_fields, refuse_methods, refuse_missing_classes,
     refuse_not_implemented, refuse_parents,
 };

@@ -5,18 +5,18 @@ ghost use Rattle.std.specs.List.{AllByRecursion};
 ghost use Rattle.fm_code.specs.Spells.{HasSpelling};
 ghost use Rattle.fm_link.specs.inner.Judged.{later_refusals, AreReady};
 ghost use Rattle.fm_link.specs.inner.Made.{AreTablesOf};
-ghost use Rattle.fm_refuse.specs.Refused.{Refuses};
-ghost use Rattle.fm_refuse.specs.inner.GivenClasses.{given_in};
+ghost use Rattle.fm_link_refusals.specs.Refused.{Refuses};
+ghost use Rattle.fm_link_refusals.specs.inner.GivenClasses.{given_in};
 ghost use Rattle.fm_world.specs.Linking.{refusals};
 ghost use Rattle.fm_world.specs.Programs.{program_of};
 
 use crate::linked::{judged_main, linked_classes};
 use crate::ready::{Numbered, Ready, numbered_files};
 use fm_code::ClassDef;
-use fm_declare::types_by_text;
-use fm_lookup::Members;
-use fm_parts::{ProgramTables, tables_of};
-use fm_refuse::LinkFail;
+use fm_link_names::types_by_text;
+use fm_link_members::Members;
+use fm_link_program::{ProgramTables, tables_of};
+use fm_link_refusals::LinkFail;
 use fm_world::Program;
 use std::alloc::Global;
 

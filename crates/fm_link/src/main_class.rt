@@ -1,19 +1,19 @@
 // The main class and its main method.
 
 ghost use Rattle.std.specs.Prelude.{◌≡◌, IfOk};
-ghost use Rattle.fm_declare.specs.inner.Numbering.{texts_in};
-ghost use Rattle.fm_refuse.specs.Refused.{Refuses};
-ghost use Rattle.fm_refuse.specs.inner.GivenClasses.{given_in, AreNumbered};
-ghost use Rattle.fm_refuse.specs.inner.Linking.{IsLinking};
+ghost use Rattle.fm_link_names.specs.inner.Numbering.{texts_in};
+ghost use Rattle.fm_link_refusals.specs.Refused.{Refuses};
+ghost use Rattle.fm_link_refusals.specs.inner.GivenClasses.{given_in, AreNumbered};
+ghost use Rattle.fm_link_refusals.specs.inner.Linking.{IsLinking};
 ghost use Rattle.fm_link.specs.inner.MainClass.{is_main_at, is_main_row, main_between, main_found, main_method_in, number_among, own_main_in, AreMain};
 ghost use Rattle.fm_world.specs.Linking.{refused_main};
 ghost use Rattle.fm_world.specs.Programs.{classes_of};
 
 use fm_base::NoMemory;
 use fm_code::{ACC_STATIC, has_flag};
-use fm_declare::{GivenFile, Texts, number_of};
-use fm_lookup::{MemberRow, Members};
-use fm_refuse::{LinkFail, Linking, bad_of};
+use fm_link_names::{GivenFile, Texts, number_of};
+use fm_link_members::{MemberRow, Members};
+use fm_link_refusals::{LinkFail, Linking, bad_of};
 use fm_world::built_in_classes;
 use std::alloc::Global;
 

@@ -4,12 +4,12 @@ ghost use Rattle.std.specs.Prelude.{◌≡◌, ◌++◌, IfOk};
 ghost use Rattle.std.specs.List.{AllByRecursion};
 ghost use Rattle.fm_code.specs.Spells.{HasSpelling};
 ghost use Rattle.fm_link.specs.inner.Judged.{name_refusals, AreNumberedFiles};
-ghost use Rattle.fm_refuse.specs.Refused.{Refuses};
+ghost use Rattle.fm_link_refusals.specs.Refused.{Refuses};
 
 use fm_code::ClassDef;
-use fm_declare::{GivenFile, Texts, declared_classes, given_files, shared_texts};
-use fm_lookup::{Members, fields_of, methods_of};
-use fm_refuse::{LinkFail, refuse_built_ins, refuse_duplicates};
+use fm_link_names::{GivenFile, Texts, declared_classes, given_files, shared_texts};
+use fm_link_members::{Members, fields_of, methods_of};
+use fm_link_refusals::{LinkFail, refuse_built_ins, refuse_duplicates};
 use fm_world::DeclaredClass;
 use std::alloc::Global;
 

@@ -12,7 +12,7 @@ ghost use Rattle.fm_code.specs.Spells.{HasSpelling};
 use crate::{LinkFail, link};
 use fm_code::ClassDef;
 use fm_read::read_class;
-use fm_samples::ClassSample;
+use fm_test_classes::ClassSample;
 use fm_world::Program;
 use std::alloc::Global;
 use std::test::Fail;

@@ -26,7 +26,7 @@ use fm_base::limits::MAX_LOCAL_WORDS;
 use fm_base::{MethodId, NoMemory};
 use fm_code::{Code, Insn};
 use fm_conn::{Classes, End2, AnalysedMethod, Summaries, is_reference, is_reference_kind, words_taken};
-use fm_rows::is_constructor;
+use fm_check_rows::is_constructor;
 use fm_types::{Slot, State, Typing};
 use fm_world::{Body, Call, Program, Use};
 use std::alloc::Global;

@@ -1,8 +1,8 @@
 -- What the facts of two texts say of them as a name with a descriptor.
 use Rattle.std.proofs.Common.{◌↔◌, ℕ, ◌⊎◌, Bool, IsTrue, IsSomeAnd, Option, Some, None, List}
 use Rattle.fm_code.specs.ConstantPool.{IsFieldPair, IsMethodPair}
-use Rattle.fm_texts.specs.Facts.{AreFactsOf, AreFactsAt}
-use Rattle.fm_texts.specs.declared.facts.TextFacts.{TextFacts}
+use Rattle.fm_pool_texts.specs.Facts.{AreFactsOf, AreFactsAt}
+use Rattle.fm_pool_texts.specs.declared.facts.TextFacts.{TextFacts}
 
 -- what decides texts decides those that are there
 pub pair_decides : (o p : Option (List ℕ)) (name descriptor : TextFacts) (r : Bool) → AreFactsAt o (Some name) → AreFactsAt p (Some descriptor)

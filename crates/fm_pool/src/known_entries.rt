@@ -3,11 +3,11 @@
 
 ghost use Rattle.std.specs.Prelude.{◌↔◌, IsSome, IsTrue};
 ghost use Rattle.fm_code.specs.ConstantPool.{class_name_at, named_and_typed_at, utf8_at};
-ghost use Rattle.fm_texts.specs.Facts.{AreFacts, AreFactsAt};
+ghost use Rattle.fm_pool_texts.specs.Facts.{AreFacts, AreFactsAt};
 ghost use Rattle.fm_pool.specs.inner.Rules.{ArePairFacts, descriptor_named};
 
 use fm_code::Entry;
-use fm_texts::TextFacts;
+use fm_pool_texts::TextFacts;
 
 /// A pool's entries, with the facts of its texts by their indices.
 #[derive(Clone, Copy, Debug)]

@@ -5,12 +5,12 @@ ghost use Rattle.fm_code.specs.ConstantPool.{class_name_at, field_ref_at, interf
 ghost use Rattle.fm_code.specs.Members.{ReturnsNothing};
 ghost use Rattle.fm_code.specs.Names.{is_binary_name, is_method_name, is_unqualified, IsFieldDescriptor, IsMethodDescriptor};
 ghost use Rattle.fm_code.specs.Operands.{TakesWords};
-ghost use Rattle.fm_texts.specs.Facts.{AreFacts};
+ghost use Rattle.fm_pool_texts.specs.Facts.{AreFacts};
 
 use crate::known_entries::KnownEntries;
 use fm_base::NoMemory;
 use fm_code::{Entry, Pool};
-use fm_texts::{TextFacts, facts_of_entries};
+use fm_pool_texts::{TextFacts, facts_of_entries};
 use std::alloc::Global;
 use std::marker::Model;
 
@@ -27,7 +27,7 @@ impl Model for KnownPool {
 
     ghost Value = { PoolRecord };
 
-    ghost use Rattle.fm_texts.specs.Facts.{AreFacts};
+    ghost use Rattle.fm_pool_texts.specs.Facts.{AreFacts};
 
     ghost view = { λ known. known.pool };
 

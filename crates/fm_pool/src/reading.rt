@@ -11,7 +11,7 @@ use crate::known_entries::KnownEntries;
 use crate::rules::{all_names_are_valid, texts_are_valid};
 use fm_base::{NoMemory, Seq};
 use fm_code::{Entry, Pool};
-use fm_texts::facts_of_entries;
+use fm_pool_texts::facts_of_entries;
 use std::alloc::Global;
 
 /// The constant pool that the bytes begin with, from constant_pool_count on, and the number of bytes

@@ -4,13 +4,13 @@ ghost use Rattle.std.specs.Prelude.{◌↔◌, ◌⊎◌, ℕ, List, IsTrue};
 ghost use Rattle.std.specs.List.{AllByRecursion};
 ghost use Rattle.fm_code.specs.ConstantPool.{EntryIsValid, NamesMember, IsFieldPair, IsMethodPair};
 ghost use Rattle.fm_code.specs.declared.constant_pool.Entry.TheVariants as entry;
-ghost use Rattle.fm_texts.specs.Facts.{AreFacts, AreFactsOf};
+ghost use Rattle.fm_pool_texts.specs.Facts.{AreFacts, AreFactsOf};
 ghost use Rattle.fm_pool.specs.inner.Rules.{TextIsValid, NamesAreValid};
 
 use crate::known_entries::KnownEntries;
 use fm_base::is_modified_utf8;
 use fm_code::Entry;
-use fm_texts::TextFacts;
+use fm_pool_texts::TextFacts;
 
 /// Whether an entry that is a text is one in modified UTF-8.
 fn text_is_valid(entry: &Entry) -> bool

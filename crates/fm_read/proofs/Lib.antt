@@ -8,3 +8,8 @@ pub mod RecordParts
 pub mod SpelledBytes
 pub mod WholeClass
 pub mod WholeFile
+pub mod PlaceLaws
+pub mod TablePieces
+pub mod AttributePieces
+pub mod ItemLaws
+pub mod CodeLaws

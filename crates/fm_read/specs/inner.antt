@@ -1,3 +1,4 @@
+-- What serves the proofs alone.
 pub mod ClassParts
 pub mod Failures
 pub mod MemberRules
@@ -5,3 +6,6 @@ pub mod Head
 pub mod Parts
 pub mod Reading
 pub mod Rules
+pub mod Items
+pub mod Places
+pub mod ReadingCode

@@ -9,8 +9,8 @@ ghost use Rattle.fm_code.specs.declared.class_file.MemberAttr.{MemberAttr as Att
 ghost use Rattle.fm_read.specs.inner.MemberRules.{AreAttributesOf, IsAttributeOf, IsValueOf};
 ghost use Rattle.fm_code.specs.inner.Reading.{attribute_view};
 
+use crate::code::code_of;
 use fm_base::{NoMemory, Seq};
-use fm_body::code_of;
 use fm_code::{AttributeParts, Entry, MemberAttr, PieceFail, Raw, take_u16};
 use fm_pool::KnownPool;
 use std::alloc::Global;

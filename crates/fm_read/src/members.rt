@@ -15,7 +15,7 @@ use crate::parts::MemberParts;
 use fm_base::{NoMemory, Seq};
 use fm_code::{Member, PieceFail};
 use fm_pool::KnownPool;
-use fm_texts::TextNumbers;
+use fm_pool_texts::TextNumbers;
 use std::alloc::Global;
 
 /// The fields of a class, or of an interface, of these parts. `Malformed` comes exactly where there

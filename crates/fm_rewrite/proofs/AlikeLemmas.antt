@@ -11,9 +11,9 @@ use Rattle.fm_place.specs.Safe.{full_plans}
 use Rattle.fm_rewrite.proofs.MeantLemmas.{member_meant}
 use Rattle.fm_rewrite.specs.Alike.{ArePlannedFrom, ClassesArePlannedAlike, IsShortEnough, MembersArePlannedAlike}
 use Rattle.fm_rewrite.specs.inner.Meant.{AreMeant, IsMeant}
-use Rattle.fm_weave.specs.ClassLaws.{AreAlike, IsAlike}
-use Rattle.fm_weave.specs.declared.planned.Planned.{Planned}
-use Rattle.fm_weave.specs.declared.planned.Planned.TheVariants as planned
+use Rattle.fm_place_weave.specs.ClassLaws.{AreAlike, IsAlike}
+use Rattle.fm_place_weave.specs.declared.planned.Planned.{Planned}
+use Rattle.fm_place_weave.specs.declared.planned.Planned.TheVariants as planned
 use Rattle.fm_world.specs.Programs.{Program}
 
 -- what isn't too long is what the definitions insert

@@ -2,8 +2,8 @@
 use Rattle.std.proofs.Common.{◌≡◌, refl, ap, ℕ, ◌+◌, ◌<◌, ◌≤◌, ◌^◌, Bool, true, false, cond, List, [], ◌∷◌, length, Option, Some, None, arith, length-append}
 use Rattle.std.specs.List.{flat_map, range_with_len}
 use Rattle.std.specs.Option.{option_map, option_or}
-use Rattle.fm_analysis.proofs.ShapesLemmas.{code_facts}
-use Rattle.fm_analysis.specs.Analysed.{AreAnalysable}
+use Rattle.fm_summ_shapes.proofs.ShapesLemmas.{code_facts}
+use Rattle.fm_summ_shapes.specs.Analysed.{AreAnalysable}
 use Rattle.fm_check.specs.Checking.{coded}
 use Rattle.fm_code.specs.ClassBytes.{item_bytes}
 use Rattle.fm_code.specs.SpellsCode.{AreOffsets}

@@ -15,11 +15,11 @@ use Rattle.fm_rewrite.specs.Alike.{IsShortEnough}
 use Rattle.fm_rewrite.specs.Rewritten.{long_among, long_method}
 use Rattle.fm_rewrite.specs.inner.ByPlans.{changes_by, frees_by, frees_of_one, is_changed, long_by, rewritten_by, sites_by, sites_of_one}
 use Rattle.fm_rewrite.specs.inner.Meant.{AreMeant, IsMeant}
-use Rattle.fm_weave.proofs.ClassLawLemmas.{by_change, classes_are_rewritten}
-use Rattle.fm_weave.specs.ClassByPlan.{class_by, first_long}
-use Rattle.fm_weave.specs.ClassByPlan as weave
-use Rattle.fm_weave.specs.declared.planned.Planned.{Planned}
-use Rattle.fm_weave.specs.declared.planned.Planned.TheVariants as planned
+use Rattle.fm_place_weave.proofs.ClassLawLemmas.{by_change, classes_are_rewritten}
+use Rattle.fm_place_weave.specs.ClassByPlan.{class_by, first_long}
+use Rattle.fm_place_weave.specs.ClassByPlan as weave
+use Rattle.fm_place_weave.specs.declared.planned.Planned.{Planned}
+use Rattle.fm_place_weave.specs.declared.planned.Planned.TheVariants as planned
 
 -- ---- changed or not
 

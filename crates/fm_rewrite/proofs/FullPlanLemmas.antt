@@ -31,13 +31,13 @@ use Rattle.fm_place.specs.declared.found_sites.Site.{Site}
 use Rattle.fm_place.specs.declared.limits.TheConstants.{MAX_HOLDING_STACK_WORDS}
 use Rattle.fm_place.specs.declared.plans.Plan.{Plan}
 use Rattle.fm_place.specs.inner.PlanRows.{pair_of}
-use Rattle.fm_weave.proofs.LengthLemmas.{number_by-is}
-use Rattle.fm_weave.proofs.NarrowLemmas.{narrow-is}
-use Rattle.fm_weave.proofs.PairLemmas.{leading_within}
-use Rattle.fm_weave.proofs.PlanLemmas.{items-is, may-be-woven}
-use Rattle.fm_weave.specs.ByPlan.{count_by, later, leading, narrow_by, number_after, number_by}
-use Rattle.fm_weave.specs.Conditions.{AreLocals, HasRoom}
-use Rattle.fm_weave.specs.Laws.{IsWholePlan}
+use Rattle.fm_place_weave.proofs.LengthLemmas.{number_by-is}
+use Rattle.fm_place_weave.proofs.NarrowLemmas.{narrow-is}
+use Rattle.fm_place_weave.proofs.PairLemmas.{leading_within}
+use Rattle.fm_place_weave.proofs.PlanLemmas.{items-is, may-be-woven}
+use Rattle.fm_place_weave.specs.ByPlan.{count_by, later, leading, narrow_by, number_after, number_by}
+use Rattle.fm_place_weave.specs.Conditions.{AreLocals, HasRoom}
+use Rattle.fm_place_weave.specs.Laws.{IsWholePlan}
 
 -- ---- lists
 

@@ -2,12 +2,12 @@
 use Rattle.std.proofs.Common.{◌≡◌, sym, ◌∙◌, ap, subst, ℕ, ◌+◌, ◌-◌, List, drop, take, length, length-append, None, Result, Err, arith}
 use Rattle.std.specs.List.{AllByRecursion}
 use Rattle.std.proofs.lemmas.List.{length-drop, take_all}
-use Rattle.fm_analysis.proofs.AcceptedLemmas.{accepted_are}
-use Rattle.fm_analysis.specs.Analysed.{AreAnalysable, IsAccepted}
+use Rattle.fm_summ_shapes.proofs.AcceptedLemmas.{accepted_are}
+use Rattle.fm_summ_shapes.specs.Analysed.{AreAnalysable, IsAccepted}
 use Rattle.fm_base.proofs.ListFacts.{AllByRecursion-weaker}
 use Rattle.fm_code.specs.Spells.{HasSpelling}
 use Rattle.fm_code.specs.declared.class_file.ClassDef.{ClassDef}
-use Rattle.fm_above.proofs.ParentRefusals.{length-declared}
+use Rattle.fm_link_supers.proofs.ParentRefusals.{length-declared}
 use Rattle.fm_place.specs.Rewriting.{first_given}
 use Rattle.fm_rewrite.proofs.MayDoLemmas.{have_counts, may_do_each}
 use Rattle.fm_rewrite.proofs.OldItemsLemmas.{have_old_items}
@@ -18,7 +18,7 @@ use Rattle.fm_rewrite.specs.declared.error.RewriteFail.{RewriteFail}
 use Rattle.fm_rewrite.specs.declared.error.RewriteFail.TheVariants as fail
 use Rattle.fm_rewrite.specs.declared.rewriting.Rewritten.{Rewritten}
 use Rattle.fm_rewrite.specs.inner.ByPlans.{ComesBy, first_full_by, first_long_by, HaveCounts, IsFullBy, IsLongBy, MayDoEach, method_count}
-use Rattle.fm_weave.specs.declared.planned.Planned.{Planned}
+use Rattle.fm_place_weave.specs.declared.planned.Planned.{Planned}
 use Rattle.fm_world.specs.BuiltIns.{built_in}
 use Rattle.fm_world.specs.Declarations.{declared_from}
 use Rattle.fm_world.specs.Members.{methods_of}

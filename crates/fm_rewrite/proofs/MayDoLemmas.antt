@@ -3,8 +3,8 @@ use Rattle.std.proofs.Common.{◌≡◌, refl, sym, ◌∙◌, subst, ℕ, zero,
 use Rattle.std.specs.Prelude.{nat_eq, nat_lt}
 use Rattle.std.specs.List.{AllByRecursion}
 use Rattle.std.proofs.lemmas.Bool.{ltb-false}
-use Rattle.fm_analysis.proofs.ShapesLemmas.{code_facts}
-use Rattle.fm_analysis.specs.Analysed.{AreAnalysable}
+use Rattle.fm_summ_shapes.proofs.ShapesLemmas.{code_facts}
+use Rattle.fm_summ_shapes.specs.Analysed.{AreAnalysable}
 use Rattle.fm_code.specs.AccessFlags.{is_interface}
 use Rattle.fm_code.specs.Fits.{FitsTwo}
 use Rattle.fm_code.specs.Members.{MethodIsValid}
@@ -26,12 +26,12 @@ use Rattle.fm_rewrite.specs.Plans.{HasOldItems, IsPlannedByFacts}
 use Rattle.fm_rewrite.specs.inner.ByPlans.{frees_by, frees_of_one, HaveCounts, MayDoEach, others, own, sites_by, sites_of_one}
 use Rattle.fm_rewrite.specs.inner.Meant.{AreAllPlanned}
 use Rattle.fm_place.specs.Insertions.{all_insertions}
-use Rattle.fm_weave.proofs.FreesLemmas.{frees_within}
-use Rattle.fm_weave.specs.ByPlan.{narrow_by}
-use Rattle.fm_weave.specs.ClassByPlan.{MayDo, MayDoAll, MayWeave}
-use Rattle.fm_weave.specs.Conditions.{MayBeWoven}
-use Rattle.fm_weave.specs.declared.planned.Planned.{Planned}
-use Rattle.fm_weave.specs.declared.planned.Planned.TheVariants as planned
+use Rattle.fm_place_weave.proofs.FreesLemmas.{frees_within}
+use Rattle.fm_place_weave.specs.ByPlan.{narrow_by}
+use Rattle.fm_place_weave.specs.ClassByPlan.{MayDo, MayDoAll, MayWeave}
+use Rattle.fm_place_weave.specs.Conditions.{MayBeWoven}
+use Rattle.fm_place_weave.specs.declared.planned.Planned.{Planned}
+use Rattle.fm_place_weave.specs.declared.planned.Planned.TheVariants as planned
 use Rattle.fm_world.specs.Programs.{code_at, Program}
 
 positive : (n : ℕ) → nat_eq n 0 ≡ false → 0 < n

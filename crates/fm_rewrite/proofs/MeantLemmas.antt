@@ -24,20 +24,20 @@ use Rattle.fm_place.specs.Insertions.{all_insertions, full_insertions, Insertion
 use Rattle.fm_place.specs.Safe.{full_plans}
 use Rattle.fm_place.specs.Woven.{woven}
 use Rattle.fm_place.specs.declared.plans.Plan.{Plan}
-use Rattle.fm_profile.proofs.LimitLemmas.{code_is, first_code}
+use Rattle.fm_read_limits.proofs.LimitLemmas.{code_is, first_code}
 use Rattle.fm_rewrite.proofs.FullPlanLemmas.{whole}
 use Rattle.fm_rewrite.specs.Alike.{IsOwnCode, IsPlannedAt}
 use Rattle.fm_rewrite.specs.Plans.{IsPlannedByFacts}
 use Rattle.fm_rewrite.specs.Rewritten.{long_code, long_method}
 use Rattle.fm_rewrite.specs.inner.Meant.{IsMeant}
-use Rattle.fm_weave.proofs.NarrowLemmas.{narrow-is}
-use Rattle.fm_weave.proofs.PlanLemmas.{items-is}
-use Rattle.fm_weave.specs.ByPlan.{narrow_by}
-use Rattle.fm_weave.specs.ClassByPlan.{long_attribute, long_attributes}
-use Rattle.fm_weave.specs.ClassLaws.{IsPlanIn}
-use Rattle.fm_weave.specs.Laws.{IsWholePlan}
-use Rattle.fm_weave.specs.declared.planned.Planned.{Planned}
-use Rattle.fm_weave.specs.declared.planned.Planned.TheVariants as planned
+use Rattle.fm_place_weave.proofs.NarrowLemmas.{narrow-is}
+use Rattle.fm_place_weave.proofs.PlanLemmas.{items-is}
+use Rattle.fm_place_weave.specs.ByPlan.{narrow_by}
+use Rattle.fm_place_weave.specs.ClassByPlan.{long_attribute, long_attributes}
+use Rattle.fm_place_weave.specs.ClassLaws.{IsPlanIn}
+use Rattle.fm_place_weave.specs.Laws.{IsWholePlan}
+use Rattle.fm_place_weave.specs.declared.planned.Planned.{Planned}
+use Rattle.fm_place_weave.specs.declared.planned.Planned.TheVariants as planned
 use Rattle.fm_world.specs.Programs.{code_at, Program}
 
 -- ---- the attributes of a method

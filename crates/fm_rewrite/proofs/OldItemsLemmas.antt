@@ -1,7 +1,7 @@
 -- The codes of a program of class files are made of bytes, and so are what is laid out again.
 use Rattle.std.proofs.Common.{◌≡◌, List, [], ◌∷◌, refl, map, Option, Some, None, IfSome, arith}
 use Rattle.std.specs.List.{AllByRecursion, flat_map}
-use Rattle.fm_analysis.proofs.ShapesLemmas.{code_facts}
+use Rattle.fm_summ_shapes.proofs.ShapesLemmas.{code_facts}
 use Rattle.fm_base.proofs.ListFacts.{AllByRecursion-append}
 use Rattle.fm_code.specs.ClassBytes.{item_bytes}
 use Rattle.fm_code.specs.Edges.{HasNoLeftOut, MeetsCodeRules}
@@ -13,9 +13,9 @@ use Rattle.fm_code.specs.declared.class_file.Member.{Member}
 use Rattle.fm_code.specs.declared.code_array.Code.{Code}
 use Rattle.fm_code.specs.declared.code_array.Item.{Item}
 use Rattle.fm_layout.specs.Conditions.{AreOldItems}
-use Rattle.fm_profile.proofs.LimitLemmas.{code_fits}
+use Rattle.fm_read_limits.proofs.LimitLemmas.{code_fits}
 use Rattle.fm_rewrite.specs.Plans.{ProgramsHaveOldItems}
-use Rattle.fm_untyped.proofs.LinkedPrograms.{all_codes, code_there, AreAll}
+use Rattle.fm_check_program.proofs.LinkedPrograms.{all_codes, code_there, AreAll}
 use Rattle.fm_world.specs.Programs.{codes_of, program_of}
 
 -- the items of the code have bytes

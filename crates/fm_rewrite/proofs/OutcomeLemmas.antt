@@ -16,7 +16,7 @@ use Rattle.fm_rewrite.specs.declared.error.RewriteFail.TheVariants as fail
 use Rattle.fm_rewrite.specs.declared.rewriting.Rewritten.{Rewritten}
 use Rattle.fm_rewrite.specs.inner.ByPlans.{ComesBy, first_full_by, first_long_by}
 use Rattle.fm_rewrite.specs.inner.Meant.{AreAllMeant}
-use Rattle.fm_weave.specs.declared.planned.Planned.{Planned}
+use Rattle.fm_place_weave.specs.declared.planned.Planned.{Planned}
 use Rattle.fm_world.specs.BuiltIns.{built_in}
 use Rattle.fm_world.specs.Programs.{program_of}
 

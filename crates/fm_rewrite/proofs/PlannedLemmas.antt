@@ -1,7 +1,7 @@
 -- What the plan of one method asks for is there.
 use Rattle.std.proofs.Common.{◌≡◌, ℕ, ◌<◌, ◌^◌, [], Some, refl}
-use Rattle.fm_analysis.proofs.ShapesLemmas.{code_facts}
-use Rattle.fm_analysis.specs.Analysed.{AreAnalysable}
+use Rattle.fm_summ_shapes.proofs.ShapesLemmas.{code_facts}
+use Rattle.fm_summ_shapes.specs.Analysed.{AreAnalysable}
 use Rattle.fm_code.specs.declared.code_array.Code.{Code}
 use Rattle.fm_conn.specs.Classes.{class_of}
 use Rattle.fm_conn.specs.Facts.{Facts}
@@ -16,8 +16,8 @@ use Rattle.fm_place.specs.PlansBy.{IsPlanOf}
 use Rattle.fm_place.specs.declared.plans.Plan.{Plan}
 use Rattle.fm_rewrite.proofs.FullPlanLemmas.{bytes_fit, has_room}
 use Rattle.fm_rewrite.specs.Plans.{HasOldItems, IsFullPlan}
-use Rattle.fm_weave.specs.ByPlan.{narrow_by}
-use Rattle.fm_weave.specs.Conditions.{HasRoom}
+use Rattle.fm_place_weave.specs.ByPlan.{narrow_by}
+use Rattle.fm_place_weave.specs.Conditions.{HasRoom}
 use Rattle.fm_world.specs.Programs.{code_at, Program}
 
 -- facts that agree on a method with what is returned for it

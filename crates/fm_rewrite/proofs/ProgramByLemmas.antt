@@ -10,7 +10,7 @@ use Rattle.fm_rewrite.proofs.ClassMeantLemmas.{class_changes, class_frees, class
 use Rattle.fm_rewrite.specs.Rewritten.{counts_from, full_from, long_from, max_pool_indices}
 use Rattle.fm_rewrite.specs.inner.ByPlans.{classes_by, counts_by, first_full_by, first_long_by, long_by, others, own}
 use Rattle.fm_rewrite.specs.inner.Meant.{AreAllMeant}
-use Rattle.fm_weave.specs.declared.planned.Planned.{Planned}
+use Rattle.fm_place_weave.specs.declared.planned.Planned.{Planned}
 
 -- how many indices the pool of a class would have, by whether it is changed
 abbrev full_where : ClassDef → Bool → Option ℕ

@@ -12,14 +12,14 @@ use Rattle.fm_code.specs.declared.code_array.Code.{Code}
 use Rattle.fm_conn.specs.Facts.{Facts}
 use Rattle.fm_place.specs.Rewriting.{first_given}
 use Rattle.fm_place.specs.Safe.{full_plans}
-use Rattle.fm_records.proofs.CodeLaws.{AreCodes-all}
+use Rattle.fm_link_records.proofs.CodeLaws.{AreCodes-all}
 use Rattle.fm_rewrite.proofs.AlikeLemmas.{members_meant}
 use Rattle.fm_rewrite.specs.Alike.{ArePlannedFrom}
 use Rattle.fm_rewrite.specs.Plans.{ArePlanned, IsPlannedByFacts, planned_at}
 use Rattle.fm_rewrite.specs.inner.ByPlans.{method_count, others, own}
 use Rattle.fm_rewrite.specs.inner.Meant.{AreAllMeant, AreAllPlanned}
-use Rattle.fm_weave.specs.declared.planned.Planned.{Planned}
-use Rattle.fm_weave.specs.declared.planned.Planned.TheVariants as planned
+use Rattle.fm_place_weave.specs.declared.planned.Planned.{Planned}
+use Rattle.fm_place_weave.specs.declared.planned.Planned.TheVariants as planned
 use Rattle.fm_world.specs.BuiltIns.{built_in}
 use Rattle.fm_world.specs.Members.{methods_of}
 use Rattle.fm_world.specs.Programs.{code_at, codes_of, outline_of, Program, program_of}

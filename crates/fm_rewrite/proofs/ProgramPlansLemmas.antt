@@ -3,9 +3,9 @@ use Rattle.std.proofs.Common.{◌≡◌, ◌⊎◌, refl, sym, ◌∙◌, subst,
 use Rattle.std.proofs.lemmas.Bool.{cases_lt}
 use Rattle.std.proofs.lemmas.List.{get_or_past}
 use Rattle.std.proofs.lemmas.Option.{none-some}
-use Rattle.fm_analysis.proofs.LeastLemmas.{least_link_alike}
-use Rattle.fm_analysis.proofs.ShapesLemmas.{code_facts}
-use Rattle.fm_analysis.specs.Analysed.{AreAnalysable, AreLeastTypings}
+use Rattle.fm_summ_shapes.proofs.LeastLemmas.{least_link_alike}
+use Rattle.fm_summ_shapes.proofs.ShapesLemmas.{code_facts}
+use Rattle.fm_summ_shapes.specs.Analysed.{AreAnalysable, AreLeastTypings}
 use Rattle.fm_base.proofs.OptionFacts.{IsSomeAnd-at_some}
 use Rattle.fm_check.specs.Checking.{IsLeastTyping}
 use Rattle.fm_code.specs.declared.code_array.Code.{Code}
@@ -27,8 +27,8 @@ use Rattle.fm_summ.specs.Answers.{Answers, facts_of}
 use Rattle.fm_summ.specs.Exact.{AreExact}
 use Rattle.fm_types.specs.States.{TypeState}
 use Rattle.fm_types.specs.Typed.{IsTypingOf}
-use Rattle.fm_weave.specs.declared.planned.Planned.{Planned}
-use Rattle.fm_weave.specs.declared.planned.Planned.TheVariants as planned
+use Rattle.fm_place_weave.specs.declared.planned.Planned.{Planned}
+use Rattle.fm_place_weave.specs.declared.planned.Planned.TheVariants as planned
 use Rattle.fm_world.specs.Programs.{code_at, Program}
 
 module _ (p : Program) (s : Summaries) where

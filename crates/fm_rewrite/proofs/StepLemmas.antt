@@ -5,8 +5,8 @@ use Rattle.std.proofs.lemmas.List.{length-drop}
 use Rattle.fm_code.specs.declared.class_file.ClassDef.{ClassDef}
 use Rattle.fm_layout.proofs.LoopLemmas.{next_of}
 use Rattle.fm_rewrite.specs.inner.ByPlans.{classes_by, first_full_by, first_long_by, full_by, long_by, method_count, others, own, pool_by, pools_by, rewritten_by}
-use Rattle.fm_weave.specs.declared.classes.FreePool.{FreePool}
-use Rattle.fm_weave.specs.declared.planned.Planned.{Planned}
+use Rattle.fm_place_weave.specs.declared.classes.FreePool.{FreePool}
+use Rattle.fm_place_weave.specs.declared.planned.Planned.{Planned}
 
 -- ---- the next class
 

@@ -6,9 +6,9 @@ use Rattle.fm_code.specs.declared.class_file.ClassDef.{ClassDef}
 use Rattle.fm_code.specs.declared.class_file.Member.{Member}
 use Rattle.fm_place.specs.Rewriting.{free_index}
 use Rattle.fm_rewrite.specs.inner.ByPlans.{changes_by, long_by, pool_by}
-use Rattle.fm_weave.specs.ClassByPlan.{first_long, long_method}
-use Rattle.fm_weave.specs.declared.classes.FreePool.{FreePool}
-use Rattle.fm_weave.specs.declared.planned.Planned.{Planned}
+use Rattle.fm_place_weave.specs.ClassByPlan.{first_long, long_method}
+use Rattle.fm_place_weave.specs.declared.classes.FreePool.{FreePool}
+use Rattle.fm_place_weave.specs.declared.planned.Planned.{Planned}
 
 -- this many methods later
 abbrev pub later_by : ℕ → ℕ × ℕ → ℕ × ℕ

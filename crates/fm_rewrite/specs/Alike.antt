@@ -10,9 +10,9 @@ use Rattle.fm_code.specs.declared.constant_pool.Entry.{Entry}
 use Rattle.fm_conn.specs.Facts.{Facts}
 use Rattle.fm_place.specs.Safe.{full_plans}
 use Rattle.fm_rewrite.specs.Plans.{IsPlannedByFacts}
-use Rattle.fm_weave.specs.ClassLaws.{AreAlike, IsAlike}
-use Rattle.fm_weave.specs.declared.planned.Planned.{Planned}
-use Rattle.fm_weave.specs.declared.planned.Planned.TheVariants as planned
+use Rattle.fm_place_weave.specs.ClassLaws.{AreAlike, IsAlike}
+use Rattle.fm_place_weave.specs.declared.planned.Planned.{Planned}
+use Rattle.fm_place_weave.specs.declared.planned.Planned.TheVariants as planned
 use Rattle.fm_world.specs.Programs.{code_at, Program}
 
 -- an attribute that is code is this one

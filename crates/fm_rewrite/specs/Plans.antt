@@ -2,7 +2,7 @@
 -- returns for its method.
 use Rattle.std.specs.Prelude.{◌≡◌, ◌<◌, ℕ, List, length, Option, Some, None}
 use Rattle.std.specs.List.{AllByRecursion, slice_index_or}
-use Rattle.fm_analysis.specs.Analysed.{AreAnalysable, AreLeastTypings}
+use Rattle.fm_summ_shapes.specs.Analysed.{AreAnalysable, AreLeastTypings}
 use Rattle.fm_check.specs.Checking.{IsLeastTyping, IsNarrow}
 use Rattle.fm_code.specs.Edges.{MeetsCodeRules}
 use Rattle.fm_code.specs.Fits.{FitsTwo}
@@ -25,10 +25,10 @@ use Rattle.fm_place.specs.Insertions.{all_insertions}
 use Rattle.fm_place.specs.PlansBy.{IsPlanOf, IsToldBy}
 use Rattle.fm_place.specs.declared.plans.Plan.{Plan}
 use Rattle.fm_types.specs.States.{TypeState}
-use Rattle.fm_weave.specs.ByPlan.{planned_by}
-use Rattle.fm_weave.specs.Conditions.{MayBeWoven}
-use Rattle.fm_weave.specs.declared.planned.Planned.{Planned}
-use Rattle.fm_weave.specs.declared.planned.Planned.TheVariants as planned
+use Rattle.fm_place_weave.specs.ByPlan.{planned_by}
+use Rattle.fm_place_weave.specs.Conditions.{MayBeWoven}
+use Rattle.fm_place_weave.specs.declared.planned.Planned.{Planned}
+use Rattle.fm_place_weave.specs.declared.planned.Planned.TheVariants as planned
 use Rattle.fm_world.specs.Members.{methods_of}
 use Rattle.fm_world.specs.Programs.{code_at, Program, program_of}
 

@@ -6,7 +6,7 @@ ghost use Rattle.fm_rewrite.specs.inner.ByPlans.{HasCounts, HaveCounts, counts_b
 use crate::parts::{later, own};
 use fm_base::NoMemory;
 use fm_code::ClassDef;
-use fm_weave::Planned;
+use fm_place_weave::Planned;
 use std::alloc::Global;
 
 /// How many sites of a class are held, and how many times a holder is freed in its code.

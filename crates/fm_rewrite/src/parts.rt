@@ -4,7 +4,7 @@ ghost use Rattle.std.specs.Prelude.{◌≡◌, ◌+◌, ◌≤◌, ◌<◌, ◌^
 ghost use Rattle.fm_rewrite.specs.inner.ByPlans.{changes_by, is_changed, method_count, others, own};
 
 use fm_code::ClassDef;
-use fm_weave::Planned;
+use fm_place_weave::Planned;
 
 /// The number of methods of these classes together.
 pub(crate) fn method_count(classes: &[ClassDef]) -> u32

@@ -1,20 +1,20 @@
 // What can be inserted into the methods of a program.
 
 ghost use Rattle.std.specs.Prelude.{◌≡◌, ◌<◌, IfOk, Some, length};
-ghost use Rattle.fm_analysis.specs.Analysed.{AreAnalysable};
+ghost use Rattle.fm_summ_shapes.specs.Analysed.{AreAnalysable};
 ghost use Rattle.fm_conn.specs.Summaries.{AreSummariesOf};
 ghost use Rattle.fm_rewrite.specs.Plans.{ArePlanned, ArePlannedBy, HasOldItems, IsFullPlan, IsPlanned, IsPlannedCode};
 ghost use Rattle.fm_world.specs.Members.{methods_of};
 ghost use Rattle.fm_world.specs.Programs.{code_at};
 
-use fm_analysis::{Typed, shapes_of};
+use fm_summ_shapes::{Typed, shapes_of};
 use fm_base::{MethodId, NoMemory};
 use fm_code::Code;
 use fm_conn::{Summaries, classes};
 use fm_flow::live;
 use fm_place::{Plan, places, sites};
 use fm_summ::summaries;
-use fm_weave::Planned;
+use fm_place_weave::Planned;
 use fm_world::{Body, Program};
 use std::alloc::Global;
 

@@ -18,7 +18,7 @@ use crate::pools::free_pools;
 use crate::woven::woven_classes;
 use fm_base::MethodId;
 use fm_code::ClassDef;
-use fm_weave::Planned;
+use fm_place_weave::Planned;
 use fm_world::Program;
 use std::alloc::Global;
 

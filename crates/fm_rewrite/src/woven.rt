@@ -3,13 +3,13 @@
 ghost use Rattle.std.specs.Prelude.{◌≡◌, ◌+◌, ◌<◌, ◌^◌, ℕ, None, IfErr, IfOk, OnOk, length};
 ghost use Rattle.fm_code.specs.Fits.{FitsTwo};
 ghost use Rattle.fm_rewrite.specs.inner.ByPlans.{IsLongBy, MayDoEach, classes_by, first_long_by, long_by, method_count, pool_by, pools_by, rewritten_by};
-ghost use Rattle.fm_weave.specs.ClassByPlan.{MayDoAll};
+ghost use Rattle.fm_place_weave.specs.ClassByPlan.{MayDoAll};
 
 use crate::error::RewriteFail;
 use crate::parts::{later, own};
 use fm_base::MethodId;
 use fm_code::ClassDef;
-use fm_weave::{FreePool, Planned, WeaveFail, woven_class};
+use fm_place_weave::{FreePool, Planned, WeaveFail, woven_class};
 use std::alloc::Global;
 
 /// The classes, each with its pool where it has a changed method. The first method has this number.

@@ -1,6 +1,6 @@
 -- The step of a call is the next one.
 use Rattle.std.proofs.Common.{◌≡◌, ℕ, List, Option, Result, OnOk, sym, ◌∙◌, ap, subst, slice_get}
-use Rattle.fm_calls.specs.Calls.{CallsAs, FailsCall}
+use Rattle.fm_exec_calls.specs.Calls.{CallsAs, FailsCall}
 use Rattle.fm_code.specs.declared.instructions.Insn.{Insn}
 use Rattle.fm_exec.specs.Steps.{seen}
 use Rattle.fm_files.specs.Sink.{Output}

@@ -6,10 +6,10 @@ use Rattle.fm_frames.specs.Runs.{Goes}
 use Rattle.fm_frames.specs.States.{State}
 use Rattle.fm_frames.specs.Steps.{cost}
 use Rattle.fm_frames.specs.inner.Frames.{place_of, topmost}
-use Rattle.fm_nests.proofs.CostSteps.{cost-cheap, insn-found, IsOnTop, on-top}
-use Rattle.fm_nests.specs.inner.Costs.{nest_of}
-use Rattle.fm_ready.proofs.Standing.{can_step}
-use Rattle.fm_ready.specs.Ready.{CanRun}
+use Rattle.fm_exec_nests.proofs.CostSteps.{cost-cheap, insn-found, IsOnTop, on-top}
+use Rattle.fm_exec_nests.specs.inner.Costs.{nest_of}
+use Rattle.fm_law_can_step.proofs.Standing.{can_step}
+use Rattle.fm_law_can_step.specs.Ready.{CanRun}
 use Rattle.fm_run.proofs.Ranging.{keeps-going}
 use Rattle.fm_run.specs.inner.Going.{IsCheapNext, Keeps}
 use Rattle.fm_world.specs.Programs.{code_at, Program}

@@ -10,19 +10,19 @@ use Rattle.fm_code.specs.declared.code_array.Item.{Item}
 use Rattle.fm_code.specs.declared.code_array.TheConstants.{MAX_CODE_BYTES}
 use Rattle.fm_code.specs.declared.instructions.Insn.{Insn}
 use Rattle.fm_exec.specs.Steps.{seen, Steps}
-use Rattle.fm_flat.proofs.Asked.{asked}
-use Rattle.fm_flat.specs.Flows.{on, resumed, stepped_on}
-use Rattle.fm_flat.specs.Operands.{AsksOf}
-use Rattle.fm_flat_cells.specs.Packed.{ArePacked}
+use Rattle.fm_fast.proofs.Asked.{asked}
+use Rattle.fm_fast.specs.Flows.{on, resumed, stepped_on}
+use Rattle.fm_fast.specs.Operands.{AsksOf}
+use Rattle.fm_fast.specs.Packed.{ArePacked}
 use Rattle.fm_frames.specs.Acts.{Choose}
 use Rattle.fm_frames.specs.Rows.{effect_of}
 use Rattle.fm_frames.specs.States.{Frame, State}
 use Rattle.fm_frames.specs.inner.Doings.{DoesIn, NextFits}
 use Rattle.fm_frames.specs.inner.Frames.{place_of, topmost}
-use Rattle.fm_nests.proofs.CostSteps.{insn-found, IsOnTop, on-top}
-use Rattle.fm_nests.specs.inner.Costs.{nest_of}
-use Rattle.fm_ready.proofs.Standing.{IsStanding, standing_by}
-use Rattle.fm_ready.specs.Ready.{CanRun}
+use Rattle.fm_exec_nests.proofs.CostSteps.{insn-found, IsOnTop, on-top}
+use Rattle.fm_exec_nests.specs.inner.Costs.{nest_of}
+use Rattle.fm_law_can_step.proofs.Standing.{IsStanding, standing_by}
+use Rattle.fm_law_can_step.specs.Ready.{CanRun}
 use Rattle.fm_run.proofs.CheapSteps.{cheap-is}
 use Rattle.fm_run.proofs.NextSteps.{named-is, own_effect, row-does}
 use Rattle.fm_run.proofs.Ranging.{quietly-then, went-quietly}
@@ -31,7 +31,7 @@ use Rattle.fm_run.proofs.Steadying.{did-quietly}
 use Rattle.fm_run.specs.inner.Flats.{DoesCall, FlowsNext, IsFlatNext, WentOn}
 use Rattle.fm_run.specs.inner.Going.{IsCheapNext, Keeps, LeadsQuietly}
 use Rattle.fm_run.specs.inner.Nexts.{DoesNext, StandsAt, StandsIn}
-use Rattle.fm_sound.specs.Sound.{IsSound}
+use Rattle.fm_law_sound.specs.Sound.{IsSound}
 use Rattle.fm_types.specs.Typed.{use_by}
 use Rattle.fm_world.specs.Programs.{code_at, Program}
 use Rattle.fm_world.specs.declared.uses.Use.{Use}

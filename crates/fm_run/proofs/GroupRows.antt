@@ -2,7 +2,7 @@
 use Rattle.std.proofs.Common.{◌≡◌, true}
 use Rattle.fm_code.specs.declared.instructions.Insn.{Insn}
 use Rattle.fm_code.specs.declared.instructions.Insn.TheVariants as insn
-use Rattle.fm_ready.specs.Ready.{is_wanted}
+use Rattle.fm_law_can_step.specs.Ready.{is_wanted}
 use Rattle.fm_run.specs.declared.groups.Group.TheVariants as group
 use Rattle.fm_run.specs.inner.Nexts.{group_of}
 use Rattle.fm_world.specs.declared.uses.Use.{Use}

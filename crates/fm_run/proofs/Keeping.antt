@@ -7,14 +7,14 @@ use Rattle.fm_frames.specs.Acts.{Choose}
 use Rattle.fm_frames.specs.Runs.{after, IsRun}
 use Rattle.fm_frames.specs.States.{Moved, State}
 use Rattle.fm_frames.specs.inner.Doings.{silent}
-use Rattle.fm_held.specs.MostHeld.{MadeSince, MadeSinceIsMostHeld}
-use Rattle.fm_ready.specs.Ready.{CanRun}
+use Rattle.fm_law_cells_made.specs.MostHeld.{MadeSince, MadeSinceIsMostHeld}
+use Rattle.fm_law_can_step.specs.Ready.{CanRun}
 use Rattle.fm_run.specs.Running.{KeepsWhole, MakesMostHeld, RunsTo}
 use Rattle.fm_same.specs.Resolved.{CallsNoFreeMe, IsResolved}
-use Rattle.fm_sound.specs.Sound.{Typings}
-use Rattle.fm_whole.specs.CellsResolved.{CellsAreResolved}
-use Rattle.fm_whole.specs.Laws.{StepsKeepWhole}
-use Rattle.fm_whole.specs.Whole.{HasNoFault, IsWholeBy}
+use Rattle.fm_law_sound.specs.Sound.{Typings}
+use Rattle.fm_law_no_fault.specs.CellsResolved.{CellsAreResolved}
+use Rattle.fm_law_no_fault.specs.Laws.{StepsKeepWhole}
+use Rattle.fm_law_no_fault.specs.Whole.{HasNoFault, IsWholeBy}
 use Rattle.fm_world.specs.Programs.{Program}
 
 module _ (law : StepsKeepWhole) (p : Program) (can : CanRun p) (typings : Typings) (linked : IsResolved p) (cells : CellsAreResolved p) (frees_none : CallsNoFreeMe p) (choose : Choose) where

@@ -14,8 +14,8 @@ use Rattle.fm_frames.specs.Steps.{effect_by, next_insn, next_effect}
 use Rattle.fm_frames.specs.inner.Doings.{DoesIn}
 use Rattle.fm_frames.specs.inner.Frames.{stack_in}
 use Rattle.fm_frames.specs.inner.Targets.{IsAt}
-use Rattle.fm_ready.proofs.Standing.{at_insn}
-use Rattle.fm_ready.specs.Ready.{IsNext}
+use Rattle.fm_law_can_step.proofs.Standing.{at_insn}
+use Rattle.fm_law_can_step.specs.Ready.{IsNext}
 use Rattle.fm_run.specs.inner.Nexts.{DoesNext, StandsAt, StandsIn}
 use Rattle.fm_types.specs.Typed.{use_by}
 use Rattle.fm_world.specs.Programs.{Program}

@@ -15,7 +15,7 @@ use Rattle.fm_frames.specs.declared.ends.Ended.{Ended}
 use Rattle.fm_frames.specs.inner.Doings.{silent}
 use Rattle.fm_base.specs.declared.error.NoMemory.{NoMemory}
 use Rattle.fm_native.specs.Doing.{PutsOnce, quiet}
-use Rattle.fm_ready.specs.Ready.{IsGoing}
+use Rattle.fm_law_can_step.specs.Ready.{IsGoing}
 use Rattle.fm_run.specs.Running.{ArePieces, BreaksRun, CanGo, FailsRun, GoFirst, OnePieceMore, printed_at, RunsTo, state_after}
 use Rattle.fm_run.specs.Stepping.{DoesStep, FailsStep}
 use Rattle.fm_run.specs.inner.Going.{BreaksLater, DidCheap, DidQuietly, FailsLater, FailsNext, Keeps, Leads, LeadsQuietly, left_of, Ran}

@@ -2,14 +2,14 @@
 use Rattle.std.proofs.Common.{◌≡◌, ℕ, ◌<◌, length, true, refl, ap, ◌∙◌, subst, arith}
 use Rattle.fm_base.specs.declared.ids.TypeId.{TypeId}
 use Rattle.fm_code.specs.declared.instructions.Insn.TheVariants as insn
-use Rattle.fm_nests.proofs.NestFitting as nests
-use Rattle.fm_nests.specs.Nests.{NestFits}
+use Rattle.fm_exec_nests.proofs.NestFitting as nests
+use Rattle.fm_exec_nests.specs.Nests.{NestFits}
 use Rattle.fm_code.specs.declared.instructions.Insn.{Insn}
 use Rattle.fm_frames.specs.Runnable.{IsUseIn}
 use Rattle.fm_frames.specs.States.{State}
-use Rattle.fm_ready.proofs.Named.{dimensions_within, use_inside, wanted}
-use Rattle.fm_ready.proofs.Standing.{caller_inside}
-use Rattle.fm_ready.specs.Ready.{CanRun, IsGoing, is_wanted}
+use Rattle.fm_law_can_step.proofs.Named.{dimensions_within, use_inside, wanted}
+use Rattle.fm_law_can_step.proofs.Standing.{caller_inside}
+use Rattle.fm_law_can_step.specs.Ready.{CanRun, IsGoing, is_wanted}
 use Rattle.fm_run.proofs.NextSteps.{next-of}
 use Rattle.fm_run.specs.inner.Nexts.{StandsIn}
 use Rattle.fm_types.specs.Typed.{use_by, use_in}

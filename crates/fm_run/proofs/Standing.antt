@@ -8,7 +8,7 @@ use Rattle.fm_frames.specs.States.{Frame, State}
 use Rattle.fm_frames.specs.Steps.{next_insn}
 use Rattle.fm_frames.specs.inner.Frames.{place, place_of, topmost}
 use Rattle.fm_frames.specs.declared.frames.Cursor.{Cursor}
-use Rattle.fm_ready.proofs.Standing.{IsStanding}
+use Rattle.fm_law_can_step.proofs.Standing.{IsStanding}
 use Rattle.fm_run.specs.inner.Nexts.{HasCode, HasFrame, StandsIn}
 use Rattle.fm_world.specs.Programs.{code_at, Program}
 

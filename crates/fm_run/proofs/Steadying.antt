@@ -9,10 +9,10 @@ use Rattle.fm_frames.specs.Acts.{Choose}
 use Rattle.fm_frames.specs.States.{Moved, State}
 use Rattle.fm_frames.specs.Steps.{next_effect, step}
 use Rattle.fm_native.proofs.Prints.{quiet-does}
-use Rattle.fm_nests.proofs.Grown.{step-makes}
-use Rattle.fm_ready.proofs.Loops.{steady}
-use Rattle.fm_ready.proofs.Standing.{standing}
-use Rattle.fm_ready.specs.Ready.{CanRun, IsGoing}
+use Rattle.fm_exec_nests.proofs.Grown.{step-makes}
+use Rattle.fm_law_can_step.proofs.Loops.{steady}
+use Rattle.fm_law_can_step.proofs.Standing.{standing}
+use Rattle.fm_law_can_step.specs.Ready.{CanRun, IsGoing}
 use Rattle.fm_frames.proofs.StepCounts.{steps-after}
 use Rattle.fm_run.proofs.Counting.{step-does}
 use Rattle.fm_run.specs.Stepping.{DoesStep}

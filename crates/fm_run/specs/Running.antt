@@ -2,11 +2,11 @@
 -- holds of its state still, and of the cells that it makes.
 use Rattle.std.specs.Prelude.{◌≡◌, ◌⊎◌, ℕ, zero, suc, ◌+◌, ◌^◌, ◌<◌, List, [], ◌∷◌, ◌++◌}
 use Rattle.std.specs.List.{concat}
-use Rattle.fm_calls.specs.inner.Actions.{unmade}
+use Rattle.fm_exec_calls.specs.inner.Actions.{unmade}
 use Rattle.fm_cells.specs.Choices.{last_choice, lawful}
 use Rattle.fm_cells.specs.Soundness.{IsLastReused}
 use Rattle.fm_files.specs.Sink.{FailsPut, Output, with_pieces}
-use Rattle.fm_held.specs.MostHeld.{MadeSince}
+use Rattle.fm_law_cells_made.specs.MostHeld.{MadeSince}
 use Rattle.fm_world.specs.Programs.{Program}
 use Rattle.fm_frames.specs.Acts.{Choose}
 use Rattle.fm_frames.specs.Runs.{after, Goes, IsRun}
@@ -14,10 +14,10 @@ use Rattle.fm_frames.specs.States.{State}
 use Rattle.fm_frames.specs.Steps.{step}
 use Rattle.fm_frames.specs.inner.Doings.{silent}
 use Rattle.fm_same.specs.Resolved.{CallsNoFreeMe, IsResolved}
-use Rattle.fm_sound.specs.HeldCells.{HoldsCells}
-use Rattle.fm_sound.specs.Sound.{IsSound, Typings}
-use Rattle.fm_whole.specs.CellsResolved.{CellsAreResolved}
-use Rattle.fm_whole.specs.Whole.{HasNoFault, IsWholeBy}
+use Rattle.fm_law_sound.specs.HeldCells.{HoldsCells}
+use Rattle.fm_law_sound.specs.Sound.{IsSound, Typings}
+use Rattle.fm_law_no_fault.specs.CellsResolved.{CellsAreResolved}
+use Rattle.fm_law_no_fault.specs.Whole.{HasNoFault, IsWholeBy}
 
 -- the state after this many steps
 abbrev pub state_after : Program → Choose → ℕ → State → State

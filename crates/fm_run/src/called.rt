@@ -3,9 +3,9 @@
 
 ghost use Rattle.std.specs.Prelude.{◌≡◌, ◌+◌, true, false};
 ghost use Rattle.fm_code.specs.declared.instructions.Insn.TheVariants as insn;
-ghost use Rattle.fm_flat.specs.Flows.{resumed};
+ghost use Rattle.fm_fast.specs.Flows.{resumed};
 ghost use Rattle.fm_frames.specs.inner.Doings.{NextFits};
-ghost use Rattle.fm_ready.specs.Ready.{CanRun};
+ghost use Rattle.fm_law_can_step.specs.Ready.{CanRun};
 ghost use Rattle.fm_run.specs.inner.Flats.{DoesCall, IsFlatNext};
 ghost use Rattle.fm_run.specs.inner.Nexts.{DoesNext};
 
@@ -13,7 +13,7 @@ use crate::names::{field_named, method_named, type_named};
 use fm_base::MethodId;
 use fm_cells::Memory;
 use fm_code::{Insn, Reg};
-use fm_flat_calls as rows;
+use fm_fast as rows;
 use fm_frames::{Frames, Machine};
 use fm_world::Program;
 

@@ -6,13 +6,13 @@ ghost use Rattle.fm_frames.specs.Steps.{next_effect};
 ghost use Rattle.fm_frames.specs.declared.turns.StepFail.TheVariants as StepFail;
 ghost use Rattle.fm_frames.specs.inner.Doings.{CanStep};
 ghost use Rattle.fm_native.specs.Doing.{FailsAt, StepsTo};
-ghost use Rattle.fm_ready.specs.Ready.{CanRun, IsGoing};
+ghost use Rattle.fm_law_can_step.specs.Ready.{CanRun, IsGoing};
 ghost use Rattle.fm_run.specs.declared.groups.Group.TheVariants as group;
 ghost use Rattle.fm_run.specs.inner.Nexts.{group_of, StandsIn};
 
 use crate::names::method_named;
 use fm_base::MethodId;
-use fm_calls::{interface_call, special_call, static_call, virtual_call};
+use fm_exec_calls::{interface_call, special_call, static_call, virtual_call};
 use fm_cells::Memory;
 use fm_code::Insn;
 use fm_files::Sink;

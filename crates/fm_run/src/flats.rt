@@ -4,10 +4,10 @@
 // step changes stays in registers; and the loop is in the function that has the match.
 
 ghost use Rattle.std.specs.Prelude.{◌≡◌, ℕ, ◌+◌, ◌<◌, ◌≤◌, ◌^◌, length, IfSome, None, Some, true, false};
-ghost use Rattle.fm_flat.specs.Flows.{resumed};
-ghost use Rattle.fm_flat.specs.Operands.{AsksOf};
+ghost use Rattle.fm_fast.specs.Flows.{resumed};
+ghost use Rattle.fm_fast.specs.Operands.{AsksOf};
 ghost use Rattle.fm_frames.specs.inner.Doings.{NextFits};
-ghost use Rattle.fm_ready.specs.Ready.{CanRun};
+ghost use Rattle.fm_law_can_step.specs.Ready.{CanRun};
 ghost use Rattle.fm_run.specs.inner.Flats.{FlowsNext, IsFlatNext, WentOn};
 ghost use Rattle.fm_run.specs.inner.Going.{Keeps, LeadsQuietly};
 ghost use Rattle.fm_world.specs.Members.{methods_of};
@@ -19,8 +19,8 @@ use crate::names::insn_among;
 use fm_base::MethodId;
 use fm_cells::Memory;
 use fm_code::{Code, Insn, Item};
-use fm_flat as rows;
-use fm_flat_cells::{array_length, array_load, array_store};
+use fm_fast as rows;
+use fm_fast::{array_length, array_load, array_store};
 use fm_frames::{Frames, Machine, code_of};
 use fm_world::Program;
 use std::alloc::Global;

@@ -1,7 +1,7 @@
 // Which instructions are done by one function.
 
 ghost use Rattle.std.specs.Prelude.{◌≡◌, false, None};
-ghost use Rattle.fm_nests.specs.inner.Costs.{nest_of};
+ghost use Rattle.fm_exec_nests.specs.inner.Costs.{nest_of};
 ghost use Rattle.fm_run.specs.inner.Nexts.{group_of};
 
 use fm_code::Insn;

@@ -3,10 +3,10 @@
 
 ghost use Rattle.std.specs.Prelude.{◌≡◌, ◌+◌, ◌<◌, length, true, false};
 ghost use Rattle.fm_code.specs.declared.instructions.Insn.TheVariants as insn;
-ghost use Rattle.fm_flat.specs.Flows.{Flows, resumed};
+ghost use Rattle.fm_fast.specs.Flows.{Flows, resumed};
 ghost use Rattle.fm_frames.specs.NumberRows.{constant_effect};
 ghost use Rattle.fm_frames.specs.inner.Doings.{NextFits};
-ghost use Rattle.fm_ready.specs.Ready.{CanRun};
+ghost use Rattle.fm_law_can_step.specs.Ready.{CanRun};
 ghost use Rattle.fm_run.specs.inner.Flats.{IsFlatNext};
 ghost use Rattle.fm_run.specs.inner.Nexts.{DoesNext};
 ghost use Rattle.fm_types.specs.Typed.{use_in};
@@ -15,8 +15,8 @@ ghost use Rattle.fm_world.specs.Members.{methods_of};
 use crate::names::{field_named, used};
 use fm_base::MethodId;
 use fm_cells::Memory;
-use fm_flat_calls::get_static;
-use fm_flat_cells as rows;
+use fm_fast::get_static;
+use fm_fast as rows;
 use fm_frames::{Frames, Machine};
 use fm_world::Program;
 

@@ -4,17 +4,17 @@
 ghost use Rattle.std.specs.Prelude.{◌≡◌, true, OnOk};
 ghost use Rattle.fm_code.specs.declared.instructions.Insn.TheVariants as insn;
 ghost use Rattle.fm_frames.specs.inner.Doings.{CanStep};
-ghost use Rattle.fm_ready.specs.Ready.{CanRun, is_constant, IsGoing};
+ghost use Rattle.fm_law_can_step.specs.Ready.{CanRun, is_constant, IsGoing};
 ghost use Rattle.fm_run.specs.inner.Nexts.{DoesNext, StandsIn};
 ghost use Rattle.fm_types.specs.Typed.{use_in};
 
 use crate::names::{field_named, type_named, used};
 use fm_base::{MethodId, NoMemory};
-use fm_calls::{get_static, new_object, put_static};
+use fm_exec_calls::{get_static, new_object, put_static};
 use fm_cells::Memory;
 use fm_exec as rows;
 use fm_frames::Machine;
-use fm_nests::multi_array;
+use fm_exec_nests::multi_array;
 use fm_world::{Program, Use};
 use std::alloc::Global;
 

@@ -7,7 +7,7 @@ ghost use Rattle.fm_code.specs.declared.code_array.Item.{Item};
 ghost use Rattle.fm_frames.specs.Runnable.{IsRunnable};
 ghost use Rattle.fm_frames.specs.States.{Frame};
 ghost use Rattle.fm_frames.specs.inner.Frames.{place, place_of};
-ghost use Rattle.fm_ready.specs.Ready.{is_field, is_method, is_type};
+ghost use Rattle.fm_law_can_step.specs.Ready.{is_field, is_method, is_type};
 ghost use Rattle.fm_run.specs.inner.Nexts.{HasCode, HasFrame};
 ghost use Rattle.fm_types.specs.Typed.{use_in};
 ghost use Rattle.fm_world.specs.Members.{methods_of};

@@ -3,7 +3,7 @@
 ghost use Rattle.std.specs.Prelude.{◌≡◌, true, false, IfOk, OnOk};
 ghost use Rattle.fm_code.specs.declared.instructions.Insn.TheVariants as insn;
 ghost use Rattle.fm_frames.specs.inner.Doings.{CanStep};
-ghost use Rattle.fm_ready.specs.Ready.{CanRun, IsGoing};
+ghost use Rattle.fm_law_can_step.specs.Ready.{CanRun, IsGoing};
 ghost use Rattle.fm_run.specs.declared.groups.Group.TheVariants as group;
 ghost use Rattle.fm_run.specs.inner.Nexts.{DoesNext, group_of, StandsAt, StandsIn};
 

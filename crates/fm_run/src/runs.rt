@@ -4,7 +4,7 @@ ghost use Rattle.std.specs.Prelude.{◌≡◌, ◌^◌, ◌<◌, ◌↔◌, true
 ghost use Rattle.fm_frames.specs.Reports.{report_of};
 ghost use Rattle.fm_frames.specs.Runs.{Goes};
 ghost use Rattle.fm_frames.specs.declared.turns.StepFail.TheVariants as StepFail;
-ghost use Rattle.fm_ready.specs.Ready.{CanRun};
+ghost use Rattle.fm_law_can_step.specs.Ready.{CanRun};
 ghost use Rattle.fm_run.specs.Running.{BreaksRun, CanGo, FailsRun, KeepsWhole, MakesMostHeld, RunsTo};
 ghost use Rattle.fm_run.specs.inner.Going.{BreaksLater, DidCheap, DidQuietly, FailsLater, FailsNext, IsCheapNext, Keeps, Leads, LeadsQuietly, left_of};
 ghost use Rattle.fm_world.specs.Programs.{code_at};
@@ -18,10 +18,10 @@ use fm_cells::Memory;
 use fm_code::{Code, Insn};
 use fm_files::Sink;
 use fm_frames::{Machine, Report, StepFail, code_of};
-use fm_held::law_made_since;
+use fm_law_cells_made::law_made_since;
 use fm_native::quiet;
-use fm_nests::cost;
-use fm_whole::law_no_fault;
+use fm_exec_nests::cost;
+use fm_law_no_fault::law_no_fault;
 use fm_world::Program;
 use std::alloc::Global;
 

@@ -5,7 +5,7 @@ ghost use Rattle.fm_frames.specs.Steps.{cost, next_effect};
 ghost use Rattle.fm_frames.specs.declared.turns.StepFail.TheVariants as StepFail;
 ghost use Rattle.fm_frames.specs.inner.Doings.{CanStep};
 ghost use Rattle.fm_native.specs.Doing.{FailsAt, StepsTo};
-ghost use Rattle.fm_ready.specs.Ready.{CanRun, IsGoing};
+ghost use Rattle.fm_law_can_step.specs.Ready.{CanRun, IsGoing};
 ghost use Rattle.fm_run.specs.Stepping.{DoesStep, FailsStep, turn_of};
 ghost use Rattle.fm_run.specs.inner.Nexts.{StandsIn, Stepped};
 

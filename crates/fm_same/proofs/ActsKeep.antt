@@ -28,10 +28,10 @@ use Rattle.fm_same.specs.Advances.{IsStill}
 use Rattle.fm_same.specs.Colours.{AreAreasColoured, Colour, HasColour, IsEdgeEven, IsFixed, IsOf, LivesForEver, OfNull, OfObject}
 use Rattle.fm_same.specs.Evenness.{HasNoEdge, HoldsNumbers, IsPlainKind}
 use Rattle.fm_same.specs.Regions.{Everywhere, Region, Retired}
-use Rattle.fm_sound.specs.Placing.{IsPlain, kind_in}
-use Rattle.fm_sound.specs.Sound.{IsReference}
+use Rattle.fm_law_sound.specs.Placing.{IsPlain, kind_in}
+use Rattle.fm_law_sound.specs.Sound.{IsReference}
 use Rattle.fm_same.proofs.StoreChanges.{Extends, extends-then, for_ever-is_of, for_ever-later, has-later, held_later, is_of-later, IsChanged, changed-extends, IsKept, IsMade, made-extends, Puts, put_elsewhere, put_here, set_cases, set_found}
-use Rattle.fm_sound.proofs.ActsKeep.{zeros_at}
+use Rattle.fm_law_sound.proofs.ActsKeep.{zeros_at}
 
 -- ---- what is known of sources when the step begins
 

@@ -42,7 +42,7 @@ use Rattle.fm_frames.specs.Operands.{thrown, thrown_null}
 use Rattle.fm_frames.specs.Sights.{Looks, Sight}
 use Rattle.fm_frames.specs.States.{Frame}
 use Rattle.fm_same.specs.Evenness.{ActsEvenly, given, Point, PutsEvenly}
-use Rattle.fm_sound.proofs.Cases.{by_held, by_if, by_int, by_on_type, by_passing}
+use Rattle.fm_law_sound.proofs.Cases.{by_held, by_if, by_int, by_on_type, by_passing}
 use Rattle.fm_same.proofs.ItemFacts.{AtInsn, goes_obey, point, row, used, x}
 use Rattle.fm_same.proofs.MoveRows.{gives_one}
 use Rattle.fm_same.proofs.ObjectRows.{bound_some, home_of, leads_operand, loaded_obeys, making_obeys, only_next, put_obeys, reference_on_top, some_if}

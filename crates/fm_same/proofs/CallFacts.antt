@@ -38,9 +38,9 @@ use Rattle.fm_frames.specs.Runnable.{IsUseIn}
 use Rattle.fm_frames.specs.States.{Frame}
 use Rattle.fm_same.specs.Resolved.{IsResolved}
 use Rattle.fm_same.proofs.CallWords.{call_takes, receiver_count, TakesCall}
-use Rattle.fm_sound.proofs.FoundMethods.{IsAlike}
+use Rattle.fm_law_sound.proofs.FoundMethods.{IsAlike}
 use Rattle.fm_same.proofs.TargetMethods.{target_alike}
-use Rattle.fm_sound.proofs.CallCases.{used_at}
+use Rattle.fm_law_sound.proofs.CallCases.{used_at}
 
 -- the word of a state by how many lie below it
 abbrev pub word_in_state : ℕ → Option TypeState → Option slots.Slot

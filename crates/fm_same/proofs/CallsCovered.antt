@@ -27,7 +27,7 @@ use Rattle.fm_frames.specs.Runnable.{IsUseIn}
 use Rattle.fm_frames.specs.Sights.{Sight, sights}
 use Rattle.fm_frames.specs.States.{Frame, State}
 use Rattle.fm_same.specs.Covering.{CallsNative, CoversAt, CoversTargets, Enters, is_free_me, native_words, PlacesAgreeAt}
-use Rattle.fm_sound.specs.Resolved.{IsNamed}
+use Rattle.fm_law_sound.specs.Resolved.{IsNamed}
 use Rattle.fm_same.specs.Resolved.{CallsNoFreeMe, IsResolved}
 use Rattle.fm_same.specs.Standing.{Goes, method_of, Stand, StandsAt}
 use Rattle.fm_same.specs.Targets.{Covers, IsTarget}

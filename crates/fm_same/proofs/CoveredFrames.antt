@@ -25,7 +25,7 @@ use Rattle.fm_same.specs.Standing.{method_of, Stand, StandsAt}
 use Rattle.fm_same.specs.Targets.{AreCovered, AreCoveredBelow, IsTarget}
 use Rattle.fm_same.proofs.Starting.{starts_are}
 use Rattle.fm_frames.proofs.StepCounts.{step_is, stepped}
-use Rattle.fm_sound.proofs.Following.{continued_is, followed}
+use Rattle.fm_law_sound.proofs.Following.{continued_is, followed}
 
 module _ (p : Program) (facts : Facts) where
   -- of the frame above only its method is asked

@@ -6,14 +6,14 @@ use Rattle.fm_cells.specs.Stores.{opened}
 use Rattle.fm_code.specs.declared.code_array.Code.{Code}
 use Rattle.fm_conn.specs.Facts.{AreFacts, Facts}
 use Rattle.fm_frames.specs.States.{State}
-use Rattle.fm_sound.proofs.NextActs.{next_acts_fit}
-use Rattle.fm_sound.proofs.OpeningActs.{opening_fits}
-use Rattle.fm_sound.proofs.RunsSound.{runs_sound}
-use Rattle.fm_sound.proofs.StartActs.{start_alone}
-use Rattle.fm_sound.specs.Laws.{no_frame}
-use Rattle.fm_sound.specs.Making.{MakesAreResolved}
-use Rattle.fm_sound.specs.Resolved.{MainIsReady, StepsAreResolved}
-use Rattle.fm_sound.specs.Sound.{AreTyped}
+use Rattle.fm_law_sound.proofs.NextActs.{next_acts_fit}
+use Rattle.fm_law_sound.proofs.OpeningActs.{opening_fits}
+use Rattle.fm_law_sound.proofs.RunsSound.{runs_sound}
+use Rattle.fm_law_sound.proofs.StartActs.{start_alone}
+use Rattle.fm_law_sound.specs.Laws.{no_frame}
+use Rattle.fm_law_sound.specs.Making.{MakesAreResolved}
+use Rattle.fm_law_sound.specs.Resolved.{MainIsReady, StepsAreResolved}
+use Rattle.fm_law_sound.specs.Sound.{AreTyped}
 use Rattle.fm_types.specs.Typed.{IsTypingOf}
 use Rattle.fm_world.specs.Programs.{code_at, Program}
 use Rattle.fm_same.specs.Colours.{Coloured}

@@ -36,13 +36,13 @@ use Rattle.fm_frames.specs.Operands.{thrown}
 use Rattle.fm_frames.specs.Sights.{Sight}
 use Rattle.fm_frames.specs.States.{Frame}
 use Rattle.fm_same.specs.Evenness.{word}
-use Rattle.fm_sound.proofs.Cases.{by_held, by_if, by_int, by_object, by_on_type}
+use Rattle.fm_law_sound.proofs.Cases.{by_held, by_if, by_int, by_object, by_on_type}
 use Rattle.fm_same.proofs.EdgesKeep.{live_before}
 use Rattle.fm_same.proofs.ItemFacts.{AtInsn, given_word, joined_class, point, row, stays_class, taken_word, x}
 use Rattle.fm_same.proofs.MoveRows.{not_taken}
 use Rattle.fm_same.proofs.ObjectRows.{mapped_some, some_if, taken_top}
 use Rattle.fm_same.proofs.PlainRows.{faulty_obeys, null_obeys, Owes, plain_obeys, stuck_obeys, thrown_obeys, words_obey}
-use Rattle.fm_sound.proofs.JumpRows.{or_parts, table_within, key_within, table_if, within_if, return_by, return_is, between, few_keys}
+use Rattle.fm_law_sound.proofs.JumpRows.{or_parts, table_within, key_within, table_if, within_if, return_by, return_is, between, few_keys}
 
 module _ (p : Program) (facts : Facts) (exact : AreFacts p facts) (f : Frame) where
   -- ---- casts

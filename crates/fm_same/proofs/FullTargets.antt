@@ -47,16 +47,16 @@ use Rattle.fm_frames.specs.CallRows.{words_of_arguments}
 use Rattle.fm_frames.specs.Runnable.{IsUseIn}
 use Rattle.fm_frames.specs.States.{Frame, State}
 use Rattle.fm_frames.specs.Sights.{Looks, Sight, sights, type_numbered}
-use Rattle.fm_sound.specs.Sound.{AreasAreSound, HasObjects}
-use Rattle.fm_sound.proofs.SeenObjects.{IsSeen, seen_at}
+use Rattle.fm_law_sound.specs.Sound.{AreasAreSound, HasObjects}
+use Rattle.fm_law_sound.proofs.SeenObjects.{IsSeen, seen_at}
 use Rattle.fm_same.specs.Covering.{Enters, EntersSelected}
 use Rattle.fm_same.specs.Laws.{FullTargetsCover}
 use Rattle.fm_same.specs.Resolved.{IsResolved}
 use Rattle.fm_same.specs.Standing.{method_of}
 use Rattle.fm_same.specs.Targets.{CoversIn}
 use Rattle.fm_same.proofs.CallFacts.{type_there, use_there}
-use Rattle.fm_sound.proofs.FoundMethods.{select_inside}
-use Rattle.fm_sound.proofs.MadeObjects.{HasObjectsBy}
+use Rattle.fm_law_sound.proofs.FoundMethods.{select_inside}
+use Rattle.fm_law_sound.proofs.MadeObjects.{HasObjectsBy}
 
 -- ---- where a receiver that passes is counted
 

@@ -19,8 +19,8 @@ use Rattle.fm_same.specs.Advances.{point_of}
 use Rattle.fm_same.specs.Colours.{AreAreasColoured, AreFramesColoured, Colour, HasColour, IsEdgeEven, IsFrameColoured, IsOf, node_of_word, OfNull}
 use Rattle.fm_same.specs.Evenness.{given, GoesOn, is_written, Point, WritesFrom}
 use Rattle.fm_same.specs.Regions.{Region, region}
-use Rattle.fm_sound.specs.Placing.{ReadAgrees}
-use Rattle.fm_sound.specs.Sound.{IsReference}
+use Rattle.fm_law_sound.specs.Placing.{ReadAgrees}
+use Rattle.fm_law_sound.specs.Sound.{IsReference}
 use Rattle.fm_same.specs.Standing.{Goes, method_of, StandsAt}
 use Rattle.fm_same.proofs.ActsKeep.{Went}
 use Rattle.fm_same.proofs.SourcesKeep.{has_if_reference, source_gives}

@@ -35,7 +35,7 @@ use Rattle.fm_frames.proofs.Programs.{string_number}
 use Rattle.fm_frames.specs.CallRows.{native_of, words_of_arguments}
 use Rattle.fm_frames.specs.Natives.{Append, FreeMeFree, FreeMeFreeChain, FreeMeLink, GetMessage, Native, native_of_row, StringToString, ThrowableInitOf}
 use Rattle.fm_same.specs.Covering.{is_free_me, native_words, NativeEnds}
-use Rattle.fm_sound.proofs.BuiltInMethods.{method_same, untrue}
+use Rattle.fm_law_sound.proofs.BuiltInMethods.{method_same, untrue}
 
 -- ---- words of descriptors: a class takes one word, whether it is there or not
 

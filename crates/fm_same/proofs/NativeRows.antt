@@ -28,7 +28,7 @@ use Rattle.fm_frames.specs.States.{null}
 use Rattle.fm_frames.specs.Operands.{on_int, on_text, thrown_null}
 use Rattle.fm_frames.specs.Sights.{Sight}
 use Rattle.fm_types.specs.Named.{throwable_type}
-use Rattle.fm_sound.proofs.Cases.{by_any, by_builder, by_built, by_held, by_if, by_inner, by_int, by_object, by_shown, by_text}
+use Rattle.fm_law_sound.proofs.Cases.{by_any, by_builder, by_built, by_held, by_if, by_inner, by_int, by_object, by_shown, by_text}
 use Rattle.fm_same.specs.Covering.{CallsNative, native_words}
 use Rattle.fm_same.specs.Evenness.{EndsEvenly, given, LeadsRight, word}
 use Rattle.fm_same.proofs.EdgesKeep.{call_falls, call_keeps, call_no_targets}

@@ -31,9 +31,9 @@ use Rattle.fm_same.proofs.RegionLemmas.{region_global}
 use Rattle.fm_same.proofs.ReturnsKeep.{ReturnIsColoured, return_kept}
 use Rattle.fm_same.proofs.SourcesKeep.{source_gives}
 use Rattle.fm_same.proofs.ThrowsKeep.{thrown_coloured}
-use Rattle.fm_sound.specs.Placing.{ReadAgrees}
-use Rattle.fm_sound.proofs.Following.{followed}
-use Rattle.fm_sound.proofs.FramesStand.{target_is}
+use Rattle.fm_law_sound.specs.Placing.{ReadAgrees}
+use Rattle.fm_law_sound.proofs.Following.{followed}
+use Rattle.fm_law_sound.proofs.FramesStand.{target_is}
 
 -- ---- targets
 

@@ -38,7 +38,7 @@ use Rattle.fm_frames.specs.Sights.{Sight}
 use Rattle.fm_frames.specs.States.{Frame}
 use Rattle.fm_frames.specs.declared.values.Value.TheVariants as value
 use Rattle.fm_same.specs.Evenness.{given, LeadsOn, word}
-use Rattle.fm_sound.proofs.Cases.{by_object, by_on_field, by_on_type}
+use Rattle.fm_law_sound.proofs.Cases.{by_object, by_on_field, by_on_type}
 use Rattle.fm_same.proofs.ItemFacts.{AtInsn, goes_obey, joined_class, node_of_slot, point, row, taken_word, used, x}
 use Rattle.fm_same.proofs.MoveRows.{given_stands, gives_one, gives_two, not_given}
 use Rattle.fm_same.proofs.PlainRows.{faulty_obeys, null_obeys, Owes, stuck_obeys, words_obey}

@@ -44,7 +44,7 @@ use Rattle.fm_same.proofs.CallsKeep.{starts_coloured, top_found}
 use Rattle.fm_same.proofs.GoesOnKeep.{append_found}
 use Rattle.fm_same.proofs.StoreChanges.{Extends, extends-refl, extends-then, for_ever-is_of, for_ever-later, is_of-later, set_found}
 use Rattle.fm_same.proofs.RegionLemmas.{region_within}
-use Rattle.fm_sound.proofs.Opening.{all_flat, with_text}
+use Rattle.fm_law_sound.proofs.Opening.{all_flat, with_text}
 
 -- ---- what was made stays in its place
 

@@ -19,7 +19,7 @@ use Rattle.fm_frames.specs.Operands.{thrown, thrown_null}
 use Rattle.fm_frames.specs.Sights.{Sight}
 use Rattle.fm_frames.specs.States.{Frame}
 use Rattle.fm_same.specs.Covering.{CoversTargets, MeetsTarget}
-use Rattle.fm_sound.proofs.Cases.{by_any, by_if, by_object, by_on_method, by_reference}
+use Rattle.fm_law_sound.proofs.Cases.{by_any, by_if, by_object, by_on_method, by_reference}
 use Rattle.fm_same.proofs.ItemFacts.{AtInsn, used}
 use Rattle.fm_same.proofs.NativeRows.{native_obeys}
 use Rattle.fm_same.proofs.ArrayRows.{array_load_obeys, array_store_obeys, length_obeys, multi_array_obeys, new_array_obeys, new_references_obeys}

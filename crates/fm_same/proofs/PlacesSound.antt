@@ -8,11 +8,11 @@ use Rattle.fm_types.specs.Typed.{use_by}
 use Rattle.fm_world.specs.Programs.{code_at, Program}
 use Rattle.fm_frames.specs.States.{Frame, State}
 use Rattle.fm_frames.specs.Steps.{effect_by, next_insn}
-use Rattle.fm_sound.specs.Placing.{PlacesAgree}
+use Rattle.fm_law_sound.specs.Placing.{PlacesAgree}
 use Rattle.fm_same.specs.Covering.{PlacesAgreeAt}
 use Rattle.fm_same.specs.Resolved.{IsResolved}
 use Rattle.fm_same.specs.Standing.{Stand, StandsAt}
-use Rattle.fm_sound.proofs.PlaceRows.{row_agrees}
+use Rattle.fm_law_sound.proofs.PlaceRows.{row_agrees}
 
 insn_here : (p : Program) (f : Frame) (code : Code) (i : Insn) → code_at p f.method ≡ Some code → insn_of code f.item ≡ Some i → next_insn p f ≡ Some i
 insn_here p f code i code_is is = ap (λ o. option_and_then (λ (c : Code). insn_of c f.item) o) code_is ∙ is

@@ -24,8 +24,8 @@ use Rattle.fm_frames.specs.Operands.{thrown, thrown_null}
 use Rattle.fm_frames.specs.Sights.{Sight}
 use Rattle.fm_frames.specs.States.{Frame}
 use Rattle.fm_same.specs.Evenness.{ActsEvenly, ComesFrom, EndsEvenly, IsPlainKind, LeadsRight, Obeys, Point, WritesFrom}
-use Rattle.fm_sound.specs.Placing.{IsPlain}
-use Rattle.fm_sound.proofs.Cases.{by_int, by_long, by_reference, by_thrown}
+use Rattle.fm_law_sound.specs.Placing.{IsPlain}
+use Rattle.fm_law_sound.proofs.Cases.{by_int, by_long, by_reference, by_thrown}
 use Rattle.fm_same.proofs.ItemFacts.{AtInsn, goes_obey, point, used}
 
 -- a value that leads to nothing that has a region

@@ -20,7 +20,7 @@ use Rattle.fm_frames.proofs.BuiltInTypes.{object_there, named_class}
 use Rattle.fm_frames.proofs.Programs.{built_in-inside, string-is}
 use Rattle.fm_same.specs.Evenness.{HasNoEdge, HoldsNumbers}
 use Rattle.fm_same.specs.Resolved.{IsResolved}
-use Rattle.fm_sound.proofs.MadeObjects.{chain_is, object_top, string_kinds, both_kinds}
+use Rattle.fm_law_sound.proofs.MadeObjects.{chain_is, object_top, string_kinds, both_kinds}
 
 -- ---- the chain of a class right below Object
 

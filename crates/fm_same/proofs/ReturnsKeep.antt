@@ -18,7 +18,7 @@ use Rattle.fm_same.specs.Advances.{Advances}
 use Rattle.fm_same.specs.Colours.{AreAreasColoured, AreFramesColoured, Colour, HasColour, IsEdgeEven, IsFrameColoured, node_of_word}
 use Rattle.fm_same.specs.Laws.{IsWithin}
 use Rattle.fm_same.specs.Regions.{Everywhere, Given, Own, Region, region, Retired}
-use Rattle.fm_sound.specs.Sound.{IsReference}
+use Rattle.fm_law_sound.specs.Sound.{IsReference}
 use Rattle.fm_same.specs.Standing.{Called, Goes, method_of, StandsAt}
 use Rattle.fm_same.proofs.CallRegions.{region_return, state_found}
 use Rattle.fm_same.proofs.EdgesKeep.{call_falls, call_keeps, edge_to_next, item_with_state, live_before}

@@ -44,8 +44,8 @@ use Rattle.fm_world.specs.declared.calls.CallKind.TheVariants as call
 use Rattle.fm_world.specs.declared.uses.Use.{Use}
 use Rattle.fm_world.specs.declared.uses.Use.TheVariants as resolved
 use Rattle.fm_frames.specs.CallRows.{words_of_arguments}
-use Rattle.fm_sound.specs.Going.{ConstructorsGiveNothing}
-use Rattle.fm_sound.specs.Resolved.{StepsAreResolved}
+use Rattle.fm_law_sound.specs.Going.{ConstructorsGiveNothing}
+use Rattle.fm_law_sound.specs.Resolved.{StepsAreResolved}
 use Rattle.fm_place.proofs.BusyLemmas.{words_keep_busy}
 use Rattle.fm_place.proofs.PlaceLemmas.{both-first, both-second}
 use Rattle.fm_place.specs.Sites.{constructs, has_reference_result, is_doubled, Constructs, kind_of_site, makes_array, MakesArray, may_give_old, names_constructor, new_item, receives_new, ReceivesNew, site_kind, site_node}

@@ -23,8 +23,8 @@ use Rattle.fm_same.specs.Colours.{Colour, HasColour, IsEdgeEven, IsFrameColoured
 use Rattle.fm_same.specs.Evenness.{ActsEvenly, ComesFrom, IsObjectSource, IsPlainKind, LeadsOn, Point, PutsEvenly, SetsEvenly, word}
 use Rattle.fm_same.specs.Regions.{Everywhere, Region, region, Retired}
 use Rattle.fm_same.specs.Standing.{StandsAt}
-use Rattle.fm_sound.specs.Placing.{IsPlain, kind_in, PutAgrees, ReadAgrees}
-use Rattle.fm_sound.specs.Sound.{IsReference}
+use Rattle.fm_law_sound.specs.Placing.{IsPlain, kind_in, PutAgrees, ReadAgrees}
+use Rattle.fm_law_sound.specs.Sound.{IsReference}
 use Rattle.fm_same.proofs.ActsKeep.{ActHas, cell_has, PutHas, SourceHas, SourceLeads, StaticHas, Went}
 use Rattle.fm_same.proofs.RegionLemmas.{region_global, region_within}
 use Rattle.fm_same.proofs.StoreChanges.{for_ever-is_of, has-later, IsKept}

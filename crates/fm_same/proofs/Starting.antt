@@ -30,11 +30,11 @@ use Rattle.fm_same.specs.Evenness.{ActsEvenly, HoldsNumbers, IsNumber, IsPlainKi
 use Rattle.fm_same.specs.Standing.{Goes, Stand}
 use Rattle.fm_same.proofs.ItemFacts.{AtInsn, depth_is}
 use Rattle.fm_same.proofs.Owing.{effect_obeys}
-use Rattle.fm_sound.specs.Placing.{PlacesAgree}
-use Rattle.fm_sound.proofs.FoundMethods.{own_method_found}
-use Rattle.fm_sound.proofs.Opening.{all_flat, with_text}
-use Rattle.fm_sound.proofs.NextPlaces.{methods_agree}
-use Rattle.fm_sound.proofs.StartActs.{after_methods}
+use Rattle.fm_law_sound.specs.Placing.{PlacesAgree}
+use Rattle.fm_law_sound.proofs.FoundMethods.{own_method_found}
+use Rattle.fm_law_sound.proofs.Opening.{all_flat, with_text}
+use Rattle.fm_law_sound.proofs.NextPlaces.{methods_agree}
+use Rattle.fm_law_sound.proofs.StartActs.{after_methods}
 
 -- ---- the actions of starts
 

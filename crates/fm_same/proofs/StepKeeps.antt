@@ -23,9 +23,9 @@ use Rattle.fm_same.proofs.NextKeeps.{next_kept}
 use Rattle.fm_same.proofs.ReturnsKeep.{ReturnIsColoured}
 use Rattle.fm_same.proofs.SourcesKeep.{acts_have}
 use Rattle.fm_same.proofs.StoreChanges.{Agree}
-use Rattle.fm_sound.specs.Placing.{PlacesAgree}
-use Rattle.fm_sound.proofs.KindsAgree.{gives_agree}
-use Rattle.fm_sound.proofs.Following.{continued_is, followed, followed_areas}
+use Rattle.fm_law_sound.specs.Placing.{PlacesAgree}
+use Rattle.fm_law_sound.proofs.KindsAgree.{gives_agree}
+use Rattle.fm_law_sound.proofs.Following.{continued_is, followed, followed_areas}
 
 -- a state that has the same frames and areas
 pub stays_over : (p : Program) (facts : Facts) (x next : State) (colour : Colour) → Coloured p facts x colour → next.frames ≡ x.frames → next.areas ≡ x.areas

@@ -10,7 +10,7 @@ use Rattle.fm_frames.specs.declared.values.Value.{Value}
 use Rattle.fm_frames.specs.declared.values.Value.TheVariants as value
 use Rattle.fm_same.specs.Colours.{Colour, HasColour, IsFixed, IsNull, IsOf, LivesForEver, OfNull, OfObject}
 use Rattle.fm_same.specs.Regions.{Region}
-use Rattle.fm_sound.proofs.ActsKeep.{zeros_at}
+use Rattle.fm_law_sound.proofs.ActsKeep.{zeros_at}
 
 -- ---- objects stay
 

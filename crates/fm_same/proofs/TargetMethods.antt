@@ -15,7 +15,7 @@ use Rattle.fm_world.specs.Lookups.{object_number}
 use Rattle.fm_world.specs.declared.calls.Call.{Call}
 use Rattle.fm_world.specs.declared.calls.CallKind.{CallKind}
 use Rattle.fm_world.specs.declared.calls.CallKind.TheVariants as call
-use Rattle.fm_sound.proofs.FoundMethods.{alike_itself, IsAlike, select_alike, special_alike}
+use Rattle.fm_law_sound.proofs.FoundMethods.{alike_itself, IsAlike, select_alike, special_alike}
 
 -- ---- targets
 

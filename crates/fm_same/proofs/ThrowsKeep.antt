@@ -27,7 +27,7 @@ use Rattle.fm_same.proofs.GoesOnKeep.{same_node}
 use Rattle.fm_same.proofs.LinkedClasses.{same_class_if_paired}
 use Rattle.fm_same.proofs.RegionLemmas.{region_global}
 use Rattle.fm_same.proofs.SourcesKeep.{has_if_reference}
-use Rattle.fm_sound.proofs.FramesStand.{not_left}
+use Rattle.fm_law_sound.proofs.FramesStand.{not_left}
 
 -- ---- the frame that catches
 

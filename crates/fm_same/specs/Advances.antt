@@ -8,7 +8,7 @@ use Rattle.fm_conn.specs.Nodes.{Return}
 use Rattle.fm_world.specs.Programs.{Program}
 use Rattle.fm_frames.specs.Effects.{Effect}
 use Rattle.fm_frames.specs.States.{Frame, State}
-use Rattle.fm_sound.specs.Placing.{PlacesAgree}
+use Rattle.fm_law_sound.specs.Placing.{PlacesAgree}
 use Rattle.fm_same.specs.Colours.{Colour, Coloured}
 use Rattle.fm_same.specs.Evenness.{Obeys, Point}
 use Rattle.fm_same.specs.Regions.{Own, Region, Retired}

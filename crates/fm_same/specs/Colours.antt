@@ -13,7 +13,7 @@ use Rattle.fm_world.specs.Programs.{Outline, Program}
 use Rattle.fm_frames.specs.States.{Areas, Frame, State}
 use Rattle.fm_frames.specs.declared.values.Value.{Value}
 use Rattle.fm_frames.specs.declared.values.Value.TheVariants as value
-use Rattle.fm_sound.specs.Placing.{kind_in}
+use Rattle.fm_law_sound.specs.Placing.{kind_in}
 use Rattle.fm_same.specs.Regions.{Region, Everywhere, region}
 
 -- a region for each number of a birth

@@ -28,7 +28,7 @@ use Rattle.fm_frames.specs.Natives.{Native, ObjectInit, ObjectHashCode, ObjectEq
 use Rattle.fm_frames.specs.Sights.{Looks, Sight, sights, Thing}
 use Rattle.fm_frames.specs.States.{Frame, State}
 use Rattle.fm_frames.specs.Steps.{effect_at}
-use Rattle.fm_sound.specs.Placing.{PlacesAgree}
+use Rattle.fm_law_sound.specs.Placing.{PlacesAgree}
 use Rattle.fm_same.specs.Standing.{method_of, StandsAt}
 
 -- ---- the method that a call leads to

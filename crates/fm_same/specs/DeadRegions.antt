@@ -21,9 +21,9 @@ use Rattle.fm_frames.specs.declared.values.Value.{Value}
 use Rattle.fm_place.specs.Places.{is_busy}
 use Rattle.fm_place.specs.Sites.{is_captured}
 use Rattle.fm_same.specs.Colours.{node_of_word}
-use Rattle.fm_sound.specs.Making.{ArgumentsFit}
-use Rattle.fm_sound.specs.Placing.{kind_in}
-use Rattle.fm_sound.specs.Sound.{IsSoundBy}
+use Rattle.fm_law_sound.specs.Making.{ArgumentsFit}
+use Rattle.fm_law_sound.specs.Placing.{kind_in}
+use Rattle.fm_law_sound.specs.Sound.{IsSoundBy}
 use Rattle.fm_same.specs.Standing.{method_of}
 
 -- ---- what leads where

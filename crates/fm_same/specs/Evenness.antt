@@ -25,7 +25,7 @@ use Rattle.fm_frames.specs.Acts.{requested}
 use Rattle.fm_frames.specs.NativeRows.{text_type}
 use Rattle.fm_frames.specs.Steps.{is_start}
 use Rattle.fm_frames.specs.declared.values.Value.TheVariants as value
-use Rattle.fm_sound.specs.Placing.{IsPlain, kind_in}
+use Rattle.fm_law_sound.specs.Placing.{IsPlain, kind_in}
 
 -- ---- where values come from
 

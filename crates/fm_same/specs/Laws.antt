@@ -26,9 +26,9 @@ use Rattle.fm_same.specs.Covering.{CoversAt, PlacesAgreeAt}
 use Rattle.fm_same.specs.DeadRegions.{IsOver, AreSound, AreSteps, InEachRun, RegionsDieIn, states_of}
 use Rattle.fm_same.specs.Evenness.{HoldsNumbers}
 use Rattle.fm_same.specs.Regions.{argument, Own, region, Region, Retired}
-use Rattle.fm_sound.specs.Making.{MakesAreResolved}
-use Rattle.fm_sound.specs.Resolved.{MainIsReady, StepsAreResolved}
-use Rattle.fm_sound.specs.Sound.{IsSoundBy}
+use Rattle.fm_law_sound.specs.Making.{MakesAreResolved}
+use Rattle.fm_law_sound.specs.Resolved.{MainIsReady, StepsAreResolved}
+use Rattle.fm_law_sound.specs.Sound.{IsSoundBy}
 use Rattle.fm_same.specs.Resolved.{CallsNoFreeMe, IsResolved}
 use Rattle.fm_same.specs.Standing.{Called, method_of, Stand}
 use Rattle.fm_same.specs.Targets.{AreCovered, Covers}

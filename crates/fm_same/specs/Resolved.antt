@@ -23,7 +23,7 @@ use Rattle.fm_frames.specs.NativeRows.{text_kind}
 use Rattle.fm_frames.specs.Natives.{Native}
 use Rattle.fm_frames.specs.ObjectRows.{kind_of_field}
 use Rattle.fm_frames.specs.Runnable.{IsRunnable}
-use Rattle.fm_sound.specs.Resolved.{IsNamed}
+use Rattle.fm_law_sound.specs.Resolved.{IsNamed}
 use Rattle.fm_same.specs.Covering.{is_free_me}
 use Rattle.fm_same.specs.Evenness.{IsNumber, IsPlainKind}
 

@@ -17,7 +17,7 @@ use Rattle.fm_world.specs.declared.calls.Call.{Call}
 use Rattle.fm_frames.specs.States.{Frame}
 use Rattle.fm_frames.specs.Steps.{is_start}
 use Rattle.fm_frames.specs.declared.values.Value.{Value}
-use Rattle.fm_sound.specs.Sound.{IsReference}
+use Rattle.fm_law_sound.specs.Sound.{IsReference}
 use Rattle.fm_same.specs.Colours.{node_of_word}
 use Rattle.fm_same.specs.Regions.{argument}
 

@@ -11,8 +11,8 @@ use Rattle.fm_code.specs.declared.class_file.ClassDef.{ClassDef}
 use Rattle.fm_code.specs.declared.class_file.Member.{Member}
 use Rattle.fm_code.specs.declared.code_array.Code.{Code}
 use Rattle.fm_code.specs.declared.constant_pool.Entry.{Entry}
-use Rattle.fm_rows.proofs.UseLemmas.{uses_name_members}
-use Rattle.fm_rows.specs.Members.{NamesMember}
+use Rattle.fm_check_rows.proofs.UseLemmas.{uses_name_members}
+use Rattle.fm_check_rows.specs.Members.{NamesMember}
 use Rattle.fm_world.specs.BuiltIns.{built_in}
 use Rattle.fm_world.specs.Declarations.{declared_from, declared_method, no_method}
 use Rattle.fm_world.specs.Members.{method_at, methods_from, methods_of, OwnedMethod}

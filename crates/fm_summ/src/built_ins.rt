@@ -10,7 +10,7 @@ ghost use Rattle.fm_summ.specs.inner.BuiltIns.{bare_ends, bare_entries, entry_nu
 use fm_base::{Kind, NoMemory};
 use fm_code::{ACC_STATIC, has_flag};
 use fm_conn::End2;
-use fm_rows::words_of;
+use fm_check_rows::words_of;
 use fm_types::Slot;
 use fm_world::{Body, MethodInfo};
 use std::alloc::Global;

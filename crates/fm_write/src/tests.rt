@@ -7,7 +7,7 @@ use crate::write_class;
 use fm_base::{Name, NoMemory, Seq};
 use fm_code::{ClassDef, Code, Entry, Insn, InsnBytes, Item, Member, MemberAttr, Pool};
 use fm_read::read_class;
-use fm_samples::{COMPUTES, MAKES_ARRAY, RETURNS};
+use fm_test_classes::{COMPUTES, MAKES_ARRAY, RETURNS};
 use std::alloc::Global;
 use std::test::Fail;
 

@@ -6,24 +6,24 @@ use Rattle.fm_base.proofs.OptionFacts.{Some-from_is_some, Some-from_some_and}
 use Rattle.fm_base.specs.declared.limits.TheConstants.{MAX_ARGUMENTS, MAX_CLASS_FILES, MAX_FILE_BYTES}
 use Rattle.fm_files.specs.Files.{Bytes, Disk}
 use Rattle.fm_files.specs.Sink.{Output, with_piece}
-use Rattle.fm_given.proofs.KnownLemmas.{bytes_stop, long_stops, missing_stops}
-use Rattle.fm_given.proofs.RefusalLemmas.{class_status}
-use Rattle.fm_given.proofs.VerdictLemmas.{Links}
-use Rattle.fm_given.specs.Causes.{FailsARead, HasTooMany, IsMissing, IsKnownLong, IsKnownRefused, IsKnownUnlinked, IsKnownUntyped}
-use Rattle.fm_given.specs.Given.{AreMany, AreNotLinked, IsNotLinked}
-use Rattle.fm_given.specs.LinkRefusal.{cause_line}
-use Rattle.fm_given.specs.Refusal.{many_arguments_line, many_line, refusal_status}
-use Rattle.fm_given.specs.Taking.{total_bytes, IsTooLong, IsRefused}
-use Rattle.fm_given.specs.declared.refusal.JobRefusal.{JobRefusal}
-use Rattle.fm_given.specs.declared.refusal.JobRefusal.TheVariants as job_refusal
-use Rattle.fm_refuse.specs.Refused.{refusal_of}
-use Rattle.fm_request.proofs.RequestLemmas.{asks_one}
-use Rattle.fm_request.specs.FmrunRequest.{FmrunJob, Asks, AskNothing}
-use Rattle.fm_tool.proofs.LineLemmas.{instead_for_file, instead_for_words}
-use Rattle.fm_tool.specs.Encoding.{modified}
-use Rattle.fm_tool.specs.Status.{ComesExactly}
-use Rattle.fm_tool.specs.declared.command_refusal.CommandRefusal.TheVariants as refusal
-use Rattle.fm_tool.specs.declared.status.TheConstants.{DONE, WORDS, READ, LIMIT, LINK, CHECK, WRITE, OUT_OF_MEMORY}
+use Rattle.fm_load.proofs.KnownLemmas.{bytes_stop, long_stops, missing_stops}
+use Rattle.fm_load.proofs.RefusalLemmas.{class_status}
+use Rattle.fm_load.proofs.VerdictLemmas.{Links}
+use Rattle.fm_load.specs.Causes.{FailsARead, HasTooMany, IsMissing, IsKnownLong, IsKnownRefused, IsKnownUnlinked, IsKnownUntyped}
+use Rattle.fm_load.specs.Given.{AreMany, AreNotLinked, IsNotLinked}
+use Rattle.fm_load.specs.LinkRefusal.{cause_line}
+use Rattle.fm_load.specs.Refusal.{many_arguments_line, many_line, refusal_status}
+use Rattle.fm_load.specs.Taking.{total_bytes, IsTooLong, IsRefused}
+use Rattle.fm_load.specs.declared.refusal.JobRefusal.{JobRefusal}
+use Rattle.fm_load.specs.declared.refusal.JobRefusal.TheVariants as job_refusal
+use Rattle.fm_link_refusals.specs.Refused.{refusal_of}
+use Rattle.fm_cli_requests.proofs.RequestLemmas.{asks_one}
+use Rattle.fm_cli_requests.specs.FmrunRequest.{FmrunJob, Asks, AskNothing}
+use Rattle.fm_cli.proofs.LineLemmas.{instead_for_file, instead_for_words}
+use Rattle.fm_cli.specs.Encoding.{modified}
+use Rattle.fm_cli.specs.Status.{ComesExactly}
+use Rattle.fm_cli.specs.declared.command_refusal.CommandRefusal.TheVariants as refusal
+use Rattle.fm_cli.specs.declared.status.TheConstants.{DONE, WORDS, READ, LIMIT, LINK, CHECK, WRITE, OUT_OF_MEMORY}
 use Rattle.fm_world.specs.Causes.{Refusal}
 use Rattle.fmrun.proofs.EndStatuses.{among_refusals, job_of_told, kind_of, not_for_words, own_among, refusal_among, run_apart}
 use Rattle.fmrun.proofs.ToldLemmas.{FailsSo, IsLinePut, fails_so, is_among, is_line_put, told_of_file, told_of_words}

@@ -3,16 +3,16 @@ use Rattle.std.proofs.Common.{◌≡◌, ◌≢◌, ◌<◌, ◌≤◌, ◌⊎�
 use Rattle.fm_files.specs.Files.{Bytes, Disk}
 use Rattle.fm_files.specs.Sink.{Output, with_piece}
 use Rattle.fm_frames.specs.Reports.{report_of}
-use Rattle.fm_given.proofs.RefusalLemmas.{class_status}
-use Rattle.fm_given.specs.Refusal.{refusal_line, refusal_status}
-use Rattle.fm_given.specs.declared.refusal.JobRefusal.{JobRefusal}
-use Rattle.fm_given.specs.declared.refusal.JobRefusal.TheVariants as job_refusal
-use Rattle.fm_request.proofs.RequestLemmas.{asks_one}
-use Rattle.fm_request.specs.FmrunRequest.{FmrunJob, Asks, AskNothing}
-use Rattle.fm_tool.proofs.OutsideLemmas.{no_fault_where_same}
-use Rattle.fm_tool.specs.Outside.{HasNoFileFault}
-use Rattle.fm_tool.specs.declared.command_refusal.CommandRefusal.TheVariants as refusal
-use Rattle.fm_tool.specs.declared.status.TheConstants.{WRITE, OUT_OF_MEMORY}
+use Rattle.fm_load.proofs.RefusalLemmas.{class_status}
+use Rattle.fm_load.specs.Refusal.{refusal_line, refusal_status}
+use Rattle.fm_load.specs.declared.refusal.JobRefusal.{JobRefusal}
+use Rattle.fm_load.specs.declared.refusal.JobRefusal.TheVariants as job_refusal
+use Rattle.fm_cli_requests.proofs.RequestLemmas.{asks_one}
+use Rattle.fm_cli_requests.specs.FmrunRequest.{FmrunJob, Asks, AskNothing}
+use Rattle.fm_cli.proofs.OutsideLemmas.{no_fault_where_same}
+use Rattle.fm_cli.specs.Outside.{HasNoFileFault}
+use Rattle.fm_cli.specs.declared.command_refusal.CommandRefusal.TheVariants as refusal
+use Rattle.fm_cli.specs.declared.status.TheConstants.{WRITE, OUT_OF_MEMORY}
 use Rattle.fmrun.proofs.EndStatuses.{among_before_run, job_of_failed, job_of_told, not_for_write, refusal_among, run_apart}
 use Rattle.fmrun.proofs.JobLemmas.{none_within}
 use Rattle.fmrun.proofs.ToldLemmas.{FailsSo, IsLinePut, fails_so, is_line_put, output_faultless, report_fails, report_faultless}

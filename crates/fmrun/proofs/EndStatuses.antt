@@ -13,18 +13,18 @@ use Rattle.fm_files.specs.Sink.{Output}
 use Rattle.fm_frames.specs.Reports.{report_of}
 use Rattle.fm_frames.specs.declared.ends.Ended.{Ended}
 use Rattle.fm_frames.specs.declared.ends.Ended.TheVariants as end
-use Rattle.fm_given.proofs.RefusalLemmas.{class_status}
-use Rattle.fm_given.specs.Refusal.{refusal_status}
-use Rattle.fm_given.specs.declared.class_refusal.ClassRefusal.TheVariants as refused
-use Rattle.fm_given.specs.declared.refusal.JobRefusal.{JobRefusal}
-use Rattle.fm_given.specs.declared.refusal.JobRefusal.TheVariants as job_refusal
-use Rattle.fm_report.specs.Reports.{end_status}
-use Rattle.fm_report.specs.declared.status.TheConstants.{FAULT, OTHER_EXIT}
-use Rattle.fm_request.specs.FmrunRequest.{FmrunJob}
-use Rattle.fm_runner.specs.declared.runs.RunReport.{RunReport}
-use Rattle.fm_tool.proofs.LineLemmas.{instead_for_file}
-use Rattle.fm_tool.specs.declared.command_refusal.CommandRefusal.TheVariants as refusal
-use Rattle.fm_tool.specs.declared.status.TheConstants.{DONE, WORDS, WRITE}
+use Rattle.fm_load.proofs.RefusalLemmas.{class_status}
+use Rattle.fm_load.specs.Refusal.{refusal_status}
+use Rattle.fm_load.specs.declared.class_refusal.ClassRefusal.TheVariants as refused
+use Rattle.fm_load.specs.declared.refusal.JobRefusal.{JobRefusal}
+use Rattle.fm_load.specs.declared.refusal.JobRefusal.TheVariants as job_refusal
+use Rattle.fm_run_job.specs.Reports.{end_status}
+use Rattle.fm_run_job.specs.declared.status.TheConstants.{FAULT, OTHER_EXIT}
+use Rattle.fm_cli_requests.specs.FmrunRequest.{FmrunJob}
+use Rattle.fm_run_job.specs.declared.runs.RunReport.{RunReport}
+use Rattle.fm_cli.proofs.LineLemmas.{instead_for_file}
+use Rattle.fm_cli.specs.declared.command_refusal.CommandRefusal.TheVariants as refusal
+use Rattle.fm_cli.specs.declared.status.TheConstants.{DONE, WORDS, WRITE}
 use Rattle.fmrun.specs.Causes.{before_run, refusal_statuses}
 use Rattle.fmrun.specs.TopCall.{ComesOf, ComesOfJob, ComesTo, HasRun, Outcome, outcome_status}
 use Rattle.fmrun.specs.declared.outcome.JobFail.TheVariants as fail

@@ -8,22 +8,22 @@ use Rattle.fm_code.specs.Profile.{Profile}
 use Rattle.fm_code.specs.declared.class_file.ClassDef.{ClassDef}
 use Rattle.fm_files.specs.Files.{Bytes, Contents, Disk}
 use Rattle.fm_files.specs.Sink.{Output}
-use Rattle.fm_given.proofs.ChangesLemmas.{rises_of_kept, rises_then, faultless_then, read_fault_then}
-use Rattle.fm_given.proofs.ReadLemmas.{reads_next, reads_none, same_number}
-use Rattle.fm_given.proofs.TakenLemmas.{are_spelled}
-use Rattle.fm_given.specs.Given.{IsUntouched, IsNotLinked, AreChecked}
-use Rattle.fm_given.specs.Judging.{ComesOfProgram}
-use Rattle.fm_given.specs.Reading.{AreRead, ComesOfFiles, ReadsAll}
-use Rattle.fm_given.specs.Taking.{AllTaken, AreTaken, ClassIsSpelled}
-use Rattle.fm_given.specs.declared.refusal.JobRefusal.{JobRefusal}
-use Rattle.fm_given.specs.declared.refusal.JobRefusal.TheVariants as job_refusal
-use Rattle.fm_input.specs.Reading.{ComesOfInput, IsInputOf, IsInputRead, ReadsInput}
-use Rattle.fm_refuse.specs.Refused.{refusal_of}
-use Rattle.fm_request.specs.FmrunRequest.{FmrunJob, job_of}
-use Rattle.fm_request.specs.declared.fmrun_request.FmrunRequest.{FmrunRequest}
-use Rattle.fm_tool.specs.Encoding.{modified}
-use Rattle.fm_tool.specs.Outside.{HoldsSuch}
-use Rattle.fm_tool.specs.declared.command_refusal.CommandRefusal.TheVariants as refusal
+use Rattle.fm_load.proofs.ChangesLemmas.{rises_of_kept, rises_then, faultless_then, read_fault_then}
+use Rattle.fm_load.proofs.ReadLemmas.{reads_next, reads_none, same_number}
+use Rattle.fm_load.proofs.TakenLemmas.{are_spelled}
+use Rattle.fm_load.specs.Given.{IsUntouched, IsNotLinked, AreChecked}
+use Rattle.fm_load.specs.Judging.{ComesOfProgram}
+use Rattle.fm_load.specs.Reading.{AreRead, ComesOfFiles, ReadsAll}
+use Rattle.fm_load.specs.Taking.{AllTaken, AreTaken, ClassIsSpelled}
+use Rattle.fm_load.specs.declared.refusal.JobRefusal.{JobRefusal}
+use Rattle.fm_load.specs.declared.refusal.JobRefusal.TheVariants as job_refusal
+use Rattle.fm_run_job.specs.Reading.{ComesOfInput, IsInputOf, IsInputRead, ReadsInput}
+use Rattle.fm_link_refusals.specs.Refused.{refusal_of}
+use Rattle.fm_cli_requests.specs.FmrunRequest.{FmrunJob, job_of}
+use Rattle.fm_cli_requests.specs.declared.fmrun_request.FmrunRequest.{FmrunRequest}
+use Rattle.fm_cli.specs.Encoding.{modified}
+use Rattle.fm_cli.specs.Outside.{HoldsSuch}
+use Rattle.fm_cli.specs.declared.command_refusal.CommandRefusal.TheVariants as refusal
 use Rattle.fm_world.specs.Causes.{Refusal}
 use Rattle.fm_world.specs.Linking.{refusals}
 use Rattle.fmrun.specs.Jobs.{given_of, budgets_of, input_files, job_arguments, job_files, IsReady}

@@ -2,12 +2,12 @@
 use Rattle.std.proofs.Common.{◌≡◌, ◌<◌, ◌≤◌, ℕ, ◌*◌, ◌^◌, List, [], ◌∷◌, Option, Some, None, IfSome, Bor, IfOk, Ok, Err, Result, Vec, option_map, length, sym, subst, arith}
 use Rattle.std.specs.List.{AllByRecursion}
 use Rattle.fm_base.specs.declared.limits.TheConstants.{MAX_ARGUMENTS, MAX_COMMAND_LINE_VALUE_BYTES}
-use Rattle.fm_request.proofs.ArgumentLemmas.{argument_lengths}
-use Rattle.fm_request.specs.Arguments.{arguments_of}
-use Rattle.fm_request.proofs.RequestLemmas.{steps_within, words_within}
-use Rattle.fm_request.specs.FmrunRequest.{Asks, FmrunJob}
-use Rattle.fm_request.specs.Values.{IsValue}
-use Rattle.fm_sound.specs.Making.{ArgumentsFit, AreUnits}
+use Rattle.fm_cli_requests.proofs.ArgumentLemmas.{argument_lengths}
+use Rattle.fm_cli_requests.specs.Arguments.{arguments_of}
+use Rattle.fm_cli_requests.proofs.RequestLemmas.{steps_within, words_within}
+use Rattle.fm_cli_requests.specs.FmrunRequest.{Asks, FmrunJob}
+use Rattle.fm_cli_requests.specs.Values.{IsValue}
+use Rattle.fm_law_sound.specs.Making.{ArgumentsFit, AreUnits}
 use Rattle.fmrun.specs.Jobs.{IsWithinLimits}
 
 -- a value isn't too long

@@ -13,21 +13,21 @@ use Rattle.fm_frames.specs.Reports.{report_of}
 use Rattle.fm_frames.specs.States.{Moved, State}
 use Rattle.fm_frames.specs.declared.ends.Ended.{Ended}
 use Rattle.fm_frames.specs.declared.ends.Ended.TheVariants as end
-use Rattle.fm_given.proofs.KnownLemmas.{all_taken}
-use Rattle.fm_given.proofs.TakenLemmas.{have_spellings}
-use Rattle.fm_given.proofs.VerdictLemmas.{Ends, EndsOnce, one_judgement}
-use Rattle.fm_given.specs.Given.{AreChecked}
-use Rattle.fm_given.specs.Taking.{AllTaken}
-use Rattle.fm_held.specs.MostHeld.{all_most_held, MadeIsMostHeld}
-use Rattle.fm_ready.specs.Ready.{CanRun}
-use Rattle.fm_report.specs.declared.status.TheConstants.{FAULT}
-use Rattle.fm_request.proofs.RequestLemmas.{asks_one}
-use Rattle.fm_request.specs.FmrunRequest.{FmrunJob}
-use Rattle.fm_resolved.specs.Laws.{ProgramsCanRun}
-use Rattle.fm_runner.proofs.Opened.{job_of, last_after, opening-silent}
+use Rattle.fm_load.proofs.KnownLemmas.{all_taken}
+use Rattle.fm_load.proofs.TakenLemmas.{have_spellings}
+use Rattle.fm_load.proofs.VerdictLemmas.{Ends, EndsOnce, one_judgement}
+use Rattle.fm_load.specs.Given.{AreChecked}
+use Rattle.fm_load.specs.Taking.{AllTaken}
+use Rattle.fm_law_cells_made.specs.MostHeld.{all_most_held, MadeIsMostHeld}
+use Rattle.fm_law_can_step.specs.Ready.{CanRun}
+use Rattle.fm_run_job.specs.declared.status.TheConstants.{FAULT}
+use Rattle.fm_cli_requests.proofs.RequestLemmas.{asks_one}
+use Rattle.fm_cli_requests.specs.FmrunRequest.{FmrunJob}
+use Rattle.fm_law_linked.specs.Laws.{ProgramsCanRun}
+use Rattle.fm_run_job.proofs.Opened.{job_of, last_after, opening-silent}
 use Rattle.fm_same.specs.Resolved.{CallsNoFreeMe}
-use Rattle.fm_tool.specs.Encoding.{modified}
-use Rattle.fm_whole.specs.Whole.{HasNoFault}
+use Rattle.fm_cli.specs.Encoding.{modified}
+use Rattle.fm_law_no_fault.specs.Whole.{HasNoFault}
 use Rattle.fmrun.proofs.EndStatuses.{among_refusals, fault_status, IsFault}
 use Rattle.fmrun.proofs.JobLemmas.{taken_accepted, taken_few, taken_spelled}
 use Rattle.fmrun.specs.Causes.{AskFor, IsForFault, IsForRun, IsKnownFreeless, refusal_statuses, ReportsMostHeld, SaysFault, SaysRun}

@@ -11,24 +11,24 @@ use Rattle.fm_files.specs.Sink.{Output}
 use Rattle.fm_frames.specs.States.{Moved, State}
 use Rattle.fm_frames.specs.declared.turns.StepFail.{StepFail}
 use Rattle.fm_frames.specs.declared.turns.StepFail.TheVariants as step_fail
-use Rattle.fm_given.proofs.TakenLemmas.{have_spellings}
-use Rattle.fm_given.specs.Judging.{ComesOfProgram}
-use Rattle.fm_given.specs.Taking.{ClassIsSpelled}
-use Rattle.fm_given.specs.declared.refusal.JobRefusal.{JobRefusal}
-use Rattle.fm_given.specs.declared.refusal.JobRefusal.TheVariants as job_refusal
-use Rattle.fm_ready.specs.Ready.{CanRun}
-use Rattle.fm_resolved.specs.Laws.{ProgramsCanRun}
+use Rattle.fm_load.proofs.TakenLemmas.{have_spellings}
+use Rattle.fm_load.specs.Judging.{ComesOfProgram}
+use Rattle.fm_load.specs.Taking.{ClassIsSpelled}
+use Rattle.fm_load.specs.declared.refusal.JobRefusal.{JobRefusal}
+use Rattle.fm_load.specs.declared.refusal.JobRefusal.TheVariants as job_refusal
+use Rattle.fm_law_can_step.specs.Ready.{CanRun}
+use Rattle.fm_law_linked.specs.Laws.{ProgramsCanRun}
 use Rattle.fm_run.specs.Running.{BreaksRun, FailsRun, RunsTo}
-use Rattle.fm_runner.proofs.Opened.{job_of, last_after, typings_are, typings_of}
-use Rattle.fm_runner.specs.Runs.{AreWithin, ComesOfRun, IsToldOf, choice, opened_run}
-use Rattle.fm_runner.specs.declared.runs.Budgets.{Budgets}
-use Rattle.fm_runner.specs.declared.runs.RunReport.{RunReport}
+use Rattle.fm_run_job.proofs.Opened.{job_of, last_after, typings_are, typings_of}
+use Rattle.fm_run_job.specs.Runs.{AreWithin, ComesOfRun, IsToldOf, choice, opened_run}
+use Rattle.fm_run_job.specs.declared.runs.Budgets.{Budgets}
+use Rattle.fm_run_job.specs.declared.runs.RunReport.{RunReport}
 use Rattle.fm_same.specs.Resolved.{CallsNoFreeMe}
-use Rattle.fm_sound.specs.Making.{ArgumentsFit}
-use Rattle.fm_tool.specs.declared.command_refusal.CommandRefusal.TheVariants as refusal
-use Rattle.fm_untyped.specs.Untyped.{AreTyped}
-use Rattle.fm_whole.specs.NoFault.{LinkedProgramsNeverFault}
-use Rattle.fm_whole.specs.Whole.{HasNoFault}
+use Rattle.fm_law_sound.specs.Making.{ArgumentsFit}
+use Rattle.fm_cli.specs.declared.command_refusal.CommandRefusal.TheVariants as refusal
+use Rattle.fm_check_program.specs.Untyped.{AreTyped}
+use Rattle.fm_law_no_fault.specs.NoFault.{LinkedProgramsNeverFault}
+use Rattle.fm_law_no_fault.specs.Whole.{HasNoFault}
 use Rattle.fm_world.specs.Programs.{Program, program_of}
 use Rattle.fmrun.specs.declared.outcome.JobFail.{JobFail}
 use Rattle.fmrun.specs.declared.outcome.JobFail.TheVariants as fail

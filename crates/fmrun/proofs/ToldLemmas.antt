@@ -2,14 +2,14 @@
 use Rattle.std.proofs.Common.{◌≡◌, ◌≢◌, ◌<◌, ◌⊎◌, ℕ, inl, inr, List, ◌∷◌, Contains, IfSome, Ok, Err, string_bytes, refl, sym, ap, ◌∙◌, subst, arith}
 use Rattle.fm_files.specs.Files.{Bytes, Disk}
 use Rattle.fm_files.specs.Sink.{Output, with_piece}
-use Rattle.fm_given.specs.Refusal.{refusal_line, refusal_status}
-use Rattle.fm_given.specs.declared.refusal.JobRefusal.TheVariants as job_refusal
-use Rattle.fm_request.specs.FmrunRequest.{FmrunJob}
-use Rattle.fm_tool.proofs.LineLemmas.{instead_for_file, instead_for_words, is_put, put_fails, told_among}
-use Rattle.fm_tool.proofs.OutsideLemmas.{no_fault_where_same}
-use Rattle.fm_tool.specs.Outside.{HasNoFileFault}
-use Rattle.fm_tool.specs.declared.command_refusal.CommandRefusal.TheVariants as refusal
-use Rattle.fm_tool.specs.declared.status.TheConstants.{READ, WRITE, OUT_OF_MEMORY}
+use Rattle.fm_load.specs.Refusal.{refusal_line, refusal_status}
+use Rattle.fm_load.specs.declared.refusal.JobRefusal.TheVariants as job_refusal
+use Rattle.fm_cli_requests.specs.FmrunRequest.{FmrunJob}
+use Rattle.fm_cli.proofs.LineLemmas.{instead_for_file, instead_for_words, is_put, put_fails, told_among}
+use Rattle.fm_cli.proofs.OutsideLemmas.{no_fault_where_same}
+use Rattle.fm_cli.specs.Outside.{HasNoFileFault}
+use Rattle.fm_cli.specs.declared.command_refusal.CommandRefusal.TheVariants as refusal
+use Rattle.fm_cli.specs.declared.status.TheConstants.{READ, WRITE, OUT_OF_MEMORY}
 use Rattle.fmrun.specs.TopCall.{ComesOf, ComesTo, IsTold, Outcome, outcome_line, outcome_status}
 use Rattle.fmrun.specs.declared.outcome.JobFail.TheVariants as fail
 

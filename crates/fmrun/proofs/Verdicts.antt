@@ -11,22 +11,22 @@ use Rattle.fm_frames.specs.Reports.{report_of}
 use Rattle.fm_frames.specs.Runs.{after, IsRun}
 use Rattle.fm_frames.specs.States.{Moved, State}
 use Rattle.fm_frames.specs.inner.Doings.{silent}
-use Rattle.fm_given.proofs.KnownLemmas.{all_taken, bytes_stop, long_stops, not_empty, not_typed}
-use Rattle.fm_given.proofs.VerdictLemmas.{Ends, EndsOnce, Links, Verdict, links_once, one_verdict}
-use Rattle.fm_given.specs.ClassRefusal.{class_refusal_status}
-use Rattle.fm_given.specs.Given.{AreNotLinked, given_program}
-use Rattle.fm_given.specs.Taking.{total_bytes, AllTaken, IsTooLong, IsRefused}
-use Rattle.fm_given.specs.declared.refusal.JobRefusal.TheVariants as job_refusal
-use Rattle.fm_input.specs.Reading.{IsInputOf}
-use Rattle.fm_refuse.specs.Refused.{refusal_of}
-use Rattle.fm_report.specs.Reports.{end_status}
-use Rattle.fm_request.specs.FmrunRequest.{FmrunJob}
-use Rattle.fm_runner.specs.Runs.{choice}
-use Rattle.fm_tool.proofs.LineLemmas.{instead_for_file}
-use Rattle.fm_tool.proofs.OutsideLemmas.{known_such}
-use Rattle.fm_tool.specs.Encoding.{modified}
-use Rattle.fm_tool.specs.declared.command_refusal.CommandRefusal.TheVariants as refusal
-use Rattle.fm_tool.specs.declared.status.TheConstants.{DONE, READ, LIMIT, LINK, CHECK, WRITE, OUT_OF_MEMORY}
+use Rattle.fm_load.proofs.KnownLemmas.{all_taken, bytes_stop, long_stops, not_empty, not_typed}
+use Rattle.fm_load.proofs.VerdictLemmas.{Ends, EndsOnce, Links, Verdict, links_once, one_verdict}
+use Rattle.fm_load.specs.ClassRefusal.{class_refusal_status}
+use Rattle.fm_load.specs.Given.{AreNotLinked, given_program}
+use Rattle.fm_load.specs.Taking.{total_bytes, AllTaken, IsTooLong, IsRefused}
+use Rattle.fm_load.specs.declared.refusal.JobRefusal.TheVariants as job_refusal
+use Rattle.fm_run_job.specs.Reading.{IsInputOf}
+use Rattle.fm_link_refusals.specs.Refused.{refusal_of}
+use Rattle.fm_run_job.specs.Reports.{end_status}
+use Rattle.fm_cli_requests.specs.FmrunRequest.{FmrunJob}
+use Rattle.fm_run_job.specs.Runs.{choice}
+use Rattle.fm_cli.proofs.LineLemmas.{instead_for_file}
+use Rattle.fm_cli.proofs.OutsideLemmas.{known_such}
+use Rattle.fm_cli.specs.Encoding.{modified}
+use Rattle.fm_cli.specs.declared.command_refusal.CommandRefusal.TheVariants as refusal
+use Rattle.fm_cli.specs.declared.status.TheConstants.{DONE, READ, LIMIT, LINK, CHECK, WRITE, OUT_OF_MEMORY}
 use Rattle.fm_world.specs.Linking.{refusals}
 use Rattle.fm_world.specs.Programs.{Program}
 use Rattle.fmrun.proofs.EndStatuses.{kind_of}

@@ -10,23 +10,23 @@ use Rattle.fm_frames.specs.Runs.{IsRun}
 use Rattle.fm_frames.specs.States.{State}
 use Rattle.fm_frames.specs.declared.ends.Ended.{Ended}
 use Rattle.fm_frames.specs.inner.Doings.{silent}
-use Rattle.fm_given.specs.Causes.{FailsARead, HasTooMany, IsMissing, IsKnownLong, IsKnownRefused, IsKnownUnlinked, IsKnownUntyped}
-use Rattle.fm_given.specs.ClassRefusal.{class_refusal_line, class_refusal_status}
-use Rattle.fm_given.specs.Given.{AreChecked, AreMany, IsLong, IsNotLinked, IsNotTyped, IsRefusedFile, IsUnread, IsUntouched}
-use Rattle.fm_given.specs.LinkRefusal.{link_line}
-use Rattle.fm_given.specs.Refusal.{check_line, long_line, many_arguments_line, many_line}
-use Rattle.fm_given.specs.Taking.{AllTaken}
-use Rattle.fm_given.specs.declared.class_refusal.ClassRefusal.{ClassRefusal}
-use Rattle.fm_held.specs.MostHeld.{all_most_held}
-use Rattle.fm_report.specs.Reports.{end_status}
-use Rattle.fm_report.specs.declared.status.TheConstants.{FAULT}
-use Rattle.fm_request.specs.FmrunRequest.{FmrunJob, Asks, AskNothing}
-use Rattle.fm_runner.specs.Runs.{choice}
+use Rattle.fm_load.specs.Causes.{FailsARead, HasTooMany, IsMissing, IsKnownLong, IsKnownRefused, IsKnownUnlinked, IsKnownUntyped}
+use Rattle.fm_load.specs.ClassRefusal.{class_refusal_line, class_refusal_status}
+use Rattle.fm_load.specs.Given.{AreChecked, AreMany, IsLong, IsNotLinked, IsNotTyped, IsRefusedFile, IsUnread, IsUntouched}
+use Rattle.fm_load.specs.LinkRefusal.{link_line}
+use Rattle.fm_load.specs.Refusal.{check_line, long_line, many_arguments_line, many_line}
+use Rattle.fm_load.specs.Taking.{AllTaken}
+use Rattle.fm_load.specs.declared.class_refusal.ClassRefusal.{ClassRefusal}
+use Rattle.fm_law_cells_made.specs.MostHeld.{all_most_held}
+use Rattle.fm_run_job.specs.Reports.{end_status}
+use Rattle.fm_run_job.specs.declared.status.TheConstants.{FAULT}
+use Rattle.fm_cli_requests.specs.FmrunRequest.{FmrunJob, Asks, AskNothing}
+use Rattle.fm_run_job.specs.Runs.{choice}
 use Rattle.fm_same.specs.Resolved.{CallsNoFreeMe}
-use Rattle.fm_tool.specs.Outside.{HasNoFileFault, IsKnownMissing, IsKnownSuch}
-use Rattle.fm_tool.specs.CommandRefusal.{memory_line, read_line, words_line}
-use Rattle.fm_tool.specs.Status.{ComesExactly}
-use Rattle.fm_tool.specs.declared.status.TheConstants.{WORDS, READ, MALFORMED, VERSION, LIMIT, UNSUPPORTED, LINK, CHECK, WRITE, OUT_OF_MEMORY}
+use Rattle.fm_cli.specs.Outside.{HasNoFileFault, IsKnownMissing, IsKnownSuch}
+use Rattle.fm_cli.specs.CommandRefusal.{memory_line, read_line, words_line}
+use Rattle.fm_cli.specs.Status.{ComesExactly}
+use Rattle.fm_cli.specs.declared.status.TheConstants.{WORDS, READ, MALFORMED, VERSION, LIMIT, UNSUPPORTED, LINK, CHECK, WRITE, OUT_OF_MEMORY}
 use Rattle.fm_world.specs.Causes.{Refusal}
 use Rattle.fmrun.specs.Jobs.{given_of, job_arguments, job_program, opened_job, IsReady}
 use Rattle.fmrun.specs.TopCall.{AreManyArguments, ComesOf, HasBroken, HasFailed, HasInput, HasRun, IsInputLong, IsInputUnread, Outcome, StaysWithin, outcome_line}

@@ -4,13 +4,13 @@ use Rattle.fm_base.specs.declared.limits.TheConstants.{MAX_ARGUMENTS, MAX_COMMAN
 use Rattle.fm_code.specs.declared.class_file.ClassDef.{ClassDef}
 use Rattle.fm_files.specs.Files.{Bytes, Contents}
 use Rattle.fm_frames.specs.States.{State}
-use Rattle.fm_given.specs.Given.{Given, given_program, AreChecked}
-use Rattle.fm_input.specs.Reading.{IsInputOf}
-use Rattle.fm_request.specs.Arguments.{arguments_of}
-use Rattle.fm_request.specs.FmrunRequest.{FmrunJob}
-use Rattle.fm_runner.specs.Runs.{AreWithin, opened_run}
-use Rattle.fm_runner.specs.declared.runs.Budgets.{Budgets}
-use Rattle.fm_tool.specs.Encoding.{modified}
+use Rattle.fm_load.specs.Given.{Given, given_program, AreChecked}
+use Rattle.fm_run_job.specs.Reading.{IsInputOf}
+use Rattle.fm_cli_requests.specs.Arguments.{arguments_of}
+use Rattle.fm_cli_requests.specs.FmrunRequest.{FmrunJob}
+use Rattle.fm_run_job.specs.Runs.{AreWithin, opened_run}
+use Rattle.fm_run_job.specs.declared.runs.Budgets.{Budgets}
+use Rattle.fm_cli.specs.Encoding.{modified}
 use Rattle.fm_world.specs.Programs.{Program}
 
 -- the class files, and the main class as class files spell it

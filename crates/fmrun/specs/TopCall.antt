@@ -6,25 +6,25 @@ use Rattle.fm_files.specs.Files.{Bytes, Contents, Disk}
 use Rattle.fm_files.specs.Sink.{Output}
 use Rattle.fm_frames.specs.Reports.{report_of}
 use Rattle.fm_frames.specs.States.{State}
-use Rattle.fm_given.specs.Given.{AreMany, IsUntouched, IsUnread, IsLong, IsRefusedFile, IsNotLinked, IsNotTyped}
-use Rattle.fm_given.specs.Reading.{ReadsAll}
-use Rattle.fm_given.specs.Refusal.{refusal_line, refusal_status}
-use Rattle.fm_given.specs.Taking.{AllTaken}
-use Rattle.fm_given.specs.declared.refusal.JobRefusal.{JobRefusal}
-use Rattle.fm_given.specs.declared.refusal.JobRefusal.TheVariants as job_refusal
-use Rattle.fm_input.specs.Reading.{IsInputOf}
-use Rattle.fm_refuse.specs.Refused.{refusal_of}
-use Rattle.fm_report.specs.Reports.{report_line, end_status}
-use Rattle.fm_request.specs.FmrunRequest.{FmrunJob, Asks, AskNothing}
+use Rattle.fm_load.specs.Given.{AreMany, IsUntouched, IsUnread, IsLong, IsRefusedFile, IsNotLinked, IsNotTyped}
+use Rattle.fm_load.specs.Reading.{ReadsAll}
+use Rattle.fm_load.specs.Refusal.{refusal_line, refusal_status}
+use Rattle.fm_load.specs.Taking.{AllTaken}
+use Rattle.fm_load.specs.declared.refusal.JobRefusal.{JobRefusal}
+use Rattle.fm_load.specs.declared.refusal.JobRefusal.TheVariants as job_refusal
+use Rattle.fm_run_job.specs.Reading.{IsInputOf}
+use Rattle.fm_link_refusals.specs.Refused.{refusal_of}
+use Rattle.fm_run_job.specs.Reports.{report_line, end_status}
+use Rattle.fm_cli_requests.specs.FmrunRequest.{FmrunJob, Asks, AskNothing}
 use Rattle.fm_run.specs.Running.{BreaksRun, FailsRun, RunsTo}
-use Rattle.fm_runner.specs.Runs.{choice}
+use Rattle.fm_run_job.specs.Runs.{choice}
 use Rattle.fm_same.specs.Resolved.{CallsNoFreeMe}
-use Rattle.fm_runner.specs.declared.runs.RunReport.{RunReport}
-use Rattle.fm_tool.specs.Line.{Tells}
-use Rattle.fm_tool.specs.Outside.{HasReadFault, HoldsSuch}
-use Rattle.fm_tool.specs.declared.command_refusal.CommandRefusal.TheVariants as refusal
-use Rattle.fm_tool.specs.declared.status.TheConstants.{WRITE}
-use Rattle.fm_whole.specs.Whole.{HasNoFault}
+use Rattle.fm_run_job.specs.declared.runs.RunReport.{RunReport}
+use Rattle.fm_cli.specs.Line.{Tells}
+use Rattle.fm_cli.specs.Outside.{HasReadFault, HoldsSuch}
+use Rattle.fm_cli.specs.declared.command_refusal.CommandRefusal.TheVariants as refusal
+use Rattle.fm_cli.specs.declared.status.TheConstants.{WRITE}
+use Rattle.fm_law_no_fault.specs.Whole.{HasNoFault}
 use Rattle.fmrun.specs.Jobs.{given_of, job_arguments, job_files, job_program, opened_job, IsReady}
 use Rattle.fmrun.specs.declared.outcome.JobFail.{JobFail}
 use Rattle.fmrun.specs.declared.outcome.JobFail.TheVariants as fail

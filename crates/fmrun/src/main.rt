@@ -12,7 +12,7 @@ mod top_call;
 
 use crate::top_call::fmrun_run;
 use fm_files::{FolderFiles, StdSink};
-use fm_tool::{command_words, status};
+use fm_cli::{command_words, status};
 use std::process::ExitCode;
 
 fn main(rt: HostRuntime) -> ExitCode {

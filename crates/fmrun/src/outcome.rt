@@ -1,14 +1,14 @@
 // How a job comes out.
 
 ghost use Rattle.std.specs.Prelude.{◌≡◌};
-ghost use Rattle.fm_given.specs.declared.refusal.JobRefusal.TheVariants as job_refusal;
-ghost use Rattle.fm_tool.specs.declared.command_refusal.CommandRefusal.TheVariants as refusal;
+ghost use Rattle.fm_load.specs.declared.refusal.JobRefusal.TheVariants as job_refusal;
+ghost use Rattle.fm_cli.specs.declared.command_refusal.CommandRefusal.TheVariants as refusal;
 ghost use Rattle.fmrun.specs.declared.outcome.JobFail.TheVariants as fail;
 ghost use Rattle.fmrun.specs.inner.Fails.{IsOfStep};
 
 use fm_base::NoMemory;
 use fm_frames::StepFail;
-use fm_given::JobRefusal;
+use fm_load::JobRefusal;
 
 /// Why there is no report of a run.
 #[derive(Debug, Drop)]

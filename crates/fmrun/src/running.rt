@@ -4,19 +4,19 @@ ghost use Rattle.std.specs.List.{AllByRecursion};
 ghost use Rattle.std.specs.Prelude.{◌≤◌, length};
 ghost use Rattle.fm_base.specs.declared.limits.TheConstants.{MAX_ARGUMENTS, MAX_CLASS_FILES, MAX_FILE_BYTES};
 ghost use Rattle.fm_code.specs.Profile.{Profile};
-ghost use Rattle.fm_given.specs.Taking.{ClassIsSpelled};
-ghost use Rattle.fm_runner.specs.Runs.{AreWithin};
-ghost use Rattle.fm_sound.specs.Making.{ArgumentsFit};
-ghost use Rattle.fm_tool.specs.Encoding.{modified};
+ghost use Rattle.fm_load.specs.Taking.{ClassIsSpelled};
+ghost use Rattle.fm_run_job.specs.Runs.{AreWithin};
+ghost use Rattle.fm_law_sound.specs.Making.{ArgumentsFit};
+ghost use Rattle.fm_cli.specs.Encoding.{modified};
 ghost use Rattle.fmrun.specs.inner.Running.{ComesOfClasses};
 
 use crate::outcome::JobFail;
 use fm_base::Units;
 use fm_code::ClassDef;
 use fm_files::Sink;
-use fm_given::program_of;
-use fm_resolved::{law_can_run, law_linked_no_fault};
-use fm_runner::{Budgets, RunReport, run_program};
+use fm_load::program_of;
+use fm_law_linked::{law_can_run, law_linked_no_fault};
+use fm_run_job::{Budgets, RunReport, run_program};
 use std::alloc::Global;
 
 /// Runs the program of classes with a main class of this name, where they make one of typed

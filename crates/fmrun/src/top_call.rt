@@ -3,10 +3,10 @@
 ghost use Rattle.std.specs.List.{AllByRecursion};
 ghost use Rattle.std.specs.Prelude.{◌≡◌, ◌^◌, ◌<◌, ◌≤◌, IfOk, IfSome, length, option_map};
 ghost use Rattle.fm_base.specs.declared.limits.TheConstants.{MAX_COMMAND_LINE_VALUE_BYTES};
-ghost use Rattle.fm_request.specs.FmrunRequest.{job_of};
-ghost use Rattle.fm_sound.specs.Making.{AreUnits};
-ghost use Rattle.fm_tool.specs.Words.{texts};
-ghost use Rattle.fm_tool.specs.declared.status.TheConstants.{MALFORMED, UNSUPPORTED, VERSION};
+ghost use Rattle.fm_cli_requests.specs.FmrunRequest.{job_of};
+ghost use Rattle.fm_law_sound.specs.Making.{AreUnits};
+ghost use Rattle.fm_cli.specs.Words.{texts};
+ghost use Rattle.fm_cli.specs.declared.status.TheConstants.{MALFORMED, UNSUPPORTED, VERSION};
 ghost use Rattle.fmrun.specs.Causes.{IsFaultless, IsForBytes, IsForCheck, IsForFault, IsForLimit, IsForLink, IsForMemory, IsForRead, IsForRun, IsForWords, IsForWrite, IsSilent, IsStatus, OnlyReads, ReportsMostHeld};
 ghost use Rattle.fmrun.specs.Jobs.{IsWithinLimits, text_arguments};
 ghost use Rattle.fmrun.specs.TopCall.{ComesOf, ComesTo, IsTold, IsTopCall, StaysWithin};
@@ -16,13 +16,13 @@ use crate::running::run_classes;
 use fm_base::limits::{MAX_ARGUMENTS, MAX_CLASS_FILES, MAX_MADE_WORDS};
 use fm_base::{NoMemory, Units};
 use fm_files::{Files, Sink};
-use fm_given::{JobRefusal, read_classes};
-use fm_held::law_most_held;
-use fm_input::read_input;
-use fm_request::{FmrunRequest, arguments_of, request_of};
-use fm_resolved::law_can_run;
-use fm_runner::{Budgets, RunReport};
-use fm_tool::{CommandRefusal, put_line, status};
+use fm_load::{JobRefusal, read_classes};
+use fm_law_cells_made::law_most_held;
+use fm_run_job::read_input;
+use fm_cli_requests::{FmrunRequest, arguments_of, request_of};
+use fm_law_linked::law_can_run;
+use fm_run_job::{Budgets, RunReport};
+use fm_cli::{CommandRefusal, put_line, status};
 use std::alloc::Global;
 
 /// Does what the words of the command line ask for, puts the line that reports it, and returns the

@@ -5,17 +5,17 @@ use Rattle.fm_base.proofs.ContainsFacts.{Contains-cons_cases, unlike_elements}
 use Rattle.fm_base.proofs.OptionFacts.{Some-from_is_some, Some-from_some_and}
 use Rattle.fm_files.specs.Files.{Bytes, Disk, AreKept}
 use Rattle.fm_files.specs.Sink.{Output, with_piece}
-use Rattle.fm_tool.specs.Line.{Tells}
-use Rattle.fm_tool.specs.Outside.{HasNoFileFault}
-use Rattle.fm_tool.specs.Status.{ComesExactly}
-use Rattle.fm_tool.specs.declared.command_refusal.CommandRefusal.TheVariants as refusal
-use Rattle.fm_tool.proofs.LineLemmas.{instead_for_file, instead_for_words, told_among, is_put, put_fails, told_of_file, told_of_words, comes_of_file, comes_of_words}
-use Rattle.fm_tool.proofs.OutsideLemmas.{no_fault_where_same, known_such}
-use Rattle.fm_tool.specs.declared.status.TheConstants.{DONE, WORDS, READ, MALFORMED, VERSION, LIMIT, UNSUPPORTED, LINK, CHECK, WRITE, OUT_OF_MEMORY}
+use Rattle.fm_cli.specs.Line.{Tells}
+use Rattle.fm_cli.specs.Outside.{HasNoFileFault}
+use Rattle.fm_cli.specs.Status.{ComesExactly}
+use Rattle.fm_cli.specs.declared.command_refusal.CommandRefusal.TheVariants as refusal
+use Rattle.fm_cli.proofs.LineLemmas.{instead_for_file, instead_for_words, told_among, is_put, put_fails, told_of_file, told_of_words, comes_of_file, comes_of_words}
+use Rattle.fm_cli.proofs.OutsideLemmas.{no_fault_where_same, known_such}
+use Rattle.fm_cli.specs.declared.status.TheConstants.{DONE, WORDS, READ, MALFORMED, VERSION, LIMIT, UNSUPPORTED, LINK, CHECK, WRITE, OUT_OF_MEMORY}
 use Rattle.fm_code.specs.declared.class_file.ClassDef.{ClassDef}
 use Rattle.fm_conn.specs.Facts.{AreFacts, Facts}
-use Rattle.fm_refuse.specs.Refused.{refusal_of}
-use Rattle.fm_analysis.specs.Analysed.{AreLeastTypings}
+use Rattle.fm_link_refusals.specs.Refused.{refusal_of}
+use Rattle.fm_summ_shapes.specs.Analysed.{AreLeastTypings}
 use Rattle.fm_place.specs.Safe.{full_plans}
 use Rattle.fm_rewrite.specs.FreeCalls.{first_call}
 use Rattle.fm_rewrite.specs.Rewritten.{AreNotRewritten, first_cause}
@@ -24,26 +24,26 @@ use Rattle.fm_rewrite.specs.declared.error.RewriteFail.TheVariants as fail
 use Rattle.fm_world.specs.Causes.{Refusal}
 use Rattle.fm_world.specs.Linking.{refusals}
 use Rattle.fm_world.specs.Programs.{program_of}
-use Rattle.fm_given.specs.ClassRefusal.{class_refusal_status}
-use Rattle.fm_given.specs.Given.{AreMany, IsUntouched, AreNotLinked, IsNotLinked, given_program}
+use Rattle.fm_load.specs.ClassRefusal.{class_refusal_status}
+use Rattle.fm_load.specs.Given.{AreMany, IsUntouched, AreNotLinked, IsNotLinked, given_program}
 use Rattle.freeme.specs.Causes.{AskFor, AskForGiven, BecomesAs, IsKnownAs, cause_status, SaysWords, SaysRead, SaysRefused, SaysLimit, SaysLink, SaysCheck, SaysNotFreed, SaysDone, SaysUnwritten, SaysWrite, SaysMemory, LacksLine, IsForWords, IsForRead, IsForBytes, IsForLimit, IsForLink, IsForCheck, IsForRewrite, IsForDone, IsForWrite, IsForMemory, IsFaultless, KeepsContents, ChangesOnly}
-use Rattle.fm_given.specs.Causes.{FailsARead, FailsAWrite, IsMissing, HasTooMany, IsKnownLong, IsKnownRefused, IsKnownUnlinked, IsKnownUntyped}
-use Rattle.fm_given.specs.LinkRefusal.{cause_line}
+use Rattle.fm_load.specs.Causes.{FailsARead, FailsAWrite, IsMissing, HasTooMany, IsKnownLong, IsKnownRefused, IsKnownUnlinked, IsKnownUntyped}
+use Rattle.fm_load.specs.LinkRefusal.{cause_line}
 use Rattle.freeme.specs.FreemeRequest.{FreemeJob, Asks, AskNothing, given_of, main_name}
-use Rattle.fm_given.specs.Taking.{total_bytes, AllTaken, IsTooLong, IsRefused}
+use Rattle.fm_load.specs.Taking.{total_bytes, AllTaken, IsTooLong, IsRefused}
 use Rattle.freeme.specs.TopCall.{IsFirstCause, StaysWithin, IsBroken, ComesTo, ComesOfJob, ComesOf, Outcome, outcome_line, outcome_status}
 use Rattle.freeme.specs.Refusal.{rewrite_status}
 use Rattle.freeme.specs.declared.refusal.FreeRefusal.TheVariants as free_refusal
 use Rattle.freeme.specs.declared.status.TheConstants.{CALLS_FREE, POOL_FULL, METHOD_TOO_LONG}
-use Rattle.fm_given.specs.declared.refusal.JobRefusal.TheVariants as job_refusal
-use Rattle.fm_given.specs.Refusal.{many_line}
-use Rattle.fm_tool.specs.CommandRefusal.{memory_line}
+use Rattle.fm_load.specs.declared.refusal.JobRefusal.TheVariants as job_refusal
+use Rattle.fm_load.specs.Refusal.{many_line}
+use Rattle.fm_cli.specs.CommandRefusal.{memory_line}
 use Rattle.freeme.proofs.JobLemmas.{reads_within}
-use Rattle.fm_given.proofs.ReadLemmas.{reads_none}
+use Rattle.fm_load.proofs.ReadLemmas.{reads_none}
 use Rattle.freeme.proofs.RequestLemmas.{asks_one}
-use Rattle.fm_given.proofs.KnownLemmas.{all_taken, bytes_stop, long_stops, missing_stops, not_empty, not_typed}
-use Rattle.fm_given.proofs.RefusalLemmas.{class_status}
-use Rattle.fm_given.proofs.VerdictLemmas.{Ends, EndsOnce, Links, links_once, Verdict, one_verdict}
+use Rattle.fm_load.proofs.KnownLemmas.{all_taken, bytes_stop, long_stops, missing_stops, not_empty, not_typed}
+use Rattle.fm_load.proofs.RefusalLemmas.{class_status}
+use Rattle.fm_load.proofs.VerdictLemmas.{Ends, EndsOnce, Links, links_once, Verdict, one_verdict}
 
 -- ---- what a status says
 

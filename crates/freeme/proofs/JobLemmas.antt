@@ -5,8 +5,8 @@ use Rattle.std.proofs.lemmas.List.{take-map}
 use Rattle.std.proofs.lemmas.List.Elements.{All-contains, All-from_recursion}
 use Rattle.std.proofs.lemmas.Option.{slice_get-map}
 use Rattle.std.specs.Option.{option_map}
-use Rattle.fm_analysis.specs.Analysed.{IsAccepted}
-use Rattle.fm_again.specs.Again.{SafeClassesLink}
+use Rattle.fm_summ_shapes.specs.Analysed.{IsAccepted}
+use Rattle.fm_law_relinked.specs.Again.{SafeClassesLink}
 use Rattle.fm_base.proofs.ListFacts.{AllByRecursion-weaker}
 use Rattle.fm_base.proofs.OptionFacts.{Some-from_some_and, IsSome-from_some}
 use Rattle.fm_base.proofs.TestFacts.{same_or_other}
@@ -16,11 +16,11 @@ use Rattle.fm_code.specs.ConstantPool.{class_name_at}
 use Rattle.fm_code.specs.Profile.{IsWithinLimits, Profile}
 use Rattle.fm_code.specs.Spells.{HasSpelling, Spells}
 use Rattle.fm_code.specs.declared.class_file.ClassDef.{ClassDef}
-use Rattle.fm_tool.specs.Outside.{HasNoFileFault, HasWriteFault}
-use Rattle.fm_tool.specs.declared.command_refusal.CommandRefusal.TheVariants as refusal
-use Rattle.fm_untyped.specs.Untyped.{AreTyped}
-use Rattle.fm_refuse.specs.Refused.{refusal_of}
-use Rattle.fm_retyped.specs.Retyped.{SafeClassesAreTyped}
+use Rattle.fm_cli.specs.Outside.{HasNoFileFault, HasWriteFault}
+use Rattle.fm_cli.specs.declared.command_refusal.CommandRefusal.TheVariants as refusal
+use Rattle.fm_check_program.specs.Untyped.{AreTyped}
+use Rattle.fm_link_refusals.specs.Refused.{refusal_of}
+use Rattle.fm_law_retyped.specs.Retyped.{SafeClassesAreTyped}
 use Rattle.fm_rewrite.proofs.JudgedLemmas.{judged_spelled}
 use Rattle.fm_rewrite.specs.Rewritten.{AreJudged, AreRewritten}
 use Rattle.fm_rewrite.specs.declared.counts.Count.{Count}
@@ -32,25 +32,25 @@ use Rattle.fm_world.specs.Programs.{Program, program_of}
 use Rattle.freeme.proofs.WrittenLemmas.{one_count_each, written_accepted, written_apart, written_spelled}
 use Rattle.freeme.proofs.TakenAgain.{again_taken}
 use Rattle.freeme.proofs.UnheldLemmas.{are_still}
-use Rattle.fm_written.specs.Names.{AreNew}
-use Rattle.fm_written.specs.Changed.{IsShort}
-use Rattle.fm_given.specs.Given.{IsFirstUntypedName, IsUntouched, IsNotLinked, IsNotTyped, AreChecked, given_program}
-use Rattle.fm_given.specs.Changes.{RisesOnlyAt, ChangesOnlyAt}
+use Rattle.fm_law_spelled.specs.Names.{AreNew}
+use Rattle.fm_law_spelled.specs.Changed.{IsShort}
+use Rattle.fm_load.specs.Given.{IsFirstUntypedName, IsUntouched, IsNotLinked, IsNotTyped, AreChecked, given_program}
+use Rattle.fm_load.specs.Changes.{RisesOnlyAt, ChangesOnlyAt}
 use Rattle.freeme.specs.FreemeRequest.{FreemeJob, given_of, job_of, main_name}
-use Rattle.fm_given.specs.Taking.{AreTaken, ClassIsSpelled}
+use Rattle.fm_load.specs.Taking.{AreTaken, ClassIsSpelled}
 use Rattle.freeme.specs.TopCall.{AreFreed, AreTakenAgain, IsFirstCause, IsNotFreed, StaysWithin, IsDone, ComesTo, told_name}
 use Rattle.freeme.specs.Writing.{HasName, class_text, written_name, class_lines, IsClassFileIn, IsFileOf, AreWritten, AllWritten}
-use Rattle.fm_given.specs.Judging.{ComesOfProgram}
-use Rattle.fm_given.specs.Reading.{ReadsAll, AreRead}
+use Rattle.fm_load.specs.Judging.{ComesOfProgram}
+use Rattle.fm_load.specs.Reading.{ReadsAll, AreRead}
 use Rattle.freeme.specs.inner.Freeing.{ComesOfFreeing}
 use Rattle.freeme.specs.inner.Writing.{AreApart, KeepsReads, ComesOfClasses}
 use Rattle.freeme.specs.declared.refusal.FreeRefusal.{FreeRefusal}
 use Rattle.freeme.specs.declared.refusal.FreeRefusal.TheVariants as free_refusal
-use Rattle.fm_given.specs.declared.refusal.JobRefusal.{JobRefusal}
-use Rattle.fm_given.specs.declared.refusal.JobRefusal.TheVariants as job_refusal
-use Rattle.fm_given.proofs.ChangesLemmas.{rises_of_kept, rises_then, changes_of_kept, changes_then, faultless_then, write_fault_then}
+use Rattle.fm_load.specs.declared.refusal.JobRefusal.{JobRefusal}
+use Rattle.fm_load.specs.declared.refusal.JobRefusal.TheVariants as job_refusal
+use Rattle.fm_load.proofs.ChangesLemmas.{rises_of_kept, rises_then, changes_of_kept, changes_then, faultless_then, write_fault_then}
 use Rattle.freeme.specs.declared.freeme_request.FreemeRequest.{FreemeRequest}
-use Rattle.fm_given.proofs.TakenLemmas.{are_spelled, are_within}
+use Rattle.fm_load.proofs.TakenLemmas.{are_spelled, are_within}
 
 -- ---- classes that are taken
 

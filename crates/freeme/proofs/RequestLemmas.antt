@@ -7,9 +7,9 @@ use Rattle.clap.specs.declared.error.kind.ErrorKind.{ErrorKind}
 use Rattle.clap.specs.declared.error.kind.ErrorKind.TheVariants.{OutOfMemory}
 use Rattle.clap.specs.Words.{App, HasMatchesOf, all_of, fault_of, first_of, found_of, is_simple, is_simple_and_free, rows_of}
 use Rattle.clap.specs.declared.parser.matches.ArgMatches.{ArgMatches}
-use Rattle.fm_request.specs.Values.{command_with}
-use Rattle.fm_request.proofs.CommandLemmas.{faults_by, is_fault, matched_by}
-use Rattle.fm_request.proofs.MatchLemmas.{same_value}
+use Rattle.fm_cli_requests.specs.Values.{command_with}
+use Rattle.fm_cli_requests.proofs.CommandLemmas.{faults_by, is_fault, matched_by}
+use Rattle.fm_cli_requests.proofs.MatchLemmas.{same_value}
 use Rattle.freeme.specs.FreemeRequest.{AskNothing, Asks, HasNoValues, HasValuesOf, FreemeJob, faults_in, freeme_command, freeme_rules, job_of, matched_in}
 use Rattle.freeme.specs.declared.freeme_request.FreemeRequest.{FreemeRequest}
 

@@ -2,18 +2,18 @@
 use Rattle.std.proofs.Common.{ℕ, inl, inr, List, [], ◌∷◌, Ok, Err, refl, sym, subst, arith}
 use Rattle.fm_files.specs.Files.{Bytes, Disk}
 use Rattle.fm_files.specs.Sink.{Output}
-use Rattle.fm_tool.specs.Line.{Tells}
-use Rattle.fm_tool.proofs.LineLemmas.{told_among}
-use Rattle.fm_tool.specs.declared.command_refusal.CommandRefusal.TheVariants as refusal
-use Rattle.fm_tool.specs.declared.status.TheConstants.{DONE, WORDS, READ, MALFORMED, VERSION, LIMIT, UNSUPPORTED, LINK, CHECK, WRITE, OUT_OF_MEMORY}
+use Rattle.fm_cli.specs.Line.{Tells}
+use Rattle.fm_cli.proofs.LineLemmas.{told_among}
+use Rattle.fm_cli.specs.declared.command_refusal.CommandRefusal.TheVariants as refusal
+use Rattle.fm_cli.specs.declared.status.TheConstants.{DONE, WORDS, READ, MALFORMED, VERSION, LIMIT, UNSUPPORTED, LINK, CHECK, WRITE, OUT_OF_MEMORY}
 use Rattle.fm_rewrite.specs.declared.error.RewriteFail.TheVariants as fail
 use Rattle.freeme.specs.Causes.{IsStatus}
 use Rattle.freeme.specs.FreemeRequest.{FreemeJob}
 use Rattle.freeme.specs.TopCall.{ComesOf, ComesTo, Outcome, outcome_line, outcome_status}
 use Rattle.freeme.specs.declared.refusal.FreeRefusal.TheVariants as free_refusal
 use Rattle.freeme.specs.declared.status.TheConstants.{CALLS_FREE, POOL_FULL, METHOD_TOO_LONG}
-use Rattle.fm_given.specs.declared.class_refusal.ClassRefusal.TheVariants as refused
-use Rattle.fm_given.specs.declared.refusal.JobRefusal.TheVariants as job_refusal
+use Rattle.fm_load.specs.declared.class_refusal.ClassRefusal.TheVariants as refused
+use Rattle.fm_load.specs.declared.refusal.JobRefusal.TheVariants as job_refusal
 
 -- the status of a job that comes out so is one of these
 job_status : (job : FreemeJob) (old new : Disk) (o : Outcome) → ComesTo job old new o → IsStatus (outcome_status o)

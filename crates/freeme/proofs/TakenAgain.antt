@@ -2,12 +2,12 @@
 use Rattle.std.proofs.Common.{◌≡◌, ℕ, List, [], Option, Some, None, IsSome, refl}
 use Rattle.std.specs.List.{AllByRecursion}
 use Rattle.std.proofs.lemmas.Bool.{false≢true}
-use Rattle.fm_again.specs.Again.{SafeClassesLink}
+use Rattle.fm_law_relinked.specs.Again.{SafeClassesLink}
 use Rattle.fm_code.specs.Spells.{HasSpelling}
 use Rattle.fm_code.specs.declared.class_file.ClassDef.{ClassDef}
 use Rattle.fm_code.specs.declared.code_array.Code.{Code}
 use Rattle.fm_place.proofs.FullLemmas.{full_is_safe}
-use Rattle.fm_retyped.specs.Retyped.{SafeClassesAreTyped}
+use Rattle.fm_law_retyped.specs.Retyped.{SafeClassesAreTyped}
 use Rattle.fm_rewrite.specs.Rewritten.{AreRewritten}
 use Rattle.fm_rewrite.specs.declared.rewriting.Rewritten.{Rewritten}
 use Rattle.fm_types.specs.Typed.{Typed}

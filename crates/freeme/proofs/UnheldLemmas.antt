@@ -9,7 +9,7 @@ use Rattle.fm_code.specs.declared.class_file.ClassDef.{ClassDef}
 use Rattle.fm_conn.specs.Facts.{Facts}
 use Rattle.fm_conn.specs.Nodes.{TypedMethod}
 use Rattle.fm_files.specs.Files.{Bytes, Contents, Holds}
-use Rattle.fm_given.specs.Taking.{AreTaken}
+use Rattle.fm_load.specs.Taking.{AreTaken}
 use Rattle.fm_place.specs.Insertions.{all_holders, full_insertions, Insertions}
 use Rattle.fm_place.specs.Rewriting.{first_given, Plans, rewritten_class, rewritten_from, site_count, sites_in}
 use Rattle.fm_place.specs.Safe.{full_plans, method_in_facts}

@@ -7,16 +7,16 @@ use Rattle.fm_base.proofs.ListFacts.{same_parts, same_tail}
 use Rattle.fm_files.specs.Files.{Bytes, Contents, Disk, OthersAreKept, Holds}
 use Rattle.fm_code.specs.ClassBytes.{class_bytes}
 use Rattle.fm_code.specs.declared.class_file.ClassDef.{ClassDef}
-use Rattle.fm_tool.specs.Outside.{HasWriteFault}
-use Rattle.fm_tool.specs.declared.command_refusal.CommandRefusal.TheVariants as refusal
-use Rattle.fm_given.specs.declared.refusal.JobRefusal.{JobRefusal}
-use Rattle.fm_given.specs.declared.refusal.JobRefusal.TheVariants as job_refusal
-use Rattle.fm_given.specs.Changes.{ChangesOnlyAt}
-use Rattle.fm_given.specs.Given.{IsUntouched}
+use Rattle.fm_cli.specs.Outside.{HasWriteFault}
+use Rattle.fm_cli.specs.declared.command_refusal.CommandRefusal.TheVariants as refusal
+use Rattle.fm_load.specs.declared.refusal.JobRefusal.{JobRefusal}
+use Rattle.fm_load.specs.declared.refusal.JobRefusal.TheVariants as job_refusal
+use Rattle.fm_load.specs.Changes.{ChangesOnlyAt}
+use Rattle.fm_load.specs.Given.{IsUntouched}
 use Rattle.freeme.specs.Writing.{class_text, file_name, written_name, IsFileOf, AllWritten, SomeWritten, FailsToWrite}
 use Rattle.freeme.specs.inner.Writing.{AreApart, IsWritten, IsWriteFailed, ComesOfClass, ComesOfClasses}
-use Rattle.fm_given.proofs.ChangesLemmas.{changes_of_kept, changes_then, holds_still, faultless_then, write_fault_then}
-use Rattle.fm_given.proofs.ListLemmas.{take_next, AllByRecursion-next}
+use Rattle.fm_load.proofs.ChangesLemmas.{changes_of_kept, changes_then, holds_still, faultless_then, write_fault_then}
+use Rattle.fm_load.proofs.ListLemmas.{take_next, AllByRecursion-next}
 
 -- ---- names
 

@@ -5,8 +5,8 @@ use Rattle.std.specs.List.{AllByRecursion, flat_map}
 use Rattle.std.specs.Option.{option_map, option_or}
 use Rattle.std.proofs.lemmas.Bool.{cases_lt, ltb-false}
 use Rattle.std.proofs.lemmas.List.{get_or-append-add, get_or_append_left, get_or_past, length-map}
-use Rattle.fm_analysis.proofs.ShapesLemmas.{code_facts}
-use Rattle.fm_analysis.specs.Analysed.{AreAnalysable, IsAccepted}
+use Rattle.fm_summ_shapes.proofs.ShapesLemmas.{code_facts}
+use Rattle.fm_summ_shapes.specs.Analysed.{AreAnalysable, IsAccepted}
 use Rattle.fm_base.proofs.ListFacts.{AllByRecursion-weaker}
 use Rattle.fm_base.proofs.OptionFacts.{Some-from_some_and}
 use Rattle.fm_code.specs.AccessFlags.{is_interface}
@@ -46,16 +46,16 @@ use Rattle.fm_rewrite.specs.Plans.{HasOldItems}
 use Rattle.fm_rewrite.specs.Rewritten.{AreJudged, AreRewritten, counts_from, first_full, first_long, full_from, full_pool, long_among, long_code, long_from, long_method, method_too_long, pool_full}
 use Rattle.fm_rewrite.specs.inner.ByPlans.{method_count}
 use Rattle.fm_rewrite.specs.declared.rewriting.Rewritten.{Rewritten}
-use Rattle.fm_tool.specs.Printed.{printed}
+use Rattle.fm_cli.specs.Printed.{printed}
 use Rattle.fm_world.specs.BuiltIns.{built_in}
 use Rattle.fm_world.specs.Causes.{own_name}
 use Rattle.fm_world.specs.Programs.{code_at, Program, program_of}
-use Rattle.fm_written.proofs.ApartLemmas.{names_apart}
-use Rattle.fm_written.proofs.ClassSpelled.{changed_spelled}
-use Rattle.fm_written.proofs.SupportedLemmas.{changed_accepted}
+use Rattle.fm_law_spelled.proofs.ApartLemmas.{names_apart}
+use Rattle.fm_law_spelled.proofs.ClassSpelled.{changed_spelled}
+use Rattle.fm_law_spelled.proofs.SupportedLemmas.{changed_accepted}
 use Rattle.freeme.proofs.WovenFew.{few_items}
-use Rattle.fm_written.specs.Names.{AreNew}
-use Rattle.fm_written.specs.Changed.{AttributeCan, CanWeave, IsShort, MethodCan, MethodsCan}
+use Rattle.fm_law_spelled.specs.Names.{AreNew}
+use Rattle.fm_law_spelled.specs.Changed.{AttributeCan, CanWeave, IsShort, MethodCan, MethodsCan}
 
 -- ---- a class, by whether it changes
 

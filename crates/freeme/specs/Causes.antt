@@ -3,28 +3,28 @@ use Rattle.std.specs.Prelude.{◌≡◌, ℕ, ◌<◌, ◌⊎◌, List, [], ◌�
 use Rattle.fm_files.specs.Files.{Bytes, Disk}
 use Rattle.fm_files.specs.Sink.{Output, FailsPut, with_piece}
 use Rattle.fm_code.specs.declared.class_file.ClassDef.{ClassDef}
-use Rattle.fm_tool.specs.Outside.{HasNoFileFault}
-use Rattle.fm_tool.specs.CommandRefusal.{words_line, read_line, memory_line}
-use Rattle.fm_tool.specs.Status.{ComesExactly}
-use Rattle.fm_tool.specs.declared.status.TheConstants.{DONE, WORDS, READ, MALFORMED, VERSION, LIMIT, UNSUPPORTED, LINK, CHECK, WRITE, OUT_OF_MEMORY}
+use Rattle.fm_cli.specs.Outside.{HasNoFileFault}
+use Rattle.fm_cli.specs.CommandRefusal.{words_line, read_line, memory_line}
+use Rattle.fm_cli.specs.Status.{ComesExactly}
+use Rattle.fm_cli.specs.declared.status.TheConstants.{DONE, WORDS, READ, MALFORMED, VERSION, LIMIT, UNSUPPORTED, LINK, CHECK, WRITE, OUT_OF_MEMORY}
 use Rattle.fm_conn.specs.Facts.{AreFacts, Facts}
 use Rattle.fm_place.specs.Safe.{full_plans}
-use Rattle.fm_analysis.specs.Analysed.{AreLeastTypings}
+use Rattle.fm_summ_shapes.specs.Analysed.{AreLeastTypings}
 use Rattle.fm_rewrite.specs.FreeCalls.{first_call}
 use Rattle.fm_rewrite.specs.Rewritten.{first_cause}
 use Rattle.fm_rewrite.specs.declared.error.RewriteFail.{RewriteFail}
 use Rattle.fm_world.specs.Causes.{Refusal}
 use Rattle.fm_world.specs.Programs.{program_of}
-use Rattle.fm_given.specs.ClassRefusal.{class_refusal_line, class_refusal_status}
-use Rattle.fm_given.specs.LinkRefusal.{link_line}
-use Rattle.fm_given.specs.Refusal.{check_line, many_line, long_line, write_line}
+use Rattle.fm_load.specs.ClassRefusal.{class_refusal_line, class_refusal_status}
+use Rattle.fm_load.specs.LinkRefusal.{link_line}
+use Rattle.fm_load.specs.Refusal.{check_line, many_line, long_line, write_line}
 use Rattle.freeme.specs.Refusal.{rewrite_line, rewrite_status}
 use Rattle.freeme.specs.FreemeRequest.{FreemeJob, Asks, AskNothing, given_of, main_name}
 use Rattle.freeme.specs.TopCall.{StaysWithin, IsDone, IsUnwritten, IsBroken, IsNotFreed, Outcome, ComesOf, outcome_line}
 use Rattle.freeme.specs.declared.status.TheConstants.{CALLS_FREE, POOL_FULL, METHOD_TOO_LONG}
-use Rattle.fm_given.specs.Causes.{FailsARead, FailsAWrite, HasTooMany, IsMissing, IsKnownLong, IsKnownRefused, IsKnownUnlinked, IsKnownUntyped}
-use Rattle.fm_given.specs.Given.{Given, IsUntouched, AreMany, IsUnread, IsLong, IsRefusedFile, IsNotLinked, IsNotTyped, AreChecked, given_program}
-use Rattle.fm_given.specs.declared.class_refusal.ClassRefusal.{ClassRefusal}
+use Rattle.fm_load.specs.Causes.{FailsARead, FailsAWrite, HasTooMany, IsMissing, IsKnownLong, IsKnownRefused, IsKnownUnlinked, IsKnownUntyped}
+use Rattle.fm_load.specs.Given.{Given, IsUntouched, AreMany, IsUnread, IsLong, IsRefusedFile, IsNotLinked, IsNotTyped, AreChecked, given_program}
+use Rattle.fm_load.specs.declared.class_refusal.ClassRefusal.{ClassRefusal}
 
 -- there is no other status
 abbrev pub IsStatus : ℕ → Type 0

@@ -2,9 +2,9 @@
 use Rattle.std.specs.Prelude.{◌≡◌, ℕ, ◌<◌, List, [], ◌∷◌, Some, length, map, codes}
 use Rattle.std.specs.List.{AllByRecursion}
 use Rattle.clap.specs.Words.{App, Kinds, Row, Rule, all_of, fault_of, first_of, matches_of}
-use Rattle.fm_tool.specs.Encoding.{modified}
-use Rattle.fm_given.specs.Given.{Given}
-use Rattle.fm_request.specs.Values.{IsValue, command_with, files_rule, wanted_option_rule}
+use Rattle.fm_cli.specs.Encoding.{modified}
+use Rattle.fm_load.specs.Given.{Given}
+use Rattle.fm_cli_requests.specs.Values.{IsValue, command_with, files_rule, wanted_option_rule}
 use Rattle.freeme.specs.declared.freeme_request.FreemeRequest.{FreemeRequest}
 
 -- the folder to write into, the main class, and the files to read in order

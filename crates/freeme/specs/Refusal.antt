@@ -1,12 +1,12 @@
 -- How a job that isn't done is reported.
 use Rattle.std.specs.Prelude.{ℕ, List, [], ◌∷◌, ◌++◌, codes}
 use Rattle.std.specs.Fmt.{decimal}
-use Rattle.fm_given.specs.Refusal.{refusal_line as job_line, refusal_status as job_status}
+use Rattle.fm_load.specs.Refusal.{refusal_line as job_line, refusal_status as job_status}
 use Rattle.fm_rewrite.specs.declared.error.RewriteFail.{RewriteFail}
 use Rattle.fm_rewrite.specs.declared.error.RewriteFail.TheVariants as fail
-use Rattle.fm_tool.specs.Printed.{printed}
-use Rattle.fm_tool.specs.CommandRefusal.{memory_line}
-use Rattle.fm_tool.specs.declared.status.TheConstants.{OUT_OF_MEMORY}
+use Rattle.fm_cli.specs.Printed.{printed}
+use Rattle.fm_cli.specs.CommandRefusal.{memory_line}
+use Rattle.fm_cli.specs.declared.status.TheConstants.{OUT_OF_MEMORY}
 use Rattle.freeme.specs.declared.refusal.FreeRefusal.{FreeRefusal}
 use Rattle.freeme.specs.declared.refusal.FreeRefusal.TheVariants as free_refusal
 use Rattle.freeme.specs.declared.status.TheConstants.{CALLS_FREE, POOL_FULL, METHOD_TOO_LONG}

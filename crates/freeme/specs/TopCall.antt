@@ -7,29 +7,29 @@ use Rattle.fm_files.specs.Sink.{Output}
 use Rattle.fm_code.specs.Profile.{Profile}
 use Rattle.fm_code.specs.declared.class_file.ClassDef.{ClassDef}
 use Rattle.fm_place.specs.Safe.{Safe}
-use Rattle.fm_refuse.specs.Refused.{refusal_of}
-use Rattle.fm_retyped.specs.Retyped.{NoneUnready}
+use Rattle.fm_link_refusals.specs.Refused.{refusal_of}
+use Rattle.fm_law_retyped.specs.Retyped.{NoneUnready}
 use Rattle.fm_rewrite.specs.Rewritten.{AreRewritten, ComesOfRewriting}
 use Rattle.fm_rewrite.specs.declared.counts.Count.{Count}
 use Rattle.fm_rewrite.specs.declared.error.RewriteFail.{RewriteFail}
 use Rattle.fm_rewrite.specs.declared.error.RewriteFail.TheVariants as fail
 use Rattle.fm_rewrite.specs.declared.rewriting.Rewritten.{Rewritten}
-use Rattle.fm_tool.specs.Line.{Tells}
-use Rattle.fm_tool.specs.declared.command_refusal.CommandRefusal.TheVariants as refusal
-use Rattle.fm_tool.specs.declared.status.TheConstants.{DONE}
-use Rattle.fm_untyped.specs.Untyped.{AreTyped}
+use Rattle.fm_cli.specs.Line.{Tells}
+use Rattle.fm_cli.specs.declared.command_refusal.CommandRefusal.TheVariants as refusal
+use Rattle.fm_cli.specs.declared.status.TheConstants.{DONE}
+use Rattle.fm_check_program.specs.Untyped.{AreTyped}
 use Rattle.fm_world.specs.Causes.{declared_name, method_text}
 use Rattle.fm_world.specs.Linking.{refusals}
 use Rattle.fm_world.specs.Programs.{class_info, Outline, program_of}
-use Rattle.fm_given.specs.Given.{given_program, IsUntouched, AreMany, IsUnread, IsLong, IsRefusedFile, IsNotLinked, IsNotTyped, AreChecked}
-use Rattle.fm_given.specs.Taking.{ClassIsSpelled}
-use Rattle.fm_given.specs.Changes.{RisesOnlyAt, ChangesOnlyAt, ReadsOnly}
+use Rattle.fm_load.specs.Given.{given_program, IsUntouched, AreMany, IsUnread, IsLong, IsRefusedFile, IsNotLinked, IsNotTyped, AreChecked}
+use Rattle.fm_load.specs.Taking.{ClassIsSpelled}
+use Rattle.fm_load.specs.Changes.{RisesOnlyAt, ChangesOnlyAt, ReadsOnly}
 use Rattle.freeme.specs.Refusal.{refusal_line, refusal_status}
 use Rattle.freeme.specs.FreemeRequest.{FreemeJob, Asks, AskNothing, given_of, main_name}
 use Rattle.freeme.specs.Writing.{IsClassFileIn, written_name, class_lines, AllWritten, SomeWritten, FailsToWrite}
 use Rattle.freeme.specs.declared.refusal.FreeRefusal.{FreeRefusal}
 use Rattle.freeme.specs.declared.refusal.FreeRefusal.TheVariants as free_refusal
-use Rattle.fm_given.specs.declared.refusal.JobRefusal.TheVariants as job_refusal
+use Rattle.fm_load.specs.declared.refusal.JobRefusal.TheVariants as job_refusal
 
 -- ---- what a job does whatever its outcome
 

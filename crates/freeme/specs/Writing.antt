@@ -7,9 +7,9 @@ use Rattle.fm_code.specs.ClassBytes.{class_bytes}
 use Rattle.fm_code.specs.ConstantPool.{class_name_at}
 use Rattle.fm_code.specs.declared.class_file.ClassDef.{ClassDef}
 use Rattle.fm_rewrite.specs.declared.counts.Count.{Count}
-use Rattle.fm_tool.specs.Outside.{HasNoFileFault, HasWriteFault}
-use Rattle.fm_tool.specs.Printed.{printed}
-use Rattle.fm_given.specs.Changes.{ChangesOnlyAt}
+use Rattle.fm_cli.specs.Outside.{HasNoFileFault, HasWriteFault}
+use Rattle.fm_cli.specs.Printed.{printed}
+use Rattle.fm_load.specs.Changes.{ChangesOnlyAt}
 
 -- ---- names
 

@@ -11,7 +11,7 @@ use crate::refusal::FreeRefusal;
 use crate::writing::class_text;
 use fm_base::{ClassId, Name, NoMemory};
 use fm_code::ClassDef;
-use fm_given::method_text;
+use fm_load::method_text;
 use fm_rewrite::{Count, RewriteFail, Rewritten, rewrite};
 use fm_world::Program;
 use std::alloc::Global;

@@ -2,8 +2,8 @@
 
 ghost use Rattle.std.specs.Prelude.{◌≡◌, false, IfOk, MatchOption};
 ghost use Rattle.clap.specs.Words.{app_of, found_of, rows_of, rule_of};
-ghost use Rattle.fm_tool.specs.Words.{texts};
-ghost use Rattle.fm_request.specs.Values.{wanted_option_rule};
+ghost use Rattle.fm_cli.specs.Words.{texts};
+ghost use Rattle.fm_cli_requests.specs.Values.{wanted_option_rule};
 ghost use Rattle.freeme.specs.FreemeRequest.{Asks, AskNothing, HasValuesOf, HasNoValues, freeme_command, job_of};
 
 #[cfg(test)]
@@ -12,7 +12,7 @@ mod tests;
 use clap::error::ErrorKind;
 use clap::{Arg, ArgMatches, Command};
 use fm_base::NoMemory;
-use fm_request::{are_values, command, files, is_value};
+use fm_cli_requests::{are_values, command, files, is_value};
 use std::alloc::Global;
 
 /// The folder to write into, the main class and the files to read, in order, as the words

@@ -18,7 +18,7 @@ mod writing;
 
 use crate::top_call::freeme_run;
 use fm_files::{FolderFiles, StdSink};
-use fm_tool::{command_words, status as shared_status};
+use fm_cli::{command_words, status as shared_status};
 use std::process::ExitCode;
 
 fn main(rt: HostRuntime) -> ExitCode {

@@ -1,16 +1,16 @@
 // Why freeme doesn't do a job, and how that is reported.
 
 ghost use Rattle.std.specs.Prelude.{◌≡◌, IfOk, string_bytes};
-ghost use Rattle.fm_given.specs.declared.refusal.JobRefusal.TheVariants as job_refusal;
-ghost use Rattle.fm_tool.specs.declared.command_refusal.CommandRefusal.TheVariants as refusal;
+ghost use Rattle.fm_load.specs.declared.refusal.JobRefusal.TheVariants as job_refusal;
+ghost use Rattle.fm_cli.specs.declared.command_refusal.CommandRefusal.TheVariants as refusal;
 ghost use Rattle.freeme.specs.Refusal.{refusal_line, refusal_status, rewrite_line, rewrite_status};
 ghost use Rattle.freeme.specs.declared.refusal.FreeRefusal.TheVariants as free_refusal;
 
 use crate::status;
 use fm_base::{Name, NoMemory};
-use fm_given::JobRefusal;
+use fm_load::JobRefusal;
 use fm_rewrite::RewriteFail;
-use fm_tool::{CommandRefusal, printed, status as shared_status};
+use fm_cli::{CommandRefusal, printed, status as shared_status};
 use std::alloc::{AllocError, AllocFailed, Global};
 
 /// Why a job isn't done.

@@ -14,7 +14,7 @@ use crate::tests::changes::is_answered;
 use crate::top_call::freeme_run;
 use fm_base::NoMemory;
 use fm_files::{MemFiles, MemSink, SureFiles, SureSink};
-use fm_samples::{ClassSample, MAIN, MethodSample, PRINTS_SUM, RETURNS};
+use fm_test_classes::{ClassSample, MAIN, MethodSample, PRINTS_SUM, RETURNS};
 use std::alloc::Global;
 use std::test::Fail;
 

@@ -1,8 +1,8 @@
 // One call of the program: what it reads and writes, and the lines that report it.
 
-ghost use Rattle.fm_tool.specs.Line.{Tells};
-ghost use Rattle.fm_tool.specs.Words.{texts};
-ghost use Rattle.fm_tool.specs.declared.status.TheConstants.{MALFORMED, UNSUPPORTED, VERSION};
+ghost use Rattle.fm_cli.specs.Line.{Tells};
+ghost use Rattle.fm_cli.specs.Words.{texts};
+ghost use Rattle.fm_cli.specs.declared.status.TheConstants.{MALFORMED, UNSUPPORTED, VERSION};
 ghost use Rattle.freeme.specs.Causes.{ChangesOnly, IsFaultless, IsForBytes, IsForCheck, IsForDone, IsForLimit, IsForLink, IsForMemory, IsForRead, IsForRewrite, IsForWords, IsForWrite, IsStatus, KeepsContents};
 ghost use Rattle.freeme.specs.FreemeRequest.{job_of};
 ghost use Rattle.freeme.specs.TopCall.{ComesOf, ComesTo, IsTopCall, StaysWithin, outcome_line, outcome_status};
@@ -12,15 +12,15 @@ use crate::freeing::{class_lines, freed_classes};
 use crate::refusal::FreeRefusal;
 use crate::freeme_request::{FreemeRequest, request_of};
 use crate::writing::write_classes;
-use fm_again::law_links;
+use fm_law_relinked::law_links;
 use fm_base::NoMemory;
 use fm_base::limits::MAX_CLASS_FILES;
 use fm_code::ClassDef;
 use fm_files::{Files, Sink};
-use fm_given::{JobRefusal, judge_program, read_classes};
-use fm_retyped::law_typed;
+use fm_load::{JobRefusal, judge_program, read_classes};
+use fm_law_retyped::law_typed;
 use fm_rewrite::Count;
-use fm_tool::{CommandRefusal, put_line, status};
+use fm_cli::{CommandRefusal, put_line, status};
 use std::alloc::Global;
 
 /// Does what the words of the command line ask for, puts the lines that report it, and returns the

@@ -4,13 +4,13 @@ ghost use Rattle.std.specs.Prelude.{◌≡◌, IfOk, string_bytes};
 ghost use Rattle.std.specs.List.{AllByRecursion};
 ghost use Rattle.freeme.specs.Writing.{HasName, class_text, written_name};
 ghost use Rattle.freeme.specs.inner.Writing.{AreApart, ComesOfClass, ComesOfClasses, KeepsReads};
-ghost use Rattle.fm_given.specs.Taking.{ClassIsSpelled};
+ghost use Rattle.fm_load.specs.Taking.{ClassIsSpelled};
 
 use fm_base::NoMemory;
 use fm_code::ClassDef;
 use fm_files::{Files, WriteFail};
-use fm_given::JobRefusal;
-use fm_tool::printed;
+use fm_load::JobRefusal;
+use fm_cli::printed;
 use fm_write::write_class;
 use std::alloc::Global;
 

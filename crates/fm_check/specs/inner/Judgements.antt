@@ -4,8 +4,8 @@ use Rattle.fm_check.specs.Checking.{IsNarrow, IsTooWide}
 use Rattle.fm_check.specs.declared.error.CheckFail.{CheckFail}
 use Rattle.fm_check.specs.declared.error.CheckFail.TheVariants as fail
 use Rattle.fm_check.specs.inner.Steps.{IsLeast}
-use Rattle.fm_walk.specs.inner.Walks.{Untypable}
-use Rattle.fm_known.specs.inner.Tasks.{Task}
+use Rattle.fm_check_walk.specs.inner.Walks.{Untypable}
+use Rattle.fm_check_walk.specs.inner.Tasks.{Task}
 use Rattle.fm_types.specs.Typings.{states_of}
 use Rattle.fm_types.specs.declared.states.Typing.{Typing}
 

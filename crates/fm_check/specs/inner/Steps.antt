@@ -1,21 +1,21 @@
 -- Steps of the walk over the items of a method, up to its end.
 use Rattle.std.specs.Prelude.{◌≡◌, ℕ, ◌+◌, ◌<◌, ◌⊎◌, ◌==◌, ◌&&◌, Bool, true, false, List, [], ◌∷◌, ◌++◌, length, Option, Some, IsSomeAnd, All, Contains, slice_set, if◌then◌else◌}
 use Rattle.std.specs.List.{AllByRecursion}
-use Rattle.fm_catch.specs.inner.Runs.{IsGuarded}
+use Rattle.fm_check_handlers.specs.inner.Runs.{IsGuarded}
 use Rattle.fm_code.specs.Edges.{Catches, falls_through, insn_of, IsReachable, LeadsTo}
 use Rattle.fm_code.specs.SpellsCode.{targets_of}
 use Rattle.fm_code.specs.declared.code_array.Code.{Code}
 use Rattle.fm_code.specs.declared.code_array.Handler.{Handler}
 use Rattle.fm_code.specs.declared.instructions.Insn.{Insn}
-use Rattle.fm_known.specs.inner.Tasks.{Task}
-use Rattle.fm_known.specs.inner.Risen.{IsAlikeBut, locals_of}
-use Rattle.fm_known.specs.declared.known_state.SlotPlace.{SlotPlace}
-use Rattle.fm_known.specs.declared.risen.Rise.{Rise}
+use Rattle.fm_check_walk.specs.inner.Tasks.{Task}
+use Rattle.fm_check_walk.specs.inner.Risen.{IsAlikeBut, locals_of}
+use Rattle.fm_check_walk.specs.declared.known_state.SlotPlace.{SlotPlace}
+use Rattle.fm_check_walk.specs.declared.risen.Rise.{Rise}
 use Rattle.fm_types.specs.Fits.{fits}
 use Rattle.fm_types.specs.States.{state_fits, TypeState}
 use Rattle.fm_types.specs.Typed.{FitsAt, IsTypingOf, MeetsItem, state_at}
-use Rattle.fm_catch.specs.declared.runs.Level.{Level}
-use Rattle.fm_walk.specs.inner.Walks.{CanCarry, HasRoom, risen_at, Stands, Walked, Went}
+use Rattle.fm_check_handlers.specs.declared.runs.Level.{Level}
+use Rattle.fm_check_walk.specs.inner.Walks.{CanCarry, HasRoom, risen_at, Stands, Walked, Went}
 
 -- ---- the walk
 

@@ -3,20 +3,20 @@ use Rattle.std.specs.Prelude.{◌≡◌, ℕ, List, ◌++◌, map, Some, slice_g
 use Rattle.std.specs.List.{AllByRecursion}
 use Rattle.fm_code.specs.Spells.{HasSpelling}
 use Rattle.fm_code.specs.declared.class_file.ClassDef.{ClassDef}
-use Rattle.fm_declare.specs.declared.given.GivenFile.{GivenFile}
-use Rattle.fm_declare.specs.declared.texts.Texts.{Texts}
-use Rattle.fm_declare.specs.inner.ClassNumbering.{NumbersClasses}
-use Rattle.fm_declare.specs.inner.Files.{AreFiles}
-use Rattle.fm_declare.specs.inner.Numbering.{texts_in, AreTexts}
+use Rattle.fm_link_names.specs.declared.given.GivenFile.{GivenFile}
+use Rattle.fm_link_names.specs.declared.texts.Texts.{Texts}
+use Rattle.fm_link_names.specs.inner.ClassNumbering.{NumbersClasses}
+use Rattle.fm_link_names.specs.inner.Files.{AreFiles}
+use Rattle.fm_link_names.specs.inner.Numbering.{texts_in, AreTexts}
 use Rattle.fm_link.specs.declared.linked.Linked.{Linked}
 use Rattle.fm_link.specs.declared.ready.Numbered.{Numbered}
 use Rattle.fm_link.specs.declared.ready.Ready.{Ready}
-use Rattle.fm_lookup.specs.declared.members.Members.{Members}
-use Rattle.fm_above.specs.inner.Hierarchy.{AreSound, IsHierarchy}
-use Rattle.fm_lookup.specs.inner.MemberRows.{AreFieldRows, AreMethodRows}
-use Rattle.fm_lookup.specs.inner.MemberTables.{AreFields, AreMethods}
-use Rattle.fm_refuse.specs.inner.GivenClasses.{given_in}
-use Rattle.fm_refuse.specs.inner.Linking.{names_array}
+use Rattle.fm_link_members.specs.declared.members.Members.{Members}
+use Rattle.fm_link_supers.specs.inner.Hierarchy.{AreSound, IsHierarchy}
+use Rattle.fm_link_members.specs.inner.MemberRows.{AreFieldRows, AreMethodRows}
+use Rattle.fm_link_members.specs.inner.MemberTables.{AreFields, AreMethods}
+use Rattle.fm_link_refusals.specs.inner.GivenClasses.{given_in}
+use Rattle.fm_link_refusals.specs.inner.Linking.{names_array}
 use Rattle.fm_world.specs.Causes.{Refusal}
 use Rattle.fm_world.specs.Descriptors.{class_number}
 use Rattle.fm_world.specs.Linking.{refused_built_ins, refused_duplicates, refused_fields, refused_main, refused_methods, refused_missing_classes, refused_not_implemented, refused_parents}

@@ -4,14 +4,14 @@ use Rattle.std.specs.List.{position_from}
 use Rattle.std.specs.Str.{bytes_eq}
 use Rattle.fm_code.specs.AccessFlags.{is_static}
 use Rattle.fm_code.specs.declared.class_file.ClassDef.{ClassDef}
-use Rattle.fm_declare.specs.declared.given.GivenFile.{GivenFile}
-use Rattle.fm_declare.specs.inner.Numbering.{text_of, texts_in}
-use Rattle.fm_lookup.specs.declared.members.MemberRow.{MemberRow}
-use Rattle.fm_above.specs.inner.ListTables.{list_in}
-use Rattle.fm_lookup.specs.inner.MemberRows.{section_of}
-use Rattle.fm_lookup.specs.inner.MemberTables.{first_from}
-use Rattle.fm_refuse.specs.declared.linking.Linking.{Linking}
-use Rattle.fm_refuse.specs.inner.GivenClasses.{class_in}
+use Rattle.fm_link_names.specs.declared.given.GivenFile.{GivenFile}
+use Rattle.fm_link_names.specs.inner.Numbering.{text_of, texts_in}
+use Rattle.fm_link_members.specs.declared.members.MemberRow.{MemberRow}
+use Rattle.fm_link_supers.specs.inner.ListTables.{list_in}
+use Rattle.fm_link_members.specs.inner.MemberRows.{section_of}
+use Rattle.fm_link_members.specs.inner.MemberTables.{first_from}
+use Rattle.fm_link_refusals.specs.declared.linking.Linking.{Linking}
+use Rattle.fm_link_refusals.specs.inner.GivenClasses.{class_in}
 use Rattle.fm_world.specs.BuiltIns.{built_in}
 use Rattle.fm_world.specs.Causes.{own_name}
 use Rattle.fm_world.specs.Chains.{first_found}

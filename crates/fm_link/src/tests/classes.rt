@@ -1,7 +1,7 @@
 // Small classes that are linked or refused: M with its main, A, B, I and FreeMe in many forms,
 // all with one constant pool.
 
-use fm_samples::{ClassSample, MAIN, MethodSample, RETURNS};
+use fm_test_classes::{ClassSample, MAIN, MethodSample, RETURNS};
 
 // Class M, whose main returns. The classes after it have the same pool, whose further entries are these.
 const M_CLASS: ClassSample<'static> = ClassSample {

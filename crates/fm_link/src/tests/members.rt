@@ -8,7 +8,7 @@ ghost use Rattle.fm_world.specs.Programs.{IsTypeIn};
 
 use crate::tests::linked_program;
 use fm_base::{Base, ClassId, FieldId, MethodId, NoMemory, TypeId, TypeRef};
-use fm_samples::{ClassSample, MAIN, MethodSample, RETURNS};
+use fm_test_classes::{ClassSample, MAIN, MethodSample, RETURNS};
 use fm_world::{Call, CallKind, Program, Use};
 use std::alloc::Global;
 use std::test::Fail;

@@ -5,8 +5,8 @@ use Rattle.fm_base.specs.Texts.{IsModifiedUtf8}
 use Rattle.fm_code.specs.ConstantPool.{member_named, EntryIsValid}
 use Rattle.fm_code.specs.declared.constant_pool.Entry.{Entry}
 use Rattle.fm_code.specs.declared.constant_pool.Entry.TheVariants as entry
-use Rattle.fm_texts.specs.Facts.{AreFactsOf}
-use Rattle.fm_texts.specs.declared.facts.TextFacts.{TextFacts}
+use Rattle.fm_pool_texts.specs.Facts.{AreFactsOf}
+use Rattle.fm_pool_texts.specs.declared.facts.TextFacts.{TextFacts}
 
 -- the facts of the name and of the descriptor that may be there
 abbrev pub ArePairFacts : Option (List ℕ × List ℕ) → Option (TextFacts × TextFacts) → Type 0

@@ -11,10 +11,10 @@ use Rattle.fm_place.specs.declared.plans.Plan.{Plan}
 use Rattle.fm_rewrite.specs.Alike.{ArePlannedFrom}
 use Rattle.fm_rewrite.specs.Rewritten.{long_method}
 use Rattle.fm_rewrite.specs.inner.ByPlans.{others, own}
-use Rattle.fm_weave.specs.ClassByPlan.{long_attributes}
-use Rattle.fm_weave.specs.ClassLaws.{IsPlanIn}
-use Rattle.fm_weave.specs.declared.planned.Planned.{Planned}
-use Rattle.fm_weave.specs.declared.planned.Planned.TheVariants as planned
+use Rattle.fm_place_weave.specs.ClassByPlan.{long_attributes}
+use Rattle.fm_place_weave.specs.ClassLaws.{IsPlanIn}
+use Rattle.fm_place_weave.specs.declared.planned.Planned.{Planned}
+use Rattle.fm_place_weave.specs.declared.planned.Planned.TheVariants as planned
 use Rattle.fm_world.specs.Programs.{Program}
 
 -- the plan is that of the insertions, for each attribute that is code, and by both the method is too long or not

@@ -1,11 +1,11 @@
 -- Steps over frames that are taken out of the machine.
 use Rattle.std.specs.Prelude.{◌≡◌, ℕ, None, List}
 use Rattle.fm_code.specs.declared.instructions.Insn.{Insn}
-use Rattle.fm_flat.specs.Flows.{on, stepped_on}
-use Rattle.fm_flat.specs.Operands.{AsksOf}
+use Rattle.fm_fast.specs.Flows.{on, stepped_on}
+use Rattle.fm_fast.specs.Operands.{AsksOf}
 use Rattle.fm_frames.specs.Acts.{Choose}
 use Rattle.fm_frames.specs.States.{Frame, State}
-use Rattle.fm_nests.specs.inner.Costs.{nest_of}
+use Rattle.fm_exec_nests.specs.inner.Costs.{nest_of}
 use Rattle.fm_run.specs.inner.Going.{IsCheapNext, Keeps, LeadsQuietly}
 use Rattle.fm_run.specs.inner.Nexts.{DoesNext, StandsIn}
 use Rattle.fm_world.specs.Programs.{Program}

@@ -1,6 +1,6 @@
 -- A run that goes on: what is known of its state, and where steps lead.
 use Rattle.std.specs.Prelude.{◌≡◌, ◌⊎◌, ℕ, ◌+◌, ◌-◌, ◌^◌, ◌<◌, suc, List, Option, None, Some}
-use Rattle.fm_calls.specs.inner.Actions.{unmade}
+use Rattle.fm_exec_calls.specs.inner.Actions.{unmade}
 use Rattle.fm_files.specs.Sink.{Output, with_pieces}
 use Rattle.fm_code.specs.declared.instructions.Insn.{Insn}
 use Rattle.fm_frames.specs.Acts.{Choose}
@@ -8,12 +8,12 @@ use Rattle.fm_frames.specs.Runs.{Goes}
 use Rattle.fm_frames.specs.States.{State}
 use Rattle.fm_frames.specs.declared.ends.Ended.{Ended}
 use Rattle.fm_frames.specs.inner.Doings.{CanStep}
-use Rattle.fm_ready.specs.Ready.{IsGoing}
+use Rattle.fm_law_can_step.specs.Ready.{IsGoing}
 use Rattle.fm_run.specs.Running.{ArePieces, BreaksRun, FailsRun, GoFirst, state_after}
 use Rattle.fm_run.specs.Stepping.{DoesStep, FailsStep}
 use Rattle.fm_run.specs.inner.Nexts.{StandsIn, Stepped}
-use Rattle.fm_sound.specs.HeldCells.{HoldsCells}
-use Rattle.fm_sound.specs.Sound.{IsSound}
+use Rattle.fm_law_sound.specs.HeldCells.{HoldsCells}
+use Rattle.fm_law_sound.specs.Sound.{IsSound}
 use Rattle.fm_world.specs.Programs.{Program}
 
 -- the state is sound, and as long as the run goes on, the objects can be numbered that the steps left within the budget may make

@@ -1,6 +1,6 @@
 -- The next instruction of a state, and which function does it.
 use Rattle.std.specs.Prelude.{◌≡◌, ℕ, ◌+◌, ◌≤◌, None, Some, List, ◌∷◌}
-use Rattle.fm_calls.specs.inner.Actions.{unmade}
+use Rattle.fm_exec_calls.specs.inner.Actions.{unmade}
 use Rattle.fm_code.specs.declared.code_array.Code.{Code}
 use Rattle.fm_code.specs.declared.instructions.Insn.{Insn}
 use Rattle.fm_code.specs.declared.instructions.Insn.TheVariants as insn
@@ -9,8 +9,8 @@ use Rattle.fm_frames.specs.Acts.{Choose}
 use Rattle.fm_frames.specs.States.{Frame, State}
 use Rattle.fm_frames.specs.Steps.{cost, next_insn, next_effect}
 use Rattle.fm_frames.specs.inner.Doings.{DoesIn}
-use Rattle.fm_sound.specs.HeldCells.{HoldsCells}
-use Rattle.fm_sound.specs.Sound.{IsSound}
+use Rattle.fm_law_sound.specs.HeldCells.{HoldsCells}
+use Rattle.fm_law_sound.specs.Sound.{IsSound}
 use Rattle.fm_run.specs.declared.groups.Group.{Group}
 use Rattle.fm_run.specs.declared.groups.Group.TheVariants as group
 

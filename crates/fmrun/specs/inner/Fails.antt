@@ -2,8 +2,8 @@
 use Rattle.std.specs.Prelude.{◌≡◌}
 use Rattle.fm_frames.specs.declared.turns.StepFail.{StepFail}
 use Rattle.fm_frames.specs.declared.turns.StepFail.TheVariants as step_fail
-use Rattle.fm_given.specs.declared.refusal.JobRefusal.TheVariants as job_refusal
-use Rattle.fm_tool.specs.declared.command_refusal.CommandRefusal.TheVariants as refusal
+use Rattle.fm_load.specs.declared.refusal.JobRefusal.TheVariants as job_refusal
+use Rattle.fm_cli.specs.declared.command_refusal.CommandRefusal.TheVariants as refusal
 use Rattle.fmrun.specs.declared.outcome.JobFail.{JobFail}
 use Rattle.fmrun.specs.declared.outcome.JobFail.TheVariants as fail
 

@@ -2,17 +2,17 @@
 use Rattle.std.specs.Prelude.{◌≡◌, ℕ, ◌⊎◌, List, [], Result, Ok, Err}
 use Rattle.fm_code.specs.declared.class_file.ClassDef.{ClassDef}
 use Rattle.fm_files.specs.Sink.{Output}
-use Rattle.fm_given.specs.Judging.{ComesOfProgram}
-use Rattle.fm_given.specs.declared.refusal.JobRefusal.TheVariants as job_refusal
+use Rattle.fm_load.specs.Judging.{ComesOfProgram}
+use Rattle.fm_load.specs.declared.refusal.JobRefusal.TheVariants as job_refusal
 use Rattle.fm_run.specs.Running.{BreaksRun, FailsRun}
-use Rattle.fm_runner.specs.Runs.{IsToldOf, choice, opened_run}
-use Rattle.fm_runner.specs.declared.runs.Budgets.{Budgets}
-use Rattle.fm_runner.specs.declared.runs.RunReport.{RunReport}
+use Rattle.fm_run_job.specs.Runs.{IsToldOf, choice, opened_run}
+use Rattle.fm_run_job.specs.declared.runs.Budgets.{Budgets}
+use Rattle.fm_run_job.specs.declared.runs.RunReport.{RunReport}
 use Rattle.fm_same.specs.Resolved.{CallsNoFreeMe}
-use Rattle.fm_tool.specs.declared.command_refusal.CommandRefusal.TheVariants as refusal
-use Rattle.fm_untyped.specs.Untyped.{AreTyped}
+use Rattle.fm_cli.specs.declared.command_refusal.CommandRefusal.TheVariants as refusal
+use Rattle.fm_check_program.specs.Untyped.{AreTyped}
 use Rattle.fm_world.specs.Linking.{refusals}
-use Rattle.fm_whole.specs.Whole.{HasNoFault}
+use Rattle.fm_law_no_fault.specs.Whole.{HasNoFault}
 use Rattle.fm_world.specs.Programs.{Program, program_of}
 use Rattle.fmrun.specs.declared.outcome.JobFail.{JobFail}
 use Rattle.fmrun.specs.declared.outcome.JobFail.TheVariants as fail

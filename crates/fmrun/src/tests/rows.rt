@@ -3,7 +3,7 @@
 use crate::top_call::fmrun_run;
 use fm_base::NoMemory;
 use fm_files::{SureFiles, SureSink};
-use fm_programs::*;
+use fm_test_programs::*;
 use std::alloc::Global;
 use std::test::Fail;
 

@@ -2,7 +2,7 @@
 // index, and beside a piece of code its offset and what it does.
 
 use fm_base::NoMemory;
-use fm_samples::{CALLS_ITSELF, ClassSample, MAIN, MethodSample, PRINTS_SUM, RETURNS};
+use fm_test_classes::{CALLS_ITSELF, ClassSample, MAIN, MethodSample, PRINTS_SUM, RETURNS};
 use std::alloc::Global;
 
 // Main exits with the int after the opcode of `bipush`, which is the byte at this place.

@@ -5,15 +5,15 @@ ghost use Rattle.std.specs.List.{AllByRecursion};
 ghost use Rattle.std.specs.Prelude.{◌≤◌, length};
 ghost use Rattle.fm_base.specs.declared.limits.TheConstants.{MAX_CLASS_FILES};
 ghost use Rattle.fm_code.specs.Profile.{Profile};
-ghost use Rattle.fm_given.specs.Taking.{ClassIsSpelled};
+ghost use Rattle.fm_load.specs.Taking.{ClassIsSpelled};
 
 use crate::running::run_classes;
 use crate::tests::samples::{LENGTH_PLACE, MAKES_NEST, PRINTS_LENGTH, with_byte};
 use fm_base::NoMemory;
 use fm_code::ClassDef;
 use fm_files::{SureFiles, SureSink};
-use fm_given::read_classes;
-use fm_runner::Budgets;
+use fm_load::read_classes;
+use fm_run_job::Budgets;
 use std::alloc::Global;
 use std::test::Fail;
 

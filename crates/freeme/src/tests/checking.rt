@@ -3,7 +3,7 @@
 use crate::tests::M;
 use crate::tests::changes::{Change, is_answered, is_change_answered};
 use fm_base::NoMemory;
-use fm_samples::{ClassSample, EVERY_PART, MAIN, MethodSample, RETURNS};
+use fm_test_classes::{ClassSample, EVERY_PART, MAIN, MethodSample, RETURNS};
 use std::alloc::Global;
 use std::test::Fail;
 

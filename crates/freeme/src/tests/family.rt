@@ -4,7 +4,7 @@ use crate::tests::changes::changed;
 use crate::tests::ends_with;
 use fm_base::NoMemory;
 use fm_files::MemFiles;
-use fm_samples::{ClassSample, INTERFACE, MAIN, MethodSample, RETURNS};
+use fm_test_classes::{ClassSample, INTERFACE, MAIN, MethodSample, RETURNS};
 use std::alloc::Global;
 use std::test::Fail;
 

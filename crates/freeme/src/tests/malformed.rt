@@ -5,7 +5,7 @@ use crate::tests::changes::{
     Change, LongChange, first_other, first_other_long, first_other_part, is_answered,
 };
 use fm_base::NoMemory;
-use fm_samples::{INTERFACE, MAKES_ARRAY};
+use fm_test_classes::{INTERFACE, MAKES_ARRAY};
 use std::alloc::Global;
 use std::test::Fail;
 

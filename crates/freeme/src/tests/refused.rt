@@ -3,7 +3,7 @@
 use crate::tests::M;
 use crate::tests::changes::{LongChange, is_answered, is_change_answered, is_long_change_answered};
 use fm_base::NoMemory;
-use fm_samples::EVERY_PART;
+use fm_test_classes::EVERY_PART;
 use std::alloc::Global;
 use std::test::Fail;
 

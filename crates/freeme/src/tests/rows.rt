@@ -3,7 +3,7 @@
 use crate::tests::ends_with;
 use fm_base::NoMemory;
 use fm_files::MemFiles;
-use fm_programs::*;
+use fm_test_programs::*;
 use std::alloc::Global;
 use std::test::Fail;
 

@@ -1,13 +1,13 @@
 use Rattle.std.proofs.Common.{◌∙◌, refl, sym, subst, ℕ, List, Contains}
-use Rattle.fm_catch.proofs.GivingLemmas.{guarded-later}
-use Rattle.fm_walk.proofs.Outcomes.{match_true, ok_weaker}
-use Rattle.fm_walk.proofs.CarryLemmas.{can_carry_later}
+use Rattle.fm_check_handlers.proofs.GivingLemmas.{guarded-later}
+use Rattle.fm_check_walk.proofs.Outcomes.{match_true, ok_weaker}
+use Rattle.fm_check_walk.proofs.CarryLemmas.{can_carry_later}
 use Rattle.fm_check.proofs.RiseLemmas.{CarriesOn-both, rises_local}
-use Rattle.fm_known.specs.declared.risen.Rise.{Rise}
+use Rattle.fm_check_walk.specs.declared.risen.Rise.{Rise}
 use Rattle.fm_check.specs.inner.Steps.{CarriesOnGuarded, CarriesAll}
-use Rattle.fm_catch.specs.inner.Runs.{GivesAll, has_room}
-use Rattle.fm_walk.specs.inner.Walks.{CanCarry, Untypable, walked}
-use Rattle.fm_known.specs.inner.Tasks.{task}
+use Rattle.fm_check_handlers.specs.inner.Runs.{GivesAll, has_room}
+use Rattle.fm_check_walk.specs.inner.Walks.{CanCarry, Untypable, walked}
+use Rattle.fm_check_walk.specs.inner.Tasks.{task}
 use Rattle.fm_check.proofs.carrying.carry_on.Goals as goal
 
 pub give_to_levels-requires-clause-may : goal.give_to_levels-requires-clause-may

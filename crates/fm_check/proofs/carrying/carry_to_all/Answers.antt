@@ -1,12 +1,12 @@
 use Rattle.std.proofs.Common.{subst, ℕ, List, get_or}
 use Rattle.std.proofs.lemmas.List.{take_all}
 use Rattle.std.proofs.lemmas.List.Elements.{Contains-get_or}
-use Rattle.fm_walk.proofs.Outcomes.{match_true}
-use Rattle.fm_walk.proofs.CarryLemmas.{can_carry_later}
+use Rattle.fm_check_walk.proofs.Outcomes.{match_true}
+use Rattle.fm_check_walk.proofs.CarryLemmas.{can_carry_later}
 use Rattle.fm_check.proofs.RiseLemmas.{CarriesAll-more, CarriesAll-none}
-use Rattle.fm_walk.specs.inner.Walks.{Carries, Untypable, walked}
+use Rattle.fm_check_walk.specs.inner.Walks.{Carries, Untypable, walked}
 use Rattle.fm_check.specs.inner.Steps.{CarriesAll}
-use Rattle.fm_known.specs.inner.Tasks.{task}
+use Rattle.fm_check_walk.specs.inner.Tasks.{task}
 use Rattle.fm_check.proofs.carrying.carry_to_all.Goals as goal
 
 pub loop-item-init : goal.loop-item-init

@@ -1,7 +1,7 @@
 use Rattle.std.proofs.Common.{take}
 use Rattle.fm_check.specs.inner.Steps.{CarriesAll}
-use Rattle.fm_walk.specs.inner.Walks.{walked}
-use Rattle.fm_known.specs.inner.Tasks.{task}
+use Rattle.fm_check_walk.specs.inner.Walks.{walked}
+use Rattle.fm_check_walk.specs.inner.Tasks.{task}
 use Rattle.fm_check.proofs.carrying.carry_to_all.Given as goal
 
 abbrev pub invariant-loop-item : goal.invariant-loop-item

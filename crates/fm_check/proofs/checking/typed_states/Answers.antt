@@ -2,8 +2,8 @@ use Rattle.std.proofs.Common.{◌≡◌, ◌∙◌, refl, sym, ap, List, [], ◌
 use Rattle.std.specs.Option.{option_map}
 use Rattle.std.specs.Vec.Iter.{into_iter_items}
 use Rattle.std.proofs.lemmas.List.{append_assoc, append-nil, map-append}
-use Rattle.fm_known.specs.declared.known_state.KnownState.{KnownState}
-use Rattle.fm_walk.specs.inner.Walks.{states_seen}
+use Rattle.fm_check_walk.specs.declared.known_state.KnownState.{KnownState}
+use Rattle.fm_check_walk.specs.inner.Walks.{states_seen}
 use Rattle.fm_types.specs.States.{TypeState}
 use Rattle.fm_types.specs.Typings.{type_state}
 use Rattle.fm_types.specs.declared.states.State.{State}

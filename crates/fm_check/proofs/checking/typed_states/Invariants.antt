@@ -1,7 +1,7 @@
 use Rattle.std.proofs.Common.{◌≡◌, ◌++◌, length, map}
 use Rattle.std.specs.Option.{option_map}
 use Rattle.std.specs.Vec.Iter.{into_iter_items, into_iter_len}
-use Rattle.fm_walk.specs.inner.Walks.{states_seen}
+use Rattle.fm_check_walk.specs.inner.Walks.{states_seen}
 use Rattle.fm_types.specs.Typings.{type_state}
 use Rattle.fm_check.proofs.checking.typed_states.Given as goal
 

@@ -1,10 +1,10 @@
 use Rattle.std.proofs.Common.{◌∙◌, sym, subst, ℕ, List, Contains}
 use Rattle.fm_types.specs.Typings.{type_state}
 use Rattle.fm_check.proofs.ItemLemmas.{BringsOn-all, item_small, items_forced, off_end}
-use Rattle.fm_walk.proofs.Outcomes.{ok_weaker}
+use Rattle.fm_check_walk.proofs.Outcomes.{ok_weaker}
 use Rattle.fm_check.specs.inner.Steps.{BringsAll, BringsOn}
-use Rattle.fm_walk.specs.inner.Walks.{Untypable, walked}
-use Rattle.fm_known.specs.inner.Tasks.{task}
+use Rattle.fm_check_walk.specs.inner.Walks.{Untypable, walked}
+use Rattle.fm_check_walk.specs.inner.Tasks.{task}
 use Rattle.fm_check.proofs.steps.bring_on.Goals as goal
 
 pub returns-then-falls_off : goal.returns-then-falls_off

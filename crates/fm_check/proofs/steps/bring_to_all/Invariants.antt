@@ -1,7 +1,7 @@
 use Rattle.std.proofs.Common.{take}
 use Rattle.fm_check.specs.inner.Steps.{BringsAll}
-use Rattle.fm_walk.specs.inner.Walks.{walked}
-use Rattle.fm_known.specs.inner.Tasks.{task}
+use Rattle.fm_check_walk.specs.inner.Walks.{walked}
+use Rattle.fm_check_walk.specs.inner.Tasks.{task}
 use Rattle.fm_types.specs.Typings.{type_state}
 use Rattle.fm_check.proofs.steps.bring_to_all.Given as goal
 

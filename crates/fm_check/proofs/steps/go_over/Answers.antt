@@ -2,15 +2,15 @@ use Rattle.std.proofs.Common.{◌≡◌, ◌∙◌, sym, ap, subst, arith, lengt
 use Rattle.std.proofs.lemmas.List.{length-reverse}
 use Rattle.std.specs.List.{slice_index_or}
 use Rattle.fm_check.proofs.ItemLemmas.{GoesOver-none, read_insn}
-use Rattle.fm_walk.proofs.Outcomes.{ok_weaker}
+use Rattle.fm_check_walk.proofs.Outcomes.{ok_weaker}
 use Rattle.fm_check.proofs.RiseLemmas.{asked-alone, GoesOver-carried, ready, words_below}
-use Rattle.fm_walk.proofs.WalkLemmas.{state_seen}
-use Rattle.fm_known.specs.declared.risen.Rise.{Rise}
-use Rattle.fm_known.specs.declared.known_state.SlotPlace.{SlotPlace}
-use Rattle.fm_known.specs.inner.Risen.{known_state, rise_of, words_taken}
+use Rattle.fm_check_walk.proofs.WalkLemmas.{state_seen}
+use Rattle.fm_check_walk.specs.declared.risen.Rise.{Rise}
+use Rattle.fm_check_walk.specs.declared.known_state.SlotPlace.{SlotPlace}
+use Rattle.fm_check_walk.specs.inner.Risen.{known_state, rise_of, words_taken}
 use Rattle.fm_check.specs.inner.Steps.{CarriesOnGuarded, GoesOverGuarded, IsReady}
-use Rattle.fm_walk.specs.inner.Walks.{Untypable, walked}
-use Rattle.fm_known.specs.inner.Tasks.{task}
+use Rattle.fm_check_walk.specs.inner.Walks.{Untypable, walked}
+use Rattle.fm_check_walk.specs.inner.Tasks.{task}
 use Rattle.fm_types.specs.Typed.{use_by}
 use Rattle.fm_check.proofs.steps.go_over.Goals as goal
 

@@ -1,15 +1,15 @@
 use Rattle.std.proofs.Common.{◌∙◌, sym, ap, None, Bool}
 use Rattle.std.specs.List.{slice_index_or}
-use Rattle.fm_catch.proofs.GivingLemmas.{all_brought, guarded-later}
+use Rattle.fm_check_handlers.proofs.GivingLemmas.{all_brought, guarded-later}
 use Rattle.fm_check.proofs.ItemLemmas.{GoesOver-item, GoesOver-none, next_forced, read_insn, row_unmet_at}
-use Rattle.fm_walk.proofs.Outcomes.{match_true, ok_weaker}
-use Rattle.fm_walk.proofs.WalkLemmas.{state_copied, state_seen}
-use Rattle.fm_known.specs.inner.Risen.{known_state}
-use Rattle.fm_catch.specs.inner.Runs.{GivesAll, is_brought}
+use Rattle.fm_check_walk.proofs.Outcomes.{match_true, ok_weaker}
+use Rattle.fm_check_walk.proofs.WalkLemmas.{state_copied, state_seen}
+use Rattle.fm_check_walk.specs.inner.Risen.{known_state}
+use Rattle.fm_check_handlers.specs.inner.Runs.{GivesAll, is_brought}
 use Rattle.fm_check.specs.inner.Steps.{GoesOverGuarded, BringsOn}
-use Rattle.fm_walk.specs.inner.Walks.{Untypable, walked}
-use Rattle.fm_known.specs.inner.Tasks.{task}
-use Rattle.fm_rows.specs.Outcomes.{outcome}
+use Rattle.fm_check_walk.specs.inner.Walks.{Untypable, walked}
+use Rattle.fm_check_walk.specs.inner.Tasks.{task}
+use Rattle.fm_check_rows.specs.Outcomes.{outcome}
 use Rattle.fm_types.specs.Typings.{type_state}
 use Rattle.fm_check.proofs.steps.go_over_whole.Goals as goal
 

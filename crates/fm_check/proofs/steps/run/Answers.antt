@@ -1,13 +1,13 @@
 use Rattle.std.proofs.Common.{◌∙◌, sym, ap, subst, List, Option, None}
 use Rattle.std.specs.List.{slice_index_or}
-use Rattle.fm_catch.proofs.GivingLemmas.{guarded-first}
-use Rattle.fm_walk.proofs.Outcomes.{match_true}
+use Rattle.fm_check_handlers.proofs.GivingLemmas.{guarded-first}
+use Rattle.fm_check_walk.proofs.Outcomes.{match_true}
 use Rattle.fm_check.proofs.ItemLemmas.{popped-rise, Stands-taken, taken-inside, taken-met, takes-popped, waiting_marked, Walking-more}
-use Rattle.fm_known.specs.declared.known_state.SlotPlace.{SlotPlace}
+use Rattle.fm_check_walk.specs.declared.known_state.SlotPlace.{SlotPlace}
 use Rattle.fm_check.specs.inner.Steps.{GoesOverGuarded, IsMetBut}
-use Rattle.fm_catch.specs.inner.Runs.{IsGuarded, IsLaid}
-use Rattle.fm_walk.specs.inner.Walks.{Untypable, walked}
-use Rattle.fm_known.specs.inner.Tasks.{task}
+use Rattle.fm_check_handlers.specs.inner.Runs.{IsGuarded, IsLaid}
+use Rattle.fm_check_walk.specs.inner.Walks.{Untypable, walked}
+use Rattle.fm_check_walk.specs.inner.Tasks.{task}
 use Rattle.fm_code.specs.declared.code_array.Handler.{Handler}
 use Rattle.fm_types.specs.States.{TypeState}
 use Rattle.fm_check.proofs.steps.run.Goals as goal

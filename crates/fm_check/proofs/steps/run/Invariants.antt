@@ -1,7 +1,7 @@
-use Rattle.fm_catch.specs.inner.Runs.{IsGuarded}
-use Rattle.fm_walk.specs.inner.Walks.{walked, work_left}
+use Rattle.fm_check_handlers.specs.inner.Runs.{IsGuarded}
+use Rattle.fm_check_walk.specs.inner.Walks.{walked, work_left}
 use Rattle.fm_check.specs.inner.Steps.{Walking}
-use Rattle.fm_known.specs.inner.Tasks.{task}
+use Rattle.fm_check_walk.specs.inner.Tasks.{task}
 use Rattle.fm_check.proofs.steps.run.Given as goal
 
 abbrev pub invariant-loop-item : goal.invariant-loop-item

@@ -1,9 +1,9 @@
 use Rattle.std.proofs.Common.{◌++◌}
 use Rattle.std.proofs.lemmas.Result.{err_from_is_err_and}
 use Rattle.fm_link.proofs.Phases.{at_main, at_methods, at_not_implemented}
-use Rattle.fm_refuse.proofs.FirstRefusals.{first-append}
-use Rattle.fm_refuse.specs.Refused.{refusal_of}
-use Rattle.fm_refuse.specs.inner.GivenClasses.{given_in}
+use Rattle.fm_link_refusals.proofs.FirstRefusals.{first-append}
+use Rattle.fm_link_refusals.specs.Refused.{refusal_of}
+use Rattle.fm_link_refusals.specs.inner.GivenClasses.{given_in}
 use Rattle.fm_world.specs.Linking.{refused_fields, refused_main, refused_methods, refused_not_implemented}
 use Rattle.fm_link.proofs.linked.judged_main.Goals as goal
 

@@ -1,14 +1,14 @@
 use Rattle.std.proofs.Common.{sym, ◌∙◌, ap, subst, map, List}
 use Rattle.std.proofs.lemmas.Result.{err_from_is_err_and}
-use Rattle.fm_declare.specs.inner.ClassNumbering.{NumbersClasses}
-use Rattle.fm_declare.specs.inner.Numbering.{lent, texts_in}
-use Rattle.fm_above.proofs.ParentRefusals.{are_sound}
+use Rattle.fm_link_names.specs.inner.ClassNumbering.{NumbersClasses}
+use Rattle.fm_link_names.specs.inner.Numbering.{lent, texts_in}
+use Rattle.fm_link_supers.proofs.ParentRefusals.{are_sound}
 use Rattle.fm_link.proofs.ClassSteps.{named-made}
 use Rattle.fm_link.proofs.Phases.{files_numbered, none_of_both}
-use Rattle.fm_refuse.proofs.FirstRefusals.{first-append, first_after}
-use Rattle.fm_refuse.specs.Refused.{refusal_of}
-use Rattle.fm_refuse.specs.inner.GivenClasses.{given_in}
-use Rattle.fm_refuse.specs.inner.Linking.{names_array}
+use Rattle.fm_link_refusals.proofs.FirstRefusals.{first-append, first_after}
+use Rattle.fm_link_refusals.specs.Refused.{refusal_of}
+use Rattle.fm_link_refusals.specs.inner.GivenClasses.{given_in}
+use Rattle.fm_link_refusals.specs.inner.Linking.{names_array}
 use Rattle.fm_world.specs.Linking.{refused_missing_classes, refused_parents}
 use Rattle.fm_world.specs.Programs.{classes_of}
 use Rattle.fm_world.specs.declared.declarations.DeclaredClass.{DeclaredClass}

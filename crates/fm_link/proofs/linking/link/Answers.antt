@@ -4,8 +4,8 @@ use Rattle.fm_code.specs.declared.class_file.ClassDef.{ClassDef}
 use Rattle.fm_link.proofs.Phases.{at_later, at_names, of_given}
 use Rattle.fm_link.proofs.ProgramMade.{program_made, tables_asked}
 use Rattle.fm_link.specs.inner.Made.{AreTablesOf}
-use Rattle.fm_refuse.specs.Refused.{refusal_of}
-use Rattle.fm_refuse.specs.inner.GivenClasses.{given_in}
+use Rattle.fm_link_refusals.specs.Refused.{refusal_of}
+use Rattle.fm_link_refusals.specs.inner.GivenClasses.{given_in}
 use Rattle.fm_world.specs.Programs.{classes_of}
 use Rattle.fm_link.proofs.linking.link.Goals as goal
 

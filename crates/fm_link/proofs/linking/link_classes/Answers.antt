@@ -2,16 +2,16 @@ use Rattle.std.specs.Borrow.{Bor}
 use Rattle.std.proofs.Common.{sym, ◌∙◌, ap, map, subst, Ok, Option, List, ℕ}
 use Rattle.std.proofs.lemmas.Result.{err_from_is_err_and}
 use Rattle.fm_base.specs.declared.kinds.TypeRef.{TypeRef}
-use Rattle.fm_declare.specs.declared.texts.Texts.{Texts}
-use Rattle.fm_declare.specs.inner.Files.{AreFiles}
-use Rattle.fm_declare.specs.inner.DescriptorTypes.{type_of_name}
-use Rattle.fm_declare.specs.inner.Numbering.{lent, texts_in}
+use Rattle.fm_link_names.specs.declared.texts.Texts.{Texts}
+use Rattle.fm_link_names.specs.inner.Files.{AreFiles}
+use Rattle.fm_link_names.specs.inner.DescriptorTypes.{type_of_name}
+use Rattle.fm_link_names.specs.inner.Numbering.{lent, texts_in}
 use Rattle.fm_link.proofs.Phases.{files_numbered}
 use Rattle.fm_link.specs.inner.Judged.{class_refusals, member_refusals}
-use Rattle.fm_records.proofs.SizeSteps.{map-map}
-use Rattle.fm_refuse.proofs.FirstRefusals.{first-append, first_after, refuses_after}
-use Rattle.fm_refuse.specs.Refused.{refusal_of}
-use Rattle.fm_refuse.specs.inner.GivenClasses.{given_in, AreNumbered}
+use Rattle.fm_link_records.proofs.SizeSteps.{map-map}
+use Rattle.fm_link_refusals.proofs.FirstRefusals.{first-append, first_after, refuses_after}
+use Rattle.fm_link_refusals.specs.Refused.{refusal_of}
+use Rattle.fm_link_refusals.specs.inner.GivenClasses.{given_in, AreNumbered}
 use Rattle.fm_world.specs.Programs.{classes_of}
 use Rattle.fm_link.proofs.linking.link_classes.Goals as goal
 

@@ -1,6 +1,6 @@
 use Rattle.std.proofs.Common.{sym, ◌∙◌, ap, option_map}
 use Rattle.fm_link.proofs.MainMethods.{both_found, no_class_found, number_is, pair_with}
-use Rattle.fm_refuse.specs.inner.GivenClasses.{given_in}
+use Rattle.fm_link_refusals.specs.inner.GivenClasses.{given_in}
 use Rattle.fm_world.specs.Programs.{classes_of}
 use Rattle.fm_link.proofs.main_class.found_main.Goals as goal
 

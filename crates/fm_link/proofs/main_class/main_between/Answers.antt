@@ -1,5 +1,5 @@
 use Rattle.std.proofs.Common.{sym, ◌∙◌}
-use Rattle.fm_declare.specs.inner.Numbering.{texts_in}
+use Rattle.fm_link_names.specs.inner.Numbering.{texts_in}
 use Rattle.fm_link.proofs.MainMethods.{first_here, first_next, first_none}
 use Rattle.fm_link.specs.inner.MainClass.{is_main_at}
 use Rattle.fm_link.proofs.main_class.main_between.Goals as goal

@@ -1,6 +1,6 @@
 use Rattle.std.proofs.Common.{◌≡◌, ◌-◌}
-use Rattle.fm_declare.specs.inner.Numbering.{texts_in}
-use Rattle.fm_lookup.specs.inner.MemberTables.{first_from}
+use Rattle.fm_link_names.specs.inner.Numbering.{texts_in}
+use Rattle.fm_link_members.specs.inner.MemberTables.{first_from}
 use Rattle.fm_link.specs.inner.MainClass.{is_main_at, main_between}
 use Rattle.fm_link.proofs.main_class.main_between.Given as goal
 

@@ -1,6 +1,6 @@
 use Rattle.std.proofs.Common.{sym, ◌∙◌, ap, ℕ, List, Some}
 use Rattle.fm_link.proofs.MainMethods.{main_missing, main_there}
-use Rattle.fm_refuse.specs.inner.GivenClasses.{given_in}
+use Rattle.fm_link_refusals.specs.inner.GivenClasses.{given_in}
 use Rattle.fm_world.specs.Causes.{NoMain, Refusal}
 use Rattle.fm_link.proofs.main_class.main_of.Goals as goal
 

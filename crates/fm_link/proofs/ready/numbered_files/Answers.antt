@@ -1,11 +1,11 @@
 use Rattle.std.proofs.Common.{◌≡◌, sym, ◌∙◌, ap, subst, List, ℕ}
 use Rattle.std.proofs.lemmas.Result.{err_from_is_err_and}
-use Rattle.fm_declare.specs.declared.given.GivenFile.{GivenFile}
-use Rattle.fm_declare.specs.inner.Files.{AreFiles}
-use Rattle.fm_declare.specs.inner.Numbering.{lent, texts_in}
+use Rattle.fm_link_names.specs.declared.given.GivenFile.{GivenFile}
+use Rattle.fm_link_names.specs.inner.Files.{AreFiles}
+use Rattle.fm_link_names.specs.inner.Numbering.{lent, texts_in}
 use Rattle.fm_link.proofs.Phases.{given_is, none_of_both, ready_of}
-use Rattle.fm_refuse.proofs.FirstRefusals.{first-append, first_after}
-use Rattle.fm_refuse.specs.Refused.{refusal_of}
+use Rattle.fm_link_refusals.proofs.FirstRefusals.{first-append, first_after}
+use Rattle.fm_link_refusals.specs.Refused.{refusal_of}
 use Rattle.fm_world.specs.Linking.{refused_built_ins, refused_duplicates}
 use Rattle.fm_link.proofs.ready.numbered_files.Goals as goal
 

@@ -1,8 +1,8 @@
 use Rattle.std.proofs.Common.{◌↔◌, IsTrue, rules}
 use Rattle.std.proofs.lemmas.Result.{IfOk-weaker}
 use Rattle.fm_code.specs.Members.{AreDistinct}
-use Rattle.fm_texts.specs.TextNumbers.{AreKeysDistinct, NumbersTexts}
-use Rattle.fm_texts.proofs.KeysInTurn.{distinct_by_texts}
+use Rattle.fm_pool_texts.specs.TextNumbers.{AreKeysDistinct, NumbersTexts}
+use Rattle.fm_pool_texts.proofs.KeysInTurn.{distinct_by_texts}
 use Rattle.fm_read.proofs.members.are_distinct.Goals as goal
 
 pub returns : goal.returns

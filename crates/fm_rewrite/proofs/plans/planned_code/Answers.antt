@@ -1,5 +1,5 @@
 use Rattle.std.proofs.Common.{arith}
-use Rattle.fm_analysis.proofs.ShapesLemmas.{code_facts}
+use Rattle.fm_summ_shapes.proofs.ShapesLemmas.{code_facts}
 use Rattle.fm_flow.proofs.CodeFacts.{items_counted}
 use Rattle.fm_layout.proofs.BoundsLemmas.{old_short}
 use Rattle.fm_rewrite.proofs.PlannedLemmas.{full_fits, full_room}

@@ -1,5 +1,5 @@
 use Rattle.std.proofs.Common.{◌∙◌, sym, ap}
-use Rattle.fm_analysis.proofs.ShapesLemmas.{no_code}
+use Rattle.fm_summ_shapes.proofs.ShapesLemmas.{no_code}
 use Rattle.fm_conn.proofs.CodedLemmas.{coded_at}
 use Rattle.fm_rewrite.proofs.MethodsLemmas.{planned_with_code, planned_without_code}
 use Rattle.fm_world.specs.declared.records.MethodInfo.{MethodInfo}

@@ -3,7 +3,7 @@ use Rattle.std.specs.List.{AllByRecursion}
 use Rattle.fm_code.specs.Spells.{HasSpelling}
 use Rattle.fm_rewrite.proofs.StepLemmas.{full_more, left, others_counted, pools_more}
 use Rattle.fm_rewrite.specs.inner.ByPlans.{first_full_by, full_by, own, pool_by, pools_by}
-use Rattle.fm_weave.specs.declared.planned.Planned.{Planned}
+use Rattle.fm_place_weave.specs.declared.planned.Planned.{Planned}
 use Rattle.fm_rewrite.proofs.pools.free_pools.Goals as goal
 
 pub loop-place-preserved : goal.loop-place-preserved

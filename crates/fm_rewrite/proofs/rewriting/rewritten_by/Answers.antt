@@ -3,7 +3,7 @@ use Rattle.fm_place.specs.Rewriting.{first_given}
 use Rattle.fm_rewrite.proofs.JudgedLemmas.{comes_as, comes_full, comes_long, judged_spelled, own_done, parts_of}
 use Rattle.fm_rewrite.specs.declared.rewriting.Rewritten.{Rewritten}
 use Rattle.fm_rewrite.specs.inner.ByPlans.{AreMadeBy, ComesBy, HaveCounts, MayDoEach}
-use Rattle.fm_weave.specs.declared.planned.Planned.{Planned}
+use Rattle.fm_place_weave.specs.declared.planned.Planned.{Planned}
 use Rattle.fm_world.specs.BuiltIns.{built_in}
 use Rattle.fm_rewrite.proofs.rewriting.rewritten_by.Goals as goal
 

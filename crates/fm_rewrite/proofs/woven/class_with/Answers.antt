@@ -2,7 +2,7 @@ use Rattle.std.proofs.Common.{◌≡◌, ◌∙◌, sym, ap, Some, arith, rules}
 use Rattle.std.specs.Option.{option_map}
 use Rattle.fm_rewrite.proofs.WovenLemmas.{later_by, long_from_place, place_within}
 use Rattle.fm_rewrite.specs.inner.ByPlans.{pool_by}
-use Rattle.fm_weave.specs.ClassByPlan.{first_long}
+use Rattle.fm_place_weave.specs.ClassByPlan.{first_long}
 use Rattle.fm_rewrite.proofs.woven.class_with.Goals as goal
 
 pub overflow_cast-result : goal.overflow_cast-result

@@ -1,6 +1,6 @@
 use Rattle.std.proofs.Common.{ap, subst}
-use Rattle.fm_flat.specs.Flows.{resumed}
-use Rattle.fm_nests.specs.inner.Costs.{nest_of}
+use Rattle.fm_fast.specs.Flows.{resumed}
+use Rattle.fm_exec_nests.specs.inner.Costs.{nest_of}
 use Rattle.fm_run.proofs.called.do_call.Goals as goal
 use Rattle.fm_run.specs.inner.Flats.{IsFlatNext}
 

@@ -1,9 +1,9 @@
 use Rattle.std.proofs.Common.{refl}
 use Rattle.fm_code.specs.declared.instructions.Insn.TheVariants as insn
 use Rattle.fm_frames.specs.Rows.{effect_of}
-use Rattle.fm_ready.proofs.Constants.{rows, suit}
-use Rattle.fm_ready.proofs.Serving.{serves}
-use Rattle.fm_ready.proofs.Standing.{births}
+use Rattle.fm_law_can_step.proofs.Constants.{rows, suit}
+use Rattle.fm_law_can_step.proofs.Serving.{serves}
+use Rattle.fm_law_can_step.proofs.Standing.{births}
 use Rattle.fm_run.proofs.CallsNext.{called-fails, called-told}
 use Rattle.fm_run.proofs.Resolving.{is-inside, is-method, is-wanted}
 use Rattle.fm_world.specs.declared.uses.Use.TheVariants as used

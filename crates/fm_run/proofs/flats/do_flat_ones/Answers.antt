@@ -1,5 +1,5 @@
 use Rattle.std.proofs.Common.{◌≡◌, ◌+◌, None, true, false, ap, ◌∙◌, sym, subst, rules}
-use Rattle.fm_flat.specs.Flows.{resumed}
+use Rattle.fm_fast.specs.Flows.{resumed}
 use Rattle.fm_run.proofs.FlatSteps.{taken-out, then-went, went-joined}
 use Rattle.fm_run.proofs.Ranging.{leads-none}
 use Rattle.fm_run.proofs.flats.do_flat_ones.Goals as goal

@@ -1,5 +1,5 @@
 use Rattle.std.proofs.Common.{◌-◌}
-use Rattle.fm_flat.specs.Flows.{resumed}
+use Rattle.fm_fast.specs.Flows.{resumed}
 use Rattle.fm_run.proofs.flats.do_flat_ones.Given as goal
 use Rattle.fm_run.specs.inner.Flats.{WentOn}
 

@@ -2,7 +2,7 @@ use Rattle.std.proofs.Common.{◌≡◌, arith, ap, refl, sym, ◌∙◌, to_z, 
 use Rattle.std.proofs.lemmas.Int.{ints, to_z-of_z}
 use Rattle.std.specs.Int.{w16}
 use Rattle.fm_code.specs.declared.instructions.Insn.TheVariants as insn
-use Rattle.fm_flat.specs.Operands.{AsksOf}
+use Rattle.fm_fast.specs.Operands.{AsksOf}
 use Rattle.fm_frames.specs.Rows.{effect_of}
 use Rattle.fm_run.proofs.FlatSteps.{row-flows}
 use Rattle.fm_run.proofs.flats.do_increment.Goals as goal

@@ -1,5 +1,5 @@
 use Rattle.std.proofs.Common.{◌+◌, true}
-use Rattle.fm_flat.specs.Flows.{resumed}
+use Rattle.fm_fast.specs.Flows.{resumed}
 use Rattle.fm_run.proofs.FlatSteps.{call-flowed, Flowed, flowed-on}
 use Rattle.fm_run.proofs.Ranging.{leads-none}
 use Rattle.fm_run.proofs.flats.do_next_call.Goals as goal

@@ -1,9 +1,9 @@
 use Rattle.std.proofs.Common.{ap, refl, subst}
 use Rattle.fm_code.specs.declared.instructions.Insn.TheVariants as insn
-use Rattle.fm_flat.specs.Flows.{on, stepped_on}
-use Rattle.fm_flat.specs.Operands.{AsksOf}
+use Rattle.fm_fast.specs.Flows.{on, stepped_on}
+use Rattle.fm_fast.specs.Operands.{AsksOf}
 use Rattle.fm_frames.specs.Rows.{effect_of}
-use Rattle.fm_nests.specs.inner.Costs.{nest_of}
+use Rattle.fm_exec_nests.specs.inner.Costs.{nest_of}
 use Rattle.fm_run.proofs.FlatSteps.{named-does, row-flows}
 use Rattle.fm_run.proofs.NextSteps.{at-row, stands-at}
 use Rattle.fm_run.proofs.flats.do_other.Goals as goal

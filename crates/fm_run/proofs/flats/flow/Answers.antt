@@ -1,11 +1,11 @@
 use Rattle.std.proofs.Common.{◌≡◌, ◌+◌, None, true, false, refl, sym, subst, rules, ℕ, arith}
 use Rattle.fm_code.specs.declared.instructions.Insn.TheVariants as insn
-use Rattle.fm_flat.specs.Flows.{resumed}
-use Rattle.fm_flat.specs.Operands.{AsksOf}
+use Rattle.fm_fast.specs.Flows.{resumed}
+use Rattle.fm_fast.specs.Operands.{AsksOf}
 use Rattle.fm_frames.specs.Rows.{effect_of}
 use Rattle.fm_frames.specs.States.{State}
-use Rattle.fm_ready.proofs.Heap.{holds_elements, holds_length}
-use Rattle.fm_ready.proofs.Puts.{takes_element}
+use Rattle.fm_law_can_step.proofs.Heap.{holds_elements, holds_length}
+use Rattle.fm_law_can_step.proofs.Puts.{takes_element}
 use Rattle.fm_run.proofs.FlatSteps.{cheap-next, does-flowed, Flowed, flowed-joined, flowed-on, group-flowed, packed-in, row-flowed}
 use Rattle.fm_run.proofs.NextSteps.{at-row, here, next-at, row-does}
 use Rattle.fm_run.proofs.Ranging.{leads-none}

@@ -1,6 +1,6 @@
 use Rattle.std.proofs.Common.{◌≡◌, ◌<◌, List, Some, length, option_map, slice_get, sym, subst, ap, ◌∙◌, rules}
 use Rattle.fm_code.specs.declared.code_array.Item.{Item}
-use Rattle.fm_flat.specs.Flows.{resumed}
+use Rattle.fm_fast.specs.Flows.{resumed}
 use Rattle.fm_frames.specs.inner.Frames.{place, place_of, topmost}
 use Rattle.fm_run.proofs.FlatSteps.{flat-fits, flat-inside, flat-next}
 use Rattle.fm_run.proofs.flats.next_in.Goals as goal

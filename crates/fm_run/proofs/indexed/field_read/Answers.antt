@@ -1,8 +1,8 @@
 use Rattle.std.proofs.Common.{◌+◌, refl}
 use Rattle.fm_code.specs.declared.instructions.Insn.TheVariants as insn
-use Rattle.fm_flat.specs.Flows.{resumed}
+use Rattle.fm_fast.specs.Flows.{resumed}
 use Rattle.fm_frames.specs.Rows.{effect_of}
-use Rattle.fm_ready.proofs.Heap.{holds_field}
+use Rattle.fm_law_can_step.proofs.Heap.{holds_field}
 use Rattle.fm_run.proofs.FlatSteps.{named-does}
 use Rattle.fm_run.proofs.NextSteps.{next-of}
 use Rattle.fm_run.proofs.Resolving.{is-inside, is-method, is-wanted}

@@ -1,12 +1,12 @@
 use Rattle.std.proofs.Common.{◌+◌, refl, sym, subst}
 use Rattle.fm_code.specs.declared.instructions.Insn.TheVariants as insn
-use Rattle.fm_flat.proofs.Asked.{put-asked}
-use Rattle.fm_flat.specs.Flows.{resumed}
-use Rattle.fm_flat.specs.Operands.{AsksOfPut}
+use Rattle.fm_fast.proofs.Asked.{put-asked}
+use Rattle.fm_fast.specs.Flows.{resumed}
+use Rattle.fm_fast.specs.Operands.{AsksOfPut}
 use Rattle.fm_frames.specs.ObjectRows.{kind_of_field}
 use Rattle.fm_frames.specs.Rows.{effect_of}
-use Rattle.fm_ready.proofs.Named.{meets}
-use Rattle.fm_ready.proofs.Puts.{takes_field_value}
+use Rattle.fm_law_can_step.proofs.Named.{meets}
+use Rattle.fm_law_can_step.proofs.Puts.{takes_field_value}
 use Rattle.fm_run.proofs.FlatSteps.{named-does}
 use Rattle.fm_run.proofs.NextSteps.{next-of}
 use Rattle.fm_run.proofs.Resolving.{is-inside, is-method, is-wanted}

@@ -1,5 +1,5 @@
 use Rattle.std.proofs.Common.{subst}
-use Rattle.fm_flat.specs.Flows.{Flows}
+use Rattle.fm_fast.specs.Flows.{Flows}
 use Rattle.fm_frames.specs.NumberRows.{constant_effect}
 use Rattle.fm_run.proofs.indexed.number.Goals as goal
 

@@ -1,7 +1,7 @@
 use Rattle.std.proofs.Common.{◌≡◌, true, subst, sym}
 use Rattle.fm_code.specs.declared.instructions.Insn.TheVariants as insn
 use Rattle.fm_run.proofs.Resolving.{is-method, is-wanted}
-use Rattle.fm_ready.specs.Ready.{is_constant}
+use Rattle.fm_law_can_step.specs.Ready.{is_constant}
 use Rattle.fm_run.proofs.named.constant.Goals as goal
 
 pub used-named-requires : goal.used-named-requires

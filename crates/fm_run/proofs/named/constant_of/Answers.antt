@@ -2,7 +2,7 @@ use Rattle.fm_frames.specs.NumberRows.{constant_effect}
 use Rattle.std.proofs.Common.{◌≡◌, sym, ap, ◌∙◌, arith, to_z, of_z, w32, w64}
 use Rattle.fm_code.specs.declared.instructions.Insn.TheVariants as insn
 use Rattle.fm_frames.specs.Rows.{effect_of}
-use Rattle.fm_ready.proofs.Named.{literal_inside}
+use Rattle.fm_law_can_step.proofs.Named.{literal_inside}
 use Rattle.fm_run.proofs.Resolving.{is-inside}
 use Rattle.fm_run.proofs.NextSteps.{named-done, next-of}
 use Rattle.fm_world.specs.declared.uses.Use.TheVariants as used

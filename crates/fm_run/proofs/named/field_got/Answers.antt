@@ -1,6 +1,6 @@
 use Rattle.fm_code.specs.declared.instructions.Insn.TheVariants as insn
 use Rattle.fm_frames.specs.Rows.{effect_of}
-use Rattle.fm_ready.proofs.Heap.{holds_field}
+use Rattle.fm_law_can_step.proofs.Heap.{holds_field}
 use Rattle.fm_run.proofs.Resolving.{is-inside, is-method, is-wanted}
 use Rattle.fm_run.proofs.NextSteps.{named-done, next-of}
 use Rattle.fm_world.specs.declared.uses.Use.TheVariants as used

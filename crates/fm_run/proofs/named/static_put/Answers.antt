@@ -1,8 +1,8 @@
 use Rattle.fm_code.specs.declared.instructions.Insn.TheVariants as insn
 use Rattle.fm_frames.specs.Rows.{effect_of}
-use Rattle.fm_ready.proofs.Constants.{suit}
-use Rattle.fm_ready.proofs.Puts.{keeps_static}
-use Rattle.fm_ready.proofs.Standing.{births}
+use Rattle.fm_law_can_step.proofs.Constants.{suit}
+use Rattle.fm_law_can_step.proofs.Puts.{keeps_static}
+use Rattle.fm_law_can_step.proofs.Standing.{births}
 use Rattle.fm_run.proofs.Resolving.{is-inside, is-method, is-wanted}
 use Rattle.fm_run.proofs.NextSteps.{named-done, next-of}
 use Rattle.fm_world.specs.declared.uses.Use.TheVariants as used

@@ -3,7 +3,7 @@ use Rattle.fm_code.specs.declared.instructions.Insn.TheVariants as insn
 use Rattle.fm_code.specs.declared.operations.Elem.TheVariants as elem
 use Rattle.fm_exec.specs.Holding.{TakesElement}
 use Rattle.fm_frames.specs.Rows.{effect_of}
-use Rattle.fm_ready.proofs.Puts.{takes_element}
+use Rattle.fm_law_can_step.proofs.Puts.{takes_element}
 use Rattle.fm_run.proofs.NextSteps.{next-at, row-done}
 use Rattle.fm_run.proofs.plain.element_put.Goals as goal
 use Rattle.fm_types.specs.Typed.{use_by}

@@ -3,7 +3,7 @@ use Rattle.std.proofs.lemmas.Int.{ints, to_z-of_z}
 use Rattle.std.specs.Int.{w16}
 use Rattle.fm_code.specs.declared.instructions.Insn.TheVariants as insn
 use Rattle.fm_frames.specs.Rows.{effect_of}
-use Rattle.fm_ready.proofs.Heap.{holds_elements, holds_length}
+use Rattle.fm_law_can_step.proofs.Heap.{holds_elements, holds_length}
 use Rattle.fm_run.proofs.NextSteps.{at-row, here, row-does, stands-at}
 use Rattle.fm_run.proofs.plain.frequent.Goals as goal
 

@@ -1,5 +1,5 @@
 use Rattle.fm_frames.specs.inner.Frames.{place}
-use Rattle.fm_ready.proofs.Standing.{can_step, standing}
+use Rattle.fm_law_can_step.proofs.Standing.{can_step, standing}
 use Rattle.fm_run.proofs.Standing.{has-code, has-frame, item-inside, stands-here}
 use Rattle.fm_run.proofs.steps.advance.Goals as goal
 

@@ -1,5 +1,5 @@
 use Rattle.std.proofs.lemmas.Result.{err_from_is_err_and}
-use Rattle.fm_tool.specs.Encoding.{modified}
+use Rattle.fm_cli.specs.Encoding.{modified}
 use Rattle.fmrun.proofs.RunningLemmas.{are_typed, are_within, can_run, comes_failed, comes_refused, comes_told}
 use Rattle.fmrun.proofs.running.run_classes.Goals as goal
 

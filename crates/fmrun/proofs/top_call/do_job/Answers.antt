@@ -3,7 +3,7 @@ use Rattle.std.proofs.lemmas.Result.{err_from_is_err_and}
 use Rattle.fmrun.proofs.JobLemmas.{accepted, all_of_names, both_within, classes_of, classes_within, ends_at_once, ends_run_as, ends_unread, ends_without_input, few_classes, few_of, input_of, input_short, none_within, spelled, unread_of}
 use Rattle.std.specs.List.{AllByRecursion}
 use Rattle.fmrun.proofs.RequestLimits.{Fits, fit_array, text_within}
-use Rattle.fm_request.specs.FmrunRequest.{job_of}
+use Rattle.fm_cli_requests.specs.FmrunRequest.{job_of}
 use Rattle.fmrun.proofs.top_call.do_job.Goals as goal
 
 pub job_arguments-requires : goal.job_arguments-requires

@@ -1,7 +1,7 @@
 use Rattle.std.proofs.Common.{MatchOption, Option, subst}
-use Rattle.fm_request.specs.FmrunRequest.{AskNothing, Asks, job_of}
-use Rattle.fm_request.specs.declared.fmrun_request.FmrunRequest.{FmrunRequest}
-use Rattle.fm_tool.specs.Words.{texts}
+use Rattle.fm_cli_requests.specs.FmrunRequest.{AskNothing, Asks, job_of}
+use Rattle.fm_cli_requests.specs.declared.fmrun_request.FmrunRequest.{FmrunRequest}
+use Rattle.fm_cli.specs.Words.{texts}
 use Rattle.fmrun.proofs.RequestLimits.{within_limits}
 use Rattle.fmrun.proofs.top_call.do_words.Goals as goal
 

@@ -1,5 +1,5 @@
 use Rattle.std.proofs.Common.{arith}
-use Rattle.fm_tool.specs.Words.{texts}
+use Rattle.fm_cli.specs.Words.{texts}
 use Rattle.fmrun.proofs.CauseLemmas.{is_for_bytes, is_for_check, is_for_limit, is_for_link, is_for_read, is_for_run, is_for_words}
 use Rattle.fmrun.proofs.ChangeLemmas.{is_faultless, is_for_memory, is_for_write, is_silent, is_status, only_reads}
 use Rattle.fmrun.proofs.RunFacts.{is_for_fault, reports_most_held}

@@ -1,7 +1,7 @@
 use Rattle.std.proofs.Common.{[], ◌∷◌, codes}
 use Rattle.clap.specs.Words.{app_of}
-use Rattle.fm_request.specs.Values.{files_rule, wanted_option_rule}
-use Rattle.fm_request.proofs.CommandLemmas.{with_one_more}
+use Rattle.fm_cli_requests.specs.Values.{files_rule, wanted_option_rule}
+use Rattle.fm_cli_requests.proofs.CommandLemmas.{with_one_more}
 use Rattle.freeme.proofs.RequestLemmas.{is_command}
 use Rattle.freeme.proofs.freeme_request.freeme_command.Goals as goal
 

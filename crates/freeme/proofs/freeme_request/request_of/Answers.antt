@@ -2,7 +2,7 @@ use Rattle.std.proofs.Common.{List, sym, ◌∙◌, subst, Ok, Err, MatchOption}
 use Rattle.std.proofs.lemmas.Result.{IfOk-weaker}
 use Rattle.clap.specs.Words.{Row, app_of}
 use Rattle.clap.specs.Values.{kind_of}
-use Rattle.fm_tool.specs.Words.{texts}
+use Rattle.fm_cli.specs.Words.{texts}
 use Rattle.freeme.specs.FreemeRequest.{HasNoValues, HasValuesOf, job_of}
 use Rattle.freeme.specs.declared.freeme_request.FreemeRequest.{FreemeRequest}
 use Rattle.freeme.proofs.RequestLemmas.{asked_by, faults_are, faulty, matched_are}

@@ -1,6 +1,6 @@
 use Rattle.std.proofs.Common.{◌∙◌, arith}
 use Rattle.std.proofs.lemmas.Result.{err_from_is_err_and}
-use Rattle.fm_given.proofs.ListLemmas.{item_at}
+use Rattle.fm_load.proofs.ListLemmas.{item_at}
 use Rattle.freeme.proofs.WriteLemmas.{write_next, write_ends}
 use Rattle.freeme.proofs.writing.write_classes.Goals as goal
 

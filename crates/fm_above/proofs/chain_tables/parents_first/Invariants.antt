@@ -1,7 +1,0 @@
-use Rattle.std.proofs.Common.{◌≡◌, ◌++◌, drop}
-use Rattle.std.specs.List.{flat_map}
-use Rattle.fm_above.specs.inner.ListTables.{lists}
-use Rattle.fm_above.proofs.chain_tables.parents_first.Given as goal
-
-abbrev pub invariant-loop-chain : goal.invariant-loop-chain
-invariant-loop-chain l = l.classes.items ++ flat_map (λ chain. chain) (lists (drop l.chain-index l.chains)) ≡ flat_map (λ chain. chain) (lists l.chains)

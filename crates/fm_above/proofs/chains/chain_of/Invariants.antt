@@ -1,6 +1,0 @@
-use Rattle.std.proofs.Common.{◌≡◌, ◌-◌, ◌++◌, Some, suc}
-use Rattle.fm_above.specs.inner.ParentTable.{upwards_by}
-use Rattle.fm_above.proofs.chains.chain_of.Given as goal
-
-abbrev pub invariant-loop : goal.invariant-loop
-invariant-loop l = l.chain.items ++ upwards_by (l.end - l.counter) l.parents l.next ≡ upwards_by (suc l.end) l.parents (Some l.fn.class)

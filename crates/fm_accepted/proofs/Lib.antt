@@ -1,2 +1,0 @@
-pub mod LengthsAlone
-pub mod WrittenAgain

@@ -1,8 +1,0 @@
-use Rattle.fm_again.proofs.Links.{refusals_same, safe_link}
-use Rattle.fm_again.proofs.laws.law_links.Goals as goal
-
-pub returns-clause-refusals : goal.returns-clause-refusals
-returns-clause-refusals c given main plans spelled = refusals_same plans given spelled main
-
-pub returns-clause-safe : goal.returns-clause-safe
-returns-clause-safe c = safe_link

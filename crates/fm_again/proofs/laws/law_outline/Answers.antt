@@ -1,5 +1,0 @@
-use Rattle.fm_again.proofs.Outlines.{outline_same}
-use Rattle.fm_again.proofs.laws.law_outline.Goals as goal
-
-pub returns : goal.returns
-returns c given main plans spelled = outline_same plans given main spelled

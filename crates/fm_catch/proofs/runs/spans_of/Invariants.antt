@@ -1,6 +1,0 @@
-use Rattle.std.proofs.Common.{◌≡◌, map, take}
-use Rattle.fm_catch.specs.inner.Runs.{span_of}
-use Rattle.fm_catch.proofs.runs.spans_of.Given as goal
-
-abbrev pub invariant-loop-handler : goal.invariant-loop-handler
-invariant-loop-handler l = l.spans.items ≡ map span_of (take l.handler-index l.handlers)

@@ -1,0 +1,3 @@
+pub mod LinkedPrograms
+pub mod UntypedLemmas
+pub mod Trees

@@ -1,0 +1,9 @@
+pub mod StackFrames
+pub mod RowFrames
+pub mod MergingLemmas
+pub mod RankLemmas
+pub mod PlaceLemmas
+pub mod RisenLemmas
+pub mod Outcomes
+pub mod WalkLemmas
+pub mod CarryLemmas

@@ -1,0 +1,6 @@
+-- What serves the proofs alone.
+pub mod Tasks
+pub mod Merging
+pub mod Ranks
+pub mod Risen
+pub mod Walks

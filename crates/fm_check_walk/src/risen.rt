@@ -1,0 +1,175 @@
+// What rose at an item: some places, or more.
+
+ghost use Rattle.std.specs.Prelude.{◌≡◌, ◌≤◌, IfOk, OnOk, length, map};
+ghost use Rattle.fm_check_walk.specs.inner.Risen.{DifferIn, IsPlaced, IsRisenIn, is_local, is_lost, known_state, local_rises, locals_of, noted, rise_of};
+ghost use Rattle.fm_check_walk.specs.declared.known_state.SlotPlace.TheVariants as place;
+ghost use Rattle.fm_types.specs.Typings.{type_state};
+
+use crate::known_state::{KnownState, SlotPlace, slot_in};
+use fm_base::{NoMemory, Seq};
+use fm_types::{Slot, State};
+use std::alloc::Global;
+
+/// A place at which something rose, and what is there now.
+#[derive(Clone, Copy)]
+pub struct Rise {
+    /// Where it rose.
+    pub place: SlotPlace,
+    /// What is there.
+    pub slot: Slot,
+}
+
+/// What is at these places, in their order.
+pub fn rises_of(alloc: Global, known: &KnownState, places: &[SlotPlace]) -> Result<Vec<Rise>, NoMemory>
+    ensures { IfOk result
+        (λ rises. rises.items ≡ map (rise_of (known_state known.now)) places.now) }
+{
+    let mut rises = Vec::with_capacity(alloc, places.len())?;
+    for place in places {
+        rises.push(Rise {
+            place: *place,
+            slot: known.slot_at(*place),
+        })?;
+    }
+    Ok(rises)
+}
+
+/// What is in each of a given number of locals, in their order.
+pub fn local_rises(alloc: Global, state: &State, count: u16) -> Result<Vec<Rise>, NoMemory>
+    ensures { IfOk result (λ rises. rises.items ≡ local_rises count (type_state state.now)) }
+{
+    let mut rises = Vec::with_capacity(alloc, usize::from(count))?;
+    for local in 0..count {
+        rises.push(Rise {
+            place: SlotPlace::Local(local),
+            slot: slot_in(state.locals.as_slice(), local),
+        })?;
+    }
+    Ok(rises)
+}
+
+// Whether the place is a local's.
+fn is_local(place: SlotPlace) -> bool
+    ensures { result ≡ is_local place }
+{
+    matches!(place, SlotPlace::Local(_))
+}
+
+/// Those of them that are in locals, in their order.
+pub fn locals_of(alloc: Global, rises: &[Rise]) -> Result<Vec<Rise>, NoMemory>
+    ensures { IfOk result (λ locals. locals.items ≡ locals_of rises.now) }
+{
+    let mut locals = Vec::new(alloc);
+    for rise in rises {
+        if is_local(rise.place) {
+            locals.push(*rise)?;
+        }
+    }
+    Ok(locals)
+}
+
+/// Whether it is a word of the stack of which nothing is known any longer.
+pub fn is_lost(place: SlotPlace, slot: Slot) -> bool
+    ensures { result ≡ is_lost place slot }
+{
+    match (place, slot) {
+        (SlotPlace::Word(_), Slot::Top) => true,
+        _ => false,
+    }
+}
+
+// Puts a place after the others where the slots that are there aren't the same.
+fn push_if_other(places: &mut Vec<u16>, place: u16, slot: Slot, other: Slot) -> Result<(), NoMemory>
+    ensures { OnOk result (IsPlaced place slot other places.old.items places.new.items) }
+{
+    if slot == other {
+        return Ok(());
+    }
+    places.push(place)?;
+    Ok(())
+}
+
+// The places at which lists of one length differ.
+fn differing_places(alloc: Global, slots: &[Slot], others: &[Slot]) -> Result<Vec<u16>, NoMemory>
+    requires level { length slots.now ≡ length others.now }
+    requires few { length slots.now ≤ 65535 }
+    ensures { IfOk result (λ places. DifferIn places.items slots.now others.now) }
+{
+    let mut places = Vec::new(alloc);
+    for index in 0..slots.len() {
+        push_if_other(&mut places, index as u16, slots[index], others[index])?;
+    }
+    Ok(places)
+}
+
+// These locals as places.
+fn local_places(alloc: Global, locals: &[u16]) -> Result<Vec<SlotPlace>, NoMemory>
+    ensures { IfOk result (λ places. places.items ≡ map (λ k. place.Local k) locals.now) }
+{
+    let mut places = Vec::with_capacity(alloc, locals.len())?;
+    for local in locals {
+        places.push(SlotPlace::Local(*local))?;
+    }
+    Ok(places)
+}
+
+// These words of the stack as places.
+fn word_places(alloc: Global, words: &[u16]) -> Result<Vec<SlotPlace>, NoMemory>
+    ensures { IfOk result (λ places. places.items ≡ map (λ h. place.Word h) words.now) }
+{
+    let mut places = Vec::with_capacity(alloc, words.len())?;
+    for word in words {
+        places.push(SlotPlace::Word(*word))?;
+    }
+    Ok(places)
+}
+
+/// The places at which the second state differs from the first; none where it differs in more. They
+/// have as many locals, and words of the stack.
+pub fn risen_places(
+    alloc: Global,
+    before: &State,
+    after: &State,
+) -> Result<Option<Seq<SlotPlace>>, NoMemory>
+    requires locals { length after.now.locals.items ≡ length before.now.locals.items }
+    requires stack { length after.now.stack ≡ length before.now.stack }
+    requires few_locals { length after.now.locals.items ≤ 65535 }
+    requires few_words { length after.now.stack ≤ 65535 }
+    ensures { IfOk result (λ rose. IsRisenIn rose (type_state after.now) (type_state before.now)) }
+{
+    if before.built != after.built {
+        return Ok(None);
+    }
+    let words = differing_places(alloc, after.stack.as_slice(), before.stack.as_slice())?;
+    let locals = differing_places(alloc, after.locals.as_slice(), before.locals.as_slice())?;
+    let mut places = local_places(alloc, locals.as_slice())?;
+    let others = word_places(alloc, words.as_slice())?;
+    places.extend_from_slice(others.as_slice())?;
+    Ok(Some(Seq::new(places)))
+}
+
+/// The places at which something rose at an item in all, where at first it did at these and then at
+/// those. At most `most` places are noted one by one.
+pub fn noted(
+    most: usize,
+    known: Option<Seq<SlotPlace>>,
+    rose: Option<Seq<SlotPlace>>,
+) -> Result<Option<Seq<SlotPlace>>, NoMemory>
+    ensures { IfOk result (λ all. all ≡ noted most known rose) }
+{
+    let Some(known) = known else {
+        return Ok(None);
+    };
+    let Some(more) = rose else {
+        return Ok(None);
+    };
+    if known.len() >= most {
+        return Ok(None);
+    }
+    if known.is_empty() {
+        return Ok(Some(more));
+    }
+    let mut places = known.into_vec();
+    places.extend_from_slice(more.as_slice())?;
+    Ok(Some(Seq::new(places)))
+}

@@ -1,0 +1,43 @@
+// Values of the command line, as both programs take them.
+
+ghost use Rattle.std.specs.Prelude.{◌≡◌, ◌↔◌, false, [], IsTrue};
+ghost use Rattle.std.specs.List.{AllByRecursion};
+ghost use Rattle.clap.specs.Words.{app_of, rule_of};
+ghost use Rattle.fm_cli_requests.specs.Values.{IsValue, command_with, files_rule};
+
+use clap::{Arg, Command};
+use fm_base::limits::MAX_COMMAND_LINE_VALUE_BYTES;
+use std::alloc::Global;
+
+/// A command without arguments so far, whose words begin after the program's name, and which has no
+/// option for help or for a version.
+pub fn command<'a>(alloc: Global, name: &'a str) -> Command<'a>
+    ensures { app_of result ≡ command_with name.entry.now [] }
+{
+    Command::new(alloc, name)
+        .no_binary_name(true)
+        .disable_help_flag(true)
+        .disable_version_flag(true)
+}
+
+/// The files, of which there is one or more.
+pub fn files<'a>(alloc: Global) -> Arg<'a>
+    ensures rule { rule_of result ≡ files_rule }
+    ensures local { result.global ≡ false }
+{
+    Arg::new(alloc, "file").num_args(1..).required(true)
+}
+
+/// Whether each of the texts may be a value. Takes no memory.
+pub fn are_values(values: &[&str]) -> bool
+    ensures { IsTrue result ↔ AllByRecursion (λ value. IsValue value.now) values.now }
+{
+    values.iter().all(|value| is_value(value))
+}
+
+/// Whether the text may be a value: it isn't empty, and not too long. Takes no memory.
+pub fn is_value(value: &str) -> bool
+    ensures { IsTrue result ↔ IsValue value.now }
+{
+    !value.is_empty() && value.len() <= MAX_COMMAND_LINE_VALUE_BYTES as usize
+}

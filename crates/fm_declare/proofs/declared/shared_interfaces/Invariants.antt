@@ -1,7 +1,0 @@
-use Rattle.std.proofs.Common.{◌≡◌, map, take}
-use Rattle.fm_declare.specs.inner.Declaring.{HasTexts}
-use Rattle.fm_world.specs.Declarations.{name_at}
-use Rattle.fm_declare.proofs.declared.shared_interfaces.Given as goal
-
-abbrev pub invariant-loop-index : goal.invariant-loop-index
-invariant-loop-index l = HasTexts l.shared l.file → l.names.items ≡ map (name_at l.file.class.now.pool.entries) (take l.index-index l.indices)

@@ -1,5 +1,0 @@
-use Rattle.fm_declare.proofs.TypeSteps.{IsPassed}
-use Rattle.fm_declare.proofs.first_types.split_class.Given as goal
-
-abbrev pub invariant-loop-place : goal.invariant-loop-place
-invariant-loop-place l = IsPassed l.bytes l.place

@@ -1,7 +1,0 @@
-use Rattle.std.proofs.Common.{sym, ◌∙◌}
-use Rattle.fm_declare.proofs.TextLemmas.{position_finds}
-use Rattle.fm_declare.specs.inner.Numbering.{texts_in}
-use Rattle.fm_declare.proofs.texts.Texts.add.Goals as goal
-
-pub returns-in-Some-clause-number : goal.returns-in-Some-clause-number
-returns-in-Some-clause-number c = position_finds c.args.text.now (texts_in c.args.self.now) c.in-Some.number (sym c.number.ensures ∙ c.in-Some.is)

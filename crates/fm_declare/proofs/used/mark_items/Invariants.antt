@@ -1,7 +1,0 @@
-use Rattle.std.proofs.Common.{◌≡◌, drop}
-use Rattle.fm_base.specs.Rows.{marked}
-use Rattle.fm_declare.specs.inner.Marks.{operands_among}
-use Rattle.fm_declare.proofs.used.mark_items.Given as goal
-
-abbrev pub invariant-loop-item : goal.invariant-loop-item
-invariant-loop-item l = marked l.used.items (operands_among (drop l.item-index l.items)) ≡ marked l.initial.used.items (operands_among l.items)

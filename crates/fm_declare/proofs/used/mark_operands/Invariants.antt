@@ -1,9 +1,0 @@
-use Rattle.std.proofs.Common.{◌≡◌, drop}
-use Rattle.std.specs.List.{flat_map}
-use Rattle.fm_base.specs.Rows.{marked}
-use Rattle.fm_declare.specs.inner.Marks.{operands_in}
-use Rattle.fm_declare.proofs.used.mark_operands.Given as goal
-
-abbrev pub invariant-loop-method : goal.invariant-loop-method
-invariant-loop-method l =
-    marked l.used.items (flat_map operands_in (drop l.method-index l.methods)) ≡ marked l.initial.used.items (flat_map operands_in l.methods)

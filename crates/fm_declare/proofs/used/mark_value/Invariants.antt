@@ -1,8 +1,0 @@
-use Rattle.std.proofs.Common.{◌≡◌, drop}
-use Rattle.fm_base.specs.Rows.{marked}
-use Rattle.fm_declare.specs.inner.Marks.{values_among}
-use Rattle.fm_declare.proofs.used.mark_value.Given as goal
-
-abbrev pub invariant-loop-attribute : goal.invariant-loop-attribute
-invariant-loop-attribute l =
-    marked l.used.items (values_among (drop l.attribute-index l.attributes)) ≡ marked l.initial.used.items (values_among l.attributes)

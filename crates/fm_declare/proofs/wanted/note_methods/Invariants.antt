@@ -1,8 +1,0 @@
-use Rattle.std.proofs.Common.{◌≡◌, drop}
-use Rattle.fm_declare.specs.inner.Wanting.{noted_among}
-use Rattle.fm_world.specs.Causes.{static_method_wanted}
-use Rattle.fm_declare.proofs.wanted.note_methods.Given as goal
-
-abbrev pub invariant-loop-item : goal.invariant-loop-item
-invariant-loop-item l =
-    noted_among static_method_wanted l.wanted.items (drop l.item-index l.items) ≡ noted_among static_method_wanted l.initial.wanted.items l.items

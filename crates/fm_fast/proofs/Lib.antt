@@ -1,0 +1,5 @@
+pub mod Asked
+pub mod FlowSteps
+pub mod CellSteps
+pub mod Packing
+pub mod EntrySteps

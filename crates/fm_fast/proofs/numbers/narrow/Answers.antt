@@ -1,0 +1,20 @@
+use Rattle.std.proofs.Common.{◌≡◌, ap, rules}
+use Rattle.fm_alu.specs.Conversions.{result_of_conversion}
+use Rattle.fm_code.specs.declared.operations.Conv.TheVariants as conv
+use Rattle.fm_exec.proofs.PlainSteps.{with-long}
+use Rattle.fm_fast.proofs.FlowSteps.{gave, seen-on}
+use Rattle.fm_fast.proofs.numbers.narrow.Goals as goal
+use Rattle.fm_fast.specs.Flows.{on, stepped_on}
+use Rattle.fm_frames.specs.Effects.{Plain, int_word, words}
+use Rattle.fm_frames.specs.NumberRows.{convert_effect}
+use Rattle.fm_frames.specs.declared.values.Value.TheVariants as value
+use Rattle.fm_frames.specs.inner.Doings.{long_in}
+
+pub returns-clause-did : goal.returns-clause-did
+unfolding convert_effect
+returns-clause-did c told p choose x =
+    let old = c.args.frames.now in
+    let result : result_of_conversion conv.LongToInt c.long_there-a.result ≡ c.convert-n.result = search rules in
+    with-long p choose (on x old) (stepped_on x c.give.new.frames) 1 c.long_there-a.result _ _ (seen-on x old 1 long_in _ c.long_there-a.ensures)
+    (ap (λ n. words 2 (int_word n)) result)
+    (gave p choose x old c.give.new.frames 2 _ (Plain (value.Int c.convert-n.result)) c.requires.fits (c.give.ensures.did told) (search rules))

@@ -1,0 +1,5 @@
+pub mod Flows
+pub mod Operands
+pub mod FlowsOver
+pub mod Packed
+pub mod inner

@@ -1,0 +1,3 @@
+-- What serves the proofs alone.
+pub mod Gives
+pub mod Entries

@@ -1,0 +1,45 @@
+// Steps of instructions over frames that are taken out of a machine (JVMS 2.6.4, 6.5): simple ones, fields
+// and elements, calls, returns, static fields and casts.
+//
+// Each row executes its instruction completely, or returns false and changes nothing: where a division has
+// no result, where there is no room for a word or a frame, where an object is absent or of another type,
+// where an index is outside, where a method is built in or a class must be started, and where a return
+// leaves main or the start of a class. Rows require the kinds that typed code has on the stack and in locals
+// and do not test them. None makes or frees an object or ends the run.
+#![tactic(auto)]
+
+mod arrays;
+mod calls;
+mod casts;
+mod constants;
+mod entries;
+mod fields;
+mod jumps;
+mod locals;
+mod numbers;
+mod objects;
+mod operands;
+mod pool_constants;
+mod returns;
+mod shuffles;
+mod statics;
+
+pub use arrays::{array_length, array_load, array_store};
+pub use calls::{interface_call, special_call, static_call, virtual_call};
+pub use casts::cast;
+pub use constants::{int_constant, long_constant, null};
+pub use fields::{get_field, put_field};
+pub use jumps::{go_to, if_int, if_null, if_pair, if_same};
+pub use locals::{increment, load, store};
+pub use numbers::{
+    convert, int_negate, int_op, int_shift, long_compare, long_negate, long_op, long_shift,
+};
+pub use objects::object_at;
+pub use operands::{
+    cell_there, give, give_wide, int_operand, int_there, local_cell, local_int, long_operand,
+    long_there, push, word_there,
+};
+pub use pool_constants::constant;
+pub use returns::leave;
+pub use shuffles::{dup, pop};
+pub use statics::{get_static, put_static};

@@ -1,2 +1,0 @@
-pub mod CellSteps
-pub mod Packing

@@ -1,3 +1,0 @@
-pub mod FlowsOver
-pub mod Packed
-pub mod inner

@@ -1,5 +1,0 @@
-use Rattle.fm_given.proofs.TakenLemmas.{have_spellings}
-use Rattle.fm_given.proofs.linking.link_classes.Goals as goal
-
-pub link-requires : goal.link-requires
-link-requires c = have_spellings c.args.classes.now c.requires

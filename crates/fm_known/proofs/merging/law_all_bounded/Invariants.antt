@@ -1,6 +1,0 @@
-use Rattle.std.proofs.Common.{take, All}
-use Rattle.fm_known.specs.inner.Ranks.{IsBounded}
-use Rattle.fm_known.proofs.merging.law_all_bounded.Given as goal
-
-abbrev pub invariant-loop-slot : goal.invariant-loop-slot
-invariant-loop-slot l = All IsBounded (take l.slot-index l.slots)

@@ -1,6 +1,0 @@
-use Rattle.std.proofs.Common.{◌≡◌, take}
-use Rattle.fm_known.specs.inner.Risen.{locals_of}
-use Rattle.fm_known.proofs.risen.locals_of.Given as goal
-
-abbrev pub invariant-loop-rise : goal.invariant-loop-rise
-invariant-loop-rise l = l.locals.items ≡ locals_of (take l.rise-index l.rises)

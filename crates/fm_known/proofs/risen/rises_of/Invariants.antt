@@ -1,6 +1,0 @@
-use Rattle.std.proofs.Common.{◌≡◌, map, take}
-use Rattle.fm_known.specs.inner.Risen.{known_state, rise_of}
-use Rattle.fm_known.proofs.risen.rises_of.Given as goal
-
-abbrev pub invariant-loop-place : goal.invariant-loop-place
-invariant-loop-place l = l.rises.items ≡ map (rise_of (known_state l.known)) (take l.place-index l.places)

@@ -1,0 +1,7 @@
+pub mod LengthsAlone
+pub mod WrittenAgain
+pub mod Calls
+pub mod Causes
+pub mod PlainPlans
+pub mod LeastFacts
+pub mod Exact

@@ -1,0 +1,21 @@
+// Laws of the definitions, each as the contract of a function that does nothing.
+
+ghost use Rattle.fm_law_beside_freeme.specs.Lengths.{AcceptedHaveLengthsAlone};
+ghost use Rattle.fm_law_beside_freeme.specs.Written.{WrittenHaveLengthsAlone};
+
+use fm_law_retyped::law_typed;
+
+/// Files that hold class files with a spelling and of the profile, which link and are typed, are
+/// refused only for their number or for their lengths, as far as their contents decide.
+pub fn law_lengths()
+    ensures { AcceptedHaveLengthsAlone }
+{}
+
+/// So are files that hold the classes written, where no local holds an object that isn't initialised while
+/// the constructor of an object that is held is called.
+pub fn law_written()
+    ensures { WrittenHaveLengthsAlone }
+{
+    // By this law.
+    law_typed();
+}

@@ -1,0 +1,148 @@
+-- Throwables have their message at the first place: Throwable gives it, and each class below keeps it there.
+use Rattle.std.proofs.Common.{◌≡◌, refl, sym, ◌∙◌, ap, ℕ, suc, ◌+◌, ◌<◌, ◌≤◌, ◌⊎◌, inl, inr, ◌==◌, ◌||◌, ◌&&◌, Bool, true, false, List, [], ◌∷◌, ◌++◌, length, reverse, nat_le, Some, unwrap_or, slice_get, arith}
+use Rattle.std.specs.List.{flat_map}
+use Rattle.std.specs.Option.{option_map}
+use Rattle.std.proofs.lemmas.Bool.{and_parts, cases_lt, eqb-true, false≢true}
+use Rattle.std.proofs.lemmas.Grind.{flat_map-append}
+use Rattle.std.proofs.lemmas.List.{reverse-append}
+use Rattle.fm_base.specs.declared.kinds.Base.{Base}
+use Rattle.fm_base.specs.declared.kinds.Base.TheVariants as base
+use Rattle.fm_base.specs.declared.kinds.Kind.{Kind}
+use Rattle.fm_base.specs.declared.kinds.Kind.TheVariants as kind
+use Rattle.fm_base.specs.declared.kinds.TypeRef.{TypeRef}
+use Rattle.fm_code.specs.Names.{object}
+use Rattle.fm_code.specs.declared.class_file.ClassDef.{ClassDef}
+use Rattle.fm_frames.proofs.BuiltInTypes.{object_there, throwable_there}
+use Rattle.fm_frames.proofs.Programs.{string-is, string_number}
+use Rattle.fm_frames.specs.NativeRows.{text_kind}
+use Rattle.fm_types.proofs.ClassTree.{among_one, chain_past_end}
+use Rattle.fm_types.specs.Fits.{AreTree, depth_of, fits_base, fits_type, is_objects_within, object_of}
+use Rattle.fm_types.specs.Named.{throwable_type}
+use Rattle.fm_world.proofs.Displays.{chain_ends}
+use Rattle.fm_world.specs.BuiltIns.{built_in, string_name}
+use Rattle.fm_world.specs.Chains.{chain_of, class_at, is_among, upwards}
+use Rattle.fm_world.specs.Declarations.{declared_from}
+use Rattle.fm_world.specs.Descriptors.{declared_kind, kind_with, of_class, typed}
+use Rattle.fm_world.specs.Lookups.{is_interface_at}
+use Rattle.fm_world.specs.Members.{kinds_of, own_kinds}
+use Rattle.fm_world.specs.Numbers.{type_of_class}
+use Rattle.fm_world.specs.Programs.{classes_of, kind_at, outline_of}
+use Rattle.fm_world.specs.declared.declarations.DeclaredClass.{DeclaredClass}
+use Rattle.fm_law_sound.proofs.MadeObjects.{two_up, size_is, object_top}
+
+-- ---- the class of what is thrown, which has the number 7 in each program
+
+throwable_chain : (given : List DeclaredClass) → chain_of (built_in ++ given) 7 ≡ 7 ∷ 0 ∷ []
+unfolding chain_of built_in
+throwable_chain given =
+    ap (λ n. upwards (suc n) (built_in ++ given) (Some 7)) (size_is given)
+    ∙ two_up (26 + length given) (built_in ++ given) 7 (object_there given) (object_top given)
+
+abbrev kinds_along : List DeclaredClass → List ℕ → List Kind
+kinds_along classes chain = flat_map (λ above. own_kinds classes (class_at classes above)) (reverse chain)
+
+throwable_kinds : (given : List DeclaredClass) → kinds_of (built_in ++ given) 7 ≡ declared_kind (built_in ++ given) (typed 0 (object string_name)) ∷ []
+unfolding kinds_of built_in
+throwable_kinds given = ap (kinds_along (built_in ++ given)) (throwable_chain given)
+
+not_interface : (given : List DeclaredClass) → is_interface_at (built_in ++ given) 7 ≡ false
+unfolding built_in
+not_interface given = refl
+
+-- what is declared of the message is a text
+text_declared : (given : List DeclaredClass) → declared_kind (built_in ++ given) (typed 0 (object string_name)) ≡ kind.Ref (type_of_class 1)
+text_declared given = ap (λ n. unwrap_or (option_map (kind_with 0) (option_map of_class n)) kind.Int) (string_number given)
+
+-- ---- objects of classes below
+
+first_kept : (ks more : List Kind) (k : Kind) → ks ≡ k ∷ [] → slice_get (ks ++ more) 0 ≡ Some k
+first_kept ks more k is = ap (λ list. slice_get (list ++ more) 0) is
+
+kinds_below : (classes : List DeclaredClass) → AreTree classes → (class above : ℕ) (k : Kind) → class < length classes
+    → is_among above (chain_of classes class) ≡ true
+    → kinds_of classes above ≡ k ∷ []
+    → slice_get (kinds_of classes class) 0 ≡ Some k
+unfolding kinds_of
+kinds_below classes tree class above k within among is =
+    let ends = chain_ends classes tree.linear (length (chain_of classes class)) class above (omega arith) within among in
+    let own : ℕ → List Kind = λ n. own_kinds classes (class_at classes n) in
+    ap (λ chain. slice_get (kinds_along classes chain) 0) ends.joined
+    ∙ ap (λ list. slice_get (flat_map own list) 0) (reverse-append ends.front (chain_of classes above))
+    ∙ ap (λ ks. slice_get ks 0) (flat_map-append own (reverse (chain_of classes above)) (reverse ends.front))
+    ∙ first_kept (kinds_along classes (chain_of classes above)) (flat_map own (reverse ends.front)) k is
+
+-- a class that is below another one is there, where the other one is
+pub below_inside : (classes : List DeclaredClass) (class above : ℕ) → is_among above (chain_of classes class) ≡ true → above < length classes → class < length classes
+below_inside classes class above among within = by_place (cases_lt class (length classes)) where
+  by_place : (class < length classes) ⊎ (length classes ≤ class) → class < length classes
+  by_place (inl inside) = inside
+  by_place (inr past) =
+      let same : above ≡ class = among_one above class (sym (ap (is_among above) (chain_past_end classes class past)) ∙ among) in
+      absurd (omega (arith, same, within, past))
+
+-- a type that fits a class which is neither Object nor an interface is that of a class below
+fits_parts : (seen : Bool) (same : Bool) → seen ≡ false → (seen || same) ≡ true → same ≡ true
+fits_parts false same none fits = fits
+fits_parts true same none fits = absurd (false≢true (sym none))
+
+by_base : (classes : List DeclaredClass) (class : ℕ) (b : Base) → fits_base classes b (type_of_class class).base ≡ true
+    → (below : ℕ) × ((b ≡ (type_of_class below).base) × (is_among class (chain_of classes below) ≡ true))
+by_base classes class (base.OfClass c) fits = (c.0, (refl, fits))
+by_base classes class base.Boolean fits = absurd (false≢true fits)
+by_base classes class base.Byte fits = absurd (false≢true fits)
+by_base classes class base.Char fits = absurd (false≢true fits)
+by_base classes class base.Short fits = absurd (false≢true fits)
+by_base classes class base.Int fits = absurd (false≢true fits)
+by_base classes class base.Long fits = absurd (false≢true fits)
+
+-- the class of a type that fits this one
+pub record IsBelow (classes : List DeclaredClass) (of : TypeRef) (class : ℕ) : Type 0 where
+  pub below : ℕ
+  pub type_is : of ≡ type_of_class below
+  pub among : is_among class (chain_of classes below) ≡ true
+
+joined : (of : TypeRef) (below : ℕ) → of.dims ≡ 0 → of.base ≡ (type_of_class below).base → of ≡ type_of_class below
+joined of below dims is =
+    ap (λ n. record { dims = n; base = of.base }) dims ∙ ap (λ b. record { dims = 0; base = b }) is
+
+pub below_of : (classes : List DeclaredClass) (of : TypeRef) (class : ℕ) → (is_interface_at classes class || (class == object_of classes)) ≡ false
+    → fits_type classes of (type_of_class class) ≡ true
+    → IsBelow classes of class
+unfolding fits_type
+below_of classes of class plain fits =
+    let seen : is_objects_within classes (depth_of of) (type_of_class class) ≡ false = and_false (nat_le 0 (depth_of of)) _ plain in
+    let same = fits_parts (is_objects_within classes (depth_of of) (type_of_class class)) _ seen fits in
+    let parts = and_parts (of.dims == 0) (fits_base classes of.base (type_of_class class).base) same in
+    let found = by_base classes class of.base parts.1 in
+    record { below = found.0; type_is = joined of found.0 (eqb-true of.dims 0 parts.0) found.1.0; among = found.1.1 } where
+      and_false : (a b : Bool) → b ≡ false → (a && b) ≡ false
+      and_false true b e = e
+      and_false false b e = refl
+
+-- ---- messages
+
+-- what is thrown has its message at the first place
+message_first : (given : List DeclaredClass) → AreTree (built_in ++ given) → (of : TypeRef)
+    → fits_type (built_in ++ given) of (type_of_class 7) ≡ true
+    → kind_at (built_in ++ given) of 0 ≡ Some (declared_kind (built_in ++ given) (typed 0 (object string_name)))
+message_first given tree of fits =
+    let classes = built_in ++ given in
+    let first : object_of classes ≡ 0 = ap (λ n. unwrap_or n 0) (object_there given) in
+    let plain : (is_interface_at classes 7 || (7 == object_of classes)) ≡ false =
+    ap (λ b. b || (7 == object_of classes)) (not_interface given) ∙ ap (λ n. 7 == n) first in
+    let found = below_of classes of 7 plain fits in
+    let many = size_is given in
+    let inside = below_inside classes found.below 7 found.among (omega (arith, many)) in
+    ap (λ t. kind_at classes t 0) found.type_is
+    ∙ kinds_below classes tree found.below 7 (declared_kind classes (typed 0 (object string_name))) inside found.among (throwable_kinds given)
+
+pub message_there : (given : List ClassDef) (main : List ℕ) → AreTree (classes_of given) → (of : TypeRef)
+    → fits_type (outline_of given main).classes of (throwable_type (outline_of given main)) ≡ true
+    → kind_at (outline_of given main).classes of 0 ≡ Some (text_kind (outline_of given main))
+unfolding outline_of classes_of
+message_there given main tree of fits =
+    let o = outline_of given main in
+    let more = declared_from 0 given in
+    let thrown : throwable_type o ≡ type_of_class 7 = ap (λ n. type_of_class (unwrap_or n 0)) (throwable_there more) in
+    message_first more tree of (ap (fits_type (built_in ++ more) of) (sym thrown) ∙ fits)
+    ∙ ap Some (text_declared more ∙ sym (ap kind.Ref (string-is o more refl)))

@@ -1,0 +1,304 @@
+-- No abstract method is selected for an object: each one that is left over is refused (JVMS 5.4.5).
+use Rattle.std.proofs.Common.{◌≡◌, refl, sym, ◌∙◌, ap, subst, ℕ, zero, suc, ◌+◌, ◌-◌, ◌<◌, ◌≤◌, ◌⊎◌, inl, inr, ◌&&◌, not, Bool, true, false, cond, List, [], ◌∷◌, ◌++◌, length, map, nat_eq, slice_get, get_or, take, position, Option, Some, None, option_map, unwrap_or, length-append, zero-add, arith}
+use Rattle.std.specs.List.{AllByRecursion, flat_map}
+use Rattle.std.specs.Str.{bytes_eq}
+use Rattle.std.proofs.lemmas.Bool.{and_parts, cases_lt, eqb-true, false≢true}
+use Rattle.std.proofs.lemmas.List.{get_or-append-add, get_or-map, get_or_append_left, length-map}
+use Rattle.std.proofs.lemmas.List.Quantifiers.{position-Some}
+use Rattle.std.proofs.lemmas.List.Sums.{sum_by-cons}
+use Rattle.std.proofs.lemmas.Option.{none-some, same_Some}
+use Rattle.fm_base.proofs.ListFacts.{AllByRecursion-append, AllByRecursion-get_or}
+use Rattle.fm_base.specs.declared.kinds.TypeRef.{TypeRef}
+use Rattle.fm_code.specs.AccessFlags.{is_abstract, is_interface, is_private, is_static}
+use Rattle.fm_code.specs.Spells.{HasSpelling}
+use Rattle.fm_code.specs.declared.class_file.ClassDef.{ClassDef}
+use Rattle.fm_code.specs.declared.class_file.Member.{Member}
+use Rattle.fm_code.specs.declared.constant_pool.Entry.{Entry}
+use Rattle.fm_link_supers.proofs.BuiltInParents.{count_is, IsBelow}
+use Rattle.fm_link_supers.proofs.Downwards.{among_head, among_right, either}
+use Rattle.fm_link_supers.proofs.ParentRefusals.{tree_object, length-declared, nil_left, none_at, past_none, refused_not}
+use Rattle.fm_link_refusals.proofs.LeftOver.{abstract_or_none, left_over_parts}
+use Rattle.fm_link_refusals.specs.inner.Abstracts.{left_over_by, left_over_of}
+use Rattle.fm_law_linked.proofs.ClassChains.{built_in_above}
+use Rattle.fm_law_linked.proofs.FieldOwners.{found_among}
+use Rattle.fm_law_linked.proofs.GivenFiles.{class_of_file}
+use Rattle.fm_law_linked.proofs.Numbers.{owner_there}
+use Rattle.fm_law_linked.proofs.Rows.{all_methods}
+use Rattle.fm_law_linked.proofs.SpecialCalls.{file_implemented}
+use Rattle.fm_law_linked.proofs.Steps.{none_abstract, not_true, private_there, table_concrete}
+use Rattle.fm_law_sound.proofs.FoundMethods.{IsFound, own_method_found}
+use Rattle.fm_law_sound.specs.Sound.{HasObjects}
+use Rattle.fm_types.proofs.ClassTree.{among_one, chain_past_end}
+use Rattle.fm_types.specs.Fits.{object_of}
+use Rattle.fm_world.specs.BuiltIns.{built_in}
+use Rattle.fm_world.specs.Causes.{abstract_call, abstract_from, abstract_methods, declared_name, is_left_over, left_over, method_text, NotImplemented, refused}
+use Rattle.fm_world.specs.Chains.{chain_of, class_at, interfaces_of, is_among, parent_of, upwards}
+use Rattle.fm_world.specs.Declarations.{declared_from, declared_method, declared_of, no_method}
+use Rattle.fm_world.specs.Linking.{refused_not_implemented}
+use Rattle.fm_world.specs.Lookups.{is_abstract_method, is_selectable, select}
+use Rattle.fm_world.specs.Members.{first_method, method_among, method_at, methods_from, methods_of, own_method, owned_methods, OwnedMethod}
+use Rattle.fm_world.specs.Programs.{class_of_type, classes_of, outline_of}
+use Rattle.fm_world.specs.Uses.{class_items}
+use Rattle.fm_world.specs.declared.declarations.DeclaredClass.{DeclaredClass}
+use Rattle.fm_world.specs.declared.declarations.DeclaredMethod.{DeclaredMethod}
+
+-- ---- a method by its number
+
+abbrev pub owned : ℕ → DeclaredMethod → OwnedMethod
+owned class m = record { class = class; method = m }
+
+abbrev pub none : OwnedMethod
+none = record { class = 0; method = no_method }
+
+pub methods_at : (number : ℕ) (classes : List DeclaredClass) (class j : ℕ) → j < length (class_at classes class).methods
+    → get_or (methods_from number classes) (first_method classes class + j) none ≡ owned (number + class) (get_or (class_at classes class).methods j no_method)
+methods_at number [] class j inside = absurd (omega (arith, inside))
+methods_at number (c ∷ classes) zero j inside =
+    let long = length-map c.methods (owned number) in
+    let same : number ≡ number + 0 = omega arith in
+    get_or_append_left (owned_methods number c) (methods_from (number + 1) classes) none (0 + j) (omega (arith, long, inside))
+    ∙ ap (λ i. get_or (owned_methods number c) i none) (omega arith) ∙ get_or-map (owned number) c.methods j no_method none inside
+    ∙ ap (λ n. owned n (get_or c.methods j no_method)) same
+methods_at number (c ∷ classes) (suc class) j inside =
+    let long = length-map c.methods (owned number) in
+    let before = first_method classes class in
+    let counted = sum_by-cons (λ (d : DeclaredClass). length d.methods) c (take class classes) in
+    let place : first_method (c ∷ classes) (suc class) + j ≡ length (owned_methods number c) + (before + j) = omega (arith, long, counted) in
+    let same : number + 1 + class ≡ number + suc class = omega arith in
+    ap (λ i. get_or (methods_from number (c ∷ classes)) i none) place
+    ∙ get_or-append-add (owned_methods number c) (methods_from (number + 1) classes) (before + j) none
+    ∙ methods_at (number + 1) classes class j inside ∙ ap (λ n. owned n (get_or (class_at classes class).methods j no_method)) same
+
+-- ---- abstract methods of a class
+
+abstract_there : (number : ℕ) (methods : List DeclaredMethod) (k : ℕ) → k < length methods → is_abstract (get_or methods k no_method).flags ≡ true
+    → is_among (number + k) (abstract_from number methods) ≡ true
+abstract_there number [] k within is = absurd (omega (arith, within))
+abstract_there number (m ∷ methods) zero within is =
+    let rest = abstract_from (number + 1) methods in
+    let same : number + 0 ≡ number = omega arith in
+    ap (λ b. is_among (number + 0) (cond b (number ∷ []) [] ++ rest)) is ∙ ap (λ n. is_among n (number ∷ rest)) same ∙ among_head number rest
+abstract_there number (m ∷ methods) (suc k) within is =
+    let same : number + suc k ≡ number + 1 + k = omega arith in
+    among_right (number + suc k) (cond (is_abstract m.flags) (number ∷ []) []) (abstract_from (number + 1) methods)
+    (ap (λ n. is_among n (abstract_from (number + 1) methods)) same ∙ abstract_there (number + 1) methods k (omega (arith, within)) is)
+
+pub own_abstract : (classes : List DeclaredClass) (passes : ℕ → Bool) (name descriptor : List ℕ) (class target : ℕ)
+    → own_method classes passes name descriptor class ≡ Some target
+    → is_abstract_method classes target ≡ true
+    → is_among target (abstract_methods classes class) ≡ true
+unfolding methods_of
+own_abstract classes passes name descriptor class target is abstract = by_place (position test methods) refl is where
+  methods : List DeclaredMethod
+  methods = (class_at classes class).methods
+
+  test : DeclaredMethod → Bool
+  test m = bytes_eq m.name name && bytes_eq m.descriptor descriptor && passes m.flags
+
+  by_place : (o : Option ℕ) → position test methods ≡ o → option_map (λ k. first_method classes class + k) o ≡ Some target
+      → is_among target (abstract_methods classes class) ≡ true
+  by_place None e found = absurd (none-some target found)
+  by_place (Some k) e found =
+      let inside = (position-Some test methods k no_method e).0 in
+      let same : first_method classes class + k ≡ target = same_Some (first_method classes class + k) target found in
+      let here : method_at classes target ≡ owned class (get_or methods k no_method) =
+      ap (λ n. get_or (methods_from 0 classes) n none) (sym same) ∙ methods_at 0 classes class k inside
+      ∙ ap (λ n. owned n (get_or methods k no_method)) (zero-add class) in
+      ap (λ n. is_among n (abstract_methods classes class)) (sym same)
+      ∙ abstract_there (first_method classes class) methods k inside (sym (ap (λ (m : OwnedMethod). is_abstract m.method.flags) here) ∙ abstract)
+
+-- ---- methods of built-in classes
+
+abbrev IsBuiltInConcrete : OwnedMethod → Type 0
+IsBuiltInConcrete m = m.class < length built_in → is_abstract m.method.flags ≡ false
+
+each_built_in : (methods : List OwnedMethod) → none_abstract methods ≡ true → AllByRecursion IsBuiltInConcrete methods
+each_built_in [] all = tt
+each_built_in (m ∷ methods) all =
+    let parts = and_parts (not (is_abstract m.method.flags)) (none_abstract methods) all in
+    (λ within. not_true (is_abstract m.method.flags) parts.0, each_built_in methods parts.1)
+
+members_past : (class : ℕ) (entries : List Entry) (members : List Member) → length built_in ≤ class
+    → AllByRecursion IsBuiltInConcrete (map (λ m. record { class = class; method = m }) (map (declared_method entries) members))
+members_past class entries [] past = tt
+members_past class entries (m ∷ members) past = (λ within. absurd (omega (arith, within, past)), members_past class entries members past)
+
+files_past : (class file : ℕ) (given : List ClassDef) → length built_in ≤ class
+    → AllByRecursion IsBuiltInConcrete (methods_from class (declared_from file given))
+files_past class file [] past = tt
+files_past class file (c ∷ given) past =
+    AllByRecursion-append IsBuiltInConcrete (map (λ m. record { class = class; method = m }) (map (declared_method c.pool.entries) c.methods))
+    (methods_from (class + 1) (declared_from (file + 1) given)) (members_past class c.pool.entries c.methods past)
+    (files_past (class + 1) (file + 1) given (omega (arith, past)))
+
+-- a method of a built-in class isn't abstract
+built_in_concrete : (given : List ClassDef) (method : ℕ) → (method_at (classes_of given) method).class < length built_in
+    → is_abstract_method (classes_of given) method ≡ false
+built_in_concrete given method =
+    AllByRecursion-get_or IsBuiltInConcrete (methods_of (classes_of given)) (record { class = 0; method = no_method })
+    (subst (AllByRecursion IsBuiltInConcrete) (sym (all_methods given))
+    (AllByRecursion-append IsBuiltInConcrete (methods_of built_in) (methods_from (length built_in) (declared_from 0 given))
+    (each_built_in (methods_of built_in) table_concrete) (files_past (length built_in) 0 given (omega arith))))
+    (λ within. refl) method
+
+-- ---- chains of built-in classes
+
+within_count : (classes : List DeclaredClass) (n : ℕ) → ((k p : ℕ) → k < n → parent_of classes k ≡ Some p → p < n) → (bound : ℕ) (o : Option ℕ) → IsBelow n o
+    → (above : ℕ) → is_among above (upwards bound classes o) ≡ true → above < n
+within_count classes n step zero o below above among = absurd (false≢true among)
+within_count classes n step (suc bound) None below above among = absurd (false≢true among)
+within_count classes n step (suc bound) (Some k) below above among =
+    by_first (within_count classes n step bound (parent_of classes k) (by_parent (parent_of classes k) refl) above)
+    (either (nat_eq above k) (is_among above (upwards bound classes (parent_of classes k))) among) where
+      by_parent : (o : Option ℕ) → parent_of classes k ≡ o → IsBelow n o
+      by_parent None e = tt
+      by_parent (Some p) e = step k p below e
+
+      by_first : (is_among above (upwards bound classes (parent_of classes k)) ≡ true → above < n)
+          → (nat_eq above k ≡ true) ⊎ (is_among above (upwards bound classes (parent_of classes k)) ≡ true) → above < n
+      by_first later (inl same) = let is = eqb-true above k same in omega (arith, is, below)
+      by_first later (inr rest) = later rest
+
+-- above a built-in class are only built-in classes
+pub built_in_chain : (given : List ClassDef) (class above : ℕ) → class < length built_in → is_among above (chain_of (classes_of given) class) ≡ true
+    → above < length built_in
+unfolding chain_of classes_of
+built_in_chain given class above within among =
+    within_count (classes_of given) (length built_in) (built_in_above (declared_from 0 given)) (suc (length (classes_of given))) (Some class) within above among
+
+-- ---- methods of files
+
+pub files_counted : (given : List ClassDef) → length (classes_of given) ≡ length built_in + length given
+unfolding classes_of
+files_counted given =
+    let all = length-append built_in (declared_from 0 given) in let declared = length-declared 0 given in omega (arith, all, declared)
+
+-- of a class with objects no abstract method is left over
+left_none : (classes : List DeclaredClass) (c : ClassDef) (class above target : ℕ) → is_abstract c.flags ≡ false → is_interface c.flags ≡ false
+    → left_over classes c class ≡ []
+    → is_among above (chain_of classes class) ≡ true
+    → is_among target (abstract_methods classes above) ≡ true
+    → is_left_over classes class target ≡ false
+left_none classes c class above target concrete plain left among own =
+    let all = nil_left (flat_map (left_over_of classes c class) (chain_of classes class)) (flat_map (left_over_of classes c class) (interfaces_of classes class))
+    (sym (left_over_parts classes c class concrete plain) ∙ left) in
+    let here = none_at (left_over_of classes c class) (chain_of classes class) above all among in
+    refused_not (is_left_over classes class target) (refused NotImplemented c (method_text (declared_name classes target)))
+    (none_at (left_over_by classes c class) (abstract_methods classes above) target here own)
+
+-- a method that is found for objects of a class is selected for itself
+found_itself : (classes : List DeclaredClass) (name descriptor : List ℕ) (class above target : ℕ)
+    → IsFound classes is_selectable name descriptor above target
+    → method_among classes is_selectable name descriptor (chain_of classes class) ≡ Some target
+    → select classes class target ≡ Some target
+unfolding select
+found_itself classes name descriptor class above target found is =
+    let m = (method_at classes target).method in
+    let parts = and_parts (not (is_static m.flags)) (not (is_private m.flags)) found.flags in
+    ap (λ b. cond b (Some target) (method_among classes is_selectable m.name m.descriptor (chain_of classes class))) (not_true (is_private m.flags) parts.1)
+    ∙ ap (λ n. method_among classes is_selectable n m.descriptor (chain_of classes class)) found.name_is
+    ∙ ap (λ d. method_among classes is_selectable name d (chain_of classes class)) found.descriptor_is ∙ is
+
+-- objects of the class are made
+abbrev pub ClassHasObjects : List DeclaredClass → ℕ → Type 0
+ClassHasObjects classes class = (is_abstract (class_at classes class).flags ≡ false) × (is_interface (class_at classes class).flags ≡ false)
+
+-- what is found for objects of a class, of a file or built in, isn't abstract
+found_concrete : (given : List ClassDef) → refused_not_implemented given ≡ [] → (name descriptor : List ℕ) (class above target : ℕ)
+    → (length built_in ≤ class → ClassHasObjects (classes_of given) class)
+    → is_among above (chain_of (classes_of given) class) ≡ true
+    → own_method (classes_of given) is_selectable name descriptor above ≡ Some target
+    → method_among (classes_of given) is_selectable name descriptor (chain_of (classes_of given) class) ≡ Some target
+    → is_abstract_method (classes_of given) target ≡ false
+found_concrete given none_refused name descriptor class above target objects among own is =
+    by_flag (is_abstract_method classes target) refl where
+      classes : List DeclaredClass
+      classes = classes_of given
+
+      found : IsFound (classes_of given) is_selectable name descriptor above target
+      found = own_method_found (classes_of given) is_selectable name descriptor above target own
+
+      past : length classes ≤ class → ⊥
+      past h =
+          let same : above ≡ class = among_one above class (sym (ap (is_among above) (chain_past_end classes class h)) ∙ among) in
+          let owner = owner_there given target in
+          let its = found.owner in
+          omega (arith, same, owner, its, h)
+
+      long : length classes ≡ length built_in + length given
+      long = files_counted given
+
+      of_file : (j : ℕ) → class ≡ length built_in + j → is_abstract_method classes target ≡ true → (o : Option ClassDef) → slice_get given j ≡ o
+          → is_abstract_method classes target ≡ false
+      of_file j place abstract None e = absurd (past (let end = past_none given j e in omega (arith, place, long, end)))
+      of_file j place abstract (Some c) e =
+          let declared = class_of_file given j c e in
+          let here : class_at classes class ≡ declared_of declared.number c = ap (class_at classes) place ∙ declared.declared in
+          let its = objects (omega (arith, place)) in
+          let left = nil_left (left_over classes c class) (flat_map (abstract_call classes c class) (class_items c))
+          (ap (λ k. left_over classes c k ++ flat_map (abstract_call classes c k) (class_items c)) place
+          ∙ file_implemented given j c none_refused e) in
+          let kept = left_none classes c class above target (sym (ap (λ (d : DeclaredClass). is_abstract d.flags) here) ∙ its.0)
+          (sym (ap (λ (d : DeclaredClass). is_interface d.flags) here) ∙ its.1) left among
+          (own_abstract classes is_selectable name descriptor above target own abstract) in
+          sym (ap (abstract_or_none classes) (found_itself classes name descriptor class above target found is)) ∙ kept
+
+      by_place : is_abstract_method classes target ≡ true → (class < length built_in) ⊎ (length built_in ≤ class) → is_abstract_method classes target ≡ false
+      by_place abstract (inl low) =
+          built_in_concrete given target
+          (let inside = built_in_chain given class above low among in let its = found.owner in omega (arith, inside, its))
+      by_place abstract (inr later) = of_file (class - length built_in) (omega (arith, later)) abstract (slice_get given (class - length built_in)) refl
+
+      by_flag : (b : Bool) → is_abstract_method classes target ≡ b → is_abstract_method classes target ≡ false
+      by_flag false e = e
+      by_flag true e = by_place e (cases_lt class (length built_in))
+
+-- ---- what is selected
+
+selected_concrete : (given : List ClassDef) → AllByRecursion HasSpelling given → refused_not_implemented given ≡ [] → (class method target : ℕ)
+    → (length built_in ≤ class → ClassHasObjects (classes_of given) class)
+    → select (classes_of given) class method ≡ Some target
+    → is_abstract_method (classes_of given) target ≡ false
+unfolding select
+selected_concrete given spelled none_refused class method target objects is = by_private (is_private m.flags) refl is where
+  classes : List DeclaredClass
+  classes = classes_of given
+
+  m : DeclaredMethod
+  m = (method_at (classes_of given) method).method
+
+  by_private : (b : Bool) → is_private m.flags ≡ b
+      → cond b (Some method) (method_among classes is_selectable m.name m.descriptor (chain_of classes class)) ≡ Some target
+      → is_abstract_method classes target ≡ false
+  by_private true e same = sym (ap (is_abstract_method classes) (same_Some method target same)) ∙ private_there given spelled method e
+  by_private false e found =
+      let path = found_among (own_method classes is_selectable m.name m.descriptor) (chain_of classes class) target found in
+      found_concrete given none_refused m.name m.descriptor class path.0 target objects path.1.0 path.1.1 found
+
+-- what is required of the class of a type, if it has one
+abbrev pub OfClass : List DeclaredClass → Option ℕ → Type 0
+OfClass classes None = Unit {0}
+OfClass classes (Some class) = ClassHasObjects classes class
+
+-- Object is built in
+object_first : (given : List ClassDef) → length built_in ≤ object_of (classes_of given) → ⊥
+object_first given past =
+    let first : object_of (classes_of given) ≡ 0 = ap (λ o. unwrap_or o 0) (tree_object given) in omega (arith, first, past, count_is)
+
+-- no abstract method is selected for an object, be it an array
+pub selected_there : (given : List ClassDef) (main : List ℕ) → AllByRecursion HasSpelling given → refused_not_implemented given ≡ []
+    → (t : TypeRef) (method target : ℕ) → HasObjects (outline_of given main) t
+    → select (outline_of given main).classes (unwrap_or (class_of_type t) (object_of (outline_of given main).classes)) method ≡ Some target
+    → is_abstract_method (outline_of given main).classes target ≡ false
+unfolding outline_of
+selected_there given main spelled none_refused t method target objects is = by_class (class_of_type t) refl where
+  classes : List DeclaredClass
+  classes = classes_of given
+
+  by_class : (o : Option ℕ) → class_of_type t ≡ o → is_abstract_method classes target ≡ false
+  by_class None e =
+      selected_concrete given spelled none_refused (object_of classes) method target (λ past. absurd (object_first given past))
+      (sym (ap (λ c. select classes (unwrap_or c (object_of classes)) method) e) ∙ is)
+  by_class (Some class) e =
+      selected_concrete given spelled none_refused class method target (λ past. subst (OfClass classes) e objects)
+      (sym (ap (λ c. select classes (unwrap_or c (object_of classes)) method) e) ∙ is)

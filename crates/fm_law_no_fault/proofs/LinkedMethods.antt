@@ -1,0 +1,473 @@
+-- The built-in methods of each linked program take what their rows look at, and give what these give: by computation over all of them.
+use Rattle.std.proofs.Common.{◌≡◌, ℕ, zero, suc, ◌<◌, ◌≤◌, ◌==◌, ◌&&◌, ◌||◌, ◌⊎◌, inl, inr, not, cond, Bool, true, false, List, [], ◌∷◌, ◌++◌, length, codes, nat_eq, Option, Some, None, option_and_then, option_to_list, unwrap_or, refl, sym, ◌∙◌, ap, subst, slice_index_or, eqb-true, ⊎_elim}
+use Rattle.std.specs.List.{AllByRecursion}
+use Rattle.std.specs.Option.{option_map}
+use Rattle.std.specs.Str.{bytes_eq}
+use Rattle.std.proofs.lemmas.Bool.{and_parts, cases_lt, false≢true, or_cases, or_left, or_right}
+use Rattle.std.proofs.lemmas.Option.{none-some}
+use Rattle.std.proofs.lemmas.Slice.Eq.{bytes_eq-Decides}
+use Rattle.fm_base.specs.declared.kinds.Kind.TheVariants as kind
+use Rattle.fm_base.specs.declared.kinds.TypeRef.{TypeRef}
+use Rattle.fm_code.specs.AccessFlags.{is_static}
+use Rattle.fm_types.proofs.Order.{type-trans}
+use Rattle.fm_types.specs.Fits.{AreTree, fits_type}
+use Rattle.fm_types.specs.Named.{built_in_type, throwable_type}
+use Rattle.fm_types.specs.States.{stack_slots}
+use Rattle.fm_types.specs.declared.slots.Slot.{Slot}
+use Rattle.fm_types.specs.declared.slots.Slot.TheVariants as slot
+use Rattle.fm_world.specs.BuiltIns.{built_in, object_name, string_name}
+use Rattle.fm_world.specs.Chains.{chain_of, is_among, parent_of}
+use Rattle.fm_world.specs.Declarations.{no_method}
+use Rattle.fm_world.specs.Descriptors.{class_number, kind_with, of_class, parameter_kinds, result_kind}
+use Rattle.fm_world.specs.Members.{method_at, methods_of, OwnedMethod}
+use Rattle.fm_world.specs.Numbers.{type_of_class}
+use Rattle.fm_world.specs.Programs.{Outline, Program}
+use Rattle.fm_world.specs.declared.declarations.DeclaredClass.{DeclaredClass}
+use Rattle.fm_frames.proofs.BuiltInTypes.{buffer_there, builder_there, named_class, object_there, throwable_there}
+use Rattle.fm_frames.proofs.Programs.{string_number}
+use Rattle.fm_frames.specs.CallRows.{native_of}
+use Rattle.fm_frames.specs.NativeRows.{text_type}
+use Rattle.fm_frames.specs.Natives.{Append, BufferInitOf, BuilderInit, BuilderLength, BuilderToString, CharAt, CompareTo, Exit, FreeMeFree, FreeMeFreeChain, FreeMeLink, GetMessage, Native, native_of_row, ObjectEquals, ObjectHashCode, ObjectInit, ObjectToString, Print, Println, PrintlnNothing, Read, Shown, ShownBoolean, ShownChar, ShownInt, ShownLong, ShownText, StringEquals, StringHashCode, StringLength, StringToString, Substring, ThrowableInit, ThrowableInitOf, ThrowableToString, ValueOf}
+use Rattle.fm_frames.specs.Runnable.{IsRunnable}
+use Rattle.fm_law_sound.proofs.BuiltInMethods.{method_same}
+use Rattle.fm_law_no_fault.specs.CellsResolved.{arguments_asked, has_receiver, result_given, suits_row, TakesAsAsked}
+use Rattle.fm_law_no_fault.proofs.LinkedTypes.{below, bounds_below, change_below, exception_there, fits_throwable, parents, runtime_below, runtime_there, throwable_itself}
+
+-- ---- the descriptors of the rows
+
+abbrev object_text : List ℕ
+object_text = codes "Ljava/lang/Object;"
+
+abbrev string_text : List ℕ
+string_text = codes "Ljava/lang/String;"
+
+abbrev builder_text : Bool → List ℕ
+builder_text false = codes "Ljava/lang/StringBuilder;"
+builder_text true = codes "Ljava/lang/StringBuffer;"
+
+abbrev shown_text : Shown → List ℕ
+shown_text ShownInt = codes "I"
+shown_text ShownLong = codes "J"
+shown_text ShownChar = codes "C"
+shown_text ShownBoolean = codes "Z"
+shown_text ShownText = string_text
+
+abbrev parameters_text : Native → List ℕ
+parameters_text ObjectEquals = object_text
+parameters_text CharAt = codes "I"
+parameters_text StringEquals = object_text
+parameters_text CompareTo = string_text
+parameters_text Substring = codes "II"
+parameters_text (ValueOf shown) = shown_text shown
+parameters_text (Append shown) = shown_text shown
+parameters_text BufferInitOf = string_text
+parameters_text Exit = codes "I"
+parameters_text (Print shown) = shown_text shown
+parameters_text (Println shown) = shown_text shown
+parameters_text ThrowableInitOf = string_text
+parameters_text FreeMeFree = object_text
+parameters_text FreeMeLink = object_text ++ object_text
+parameters_text FreeMeFreeChain = object_text
+parameters_text row = []
+
+-- where it is given whether the class is StringBuffer
+abbrev result_text : Bool → Native → List ℕ
+result_text buffer ObjectInit = codes "V"
+result_text buffer ObjectEquals = codes "Z"
+result_text buffer ObjectToString = string_text
+result_text buffer CharAt = codes "C"
+result_text buffer StringEquals = codes "Z"
+result_text buffer StringToString = string_text
+result_text buffer Substring = string_text
+result_text buffer (ValueOf shown) = string_text
+result_text buffer BuilderInit = codes "V"
+result_text buffer (Append shown) = builder_text buffer
+result_text buffer BuilderToString = string_text
+result_text buffer BufferInitOf = codes "V"
+result_text buffer Exit = codes "V"
+result_text buffer (Print shown) = codes "V"
+result_text buffer (Println shown) = codes "V"
+result_text buffer PrintlnNothing = codes "V"
+result_text buffer ThrowableInit = codes "V"
+result_text buffer ThrowableInitOf = codes "V"
+result_text buffer GetMessage = string_text
+result_text buffer ThrowableToString = string_text
+result_text buffer FreeMeFree = codes "V"
+result_text buffer FreeMeLink = object_text
+result_text buffer FreeMeFreeChain = codes "V"
+result_text buffer row = codes "I"
+
+abbrev descriptor_of : Bool → Native → List ℕ
+descriptor_of buffer row = codes "(" ++ parameters_text row ++ codes ")" ++ result_text buffer row
+
+-- the classes of what can be thrown
+abbrev throwables : List ℕ
+throwables = 7 ∷ 9 ∷ 10 ∷ 11 ∷ 12 ∷ 13 ∷ 14 ∷ 15 ∷ 16 ∷ 17 ∷ 18 ∷ 19 ∷ 20 ∷ 21 ∷ 22 ∷ 23 ∷ 24 ∷ 25 ∷ []
+
+-- which classes declare a method of the row
+abbrev declares : ℕ → Native → Bool
+declares class StringLength = class == 1
+declares class CharAt = class == 1
+declares class StringEquals = class == 1
+declares class StringHashCode = class == 1
+declares class CompareTo = class == 1
+declares class StringToString = class == 1
+declares class Substring = class == 1
+declares class BuilderInit = (class == 2) || (class == 3)
+declares class (Append shown) = (class == 2) || (class == 3)
+declares class BuilderLength = (class == 2) || (class == 3)
+declares class BuilderToString = (class == 2) || (class == 3)
+declares class BufferInitOf = (class == 2) || (class == 3)
+declares class ThrowableInit = is_among class throwables
+declares class ThrowableInitOf = is_among class throwables
+declares class GetMessage = is_among class throwables
+declares class ThrowableToString = is_among class throwables
+declares class row = true
+
+-- ---- the table
+
+abbrev same_bool : Bool → Bool → Bool
+same_bool a b = cond a b (not b)
+
+bools_same : (a b : Bool) → same_bool a b ≡ true → a ≡ b
+bools_same true true is = refl
+bools_same true false is = absurd (false≢true is)
+bools_same false true is = absurd (false≢true is)
+bools_same false false is = refl
+
+abbrev fits_row : OwnedMethod → Option Native → Bool
+fits_row m None = true
+fits_row m (Some row) =
+    bytes_eq m.method.descriptor (descriptor_of (m.class == 3) row) && (same_bool (is_static m.method.flags) (not (has_receiver row)) && declares m.class row)
+
+abbrev fits_it : OwnedMethod → Bool
+fits_it m = fits_row m (option_and_then native_of_row m.method.row)
+
+abbrev all_fit : List OwnedMethod → Bool
+all_fit [] = true
+all_fit (m ∷ methods) = fits_it m && all_fit methods
+
+table_fits : all_fit (methods_of built_in) ≡ true
+unfolding built_in methods_of
+table_fits = refl
+
+fits_at : (methods : List OwnedMethod) (n : ℕ) → all_fit methods ≡ true → fits_it (slice_index_or methods n (record { class = 0; method = no_method })) ≡ true
+fits_at [] n h = refl
+fits_at (m ∷ methods) zero h = (and_parts (fits_it m) (all_fit methods) h).0
+fits_at (m ∷ methods) (suc n) h = fits_at methods n (and_parts (fits_it m) (all_fit methods) h).1
+
+-- ---- what descriptors mean
+
+module _ (o : Outline) (more : List DeclaredClass) (classes : o.classes ≡ built_in ++ more) where
+  -- the words of a value of a class by its name
+  abbrev slots_by : Option ℕ → List Slot
+  slots_by n = stack_slots (unwrap_or (option_map (kind_with 0) (option_map of_class n)) kind.Int ∷ [])
+
+  abbrev result_by : Option ℕ → List Slot
+  result_by n = stack_slots (option_to_list (option_map (kind_with 0) (option_map of_class n)))
+
+  number_here : (name : List ℕ) (class : ℕ) → class_number (built_in ++ more) name ≡ Some class → class_number o.classes name ≡ Some class
+  number_here name class is = ap (λ all. class_number all name) classes ∙ is
+
+  string_here : class_number o.classes string_name ≡ Some 1
+  string_here = number_here string_name 1 (string_number more)
+
+  object_here : class_number o.classes object_name ≡ Some 0
+  object_here = number_here object_name 0 (object_there more)
+
+  -- a class is named by its type
+  type_here : (name : List ℕ) (class : ℕ) → class_number o.classes name ≡ Some class → slot.Ref (type_of_class class) ∷ [] ≡ slot.Ref (built_in_type o name) ∷ []
+  type_here name class is = ap (λ n. slot.Ref (type_of_class (unwrap_or n 0)) ∷ []) (sym is)
+
+  one_class : (name : List ℕ) (class : ℕ) → class_number o.classes name ≡ Some class → slots_by (class_number o.classes name) ≡ slot.Ref (built_in_type o name) ∷ []
+  one_class name class is = ap slots_by is ∙ type_here name class is
+
+  result_class : (name : List ℕ) (class : ℕ) → class_number o.classes name ≡ Some class → result_by (class_number o.classes name) ≡ slot.Ref (built_in_type o name) ∷ []
+  result_class name class is = ap result_by is ∙ type_here name class is
+
+  abbrev Arguments : Bool → Native → Type 0
+  Arguments buffer row = stack_slots (parameter_kinds o.classes (descriptor_of buffer row)) ≡ arguments_asked o row
+
+  two_objects : (n : Option ℕ) → n ≡ Some 0
+      → stack_slots (unwrap_or (option_map (kind_with 0) (option_map of_class n)) kind.Int ∷ unwrap_or (option_map (kind_with 0) (option_map of_class n)) kind.Int ∷ [])
+      ≡ slot.Ref (type_of_class (unwrap_or n 0)) ∷ slot.Ref (type_of_class (unwrap_or n 0)) ∷ []
+  two_objects n is =
+      ap (λ k. stack_slots (unwrap_or (option_map (kind_with 0) (option_map of_class k)) kind.Int ∷ unwrap_or (option_map (kind_with 0) (option_map of_class k)) kind.Int ∷ [])) is
+      ∙ ap (λ k. slot.Ref (type_of_class (unwrap_or k 0)) ∷ slot.Ref (type_of_class (unwrap_or k 0)) ∷ []) (sym is)
+
+  arguments_are : (buffer : Bool) (row : Native) → Arguments buffer row
+  arguments_are buffer ObjectInit = refl
+  arguments_are buffer ObjectHashCode = refl
+  arguments_are buffer ObjectEquals = one_class object_name 0 object_here
+  arguments_are buffer ObjectToString = refl
+  arguments_are buffer StringLength = refl
+  arguments_are buffer CharAt = refl
+  arguments_are buffer StringEquals = one_class object_name 0 object_here
+  arguments_are buffer StringHashCode = refl
+  arguments_are buffer CompareTo = one_class string_name 1 string_here
+  arguments_are buffer StringToString = refl
+  arguments_are buffer Substring = refl
+  arguments_are buffer (ValueOf ShownInt) = refl
+  arguments_are buffer (ValueOf ShownLong) = refl
+  arguments_are buffer (ValueOf ShownChar) = refl
+  arguments_are buffer (ValueOf ShownBoolean) = refl
+  arguments_are buffer (ValueOf ShownText) = one_class string_name 1 string_here
+  arguments_are buffer BuilderInit = refl
+  arguments_are true (Append ShownInt) = refl
+  arguments_are true (Append ShownLong) = refl
+  arguments_are true (Append ShownChar) = refl
+  arguments_are true (Append ShownBoolean) = refl
+  arguments_are true (Append ShownText) = one_class string_name 1 string_here
+  arguments_are false (Append ShownInt) = refl
+  arguments_are false (Append ShownLong) = refl
+  arguments_are false (Append ShownChar) = refl
+  arguments_are false (Append ShownBoolean) = refl
+  arguments_are false (Append ShownText) = one_class string_name 1 string_here
+  arguments_are buffer BuilderLength = refl
+  arguments_are buffer BuilderToString = refl
+  arguments_are buffer BufferInitOf = one_class string_name 1 string_here
+  arguments_are buffer Exit = refl
+  arguments_are buffer (Print ShownInt) = refl
+  arguments_are buffer (Print ShownLong) = refl
+  arguments_are buffer (Print ShownChar) = refl
+  arguments_are buffer (Print ShownBoolean) = refl
+  arguments_are buffer (Print ShownText) = one_class string_name 1 string_here
+  arguments_are buffer (Println ShownInt) = refl
+  arguments_are buffer (Println ShownLong) = refl
+  arguments_are buffer (Println ShownChar) = refl
+  arguments_are buffer (Println ShownBoolean) = refl
+  arguments_are buffer (Println ShownText) = one_class string_name 1 string_here
+  arguments_are buffer PrintlnNothing = refl
+  arguments_are buffer Read = refl
+  arguments_are buffer ThrowableInit = refl
+  arguments_are buffer ThrowableInitOf = one_class string_name 1 string_here
+  arguments_are buffer GetMessage = refl
+  arguments_are buffer ThrowableToString = refl
+  arguments_are buffer FreeMeFree = one_class object_name 0 object_here
+  arguments_are buffer FreeMeLink = two_objects (class_number o.classes object_name) object_here
+  arguments_are buffer FreeMeFreeChain = one_class object_name 0 object_here
+
+  abbrev Result : ℕ → Bool → Native → Type 0
+  Result class buffer row = stack_slots (option_to_list (result_kind o.classes (descriptor_of buffer row))) ≡ result_given o (type_of_class class) row
+
+  -- append returns its own class
+  append_is : (class : ℕ) (shown : Shown) (buffer : Bool) → (class == 3) ≡ buffer → ((class == 2) || (class == 3)) ≡ true
+      → result_by (class_number o.classes (cond buffer (codes "java/lang/StringBuffer") (codes "java/lang/StringBuilder"))) ≡ slot.Ref (type_of_class class) ∷ []
+  append_is class shown true here is =
+      ap result_by (number_here (codes "java/lang/StringBuffer") 3 (buffer_there more)) ∙ ap (λ n. slot.Ref (type_of_class n) ∷ []) (sym (eqb-true class 3 here))
+  append_is class shown false here is =
+      ap result_by (number_here (codes "java/lang/StringBuilder") 2 (builder_there more))
+      ∙ ap (λ n. slot.Ref (type_of_class n) ∷ [])
+      (sym (⊎_elim (λ two. eqb-true class 2 two) (λ three. absurd (false≢true (sym here ∙ three))) (or_cases (class == 2) (class == 3) is)))
+
+  result_are : (class : ℕ) (buffer : Bool) → (class == 3) ≡ buffer → (row : Native) → declares class row ≡ true → Result class buffer row
+  result_are class buffer here ObjectInit is = refl
+  result_are class buffer here ObjectHashCode is = refl
+  result_are class buffer here ObjectEquals is = refl
+  result_are class buffer here ObjectToString is = result_class string_name 1 string_here
+  result_are class buffer here StringLength is = refl
+  result_are class buffer here CharAt is = refl
+  result_are class buffer here StringEquals is = refl
+  result_are class buffer here StringHashCode is = refl
+  result_are class buffer here CompareTo is = refl
+  result_are class buffer here StringToString is = result_class string_name 1 string_here
+  result_are class buffer here Substring is = result_class string_name 1 string_here
+  result_are class buffer here (ValueOf ShownInt) is = result_class string_name 1 string_here
+  result_are class buffer here (ValueOf ShownLong) is = result_class string_name 1 string_here
+  result_are class buffer here (ValueOf ShownChar) is = result_class string_name 1 string_here
+  result_are class buffer here (ValueOf ShownBoolean) is = result_class string_name 1 string_here
+  result_are class buffer here (ValueOf ShownText) is = result_class string_name 1 string_here
+  result_are class buffer here BuilderInit is = refl
+  result_are class true here (Append ShownInt) is = append_is class ShownInt true here is
+  result_are class true here (Append ShownLong) is = append_is class ShownLong true here is
+  result_are class true here (Append ShownChar) is = append_is class ShownChar true here is
+  result_are class true here (Append ShownBoolean) is = append_is class ShownBoolean true here is
+  result_are class true here (Append ShownText) is = append_is class ShownText true here is
+  result_are class false here (Append ShownInt) is = append_is class ShownInt false here is
+  result_are class false here (Append ShownLong) is = append_is class ShownLong false here is
+  result_are class false here (Append ShownChar) is = append_is class ShownChar false here is
+  result_are class false here (Append ShownBoolean) is = append_is class ShownBoolean false here is
+  result_are class false here (Append ShownText) is = append_is class ShownText false here is
+  result_are class buffer here BuilderLength is = refl
+  result_are class buffer here BuilderToString is = result_class string_name 1 string_here
+  result_are class buffer here BufferInitOf is = refl
+  result_are class buffer here Exit is = refl
+  result_are class buffer here (Print ShownInt) is = refl
+  result_are class buffer here (Print ShownLong) is = refl
+  result_are class buffer here (Print ShownChar) is = refl
+  result_are class buffer here (Print ShownBoolean) is = refl
+  result_are class buffer here (Print ShownText) is = refl
+  result_are class buffer here (Println ShownInt) is = refl
+  result_are class buffer here (Println ShownLong) is = refl
+  result_are class buffer here (Println ShownChar) is = refl
+  result_are class buffer here (Println ShownBoolean) is = refl
+  result_are class buffer here (Println ShownText) is = refl
+  result_are class buffer here PrintlnNothing is = refl
+  result_are class buffer here Read is = refl
+  result_are class buffer here ThrowableInit is = refl
+  result_are class buffer here ThrowableInitOf is = refl
+  result_are class buffer here GetMessage is = result_class string_name 1 string_here
+  result_are class buffer here ThrowableToString is = result_class string_name 1 string_here
+  result_are class buffer here FreeMeFree is = refl
+  result_are class buffer here FreeMeLink is = result_class object_name 0 object_here
+  result_are class buffer here FreeMeFreeChain is = refl
+
+-- ---- receivers
+
+all_among : (P : ℕ → Type 0) (xs : List ℕ) (x : ℕ) → is_among x xs ≡ true → AllByRecursion P xs → P x
+all_among P [] x among all = absurd (false≢true among)
+all_among P (y ∷ xs) x among all =
+    ⊎_elim (λ same. subst P (sym (eqb-true x y same)) all.0) (λ later. all_among P xs x later all.1) (or_cases (nat_eq x y) (is_among x xs) among)
+
+module _ (p : Program) (runnable : IsRunnable p) (tree : AreTree p.outline.classes) where
+  abbrev out : Outline
+  out = p.outline
+
+  abbrev given : List DeclaredClass
+  given = runnable.given
+
+  tree_here : AreTree (built_in ++ given)
+  tree_here = subst AreTree runnable.classes tree
+
+  parents_too : (parent_of (built_in ++ given) 12 ≡ Some 9) × (parent_of (built_in ++ given) 19 ≡ Some 11) × (parent_of (built_in ++ given) 20 ≡ Some 11)
+      × (parent_of (built_in ++ given) 21 ≡ Some 11)
+  unfolding built_in
+  parents_too = (exception_there given, runtime_there given, runtime_there given, runtime_there given)
+
+  all_below : AllByRecursion (λ class. is_among 7 (chain_of (built_in ++ given) class) ≡ true) throwables
+  all_below =
+      let up = below given tree_here in
+      let above = parents given in
+      let runtime = runtime_below given tree_here in
+      let exception = up 9 7 above.0 (throwable_itself given tree_here) in
+      let error = up 10 7 above.1 (throwable_itself given tree_here) in
+      let bounds = bounds_below given tree_here in (
+        throwable_itself given tree_here,
+        (
+          exception,
+          (
+            error,
+            (
+              runtime,
+              (
+                up 12 9 parents_too.0 exception,
+                (
+                  up 13 11 above.3 runtime,
+                  (
+                    up 14 11 above.4 runtime,
+                    (
+                      up 15 11 above.5 runtime,
+                      (
+                        bounds,
+                        (
+                          up 17 11 above.7 runtime,
+                          (
+                            up 18 11 above.8 runtime,
+                            (
+                              up 19 11 parents_too.1 runtime,
+                              (
+                                up 20 11 parents_too.2 runtime,
+                                (
+                                  up 21 11 parents_too.3 runtime,
+                                  (
+                                    up 22 16 above.9 bounds,
+                                    (
+                                      up 23 16 above.10 bounds,
+                                      (
+                                        up 24 10 above.11 error,
+                                        (change_below given tree_here, tt),
+                                      ),
+                                    ),
+                                  ),
+                                ),
+                              ),
+                            ),
+                          ),
+                        ),
+                      ),
+                    ),
+                  ),
+                ),
+              ),
+            ),
+          ),
+        ),
+      )
+
+  text_fits : (class : ℕ) → (class == 1) ≡ true → (t : TypeRef) → fits_type out.classes t (type_of_class class) ≡ true → fits_type out.classes t (text_type out) ≡ true
+  text_fits class is t fits =
+      subst (λ w. fits_type out.classes t w ≡ true)
+      (ap type_of_class (eqb-true class 1 is) ∙ sym (named_class p string_name 1 runnable (λ more. string_number more))) fits
+
+  builder_fits : (class : ℕ) → ((class == 2) || (class == 3)) ≡ true → (t : TypeRef) → fits_type out.classes t (type_of_class class) ≡ true
+      → (fits_type out.classes t (built_in_type out (codes "java/lang/StringBuilder")) || fits_type out.classes t (built_in_type out (codes "java/lang/StringBuffer")))
+      ≡ true
+  builder_fits class is t fits =
+      let named = λ (name : List ℕ) (number : ℕ) (same : (class == number) ≡ true) (found : (more : List DeclaredClass) → class_number (built_in ++ more) name ≡ Some number).
+      subst (λ w. fits_type out.classes t w ≡ true) (ap type_of_class (eqb-true class number same) ∙ sym (named_class p name number runnable found)) fits in
+      ⊎_elim
+      (λ two. or_left (fits_type out.classes t (built_in_type out (codes "java/lang/StringBuilder"))) (fits_type out.classes t (built_in_type out (codes "java/lang/StringBuffer")))
+      (named (codes "java/lang/StringBuilder") 2 two builder_there))
+      (λ three. or_right (fits_type out.classes t (built_in_type out (codes "java/lang/StringBuilder"))) (fits_type out.classes t (built_in_type out (codes "java/lang/StringBuffer")))
+      (named (codes "java/lang/StringBuffer") 3 three buffer_there))
+      (or_cases (class == 2) (class == 3) is)
+
+  throwable_fits : (class : ℕ) → is_among class throwables ≡ true → (t : TypeRef) → fits_type out.classes t (type_of_class class) ≡ true
+      → fits_type out.classes t (throwable_type out) ≡ true
+  throwable_fits class is t fits =
+      let above = all_among (λ n. is_among 7 (chain_of (built_in ++ given) n) ≡ true) throwables class is all_below in
+      let higher : fits_type out.classes (type_of_class class) (type_of_class 7) ≡ true =
+      ap (λ classes. fits_type classes (type_of_class class) (type_of_class 7)) runnable.classes ∙ fits_throwable given tree_here class above in
+      subst (λ w. fits_type out.classes t w ≡ true) (sym (named_class p (codes "java/lang/Throwable") 7 runnable throwable_there))
+      (type-trans out.classes tree t (type_of_class class) (type_of_class 7) fits higher)
+
+  receives : (class : ℕ) (row : Native) → declares class row ≡ true → (t : TypeRef) → fits_type out.classes t (type_of_class class) ≡ true → suits_row out row t ≡ true
+  receives class StringLength is t fits = text_fits class is t fits
+  receives class CharAt is t fits = text_fits class is t fits
+  receives class StringEquals is t fits = text_fits class is t fits
+  receives class StringHashCode is t fits = text_fits class is t fits
+  receives class CompareTo is t fits = text_fits class is t fits
+  receives class StringToString is t fits = text_fits class is t fits
+  receives class Substring is t fits = text_fits class is t fits
+  receives class BuilderInit is t fits = builder_fits class is t fits
+  receives class (Append shown) is t fits = builder_fits class is t fits
+  receives class BuilderLength is t fits = builder_fits class is t fits
+  receives class BuilderToString is t fits = builder_fits class is t fits
+  receives class BufferInitOf is t fits = builder_fits class is t fits
+  receives class ThrowableInit is t fits = throwable_fits class is t fits
+  receives class ThrowableInitOf is t fits = throwable_fits class is t fits
+  receives class GetMessage is t fits = throwable_fits class is t fits
+  receives class ThrowableToString is t fits = throwable_fits class is t fits
+  receives class row is t fits = refl
+
+  -- ---- all together
+
+  abbrev here : ℕ → OwnedMethod
+  here method = method_at out.classes method
+
+  fits_here : (method : ℕ) → method < length (methods_of built_in) → fits_it (here method) ≡ true
+  fits_here method inside =
+      ap fits_it (ap (λ classes. method_at classes method) runnable.classes ∙ method_same given method inside) ∙ fits_at (methods_of built_in) method table_fits
+
+  asked_by : (method : ℕ) (row : Native) → fits_row (here method) (Some row) ≡ true → TakesAsAsked out method row
+  asked_by method row fits =
+      let m : OwnedMethod = here method in
+      let first = and_parts (bytes_eq m.method.descriptor (descriptor_of (m.class == 3) row)) (same_bool (is_static m.method.flags) (not (has_receiver row)) && declares m.class row) fits in
+      let second = and_parts (same_bool (is_static m.method.flags) (not (has_receiver row))) (declares m.class row) first.1 in
+      let descriptor : m.method.descriptor ≡ descriptor_of (m.class == 3) row =
+      (bytes_eq-Decides m.method.descriptor (descriptor_of (m.class == 3) row)).0 first.0 in
+      record {
+        arguments = ap (λ d. stack_slots (parameter_kinds out.classes d)) descriptor ∙ arguments_are out given runnable.classes (m.class == 3) row;
+        result = ap (λ d. stack_slots (option_to_list (result_kind out.classes d))) descriptor
+            ∙ result_are out given runnable.classes m.class (m.class == 3) refl row second.1;
+        static = bools_same (is_static m.method.flags) (not (has_receiver row)) second.0;
+        receiver = λ instance t fits_class. receives m.class row second.1 t fits_class;
+      }
+
+  pub built_ins_asked : ((method : ℕ) → length (methods_of built_in) ≤ method → (here method).method.row ≡ None) → (method : ℕ) (row : Native)
+      → native_of out method ≡ Some row → TakesAsAsked out method row
+  built_ins_asked rows method row native = by_place (cases_lt method (length (methods_of built_in))) where
+    by_place : (method < length (methods_of built_in)) ⊎ (length (methods_of built_in) ≤ method) → TakesAsAsked out method row
+    by_place (inl inside) =
+        asked_by method row (sym (ap (fits_row (here method)) native) ∙ fits_here method inside)
+    by_place (inr past) = absurd (none-some row (sym (ap (option_and_then native_of_row) (rows method past)) ∙ native))

@@ -1,0 +1,228 @@
+-- A changed class declares what the old one does, and names the same types and texts in the same order.
+use Rattle.std.proofs.Common.{◌≡◌, refl, sym, ◌∙◌, ap, ℕ, ◌+◌, ◌<◌, Bool, true, false, cond, not, List, [], ◌∷◌, ◌++◌, length, length-append, map, nat_eq, Option, Some, None, IsSome, IsSomeAnd, option_and_then, unwrap_or, arith}
+use Rattle.std.specs.List.{AllByRecursion, cons_option, filter, filter_map, range_with_len}
+use Rattle.std.proofs.lemmas.Bool.{eqb-true, false≢true}
+use Rattle.std.proofs.lemmas.List.{append-nil}
+use Rattle.std.proofs.lemmas.List.Elements.{filter-append}
+use Rattle.fm_link_supers.proofs.ParentRefusals.{name_within, some_entries}
+use Rattle.fm_law_relinked.proofs.ClassLists.{arrays_same, used_same}
+use Rattle.fm_law_relinked.proofs.FreeMethod.{free_type}
+use Rattle.fm_law_relinked.proofs.PassedOver.{filter_map-kept, filters_agree, none_in_range, range_joined, values_kept}
+use Rattle.fm_law_relinked.proofs.PoolStays.{class_stays, constant_same, method_class, method_no_units, name_same, text_stays, type_same, units_same}
+use Rattle.fm_law_relinked.proofs.UsedWithin.{all_items_valid, class_below, filter_map-below, unused_past, uses_below, value_within}
+use Rattle.fm_base.proofs.OptionFacts.{IsSome-from_some, Some-from_some_and, same_value}
+use Rattle.fm_base.specs.declared.kinds.TypeRef.{TypeRef}
+use Rattle.fm_code.specs.AccessFlags.{is_interface, is_static}
+use Rattle.fm_code.specs.ConstantPool.{class_name_at, EntryIsValid, method_ref_at, utf8_at}
+use Rattle.fm_code.specs.FreeEntries.{free_class, free_method, sought_free, with_free}
+use Rattle.fm_code.specs.Members.{FieldAttrIsValid, FieldIsValid, MethodIsValid, receiver_words}
+use Rattle.fm_code.specs.Names.{is_binary_name, is_method_name, is_unqualified, IsFieldDescriptor, IsMethodDescriptor}
+use Rattle.fm_code.specs.Operands.{OperandIsValid}
+use Rattle.fm_code.specs.Spells.{Spells}
+use Rattle.fm_code.specs.declared.class_file.ClassDef.{ClassDef}
+use Rattle.fm_code.specs.declared.class_file.Member.{Member}
+use Rattle.fm_code.specs.declared.class_file.MemberAttr.{MemberAttr}
+use Rattle.fm_code.specs.declared.class_file.MemberAttr.TheVariants as attribute
+use Rattle.fm_code.specs.declared.code_array.Item.{Item}
+use Rattle.fm_code.specs.declared.constant_pool.Entry.{Entry}
+use Rattle.fm_code.specs.declared.instructions.Insn.{Insn}
+use Rattle.fm_code.specs.declared.instructions.Insn.TheVariants as insn
+use Rattle.fm_link_names.proofs.MarkLemmas.{same_number}
+use Rattle.fm_place.specs.Insertions.{Insertions}
+use Rattle.fm_place.specs.Rewriting.{free_index, Plans, rewritten_method, rewritten_methods}
+use Rattle.fm_pool.proofs.FreeEntriesAdded.{free_named}
+use Rattle.fm_types.proofs.LeastJoins.{same_type-refl}
+use Rattle.fm_world.specs.Causes.{own_name}
+use Rattle.fm_world.specs.Chains.{same_type}
+use Rattle.fm_world.specs.Declarations.{declared_field, declared_method, declared_of, first_constant, name_at, text_at}
+use Rattle.fm_world.specs.Descriptors.{class_type, type_in}
+use Rattle.fm_world.specs.Numbers.{text_units}
+use Rattle.fm_world.specs.Uses.{array_of, class_items, is_used, made_array, named_type, uses_in_order}
+use Rattle.fm_world.specs.declared.declarations.DeclaredClass.{DeclaredClass}
+use Rattle.fm_law_spelled.specs.Changed.{changed}
+
+such_text : (entries : List Entry) (index : ℕ) (P : List ℕ → Type 0) → IsSomeAnd (utf8_at entries index) P → IsSome (utf8_at entries index)
+such_text entries index P such = let v = Some-from_some_and (utf8_at entries index) P such in IsSome-from_some (utf8_at entries index) v.0 v.1
+
+pub such_name : (entries : List Entry) (index : ℕ) (P : List ℕ → Type 0) → IsSomeAnd (class_name_at entries index) P → IsSome (class_name_at entries index)
+such_name entries index P such = let v = Some-from_some_and (class_name_at entries index) P such in IsSome-from_some (class_name_at entries index) v.0 v.1
+
+-- all indices but that of FreeMe.free
+abbrev pub is_other : ℕ → ℕ → Bool
+is_other free index = not (nat_eq free index)
+
+pub other_index : (free index : ℕ) → is_other free index ≡ true → index ≡ free → ⊥
+other_index free index other same = false≢true (sym (ap not (ap (nat_eq free) same ∙ same_number free)) ∙ other)
+
+pub that_index : (free index : ℕ) → is_other free index ≡ false → free ≡ index
+that_index free index is = by_test (nat_eq free index) refl is where
+  by_test : (b : Bool) → nat_eq free index ≡ b → not b ≡ false → free ≡ index
+  by_test true same no_other = eqb-true free index same
+  by_test false other no_other = absurd (false≢true (sym no_other))
+
+-- ---- what members declare
+
+module _ (entries more : List Entry) (valid : AllByRecursion (EntryIsValid entries) entries) where
+  pub text_same : (index : ℕ) (P : List ℕ → Type 0) → IsSomeAnd (utf8_at entries index) P → text_at (entries ++ more) index ≡ text_at entries index
+  text_same index P such = ap (λ o. unwrap_or o []) (text_stays entries more index (such_text entries index P such))
+
+  constants_same : (attributes : List MemberAttr) → AllByRecursion (FieldAttrIsValid entries) attributes
+      → first_constant (entries ++ more) attributes ≡ first_constant entries attributes
+  constants_same [] fit = refl
+  constants_same (attribute.Constant name value ∷ attributes) fit = constant_same entries more valid value (value_within entries value fit.0.1)
+  constants_same (attribute.Coded name code ∷ attributes) fit = absurd fit.0
+  constants_same (attribute.Other raw ∷ attributes) fit = constants_same attributes fit.1
+
+  field_same : (in_interface : Bool) (m : Member) → FieldIsValid in_interface entries m → declared_field (entries ++ more) m ≡ declared_field entries m
+  field_same in_interface m fit =
+      let names = text_same m.name (λ name. is_unqualified name ≡ true) fit.name in
+      let descriptors = text_same m.descriptor IsFieldDescriptor fit.descriptor in
+      λ k. record {
+        name = names k;
+        descriptor = descriptors k;
+        flags = m.flags;
+        value = cond (is_static m.flags) (constants_same m.attributes fit.attributes k) None;
+      }
+
+  fields_same : (in_interface : Bool) (fields : List Member) → AllByRecursion (FieldIsValid in_interface entries) fields
+      → map (declared_field (entries ++ more)) fields ≡ map (declared_field entries) fields
+  fields_same in_interface [] fit = refl
+  fields_same in_interface (m ∷ fields) fit = λ k. field_same in_interface m fit.0 k ∷ fields_same in_interface fields fit.1 k
+
+  method_same : (in_interface : Bool) (free : ℕ) (plan : Option Insertions) (m : Member) → MethodIsValid in_interface entries m
+      → declared_method (entries ++ more) (rewritten_method free plan m) ≡ declared_method entries m
+  method_same in_interface free None m fit =
+      let names = text_same m.name (λ name. is_method_name name ≡ true) fit.name in
+      let descriptors = text_same m.descriptor (IsMethodDescriptor (receiver_words m.flags)) fit.descriptor in
+      λ k. record { name = names k; descriptor = descriptors k; flags = m.flags; row = None }
+  method_same in_interface free (Some plan) m fit =
+      let names = text_same m.name (λ name. is_method_name name ≡ true) fit.name in
+      let descriptors = text_same m.descriptor (IsMethodDescriptor (receiver_words m.flags)) fit.descriptor in
+      λ k. record { name = names k; descriptor = descriptors k; flags = m.flags; row = None }
+
+  methods_same : (in_interface : Bool) (free : ℕ) (plans : Plans) (first : ℕ) (methods : List Member) → AllByRecursion (MethodIsValid in_interface entries) methods
+      → map (declared_method (entries ++ more)) (rewritten_methods plans free first methods) ≡ map (declared_method entries) methods
+  methods_same in_interface free plans first [] fit = refl
+  methods_same in_interface free plans first (m ∷ methods) fit =
+      λ k. method_same in_interface free (plans first) m fit.0 k ∷ methods_same in_interface free plans (first + 1) methods fit.1 k
+
+  names_same : (indices : List ℕ) → AllByRecursion (λ index. IsSome (class_name_at entries index)) indices
+      → map (name_at (entries ++ more)) indices ≡ map (name_at entries) indices
+  names_same [] there = refl
+  names_same (index ∷ indices) there = λ k. unwrap_or (class_stays entries more index there.0 k) [] ∷ names_same indices there.1 k
+
+  -- ---- arrays that are made
+
+  array_same : (classes : List DeclaredClass) (offset : ℕ) (bytes : List ℕ) (i : Insn) → OperandIsValid entries (record { offset = offset; bytes = bytes; insn = i })
+      → made_array classes (entries ++ more) i ≡ made_array classes entries i
+  array_same classes offset bytes (insn.NewRefs index) there = ap (option_and_then array_of) (type_same entries more valid index (name_within entries index there) classes)
+  array_same classes offset bytes i there = refl
+
+  items_arrays : (classes : List DeclaredClass) (items : List Item) → AllByRecursion (OperandIsValid entries) items
+      → filter_map (λ (item : Item). made_array classes (entries ++ more) item.insn) items
+      ≡ filter_map (λ (item : Item). made_array classes entries item.insn) items
+  items_arrays classes [] there = refl
+  items_arrays classes (item ∷ items) there =
+      λ k. cons_option (array_same classes item.offset item.bytes item.insn there.0 k) (items_arrays classes items there.1 k)
+
+-- ---- a changed class
+
+module _ (plans : Plans) (first : ℕ) (c : ClassDef) (bytes : List ℕ) (spells : Spells bytes c) where
+  abbrev pub more_entries : List Entry
+  more_entries = (sought_free c.pool.entries).missing
+
+  -- the index of FreeMe.free refers to that method
+  pub names_free : method_ref_at (c.pool.entries ++ more_entries) (free_index c) ≡ Some free_method
+  names_free = free_named c.pool.entries (with_free c.pool.entries) more_entries (free_index c) refl refl
+
+  pub name_is : own_name (changed plans first c) ≡ own_name c
+  name_is = ap (λ o. unwrap_or o []) (class_stays c.pool.entries more_entries c.this_class (such_name c.pool.entries c.this_class (λ name. is_binary_name name ≡ true) spells.this_class))
+
+  pub superclass_within : c.super_class < length c.pool.entries
+  superclass_within = class_below c.pool.entries (some_entries c.pool.entries spells.pool.slots) c.super_class spells.super_class
+
+  -- what it declares
+  pub declared_same : (file : ℕ) → declared_of file (changed plans first c) ≡ declared_of file c
+  declared_same file =
+      let entries = c.pool.entries in
+      let valid = spells.pool.entries in
+      λ k. record {
+        name = name_is k;
+        superclass = name_same entries more_entries valid c.super_class superclass_within k;
+        interfaces = names_same entries more_entries valid c.interfaces spells.interfaces k;
+        flags = c.flags;
+        hidden = false;
+        fields = fields_same entries more_entries valid (is_interface c.flags) c.fields spells.fields k;
+        methods = methods_same entries more_entries valid (is_interface c.flags) (free_index c) plans first c.methods spells.methods k;
+        file = Some file;
+      }
+
+  -- ---- used indices
+
+  -- but for that of FreeMe.free the used ones are the same in the same order
+  pub uses_alike : filter (is_other (free_index c)) (uses_in_order (changed plans first c)) ≡ filter (is_other (free_index c)) (uses_in_order c)
+  uses_alike =
+      let other = is_other (free_index c) in
+      let used = is_used (changed plans first c) in
+      let n = length c.pool.entries in
+      let m = length more_entries in
+      let old = range_with_len 0 n in
+      let new = range_with_len (0 + n) m in
+      let all : range_with_len 0 (length (c.pool.entries ++ more_entries)) ≡ old ++ new = ap (range_with_len 0) (length-append c.pool.entries more_entries) ∙ range_joined 0 n m in
+      let old_ones : filter other (filter used old) ≡ filter other (filter (is_used c) old) =
+      filters_agree other used (is_used c) (λ k passes. used_same plans first c k (other_index (free_index c) k passes)) old in
+      let new_ones : filter other (filter used new) ≡ [] =
+      none_in_range other used (0 + n) m
+      (λ k from passes. used_same plans first c k (other_index (free_index c) k passes) ∙ unused_past c (bytes, spells) k (omega (arith, from))) in
+      ap (λ ks. filter other (filter used ks)) all ∙ ap (filter other) (filter-append used old new) ∙ filter-append other (filter used old) (filter used new)
+      ∙ (λ k. old_ones k ++ new_ones k) ∙ append-nil (filter other (filter (is_used c) old))
+
+  -- the texts that it names
+  pub texts_same : filter_map (text_units (c.pool.entries ++ more_entries)) (uses_in_order (changed plans first c))
+      ≡ filter_map (text_units c.pool.entries) (uses_in_order c)
+  texts_same =
+      let entries = c.pool.entries in
+      let other = is_other (free_index c) in
+      let units = text_units (entries ++ more_entries) in
+      let none : (k : ℕ) → other k ≡ false → units k ≡ None =
+      λ k is. ap units (sym (that_index (free_index c) k is)) ∙ method_no_units (entries ++ more_entries) (free_index c) free_method names_free in
+      sym (filter_map-kept units other none (uses_in_order (changed plans first c))) ∙ ap (filter_map units) uses_alike
+      ∙ filter_map-kept units other none (uses_in_order c)
+      ∙ filter_map-below (length entries) units (text_units entries) (λ k within. units_same entries more_entries spells.pool.entries k within) (uses_in_order c)
+      (uses_below c)
+
+  module _ (classes : List DeclaredClass) (free_is : type_in classes (class_type free_class) ≡ Some free_type) where
+    abbrev pub unlike_free : TypeRef → Bool
+    unlike_free t = not (same_type free_type t)
+
+    type_of_free : named_type classes (c.pool.entries ++ more_entries) (free_index c) ≡ Some free_type
+    type_of_free =
+        ap (option_and_then (λ (name : List ℕ). type_in classes (class_type name)))
+        (method_class (c.pool.entries ++ more_entries) (free_index c) free_method names_free)
+        ∙ free_is
+
+    -- the types that it names, but for FreeMe
+    pub types_alike : filter unlike_free (filter_map (named_type classes (c.pool.entries ++ more_entries)) (uses_in_order (changed plans first c)))
+        ≡ filter unlike_free (filter_map (named_type classes c.pool.entries) (uses_in_order c))
+    types_alike =
+        let entries = c.pool.entries in
+        let other = is_other (free_index c) in
+        let types = named_type classes (entries ++ more_entries) in
+        let fails : (k : ℕ) → other k ≡ false → (t : TypeRef) → types k ≡ Some t → unlike_free t ≡ false =
+        λ k is t found.
+        let own : free_type ≡ t = same_value (types k) free_type t (ap types (sym (that_index (free_index c) k is)) ∙ type_of_free) found in
+        ap (λ u. not (same_type free_type u)) (sym own) ∙ ap not (same_type-refl free_type) in
+        sym (values_kept types other unlike_free fails (uses_in_order (changed plans first c)))
+        ∙ ap (λ ks. filter unlike_free (filter_map types ks)) uses_alike
+        ∙ values_kept types other unlike_free fails (uses_in_order c)
+        ∙ ap (filter unlike_free)
+        (filter_map-below (length entries) types (named_type classes entries) (λ k within. type_same entries more_entries spells.pool.entries k within classes)
+        (uses_in_order c) (uses_below c))
+
+    -- the arrays that it makes
+    pub made_same : filter_map (λ (item : Item). made_array classes (c.pool.entries ++ more_entries) item.insn) (class_items (changed plans first c))
+        ≡ filter_map (λ (item : Item). made_array classes c.pool.entries item.insn) (class_items c)
+    made_same =
+        arrays_same plans first c classes (c.pool.entries ++ more_entries)
+        ∙ items_arrays c.pool.entries more_entries spells.pool.entries classes (class_items c)
+        (all_items_valid c.pool.entries (is_interface c.flags) c.methods spells.methods)

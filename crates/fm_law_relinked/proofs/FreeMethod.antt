@@ -1,0 +1,117 @@
+-- FreeMe.free in the classes of a program: it has a number, and is static.
+use Rattle.std.proofs.Common.{◌≡◌, refl, ◌∙◌, ap, ℕ, zero, suc, ◌+◌, ◌<◌, ◌≤◌, ◌⊎◌, inl, inr, Bool, true, false, ◌||◌, List, ◌∷◌, ◌++◌, length, length-append, map, Option, Some, option_and_then, option_map, arith}
+use Rattle.std.specs.List.{list_any, range_with_len}
+use Rattle.std.proofs.lemmas.Bool.{cases_lt, false≢true}
+use Rattle.std.proofs.lemmas.Iterator.Adapters.{position_from-zero}
+use Rattle.std.specs.Str.{bytes_eq}
+use Rattle.fm_link_supers.proofs.BuiltInParents.{count_is}
+use Rattle.fm_base.specs.declared.kinds.TypeRef.{TypeRef}
+use Rattle.fm_code.specs.AccessFlags.{is_static}
+use Rattle.fm_code.specs.FreeEntries.{free_class, free_descriptor, free_method, free_name}
+use Rattle.fm_code.specs.declared.class_file.ClassDef.{ClassDef}
+use Rattle.fm_types.proofs.LeastJoins.{same_type-refl}
+use Rattle.fm_world.specs.BuiltIns.{built_in}
+use Rattle.fm_world.specs.Causes.{method_flags}
+use Rattle.fm_world.specs.Chains.{chain_of, first_found, interfaces_of, parent_of, same_type, upwards}
+use Rattle.fm_world.specs.Declarations.{declared_from}
+use Rattle.fm_world.specs.Descriptors.{class_number, class_type, of_class, type_in, type_with}
+use Rattle.fm_world.specs.Lookups.{any_flags, is_interface_at, method_path, resolved_method}
+use Rattle.fm_world.specs.Members.{method_among, methods_of, own_method}
+use Rattle.fm_world.specs.Numbers.{class_types, type_of_class}
+use Rattle.fm_world.specs.Programs.{classes_of}
+use Rattle.fm_world.specs.declared.declarations.DeclaredClass.{DeclaredClass}
+
+-- the numbers of the class FreeMe and of its method free
+abbrev pub free_class_number : ℕ
+free_class_number = 8
+
+abbrev pub free_method_number : ℕ
+free_method_number = 49
+
+pub class_number_is : (given : List ClassDef) → class_number (classes_of given) free_class ≡ Some free_class_number
+unfolding classes_of built_in
+class_number_is given = position_from-zero (λ (c : DeclaredClass). bytes_eq c.name free_class) (built_in ++ declared_from 0 given)
+
+pub class_is_no_interface : (given : List ClassDef) → is_interface_at (classes_of given) free_class_number ≡ false
+unfolding classes_of built_in
+class_is_no_interface given = refl
+
+pub free_is_static : (given : List ClassDef) → is_static (method_flags (classes_of given) free_method_number) ≡ true
+unfolding classes_of built_in methods_of
+free_is_static given = refl
+
+own_is : (given : List ClassDef) → own_method (classes_of given) any_flags free_name free_descriptor free_class_number ≡ Some free_method_number
+unfolding classes_of built_in
+own_is given = refl
+
+path_is : (classes : List DeclaredClass) → is_interface_at classes free_class_number ≡ false
+    → method_path classes free_class_number
+    ≡ free_class_number ∷ (upwards (length classes) classes (parent_of classes free_class_number) ++ interfaces_of classes free_class_number)
+unfolding chain_of
+path_is classes none = rw none refl
+
+first_here : (find : ℕ → Option ℕ) (x k : ℕ) (xs : List ℕ) → find x ≡ Some k → first_found find (x ∷ xs) ≡ Some k
+first_here find x k xs found = rw found refl
+
+pub method_found : (given : List ClassDef) → resolved_method (classes_of given) free_method ≡ Some free_method_number
+unfolding resolved_method
+method_found given =
+    let classes = classes_of given in
+    let find = own_method classes any_flags free_name free_descriptor in
+    let rest = upwards (length classes) classes (parent_of classes free_class_number) ++ interfaces_of classes free_class_number in
+    ap (option_and_then (λ (class : ℕ). method_among classes any_flags free_name free_descriptor (method_path classes class))) (class_number_is given)
+    ∙ ap (first_found find) (path_is classes (class_is_no_interface given)) ∙ first_here find free_class_number free_method_number rest (own_is given)
+
+-- what is known of FreeMe.free
+pub record KnowsFree (classes : List DeclaredClass) : Type 0 where
+  pub class : class_number classes free_class ≡ Some free_class_number
+  pub method : resolved_method classes free_method ≡ Some free_method_number
+  pub static : is_static (method_flags classes free_method_number) ≡ true
+  pub no_interface : is_interface_at classes free_class_number ≡ false
+
+pub knows_free : (given : List ClassDef) → KnowsFree (classes_of given)
+knows_free given = record {
+  class = class_number_is given;
+  method = method_found given;
+  static = free_is_static given;
+  no_interface = class_is_no_interface given;
+}
+
+-- ---- its type
+
+abbrev pub free_type : TypeRef
+free_type = type_of_class free_class_number
+
+pub type_is : (given : List ClassDef) → type_in (classes_of given) (class_type free_class) ≡ Some free_type
+type_is given = ap (λ o. option_and_then (type_with 0) (option_map of_class o)) (class_number_is given)
+
+pub type_known : (a n k : ℕ) → a ≤ k → k < a + n → list_any (same_type (type_of_class k)) (map type_of_class (range_with_len a n)) ≡ true
+type_known a zero k from within = absurd (omega (arith, from, within))
+type_known a (suc n) k from within = by_place (cases_lt a k) (type_known (a + 1) n k) where
+  rest : List TypeRef
+  rest = map type_of_class (range_with_len (a + 1) n)
+
+  first_true : (b c : Bool) → b ≡ true → (b || c) ≡ true
+  first_true true c is = refl
+  first_true false c is = absurd (false≢true is)
+
+  later_true : (b c : Bool) → c ≡ true → (b || c) ≡ true
+  later_true true c is = refl
+  later_true false c is = is
+
+  by_place : (a < k) ⊎ (k ≤ a) → (a + 1 ≤ k → k < a + 1 + n → list_any (same_type (type_of_class k)) rest ≡ true)
+      → (same_type (type_of_class k) (type_of_class a) || list_any (same_type (type_of_class k)) rest) ≡ true
+  by_place (inl less) later =
+      later_true (same_type (type_of_class k) (type_of_class a)) (list_any (same_type (type_of_class k)) rest)
+      (later (omega (arith, less)) (omega (arith, within)))
+  by_place (inr more) later =
+      let same : a ≡ k = omega (arith, from, more) in
+      first_true (same_type (type_of_class k) (type_of_class a)) (list_any (same_type (type_of_class k)) rest)
+      (ap (λ j. same_type (type_of_class k) (type_of_class j)) same ∙ same_type-refl (type_of_class k))
+
+pub free_type_known : (given : List ClassDef) → list_any (same_type free_type) (class_types (classes_of given)) ≡ true
+unfolding classes_of
+free_type_known given =
+    let both = length-append built_in (declared_from 0 given) in
+    let count = count_is in
+    type_known 0 (length (built_in ++ declared_from 0 given)) free_class_number (omega arith) (omega (arith, both, count))

@@ -1,0 +1,129 @@
+-- The state of each item of code with insertions, by what it is for, and what is known where such code is typed again.
+use Rattle.std.proofs.Common.{◌≡◌, ℕ, zero, suc, ◌+◌, ◌<◌, List, [], ◌∷◌, ◌++◌, length, map, Option, Some, None, option_and_then, option_map, Contains}
+use Rattle.std.specs.Prelude.{slice_get}
+use Rattle.std.specs.List.{AllByRecursion}
+use Rattle.fm_base.specs.declared.kinds.TypeRef.{TypeRef}
+use Rattle.fm_code.specs.Edges.{insn_of}
+use Rattle.fm_code.specs.SpellsCode.{LocalsFit}
+use Rattle.fm_code.specs.declared.code_array.Code.{Code}
+use Rattle.fm_code.specs.declared.code_array.Handler.{Handler}
+use Rattle.fm_code.specs.declared.code_array.Item.{Item}
+use Rattle.fm_code.specs.declared.instructions.Insn.{Insn}
+use Rattle.fm_code.specs.declared.instructions.Insn.TheVariants as insn
+use Rattle.fm_law_relinked.specs.Rows.{state_with}
+use Rattle.fm_law_woven_flow.specs.Roles.{CanStand, DupAfter, FreeBefore, JumpOf, Keep, LoadBefore, NullBefore, Role, StandsFor, StartNull, StartStore, StoreAfter, StoreBefore}
+use Rattle.fm_place.specs.Insertions.{after_at, before_at, Insertions}
+use Rattle.fm_law_retyped.proofs.Trimmed.{trimmed}
+use Rattle.fm_types.specs.Fits.{AreTree}
+use Rattle.fm_types.specs.Rows.{row_after}
+use Rattle.fm_types.specs.States.{local_at, pushed, TypeState}
+use Rattle.fm_types.specs.Typed.{after_item, entry_state, IsTypingOf, state_at, type_of_use, use_by, use_in}
+use Rattle.fm_types.specs.declared.slots.Slot.{Slot}
+use Rattle.fm_types.specs.declared.slots.Slot.TheVariants as slot
+use Rattle.fm_world.specs.Programs.{Program}
+
+-- ---- what is typed again
+
+-- A method of two programs: its code with a typing, and that code with insertions, by the roles of its items; and the type of each holder's objects.
+pub record Retyping : Type 0 where
+  pub given : Program
+  pub written : Program
+  pub method : ℕ
+  pub free : ℕ
+  pub code : Code
+  pub plan : Insertions
+  pub woven : Code
+  pub states : List (Option TypeState)
+  pub types : List TypeRef
+  pub roles : List Role
+  pub numbers : ℕ → ℕ
+  pub moved : Handler → Handler
+
+-- the slots of holders that hold something
+abbrev pub held_slots : List TypeRef → List Slot
+held_slots types = map (λ t. slot.Ref t) types
+
+-- the slot of a holder
+abbrev pub held_slot : Retyping → ℕ → Slot
+held_slot w h = local_at (held_slots w.types) h
+
+-- this many holders hold something, the later ones nothing yet
+abbrev pub begun : ℕ → List TypeRef → List Slot
+begun holders [] = []
+begun zero (t ∷ types) = slot.Top ∷ begun zero types
+begun (suc holders) (t ∷ types) = slot.Ref t ∷ begun holders types
+
+-- ---- states
+
+-- the state of an old item, where all holders hold something
+abbrev pub kept_state : Retyping → TypeState → TypeState
+kept_state w s = state_with w.numbers (held_slots w.types) s
+
+-- at the start, where this many holders do
+abbrev pub start_state : Retyping → ℕ → List Slot → TypeState
+start_state w holders stack =
+    let entry = entry_state w.given.outline w.method w.code in
+    record { locals = entry.locals ++ begun holders w.types; stack = stack; built = entry.built }
+
+-- the state after an old item
+abbrev pub state_after : Retyping → ℕ → Option TypeState
+state_after w j = option_and_then (after_item w.given w.method w.code j) (state_at w.states j)
+
+abbrev pub role_state : Retyping → Role → Option TypeState
+role_state w (StartNull h) = Some (start_state w h [])
+role_state w (StartStore h) = Some (start_state w h (slot.Null ∷ []))
+role_state w (LoadBefore j h) = option_map (kept_state w) (state_at w.states j)
+role_state w (FreeBefore j h) = option_map (λ s. pushed (held_slot w h ∷ []) (kept_state w s)) (state_at w.states j)
+role_state w (NullBefore j h) = option_map (kept_state w) (state_at w.states j)
+role_state w (StoreBefore j h) = option_map (λ s. pushed (slot.Null ∷ []) (kept_state w s)) (state_at w.states j)
+role_state w (Keep j) = option_map (kept_state w) (state_at w.states j)
+role_state w (JumpOf j) = option_map (kept_state w) (state_after w j)
+role_state w (DupAfter j h) = option_map (kept_state w) (state_after w j)
+role_state w (StoreAfter j h) = option_map (λ s. pushed (held_slot w h ∷ []) (kept_state w s)) (state_after w j)
+
+-- the typing written out
+abbrev pub role_states : Retyping → List (Option TypeState)
+role_states w = map (role_state w) w.roles
+
+-- ---- what is known
+
+-- the type of which an instruction makes an object, if it is a `new`
+abbrev pub made_by : Program → ℕ → Insn → Option TypeRef
+made_by p method (insn.New index) = type_of_use p.outline (use_in p method index)
+made_by p method i = None
+
+-- after an item that gives an object to a holder: it is on top, and nothing but the stack has
+-- changed
+pub record IsHeld (w : Retyping) (h : ℕ) (s after : TypeState) : Type 0 where
+  pub rest : List Slot
+  pub top : after.stack ≡ held_slot w h ∷ rest
+  pub locals : after.locals ≡ s.locals
+  pub built : after.built ≡ s.built
+
+-- FreeMe.free takes what a holder holds
+abbrev pub Frees : Retyping → Type 0
+Frees w =
+    (item : ℕ) (news : ℕ → Option TypeRef) (t : TypeRef) (s : TypeState)
+    → row_after w.given.outline w.method item news (use_by w.written w.method (insn.Static w.free)) (insn.Static w.free) (pushed (slot.Ref t ∷ []) s) ≡ Some s
+
+-- all that is asked
+pub record CanRetype (w : Retyping) : Type 0 where
+  pub tree : AreTree w.given.outline.classes
+  pub outline : w.written.outline ≡ w.given.outline
+  pub typing : IsTypingOf w.given w.method w.code w.states
+  pub fit : AllByRecursion (λ (item : Item). LocalsFit w.code.max_locals item.insn) w.code.items
+  pub short : (j : ℕ) (s : TypeState) → state_at w.states j ≡ Some s → trimmed s.locals ≡ s.locals
+  pub can : CanStand w.code w.plan
+  pub stands : StandsFor w.free w.code w.plan w.woven w.roles w.numbers w.moved
+  pub more_locals : w.woven.max_locals ≡ w.code.max_locals + length w.plan.holders
+  pub more_stack : w.woven.max_stack ≡ w.code.max_stack + 1
+  pub uses : (j : ℕ) (i : Insn) (s : TypeState) → insn_of w.code j ≡ Some i → state_at w.states j ≡ Some s
+      → use_by w.written w.method i ≡ use_by w.given w.method i
+  pub made : (j : ℕ) (i : Insn) → insn_of w.code j ≡ Some i → made_by w.written w.method i ≡ made_by w.given w.method i
+  pub caught : (h : Handler) → Contains w.code.handlers h → use_in w.written w.method h.catch_class ≡ use_in w.given w.method h.catch_class
+  pub frees : (n j h : ℕ) → slice_get w.roles n ≡ Some (FreeBefore j h) → Frees w
+  pub counted : length w.types ≡ length w.plan.holders
+  pub before : (j h : ℕ) → Contains (before_at w.plan j) h → h < length w.plan.holders
+  pub after : (j h : ℕ) → Contains (after_at w.plan j) h → h < length w.plan.holders
+  pub held : (j h : ℕ) (s after : TypeState) → Contains (after_at w.plan j) h → state_at w.states j ≡ Some s
+      → after_item w.given w.method w.code j s ≡ Some after → IsHeld w h s after

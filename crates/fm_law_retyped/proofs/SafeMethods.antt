@@ -1,0 +1,415 @@
+-- A method with safe insertions is typed again, and so are all methods of classes with such.
+use Rattle.std.proofs.Common.{◌≡◌, refl, sym, ◌∙◌, ap, subst, ℕ, zero, suc, ◌<◌, ◌≤◌, ◌==◌, ◌&&◌, ◌⊎◌, inl, inr, Bool, true, false, cond, List, [], ◌∷◌, length, map, Option, Some, None, is_some, option_and_then, option_map, Contains, slice_get, arith}
+use Rattle.std.specs.List.{AllByRecursion}
+use Rattle.std.proofs.lemmas.Bool.{cases_lt, eqb-true, false≢true}
+use Rattle.std.proofs.lemmas.List.{get_or_past, length-map}
+use Rattle.std.proofs.lemmas.Option.{none-some, same_Some, slice_get_within}
+use Rattle.fm_link_supers.proofs.ParentRefusals.{spelled_at}
+use Rattle.fm_law_relinked.proofs.Codes.{codes_woven, no_code}
+use Rattle.fm_law_relinked.proofs.FreeUse.{ClassTypesAreNumbered, has_free}
+use Rattle.fm_law_relinked.specs.Codes.{code_with}
+use Rattle.fm_base.proofs.OptionFacts.{IsSomeAnd-from_some, option_map-some, same_value, Some-from_some_and}
+use Rattle.fm_base.specs.declared.ids.MethodId.{MethodId}
+use Rattle.fm_base.specs.declared.ids.TypeId.{TypeId}
+use Rattle.fm_base.specs.declared.kinds.TypeRef.{TypeRef}
+use Rattle.fm_code.proofs.EdgesLemmas.{Contains-first, Contains-later, MeetsCodeRules-method}
+use Rattle.fm_code.specs.AccessFlags.{is_static}
+use Rattle.fm_code.specs.Edges.{falls_through, insn_of, MeetsCodeRules}
+use Rattle.fm_code.specs.Spells.{HasSpelling}
+use Rattle.fm_code.specs.SpellsCode.{LocalsFit}
+use Rattle.fm_code.specs.declared.class_file.ClassDef.{ClassDef}
+use Rattle.fm_code.specs.declared.code_array.Code.{Code}
+use Rattle.fm_code.specs.declared.code_array.Handler.{Handler}
+use Rattle.fm_code.specs.declared.code_array.Item.{Item}
+use Rattle.fm_code.specs.declared.instructions.Insn.{Insn}
+use Rattle.fm_code.specs.declared.instructions.Insn.TheVariants as insn
+use Rattle.fm_conn.specs.Facts.{AreFacts, Facts}
+use Rattle.fm_conn.specs.Links.{typed_method}
+use Rattle.fm_conn.specs.Nodes.{TypedMethod}
+use Rattle.fm_law_woven_flow.specs.Laws.{CodesStand, HasRoles}
+use Rattle.fm_law_woven_flow.specs.Roles.{CanStand, FreeBefore, HasInsn, IsOpposite, IsRetargeted, Keep}
+use Rattle.fm_place.proofs.FullLemmas.{numbers-found}
+use Rattle.fm_place.specs.Insertions.{after_at, before_at, Holder, Insertions}
+use Rattle.fm_place.specs.Rewriting.{free_index, Plans, rewritten, rewritten_class}
+use Rattle.fm_place.specs.Safe.{AreSafe, IsSafeHolder, method_in_facts}
+use Rattle.fm_place.specs.Sites.{is_captured, kind_of_site, site_class, site_kind}
+use Rattle.fm_place.specs.Woven.{woven_code}
+use Rattle.fm_law_linked.specs.Laws.{IsLinkedWell, ProgramsAreLinkedWell, StepsAreLinked, StepsOfProgramsAreLinked}
+use Rattle.fm_law_retyped.proofs.FreeRow.{free_row}
+use Rattle.fm_law_retyped.proofs.KeptRows.{same_row}
+use Rattle.fm_law_retyped.proofs.Retypes.{retyped}
+use Rattle.fm_law_retyped.proofs.RoleStates.{CanRetype, Frees, held_slots, IsHeld, Retyping, role_states}
+use Rattle.fm_law_retyped.proofs.SameTypings.{made_same, same_typing}
+use Rattle.fm_law_retyped.proofs.SiteStates.{GivesObject, site-falls, site-gives}
+use Rattle.fm_law_retyped.proofs.SlotLists.{insn_inside}
+use Rattle.fm_law_retyped.proofs.Trims.{all_trimmed, locals_at, trimmed_at, trimmed_row, trimmed_twice, typings_trimmed}
+use Rattle.fm_law_retyped.proofs.WrittenMethods.{HasMember, IsWritten, written_method}
+use Rattle.fm_law_retyped.proofs.WrittenUses.{free_use, freed_use, handler_use, insn_use, outlines_same, program_outline, used_by_item}
+use Rattle.fm_law_retyped.specs.Retyped.{AreReadyAtHeld, SafeClassesAreTyped}
+use Rattle.fm_law_retyped.proofs.Trimmed.{trimmed, trimmed_state}
+use Rattle.fm_types.specs.Fits.{AreTree}
+use Rattle.fm_types.specs.Rows.{row_after}
+use Rattle.fm_types.specs.States.{local_at, pushed, TypeState}
+use Rattle.fm_types.specs.Typed.{after_item, IsTyping, IsTypingOf, made_at, state_at, Typed, use_by}
+use Rattle.fm_types.specs.declared.slots.Slot.{Slot}
+use Rattle.fm_types.specs.declared.slots.Slot.TheVariants as slot
+use Rattle.fm_world.specs.Members.{method_at}
+use Rattle.fm_world.specs.Numbers.{type_of_class}
+use Rattle.fm_world.specs.Programs.{code_at, Outline, Program, program_of}
+use Rattle.fm_code.specs.Operands.{pool_index}
+use Rattle.fm_world.specs.declared.uses.Use.TheVariants as resolved
+
+-- ---- lists
+
+all_at : {X : Type 0} (P : X → Type 0) (xs : List X) (k : ℕ) (x : X) → AllByRecursion P xs → slice_get xs k ≡ Some x → P x
+all_at P [] k x all at = absurd (none-some x at)
+all_at P (y ∷ xs) zero x all at = subst P (same_Some y x at) all.0
+all_at P (y ∷ xs) (suc k) x all at = all_at P xs k x all.1 at
+
+contained_at : {X : Type 0} (xs : List X) (k : ℕ) (x : X) → slice_get xs k ≡ Some x → Contains xs x
+contained_at [] k x at = absurd (none-some x at)
+contained_at (y ∷ xs) zero x at = Contains-first y xs x (sym (same_Some y x at))
+contained_at (y ∷ xs) (suc k) x at = Contains-later y xs x (contained_at xs k x at)
+
+contained_mapped : (moved : Handler → Handler) (handlers : List Handler) (h : Handler) → Contains handlers h → Contains (map moved handlers) (moved h)
+contained_mapped moved [] h (k, inside, there) = absurd (omega (arith, inside))
+contained_mapped moved (x ∷ handlers) h (zero, inside, there) = Contains-first (moved x) (map moved handlers) (moved h) (ap moved (sym there))
+contained_mapped moved (x ∷ handlers) h (suc k, inside, there) =
+    Contains-later (moved x) (map moved handlers) (moved h) (contained_mapped moved handlers h (k, omega (arith, inside), there))
+
+none_contained : {X : Type 0} (x : X) → Contains [] x → ⊥
+none_contained x (k, inside, there) = omega (arith, inside)
+
+first_of : (a b : Bool) → (a && b) ≡ true → a ≡ true
+first_of true b is = refl
+first_of false b is = absurd (false≢true is)
+
+-- ---- the types of holders
+
+-- the type of the reference on top, where there is one
+abbrev top_of : List Slot → TypeRef
+top_of (slot.Ref t ∷ stack) = t
+top_of stack = type_of_class 0
+
+abbrev top_type : Option TypeState → TypeRef
+top_type None = type_of_class 0
+top_type (Some s) = top_of s.stack
+
+held_of : (type : Holder → TypeRef) (holders : List Holder) (h : ℕ) (holder : Holder) → slice_get holders h ≡ Some holder
+    → local_at (held_slots (map type holders)) h ≡ slot.Ref (type holder)
+held_of type [] h holder at = absurd (none-some holder at)
+held_of type (g ∷ holders) zero holder at = ap (λ (x : Holder). slot.Ref (type x)) (same_Some g holder at)
+held_of type (g ∷ holders) (suc h) holder at = held_of type holders h holder at
+
+-- ---- sites
+
+-- an item that is a site has an instruction of that kind
+record IsSiteAt (facts : Facts) (x : TypedMethod) (j : ℕ) : Type 0 where
+  i : Insn
+  there : insn_of x.code j ≡ Some i
+  kind_some : is_some (kind_of_site facts x j i) ≡ true
+  same : site_kind facts x j ≡ kind_of_site facts x j i
+
+site_at : (facts : Facts) (x : TypedMethod) (j : ℕ) → is_some (site_kind facts x j) ≡ true → IsSiteAt facts x j
+site_at facts x j is = by_state (is_some (state_at x.states j)) refl is where
+  by_insn : is_some (state_at x.states j) ≡ true → (found : Option Insn) → insn_of x.code j ≡ found
+      → is_some (option_and_then (kind_of_site facts x j) found) ≡ true → IsSiteAt facts x j
+  by_insn so None there some = absurd (false≢true some)
+  by_insn so (Some i) there some = record {
+    i = i;
+    there = there;
+    kind_some = some;
+    same = λ k. cond (so k) (option_and_then (kind_of_site facts x j) (there k)) None;
+  }
+
+  by_state : (b : Bool) → is_some (state_at x.states j) ≡ b → is_some (cond b (option_and_then (kind_of_site facts x j) (insn_of x.code j)) None) ≡ true
+      → IsSiteAt facts x j
+  by_state true so some = by_insn so (insn_of x.code j) refl some
+  by_state false so some = absurd (false≢true some)
+
+-- the same of equal states
+carried : (s t after other : TypeState) → s ≡ t → after ≡ other → GivesObject s after → GivesObject t other
+carried s t after other first second g = subst (GivesObject t) second (subst (λ z. GivesObject z after) first g)
+
+-- ---- a method
+
+module _ (numbered : ClassTypesAreNumbered) (stand : CodesStand) (given : List ClassDef) (main : List ℕ) (plans : Plans) (spelled : AllByRecursion HasSpelling given)
+    (linked : IsLinkedWell (program_of given main)) (steps : StepsAreLinked (program_of given main)) (facts : Facts) (exact : AreFacts (program_of given main) facts)
+    (method : ℕ) (code : Code) (code_is : code_at (program_of given main) method ≡ Some code) where
+  abbrev p : Program
+  p = program_of given main
+
+  abbrev q : Program
+  q = program_of (rewritten plans given) main
+
+  x : IsWritten given main plans method code
+  x = written_method given main plans method code code_is
+
+  outline : (program_of (rewritten plans given) main).outline ≡ (program_of given main).outline
+  outline = outlines_same given main plans spelled
+
+  typing : IsTypingOf (program_of given main) method code (facts.typing method)
+  typing = (exact.methods method code code_is).typing
+
+  -- its new code is among the methods of the written class
+  member_of : (new : Code) → code_at (program_of (rewritten plans given) main) method ≡ Some new
+      → HasMember (rewritten_class plans x.start x.own).methods (Some new)
+  member_of new new_is = record { member = x.new.member; among = x.new.among; code_is = x.new.code_is ∙ new_is }
+
+  -- without a plan it is typed as it was
+  unplanned : plans method ≡ None → IsTyping (program_of (rewritten plans given) main) method (facts.typing method)
+  unplanned none =
+      let new_is : code_at (program_of (rewritten plans given) main) method ≡ Some code =
+      x.new_is ∙ ap (λ o. code_with (free_index x.own) o (Some code)) none in
+      let member = member_of code new_is in
+      IsSomeAnd-from_some (code_at (program_of (rewritten plans given) main) method)
+      (λ c. IsTypingOf (program_of (rewritten plans given) main) method c (facts.typing method)) code new_is
+      (same_typing (program_of given main) (program_of (rewritten plans given) main) method code outline
+      (λ j i at. insn_use numbered given main plans spelled method code x i i j j code refl at member at)
+      (λ h listed. handler_use numbered given main plans spelled method code x h h code refl listed member listed) (facts.typing method) typing)
+
+  -- ---- with a plan
+
+  module _ (plan : Insertions) (planned : plans method ≡ Some plan)
+      (safe : AreSafe facts (typed_method (program_of given main) facts.typing method code) plan)
+      (ready : AreReadyAtHeld facts (typed_method (program_of given main) facts.typing method code) plan) where
+    abbrev t : TypedMethod
+    t = typed_method (program_of given main) facts.typing method code
+
+    abbrev free : ℕ
+    free = free_index x.own
+
+    abbrev new : Code
+    new = woven_code (free_index x.own) code plan
+
+    new_is : code_at (program_of (rewritten plans given) main) method ≡ Some (woven_code (free_index x.own) code plan)
+    new_is = x.new_is ∙ ap (λ o. code_with (free_index x.own) o (Some code)) planned
+
+    member : HasMember (rewritten_class plans x.start x.own).methods (Some (woven_code (free_index x.own) code plan))
+    member = member_of (woven_code (free_index x.own) code plan) new_is
+
+    rules : MeetsCodeRules code
+    rules = MeetsCodeRules-method x.own x.old.member code (spelled_at given x.place x.own spelled x.at) x.old.among x.old.code_is
+
+    fit : AllByRecursion (λ (item : Item). LocalsFit code.max_locals item.insn) code.items
+    fit = (rules.1).locals
+
+    abbrev states : List (Option TypeState)
+    states = all_trimmed (facts.typing method)
+
+    -- ---- holders
+
+    -- a holder that is named before or after an item, with its site
+    record IsHolder (j h : ℕ) : Type 0 where
+      holder : Holder
+      at : slice_get plan.holders h ≡ Some holder
+      site_is : holder.site ≡ j
+      some : is_some (site_kind facts (typed_method (program_of given main) facts.typing method code) j) ≡ true
+
+    holder_after : (j h : ℕ) → Contains (after_at plan j) h → IsHolder j h
+    holder_after j h there =
+        let n = numbers-found (λ (g : Holder). g.site == j) 0 plan.holders h there in
+        let number : n.place ≡ h = let is = n.number in omega (arith, is) in
+        let site_is : n.holder.site ≡ j = eqb-true n.holder.site j n.passes in
+        let one = all_at (IsSafeHolder facts t) plan.holders n.place n.holder safe.holders n.there in
+        record {
+          holder = n.holder;
+          at = ap (slice_get plan.holders) (sym number) ∙ n.there;
+          site_is = site_is;
+          some = ap (λ k. is_some (site_kind facts t k)) (sym site_is)
+              ∙ first_of (is_some (site_kind facts t n.holder.site)) (is_captured facts t (site_class facts t n.holder.site)) one.captured;
+        }
+
+    can : CanStand code plan
+    can = record {
+      some = safe.some;
+      goes_on = λ j h there.
+          let site = site_at facts t j (holder_after j h there).some in
+          IsSomeAnd-from_some (insn_of code j) (λ i. falls_through i ≡ true) site.i site.there (site-falls facts t j site.i site.kind_some);
+    }
+
+    roles : HasRoles (free_index x.own) code plan
+    roles = stand (free_index x.own) code plan rules can
+
+    -- the type of a holder's objects: what the site's row leaves on top
+    abbrev type_of : Holder → TypeRef
+    type_of h = top_type (option_and_then (after_item (program_of given main) method code h.site) (state_at (all_trimmed (facts.typing method)) h.site))
+
+    abbrev w : Retyping
+    w = record {
+      given = program_of given main;
+      written = program_of (rewritten plans given) main;
+      method = method;
+      free = free_index x.own;
+      code = code;
+      plan = plan;
+      woven = woven_code (free_index x.own) code plan;
+      states = all_trimmed (facts.typing method);
+      types = map type_of plan.holders;
+      roles = roles.roles;
+      numbers = roles.numbers;
+      moved = roles.moved;
+    }
+
+    -- ---- what a site gives
+
+    no_static : (j : ℕ) (i : Insn) → insn_of code j ≡ Some i → (index : ℕ) (m : MethodId) (n : TypeId) → i ≡ insn.Special index
+        → use_by (program_of given main) method (insn.Special index) ≡ resolved.OfMethod m n
+        → is_static (method_at (program_of given main).outline.classes m.0).method.flags ≡ false
+    no_static j i there index m n is used =
+        linked.calls method (insn.Special index) m n false
+        (record { code = code; code_is = code_is; item = j; insn_is = there ∙ ap Some is; use_is = used }) refl
+
+    gives : (j h : ℕ) → IsHolder j h → (s after : TypeState) → state_at (facts.typing method) j ≡ Some s
+        → after_item (program_of given main) method code j s ≡ Some after → GivesObject s after
+    gives j h holder s after at is =
+        let site = site_at facts t j holder.some in
+        let i = site.i in
+        let row = sym (ap (option_and_then (λ k.
+        row_after (program_of given main).outline method j (made_at (program_of given main) method code) (use_by (program_of given main) method k) k s)) site.there) ∙ is in
+        site-gives facts t j (made_at (program_of given main) method code) s after steps.constructors i site.kind_some at
+        (λ kind. ready holder.holder s (contained_at plan.holders h holder.holder holder.at)
+        (ap (site_kind facts t) holder.site_is ∙ site.same ∙ kind) (ap (state_at (facts.typing method)) holder.site_is ∙ at))
+        (no_static j i site.there) row
+
+    -- the same where states are trimmed
+    gives_trimmed : (j h : ℕ) → IsHolder j h → (s after : TypeState) → state_at (all_trimmed (facts.typing method)) j ≡ Some s
+        → after_item (program_of given main) method code j s ≡ Some after → GivesObject s after
+    gives_trimmed j h holder s after at is =
+        let found = option_map-some trimmed_state (state_at (facts.typing method) j) s (sym (trimmed_at (facts.typing method) j) ∙ at) in
+        let first = found.0 in
+        let meets = typing.items j first found.1 in
+        let row = Some-from_some_and (after_item (program_of given main) method code j first) _ meets.row in
+        let r = trimmed_row (program_of given main) linked.tree method code j first row.0
+        (λ i there. subst (λ n. LocalsFit n i) (sym meets.locals) (locals_at code fit j i there)) row.1 in
+        let g = gives j h holder first r.after found.1 r.is in
+        let other_is : after_item (program_of given main) method code j s ≡ Some r.other =
+        subst (λ z. after_item (program_of given main) method code j z ≡ Some r.other) found.2 r.other_is in
+        let same : r.other ≡ after = same_value (after_item (program_of given main) method code j s) r.other after other_is is in
+        carried (trimmed_state first) s r.other after found.2 same (leaves first r.after r.other g r.leaves) where
+          leaves : (s after other : TypeState) → GivesObject s after
+              → (other ≡ trimmed_state after) ⊎ ((other ≡ after) × (trimmed s.locals ≡ s.locals)) → GivesObject (trimmed_state s) other
+          leaves s after other g (inl is) = record {
+            type = g.type;
+            rest = g.rest;
+            top = ap (λ (z : TypeState). z.stack) is ∙ g.top;
+            locals = ap (λ (z : TypeState). z.locals) is ∙ ap trimmed g.locals;
+            built = ap (λ (z : TypeState). z.built) is ∙ g.built;
+          }
+          leaves s after other g (inr (is, same)) = record {
+            type = g.type;
+            rest = g.rest;
+            top = ap (λ (z : TypeState). z.stack) is ∙ g.top;
+            locals = ap (λ (z : TypeState). z.locals) is ∙ g.locals ∙ sym same;
+            built = ap (λ (z : TypeState). z.built) is ∙ g.built;
+          }
+
+    held : (j h : ℕ) (s after : TypeState) → Contains (after_at plan j) h → state_at (all_trimmed (facts.typing method)) j ≡ Some s
+        → after_item (program_of given main) method code j s ≡ Some after → IsHeld w h s after
+    held j h s after there at is =
+        let holder = holder_after j h there in
+        let g = gives_trimmed j h holder s after at is in
+        let row = after_item (program_of given main) method code in
+        let type_is : type_of holder.holder ≡ g.type =
+        ap (λ k. top_type (option_and_then (row k) (state_at (all_trimmed (facts.typing method)) k))) holder.site_is
+        ∙ ap top_type (ap (option_and_then (row j)) at ∙ is) ∙ ap top_of g.top in
+        record {
+          rest = g.rest;
+          top = g.top ∙ ap (λ z. z ∷ g.rest) (sym (held_of type_of plan.holders h holder.holder holder.at ∙ ap slot.Ref type_is));
+          locals = g.locals;
+          built = g.built;
+        }
+
+    -- ---- what is named
+
+    uses : (j : ℕ) (i : Insn) → insn_of code j ≡ Some i
+        → use_by (program_of (rewritten plans given) main) method i ≡ use_by (program_of given main) method i
+    uses j i there =
+        let stands = roles.stands in
+        let within = insn_inside code j i there in
+        let kept = Some-from_some_and (insn_of new (roles.numbers j)) (HasInsn free code (Keep j)) (stands.insns (roles.numbers j) (Keep j) (stands.numbered j within)) in
+        let old = Some-from_some_and (insn_of code j) (λ k. IsRetargeted k kept.0 ⊎ IsOpposite k kept.0) kept.2 in
+        let same : old.0 ≡ i = same_value (insn_of code j) old.0 i old.1 there in
+        insn_use numbered given main plans spelled method code x i kept.0 j (roles.numbers j) new
+        ((same_row old.0 kept.0 old.2).operand ∙ ap pool_index same) there member kept.1
+
+    frees : (n j h : ℕ) → slice_get roles.roles n ≡ Some (FreeBefore j h) → Frees w
+    frees n j h there item news r s =
+        let call = Some-from_some_and (insn_of new n) (HasInsn free code (FreeBefore j h)) (roles.stands.insns n (FreeBefore j h) there) in
+        let used = used_by_item (rewritten_class plans x.start x.own) new member n (insn.Static free) free (call.1 ∙ ap Some call.2) refl in
+        let use_is = freed_use numbered given main plans spelled method code x used in
+        let tree = subst (λ (o : Outline). AreTree o.classes) (program_outline given main) linked.tree in
+        ap (λ u. row_after (program_of given main).outline method item news u (insn.Static free) (pushed (slot.Ref r ∷ []) s)) use_is
+        ∙ ap (λ (o : Outline). row_after o method item news free_use (insn.Static free) (pushed (slot.Ref r ∷ []) s)) (program_outline given main)
+        ∙ free_row given main tree (has_free numbered given main) method item news free r s
+
+    before : (j h : ℕ) → Contains (before_at plan j) h → h < length plan.holders
+    before j h there = by_place (cases_lt j (length code.items)) where
+      by_place : (j < length code.items) ⊎ (length code.items ≤ j) → h < length plan.holders
+      by_place (inl within) =
+          let may = (safe.items j within).may h there in slice_get_within plan.holders h may.holder may.is
+      by_place (inr past) =
+          let count = safe.one_each in
+          absurd (none_contained h (subst (λ l. Contains l h) (get_or_past plan.before j [] (omega (arith, past, count))) there))
+
+    can_retype : CanRetype w
+    can_retype = record {
+      tree = linked.tree;
+      outline = outline;
+      typing = typings_trimmed (program_of given main) linked.tree method code (facts.typing method) fit typing;
+      fit = fit;
+      short = λ j s at.
+          let found = option_map-some trimmed_state (state_at (facts.typing method) j) s (sym (trimmed_at (facts.typing method) j) ∙ at) in
+          subst (λ (z : TypeState). trimmed z.locals ≡ z.locals) found.2 (trimmed_twice found.0.locals);
+      can = can;
+      stands = roles.stands;
+      more_locals = refl;
+      more_stack = refl;
+      uses = λ j i s there at. uses j i there;
+      made = λ j i there. made_same (program_of given main) (program_of (rewritten plans given) main) method outline i (uses j i there);
+      caught = λ h listed.
+          handler_use numbered given main plans spelled method code x h (roles.moved h) new (roles.stands.catch_class h) listed member
+          (subst (λ l. Contains l (roles.moved h)) (sym roles.stands.handlers_are) (contained_mapped roles.moved code.handlers h listed));
+      frees = frees;
+      counted = length-map plan.holders type_of;
+      before = before;
+      after = λ j h there. let holder = holder_after j h there in slice_get_within plan.holders h holder.holder holder.at;
+      held = held;
+    }
+
+    planned_typed : IsTyping (program_of (rewritten plans given) main) method (role_states w)
+    planned_typed =
+        IsSomeAnd-from_some (code_at (program_of (rewritten plans given) main) method)
+        (λ c. IsTypingOf (program_of (rewritten plans given) main) method c (role_states w)) new new_is (retyped w can_retype)
+
+-- ---- all methods
+
+pub safe_typed : ClassTypesAreNumbered → CodesStand → ProgramsAreLinkedWell → StepsOfProgramsAreLinked → SafeClassesAreTyped
+safe_typed numbered stand links linked_steps given main written marks spelled none safe ready method new new_is =
+    subst (λ files. Typed (program_of files main) method) (sym safe.written_is)
+    (by_code (code_at (program_of given main) method) refl (subst (λ files. code_at (program_of files main) method ≡ Some new) safe.written_is new_is)) where
+      linked : IsLinkedWell (program_of given main)
+      linked = links given main spelled none
+
+      steps : StepsAreLinked (program_of given main)
+      steps = linked_steps given main spelled none
+
+      by_plan : (code : Code) (is : code_at (program_of given main) method ≡ Some code) → (plan : Option Insertions) → safe.plans method ≡ plan
+          → Typed (program_of (rewritten safe.plans given) main) method
+      by_plan code is None so =
+          (safe.facts.typing method, unplanned numbered stand given main safe.plans spelled linked steps safe.facts safe.exact method code is so)
+      by_plan code is (Some plan) so =
+          let own = safe.methods method plan so in
+          let typed = typed_method (program_of given main) safe.facts.typing method code in
+          let there : method_in_facts (program_of given main) safe.facts method ≡ Some typed =
+          ap (option_map (typed_method (program_of given main) safe.facts.typing method)) is in
+          let same : own.x ≡ typed = same_value (method_in_facts (program_of given main) safe.facts method) own.x typed own.is there in
+          let good = subst (λ z. AreSafe safe.facts z plan) same own.safe in
+          (_, planned_typed numbered stand given main safe.plans spelled linked steps safe.facts safe.exact method code is plan so good (ready method plan typed so there))
+
+      by_code : (old : Option Code) → code_at (program_of given main) method ≡ old → code_at (program_of (rewritten safe.plans given) main) method ≡ Some new
+          → Typed (program_of (rewritten safe.plans given) main) method
+      by_code None is there =
+          let woven = codes_woven given main safe.plans method in
+          absurd (none-some new (sym (woven.new_is ∙ ap (code_with woven.free (safe.plans method)) is ∙ no_code woven.free (safe.plans method)) ∙ there))
+      by_code (Some code) is there = by_plan code is (safe.plans method) refl

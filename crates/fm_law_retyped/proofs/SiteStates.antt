@@ -1,0 +1,372 @@
+-- After a site its object is on top, by a type; and where no local holds an object that isn't
+-- initialised nothing but the stack has changed.
+use Rattle.std.proofs.Common.{◌≡◌, refl, ap, sym, ◌∙◌, ℕ, zero, suc, ◌+◌, ◌-◌, ◌&&◌, Bool, true, false, not, cond, List, [], ◌∷◌, ◌++◌, length, length-append, reverse, replicate, Option, Some, None, is_some, option_and_then, option_map, slice_get, append_assoc, arith}
+use Rattle.std.specs.Prelude.{nat_le, nat_lt, option_to_list}
+use Rattle.std.specs.List.{list_any}
+use Rattle.std.proofs.lemmas.Bool.{false≢true}
+use Rattle.std.proofs.lemmas.List.{length-reverse, reverse-append}
+use Rattle.std.proofs.lemmas.Option.{none-some, option_and_then_some, same_Some}
+use Rattle.fm_base.proofs.OptionFacts.{cond-some_else, cond-some_then}
+use Rattle.fm_base.specs.declared.ids.MethodId.{MethodId}
+use Rattle.fm_base.specs.declared.ids.TypeId.{TypeId}
+use Rattle.fm_base.specs.declared.kinds.Base.{Base}
+use Rattle.fm_base.specs.declared.kinds.Kind.{Kind}
+use Rattle.fm_base.specs.declared.kinds.Kind.TheVariants as kind
+use Rattle.fm_base.specs.declared.kinds.TypeRef.{TypeRef}
+use Rattle.fm_code.specs.AccessFlags.{is_static}
+use Rattle.fm_code.specs.Edges.{falls_through}
+use Rattle.fm_code.specs.declared.instructions.Insn.{Insn}
+use Rattle.fm_code.specs.declared.instructions.Insn.TheVariants as insn
+use Rattle.fm_conn.specs.Facts.{Facts}
+use Rattle.fm_conn.specs.Nodes.{depth_at, TypedMethod}
+use Rattle.fm_conn.specs.Pairs.{call_of, call_with, use_at}
+use Rattle.fm_conn.specs.Rows.{is_reference_kind, words_taken}
+use Rattle.fm_conn.specs.Summaries.{same_number}
+use Rattle.fm_frames.specs.CallRows.{words_of_arguments}
+use Rattle.fm_place.specs.Sites.{constructs, Constructs, has_reference_result, is_doubled, kind_of_site, makes_array, MakesArray, may_give_old, names_constructor, new_item, receives_new, ReceivesNew, SiteKind}
+use Rattle.fm_law_retyped.specs.Retyped.{AreInitialised}
+use Rattle.fm_same.proofs.CallWords.{arguments_length, slice_after, taken_off}
+use Rattle.fm_law_sound.specs.Going.{ConstructorsGiveNothing}
+use Rattle.fm_types.proofs.Zips.{zip-length}
+use Rattle.fm_types.specs.ArrayRows.{multi_array_row, new_array_row, new_references_row}
+use Rattle.fm_types.specs.CallRows.{constructed, constructor_called, initialised, instance_call_row, is_constructor, is_initializer, is_type, names_own_or_above, special_call_row, static_call_row}
+use Rattle.fm_types.specs.Named.{argument_words, class_of_method, on_method, on_type, result_of, result_words}
+use Rattle.fm_types.specs.Rows.{row_after}
+use Rattle.fm_types.specs.States.{is_uninit, replaced, stack_slots, taken, TypeState, worked}
+use Rattle.fm_types.specs.Typed.{state_at}
+use Rattle.fm_types.specs.declared.slots.Slot.{Slot}
+use Rattle.fm_types.specs.declared.slots.Slot.TheVariants as slot
+use Rattle.fm_world.specs.Members.{method_at}
+use Rattle.fm_world.specs.Numbers.{type_of_class}
+use Rattle.fm_world.specs.Programs.{class_id, Outline, targets}
+use Rattle.fm_world.specs.Uses.{array_of, base_of_elem}
+use Rattle.fm_world.specs.declared.calls.Call.{Call}
+use Rattle.fm_world.specs.declared.calls.CallKind.{CallKind}
+use Rattle.fm_world.specs.declared.calls.CallKind.TheVariants as call
+use Rattle.fm_world.specs.declared.uses.Use.{Use}
+use Rattle.fm_world.specs.declared.uses.Use.TheVariants as resolved
+
+-- a reference is on top, and nothing but the stack has changed
+pub record GivesObject (s after : TypeState) : Type 0 where
+  pub type : TypeRef
+  pub rest : List Slot
+  pub top : after.stack ≡ slot.Ref type ∷ rest
+  pub locals : after.locals ≡ s.locals
+  pub built : after.built ≡ s.built
+
+worked-gives : (o : Outline) (wanted : List Slot) (t : TypeRef) (s after : TypeState) → worked o wanted (slot.Ref t ∷ []) s ≡ Some after → GivesObject s after
+worked-gives o wanted t s after = by_rest (taken o wanted s.stack) where
+  by_rest : (found : Option (List Slot)) → option_map (λ (stack : List Slot). record s { stack = slot.Ref t ∷ stack }) found ≡ Some after → GivesObject s after
+  by_rest None there = absurd (none-some after there)
+  by_rest (Some rest) there =
+      let same = same_Some (record s { stack = slot.Ref t ∷ rest }) after there in
+      record {
+        type = t;
+        rest = rest;
+        top = ap (λ (x : TypeState). x.stack) (sym same);
+        locals = ap (λ (x : TypeState). x.locals) (sym same);
+        built = ap (λ (x : TypeState). x.built) (sym same);
+      }
+
+on_type-gives : (o : Outline) (u : Use) (follows : TypeRef → Option TypeState) (s after : TypeState)
+    → ((t : TypeRef) → follows t ≡ Some after → GivesObject s after) → on_type o u follows ≡ Some after → GivesObject s after
+on_type-gives o (resolved.OfType t) follows s after each there = option_and_then_some follows (slice_get o.types t.0) after there (λ found is. each found)
+on_type-gives o u follows s after each there = absurd (none-some after there)
+
+-- ---- arrays
+
+array-gives : (o : Outline) (method item : ℕ) (news : ℕ → Option TypeRef) (u : Use) (i : Insn) (s after : TypeState) → makes_array i ≡ true
+    → row_after o method item news u i s ≡ Some after → GivesObject s after
+unfolding row_after new_array_row new_references_row multi_array_row
+array-gives o method item news u (insn.NewArray e) s after is there =
+    option_and_then_some (λ (b : Base). worked o (slot.Int ∷ []) (slot.Ref (record { dims = 1; base = b }) ∷ []) s) (base_of_elem e) after there
+    (λ b found. worked-gives o (slot.Int ∷ []) (record { dims = 1; base = b }) s after)
+array-gives o method item news u (insn.NewRefs index) s after is there =
+    on_type-gives o u (λ t. option_and_then (λ (array : TypeRef). worked o (slot.Int ∷ []) (slot.Ref array ∷ []) s) (array_of t)) s after
+    (λ t gives. option_and_then_some (λ (array : TypeRef). worked o (slot.Int ∷ []) (slot.Ref array ∷ []) s) (array_of t) after gives
+    (λ array found. worked-gives o (slot.Int ∷ []) array s after)) there
+array-gives o method item news u (insn.MultiArray index dimensions) s after is there =
+    on_type-gives o u
+    (λ t. cond (nat_lt 0 dimensions && nat_le dimensions t.dims) (worked o (replicate dimensions slot.Int) (slot.Ref t ∷ []) s) None) s after
+    (λ t gives. worked-gives o (replicate dimensions slot.Int) t s after
+    (cond-some_then (nat_lt 0 dimensions && nat_le dimensions t.dims) (worked o (replicate dimensions slot.Int) (slot.Ref t ∷ []) s) after gives).1) there
+array-gives o method item news u i s after is there = absurd (false≢true is)
+
+-- ---- calls that give a reference
+
+abbrev refers : Option Kind → Bool
+refers None = false
+refers (Some k) = is_reference_kind k
+
+-- the word of such a result
+result-word : (o : Outline) (m : ℕ) → has_reference_result o m ≡ true → (t : TypeRef) × (result_words o m ≡ slot.Ref t ∷ [])
+result-word o m is = by_result (result_of o m) is where
+  by_kind : (k : Kind) → is_reference_kind k ≡ true → (t : TypeRef) × (stack_slots (k ∷ []) ≡ slot.Ref t ∷ [])
+  by_kind (kind.Ref t) is = (t, refl)
+  by_kind k is = absurd (false≢true is)
+
+  by_result : (r : Option Kind) → refers r ≡ true → (t : TypeRef) × (stack_slots (option_to_list r) ≡ slot.Ref t ∷ [])
+  by_result None is = absurd (false≢true is)
+  by_result (Some k) is = by_kind k is
+
+result-gives : (o : Outline) (m : ℕ) (wanted : List Slot) (s after : TypeState) → has_reference_result o m ≡ true
+    → worked o wanted (result_words o m) s ≡ Some after → GivesObject s after
+result-gives o m wanted s after is there =
+    let word = result-word o m is in
+    worked-gives o wanted word.0 s after (sym (ap (λ given. worked o wanted given s) word.1) ∙ there)
+
+-- both of two hold
+first_of : (a b : Bool) → (a && b) ≡ true → a ≡ true
+first_of true b is = refl
+first_of false b is = absurd (false≢true is)
+
+second_of : (a b : Bool) → (a && b) ≡ true → b ≡ true
+second_of true b is = is
+second_of false b is = absurd (false≢true is)
+
+-- a call's row, where it receives a new object
+method-gives : (facts : Facts) (x : TypedMethod) (k : CallKind) (s after : TypeState) (u : Use) (follows : ℕ → TypeRef → Option TypeState)
+    → ((m : ℕ) (named : TypeRef) → has_reference_result x.program.outline m ≡ true → follows m named ≡ Some after → GivesObject s after)
+    → receives_new facts x (call_with x k u) ≡ true → on_method x.program.outline u follows ≡ Some after → GivesObject s after
+method-gives facts x k s after (resolved.OfMethod m t) follows each is there = by_type (slice_get x.program.outline.types t.0) is there where
+  made : TypeRef → Call
+  made named = record { kind = k; named = named; method = m; caller = class_id (class_of_method x.program.outline x.number) }
+
+  by_type : (found : Option TypeRef) → receives_new facts x (option_map made found) ≡ true → option_and_then (follows m.0) found ≡ Some after
+      → GivesObject s after
+  by_type None is there = absurd (false≢true is)
+  by_type (Some named) is there =
+      let some = nat_lt 0 (length (targets x.program (made named))) in
+      each m.0 named
+      (first_of (has_reference_result x.program.outline m.0) some
+      (first_of (has_reference_result x.program.outline m.0 && some)
+      (not (list_any (may_give_old x.program.outline facts) (targets x.program (made named)))) is)) there
+method-gives facts x k s after u follows each is there = absurd (none-some after there)
+
+-- ---- calls of constructors
+
+one_kept : (item : ℕ) (t : TypeRef) (s : Slot) → new_item s ≡ None → cond (is_uninit item s) (slot.Ref t) s ≡ s
+one_kept item t slot.Top is = refl
+one_kept item t slot.Int is = refl
+one_kept item t slot.Long is = refl
+one_kept item t slot.Null is = refl
+one_kept item t (slot.Ref r) is = refl
+one_kept item t (slot.Uninit other) is = absurd (none-some other (sym is))
+one_kept item t slot.UninitThis is = refl
+
+-- no local becomes another one
+none_replaced : (item : ℕ) (t : TypeRef) (locals : List Slot) → AreInitialised locals → replaced (is_uninit item) (slot.Ref t) locals ≡ locals
+none_replaced item t [] none = refl
+none_replaced item t (s ∷ locals) none = λ k. one_kept item t s none.0 k ∷ none_replaced item t locals none.1 k
+
+-- the object and the copy of it under it are of one `new`
+built-gives : (o : Outline) (method : ℕ) (news : ℕ → Option TypeRef) (named : TypeRef) (receiver below : Slot) (rest : List Slot) (s after : TypeState)
+    → AreInitialised s.locals → same_number (new_item receiver) (new_item below) ≡ true
+    → constructed o method news named receiver (record s { stack = below ∷ rest }) ≡ Some after → GivesObject s after
+built-gives o method news named (slot.Uninit item) (slot.Uninit other) rest s after none same there =
+    let new = initialised (is_uninit item) named (record s { stack = slot.Uninit other ∷ rest }) in
+    let left = cond-some_then (is_type named (news item)) (Some new) after there in
+    let is : new ≡ after = same_Some new after left.1 in
+    record {
+      type = named;
+      rest = replaced (is_uninit item) (slot.Ref named) rest;
+      top = ap (λ (t : TypeState). t.stack) (sym is)
+          ∙ ap (λ b. cond b (slot.Ref named) (slot.Uninit other) ∷ replaced (is_uninit item) (slot.Ref named) rest) same;
+      locals = ap (λ (t : TypeState). t.locals) (sym is) ∙ none_replaced item named s.locals none;
+      built = ap (λ (t : TypeState). t.built) (sym is);
+    }
+built-gives o method news named (slot.Uninit item) below rest s after none same there = absurd (false≢true same)
+built-gives o method news named receiver below rest s after none same there = absurd (false≢true same)
+
+-- the word under which this many lie
+word_above : (xs ys : List Slot) (v : Slot) → slice_get (reverse (xs ++ v ∷ ys)) (length ys) ≡ Some v
+word_above xs ys v =
+    let size : length ys ≡ length (reverse ys) + 0 = omega (arith, length-reverse ys) in
+    ap (λ list. slice_get list (length ys)) (reverse-append xs (v ∷ ys) ∙ ap (λ list. list ++ reverse xs) (reverse-append (v ∷ []) ys)
+    ∙ append_assoc (reverse ys) (v ∷ []) (reverse xs))
+    ∙ ap (slice_get (reverse ys ++ v ∷ reverse xs)) size ∙ slice_after (reverse ys) (v ∷ reverse xs) 0
+
+-- the words of a stack with its top first, by how many lie below
+abbrev doubled_in : List Slot → ℕ → Bool
+doubled_in stack zero = false
+doubled_in stack (suc below) =
+    same_number (option_and_then new_item (slice_get (reverse stack) (suc below))) (option_and_then new_item (slice_get (reverse stack) below))
+
+constructor-gives : (o : Outline) (method : ℕ) (news : ℕ → Option TypeRef) (m : ℕ) (named : TypeRef) (s after : TypeState) → AreInitialised s.locals
+    → doubled_in s.stack (length s.stack - (1 + words_of_arguments o m)) ≡ true → constructor_called o method news m named s ≡ Some after
+    → GivesObject s after
+constructor-gives o method news m named s after none doubled there = by_rest (taken o (argument_words o m) s.stack) refl there where
+  of_rest : List Slot → Option TypeState
+  of_rest [] = None
+  of_rest (receiver ∷ stack) = constructed o method news named receiver (record s { stack = stack })
+
+  below : (rest : List Slot) → taken o (argument_words o m) s.stack ≡ Some rest → of_rest rest ≡ Some after → GivesObject s after
+  below [] found further = absurd (none-some after further)
+  below (receiver ∷ []) found further =
+      let off = taken_off o (argument_words o m) s.stack (receiver ∷ []) found in
+      let words : length off.words ≡ words_of_arguments o m = zip-length _ off.words (argument_words o m) off.fitting ∙ arguments_length o m in
+      let all : length s.stack ≡ length off.words + 1 = ap length off.is ∙ length-append off.words (receiver ∷ []) in
+      let none_below : length s.stack - (1 + words_of_arguments o m) ≡ 0 = omega (arith, words, all) in
+      absurd (false≢true (sym (ap (doubled_in s.stack) none_below) ∙ doubled))
+  below (receiver ∷ under ∷ rest) found further =
+      let off = taken_off o (argument_words o m) s.stack (receiver ∷ under ∷ rest) found in
+      let words : length off.words ≡ words_of_arguments o m = zip-length _ off.words (argument_words o m) off.fitting ∙ arguments_length o m in
+      let all : length s.stack ≡ length off.words + suc (suc (length rest)) = ap length off.is ∙ length-append off.words (receiver ∷ under ∷ rest) in
+      let depth : length s.stack - (1 + words_of_arguments o m) ≡ suc (length rest) = omega (arith, words, all) in
+      let first : slice_get (reverse s.stack) (suc (length rest)) ≡ Some receiver =
+      ap (λ list. slice_get (reverse list) (suc (length rest))) off.is ∙ word_above off.words (under ∷ rest) receiver in
+      let second : slice_get (reverse s.stack) (length rest) ≡ Some under =
+      ap (λ list. slice_get (reverse list) (length rest)) (off.is ∙ sym (append_assoc off.words (receiver ∷ []) (under ∷ rest)))
+      ∙ word_above (off.words ++ receiver ∷ []) rest under in
+      built-gives o method news named receiver under rest s after none
+      (sym (λ k. same_number (option_and_then new_item (first k)) (option_and_then new_item (second k)))
+      ∙ sym (ap (doubled_in s.stack) depth) ∙ doubled) further
+
+  by_rest : (found : Option (List Slot)) → taken o (argument_words o m) s.stack ≡ found → option_and_then of_rest found ≡ Some after
+      → GivesObject s after
+  by_rest None found further = absurd (none-some after further)
+  by_rest (Some rest) found further = below rest found further
+
+chosen : (b : Bool) (x y : Option TypeState) (after : TypeState) → b ≡ true → cond b x y ≡ Some after → x ≡ Some after
+chosen true x y after is there = there
+chosen false x y after is there = absurd (false≢true is)
+
+doubled-stack : (x : TypedMethod) (j : ℕ) (s : TypeState) → state_at x.states j ≡ Some s → (depth : ℕ) → is_doubled x j depth ≡ doubled_in s.stack depth
+doubled-stack x j s at zero = refl
+doubled-stack x j s at (suc below) =
+    λ k. same_number (option_and_then new_item (option_and_then (λ (t : TypeState). slice_get (reverse t.stack) (suc below)) (at k)))
+    (option_and_then new_item (option_and_then (λ (t : TypeState). slice_get (reverse t.stack) below) (at k)))
+
+abbrev depth_in : Option TypeState → ℕ
+depth_in None = 0
+depth_in (Some s) = length s.stack
+
+-- ---- sites
+
+module _ (facts : Facts) (x : TypedMethod) (j : ℕ) (news : ℕ → Option TypeRef) (s after : TypeState) (constructors : ConstructorsGiveNothing x.program.outline) where
+  abbrev o : Outline
+  o = x.program.outline
+
+  special-gives : (index : ℕ) → state_at x.states j ≡ Some s → AreInitialised s.locals
+      → ((m : MethodId) (t : TypeId) → use_at x (insn.Special index) ≡ resolved.OfMethod m t
+      → is_static (method_at x.program.outline.classes m.0).method.flags ≡ false)
+      → constructs x j (insn.Special index) ≡ true → special_call_row x.program.outline x.number news (use_at x (insn.Special index)) s ≡ Some after
+      → GivesObject s after
+  unfolding special_call_row words_taken
+  special-gives index at none no_static made there = by_use (use_at x (insn.Special index)) refl made there where
+    depth : depth_at x j ≡ length s.stack
+    depth = ap depth_in at
+
+    by_use : (u : Use) → use_at x (insn.Special index) ≡ u
+        → (names_constructor o u && is_doubled x j (depth_at x j - words_taken o u (insn.Special index))) ≡ true
+        → special_call_row o x.number news u s ≡ Some after → GivesObject s after
+    by_use (resolved.OfMethod m t) used both row =
+        let doubled_so = is_doubled x j (depth_at x j - words_taken o (resolved.OfMethod m t) (insn.Special index)) in
+        let constructor : is_constructor o m.0 ≡ true = first_of (is_constructor o m.0) doubled_so both in
+        let doubled = second_of (is_constructor o m.0) doubled_so both in
+        let words : words_taken o (resolved.OfMethod m t) (insn.Special index) ≡ 1 + words_of_arguments o m.0 =
+        ap (λ b. cond b 0 1 + words_of_arguments o m.0) (no_static m t used) in
+        let under : doubled_in s.stack (length s.stack - (1 + words_of_arguments o m.0)) ≡ true =
+        sym (λ k. doubled_in s.stack (depth k - words k))
+        ∙ sym (doubled-stack x j s at (depth_at x j - words_taken o (resolved.OfMethod m t) (insn.Special index))) ∙ doubled in
+        option_and_then_some _ (slice_get o.types t.0) after row
+        (λ named found gives. constructor-gives o x.number news m.0 named s after none under
+        (chosen (is_constructor o m.0) (constructor_called o x.number news m.0 named s) _ after constructor gives))
+    by_use (resolved.OfType t) used both row = absurd (false≢true both)
+    by_use (resolved.OfField f t) used both row = absurd (false≢true both)
+    by_use (resolved.OfInt value) used both row = absurd (false≢true both)
+    by_use (resolved.OfLong value) used both row = absurd (false≢true both)
+    by_use (resolved.OfText text) used both row = absurd (false≢true both)
+    by_use resolved.Unused used both row = absurd (false≢true both)
+
+  instance-gives : (k : CallKind) (u : Use) → receives_new facts x (call_with x k u) ≡ true → instance_call_row o u s ≡ Some after → GivesObject s after
+  unfolding instance_call_row
+  instance-gives k u is there =
+      method-gives facts x k s after u
+      (λ m named. cond (is_initializer o m) None (worked o (argument_words o m ++ slot.Ref named ∷ []) (result_words o m) s))
+      (λ m named has gives. result-gives o m (argument_words o m ++ slot.Ref named ∷ []) s after has
+      (cond-some_else (is_initializer o m) (worked o (argument_words o m ++ slot.Ref named ∷ []) (result_words o m) s) after gives).1) is there
+
+  static-gives : (u : Use) → receives_new facts x (call_with x call.Static u) ≡ true → static_call_row o u s ≡ Some after → GivesObject s after
+  unfolding static_call_row
+  static-gives u is there =
+      method-gives facts x call.Static s after u
+      (λ m named. cond (is_initializer o m) None (worked o (argument_words o m) (result_words o m) s))
+      (λ m named has gives. result-gives o m (argument_words o m) s after has
+      (cond-some_else (is_initializer o m) (worked o (argument_words o m) (result_words o m) s) after gives).1) is there
+
+  abbrev own_words : ℕ → List Slot
+  own_words m = argument_words o m ++ slot.Ref (type_of_class (class_of_method o x.number)) ∷ []
+
+  abbrev other_special : ℕ → TypeRef → Option TypeState
+  other_special m named =
+      cond (is_initializer o m) None (cond (names_own_or_above o (class_of_method o x.number) named) (worked o (own_words m) (result_words o m) s) None)
+
+  other-gives : (m : ℕ) (named : TypeRef) → has_reference_result o m ≡ true → (b : Bool) → is_constructor o m ≡ b
+      → cond b (constructor_called o x.number news m named s) (other_special m named) ≡ Some after → GivesObject s after
+  other-gives m named has true constructor gives = absurd (false≢true (sym (ap refers (constructors m constructor)) ∙ has))
+  other-gives m named has false constructor gives =
+      let above = names_own_or_above o (class_of_method o x.number) named in
+      let row = worked o (own_words m) (result_words o m) s in
+      result-gives o m (own_words m) s after has (cond-some_then above row after (cond-some_else (is_initializer o m) (cond above row None) after gives).1).1
+
+  factory-gives : (u : Use) → receives_new facts x (call_with x call.Special u) ≡ true → special_call_row o x.number news u s ≡ Some after
+      → GivesObject s after
+  unfolding special_call_row
+  factory-gives u is there =
+      method-gives facts x call.Special s after u
+      (λ m named. cond (is_constructor o m) (constructor_called o x.number news m named s) (other_special m named))
+      (λ m named has gives. other-gives m named has (is_constructor o m) refl gives) is there
+
+  received-gives : (i : Insn) → receives_new facts x (call_of x i) ≡ true → row_after o x.number j news (use_at x i) i s ≡ Some after → GivesObject s after
+  unfolding row_after
+  received-gives (insn.Virtual index) is there = instance-gives call.Virtual (use_at x (insn.Virtual index)) is there
+  received-gives (insn.Interface index) is there = instance-gives call.Interface (use_at x (insn.Interface index)) is there
+  received-gives (insn.Special index) is there = factory-gives (use_at x (insn.Special index)) is there
+  received-gives (insn.Static index) is there = static-gives (use_at x (insn.Static index)) is there
+  received-gives i is there = absurd (false≢true is)
+
+  -- invokespecial of this instruction names no static method
+  abbrev pub NoStatic : Insn → Type 0
+  NoStatic i =
+      (index : ℕ) (m : MethodId) (t : TypeId) → i ≡ insn.Special index → use_at x (insn.Special index) ≡ resolved.OfMethod m t
+      → is_static (method_at x.program.outline.classes m.0).method.flags ≡ false
+
+  constructed-gives : (i : Insn) → state_at x.states j ≡ Some s → AreInitialised s.locals → NoStatic i
+      → constructs x j i ≡ true → row_after o x.number j news (use_at x i) i s ≡ Some after → GivesObject s after
+  unfolding row_after
+  constructed-gives (insn.Special index) at none no_static is there = special-gives index at none (λ m t used. no_static index m t refl used) is there
+  constructed-gives i at none no_static is there = absurd (false≢true is)
+
+  abbrev kind_by : Bool → Bool → Bool → Option SiteKind
+  kind_by array made received = cond array (Some MakesArray) (cond made (Some Constructs) (cond received (Some ReceivesNew) None))
+
+  -- each kind of a site
+  pub site-gives : (i : Insn) → is_some (kind_of_site facts x j i) ≡ true → state_at x.states j ≡ Some s
+      → (kind_of_site facts x j i ≡ Some Constructs → AreInitialised s.locals) → NoStatic i
+      → row_after o x.number j news (use_at x i) i s ≡ Some after → GivesObject s after
+  site-gives i is at none no_static there = by_array (makes_array i) refl where
+    by_call : (b : Bool) → receives_new facts x (call_of x i) ≡ b → is_some (kind_by false false b) ≡ true → GivesObject s after
+    by_call true so some = received-gives i so there
+    by_call false so some = absurd (false≢true some)
+
+    by_new : makes_array i ≡ false → (b : Bool) → constructs x j i ≡ b → GivesObject s after
+    by_new no_array true so =
+        let kind_is : kind_of_site facts x j i ≡ Some Constructs = λ k. kind_by (no_array k) (so k) (receives_new facts x (call_of x i)) in
+        constructed-gives i at (none kind_is) no_static so there
+    by_new no_array false so =
+        by_call (receives_new facts x (call_of x i)) refl
+        (sym (λ k. is_some (kind_by (no_array k) (so k) (receives_new facts x (call_of x i)))) ∙ is)
+
+    by_array : (b : Bool) → makes_array i ≡ b → GivesObject s after
+    by_array true so = array-gives o x.number j news (use_at x i) i s after so there
+    by_array false so = by_new so (constructs x j i) refl
+
+-- control goes on after a site
+pub site-falls : (facts : Facts) (x : TypedMethod) (j : ℕ) (i : Insn) → is_some (kind_of_site facts x j i) ≡ true → falls_through i ≡ true
+site-falls facts x j (insn.Goto target) is = absurd (false≢true is)
+site-falls facts x j (insn.Table low others targets) is = absurd (false≢true is)
+site-falls facts x j (insn.Lookup others keys targets) is = absurd (false≢true is)
+site-falls facts x j (insn.Return value) is = absurd (false≢true is)
+site-falls facts x j insn.Throw is = absurd (false≢true is)
+site-falls facts x j i is = refl

@@ -1,0 +1,255 @@
+-- The indices of instructions and of entries of exception tables refer to the same in the written
+-- classes, and what is inserted calls FreeMe.free.
+use Rattle.std.proofs.Common.{◌≡◌, refl, sym, ◌∙◌, ap, ℕ, zero, suc, ◌+◌, ◌<◌, ◌≤◌, ◌⊎◌, inl, inr, ⊎_elim, true, cond, List, [], ◌∷◌, ◌++◌, length, map, get_or, Option, Some, None, Contains, arith}
+use Rattle.std.specs.List.{AllByRecursion, cons_option, filter_map, flat_map}
+use Rattle.std.proofs.lemmas.Bool.{cases_eq, cases_lt, false≢true}
+use Rattle.std.proofs.lemmas.List.{get_or_past}
+use Rattle.fm_link_supers.proofs.Downwards.{among_head, among_later, among_left, among_right}
+use Rattle.fm_link_supers.proofs.ParentRefusals.{spelled_at}
+use Rattle.fm_law_relinked.proofs.ClassStays.{more_entries, names_free}
+use Rattle.fm_law_relinked.proofs.FreeMethod.{free_class_number, free_method_number}
+use Rattle.fm_law_relinked.proofs.FreeUse.{ClassTypesAreNumbered, free_resolved, has_free, HasFree}
+use Rattle.fm_law_relinked.proofs.Outlines.{either_class, outline_same}
+use Rattle.fm_law_relinked.proofs.PoolStays.{entry_same, member_same, method_entry, method_named}
+use Rattle.fm_law_relinked.proofs.UsedWithin.{unused_past}
+use Rattle.fm_law_relinked.proofs.Uses.{row_within, use_at, uses_same}
+use Rattle.fm_code.specs.ConstantPool.{method_ref_at}
+use Rattle.fm_code.specs.Edges.{insn_of}
+use Rattle.fm_code.specs.FreeEntries.{free_method}
+use Rattle.fm_code.specs.Members.{code_of}
+use Rattle.fm_code.specs.Spells.{HasSpelling}
+use Rattle.fm_code.specs.declared.class_file.ClassDef.{ClassDef}
+use Rattle.fm_code.specs.declared.class_file.Member.{Member}
+use Rattle.fm_code.specs.declared.code_array.Code.{Code}
+use Rattle.fm_code.specs.declared.code_array.Handler.{Handler}
+use Rattle.fm_code.specs.declared.code_array.Item.{Item}
+use Rattle.fm_code.specs.declared.constant_pool.Entry.{Entry}
+use Rattle.fm_code.specs.declared.constant_pool.Entry.TheVariants as entry
+use Rattle.fm_code.specs.declared.instructions.Insn.{Insn}
+use Rattle.fm_code.specs.declared.instructions.Insn.TheVariants as insn
+use Rattle.fm_place.specs.Rewriting.{free_index, Plans, rewritten, rewritten_class}
+use Rattle.fm_law_linked.proofs.CodedMethods.{item_there}
+use Rattle.fm_law_retyped.proofs.WrittenMethods.{HasMember, IsWritten}
+use Rattle.fm_types.specs.Named.{class_of_method}
+use Rattle.fm_types.specs.Typed.{use_by, use_in}
+use Rattle.fm_world.specs.BuiltIns.{built_in}
+use Rattle.fm_world.specs.Chains.{is_among}
+use Rattle.fm_world.specs.Programs.{class_uses, method_use, Outline, outline_of, program_of, resolved_at, use_of}
+use Rattle.fm_code.specs.Operands.{pool_index}
+use Rattle.fm_world.specs.Uses.{caught_by, class_items, is_used, used_indices, values_of}
+use Rattle.fm_world.specs.declared.uses.Use.{Use}
+use Rattle.fm_world.specs.declared.uses.Use.TheVariants as resolved
+use Rattle.fm_law_spelled.specs.Changed.{changed}
+
+-- ---- indices that are used
+
+abbrev operands : List Item → List ℕ
+operands items = filter_map (λ (item : Item). pool_index item.insn) items
+
+operand_among : (items : List Item) (item : Item) (index : ℕ) → Contains items item → pool_index item.insn ≡ Some index → is_among index (operands items) ≡ true
+operand_among [] item index (k, inside, there) is = absurd (omega (arith, inside))
+operand_among (x ∷ items) item index (zero, inside, there) is =
+    ap (λ o. is_among index (cons_option o (operands items))) (ap (λ (y : Item). pool_index y.insn) there ∙ is) ∙ among_head index (operands items)
+operand_among (x ∷ items) item index (suc k, inside, there) is =
+    by_option (pool_index x.insn) (operand_among items item index (k, omega (arith, inside), there) is) where
+      by_option : (o : Option ℕ) → is_among index (operands items) ≡ true → is_among index (cons_option o (operands items)) ≡ true
+      by_option None later = later
+      by_option (Some n) later = among_later index n (operands items) later
+
+pub used_by_item : (c : ClassDef) (code : Code) → HasMember c.methods (Some code) → (n : ℕ) (i : Insn) (index : ℕ) → insn_of code n ≡ Some i → pool_index i ≡ Some index
+    → is_used c index ≡ true
+unfolding used_indices
+used_by_item c code m n i index at named =
+    let x = item_there c m.member code n i m.among m.code_is at in
+    let among = operand_among (class_items c) x.item index x.among (ap pool_index x.insn_is ∙ named) in
+    let values = flat_map values_of c.fields in
+    let first = operands (class_items c) in
+    let caught = flat_map caught_by c.methods in
+    let all = c.interfaces ++ values ++ first ++ caught in
+    among_later index c.this_class (c.super_class ∷ all)
+    (among_later index c.super_class all
+    (among_left index (c.interfaces ++ values ++ first) caught (among_right index (c.interfaces ++ values) first among)))
+
+class_among : (handlers : List Handler) (h : Handler) → Contains handlers h → is_among h.catch_class (map (λ (x : Handler). x.catch_class) handlers) ≡ true
+class_among [] h (k, inside, there) = absurd (omega (arith, inside))
+class_among (x ∷ handlers) h (zero, inside, there) =
+    ap (λ (y : Handler). is_among h.catch_class (y.catch_class ∷ map (λ (z : Handler). z.catch_class) handlers)) there
+    ∙ among_head h.catch_class (map (λ (x : Handler). x.catch_class) handlers)
+class_among (x ∷ handlers) h (suc k, inside, there) =
+    among_later h.catch_class x.catch_class (map (λ (x : Handler). x.catch_class) handlers) (class_among handlers h (k, omega (arith, inside), there))
+
+abbrev caught_in : Option Code → List ℕ
+caught_in None = []
+caught_in (Some code) = map (λ (h : Handler). h.catch_class) code.handlers
+
+caught_among : (members : List Member) (m : Member) (code : Code) (h : Handler) → Contains members m → code_of m ≡ Some code → Contains code.handlers h
+    → is_among h.catch_class (flat_map caught_by members) ≡ true
+caught_among [] m code h (k, inside, there) is listed = absurd (omega (arith, inside))
+caught_among (x ∷ members) m code h (zero, inside, there) is listed =
+    let classes : caught_by x ≡ caught_in (Some code) = ap caught_by there ∙ ap caught_in is in
+    among_left h.catch_class (caught_by x) (flat_map caught_by members) (ap (is_among h.catch_class) classes ∙ class_among code.handlers h listed)
+caught_among (x ∷ members) m code h (suc k, inside, there) is listed =
+    among_right h.catch_class (caught_by x) (flat_map caught_by members) (caught_among members m code h (k, omega (arith, inside), there) is listed)
+
+pub used_by_handler : (c : ClassDef) (code : Code) → HasMember c.methods (Some code) → (h : Handler) → Contains code.handlers h
+    → is_used c h.catch_class ≡ true
+unfolding used_indices
+used_by_handler c code m h listed =
+    let among = caught_among c.methods m.member code h m.among m.code_is listed in
+    let values = flat_map values_of c.fields in
+    let first = operands (class_items c) in
+    let caught = flat_map caught_by c.methods in
+    let all = c.interfaces ++ values ++ first ++ caught in
+    among_later h.catch_class c.this_class (c.super_class ∷ all)
+    (among_later h.catch_class c.super_class all (among_right h.catch_class (c.interfaces ++ values ++ first) caught among))
+
+-- ---- the index of FreeMe.free
+
+abbrev pub free_use : Use
+free_use = method_use free_class_number free_method_number
+
+second_is_none : (class member : ℕ) → entry.Second ≡ entry.Method class member → ⊥
+second_is_none class member is = cc
+
+-- an entry that names the method is there, and is resolved to it
+free_within : (entries : List Entry) (index : ℕ) → method_ref_at entries index ≡ Some free_method → index < length entries
+free_within entries index named = by_place (cases_lt index (length entries)) where
+  by_place : (index < length entries) ⊎ (length entries ≤ index) → index < length entries
+  by_place (inl within) = within
+  by_place (inr past) =
+      let e = method_entry entries index free_method named in
+      absurd (second_is_none e.0 e.1 (sym (get_or_past entries index entry.Second past) ∙ e.2))
+
+free_at : (o : Outline) → HasFree o → (entries : List Entry) (index : ℕ) → method_ref_at entries index ≡ Some free_method
+    → resolved_at o entries index ≡ free_use
+free_at o has entries index named =
+    let e = method_entry entries index free_method named in
+    free_resolved o has entries index e.0 e.1 e.2 (method_named entries index free_method named)
+
+module _ (o : Outline) (has : HasFree o) (plans : Plans) (first : ℕ) (c : ClassDef) (spelled : HasSpelling c) where
+  abbrev more : List Entry
+  more = more_entries plans first c spelled.0 spelled.1
+
+  row_used : (d : ClassDef) (index : ℕ) → index < length d.pool.entries → is_used d index ≡ true → resolved_at o d.pool.entries index ≡ free_use
+      → get_or (class_uses o d) index resolved.Unused ≡ free_use
+  row_used d index within used is =
+      row_within o d index within ∙ ap (λ b. cond b (resolved_at o d.pool.entries index) resolved.Unused) used ∙ is
+
+  -- where the class itself uses it
+  own_free : is_used c (free_index c) ≡ true → get_or (class_uses o c) (free_index c) resolved.Unused ≡ free_use
+  own_free used = by_place (cases_lt (free_index c) (length c.pool.entries)) where
+    by_place : (free_index c < length c.pool.entries) ⊎ (length c.pool.entries ≤ free_index c)
+        → get_or (class_uses o c) (free_index c) resolved.Unused ≡ free_use
+    by_place (inl within) =
+        let named = names_free plans first c spelled.0 spelled.1 in
+        let valid = spelled.1.pool.entries in
+        let e = method_entry (c.pool.entries ++ more) (free_index c) free_method named in
+        let is = sym (entry_same c.pool.entries more valid (free_index c) within) ∙ e.2 in
+        let member =
+        sym (member_same c.pool.entries more valid (free_index c) within)
+        ∙ method_named (c.pool.entries ++ more) (free_index c) free_method named in
+        row_used c (free_index c) within used (free_resolved o has c.pool.entries (free_index c) e.0 e.1 is member)
+    by_place (inr past) = absurd (false≢true (sym (unused_past c spelled (free_index c) past) ∙ used))
+
+  changed_free : is_used (changed plans first c) (free_index c) ≡ true
+      → get_or (class_uses o (changed plans first c)) (free_index c) resolved.Unused ≡ free_use
+  changed_free used =
+      let named = names_free plans first c spelled.0 spelled.1 in
+      row_used (changed plans first c) (free_index c) (free_within (c.pool.entries ++ more) (free_index c) named) used
+      (free_at o has (c.pool.entries ++ more) (free_index c) named)
+
+  written_free : is_used (rewritten_class plans first c) (free_index c) ≡ true
+      → get_or (class_uses o (rewritten_class plans first c)) (free_index c) resolved.Unused ≡ free_use
+  written_free =
+      either_class plans first c
+      (λ (d : ClassDef). is_used d (free_index c) ≡ true → get_or (class_uses o d) (free_index c) resolved.Unused ≡ free_use) own_free changed_free
+
+pub program_outline : (files : List ClassDef) (main : List ℕ) → (program_of files main).outline ≡ outline_of files main
+unfolding program_of
+program_outline files main = refl
+
+pub outlines_same : (given : List ClassDef) (main : List ℕ) (plans : Plans) → AllByRecursion HasSpelling given
+    → (program_of (rewritten plans given) main).outline ≡ (program_of given main).outline
+outlines_same given main plans spelled =
+    program_outline (rewritten plans given) main ∙ outline_same plans given main spelled ∙ sym (program_outline given main)
+
+-- ---- a method
+
+module _ (numbered : ClassTypesAreNumbered) (given : List ClassDef) (main : List ℕ) (plans : Plans) (spelled : AllByRecursion HasSpelling given)
+    (method : ℕ) (code : Code) (x : IsWritten given main plans method code) where
+  own_spelled : HasSpelling x.own
+  own_spelled = spelled_at given x.place x.own spelled x.at
+
+  -- a method's index is one of its class
+  old_use : (index : ℕ) → use_in (program_of given main) method index ≡ use_of (program_of given main) (length built_in + x.place) index
+  old_use index =
+      ap (λ n. use_of (program_of given main) n index) (ap (λ o. class_of_method o method) (program_outline given main) ∙ x.class_is)
+
+  new_use : (index : ℕ) → use_in (program_of (rewritten plans given) main) method index
+      ≡ use_of (program_of (rewritten plans given) main) (length built_in + x.place) index
+  new_use index =
+      ap (λ n. use_of (program_of (rewritten plans given) main) n index)
+      (ap (λ o. class_of_method o method) (outlines_same given main plans spelled ∙ program_outline given main) ∙ x.class_is)
+
+  -- that of FreeMe.free, where the written class uses it
+  pub freed_use : is_used (rewritten_class plans x.start x.own) (free_index x.own) ≡ true
+      → use_in (program_of (rewritten plans given) main) method (free_index x.own) ≡ free_use
+  freed_use used =
+      new_use (free_index x.own)
+      ∙ use_at (rewritten plans given) main x.place (rewritten_class plans x.start x.own) x.new_at (free_index x.own)
+      ∙ ap (λ o. get_or (class_uses o (rewritten_class plans x.start x.own)) (free_index x.own) resolved.Unused) (outline_same plans given main spelled)
+      ∙ written_free (outline_of given main) (has_free numbered given main) plans x.start x.own own_spelled used
+
+  kept_free : is_used x.own (free_index x.own) ≡ true → use_in (program_of given main) method (free_index x.own) ≡ free_use
+  kept_free used =
+      old_use (free_index x.own) ∙ use_at given main x.place x.own x.at (free_index x.own)
+      ∙ own_free (outline_of given main) (has_free numbered given main) plans x.start x.own own_spelled used
+
+  -- an index that both classes use
+  pub both_use : (index : ℕ) → is_used x.own index ≡ true → is_used (rewritten_class plans x.start x.own) index ≡ true
+      → use_in (program_of (rewritten plans given) main) method index ≡ use_in (program_of given main) method index
+  both_use index used still =
+      ⊎_elim
+      (λ (is : index ≡ free_index x.own).
+      ap (use_in (program_of (rewritten plans given) main) method) is
+      ∙ freed_use (ap (is_used (rewritten_class plans x.start x.own)) (sym is) ∙ still)
+      ∙ sym (ap (use_in (program_of given main) method) is ∙ kept_free (ap (is_used x.own) (sym is) ∙ used)))
+      (λ (other : index ≡ free_index x.own → ⊥).
+      new_use index ∙ uses_same plans given main spelled x.place x.own x.at index other ∙ sym (old_use index))
+      (cases_eq index (free_index x.own))
+
+  -- an instruction of both
+  pub insn_use : (i kept : Insn) (j n : ℕ) (new : Code) → pool_index kept ≡ pool_index i → insn_of code j ≡ Some i
+      → HasMember (rewritten_class plans x.start x.own).methods (Some new) → insn_of new n ≡ Some kept
+      → use_by (program_of (rewritten plans given) main) method i ≡ use_by (program_of given main) method i
+  insn_use i kept j n new same at member new_at =
+      by_insn i (λ index is.
+      both_use index (used_by_item x.own code x.old j i index at is)
+      (used_by_item (rewritten_class plans x.start x.own) new member n kept index new_at (same ∙ is))) where
+        by_insn : (i : Insn)
+            → ((index : ℕ) → pool_index i ≡ Some index
+            → use_in (program_of (rewritten plans given) main) method index ≡ use_in (program_of given main) method index)
+            → use_by (program_of (rewritten plans given) main) method i ≡ use_by (program_of given main) method i
+        by_insn (insn.LoadPool index) each = each index refl
+        by_insn (insn.GetStatic index) each = each index refl
+        by_insn (insn.PutStatic index) each = each index refl
+        by_insn (insn.GetField index) each = each index refl
+        by_insn (insn.PutField index) each = each index refl
+        by_insn (insn.Virtual index) each = each index refl
+        by_insn (insn.Special index) each = each index refl
+        by_insn (insn.Static index) each = each index refl
+        by_insn (insn.Interface index) each = each index refl
+        by_insn (insn.New index) each = each index refl
+        by_insn (insn.NewRefs index) each = each index refl
+        by_insn (insn.Cast index) each = each index refl
+        by_insn (insn.IsA index) each = each index refl
+        by_insn (insn.MultiArray index dimensions) each = each index refl
+        by_insn i each = refl
+
+  pub handler_use : (h other : Handler) (new : Code) → other.catch_class ≡ h.catch_class → Contains code.handlers h
+      → HasMember (rewritten_class plans x.start x.own).methods (Some new) → Contains new.handlers other
+      → use_in (program_of (rewritten plans given) main) method h.catch_class ≡ use_in (program_of given main) method h.catch_class
+  handler_use h other new same listed member moved =
+      both_use h.catch_class (used_by_handler x.own code x.old h listed)
+      (ap (is_used (rewritten_class plans x.start x.own)) (sym same)
+      ∙ used_by_handler (rewritten_class plans x.start x.own) new member other moved)

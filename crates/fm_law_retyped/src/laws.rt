@@ -1,0 +1,19 @@
+// Laws of the definitions, each as the contract of a function that does nothing.
+
+ghost use Rattle.fm_law_retyped.specs.Retyped.{SafeClassesAreTyped};
+
+use fm_law_woven_flow::law_stands;
+use fm_law_linked::{law_linking, law_steps};
+use fm_world::law_class_types;
+
+/// Each method of classes with safe insertions is typed, where no local holds an object that isn't
+/// initialised while the constructor of an object that is held is called.
+pub fn law_typed()
+    ensures { SafeClassesAreTyped }
+{
+    // By these laws.
+    law_class_types();
+    law_linking();
+    law_steps();
+    law_stands();
+}

@@ -1,0 +1,276 @@
+-- A changed class is accepted where the class is: its version, the counts of its methods, and all that stands in it.
+use Rattle.std.proofs.Common.{◌≡◌, ℕ, ◌+◌, inr, Bool, true, false, List, [], ◌∷◌, ◌++◌, length, map, Option, Some, None, IfSome, IsSome, refl, sym, ap, subst, ◌∙◌, arith, is_some}
+use Rattle.std.specs.List.{AllByRecursion}
+use Rattle.std.specs.Option.{option_map}
+use Rattle.std.proofs.lemmas.Bool.{false≢true}
+use Rattle.std.proofs.lemmas.List.{length-map}
+use Rattle.fm_base.proofs.ListFacts.{AllByRecursion-weaker}
+use Rattle.fm_base.proofs.OptionFacts.{IsSome-from_some, Some-from_is_some, Some-from_some_and}
+use Rattle.fm_code.specs.AccessFlags.{is_interface}
+use Rattle.fm_code.specs.ConstantPool.{class_name_at, entry_at, field_ref_at, interface_method_ref_at, MemberName, method_ref_at}
+use Rattle.fm_code.specs.FreeEntries.{free_class, free_method, sought_free, with_free}
+use Rattle.fm_code.specs.Members.{code_of, MethodAttrIsValid, MethodIsValid}
+use Rattle.fm_code.specs.CodeRules.{CodeIsValid}
+use Rattle.fm_code.specs.Operands.{OperandIsValid}
+use Rattle.fm_code.specs.Profile.{calls_of_class, class_named, CodeIsWithin, FieldIsSupported, HeadIsSupported, is_left_out, is_supported_constant, IsFloatingArray, IsSupportedName, ItemIsSupported, loads_supported, MethodIsSupported, MethodIsWithin}
+use Rattle.fm_code.specs.declared.class_file.Member.{Member}
+use Rattle.fm_code.specs.declared.class_file.MemberAttr.{MemberAttr}
+use Rattle.fm_code.specs.declared.class_file.MemberAttr.TheVariants as attribute
+use Rattle.fm_code.specs.declared.code_array.Code.{Code}
+use Rattle.fm_code.specs.declared.code_array.Item.{Item}
+use Rattle.fm_code.specs.declared.constant_pool.Entry.{Entry}
+use Rattle.fm_code.specs.declared.constant_pool.Entry.TheVariants as entry
+use Rattle.fm_code.specs.declared.instructions.Insn.{Insn}
+use Rattle.fm_code.specs.declared.instructions.Insn.TheVariants as insn
+use Rattle.fm_code.specs.declared.operations.Reg.TheVariants as reg
+use Rattle.fm_layout.proofs.ReadsLemmas.{same_untargeted, untargeted}
+use Rattle.fm_layout.proofs.StillLemmas.{names_target}
+use Rattle.fm_layout.specs.Conditions.{IsSameButTargets}
+use Rattle.fm_layout.specs.Laid.{firsts_from, laid_of, moved_item}
+use Rattle.fm_layout.specs.Rooms.{rooms_of, starts_from, widened_rooms}
+use Rattle.fm_layout.specs.Tables.{moved_handler}
+use Rattle.fm_place.specs.Insertions.{Insertions}
+use Rattle.fm_place.specs.Rewriting.{free_index, Plans, rewritten_attribute, rewritten_method, rewritten_methods}
+use Rattle.fm_place.specs.Woven.{anchors_of, woven, woven_code}
+use Rattle.fm_pool.proofs.FreeEntriesAdded.{free_named, free_supported}
+use Rattle.fm_pool.proofs.GrownPool.{class_kept, entry_kept}
+use Rattle.fm_read_limits.proofs.FloatingLemmas.{array_begins}
+use Rattle.fm_read_limits.proofs.LimitLemmas.{code_is, first_code}
+use Rattle.fm_law_spelled.proofs.InsertedFits.{InsertedFits, woven_fits}
+use Rattle.fm_law_spelled.proofs.KeptNames.{field_kept, interface_method_kept, method_kept, still_some, still_such, such_kept}
+use Rattle.fm_law_spelled.proofs.LaidFits.{HoldsOfTargets, laid_hold}
+use Rattle.fm_law_spelled.specs.Changed.{AttributeCan, CanWeave, ChangedAreAccepted, MethodCan, MethodsCan}
+
+-- ---- instructions
+
+-- an instruction is supported, by the entries of a pool
+abbrev IsSupportedInsn : List Entry → Insn → Type 0
+IsSupportedInsn entries i = (is_left_out i ≡ false) × (loads_supported entries i ≡ true) × (calls_of_class entries i ≡ true) × IfSome (class_named entries i) (λ name. ¬ IsFloatingArray name)
+
+abbrev HasSupportedInsn : List Entry → Item → Type 0
+HasSupportedInsn entries item = IsSupportedInsn entries item.insn
+
+-- one with targets is
+targeted_supported : (entries : List Entry) → HoldsOfTargets (HasSupportedInsn entries)
+targeted_supported entries offset bytes f (insn.IfInt t n) named = (refl, refl, refl, tt)
+targeted_supported entries offset bytes f (insn.IfPair t n) named = (refl, refl, refl, tt)
+targeted_supported entries offset bytes f (insn.IfSame t n) named = (refl, refl, refl, tt)
+targeted_supported entries offset bytes f (insn.IfNull t n) named = (refl, refl, refl, tt)
+targeted_supported entries offset bytes f (insn.Goto n) named = (refl, refl, refl, tt)
+targeted_supported entries offset bytes f (insn.Table low others targets) named = (refl, refl, refl, tt)
+targeted_supported entries offset bytes f (insn.Lookup others keys targets) named = (refl, refl, refl, tt)
+targeted_supported entries offset bytes f i named = absurd cc
+
+kept_supported : (entries : List Entry) (starts firsts : List ℕ) (start : ℕ) (item : Item) (i : Insn) → IsSameButTargets i item.insn → HasSupportedInsn entries item
+    → HasSupportedInsn entries (moved_item starts firsts start (Some item) i)
+kept_supported entries starts firsts start item i same supported = by (names_target i) refl where
+  by : (t : Bool) → names_target i ≡ t → HasSupportedInsn entries (moved_item starts firsts start (Some item) i)
+  by true named = targeted_supported entries start (moved_item starts firsts start (Some item) i).bytes _ i named
+  by false plain =
+      let own = same_untargeted i item.insn same plain in
+      subst (IsSupportedInsn entries) (sym (untargeted _ i plain ∙ own.0)) supported
+
+-- the name of an array begins with a bracket
+free_is_no_array : ¬ IsFloatingArray free_class
+free_is_no_array is = false≢true (array_begins free_class is)
+
+inserted_supported : (free locals : ℕ) (entries : List Entry) → method_ref_at entries free ≡ Some free_method → (starts firsts : List ℕ) (start : ℕ) (i : Insn) → InsertedFits free locals i
+    → HasSupportedInsn entries (moved_item starts firsts start None i)
+inserted_supported free locals entries named starts firsts start insn.Null fits = (refl, refl, refl, tt)
+inserted_supported free locals entries named starts firsts start insn.Dup fits = (refl, refl, refl, tt)
+inserted_supported free locals entries named starts firsts start (insn.Load reg.Ref local) fits = (refl, refl, refl, tt)
+inserted_supported free locals entries named starts firsts start (insn.Store reg.Ref local) fits = (refl, refl, refl, tt)
+inserted_supported free locals entries named starts firsts start (insn.Static index) fits =
+    let there : method_ref_at entries index ≡ Some free_method = ap (method_ref_at entries) fits ∙ named in
+    let class : Option (List ℕ) → Type 0 = λ o. IfSome o (λ name. ¬ IsFloatingArray name) in
+    (refl, refl, ap is_some there, subst class (sym (ap (option_map (λ (m : MemberName). m.class)) there)) free_is_no_array)
+inserted_supported free locals entries named starts firsts start i fits = absurd fits
+
+-- ---- more entries
+
+module _ (entries more : List Entry) where
+  same_of : (i : List Entry → ℕ → Option MemberName) (index : ℕ) → ((m : MemberName) → i entries index ≡ Some m → i (entries ++ more) index ≡ Some m) → IsSome (i entries index)
+      → option_map (λ (m : MemberName). m.class) (i (entries ++ more) index) ≡ option_map (λ (m : MemberName). m.class) (i entries index)
+  same_of i index stays there = let v = Some-from_is_some (i entries index) there in ap (option_map (λ (m : MemberName). m.class)) (stays v.0 v.1 ∙ sym v.1)
+
+  class_same : (index : ℕ) → IsSome (class_name_at entries index) → class_name_at (entries ++ more) index ≡ class_name_at entries index
+  class_same index there = let v = Some-from_is_some (class_name_at entries index) there in class_kept entries more index v.0 v.1 ∙ sym v.1
+
+  -- an instruction names the same class
+  named_same : (offset : ℕ) (bytes : List ℕ) (i : Insn) → OperandIsValid entries (record { offset = offset; bytes = bytes; insn = i }) → calls_of_class entries i ≡ true
+      → class_named (entries ++ more) i ≡ class_named entries i
+  named_same offset bytes (insn.GetStatic index) valid called = same_of field_ref_at index (field_kept entries more index) valid
+  named_same offset bytes (insn.PutStatic index) valid called = same_of field_ref_at index (field_kept entries more index) valid
+  named_same offset bytes (insn.GetField index) valid called = same_of field_ref_at index (field_kept entries more index) valid
+  named_same offset bytes (insn.PutField index) valid called = same_of field_ref_at index (field_kept entries more index) valid
+  named_same offset bytes (insn.Virtual index) valid called = same_of method_ref_at index (method_kept entries more index) valid
+  named_same offset bytes (insn.Special index) valid called = same_of method_ref_at index (method_kept entries more index) called
+  named_same offset bytes (insn.Static index) valid called = same_of method_ref_at index (method_kept entries more index) called
+  named_same offset bytes (insn.Interface index) valid called =
+      let v = Some-from_some_and (interface_method_ref_at entries index) _ valid in
+      same_of interface_method_ref_at index (interface_method_kept entries more index) (IsSome-from_some (interface_method_ref_at entries index) v.0 v.1)
+  named_same offset bytes (insn.New index) valid called = class_same index valid
+  named_same offset bytes (insn.NewRefs index) valid called = class_same index valid
+  named_same offset bytes (insn.Cast index) valid called = class_same index valid
+  named_same offset bytes (insn.IsA index) valid called = class_same index valid
+  named_same offset bytes (insn.MultiArray index dimensions) valid called = class_same index valid
+  named_same offset bytes i valid called = refl
+
+  -- and may load what it loads
+  loads_kept : (i : Insn) → loads_supported entries i ≡ true → loads_supported (entries ++ more) i ≡ true
+  loads_kept (insn.LoadPool index) supported =
+      let stays = entry_kept entries more index (entry_at entries index) refl (λ second. let none : is_supported_constant entry.Second ≡ true = ap is_supported_constant second ∙ supported in cc) in
+      ap is_supported_constant stays ∙ supported
+  loads_kept i supported = refl
+
+  -- and may call what it calls
+  calls_kept : (i : Insn) → calls_of_class entries i ≡ true → calls_of_class (entries ++ more) i ≡ true
+  calls_kept (insn.Special index) called = still_some (method_ref_at entries index) (method_ref_at (entries ++ more) index) (method_kept entries more index) called
+  calls_kept (insn.Static index) called = still_some (method_ref_at entries index) (method_ref_at (entries ++ more) index) (method_kept entries more index) called
+  calls_kept i called = refl
+
+  item_kept : (item : Item) → OperandIsValid entries item → ItemIsSupported entries item → HasSupportedInsn (entries ++ more) item
+  item_kept item valid supported = (
+    supported.not_left_out,
+    loads_kept item.insn supported.constant,
+    calls_kept item.insn supported.of_class,
+    subst (λ (o : Option (List ℕ)). IfSome o (λ name. ¬ IsFloatingArray name)) (sym (named_same item.offset item.bytes item.insn valid supported.of_class)) supported.class,
+  )
+
+  items_kept : (items : List Item) → AllByRecursion (OperandIsValid entries) items → AllByRecursion (ItemIsSupported entries) items → AllByRecursion (HasSupportedInsn (entries ++ more)) items
+  items_kept [] valid supported = tt
+  items_kept (item ∷ items) valid supported = (item_kept item valid.0 supported.0, items_kept items valid.1 supported.1)
+
+are_supported : (entries : List Entry) (items : List Item) → AllByRecursion (HasSupportedInsn entries) items → AllByRecursion (ItemIsSupported entries) items
+are_supported entries = AllByRecursion-weaker (HasSupportedInsn entries) (ItemIsSupported entries) (λ item own. record { not_left_out = own.0; constant = own.1; of_class = own.2; class = own.3 })
+
+-- ---- codes
+
+-- what an attribute's code is with what is inserted
+woven_first : (free : ℕ) (plan : Insertions) (attributes : List MemberAttr)
+    → first_code (map (rewritten_attribute free plan) attributes) ≡ option_map (λ code. woven_code free code plan) (first_code attributes)
+woven_first free plan [] = refl
+woven_first free plan (attribute.Constant name value ∷ attributes) = woven_first free plan attributes
+woven_first free plan (attribute.Coded name code ∷ attributes) = refl
+woven_first free plan (attribute.Other raw ∷ attributes) = woven_first free plan attributes
+
+-- the first code of valid attributes is valid
+first_valid : (entries : List Entry) (attributes : List MemberAttr) (code : Code) → AllByRecursion (MethodAttrIsValid entries) attributes → first_code attributes ≡ Some code → CodeIsValid entries code
+first_valid entries [] code valid is = absurd cc
+first_valid entries (attribute.Constant name value ∷ attributes) code valid is = absurd valid.0
+first_valid entries (attribute.Coded name own ∷ attributes) code valid is = let same : own ≡ code = cc in subst (CodeIsValid entries) same valid.0.1
+first_valid entries (attribute.Other raw ∷ attributes) code valid is = first_valid entries attributes code valid.1 is
+
+first_can : (free : ℕ) (plan : Insertions) (attributes : List MemberAttr) (code : Code) → AllByRecursion (AttributeCan free plan) attributes → first_code attributes ≡ Some code → CanWeave free code plan
+first_can free plan [] code can is = absurd cc
+first_can free plan (attribute.Constant name value ∷ attributes) code can is = first_can free plan attributes code can.1 is
+first_can free plan (attribute.Coded name own ∷ attributes) code can is = let same : own ≡ code = cc in subst (λ (c : Code). CanWeave free c plan) same can.0
+first_can free plan (attribute.Other raw ∷ attributes) code can is = first_can free plan attributes code can.1 is
+
+module _ (entries more : List Entry) (free : ℕ) (named : method_ref_at (entries ++ more) free ≡ Some free_method) where
+  code_supported : (code : Code) (plan : Insertions) → CanWeave free code plan → AllByRecursion (OperandIsValid entries) code.items → AllByRecursion (ItemIsSupported entries) code.items
+      → AllByRecursion (ItemIsSupported (entries ++ more)) (woven_code free code plan).items
+  unfolding laid_of
+  code_supported code plan can valid supported =
+      let new_items = woven free code plan in
+      let rooms = widened_rooms (rooms_of code.items new_items) in
+      are_supported (entries ++ more) (laid_of code.items new_items).items
+      (laid_hold (HasSupportedInsn (entries ++ more)) (targeted_supported (entries ++ more)) free (code.max_locals + length plan.holders) code.items (kept_supported (entries ++ more))
+      (inserted_supported free (code.max_locals + length plan.holders) (entries ++ more) named) (items_kept entries more code.items valid supported)
+      (starts_from 0 rooms) (firsts_from 0 rooms) 0 0 new_items rooms can.new_items.each (woven_fits free code plan can.suits))
+
+  -- ---- methods
+
+  head_kept : (m : Member) → HeadIsSupported entries m → HeadIsSupported (entries ++ more) m
+  head_kept m head = record { descriptor = such_kept entries more m.descriptor _ head.descriptor; not_native = head.not_native }
+
+  -- the items of a code that may be there
+  abbrev ItemsIn : List Entry → Option Code → Type 0
+  ItemsIn all o = IfSome o (λ code. AllByRecursion (ItemIsSupported all) code.items)
+
+  same_items : (attributes : List MemberAttr) → AllByRecursion (MethodAttrIsValid entries) attributes → ItemsIn entries (first_code attributes) → ItemsIn (entries ++ more) (first_code attributes)
+  same_items attributes valid supported = by (first_code attributes) refl supported where
+    by : (o : Option Code) → first_code attributes ≡ o → ItemsIn entries o → ItemsIn (entries ++ more) o
+    by None is own = tt
+    by (Some code) is own =
+        let code_valid = first_valid entries attributes code valid is in
+        are_supported (entries ++ more) code.items (items_kept entries more code.items code_valid.operands own)
+
+  woven_items : (plan : Insertions) (attributes : List MemberAttr) → AllByRecursion (AttributeCan free plan) attributes → AllByRecursion (MethodAttrIsValid entries) attributes
+      → ItemsIn entries (first_code attributes) → ItemsIn (entries ++ more) (option_map (λ code. woven_code free code plan) (first_code attributes))
+  woven_items plan attributes can valid supported = by (first_code attributes) refl supported where
+    by : (o : Option Code) → first_code attributes ≡ o → ItemsIn entries o → ItemsIn (entries ++ more) (option_map (λ code. woven_code free code plan) o)
+    by None is own = tt
+    by (Some code) is own = code_supported code plan (first_can free plan attributes code can is) (first_valid entries attributes code valid is).operands own
+
+  method_supported : (plan : Option Insertions) (m : Member) → MethodCan free plan m → AllByRecursion (MethodAttrIsValid entries) m.attributes → MethodIsSupported entries m
+      → MethodIsSupported (entries ++ more) (rewritten_method free plan m)
+  method_supported None m can valid supported = record {
+    head = head_kept m supported.head;
+    items = subst (ItemsIn (entries ++ more)) (sym (code_is m)) (same_items m.attributes valid (subst (ItemsIn entries) (code_is m) supported.items));
+  }
+  method_supported (Some plan) m can valid supported = record {
+    head = record { descriptor = (head_kept m supported.head).descriptor; not_native = supported.head.not_native };
+    items =
+        let new = map (rewritten_attribute free plan) m.attributes in
+        let is : code_of (record m { attributes = new }) ≡ option_map (λ code. woven_code free code plan) (first_code m.attributes) = code_is (record m { attributes = new }) ∙ woven_first free plan m.attributes in
+        subst (ItemsIn (entries ++ more)) (sym is) (woven_items plan m.attributes can valid (subst (ItemsIn entries) (code_is m) supported.items));
+  }
+
+  methods_supported : (in_interface : Bool) (plans : Plans) (first : ℕ) (methods : List Member) → MethodsCan plans free first methods → AllByRecursion (MethodIsValid in_interface entries) methods
+      → AllByRecursion (MethodIsSupported entries) methods → AllByRecursion (MethodIsSupported (entries ++ more)) (rewritten_methods plans free first methods)
+  methods_supported in_interface plans first [] can valid supported = tt
+  methods_supported in_interface plans first (m ∷ methods) can valid supported = (
+    method_supported (plans first) m can.0 valid.0.attributes supported.0,
+    methods_supported in_interface plans (first + 1) methods can.1 valid.1 supported.1,
+  )
+
+-- ---- counts
+
+-- the counts of a woven code are within their limits
+code_within : (free : ℕ) (code : Code) (plan : Insertions) → CanWeave free code plan → CodeIsWithin code → CodeIsWithin (woven_code free code plan)
+code_within free code plan can within = record {
+  stack = let low = can.stack in omega (arith, low);
+  locals = let room = can.suits.room in omega (arith, room);
+  handlers =
+      let same = length-map code.handlers (moved_handler (laid_of code.items (woven free code plan)).firsts (anchors_of plan code.items)) in
+      let own = within.handlers in
+      omega (arith, same, own);
+}
+
+woven_within : (free : ℕ) (plan : Insertions) (attributes : List MemberAttr) → AllByRecursion (AttributeCan free plan) attributes → IfSome (first_code attributes) CodeIsWithin
+    → IfSome (option_map (λ code. woven_code free code plan) (first_code attributes)) CodeIsWithin
+woven_within free plan attributes can within = by (first_code attributes) refl within where
+  by : (o : Option Code) → first_code attributes ≡ o → IfSome o CodeIsWithin → IfSome (option_map (λ code. woven_code free code plan) o) CodeIsWithin
+  by None is own = tt
+  by (Some code) is own = code_within free code plan (first_can free plan attributes code can is) own
+
+method_within : (free : ℕ) (plan : Option Insertions) (m : Member) → MethodCan free plan m → MethodIsWithin m → MethodIsWithin (rewritten_method free plan m)
+method_within free None m can within = within
+method_within free (Some plan) m can within =
+    let new = map (rewritten_attribute free plan) m.attributes in
+    let is : code_of (record m { attributes = new }) ≡ option_map (λ code. woven_code free code plan) (first_code m.attributes) = code_is (record m { attributes = new }) ∙ woven_first free plan m.attributes in
+    subst (λ (o : Option Code). IfSome o CodeIsWithin) (sym is) (woven_within free plan m.attributes can (subst (λ (o : Option Code). IfSome o CodeIsWithin) (code_is m) within))
+
+methods_within : (free : ℕ) (plans : Plans) (first : ℕ) (methods : List Member) → MethodsCan plans free first methods → AllByRecursion MethodIsWithin methods
+    → AllByRecursion MethodIsWithin (rewritten_methods plans free first methods)
+methods_within free plans first [] can within = tt
+methods_within free plans first (m ∷ methods) can within = (method_within free (plans first) m can.0 within.0, methods_within free plans (first + 1) methods can.1 within.1)
+
+-- ---- classes
+
+pub changed_accepted : ChangedAreAccepted
+changed_accepted plans first c (bytes, spells) profile can =
+    let entries = c.pool.entries in
+    let more = (sought_free entries).missing in
+    let named = free_named entries (with_free entries) more (free_index c) refl refl in
+    record {
+      version = inr (omega arith, omega arith, refl);
+      limits = methods_within (free_index c) plans first c.methods can profile.limits;
+      supported = record {
+        name = still_such (class_name_at entries c.this_class) (class_name_at (with_free entries) c.this_class) IsSupportedName (class_kept entries more c.this_class) profile.supported.name;
+        fields = AllByRecursion-weaker (FieldIsSupported entries) (FieldIsSupported (with_free entries)) (λ m own. such_kept entries more m.descriptor _ own) c.fields profile.supported.fields;
+        methods = methods_supported entries more (free_index c) named (is_interface c.flags) plans first c.methods can spells.methods profile.supported.methods;
+        pool = free_supported entries profile.supported.pool;
+      };
+    }

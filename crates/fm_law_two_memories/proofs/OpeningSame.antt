@@ -1,0 +1,333 @@
+-- The openings of a run on two memories lead to paired states, or one of the memories lacks words.
+use Rattle.std.proofs.Common.{◌≡◌, ℕ, ◌+◌, ◌<◌, ◌≤◌, ◌||◌, inl, Bool, true, false, cond, List, [], ◌∷◌, ◌++◌, length, map, nat_lt, Option, Some, None, refl, sym, ◌∙◌, ap, subst, slice_index_or, arith}
+use Rattle.std.specs.List.{AllByRecursion, AllZip, flat_map}
+use Rattle.std.proofs.lemmas.Bool.{false≢true}
+use Rattle.fm_base.specs.declared.kinds.TypeRef.{TypeRef}
+use Rattle.fm_base.specs.declared.limits.TheConstants.{MAX_LIVE_WORDS}
+use Rattle.fm_cells.proofs.Changes.{live_words-opened}
+use Rattle.fm_cells.proofs.Choices.{lawful_choice-may}
+use Rattle.fm_cells.proofs.Soundness.{IsOrderly-opened}
+use Rattle.fm_cells.specs.Choices.{lawful, MayReuse}
+use Rattle.fm_cells.specs.Objects.{Object, Request, request_words}
+use Rattle.fm_cells.specs.Stores.{live_words, object_at, opened, Store}
+use Rattle.fm_code.specs.AccessFlags.{is_static}
+use Rattle.fm_types.proofs.Zips.{zip-append, zip-length, zip-set}
+use Rattle.fm_world.specs.Members.{field_kind, fields_of, OwnedField}
+use Rattle.fm_world.specs.Programs.{Outline, Program}
+use Rattle.fm_world.specs.declared.declarations.DeclaredClass.{DeclaredClass}
+use Rattle.fm_frames.specs.Acts.{Choose, Did, FullAt, is_there, literal_made, literal_text, performed, Performed, requested}
+use Rattle.fm_frames.specs.Effects.{Action, Make, MakeFixed, MakeLiteral, Put, SetStatic, Start}
+use Rattle.fm_frames.specs.Elements.{first_of}
+use Rattle.fm_frames.specs.NativeRows.{text_type}
+use Rattle.fm_frames.specs.Runs.{after_action, argument_actions, first_areas, framed, Job, opened_by, opening, opening_actions, opening_frames, unopened, with_streams}
+use Rattle.fm_frames.specs.Starts.{start_actions, start_methods, to_start}
+use Rattle.fm_frames.specs.States.{Areas, Frame, ref, State}
+use Rattle.fm_frames.specs.Steps.{is_over, new_frame, start_frames, stopped, words_made}
+use Rattle.fm_frames.specs.declared.ends.Ended.{Ended}
+use Rattle.fm_frames.specs.declared.ends.Ended.TheVariants as end
+use Rattle.fm_frames.specs.declared.values.Value.{Value}
+use Rattle.fm_law_sound.specs.Acting.{ActsFit}
+use Rattle.fm_law_sound.specs.Laws.{no_frame}
+use Rattle.fm_law_sound.specs.Making.{ArgumentsFit}
+use Rattle.fm_law_sound.specs.Placing.{PutAgrees}
+use Rattle.fm_law_sound.specs.Sound.{AreasAreSound}
+use Rattle.fm_law_sound.proofs.NextPlaces.{starts_agree}
+use Rattle.fm_law_sound.proofs.Opening.{first_sound, fit_later, IsOfStart, start_made, streams_keep}
+use Rattle.fm_law_sound.proofs.OpeningActs.{opening_fits}
+use Rattle.fm_law_sound.proofs.OpeningCells.{opening_agrees}
+use Rattle.fm_law_sound.proofs.StartActs.{start_alone}
+use Rattle.fm_law_two_memories.specs.Pairing.{AreasPaired, FramesPaired, SameCell, SameEnd, SameValue, StatesPaired}
+use Rattle.fm_law_two_memories.specs.Reading.{ActsAlike}
+use Rattle.fm_law_two_memories.specs.Results.{IsTooSmall}
+use Rattle.fm_law_two_memories.proofs.NextAlike.{starts_alike}
+use Rattle.fm_law_two_memories.proofs.NextSame.{new_same, starts_same}
+use Rattle.fm_law_two_memories.proofs.SourcesSame.{number_same, read_same}
+use Rattle.fm_law_two_memories.proofs.StepActs.{Along, begins, either, literal_on, made_on, make_case, put_on, set_on, start_on}
+use Rattle.fm_law_two_memories.proofs.StepSame.{Both, by_both, GoesAlike, IsReady, OneLacks, OtherIsFull, OtherLacks}
+use Rattle.fm_law_two_memories.proofs.Stores.{opened_paired, same_zero}
+use Rattle.fm_law_two_memories.proofs.WordsSame.{first_less, lacks_same, next_within, second_less, there_same, within_budget}
+
+-- ---- what the opening does
+
+arguments_alike : (o : Outline) (store : Store) (place : ℕ) (texts : List (List ℕ)) → AllByRecursion (ActsAlike o store no_frame) (argument_actions o place texts)
+arguments_alike o store place [] = tt
+arguments_alike o store place (text ∷ texts) = (tt, (tt, arguments_alike o store (place + 1) texts))
+
+opening_alike : (o : Outline) (store : Store) (job : Job) → AllByRecursion (ActsAlike o store no_frame) (opening_actions o job)
+unfolding opening_actions
+opening_alike o store job = (tt, (tt, (tt, arguments_alike o store 0 job.arguments)))
+
+-- what the opening does makes objects and puts them
+abbrev IsOfOpening : Action → Type 0
+IsOfOpening (Make t len content) = Unit {0}
+IsOfOpening (MakeFixed t) = Unit {0}
+IsOfOpening (Put object place k v) = Unit {0}
+IsOfOpening action = ⊥
+
+arguments_made : (o : Outline) (place : ℕ) (texts : List (List ℕ)) → AllByRecursion IsOfOpening (argument_actions o place texts)
+arguments_made o place [] = tt
+arguments_made o place (text ∷ texts) = (tt, (tt, arguments_made o (place + 1) texts))
+
+opening_made : (o : Outline) (job : Job) → AllByRecursion IsOfOpening (opening_actions o job)
+unfolding opening_actions
+opening_made o job = (tt, (tt, (tt, arguments_made o 0 job.arguments)))
+
+-- ---- the first areas
+
+first_values : (one two : Store) (cs : List DeclaredClass) (fields : List OwnedField)
+    → AllZip (SameValue one two) (flat_map (λ f. cond (is_static f.field.flags) (first_of (field_kind cs f.field) ∷ []) []) fields)
+    (flat_map (λ f. cond (is_static f.field.flags) (first_of (field_kind cs f.field) ∷ []) []) fields)
+first_values one two cs [] = tt
+first_values one two cs (f ∷ fields) = by_flag (is_static f.field.flags) _ (first_values one two cs fields) where
+  by_flag : (b : Bool) (words : List Value) → AllZip (SameValue one two) words words
+      → AllZip (SameValue one two) (cond b (first_of (field_kind cs f.field) ∷ []) [] ++ words) (cond b (first_of (field_kind cs f.field) ∷ []) [] ++ words)
+  by_flag true words rest = (read_same one two (field_kind cs f.field) 0 0 (same_zero one two (Some (field_kind cs f.field))), rest)
+  by_flag false words rest = rest
+
+no_literals : (one two : Store) (texts : List (List ℕ)) → AllZip (SameCell one two) (map (λ text. 0) texts) (map (λ text. 0) texts)
+no_literals one two [] = tt
+no_literals one two (text ∷ texts) = (inl (refl, refl), no_literals one two texts)
+
+nothing_held : (budget : ℕ) (limit : Option ℕ) (free : List (List ℕ)) (cell : ℕ) → object_at (opened budget limit free) cell ≡ None
+nothing_held budget limit free cell = by_object (object_at (opened budget limit free) cell) refl where
+  by_object : (found : Option Object) → object_at (opened budget limit free) cell ≡ found → object_at (opened budget limit free) cell ≡ None
+  by_object None is = is
+  by_object (Some object) is =
+      let early : object.birth < 0 = (IsOrderly-opened budget limit free).born cell object is in absurd (omega (arith, early))
+
+first_paired : (o : Outline) (budget other : ℕ) (limit none : Option ℕ) (free freed : List (List ℕ))
+    → AreasPaired o (first_areas o (opened budget none free)) (first_areas o (opened other limit freed))
+first_paired o budget other limit none free freed = record {
+  store = opened_paired o (opened budget none free) (opened other limit freed) (live_words-opened budget none free) (live_words-opened other limit freed)
+      refl refl (IsOrderly-opened budget none free) (IsOrderly-opened other limit freed) refl (nothing_held budget none free);
+  statics = first_values (opened budget none free) (opened other limit freed) o.classes (fields_of o.classes);
+  literals = no_literals (opened budget none free) (opened other limit freed) o.texts;
+  started = refl;
+}
+
+-- ---- each action by itself
+
+module _ (p : Program) (ready : IsReady p) (first second : Choose) (job : Job) (one two : Store) (none : one.limit ≡ None) (few : two.budget ≤ MAX_LIVE_WORDS) where
+  abbrev o : Outline
+  o = p.outline
+
+  may : (s : Store) (request : Request) → MayReuse s request (lawful first s request)
+  may s request = lawful_choice-may s request (first s request)
+
+  other_may : (s : Store) (request : Request) → MayReuse s request (lawful second s request)
+  other_may s request = lawful_choice-may s request (second s request)
+
+  no_frames : FramesPaired one two no_frame no_frame
+  no_frames = record { method = refl; item = refl; locals = tt; stack = tt }
+
+  -- the state without frames, with these areas
+  abbrev bare : Areas → State
+  bare areas = unopened p job areas
+
+  abbrev Go : State → State → Type 0
+  Go x y = GoesAlike p.outline one.budget two.budget two.limit (record { state = x; printed = [] }) (record { state = y; printed = [] })
+
+  -- what is known along the actions
+  abbrev On : Areas → Areas → List TypeRef → List ℕ → List ℕ → Type 0
+  On x y types made others =
+      Along p.outline ready.steps.calls.runnable.sizes (lawful first) (lawful second) may other_may one two none few no_frame no_frame no_frames x y types made others
+
+  module _ (x y : Areas) (types : List TypeRef) (made others : List ℕ) (h : On x y types made others) where
+    bare_paired : StatesPaired o (bare x) (bare y)
+    bare_paired = record { frames = tt; areas = h.paired; input = refl; depth = refl; steps = refl; ended = refl }
+
+    ends_alike : (a b : Ended) → SameEnd x.store y.store a b → Go (stopped (bare x) a) (stopped (bare y) b)
+    ends_alike a b same =
+        Both (record {
+          paired = record { frames = tt; areas = h.paired; input = refl; depth = refl; steps = refl; ended = (b, refl, same) };
+          unlimited = h.limits.limit ∙ none;
+          budget_is = h.limits.budget;
+          limit_is = h.other_limits.limit;
+          other_is = h.other_limits.budget;
+        }) refl
+
+    frames_alike : (fs gs : List Frame) → AllZip (FramesPaired x.store y.store) fs gs → Go (record (bare x) { frames = fs }) (record (bare y) { frames = gs })
+    frames_alike fs gs frames =
+        Both (record {
+          paired = record { frames = frames; areas = h.paired; input = refl; depth = refl; steps = refl; ended = refl };
+          unlimited = h.limits.limit ∙ none;
+          budget_is = h.limits.budget;
+          limit_is = h.other_limits.limit;
+          other_is = h.other_limits.budget;
+        }) refl
+
+    now_few : y.store.budget ≤ MAX_LIVE_WORDS
+    now_few = subst (λ n. n ≤ MAX_LIVE_WORDS) (sym h.other_limits.budget) few
+
+    -- an action within both budgets, or not
+    over_alike : (action : Action) (u v : State) → (is_over o y (action ∷ []) ≡ false → Go u v)
+        → Go (cond (is_over o x (action ∷ [])) (stopped (bare x) (end.Exhausted (live_words x.store) (words_made o x (action ∷ [])))) u)
+        (cond (is_over o y (action ∷ [])) (stopped (bare y) (end.Exhausted (live_words y.store) (words_made o y (action ∷ [])))) v)
+    over_alike action u v rest =
+        by_both Go (is_over o x (action ∷ [])) (is_over o y (action ∷ [])) _ _ _ _
+        (λ over other_over. ends_alike _ _ (lacks_same o x y h.paired (action ∷ [])))
+        (λ over other_within. OneLacks
+        (subst (λ n. n < two.budget) h.limits.budget (subst (λ n. x.store.budget < n) h.other_limits.budget (first_less o x y h.paired (action ∷ []) over other_within)))
+        (live_words x.store, words_made o x (action ∷ []), refl) ([], refl))
+        (λ within other_over. OtherLacks
+        (subst (λ n. n < one.budget) h.other_limits.budget (subst (λ n. y.store.budget < n) h.limits.budget (second_less o x y h.paired (action ∷ []) within other_over)))
+        (live_words y.store, words_made o y (action ∷ []), refl) ([], refl))
+        (λ within other_within. rest other_within)
+
+    abbrev After : (State → List ℕ → State) → (State → List ℕ → State) → Performed → Performed → Type 0
+    After follows other_follows v u = Go (after_action (bare x) u follows) (after_action (bare y) v other_follows)
+
+    full : (follows other_follows : State → List ℕ → State) (later : Areas) (words : ℕ) (u : Performed) → IsTooSmall two.limit two.budget
+        → After follows other_follows (FullAt later words) u
+    full follows other_follows later words u small = OtherIsFull small.0 small.1 small.2 (_, _, refl) (_, refl)
+
+  -- what follows goes alike, wherever the actions led
+  abbrev Follow : (State → List ℕ → State) → (State → List ℕ → State) → Type 0
+  Follow follows other_follows =
+      (x y : Areas) (types : List TypeRef) (made others : List ℕ) → On x y types made others → Go (follows (bare x) made) (other_follows (bare y) others)
+
+  each_alike : (actions : List Action) (x y : Areas) (types : List TypeRef) (made others : List ℕ) (follows other_follows : State → List ℕ → State)
+      → Follow follows other_follows → AllByRecursion IsOfOpening actions → ActsFit o one no_frame types actions → AllByRecursion (PutAgrees o one []) actions
+      → AllByRecursion (ActsAlike o one no_frame) actions → On x y types made others
+      → Go (opened_by p (lawful first) actions (bare x) made follows) (opened_by p (lawful second) actions (bare y) others other_follows)
+  unfolding performed
+  each_alike [] x y types made others follows other_follows goes all fit agrees alikes h = goes x y types made others h
+  each_alike (Make t len content ∷ more) x y types made others follows other_follows goes all fit agrees alikes h =
+      let request : Request = requested o t len false in
+      let on : State → List ℕ → State = λ s cells. opened_by p (lawful first) more s cells follows in
+      let other_on : State → List ℕ → State = λ s cells. opened_by p (lawful second) more s cells other_follows in
+      over_alike x y types made others h (Make t len content) _ _
+      (λ within. make_case o ready.steps.calls.runnable.sizes (lawful first) (lawful second) may other_may one two none few no_frame no_frame no_frames
+      (After x y types made others h on other_on) (full x y types made others h on other_on) x y types made others t len content false
+      (lawful first x.store request) (lawful second y.store request) (λ areas cell. Did areas (made ++ cell ∷ [])) (λ areas cell. Did areas (others ++ cell ∷ []))
+      h fit.0 (may x.store request) (other_may y.store request)
+      (next_within o y (Make t len content) [] (request_words request) refl (omega arith) (within_budget o y (Make t len content ∷ []) (now_few x y types made others h) within))
+      (λ next following cell twin both. each_alike more (record x { store = next }) (record y { store = following }) (types ++ t ∷ []) (made ++ cell ∷ [])
+      (others ++ twin ∷ []) follows other_follows goes all.1 fit.1 agrees.1 alikes.1
+      (made_on o ready.steps.calls.runnable.sizes (lawful first) (lawful second) may other_may one two none few no_frame no_frame no_frames
+      x y types made others t (request_words request) next following cell twin h both)))
+  each_alike (MakeFixed t ∷ more) x y types made others follows other_follows goes all fit agrees alikes h =
+      let request : Request = requested o t 0 true in
+      let on : State → List ℕ → State = λ s cells. opened_by p (lawful first) more s cells follows in
+      let other_on : State → List ℕ → State = λ s cells. opened_by p (lawful second) more s cells other_follows in
+      over_alike x y types made others h (MakeFixed t) _ _
+      (λ within. make_case o ready.steps.calls.runnable.sizes (lawful first) (lawful second) may other_may one two none few no_frame no_frame no_frames
+      (After x y types made others h on other_on) (full x y types made others h on other_on) x y types made others t 0 [] true
+      (lawful first x.store request) (lawful second y.store request) (λ areas cell. Did areas (made ++ cell ∷ [])) (λ areas cell. Did areas (others ++ cell ∷ []))
+      h fit.0 (may x.store request) (other_may y.store request)
+      (next_within o y (MakeFixed t) [] (request_words request) refl (omega arith) (within_budget o y (MakeFixed t ∷ []) (now_few x y types made others h) within))
+      (λ next following cell twin both. each_alike more (record x { store = next }) (record y { store = following }) (types ++ t ∷ []) (made ++ cell ∷ [])
+      (others ++ twin ∷ []) follows other_follows goes all.1 fit.1 agrees.1 alikes.1
+      (made_on o ready.steps.calls.runnable.sizes (lawful first) (lawful second) may other_may one two none few no_frame no_frame no_frames
+      x y types made others t (request_words request) next following cell twin h both)))
+  each_alike (Put object place k v ∷ more) x y types made others follows other_follows goes all fit agrees alikes h =
+      over_alike x y types made others h (Put object place k v) _ _
+      (λ within. each_alike more _ _ types made others follows other_follows goes all.1 fit.2 agrees.1 alikes.1
+      (put_on o ready.steps.calls.runnable.sizes (lawful first) (lawful second) may other_may one two none few no_frame no_frame no_frames
+      x y types made others h object v place k fit.0 fit.1 agrees.0 alikes.0))
+  each_alike (action ∷ more) x y types made others follows other_follows goes all fit agrees alikes h = absurd all.0
+
+  -- the start of classes makes no object that is listed
+  each_start : (actions : List Action) (x y : Areas) (types : List TypeRef) (made others : List ℕ) (follows other_follows : State → List ℕ → State)
+      → ((x y : Areas) → On x y types made others → Go (follows (bare x) made) (other_follows (bare y) others)) → AllByRecursion IsOfStart actions
+      → ActsFit o one no_frame types actions → AllByRecursion (PutAgrees o one []) actions → AllByRecursion (ActsAlike o one no_frame) actions
+      → On x y types made others → Go (opened_by p (lawful first) actions (bare x) made follows) (opened_by p (lawful second) actions (bare y) others other_follows)
+  unfolding performed
+  each_start [] x y types made others follows other_follows goes all fit agrees alikes h = goes x y h
+  each_start (MakeLiteral text ∷ more) x y types made others follows other_follows goes all fit agrees alikes h =
+      let t : TypeRef = text_type o in
+      let len : ℕ = length (literal_text o text) in
+      let request : Request = requested o t len true in
+      let on : State → List ℕ → State = λ s cells. opened_by p (lawful first) more s cells follows in
+      let other_on : State → List ℕ → State = λ s cells. opened_by p (lawful second) more s cells other_follows in
+      over_alike x y types made others h (MakeLiteral text) _ _
+      (λ within. either o ready.steps.calls.runnable.sizes (lawful first) (lawful second) may other_may one two none few no_frame no_frame no_frames
+      (After x y types made others h on other_on) (is_there x text) (is_there y text) _ _ _ _ (there_same o x y h.paired text)
+      (λ there. each_start more x y types made others follows other_follows goes all.1 fit.1 agrees.1 alikes.1 h)
+      (λ none_there. make_case o ready.steps.calls.runnable.sizes (lawful first) (lawful second) may other_may one two none few no_frame no_frame no_frames
+      (After x y types made others h on other_on) (full x y types made others h on other_on) x y types made others t len (literal_text o text) true
+      (lawful first x.store request) (lawful second y.store request) (λ areas cell. Did (literal_made areas text cell) made)
+      (λ areas cell. Did (literal_made areas text cell) others) h fit.0 (may x.store request) (other_may y.store request)
+      (next_within o y (MakeLiteral text) [] (request_words request) (ap (λ b. cond (b || false) 0 (request_words request)) none_there) (omega arith)
+      (within_budget o y (MakeLiteral text ∷ []) (now_few x y types made others h) within))
+      (λ next following cell twin both. each_start more (literal_made (record x { store = next }) text cell)
+      (literal_made (record y { store = following }) text twin) types made others follows other_follows goes all.1 fit.1 agrees.1 alikes.1
+      (literal_on o ready.steps.calls.runnable.sizes (lawful first) (lawful second) may other_may one two none few no_frame no_frame no_frames
+      x y types made others t (request_words request) text next following cell twin h both))))
+  each_start (SetStatic slot k v ∷ more) x y types made others follows other_follows goes all fit agrees alikes h =
+      over_alike x y types made others h (SetStatic slot k v) _ _
+      (λ within. each_start more _ _ types made others follows other_follows goes all.1 fit.1 agrees.1 alikes.1
+      (set_on o ready.steps.calls.runnable.sizes (lawful first) (lawful second) may other_may one two none few no_frame no_frame no_frames
+      x y types made others h slot k v fit.0 alikes.0.1 agrees.0 alikes.0.0))
+  each_start (Start class ∷ more) x y types made others follows other_follows goes all fit agrees alikes h =
+      over_alike x y types made others h (Start class) _ _
+      (λ within. each_start more _ _ types made others follows other_follows goes all.1 fit agrees.1 alikes.1
+      (start_on o ready.steps.calls.runnable.sizes (lawful first) (lawful second) may other_may one two none few no_frame no_frame no_frames
+      x y types made others h class))
+  each_start (action ∷ more) x y types made others follows other_follows goes all fit agrees alikes h = absurd all.0
+
+  -- ---- the streams, and the first frames
+
+  streams_on : (x y : Areas) (types : List TypeRef) (made others : List ℕ) → On x y types made others
+      → On (with_streams x made) (with_streams y others) types made others
+  streams_on x y types made others h =
+      let same : (n : ℕ) → SameValue x.store y.store (ref (slice_index_or made n 0)) (ref (slice_index_or others n 0)) =
+      λ n. (slice_index_or others n 0, refl, number_same x.store y.store made others n h.cells) in
+      record {
+        keeps = streams_keep p ready.steps first one x types made h.keeps;
+        limits = h.limits;
+        other_limits = h.other_limits;
+        paired = record {
+          store = h.paired.store;
+          statics = zip-set (SameValue x.store y.store) 1 (ref (slice_index_or made 1 0)) (ref (slice_index_or others 1 0)) _ _ (same 1)
+              (zip-set (SameValue x.store y.store) 0 (ref (slice_index_or made 0 0)) (ref (slice_index_or others 0 0)) x.statics y.statics (same 0) h.paired.statics);
+          literals = h.paired.literals;
+          started = h.paired.started;
+        };
+        stays = h.stays;
+        other_stays = h.other_stays;
+        cells = h.cells;
+      }
+
+  framed_alike : (methods : List ℕ) (cell twin : ℕ) (x y : Areas) (types : List TypeRef) (made others : List ℕ) → On x y types made others
+      → SameCell x.store y.store cell twin
+      → Go (framed (bare x) (opening_frames p methods cell)) (framed (bare y) (opening_frames p methods twin))
+  framed_alike methods cell twin x y types made others h same =
+      let main : List Frame = new_frame p p.outline.main (ref cell ∷ []) ∷ [] in
+      let other_main : List Frame = new_frame p p.outline.main (ref twin ∷ []) ∷ [] in
+      let frames : AllZip (FramesPaired x.store y.store) (opening_frames p methods cell) (opening_frames p methods twin) =
+      zip-append (FramesPaired x.store y.store) (start_frames p methods) (start_frames p methods) main other_main (starts_same p x.store y.store methods)
+      (new_same p x.store y.store p.outline.main (ref cell ∷ []) (ref twin ∷ []) ((twin, refl, same), tt), tt) in
+      let count : length (opening_frames p methods cell) ≡ length (opening_frames p methods twin) =
+      zip-length (FramesPaired x.store y.store) (opening_frames p methods cell) (opening_frames p methods twin) frames in
+      by_both Go (nat_lt job.depth (length (opening_frames p methods cell))) (nat_lt job.depth (length (opening_frames p methods twin))) _ _ _ _
+      (λ deep other_deep. ends_alike x y types made others h (end.TooDeep 1) (end.TooDeep 1) refl)
+      (λ deep shallow. absurd (false≢true (sym shallow ∙ ap (nat_lt job.depth) (sym count) ∙ deep)))
+      (λ shallow deep. absurd (false≢true (sym shallow ∙ ap (nat_lt job.depth) count ∙ deep)))
+      (λ shallow other_shallow. frames_alike x y types made others h (opening_frames p methods cell) (opening_frames p methods twin) frames)
+
+  pub opened_alike : ArgumentsFit job.arguments → AreasAreSound o (first_areas o one) → AreasPaired o (first_areas o one) (first_areas o two)
+      → GoesAlike p.outline one.budget two.budget two.limit (opening p (lawful first) job one) (opening p (lawful second) job two)
+  unfolding opening
+  opened_alike given sound paired =
+      let classes : List ℕ = to_start o (first_areas o one).started o.main_class in
+      let methods : List ℕ = start_methods o classes in
+      each_alike (opening_actions o job) (first_areas o one) (first_areas o two) [] [] [] _ _
+      (λ x y types made others h. each_start (start_actions o classes) (with_streams x made) (with_streams y others) types made others
+      (λ s cells. framed s (opening_frames p methods (slice_index_or made 2 0))) (λ s cells. framed s (opening_frames p methods (slice_index_or others 2 0)))
+      (λ now later on. framed_alike methods (slice_index_or made 2 0) (slice_index_or others 2 0) now later types made others on
+      (number_same now.store later.store made others 2 on.cells))
+      (start_made o classes)
+      (fit_later o one no_frame types (start_actions o classes) (start_made o classes) (start_alone p ready.makes.makeable ready.makes.constants one no_frame classes))
+      (starts_agree o one [] classes) (starts_alike o ready.constants one no_frame classes) (streams_on x y types made others h))
+      (opening_made o job) (opening_fits p ready.makes.makeable one no_frame job given) (opening_agrees o one job) (opening_alike o one job)
+      (begins o ready.steps.calls.runnable.sizes (lawful first) (lawful second) may other_may one two none few no_frame no_frame no_frames
+      (first_areas o one) (first_areas o two) refl refl paired sound)
+
+-- from opened stores on
+pub openings_alike : (p : Program) → IsReady p → (first second : Choose) (job : Job) → ArgumentsFit job.arguments → (budget other : ℕ) (limit : Option ℕ)
+    (free freed : List (List ℕ)) → budget ≤ MAX_LIVE_WORDS → other ≤ MAX_LIVE_WORDS
+    → GoesAlike p.outline budget other limit (opening p (lawful first) job (opened budget None free)) (opening p (lawful second) job (opened other limit freed))
+openings_alike p ready first second job given budget other limit free freed few other_few =
+    opened_alike p ready first second job (opened budget None free) (opened other limit freed) refl other_few given (first_sound p.outline budget None free few)
+    (first_paired p.outline budget other limit None free freed)

@@ -1,0 +1,7 @@
+-- What serves the proofs alone.
+pub mod MemberLists
+pub mod Named
+pub mod Resolved
+pub mod MemberInfos
+pub mod Answers
+pub mod Assembled

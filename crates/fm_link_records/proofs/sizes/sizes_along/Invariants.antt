@@ -1,0 +1,6 @@
+use Rattle.std.proofs.Common.{◌≡◌, map, take}
+use Rattle.fm_link_records.specs.inner.Sizes.{lists, size_along}
+use Rattle.fm_link_records.proofs.sizes.sizes_along.Given as goal
+
+abbrev pub invariant-loop-chain : goal.invariant-loop-chain
+invariant-loop-chain l = l.sizes.items ≡ map (size_along l.own) (lists (take l.chain-index l.chains))

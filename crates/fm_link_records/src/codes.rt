@@ -1,0 +1,43 @@
+// The codes of all methods.
+
+ghost use Rattle.std.specs.Prelude.{◌≡◌, ◌++◌, IfOk, OnOk, None, map, option_copied, replicate};
+ghost use Rattle.std.specs.List.{flat_map};
+ghost use Rattle.fm_code.specs.Members.{code_of};
+ghost use Rattle.fm_link_records.specs.inner.Rows.{codes_in, lent_codes};
+
+use fm_base::NoMemory;
+use fm_code::{Code, Member};
+use fm_link_names::GivenFile;
+use std::alloc::Global;
+
+// The number of the methods of built-in classes.
+const BUILT_IN_METHODS: usize = 86;
+
+/// The code of each method, if it has one; a built-in method has none.
+pub fn codes_of<'a>(
+    alloc: Global,
+    files: &[GivenFile<'a>],
+) -> Result<Vec<Option<&'a Code>>, NoMemory>
+    ensures { IfOk result (λ codes. lent_codes codes.items
+        ≡ replicate BUILT_IN_METHODS None ++ flat_map codes_in files.now) }
+{
+    let mut codes = Vec::new(alloc);
+    for _ in 0..BUILT_IN_METHODS {
+        codes.push(None)?;
+    }
+    for file in files {
+        add_codes(&mut codes, file.class.methods.as_slice())?;
+    }
+    Ok(codes)
+}
+
+// Adds the codes of some methods.
+fn add_codes<'a>(codes: &mut Vec<Option<&'a Code>>, methods: &'a [Member]) -> Result<(), NoMemory>
+    ensures { OnOk result (lent_codes codes.new.items
+        ≡ lent_codes codes.old.items ++ map code_of methods.entry.now) }
+{
+    for method in methods {
+        codes.push(method.code())?;
+    }
+    Ok(())
+}

@@ -1,5 +1,0 @@
-use Rattle.fm_linked.proofs.Trees.{no_parent_refused, tree_of}
-use Rattle.fm_linked.proofs.law_tree.Goals as goal
-
-pub returns : goal.returns
-returns c given main spelled none = tree_of given spelled (no_parent_refused given main none)

@@ -1,7 +1,0 @@
-use Rattle.std.proofs.Common.{◌∙◌}
-use Rattle.fm_lookup.proofs.LookupLemmas.{selected-is}
-use Rattle.fm_lookup.proofs.lookups.Methods.select.Goals as goal
-
-pub returns : goal.returns
-returns c = λ texts classes are class method.
-    c.selected.ensures ∙ selected-is texts classes c.args.self.now c.args.class c.args.method are class method

@@ -1,5 +1,0 @@
-use Rattle.fm_paired.proofs.ActsSame.{kept_same, put_same, static_same}
-use Rattle.fm_paired.proofs.laws.law_areas.Goals as goal
-
-pub returns : goal.returns
-returns c = record { objects = put_same; statics = static_same; kept = kept_same }

@@ -1,5 +1,0 @@
-use Rattle.fm_paired.proofs.ReusesSame.{memories_alike, whole_alike}
-use Rattle.fm_paired.proofs.laws.law_memories.Goals as goal
-
-pub returns : goal.returns
-returns c = record { states = memories_alike; runs = whole_alike }

@@ -1,5 +1,0 @@
-use Rattle.fm_paired.proofs.TwoMemories.{next_effects_alike}
-use Rattle.fm_paired.proofs.laws.law_rows.Goals as goal
-
-pub returns : goal.returns
-returns c = next_effects_alike

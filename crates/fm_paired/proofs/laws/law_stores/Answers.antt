@@ -1,5 +1,0 @@
-use Rattle.fm_paired.proofs.Stores.{made_paired, put_paired}
-use Rattle.fm_paired.proofs.laws.law_stores.Goals as goal
-
-pub returns : goal.returns
-returns c = record { made = made_paired; put = put_paired }

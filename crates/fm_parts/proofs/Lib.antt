@@ -1,3 +1,0 @@
-pub mod AnswerSteps
-pub mod ProgramSteps
-pub mod TableSteps

@@ -1,3 +1,0 @@
--- What only serves the proofs.
-pub mod Answers
-pub mod Assembled

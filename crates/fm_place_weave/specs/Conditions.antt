@@ -1,0 +1,36 @@
+-- What weaving requires of a method's code and its plan.
+use Rattle.std.specs.Prelude.{◌+◌, ℕ, ◌<◌, ◌≤◌, List}
+use Rattle.std.specs.List.{AllByRecursion}
+use Rattle.fm_base.specs.declared.limits.TheConstants.{MAX_LOCAL_WORDS}
+use Rattle.fm_code.specs.Edges.{MeetsCodeRules}
+use Rattle.fm_code.specs.declared.code_array.Code.{Code}
+use Rattle.fm_layout.specs.Conditions.{AreNewItems, AreOldItems}
+use Rattle.fm_layout.specs.Laid.{laid_of}
+use Rattle.fm_layout.specs.Tables.{AreAnchors}
+use Rattle.fm_place.specs.declared.limits.TheConstants.{MAX_HOLDING_STACK_WORDS}
+use Rattle.fm_place.specs.declared.plans.Plan.{Plan}
+use Rattle.fm_place_weave.specs.ByPlan.{anchors_by, items_by}
+
+-- the holder of a pair has a local, which is this many after the first one that is added
+abbrev pub IsLocal : ℕ → (ℕ × ℕ) → Type 0
+IsLocal first p = first + p.1 < MAX_LOCAL_WORDS
+
+-- the holders of all pairs have
+abbrev pub AreLocals : ℕ → List (ℕ × ℕ) → Type 0
+AreLocals first pairs = AllByRecursion (IsLocal first) pairs
+
+-- there are locals for all holders, and those of the pairs are among them
+pub record HasRoom (code : Code) (plan : Plan) : Type 0 where
+  pub holders : code.max_locals + plan.holders ≤ MAX_LOCAL_WORDS
+  pub before : AreLocals code.max_locals plan.before.items
+  pub after : AreLocals code.max_locals plan.after.items
+
+-- the code may be woven by the plan: its result may be laid out, and there is room for one more
+-- word on its stack
+pub record MayBeWoven (free : ℕ) (code : Code) (plan : Plan) : Type 0 where
+  pub old_items : AreOldItems code.items
+  pub rules : MeetsCodeRules code
+  pub room : HasRoom code plan
+  pub stack : code.max_stack ≤ MAX_HOLDING_STACK_WORDS
+  pub new_items : AreNewItems code.items (items_by free code plan)
+  pub anchors : AreAnchors code (laid_of code.items (items_by free code plan)) (anchors_by code plan)

@@ -1,5 +1,0 @@
-use Rattle.fm_profile.proofs.LimitLemmas.{code_fits}
-use Rattle.fm_profile.proofs.limits.first_of_method.Goals as goal
-
-pub first_of_code-requires : goal.first_of_code-requires
-first_of_code-requires c = code_fits c.args.method.now c.in-Some.code.now c.requires c.in-Some.ensures

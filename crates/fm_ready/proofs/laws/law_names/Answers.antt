@@ -1,5 +1,0 @@
-use Rattle.fm_ready.proofs.Named.{dimensions_within, literal_inside, use_inside, wanted}
-use Rattle.fm_ready.proofs.laws.law_names.Goals as goal
-
-pub returns : goal.returns
-returns c = record { there = use_inside; wanted = wanted; literals = literal_inside; dimensions = dimensions_within }

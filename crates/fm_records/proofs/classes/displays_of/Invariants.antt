@@ -1,6 +1,0 @@
-use Rattle.std.proofs.Common.{◌≡◌, map, reverse, take}
-use Rattle.fm_records.specs.inner.Sizes.{lists}
-use Rattle.fm_records.proofs.classes.displays_of.Given as goal
-
-abbrev pub invariant-loop-chain : goal.invariant-loop-chain
-invariant-loop-chain l = l.displays.items ≡ map reverse (lists (take l.chain-index l.chains))

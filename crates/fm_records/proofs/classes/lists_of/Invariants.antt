@@ -1,6 +1,0 @@
-use Rattle.std.proofs.Common.{◌≡◌, take}
-use Rattle.fm_records.specs.inner.Sizes.{lists}
-use Rattle.fm_records.proofs.classes.lists_of.Given as goal
-
-abbrev pub invariant-loop-list : goal.invariant-loop-list
-invariant-loop-list l = l.copies.items ≡ lists (take l.list-index l.vectors)

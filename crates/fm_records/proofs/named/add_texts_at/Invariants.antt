@@ -1,7 +1,0 @@
-use Rattle.std.proofs.Common.{◌≡◌, ◌++◌, take}
-use Rattle.std.specs.List.{filter_map}
-use Rattle.fm_records.specs.inner.Named.{text_at}
-use Rattle.fm_records.proofs.named.add_texts_at.Given as goal
-
-abbrev pub invariant-loop-index : goal.invariant-loop-index
-invariant-loop-index l = l.named.items ≡ l.fn.named.items ++ filter_map (text_at l.file) (take l.index-index l.indices)

@@ -1,8 +1,0 @@
-use Rattle.fm_world.specs.Linking.{refused_methods}
-use Rattle.fm_world.specs.Programs.{classes_of}
-use Rattle.fm_refuse.specs.inner.GivenClasses.{given_in}
-use Rattle.fm_refuse.proofs.wanted_methods.refuse_methods.Goals as goal
-
-pub returns : goal.returns
-unfolding refused_methods
-returns c = λ linked. c.refuse_methods_in.ensures (classes_of (given_in c.args.files.now)) linked

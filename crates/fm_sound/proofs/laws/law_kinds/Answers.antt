@@ -1,5 +1,0 @@
-use Rattle.fm_sound.proofs.KindLemmas.{kinds_along}
-use Rattle.fm_sound.proofs.laws.law_kinds.Goals as goal
-
-pub returns : goal.returns
-returns c = kinds_along

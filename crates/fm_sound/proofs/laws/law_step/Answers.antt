@@ -1,5 +1,0 @@
-use Rattle.fm_sound.proofs.StepsSound.{step_sound}
-use Rattle.fm_sound.proofs.laws.law_step.Goals as goal
-
-pub returns : goal.returns
-returns c = step_sound

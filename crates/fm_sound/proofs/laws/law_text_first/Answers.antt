@@ -1,5 +1,0 @@
-use Rattle.fm_sound.proofs.HiddenFields.{text_first}
-use Rattle.fm_sound.proofs.laws.law_text_first.Goals as goal
-
-pub returns : goal.returns
-returns c = λ p runnable tree. text_first p runnable tree

@@ -1,4 +1,0 @@
-pub mod Described
-pub mod NamedSteps
-pub mod MemberInfoSteps
-pub mod UseSteps

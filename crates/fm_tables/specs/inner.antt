@@ -1,5 +1,0 @@
--- What only serves the proofs.
-pub mod MemberLists
-pub mod Named
-pub mod Resolved
-pub mod MemberInfos

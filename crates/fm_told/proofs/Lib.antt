@@ -1,5 +1,0 @@
-pub mod Calls
-pub mod Causes
-pub mod PlainPlans
-pub mod LeastFacts
-pub mod Exact

@@ -1,5 +1,0 @@
-use Rattle.fm_told.proofs.Exact.{refused_for_one_cause, serve_alike, written_in_one_way, written_or_refused}
-use Rattle.fm_told.proofs.laws.law_exact.Goals as goal
-
-pub returns : goal.returns
-returns c = record { alike = serve_alike; written = written_in_one_way; refused = written_or_refused; cause = refused_for_one_cause }

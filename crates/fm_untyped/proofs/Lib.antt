@@ -1,2 +1,0 @@
-pub mod LinkedPrograms
-pub mod UntypedLemmas

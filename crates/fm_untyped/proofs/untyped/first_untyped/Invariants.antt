@@ -1,6 +1,0 @@
-use Rattle.std.proofs.Common.{ℕ, ◌<◌}
-use Rattle.fm_untyped.specs.Untyped.{IsTypedIfCoded}
-use Rattle.fm_untyped.proofs.untyped.first_untyped.Given as goal
-
-abbrev pub invariant-loop-number : goal.invariant-loop-number
-invariant-loop-number l = (earlier : ℕ) → earlier < l.number → IsTypedIfCoded l.fn.program earlier

@@ -1,3 +1,0 @@
-pub mod Outcomes
-pub mod WalkLemmas
-pub mod CarryLemmas

@@ -1,7 +1,0 @@
-use Rattle.std.proofs.Common.{take}
-use Rattle.fm_walk.specs.inner.Walks.{Carries, walked}
-use Rattle.fm_known.specs.inner.Tasks.{task}
-use Rattle.fm_walk.proofs.walk.Walk.carry_all.Given as goal
-
-abbrev pub invariant-loop-rise : goal.invariant-loop-rise
-invariant-loop-rise l = Carries (task l.method) l.item (take l.rise-index l.rises) (walked l.initial.self) (walked l.self)

@@ -1,5 +1,0 @@
-use Rattle.fm_weave.proofs.ClassLawLemmas.{classes_are_rewritten}
-use Rattle.fm_weave.proofs.laws.law_classes.Goals as goal
-
-pub returns : goal.returns
-returns c = classes_are_rewritten

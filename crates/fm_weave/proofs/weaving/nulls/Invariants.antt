@@ -1,6 +1,0 @@
-use Rattle.std.proofs.Common.{◌≡◌}
-use Rattle.fm_weave.specs.ByPlan.{nulls_by}
-use Rattle.fm_weave.proofs.weaving.nulls.Given as goal
-
-abbrev pub invariant-loop-holder : goal.invariant-loop-holder
-invariant-loop-holder l = l.items.items ≡ nulls_by l.first l.holder

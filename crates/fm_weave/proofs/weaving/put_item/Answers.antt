@@ -1,5 +1,0 @@
-use Rattle.fm_weave.proofs.WeaveLemmas.{joined}
-use Rattle.fm_weave.proofs.weaving.put_item.Goals as goal
-
-pub returns : goal.returns
-returns c = joined _ _ _ _ _ _ _ c.in_ok-put_freed.ensures c.in_ok-put_kept.ensures c.in_ok-put_stored.ensures

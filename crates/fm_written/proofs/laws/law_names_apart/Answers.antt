@@ -1,5 +1,0 @@
-use Rattle.fm_written.proofs.ApartLemmas.{names_apart}
-use Rattle.fm_written.proofs.laws.law_names_apart.Goals as goal
-
-pub returns : goal.returns
-returns c = names_apart
