@@ -10,9 +10,8 @@ ghost use Rattle.fm_check_walk.specs.inner.Tasks.{IsSound, task};
 use crate::steps::next_items;
 use fm_base::NoMemory;
 use fm_check_handlers::{Giving, Level, give_to_levels};
+use fm_check_walk::{CheckedMethod, Rise, Walk, locals_of};
 use fm_code::Insn;
-use fm_check_walk::{CheckedMethod, Rise, locals_of};
-use fm_check_walk::Walk;
 use std::alloc::Global;
 
 // Carries slots to each item of the list.

@@ -19,11 +19,10 @@ use crate::error::CheckFail;
 use crate::steps::run;
 use fm_base::limits::{MAX_LOCAL_WORDS, MAX_STACK_WORDS};
 use fm_base::{MethodId, NoMemory, Seq};
-use fm_code::{ACC_STATIC, Code, has_flag};
-use fm_check_walk::{KnownState, CheckedMethod, parameter_slots};
 use fm_check_rows::{class_of_method, is_constructor};
+use fm_check_walk::{CheckedMethod, KnownState, Walk, is_within, parameter_slots};
+use fm_code::{ACC_STATIC, Code, has_flag};
 use fm_types::{Slot, Stack, State, Typing};
-use fm_check_walk::{Walk, is_within};
 use fm_world::{Body, Program, type_of_class};
 use std::alloc::Global;
 
@@ -115,7 +114,10 @@ fn typing_of(alloc: Global, method: &CheckedMethod<'_>) -> Result<Option<Typing>
 }
 
 // The states that are known, as a typing has them.
-fn typed_states(alloc: Global, states: Vec<Option<KnownState>>) -> Result<Vec<Option<State>>, NoMemory>
+fn typed_states(
+    alloc: Global,
+    states: Vec<Option<KnownState>>,
+) -> Result<Vec<Option<State>>, NoMemory>
     ensures { IfOk result
         (λ typed. map (option_map type_state) typed.items ≡ states_seen states.items) }
 {

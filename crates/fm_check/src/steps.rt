@@ -11,11 +11,12 @@ ghost use Rattle.fm_types.specs.Typings.{type_state};
 use crate::carrying::carry_on;
 use fm_base::{NoMemory, Seq};
 use fm_check_handlers::{Level, bring_to_runs, levels_of};
-use fm_code::{Code, Insn};
-use fm_check_walk::{CheckedMethod, SlotPlace, all_left_alone, rises_of, words_taken};
 use fm_check_rows::apply;
+use fm_check_walk::{
+    CheckedMethod, SlotPlace, Walk, all_left_alone, rises_of, state_of, words_taken,
+};
+use fm_code::{Code, Insn};
 use fm_types::State;
-use fm_check_walk::{Walk, state_of};
 use std::alloc::Global;
 
 // Whether control can go on past the last item after the instruction of this item.

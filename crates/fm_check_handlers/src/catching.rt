@@ -15,11 +15,10 @@ ghost use Rattle.fm_world.specs.Members.{methods_of};
 
 use crate::runs::{Level, Run};
 use fm_base::{NoMemory, TypeRef};
-use fm_code::Handler;
-use fm_check_walk::{KnownState, CheckedMethod, SlotPlace, Rise, local_rises, rises_of};
 use fm_check_rows::{built_in_type, type_of_use, use_in};
+use fm_check_walk::{CheckedMethod, KnownState, Rise, SlotPlace, Walk, local_rises, rises_of};
+use fm_code::Handler;
 use fm_types::{Slot, Stack, State, fits, fits_type, join};
-use fm_check_walk::Walk;
 use std::alloc::Global;
 
 /// What an item gives to the handlers of the entries whose ranges hold it.

@@ -6,8 +6,8 @@ ghost use Rattle.fm_check_handlers.specs.inner.Runs.{IsLaid, IsMade, IsNoted, Is
 ghost use Rattle.fm_types.specs.Typings.{type_state};
 
 use fm_base::NoMemory;
-use fm_code::Handler;
 use fm_check_walk::KnownState;
+use fm_code::Handler;
 use fm_types::State;
 use std::alloc::Global;
 

@@ -7,8 +7,8 @@ ghost use Rattle.fm_types.specs.States.{local_slots};
 ghost use Rattle.fm_world.specs.Members.{methods_of};
 
 use fm_base::{MethodId, NoMemory};
-use fm_code::Code;
 use fm_check_rows::words_of;
+use fm_code::Code;
 use fm_types::Slot;
 use fm_world::Program;
 use std::alloc::Global;

@@ -7,12 +7,12 @@ ghost use Rattle.fm_check_walk.specs.inner.Tasks.{IsSound, task};
 ghost use Rattle.fm_check_rows.specs.Members.{NamesMember};
 ghost use Rattle.fm_types.specs.Typed.{use_by};
 
-use crate::known_state::SlotPlace;
 use crate::checked_method::{CheckedMethod, parameter_slots};
+use crate::known_state::SlotPlace;
 use crate::risen::Rise;
 use fm_base::NoMemory;
-use fm_code::Insn;
 use fm_check_rows::use_in;
+use fm_code::Insn;
 use fm_types::Slot;
 use fm_world::{Program, Use};
 use std::alloc::Global;
@@ -69,7 +69,11 @@ fn called_words(alloc: Global, program: &Program, resolved: Use) -> Result<usize
 }
 
 /// The words of the stack that the row of the instruction takes at most.
-pub fn words_taken(alloc: Global, method: &CheckedMethod<'_>, insn: &Insn) -> Result<usize, NoMemory>
+pub fn words_taken(
+    alloc: Global,
+    method: &CheckedMethod<'_>,
+    insn: &Insn,
+) -> Result<usize, NoMemory>
     requires { IsSound (task method.now) }
     ensures { IfOk result (λ count. count ≡ words_taken (task method.now).program.outline
         (use_by (task method.now).program (task method.now).number insn.now) insn.now) }

@@ -20,7 +20,11 @@ pub struct Rise {
 }
 
 /// What is at these places, in their order.
-pub fn rises_of(alloc: Global, known: &KnownState, places: &[SlotPlace]) -> Result<Vec<Rise>, NoMemory>
+pub fn rises_of(
+    alloc: Global,
+    known: &KnownState,
+    places: &[SlotPlace],
+) -> Result<Vec<Rise>, NoMemory>
     ensures { IfOk result
         (λ rises. rises.items ≡ map (rise_of (known_state known.now)) places.now) }
 {

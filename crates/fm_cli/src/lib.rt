@@ -5,17 +5,17 @@
 // couldn't be had, and then nothing came out.
 #![tactic(auto)]
 
+mod command_refusal;
 mod encoding;
 mod line;
 mod printing;
-mod command_refusal;
 pub mod status;
 #[cfg(test)]
 mod tests;
 mod words;
 
+pub use command_refusal::CommandRefusal;
 pub use encoding::modified;
 pub use line::put_line;
 pub use printing::printed;
-pub use command_refusal::CommandRefusal;
 pub use words::command_words;

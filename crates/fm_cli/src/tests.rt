@@ -11,7 +11,11 @@ fn each_refusal_is_put_as_its_line_with_its_status(rt: HostRuntime) -> Result<()
     let alloc = rt.alloc();
     let rows = [
         (CommandRefusal::Words, 64, "refused: words\n"),
-        (CommandRefusal::Read("a/M.class"), 65, "refused: read a/M.class\n"),
+        (
+            CommandRefusal::Read("a/M.class"),
+            65,
+            "refused: read a/M.class\n",
+        ),
         (CommandRefusal::OutOfMemory, 76, "refused: memory\n"),
     ];
     for (refusal, status, text) in rows {

@@ -90,7 +90,10 @@ fn class<'a>(alloc: Global) -> Arg<'a>
 }
 
 // The request that was matched, or None where a value is missing or isn't one.
-fn request_in<'a>(alloc: Global, matches: &ArgMatches<'a>) -> Result<Option<FmrunRequest<'a>>, NoMemory>
+fn request_in<'a>(
+    alloc: Global,
+    matches: &ArgMatches<'a>,
+) -> Result<Option<FmrunRequest<'a>>, NoMemory>
     ensures { let rows = rows_of (found_of matches.now) in
         IfOk result (λ asked. MatchOption asked (HasNoValues rows)
         (λ r. HasValuesOf rows (job_of r))) }

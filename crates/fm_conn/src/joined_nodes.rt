@@ -12,9 +12,9 @@ ghost use Rattle.fm_conn.specs.Shapes.{method_with, HasUsesIn, IsCoded, IsFlowAt
 ghost use Rattle.fm_conn.specs.Summaries.{linked_by, AreSummariesOf};
 ghost use Rattle.fm_conn.specs.inner.PairLists.{method_in, IsAsked, IsTypedAs};
 
+use crate::analysed_method::AnalysedMethod;
 use crate::class_numbers::Classes;
 use crate::links::push_calls;
-use crate::analysed_method::AnalysedMethod;
 use crate::nodes::Nodes;
 use crate::pairs::own_pairs;
 use crate::summaries::Summaries;

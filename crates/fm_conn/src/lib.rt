@@ -6,6 +6,7 @@
 // method's own instructions join at its ends and at its calls.
 #![tactic(auto)]
 
+mod analysed_method;
 mod class_numbers;
 mod ends;
 mod item_nodes;
@@ -13,7 +14,6 @@ mod joined_nodes;
 mod laws;
 mod links;
 mod listed_ends;
-mod analysed_method;
 mod nodes;
 mod own_classes;
 mod pairs;
@@ -21,12 +21,12 @@ mod rows;
 mod shapes;
 mod summaries;
 
+pub use analysed_method::AnalysedMethod;
 pub use class_numbers::Classes;
 pub use ends::End2;
 pub use joined_nodes::classes;
 pub use laws::{law_facts, law_joined_example, law_types};
 pub use listed_ends::{first_with, numbered};
-pub use analysed_method::AnalysedMethod;
 pub use nodes::is_reference;
 pub use own_classes::shape;
 pub use rows::{is_reference_kind, words_taken};

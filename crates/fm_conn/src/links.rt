@@ -7,10 +7,10 @@ ghost use Rattle.fm_conn.specs.Summaries.{ends_at};
 ghost use Rattle.fm_conn.specs.inner.NodeTables.{table_of};
 ghost use Rattle.fm_conn.specs.inner.PairLists.{call_pairs, call_pairs_at, end_entry, link_pairs, method_in, pairs_of_call, pairs_of_targets, place_of, stand_ins, IsAsked, IsCallIn};
 
+use crate::analysed_method::AnalysedMethod;
 use crate::ends::End2;
 use crate::item_nodes::ItemNodes;
 use crate::listed_ends::{first_with, numbered};
-use crate::analysed_method::AnalysedMethod;
 use crate::nodes::Nodes;
 use crate::pairs::item_at;
 use crate::summaries::Summaries;

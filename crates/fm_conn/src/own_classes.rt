@@ -14,10 +14,10 @@ ghost use Rattle.fm_conn.specs.Shapes.{method_with, HasUsesIn, IsCoded, IsFlowAt
 ghost use Rattle.fm_conn.specs.inner.NodeTables.{class_at, table_of};
 ghost use Rattle.fm_conn.specs.inner.PairLists.{call_shape, call_shape_at, call_shapes, end_entries, method_in, parameter_entries, parameter_entry, place_of, result_entry, with_classes, IsAsked, IsTypedAs};
 
+use crate::analysed_method::AnalysedMethod;
 use crate::ends::End2;
 use crate::item_nodes::ItemNodes;
 use crate::links::stand_ins;
-use crate::analysed_method::AnalysedMethod;
 use crate::nodes::{Nodes, is_reference};
 use crate::pairs::{item_at, own_pairs};
 use crate::rows::is_reference_kind;

@@ -11,8 +11,8 @@ ghost use Rattle.fm_conn.specs.Shapes.{IsUseIn};
 ghost use Rattle.fm_conn.specs.inner.NodeTables.{table_of, words_at};
 ghost use Rattle.fm_conn.specs.inner.PairLists.{caught_pairs, item_pairs, item_pairs_at, located, method_in, own_pairs, place_of, place_with, IsAsked};
 
-use crate::item_nodes::{ItemNodes, push_pair};
 use crate::analysed_method::AnalysedMethod;
+use crate::item_nodes::{ItemNodes, push_pair};
 use crate::nodes::Nodes;
 use crate::rows::words_taken;
 use fm_base::NoMemory;
@@ -21,7 +21,11 @@ use fm_flow::Flow;
 use std::alloc::Global;
 
 /// An item with its nodes; none where it can't be reached.
-pub fn item_at<'a>(method: &AnalysedMethod<'a>, nodes: &'a Nodes, item: u32) -> Option<ItemNodes<'a>>
+pub fn item_at<'a>(
+    method: &AnalysedMethod<'a>,
+    nodes: &'a Nodes,
+    item: u32,
+) -> Option<ItemNodes<'a>>
     requires asked { IsAsked method.now }
     requires nodes { nodes.now ≡ table_of (method_in method.now) }
     requires inside { item < length method.now.code.now.items }

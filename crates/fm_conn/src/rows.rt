@@ -15,7 +15,10 @@ pub fn words_taken(program: &Program, resolved: Use, insn: &Insn) -> usize
     requires { IsUseIn program.now.outline resolved }
     ensures { result ≡ words_taken program.now.outline resolved insn.now }
 {
-    insn.words_taken(field_word_count(program, resolved), call_words(program, resolved))
+    insn.words_taken(
+        field_word_count(program, resolved),
+        call_words(program, resolved),
+    )
 }
 
 // What values of a field are.

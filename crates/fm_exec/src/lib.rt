@@ -19,12 +19,11 @@ mod shuffles;
 mod throws;
 
 pub use arrays::{array_length, int_of, len_of, new_array, new_references};
-pub use calls::{words_of_arguments, leave};
+pub use calls::{leave, words_of_arguments};
 pub use casts::{cast, is_instance};
 pub use constants::{int_constant, long_constant, nop, null, text_constant};
 pub use elements::{
-    array_load, array_store, element_kind, element_type, is_array_of, place_in,
-    reference_store,
+    array_load, array_store, element_kind, element_type, is_array_of, place_in, reference_store,
 };
 pub use fields::{get_field, put_field};
 pub use held::{fits_named, give, refuse, type_in};

@@ -19,7 +19,7 @@ ghost use Rattle.fm_world.specs.declared.uses.Use.TheVariants as used;
 use crate::starts::start;
 use fm_base::{FieldId, MethodId, NoMemory, TypeId};
 use fm_cells::{Memory, object_words};
-use fm_exec::{words_of_arguments, class_of_type, give};
+use fm_exec::{class_of_type, give, words_of_arguments};
 use fm_frames::{Machine, pack_of};
 use fm_world::Program;
 use std::alloc::Global;

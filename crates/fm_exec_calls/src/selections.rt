@@ -21,7 +21,7 @@ ghost use Rattle.fm_world.specs.declared.uses.Use.TheVariants as used;
 
 use fm_base::{ClassId, MethodId, NoMemory, TypeId, TypeRef};
 use fm_cells::Memory;
-use fm_exec::{words_of_arguments, class_of_type, fits_named, refuse, type_in};
+use fm_exec::{class_of_type, fits_named, refuse, type_in, words_of_arguments};
 use fm_frames::{CLASS_CHANGE_ERROR, Look, Machine, NULL_POINTER_EXCEPTION};
 use fm_world::Program;
 

@@ -13,9 +13,9 @@ use crate::entries::{are_started, enter, is_object_init};
 use crate::objects::object_at;
 use crate::shuffles::pop;
 use fm_base::{MethodId, TypeId};
-use fm_exec_calls::{selected, special_method, words_with_receiver};
 use fm_cells::Memory;
-use fm_exec::{words_of_arguments, fits_named, type_in};
+use fm_exec::{fits_named, type_in, words_of_arguments};
+use fm_exec_calls::{selected, special_method, words_with_receiver};
 use fm_frames::{Frames, Machine};
 use fm_world::Program;
 

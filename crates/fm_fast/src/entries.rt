@@ -9,8 +9,8 @@ ghost use Rattle.fm_frames.specs.Starts.{is_started};
 ghost use Rattle.fm_frames.specs.inner.Doings.{NextFits};
 
 use fm_base::{ClassId, MethodId};
-use fm_exec_calls::row_of;
 use fm_cells::Memory;
+use fm_exec_calls::row_of;
 use fm_frames::{Frames, Machine, code_of};
 use fm_world::Program;
 

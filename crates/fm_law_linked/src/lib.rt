@@ -24,9 +24,9 @@ ghost use Rattle.fm_law_linked.specs.TwoMemories.{
 };
 ghost use Rattle.fm_law_no_fault.specs.NoFault.{LinkedProgramsNeverFault};
 
+use fm_law_no_fault::{law_built_ins, law_no_fault};
 use fm_law_two_memories::{law_hidden, law_memories, law_runs};
 use fm_same::{law_dead_regions, law_targets};
-use fm_law_no_fault::{law_built_ins, law_no_fault};
 use fm_world::law_class_types;
 
 /// Where nothing is refused, the program of spelled class files has what linking makes sure of.

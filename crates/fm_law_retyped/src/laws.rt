@@ -2,8 +2,8 @@
 
 ghost use Rattle.fm_law_retyped.specs.Retyped.{SafeClassesAreTyped};
 
-use fm_law_woven_flow::law_stands;
 use fm_law_linked::{law_linking, law_steps};
+use fm_law_woven_flow::law_stands;
 use fm_world::law_class_types;
 
 /// Each method of classes with safe insertions is typed, where no local holds an object that isn't

@@ -12,13 +12,13 @@ ghost use Rattle.fm_world.specs.declared.declarations.DeclaredClass.{DeclaredCla
 
 use crate::main_class::main_of;
 use crate::ready::Ready;
-use fm_link_supers::{Ancestors, Hierarchy};
-use fm_link_names::{ClassNumbers, GivenFile, Texts, classes_by_text};
 use fm_link_members::{Fields, Members, Methods, asked_members};
+use fm_link_names::{ClassNumbers, GivenFile, Texts, classes_by_text};
 use fm_link_refusals::{
     LinkFail, Linking, arrays_by_text, refuse_fields, refuse_methods, refuse_missing_classes,
     refuse_not_implemented, refuse_parents,
 };
+use fm_link_supers::{Ancestors, Hierarchy};
 use std::alloc::Global;
 
 /// The classes by name, for each text the class that it names and whether it names an array, and the

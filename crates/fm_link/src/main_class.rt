@@ -11,8 +11,8 @@ ghost use Rattle.fm_world.specs.Programs.{classes_of};
 
 use fm_base::NoMemory;
 use fm_code::{ACC_STATIC, has_flag};
-use fm_link_names::{GivenFile, Texts, number_of};
 use fm_link_members::{MemberRow, Members};
+use fm_link_names::{GivenFile, Texts, number_of};
 use fm_link_refusals::{LinkFail, Linking, bad_of};
 use fm_world::built_in_classes;
 use std::alloc::Global;

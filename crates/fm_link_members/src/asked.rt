@@ -2,9 +2,9 @@
 
 use crate::members::Signatures;
 use crate::owners::push_at;
-use fm_link_supers::empty_lists;
 use fm_base::{NoMemory, is_marked};
 use fm_link_names::{GivenFile, at};
+use fm_link_supers::empty_lists;
 use std::alloc::Global;
 
 /// A class with the texts of a name and a descriptor, as an entry of a pool names a member.

@@ -17,10 +17,10 @@ ghost use Rattle.fm_world.specs.declared.declarations.DeclaredClass.{DeclaredCla
 use crate::asked::Asked;
 use crate::members::{MemberFilter, Members, Nearest, Signatures, row_at};
 use crate::search_starts::{Along, SearchStarts};
-use fm_link_supers::{Hierarchy, is_interface_at, list_at};
 use fm_base::NoMemory;
 use fm_code::{ACC_PRIVATE, ACC_STATIC, has_flag};
 use fm_link_names::at;
+use fm_link_supers::{Hierarchy, is_interface_at, list_at};
 use fm_world::{ACC_SUPER, DeclaredClass};
 use std::alloc::Global;
 
@@ -232,8 +232,20 @@ impl Methods {
     {
         let signatures = Signatures::of(alloc, members.rows.as_slice())?;
         let nearest = Nearest::of(alloc, &members, &signatures, hierarchy, MemberFilter::All)?;
-        let of_objects = Nearest::of(alloc, &members, &signatures, hierarchy, MemberFilter::OfObjects)?;
-        let selectable = Nearest::of(alloc, &members, &signatures, hierarchy, MemberFilter::Selectable)?;
+        let of_objects = Nearest::of(
+            alloc,
+            &members,
+            &signatures,
+            hierarchy,
+            MemberFilter::OfObjects,
+        )?;
+        let selectable = Nearest::of(
+            alloc,
+            &members,
+            &signatures,
+            hierarchy,
+            MemberFilter::Selectable,
+        )?;
         let in_interfaces = of_interfaces(alloc, hierarchy.classes, &members, &signatures)?;
         let marks = in_interfaces.as_slice();
         let starts = SearchStarts::of(

@@ -9,10 +9,10 @@ ghost use Rattle.fm_link_members.specs.inner.NearestSteps.{top_of, AreTops, HasR
 ghost use Rattle.fm_world.specs.declared.declarations.DeclaredClass.{DeclaredClass};
 ghost use Rattle.fm_world.specs.inner.Layers.{HasRoom, IsTable, KeepsTables};
 
-use fm_link_supers::Hierarchy;
 use fm_base::NoMemory;
 use fm_code::{ACC_PRIVATE, ACC_STATIC, has_flag};
 use fm_link_names::{at, number_of};
+use fm_link_supers::Hierarchy;
 use fm_world::Layers;
 use std::alloc::Global;
 use std::collections::BTreeMap;

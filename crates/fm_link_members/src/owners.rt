@@ -7,8 +7,8 @@ ghost use Rattle.fm_link_members.specs.inner.MemberTables.{AreSignatures};
 ghost use Rattle.fm_link_members.specs.inner.Owners.{pushed, HaveOwners};
 
 use crate::members::{Members, Signatures, row_at};
-use fm_link_supers::empty_lists;
 use fm_base::NoMemory;
+use fm_link_supers::empty_lists;
 use std::alloc::Global;
 
 /// For each signature the classes of its members.

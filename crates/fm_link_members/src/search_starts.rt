@@ -11,9 +11,9 @@ ghost use Rattle.fm_link_members.specs.inner.SearchStarts.{interfaces_along, lis
 use crate::asked::{Asked, asked_of_classes};
 use crate::members::{Members, Signatures, add_signature};
 use crate::owners::owners_of;
-use fm_link_supers::{Hierarchy, is_interface_at, list_at, put_number};
 use fm_base::{NoMemory, number_at};
 use fm_link_names::number_of;
+use fm_link_supers::{Hierarchy, is_interface_at, list_at, put_number};
 use std::alloc::Global;
 use std::collections::BTreeMap;
 

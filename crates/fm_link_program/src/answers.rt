@@ -7,10 +7,10 @@ ghost use Rattle.fm_world.specs.inner.Tables.{numbers_below};
 ghost use Rattle.fm_link_program.specs.inner.Answers.{AreAnswers};
 
 use crate::member_lists::flags_of;
-use fm_link_supers::Hierarchy;
 use fm_base::{NoMemory, Seq};
 use fm_link_members::Methods;
 use fm_link_records::{displays_of, lists_of, own_tables};
+use fm_link_supers::Hierarchy;
 use fm_world::Layers;
 use std::alloc::Global;
 use std::collections::HashMap;

@@ -20,7 +20,6 @@ ghost use Rattle.fm_world.specs.Programs.{Outline, classes_of, codes_of, uses_of
 ghost use Rattle.fm_world.specs.inner.Tables.{numbers_below};
 
 use crate::member_lists::{descriptor_marks, descriptors_of};
-use fm_link_supers::Hierarchy;
 use fm_base::{NoMemory, Seq};
 use fm_link_names::{ClassNumbers, GivenFile, Kinds};
 use fm_link_records::{
@@ -28,6 +27,7 @@ use fm_link_records::{
     own_sizes, slots_of,
 };
 use fm_link_refusals::Linking;
+use fm_link_supers::Hierarchy;
 use fm_world::{DeclaredClass, FieldInfo, MethodInfo, Use, built_in_classes};
 use std::alloc::Global;
 

@@ -17,14 +17,14 @@ ghost use Rattle.fm_world.specs.Programs.{class_info, classes_of};
 ghost use Rattle.fm_world.specs.inner.Tables.{numbers_below, program_in, AreTables};
 
 use crate::answers::{Answers, answers_of};
-use crate::member_infos::{MemberInfos, FieldInfos, member_infos};
+use crate::member_infos::{FieldInfos, MemberInfos, member_infos};
 use crate::named::{Named, named_of};
-use fm_link_supers::Hierarchy;
 use fm_base::{ClassId, MethodId, NoMemory, Seq, TypeRef};
-use fm_link_names::{ClassNumbers, GivenFile, number_of};
 use fm_link_members::Methods;
+use fm_link_names::{ClassNumbers, GivenFile, number_of};
 use fm_link_records::{Types, class_infos, own_sizes, sizes_along};
 use fm_link_refusals::Linking;
+use fm_link_supers::Hierarchy;
 use fm_world::{ClassInfo, DeclaredClass, Parts, Program};
 use std::alloc::Global;
 

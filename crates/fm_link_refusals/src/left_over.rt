@@ -16,11 +16,11 @@ ghost use Rattle.fm_world.specs.declared.declarations.DeclaredClass.{DeclaredCla
 
 use crate::linking::Linking;
 use crate::not_implemented::is_abstract;
-use fm_link_supers::{empty_lists, list_at, put_list};
 use fm_base::{NoMemory, is_marked, mark};
 use fm_code::{ACC_ABSTRACT, ACC_PRIVATE, has_flag};
-use fm_link_names::{at, number_of};
 use fm_link_members::{push_at, row_at};
+use fm_link_names::{at, number_of};
+use fm_link_supers::{empty_lists, list_at, put_list};
 use std::alloc::Global;
 
 /// For each class how many abstract methods of each class are left over in it.

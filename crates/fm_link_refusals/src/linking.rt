@@ -8,10 +8,10 @@ ghost use Rattle.fm_world.specs.Descriptors.{class_number};
 ghost use Rattle.fm_world.specs.Lookups.{class_searched, resolved_field, resolved_method};
 ghost use Rattle.fm_world.specs.declared.declarations.DeclaredClass.{DeclaredClass};
 
-use fm_link_supers::Hierarchy;
 use fm_base::{NoMemory, is_marked};
-use fm_link_names::{MemberTexts, Texts, at, class_type};
 use fm_link_members::{Fields, Methods};
+use fm_link_names::{MemberTexts, Texts, at, class_type};
+use fm_link_supers::Hierarchy;
 use std::alloc::Global;
 
 /// The texts, for each text the class that it names and whether it names an array, and the tables of

@@ -23,11 +23,11 @@ use crate::abstract_calls::refuse_calls;
 use crate::error::{LinkBad, LinkFail};
 use crate::left_over::LeftOver;
 use crate::linking::Linking;
-use fm_link_supers::list_at;
 use fm_base::{Name, NoMemory};
 use fm_code::{ACC_ABSTRACT, ACC_INTERFACE, has_flag};
-use fm_link_names::{GivenFile, number_of};
 use fm_link_members::row_at;
+use fm_link_names::{GivenFile, number_of};
+use fm_link_supers::list_at;
 use fm_world::{DeclaredClass, built_in_classes};
 use std::alloc::Global;
 

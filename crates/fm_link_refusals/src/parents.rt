@@ -21,10 +21,10 @@ ghost use Rattle.fm_world.specs.Uses.{pool_indices};
 ghost use Rattle.fm_world.specs.declared.declarations.DeclaredClass.{DeclaredClass};
 
 use crate::error::{LinkFail, bad_of};
-use fm_link_supers::{Ancestors, class_listed, goes_up, is_interface_at};
 use fm_base::{NoMemory, is_marked, mark_indices};
 use fm_code::{ACC_INTERFACE, has_flag};
 use fm_link_names::{ClassNumbers, GivenFile, index_of, name_at};
+use fm_link_supers::{Ancestors, class_listed, goes_up, is_interface_at};
 use fm_world::DeclaredClass;
 use std::alloc::Global;
 

@@ -6,8 +6,8 @@ ghost use Rattle.fm_link_members.specs.inner.MemberTables.{flags_of};
 ghost use Rattle.fm_link_refusals.specs.inner.Linking.{is_unlike};
 
 use fm_code::{ACC_STATIC, has_flag};
-use fm_link_names::Wanted;
 use fm_link_members::Members;
+use fm_link_names::Wanted;
 
 /// The flags of a member; none are set past the last one.
 pub(crate) fn flags_at(members: &Members, member: u32) -> u16

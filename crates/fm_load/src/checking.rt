@@ -15,9 +15,9 @@ use crate::linking::link_classes;
 use crate::refusal::JobRefusal;
 use fm_base::characters::DOT;
 use fm_base::{MethodId, Name, NoMemory};
-use fm_code::ClassDef;
-use fm_check_rows::class_of_method;
 use fm_check_program::first_untyped;
+use fm_check_rows::class_of_method;
+use fm_code::ClassDef;
 use fm_world::Program;
 use std::alloc::Global;
 

@@ -4,8 +4,8 @@ ghost use Rattle.std.specs.Prelude.{◌≡◌, IfOk, string_bytes};
 ghost use Rattle.fm_load.specs.ClassRefusal.{class_refusal_line, class_refusal_status, count_word};
 
 use fm_base::{Name, NoMemory};
-use fm_code::What;
 use fm_cli::{printed, status};
+use fm_code::What;
 use std::alloc::Global;
 
 /// Why a class file is refused.

@@ -10,8 +10,8 @@ ghost use Rattle.fm_load.specs.declared.judging.ClassFail.TheVariants as class_f
 use crate::class_refusal::ClassRefusal;
 use fm_base::{Name, NoMemory};
 use fm_code::{ClassDef, Member, Place, Pool};
-use fm_read_limits::{supported, within_limits};
 use fm_read::{ReadFail, read_class};
+use fm_read_limits::{supported, within_limits};
 use std::alloc::Global;
 
 /// Why there is no class.

@@ -5,8 +5,8 @@ ghost use Rattle.fm_link_refusals.specs.Refused.{refusal_as};
 ghost use Rattle.fm_load.specs.LinkRefusal.{link_fail_line, link_line, told_line};
 
 use fm_base::NoMemory;
-use fm_link_refusals::{LinkBad, LinkFail};
 use fm_cli::{CommandRefusal, printed};
+use fm_link_refusals::{LinkBad, LinkFail};
 use std::alloc::Global;
 
 /// The line that reports why there is no program, with its line end.

@@ -7,10 +7,10 @@ ghost use Rattle.fm_load.specs.Taking.{ClassIsSpelled};
 
 use crate::refusal::JobRefusal;
 use fm_base::NoMemory;
+use fm_cli::modified;
 use fm_code::ClassDef;
 use fm_link::link;
 use fm_link_refusals::LinkFail;
-use fm_cli::modified;
 use fm_world::Program;
 use std::alloc::Global;
 

@@ -10,9 +10,9 @@ use crate::judging::{ClassFail, class_of};
 use crate::refusal::JobRefusal;
 use fm_base::NoMemory;
 use fm_base::limits::{MAX_ALL_CLASS_FILES_BYTES, MAX_FILE_BYTES};
+use fm_cli::CommandRefusal;
 use fm_code::ClassDef;
 use fm_files::{FileFail, Files};
-use fm_cli::CommandRefusal;
 use std::alloc::Global;
 
 /// The classes of the files in their order, where each is taken.

@@ -8,8 +8,8 @@ ghost use Rattle.fm_load.specs.declared.refusal.JobRefusal.TheVariants as job_re
 use crate::class_refusal::ClassRefusal;
 use crate::link_refusal::link_line;
 use fm_base::{Name, NoMemory};
-use fm_link_refusals::LinkFail;
 use fm_cli::{CommandRefusal, printed, status};
+use fm_link_refusals::LinkFail;
 use std::alloc::{AllocError, AllocFailed, Global};
 
 /// Why a job isn't done. Each program refuses for some of these.

@@ -49,7 +49,10 @@ pub fn to_string<M: Memory>(machine: &mut Machine<M>, program: &Program) -> Resu
 }
 
 // The text on top of the stack; none where null or another object is there.
-fn other_on_top<M: Memory>(machine: &Machine<M>, program: &Program) -> Result<Option<Text>, OperandRefusal>
+fn other_on_top<M: Memory>(
+    machine: &Machine<M>,
+    program: &Program,
+) -> Result<Option<Text>, OperandRefusal>
     requires runnable { IsRunnable program.now }
     requires texts { HoldsTexts program.now.outline machine.now.areas.store }
     ensures value { AsksOther program.now.outline machine.now.areas.store

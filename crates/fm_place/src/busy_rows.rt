@@ -10,7 +10,7 @@ ghost use Rattle.fm_types.specs.Typings.{states_of, type_state};
 
 use crate::groups::Groups;
 use fm_base::{NoMemory, Row};
-use fm_conn::{Classes, AnalysedMethod};
+use fm_conn::{AnalysedMethod, Classes};
 use fm_flow::{Flow, LiveRows};
 use fm_types::{State, Typing};
 use std::alloc::Global;

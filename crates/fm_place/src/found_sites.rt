@@ -24,9 +24,11 @@ ghost use Rattle.fm_place.specs.inner.SiteTests.{facts_in, has_parameter_in, is_
 use crate::limits::MAX_HOLDING_STACK_WORDS;
 use fm_base::limits::MAX_LOCAL_WORDS;
 use fm_base::{MethodId, NoMemory};
-use fm_code::{Code, Insn};
-use fm_conn::{Classes, End2, AnalysedMethod, Summaries, is_reference, is_reference_kind, words_taken};
 use fm_check_rows::is_constructor;
+use fm_code::{Code, Insn};
+use fm_conn::{
+    AnalysedMethod, Classes, End2, Summaries, is_reference, is_reference_kind, words_taken,
+};
 use fm_types::{Slot, State, Typing};
 use fm_world::{Body, Call, Program, Use};
 use std::alloc::Global;

@@ -23,7 +23,7 @@ use crate::busy_rows::Seen;
 use crate::found_sites::{Site, item_count};
 use crate::groups::Groups;
 use fm_base::{MethodId, NoMemory, Row};
-use fm_conn::{Classes, AnalysedMethod};
+use fm_conn::{AnalysedMethod, Classes};
 use fm_flow::{Flow, LiveRows};
 use fm_types::Typing;
 use fm_world::{Body, Program};

@@ -9,8 +9,8 @@ ghost use Rattle.fm_rewrite.specs.FreeCalls.{call_in_items, call_in_method, call
 ghost use Rattle.fm_world.specs.Members.{methods_of};
 
 use fm_base::MethodId;
-use fm_code::{Insn, Item};
 use fm_check_rows::{class_of_method, use_in};
+use fm_code::{Insn, Item};
 use fm_world::{Body, Program, Use};
 
 /// The name of the built-in class whose methods free objects.

@@ -7,14 +7,14 @@ ghost use Rattle.fm_rewrite.specs.Plans.{ArePlanned, ArePlannedBy, HasOldItems, 
 ghost use Rattle.fm_world.specs.Members.{methods_of};
 ghost use Rattle.fm_world.specs.Programs.{code_at};
 
-use fm_summ_shapes::{Typed, shapes_of};
 use fm_base::{MethodId, NoMemory};
 use fm_code::Code;
 use fm_conn::{Summaries, classes};
 use fm_flow::live;
 use fm_place::{Plan, places, sites};
-use fm_summ::summaries;
 use fm_place_weave::Planned;
+use fm_summ::summaries;
+use fm_summ_shapes::{Typed, shapes_of};
 use fm_world::{Body, Program};
 use std::alloc::Global;
 

@@ -10,8 +10,8 @@ use crate::error::RewriteFail;
 use crate::parts::{changes, later, own};
 use fm_base::ClassId;
 use fm_code::ClassDef;
-use fm_pool::AddFail;
 use fm_place_weave::{FreePool, Planned};
+use fm_pool::AddFail;
 use std::alloc::Global;
 
 /// Of each class the pool with the entries of FreeMe.free, where it has a changed method. The first

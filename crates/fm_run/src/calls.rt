@@ -12,9 +12,9 @@ ghost use Rattle.fm_run.specs.inner.Nexts.{group_of, StandsIn};
 
 use crate::names::method_named;
 use fm_base::MethodId;
-use fm_exec_calls::{interface_call, special_call, static_call, virtual_call};
 use fm_cells::Memory;
 use fm_code::Insn;
+use fm_exec_calls::{interface_call, special_call, static_call, virtual_call};
 use fm_files::Sink;
 use fm_frames::{Machine, StepFail};
 use fm_world::Program;

@@ -15,8 +15,8 @@ ghost use Rattle.fm_world.specs.Members.{methods_of};
 use crate::names::{field_named, used};
 use fm_base::MethodId;
 use fm_cells::Memory;
-use fm_fast::get_static;
 use fm_fast as rows;
+use fm_fast::get_static;
 use fm_frames::{Frames, Machine};
 use fm_world::Program;
 

@@ -10,11 +10,11 @@ ghost use Rattle.fm_types.specs.Typed.{use_in};
 
 use crate::names::{field_named, type_named, used};
 use fm_base::{MethodId, NoMemory};
-use fm_exec_calls::{get_static, new_object, put_static};
 use fm_cells::Memory;
 use fm_exec as rows;
-use fm_frames::Machine;
+use fm_exec_calls::{get_static, new_object, put_static};
 use fm_exec_nests::multi_array;
+use fm_frames::Machine;
 use fm_world::{Program, Use};
 use std::alloc::Global;
 

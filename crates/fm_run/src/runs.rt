@@ -16,12 +16,12 @@ use crate::steps::{advance, do_step};
 use fm_base::{MethodId, NoMemory};
 use fm_cells::Memory;
 use fm_code::{Code, Insn};
+use fm_exec_nests::cost;
 use fm_files::Sink;
 use fm_frames::{Machine, Report, StepFail, code_of};
 use fm_law_cells_made::law_made_since;
-use fm_native::quiet;
-use fm_exec_nests::cost;
 use fm_law_no_fault::law_no_fault;
+use fm_native::quiet;
 use fm_world::Program;
 use std::alloc::Global;
 

@@ -5,9 +5,9 @@ ghost use Rattle.fm_run_job.specs.Reading.{ComesOfInput, ReadsInput};
 
 use fm_base::NoMemory;
 use fm_base::limits::MAX_FILE_BYTES;
+use fm_cli::CommandRefusal;
 use fm_files::{FileFail, Files};
 use fm_load::JobRefusal;
-use fm_cli::CommandRefusal;
 use std::alloc::Global;
 
 /// The bytes of the file that is named for the input; none where no file is.

@@ -5,9 +5,9 @@ ghost use Rattle.fm_run_job.specs.Reports.{IsEndIn, class_text, counts_text, end
 
 use crate::status::{EXHAUSTED, FAULT, INIT_FAILED, OTHER_EXIT, STORE_FULL, UNCAUGHT};
 use fm_base::{ClassId, Name, NoMemory};
+use fm_cli::{printed, status};
 use fm_frames::{Ended, Report};
 use fm_load::method_text;
-use fm_cli::{printed, status};
 use fm_world::Program;
 use std::alloc::Global;
 

@@ -8,9 +8,9 @@ ghost use Rattle.fm_types.specs.declared.slots.Slot.{Slot};
 ghost use Rattle.fm_summ.specs.inner.BuiltIns.{bare_ends, bare_entries, entry_number, entry_words, is_linked_by, parameter_ends, row_in};
 
 use fm_base::{Kind, NoMemory};
+use fm_check_rows::words_of;
 use fm_code::{ACC_STATIC, has_flag};
 use fm_conn::End2;
-use fm_check_rows::words_of;
 use fm_types::Slot;
 use fm_world::{Body, MethodInfo};
 use std::alloc::Global;

@@ -20,15 +20,15 @@ use crate::tests::files::{
 };
 use crate::{Typed, shapes_of};
 use fm_base::{MethodId, NoMemory};
+use fm_check_program::first_untyped;
+use fm_check_rows::class_of_method;
 use fm_code::ClassDef;
 use fm_conn::{Classes, End2, Shape, Summaries, classes};
 use fm_flow::live;
 use fm_link::link;
-use fm_read_limits::{supported, within_limits};
 use fm_read::read_class;
-use fm_check_rows::class_of_method;
+use fm_read_limits::{supported, within_limits};
 use fm_summ::summaries;
-use fm_check_program::first_untyped;
 use fm_world::{Body, Program};
 use std::alloc::Global;
 use std::test::Fail;

@@ -1,6 +1,6 @@
 // Programs with calls, texts, handlers, jumps and switches.
 
-use crate::files::{ClassFile, NOTHING, TestProgram, Repeated};
+use crate::files::{ClassFile, NOTHING, Repeated, TestProgram};
 
 /// One of two methods that a call may lead to puts its argument into a static field.
 pub const VIRTUAL_ESCAPE: TestProgram<'static> = TestProgram {

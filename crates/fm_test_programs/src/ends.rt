@@ -1,6 +1,6 @@
 // Programs that free by themselves, that end otherwise than by a return, or that ask what is given to them.
 
-use crate::files::{ClassFile, NOTHING, TestProgram, Repeated};
+use crate::files::{ClassFile, NOTHING, Repeated, TestProgram};
 
 /// Main frees one object twice.
 pub const HAND_FREED: TestProgram<'static> = TestProgram {

@@ -16,7 +16,7 @@ pub use calls::{
 pub use ends::{
     ARGUMENTS, CHAINS_BY_HAND, EXIT_76, EXIT_MINUS_ONE, HAND_FREED, INIT_FAILED, INPUT,
 };
-pub use files::{ClassFile, TestProgram, Repeated};
+pub use files::{ClassFile, Repeated, TestProgram};
 pub use long::{
     LAST_BRANCH, POOL_FITS, POOL_FULL, POOL_HAS_THEM, TOO_LONG, TOO_LONG_FITS, WIDE_GOTO,
     WIDE_GOTO_NARROW,

@@ -1,7 +1,7 @@
 // Long programs: branches that don't reach, and methods and pools at their limits. A piece occurs
 // many times in each.
 
-use crate::files::{ClassFile, TestProgram, Repeated};
+use crate::files::{ClassFile, Repeated, TestProgram};
 
 /// A goto back over 32,768 bytes with what is inserted, which becomes a goto_w.
 pub const WIDE_GOTO: TestProgram<'static> = TestProgram {

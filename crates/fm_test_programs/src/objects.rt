@@ -1,6 +1,6 @@
 // Programs that make objects and arrays: in loops, in methods that are called, and linked to one another.
 
-use crate::files::{ClassFile, NOTHING, TestProgram, Repeated};
+use crate::files::{ClassFile, NOTHING, Repeated, TestProgram};
 
 /// An array of one int is made and popped.
 pub const ARRAY_POPPED: TestProgram<'static> = TestProgram {

@@ -11,8 +11,8 @@ mod tests;
 mod top_call;
 
 use crate::top_call::fmrun_run;
-use fm_files::{FolderFiles, StdSink};
 use fm_cli::{command_words, status};
+use fm_files::{FolderFiles, StdSink};
 use std::process::ExitCode;
 
 fn main(rt: HostRuntime) -> ExitCode {

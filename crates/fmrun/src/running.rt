@@ -14,8 +14,8 @@ use crate::outcome::JobFail;
 use fm_base::Units;
 use fm_code::ClassDef;
 use fm_files::Sink;
-use fm_load::program_of;
 use fm_law_linked::{law_can_run, law_linked_no_fault};
+use fm_load::program_of;
 use fm_run_job::{Budgets, RunReport, run_program};
 use std::alloc::Global;
 

@@ -8,7 +8,9 @@ mod stores;
 use crate::top_call::fmrun_run;
 use fm_base::NoMemory;
 use fm_files::{MemFiles, MemSink, SureFiles, SureSink};
-use fm_test_classes::{CALLS_ITSELF, COMPUTED, COMPUTES, DIVIDES_BY_ZERO, PRINTS_FOREVER, PRINTS_SUM};
+use fm_test_classes::{
+    CALLS_ITSELF, COMPUTED, COMPUTES, DIVIDES_BY_ZERO, PRINTS_FOREVER, PRINTS_SUM,
+};
 use std::alloc::Global;
 use std::test::Fail;
 

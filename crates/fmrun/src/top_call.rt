@@ -15,14 +15,13 @@ use crate::outcome::JobFail;
 use crate::running::run_classes;
 use fm_base::limits::{MAX_ARGUMENTS, MAX_CLASS_FILES, MAX_MADE_WORDS};
 use fm_base::{NoMemory, Units};
-use fm_files::{Files, Sink};
-use fm_load::{JobRefusal, read_classes};
-use fm_law_cells_made::law_most_held;
-use fm_run_job::read_input;
-use fm_cli_requests::{FmrunRequest, arguments_of, request_of};
-use fm_law_linked::law_can_run;
-use fm_run_job::{Budgets, RunReport};
 use fm_cli::{CommandRefusal, put_line, status};
+use fm_cli_requests::{FmrunRequest, arguments_of, request_of};
+use fm_files::{Files, Sink};
+use fm_law_cells_made::law_most_held;
+use fm_law_linked::law_can_run;
+use fm_load::{JobRefusal, read_classes};
+use fm_run_job::{Budgets, RunReport, read_input};
 use std::alloc::Global;
 
 /// Does what the words of the command line ask for, puts the line that reports it, and returns the

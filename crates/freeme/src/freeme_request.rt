@@ -59,7 +59,10 @@ fn option<'a>(alloc: Global, name: &'a str) -> Arg<'a>
 }
 
 // The request that was matched, or None where a value is missing, empty or too long.
-fn request_in<'a>(alloc: Global, matches: &ArgMatches<'a>) -> Result<Option<FreemeRequest<'a>>, NoMemory>
+fn request_in<'a>(
+    alloc: Global,
+    matches: &ArgMatches<'a>,
+) -> Result<Option<FreemeRequest<'a>>, NoMemory>
     ensures { let rows = rows_of (found_of matches.now) in
         IfOk result (λ asked. MatchOption asked (HasNoValues rows)
         (λ r. HasValuesOf rows (job_of r))) }

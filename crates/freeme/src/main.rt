@@ -8,8 +8,8 @@
 #![tactic(auto)]
 
 mod freeing;
-mod refusal;
 mod freeme_request;
+mod refusal;
 mod status;
 #[cfg(test)]
 mod tests;
@@ -17,8 +17,8 @@ mod top_call;
 mod writing;
 
 use crate::top_call::freeme_run;
-use fm_files::{FolderFiles, StdSink};
 use fm_cli::{command_words, status as shared_status};
+use fm_files::{FolderFiles, StdSink};
 use std::process::ExitCode;
 
 fn main(rt: HostRuntime) -> ExitCode {

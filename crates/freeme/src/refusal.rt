@@ -8,9 +8,9 @@ ghost use Rattle.freeme.specs.declared.refusal.FreeRefusal.TheVariants as free_r
 
 use crate::status;
 use fm_base::{Name, NoMemory};
+use fm_cli::{CommandRefusal, printed, status as shared_status};
 use fm_load::JobRefusal;
 use fm_rewrite::RewriteFail;
-use fm_cli::{CommandRefusal, printed, status as shared_status};
 use std::alloc::{AllocError, AllocFailed, Global};
 
 /// Why a job isn't done.

@@ -9,18 +9,18 @@ ghost use Rattle.freeme.specs.TopCall.{ComesOf, ComesTo, IsTopCall, StaysWithin,
 ghost use Rattle.freeme.specs.declared.status.TheConstants.{CALLS_FREE, METHOD_TOO_LONG, POOL_FULL};
 
 use crate::freeing::{class_lines, freed_classes};
-use crate::refusal::FreeRefusal;
 use crate::freeme_request::{FreemeRequest, request_of};
+use crate::refusal::FreeRefusal;
 use crate::writing::write_classes;
-use fm_law_relinked::law_links;
 use fm_base::NoMemory;
 use fm_base::limits::MAX_CLASS_FILES;
+use fm_cli::{CommandRefusal, put_line, status};
 use fm_code::ClassDef;
 use fm_files::{Files, Sink};
-use fm_load::{JobRefusal, judge_program, read_classes};
+use fm_law_relinked::law_links;
 use fm_law_retyped::law_typed;
+use fm_load::{JobRefusal, judge_program, read_classes};
 use fm_rewrite::Count;
-use fm_cli::{CommandRefusal, put_line, status};
 use std::alloc::Global;
 
 /// Does what the words of the command line ask for, puts the lines that report it, and returns the

@@ -7,10 +7,10 @@ ghost use Rattle.freeme.specs.inner.Writing.{AreApart, ComesOfClass, ComesOfClas
 ghost use Rattle.fm_load.specs.Taking.{ClassIsSpelled};
 
 use fm_base::NoMemory;
+use fm_cli::printed;
 use fm_code::ClassDef;
 use fm_files::{Files, WriteFail};
 use fm_load::JobRefusal;
-use fm_cli::printed;
 use fm_write::write_class;
 use std::alloc::Global;
 

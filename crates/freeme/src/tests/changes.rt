@@ -3,8 +3,8 @@
 use crate::tests::ends_with;
 use fm_base::NoMemory;
 use fm_files::MemFiles;
-use fm_test_programs::Repeated;
 use fm_test_classes::{EVERY_PART, INTERFACE};
+use fm_test_programs::Repeated;
 use std::alloc::Global;
 
 /// Bytes that occur in a class file once, and those that are put in their place.
