@@ -1,0 +1,132 @@
+"""Calls of freeme and fmrun, for the scripts that compare programs with what `java` printed of them.
+
+A program is a folder with a file expect.txt: classes/, there or one folder up, has its class files, expected.out what `java` printed. expect.txt gives the
+main class, the words of fmrun (a file of the folder stands for `--input input`, and the text in the file args for `--args`), and the status and, where
+it is known, the report line of fmrun on the files read; where they are known, the lines of freeme and what fmrun reports of the files written.
+"""
+
+import resource
+import subprocess
+import tempfile
+from contextlib import suppress
+from pathlib import Path
+
+NO_WORDS = "none"
+
+
+class Unended(Exception):
+    """A call that didn't end by itself: a signal ended it, or it took too long."""
+
+
+class Programs:
+    """The two programs in a folder, and how long a call may take: in seconds of a processor, or without a limit."""
+
+    def __init__(self, folder, seconds=None):
+        self.folder, self.seconds = Path(folder), seconds
+
+    def are_there(self):
+        return all((self.folder / name).is_file() for name in ("freeme", "fmrun"))
+
+    def call(self, name, *words):
+        """Calls a program, and gives its status and what it wrote to standard output and to standard error."""
+        streams = {"stdin": subprocess.DEVNULL, "stdout": subprocess.PIPE, "stderr": subprocess.PIPE}
+        with subprocess.Popen([self.folder / name, *words], **streams) as started:
+            if self.seconds:
+                # A call that has ended already has no limit to set.
+                with suppress(ProcessLookupError):
+                    resource.prlimit(started.pid, resource.RLIMIT_CPU, (self.seconds, self.seconds))
+            try:
+                printed, reported = started.communicate(timeout=60 * self.seconds if self.seconds else None)
+            except subprocess.TimeoutExpired:
+                started.kill()
+                raise Unended(f"{name} hadn't ended after {60 * self.seconds} seconds") from None
+        if started.returncode < 0:
+            raise Unended(f"{name} was ended by signal {-started.returncode}{f' (9 and 24 after {self.seconds} seconds of a processor)' if self.seconds else ''}")
+        return started.returncode, printed, reported
+
+    def run(self, words, main, files):
+        """Runs class files: the status of fmrun, what it printed, and the last line on standard error."""
+        status, printed, reported = self.call("fmrun", *words, main, *files)
+        return status, printed, ([""] + reported.decode().splitlines())[-1]
+
+    def free(self, out, main, files):
+        """Has freeme write class files to a folder: its status and its lines."""
+        status, printed, _ = self.call("freeme", "--out", out, "--main", main, *files)
+        return status, printed.decode().splitlines()
+
+
+def sections(expect):
+    """The headings of such a text, each with the indented lines below it."""
+    found = []
+    for line in expect.splitlines():
+        if line.startswith("  "):
+            found[-1][2].append(line.strip())
+        else:
+            heading, _, rest = line.partition(": ")
+            found.append((heading, rest, []))
+    return {heading: (rest, lines) for heading, rest, lines in found}
+
+
+def files_of(folder):
+    return sorted(folder.rglob("*.class"), key=lambda path: path.relative_to(folder).as_posix())
+
+
+def classes_of(folder):
+    """The folder with the class files of a program."""
+    return folder / "classes" if (folder / "classes").is_dir() else folder.parent / "classes"
+
+
+def words_of(folder, listed):
+    words = [] if listed == NO_WORDS else listed.split()
+    if "--input" in words:
+        words[words.index("--input") + 1] = str(folder / "input")
+    if (folder / "args").exists():
+        words[words.index("--args")] = "--args=" + (folder / "args").read_text()
+    return words
+
+
+def peak(report):
+    """The peak words of a report line."""
+    words = [part for part in report.split(", ") if part.startswith("peak words ")]
+    return int(words[0].split()[2]) if words else 0
+
+
+def status_of(text):
+    return int(text.split()[1])
+
+
+def differences(programs, folder):
+    """What differs of one program, a text for each thing, and its two report lines.
+
+    It is run as it was read, then freed, then run as it was written. It agrees where all that expect.txt gives is so, and where
+    the files written print the same and end alike, with no more words at their peak."""
+    due = sections((folder / "expect.txt").read_text())
+    main = due["main class"][0]
+    words = words_of(folder, due["words of fmrun before CLASS FILE..."][0])
+    printed = (folder / "expected.out").read_bytes()
+    status, lines = due["fmrun on the files read"]
+    files = files_of(classes_of(folder))
+    wrong = []
+
+    def compare(what, found, wanted):
+        if found != wanted:
+            wrong.append(f"{what}: {found!r} where {wanted!r} is due")
+
+    before = programs.run(words, main, files)
+    compare("status", before[0], status_of(status))
+    compare("output", before[1], printed)
+    if lines:
+        compare("report", before[2], lines[0])
+    with tempfile.TemporaryDirectory() as written:
+        freed = programs.free(written, main, files)
+        compare("freeme's status", freed[0], 0)
+        if "freeme" in due:
+            compare("freeme's lines", freed[1], due["freeme"][1])
+        after = programs.run(words, main, files_of(Path(written)))
+    compare("status of the files written", after[0], status_of(status))
+    compare("output of the files written", after[1], printed)
+    if "fmrun on the files written" in due:
+        compare("report of the files written", after[2], due["fmrun on the files written"][1][0])
+    if peak(after[2]) > peak(before[2]):
+        wrong.append("more words at the peak")
+    return wrong, before[2], after[2]
