@@ -31,6 +31,7 @@ class Places:
                 self.at += 6
                 self.attributes()
         self.attributes()
+        assert self.at == len(file), "isn't a well-formed class file"
 
     def number(self, size):
         return int.from_bytes(self.file[self.at : self.at + size], "big")
@@ -42,7 +43,8 @@ class Places:
 
     def skip(self, size):
         """Goes past a table whose entries have this size."""
-        self.at += size * self.count()
+        entries = self.count()
+        self.at += size * entries
 
     def constants(self):
         index, end = 1, self.count()

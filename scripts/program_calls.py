@@ -45,14 +45,14 @@ class Programs:
         return started.returncode, printed, reported
 
     def run(self, words, main, files):
-        """Runs class files: the status of fmrun, what it printed, and the last line on standard error."""
+        """Runs class files: the status of fmrun, what it printed, and what it reported on standard error."""
         status, printed, reported = self.call("fmrun", *words, main, *files)
-        return status, printed, ([""] + reported.decode().splitlines())[-1]
+        return status, printed, reported.decode(errors="replace").removesuffix("\n")
 
     def free(self, out, main, files):
         """Has freeme write class files to a folder: its status and its lines."""
         status, printed, _ = self.call("freeme", "--out", out, "--main", main, *files)
-        return status, printed.decode().splitlines()
+        return status, printed.decode(errors="replace").removesuffix("\n").split("\n")
 
 
 def sections(expect):
