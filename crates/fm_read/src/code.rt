@@ -68,7 +68,7 @@ fn is_code_length(size: u32) -> bool
 }
 
 /// max_stack, max_locals and the code array.
-#[tactic(auto, unfolding(crate::specs::inner::Reading::head_at))]
+#[tactic(auto, unfolding(crate::specs::inner::ReadingCode::head_at))]
 fn take_head(bytes: &[u8]) -> Result<(CodeHead<'_>, &[u8]), PieceFail>
     ensures { Gives (λ x. (head_view x.0, x.1.now)) result (head_at bytes.now) }
 {
@@ -123,7 +123,7 @@ fn items_of(
 }
 
 /// The exception table and the attributes, which are all of the bytes.
-#[tactic(auto, unfolding(crate::specs::inner::Reading::tables_of))]
+#[tactic(auto, unfolding(crate::specs::inner::ReadingCode::tables_of))]
 fn tables_of(
     alloc: Global,
     known: &KnownPool,

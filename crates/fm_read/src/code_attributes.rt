@@ -43,7 +43,7 @@ fn kind_of(known: &KnownPool, name: u16) -> Result<AttributeKind, PieceFail>
 }
 
 /// The attribute of this name and these bytes.
-#[tactic(auto, unfolding(crate::specs::inner::Reading::attribute_of))]
+#[tactic(auto, unfolding(crate::specs::inner::ReadingCode::attribute_of))]
 fn attribute_of(
     alloc: Global,
     known: &KnownPool,
@@ -77,7 +77,7 @@ fn attribute_of(
 }
 
 /// An attribute of a Code attribute.
-#[tactic(auto, unfolding(crate::specs::inner::Reading::attribute_at))]
+#[tactic(auto, unfolding(crate::specs::inner::ReadingCode::attribute_at))]
 fn take_code_attribute<'a>(
     alloc: Global,
     known: &KnownPool,

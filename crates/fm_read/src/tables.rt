@@ -11,7 +11,7 @@ use fm_pool::KnownPool;
 use std::alloc::Global;
 
 /// The item, or the code's end, at the offset in the first two bytes.
-#[tactic(auto, unfolding(crate::specs::inner::Reading::named_place_at))]
+#[tactic(auto, unfolding(crate::specs::inner::ReadingCode::named_place_at))]
 fn take_place<'a>(places: &Places, bytes: &'a [u8]) -> Result<(u32, &'a [u8]), PieceFail>
     ensures { Gives (λ x. (x.0, x.1.now)) result (named_place_at places.now bytes.now) }
 {
@@ -20,7 +20,7 @@ fn take_place<'a>(places: &Places, bytes: &'a [u8]) -> Result<(u32, &'a [u8]), P
 }
 
 /// The item at the offset in the first two bytes.
-#[tactic(auto, unfolding(crate::specs::inner::Reading::named_item_at))]
+#[tactic(auto, unfolding(crate::specs::inner::ReadingCode::named_item_at))]
 fn take_item<'a>(places: &Places, bytes: &'a [u8]) -> Result<(u32, &'a [u8]), PieceFail>
     ensures { Gives (λ x. (x.0, x.1.now)) result (named_item_at places.now bytes.now) }
 {
@@ -36,7 +36,7 @@ fn is_catch_class(known: &KnownPool, index: u16) -> bool
 }
 
 /// The index of what a handler catches.
-#[tactic(auto, unfolding(crate::specs::inner::Reading::catch_class_at))]
+#[tactic(auto, unfolding(crate::specs::inner::ReadingCode::catch_class_at))]
 fn take_catch_class<'a>(known: &KnownPool, bytes: &'a [u8]) -> Result<(u16, &'a [u8]), PieceFail>
     ensures { Gives (λ x. (x.0, x.1.now)) result (catch_class_at known.now.entries bytes.now) }
 {
@@ -49,7 +49,7 @@ fn take_catch_class<'a>(known: &KnownPool, bytes: &'a [u8]) -> Result<(u16, &'a 
 }
 
 /// The index of a text.
-#[tactic(auto, unfolding(crate::specs::inner::Reading::text_index_at))]
+#[tactic(auto, unfolding(crate::specs::inner::ReadingCode::text_index_at))]
 fn take_text_index<'a>(known: &KnownPool, bytes: &'a [u8]) -> Result<(u16, &'a [u8]), PieceFail>
     ensures { Gives (λ x. (x.0, x.1.now)) result (text_index_at known.now.entries bytes.now) }
 {
@@ -62,7 +62,7 @@ fn take_text_index<'a>(known: &KnownPool, bytes: &'a [u8]) -> Result<(u16, &'a [
 }
 
 /// An entry of the exception table.
-#[tactic(auto, unfolding(crate::specs::inner::Reading::handler_at))]
+#[tactic(auto, unfolding(crate::specs::inner::ReadingCode::handler_at))]
 fn take_handler<'a>(
     known: &KnownPool,
     places: &Places,
@@ -108,7 +108,7 @@ pub(crate) fn take_handlers<'a>(
 }
 
 /// An entry of a LineNumberTable.
-#[tactic(auto, unfolding(crate::specs::inner::Reading::line_at))]
+#[tactic(auto, unfolding(crate::specs::inner::ReadingCode::line_at))]
 fn take_line<'a>(places: &Places, bytes: &'a [u8]) -> Result<(Line, &'a [u8]), PieceFail>
     ensures { Gives (λ x. (x.0, x.1.now)) result (line_at places.now bytes.now) }
 {
@@ -148,7 +148,7 @@ pub(crate) fn lines_of(alloc: Global, places: &Places, bytes: &[u8]) -> Result<V
 }
 
 /// An entry of a LocalVariableTable or of a LocalVariableTypeTable.
-#[tactic(auto, unfolding(crate::specs::inner::Reading::var_at))]
+#[tactic(auto, unfolding(crate::specs::inner::ReadingCode::var_at))]
 fn take_var<'a>(
     known: &KnownPool,
     places: &Places,
