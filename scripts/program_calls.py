@@ -1,11 +1,12 @@
 """Calls of freeme and fmrun, for the scripts that compare programs with what `java` printed of them.
 
 A program is a folder with a file expect.txt: classes/, there or one folder up, has its class files, expected.out what `java` printed. expect.txt gives the
-main class, the words of fmrun (a file of the folder stands for `--input input`, and the text in the file args for `--args`), and the status and, where
+main class, the words of fmrun (for `--input input` it is the file of the folder, for `--args` the text in the file args), and the status and, where
 it is known, the report line of fmrun on the files read; where they are known, the lines of freeme and what fmrun reports of the files written.
 """
 
 import resource
+import signal
 import subprocess
 import tempfile
 from contextlib import suppress
@@ -40,8 +41,10 @@ class Programs:
             except subprocess.TimeoutExpired:
                 started.kill()
                 raise Unended(f"{name} hadn't ended after {60 * self.seconds} seconds") from None
+        if self.seconds and -started.returncode in (signal.SIGKILL, signal.SIGXCPU):
+            raise Unended(f"{name} hadn't ended after {self.seconds} seconds of a processor, or was killed")
         if started.returncode < 0:
-            raise Unended(f"{name} was ended by signal {-started.returncode}{f' (9 and 24 after {self.seconds} seconds of a processor)' if self.seconds else ''}")
+            raise Unended(f"{name} was ended by signal {-started.returncode}")
         return started.returncode, printed, reported
 
     def run(self, words, main, files):
