@@ -13,7 +13,7 @@ mod uses;
 
 pub use answers::{Answers, answers_of};
 pub use arguments::argument_array;
-pub use member_infos::{FieldInfos, MemberInfos, member_infos};
+pub use member_infos::{FieldInfos, MemberInfos, member_infos_of};
 pub use member_lists::{descriptor_marks, descriptors_of, flags_of};
 pub use named::{Named, named_of};
 pub use program_tables::{ProgramTables, tables_of};

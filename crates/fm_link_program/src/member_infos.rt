@@ -47,7 +47,7 @@ pub struct MemberInfos {
 
 /// What is recorded about all methods and fields, by what the indices of all classes are resolved
 /// to.
-pub fn member_infos(
+pub fn member_infos_of(
     alloc: Global,
     numbers: &ClassNumbers,
     linking: Linking,

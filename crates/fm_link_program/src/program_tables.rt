@@ -17,7 +17,7 @@ ghost use Rattle.fm_world.specs.Programs.{class_info, classes_of};
 ghost use Rattle.fm_world.specs.inner.Tables.{numbers_below, program_in, AreTables};
 
 use crate::answers::{Answers, answers_of};
-use crate::member_infos::{FieldInfos, MemberInfos, member_infos};
+use crate::member_infos::{FieldInfos, MemberInfos, member_infos_of};
 use crate::named::{Named, named_of};
 use fm_base::{ClassId, MethodId, NoMemory, Seq, TypeRef};
 use fm_link_members::Methods;
@@ -115,7 +115,7 @@ pub fn tables_of(
     let classes = class_infos_of(alloc, linking.hierarchy, linking.methods)?;
     let named = named_of(alloc, numbers, linking, by_text, files)?;
     let uses = named.uses.as_slice();
-    let told = member_infos(alloc, numbers, linking, files, uses)?;
+    let told = member_infos_of(alloc, numbers, linking, files, uses)?;
     let answers = answers_of(alloc, linking.hierarchy, linking.methods)?;
     few_places(linking.hierarchy.classes, &named, &told)?;
     Ok(ProgramTables {

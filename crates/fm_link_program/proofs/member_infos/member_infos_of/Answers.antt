@@ -8,7 +8,7 @@ use Rattle.fm_link_program.proofs.MemberInfoSteps.{fields_of_classes, kinds_at, 
 use Rattle.fm_link_program.specs.inner.MemberLists.{descriptors_in}
 use Rattle.fm_world.specs.Members.{statics_of}
 use Rattle.fm_world.specs.Programs.{classes_of}
-use Rattle.fm_link_program.proofs.member_infos.member_infos.Goals as goal
+use Rattle.fm_link_program.proofs.member_infos.member_infos_of.Goals as goal
 
 pub field_infos_of-requires : goal.field_infos_of-requires
 field_infos_of-requires c =
