@@ -1,4 +1,6 @@
 pub mod ArgumentLemmas
 pub mod MatchLemmas
 pub mod CommandLemmas
-pub mod RequestLemmas
+pub mod ProgramTextLemmas
+pub mod FreemeRequestLemmas
+pub mod FmrunRequestLemmas

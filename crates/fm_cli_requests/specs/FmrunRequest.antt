@@ -1,10 +1,12 @@
--- What the words of the command line ask for.
+-- What the words of the command line ask fmrun for.
 use Rattle.std.specs.Prelude.{◌≡◌, ℕ, ◌<◌, ◌≤◌, List, [], ◌∷◌, Option, Some, true, length, map, option_map, codes, IfSome, MatchOption}
 use Rattle.std.specs.List.{AllByRecursion}
 use Rattle.std.specs.Str.Parse.{AllDigits, digits_value}
 use Rattle.clap.specs.Words.{App, Kinds, Row, Rule, all_of, fault_of, first_of, matches_of, new_rule}
 use Rattle.fm_base.specs.declared.limits.TheConstants.{MAX_STEPS, DEFAULT_STEPS, MAX_LIVE_WORDS, DEFAULT_LIVE_WORDS, MAX_FRAMES, DEFAULT_FRAMES}
+use Rattle.fm_cli_requests.specs.ProgramText.{AskForNoText, AskForText}
 use Rattle.fm_cli_requests.specs.Values.{IsValue, command_with, option_rule, files_rule}
+use Rattle.fm_cli_requests.specs.declared.program_text.ProgramText.{ProgramText}
 use Rattle.fm_cli_requests.specs.declared.fmrun_request.FmrunRequest.{FmrunRequest}
 
 -- the budgets of steps, of live words and of frames, the file of the input and the text of the arguments where they are named, the main class,
@@ -76,9 +78,20 @@ pub record Asks (words : List (List ℕ)) (job : FmrunJob) : Type 0 where
   pub faultless : faults_in words ≡ []
   pub values : HasValuesOf (matched_in words) job
 
--- the words are of no such form
-abbrev pub AskNothing : List (List ℕ) → Type 0
-AskNothing words = (job : FmrunJob) → ¬ Asks words job
+-- the words ask for no job
+abbrev pub AskNoJob : List (List ℕ) → Type 0
+AskNoJob words = (job : FmrunJob) → ¬ Asks words job
+
+-- the words ask for a text, and so for no job
+pub record AskOnlyForText (words : List (List ℕ)) : Type 0 where
+  pub asked : ProgramText
+  pub asks : AskForText words asked
+  pub no_job : AskNoJob words
+
+-- the words ask for no text and for no job
+pub record AskNothing (words : List (List ℕ)) : Type 0 where
+  pub no_text : AskForNoText words
+  pub no_job : AskNoJob words
 
 -- the job of a request
 abbrev pub job_of : FmrunRequest → FmrunJob

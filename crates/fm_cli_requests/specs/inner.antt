@@ -1,1 +1,2 @@
 pub mod FmrunRequest
+pub mod ProgramText

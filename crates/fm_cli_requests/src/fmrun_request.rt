@@ -4,7 +4,7 @@ ghost use Rattle.std.specs.Prelude.{◌≡◌, ◌↔◌, false, IfOk, IfSome, I
 ghost use Rattle.clap.specs.Words.{app_of, first_of, found_of, rows_of, rule_of};
 ghost use Rattle.fm_cli.specs.Words.{texts};
 ghost use Rattle.fm_cli_requests.specs.Values.{IsValue, option_rule};
-ghost use Rattle.fm_cli_requests.specs.FmrunRequest.{Asks, AskNothing, HasValuesOf, HasNoValues, IsBudget, IsNumber, class_rule, fmrun_command, job_of};
+ghost use Rattle.fm_cli_requests.specs.FmrunRequest.{Asks, AskNoJob, HasValuesOf, HasNoValues, IsBudget, IsNumber, class_rule, fmrun_command, job_of};
 ghost use Rattle.fm_cli_requests.specs.inner.FmrunRequest.{HasBudgets, HasFiles, HasNoBudgets, HasNoFiles, IsNoBudget, IsNoNumber};
 
 use crate::values::{are_values, command, files, is_value};
@@ -45,7 +45,7 @@ struct AskedBudgets {
 
 /// What the words ask for, or None where they aren't of that form.
 pub fn request_of(alloc: Global, words: &[String]) -> Result<Option<FmrunRequest<'_>>, NoMemory>
-    ensures { IfOk result (λ asked. MatchOption asked (AskNothing (texts words.now))
+    ensures { IfOk result (λ asked. MatchOption asked (AskNoJob (texts words.now))
         (λ r. Asks (texts words.now) (job_of r))) }
 {
     let command = fmrun_command(alloc)?;

@@ -1,15 +1,19 @@
-// What words of the command line ask for: the values that both programs take, and the request of fmrun.
+// What words of the command line ask for: the requests of both programs, the values that both take, and
+// the texts of a program.
 //
-// The layers above use that a request is what clap's own model of the command matches, and that the
-// arguments of main are the pieces of a text between its spaces.
+// The layers above use that a request is what clap's own model of the command matches, that the
+// arguments of main are the pieces of a text between its spaces, and which words ask for a text.
 #![tactic(auto)]
 
 mod arguments;
-mod fmrun_request;
+pub mod fmrun_request;
+pub mod freeme_request;
+mod program_text;
 #[cfg(test)]
 mod tests;
 mod values;
 
 pub use arguments::arguments_of;
-pub use fmrun_request::{FmrunRequest, request_of};
-pub use values::{are_values, command, files, is_value};
+pub use fmrun_request::FmrunRequest;
+pub use freeme_request::FreemeRequest;
+pub use program_text::ProgramText;

@@ -1,7 +1,9 @@
-// What words ask for, in clap's ways, and the arguments that a text gives.
+// What words ask fmrun for, in clap's ways, the arguments that a text gives, and the words that ask for
+// a text of a program.
 
 use crate::arguments::arguments_of;
 use crate::fmrun_request::{FmrunRequest, request_of};
+use crate::program_text::ProgramText;
 use fm_base::{NoMemory, Units};
 use std::alloc::Global;
 use std::test::Fail;
@@ -78,8 +80,8 @@ fn values(alloc: Global, request: &FmrunRequest<'_>) -> Result<String, NoMemory>
     Ok(text)
 }
 
-// The pieces between bars; none of an empty text.
-fn split_words(alloc: Global, text: &str) -> Result<Vec<String>, NoMemory> {
+/// The pieces between bars; none of an empty text.
+pub fn split_words(alloc: Global, text: &str) -> Result<Vec<String>, NoMemory> {
     let mut words = Vec::new(alloc);
     if text.is_empty() {
         return Ok(words);
@@ -174,6 +176,31 @@ fn arguments_are_the_pieces_between_spaces(rt: HostRuntime) -> Result<(), Fail> 
     for (text, units) in TEXTS {
         let found = shown(alloc, &arguments_of(alloc, text)?)?;
         assert!(rt; found.as_str() == units, "{text}");
+    }
+    Ok(())
+}
+
+// Words, and the text that they ask for, if any.
+const TEXT_WORDS: [(&str, Option<ProgramText>); 12] = [
+    ("--help", Some(ProgramText::Help)),
+    ("-h", Some(ProgramText::Help)),
+    ("--version", Some(ProgramText::Version)),
+    ("-V", Some(ProgramText::Version)),
+    ("", None),
+    ("--help|--help", None),
+    ("-h|M", None),
+    ("M|-V", None),
+    ("-v", None),
+    ("-H", None),
+    ("-hV", None),
+    ("--helps", None),
+];
+
+#[test]
+fn one_word_asks_for_a_text(rt: HostRuntime) -> Result<(), Fail> {
+    for (text, asked) in TEXT_WORDS {
+        let words = split_words(rt.alloc(), text)?;
+        assert!(rt; ProgramText::asked_by(&words) == asked, "{text}");
     }
     Ok(())
 }

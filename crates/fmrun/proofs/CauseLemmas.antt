@@ -17,8 +17,9 @@ use Rattle.fm_load.specs.Taking.{total_bytes, IsTooLong, IsRefused}
 use Rattle.fm_load.specs.declared.refusal.JobRefusal.{JobRefusal}
 use Rattle.fm_load.specs.declared.refusal.JobRefusal.TheVariants as job_refusal
 use Rattle.fm_link_refusals.specs.Refused.{refusal_of}
-use Rattle.fm_cli_requests.proofs.RequestLemmas.{asks_one}
+use Rattle.fm_cli_requests.proofs.FmrunRequestLemmas.{asks_one}
 use Rattle.fm_cli_requests.specs.FmrunRequest.{FmrunJob, Asks, AskNothing}
+use Rattle.fm_cli_requests.specs.ProgramText.{AskForNoText}
 use Rattle.fm_cli.proofs.LineLemmas.{instead_for_file, instead_for_words}
 use Rattle.fm_cli.specs.Encoding.{modified}
 use Rattle.fm_cli.specs.Status.{ComesExactly}
@@ -272,22 +273,22 @@ module _ {words : List Bytes} {old new : Disk} {before after : Output} (report r
     there = λ cause. told_of_file report report' result o tells status (decides cause);
   }
 
-  pub is_for_words : IsForWords words old new before after report report' result
-  is_for_words = record {
+  pub is_for_words : AskForNoText words → IsForWords words old new before after report report' result
+  is_for_words no_text = record {
     only = λ is. let put = is_line_put report report' result o tells WORDS (λ e. omega arith) (λ e. omega arith) is in words_said comes put.0 put.1;
     there = λ unasked. told_of_words report report' result o tells WORDS (nothing_decides unasked comes);
   } where
     words_said : ComesOf words old new before after o → outcome_status o ≡ WORDS → IsLinePut o report report' → SaysWords words old new before after report report'
     words_said (inl j) is line = absurd (not_for_words j.job old new before after o j.comes is)
     words_said (inr (inl nothing)) is line = record {
-      unasked = nothing.unasked;
+      unasked = record { no_text = no_text; no_job = nothing.unasked };
       kept = nothing.kept;
       refused = record { silent = nothing.silent; told = let P : Outcome → Type 0 = λ x. IsLinePut x report report' in subst P nothing.refused line };
     }
     words_said (inr (inr lacking)) is line = absurd (let other = sym is ∙ ap outcome_status lacking.refused in omega arith)
 
     nothing_decides : AskNothing words → ComesOf words old new before after o → Contains (WORDS ∷ instead_for_words) (outcome_status o)
-    nothing_decides unasked (inl j) = absurd (unasked j.job j.asked)
+    nothing_decides unasked (inl j) = absurd (unasked.no_job j.job j.asked)
     nothing_decides unasked (inr (inl nothing)) = (0, omega arith, sym (ap outcome_status nothing.refused))
     nothing_decides unasked (inr (inr lacking)) = (2, omega arith, sym (ap outcome_status lacking.refused))
 
@@ -330,7 +331,7 @@ module _ {words : List Bytes} {old new : Disk} {before after : Output} (report r
   run_put (Err (fail.Refused r)) comes none line is = absurd (none (refusal_among r comes))
   run_put (Err fail.Output) comes none line is = absurd (none (8, omega arith, refl))
 
-  run_only : (o : Outcome) → ComesOf words old new before after o → IsTold o report report' result → ¬ Contains refusal_statuses result → SaysRun words old new before after report report' result
+  pub run_only : (o : Outcome) → ComesOf words old new before after o → IsTold o report report' result → ¬ Contains refusal_statuses result → SaysRun words old new before after report report' result
   run_only o comes tells none =
       let put = is_line_put report report' result o tells result (λ e. none (8, omega arith, sym e)) (λ e. none (9, omega arith, sym e)) refl in
       let P : ℕ → Type 0 = λ s. ¬ Contains refusal_statuses s in
@@ -359,7 +360,7 @@ module _ {words : List Bytes} {old new : Disk} {before after : Output} (report r
   end_told (Err fail.Output) comes status job asked known is = absurd (omega arith)
 
   pub is_for_run : (o : Outcome) → ComesOf words old new before after o → IsTold o report report' result → IsForRun words old new before after report report' result
-  is_for_run o comes tells = record { only = run_only o comes tells; ready = λ asks. is_ready (ready_decides o comes asks); ends = is_end } where
+  is_for_run o comes tells = record { only = λ none. inl (run_only o comes tells none); ready = λ asks. is_ready (ready_decides o comes asks); ends = is_end } where
     late : Contains instead_for_file (outcome_status o) → Contains instead_for_file result
     late own = is_among report report' result o tells instead_for_file own (1, omega arith, refl) (2, omega arith, refl)
 

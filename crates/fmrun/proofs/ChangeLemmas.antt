@@ -7,8 +7,8 @@ use Rattle.fm_load.proofs.RefusalLemmas.{class_status}
 use Rattle.fm_load.specs.Refusal.{refusal_line, refusal_status}
 use Rattle.fm_load.specs.declared.refusal.JobRefusal.{JobRefusal}
 use Rattle.fm_load.specs.declared.refusal.JobRefusal.TheVariants as job_refusal
-use Rattle.fm_cli_requests.proofs.RequestLemmas.{asks_one}
-use Rattle.fm_cli_requests.specs.FmrunRequest.{FmrunJob, Asks, AskNothing}
+use Rattle.fm_cli_requests.proofs.FmrunRequestLemmas.{asks_one}
+use Rattle.fm_cli_requests.specs.FmrunRequest.{FmrunJob, Asks, AskNoJob, AskOnlyForText}
 use Rattle.fm_cli.proofs.OutsideLemmas.{no_fault_where_same}
 use Rattle.fm_cli.specs.Outside.{HasNoFileFault}
 use Rattle.fm_cli.specs.declared.command_refusal.CommandRefusal.TheVariants as refusal
@@ -24,12 +24,12 @@ module _ (words : List Bytes) (old new : Disk) (before after report report' : Ou
   -- ---- 75
 
   write_only : (o : Outcome) → ComesOf words old new before after o → IsTold o report report' result → result ≡ WRITE
-      → SaysUnprinted words old new before after report report' ⊎ SaysUntold words old new before after report report'
+      → SaysUnprinted words old new before after report report' ⊎ (SaysUntold words old new before after report report' ⊎ AskOnlyForText words)
   write_only (Ok told) comes (inl put) is = absurd (run_apart (job_of_told told comes).comes WRITE (omega arith) (omega arith) (sym put.0 ∙ is))
-  write_only (Ok told) comes (inr (inl failed)) is = inr (record { outcome = Ok told; comes = comes; line = string_bytes told.line; line_is = refl; fails = failed.1 })
+  write_only (Ok told) comes (inr (inl failed)) is = inr (inl (record { outcome = Ok told; comes = comes; line = string_bytes told.line; line_is = refl; fails = failed.1 }))
   write_only (Ok told) comes (inr (inr lacking)) is = absurd (let e = lacking.0 in omega arith)
   write_only (Err (fail.Refused r)) comes (inl put) is = absurd (not_for_write r comes (sym put.0 ∙ is))
-  write_only (Err (fail.Refused r)) comes (inr (inl failed)) is = inr (record { outcome = Err (fail.Refused r); comes = comes; line = refusal_line r; line_is = refl; fails = failed.1 })
+  write_only (Err (fail.Refused r)) comes (inr (inl failed)) is = inr (inl (record { outcome = Err (fail.Refused r); comes = comes; line = refusal_line r; line_is = refl; fails = failed.1 }))
   write_only (Err (fail.Refused r)) comes (inr (inr lacking)) is = absurd (let e = lacking.0 in omega arith)
   write_only (Err fail.Output) comes tells is = let j = job_of_failed comes in inl (record { job = j.job; asked = j.asked; failed = j.comes; silent = tells.1 })
 
@@ -58,10 +58,10 @@ module _ (words : List Bytes) (old new : Disk) (before after report report' : Ou
   pub is_for_memory : (o : Outcome) → ComesOf words old new before after o → IsTold o report report' result → IsForMemory words old new before after report report' result
   is_for_memory (Ok told) comes (inl put) is = absurd (run_apart (job_of_told told comes).comes OUT_OF_MEMORY (omega arith) (omega arith) (sym put.0 ∙ is))
   is_for_memory (Ok told) comes (inr (inl failed)) is = absurd (let e = failed.0 in omega arith)
-  is_for_memory (Ok told) comes (inr (inr lacking)) is = inr (record { outcome = Ok told; comes = comes; silent = lacking.1 })
+  is_for_memory (Ok told) comes (inr (inr lacking)) is = inr (inl (record { outcome = Ok told; comes = comes; silent = lacking.1 }))
   is_for_memory (Err (fail.Refused r)) comes (inl put) is = inl (memory_said r comes (sym put.0 ∙ is) put.1)
   is_for_memory (Err (fail.Refused r)) comes (inr (inl failed)) is = absurd (let e = failed.0 in omega arith)
-  is_for_memory (Err (fail.Refused r)) comes (inr (inr lacking)) is = inr (record { outcome = Err (fail.Refused r); comes = comes; silent = lacking.1 })
+  is_for_memory (Err (fail.Refused r)) comes (inr (inr lacking)) is = inr (inl (record { outcome = Err (fail.Refused r); comes = comes; silent = lacking.1 }))
   is_for_memory (Err fail.Output) comes tells is = absurd (let e = tells.0 in omega arith)
 
   -- ---- what fails and what is kept
@@ -112,7 +112,7 @@ module _ (words : List Bytes) (old new : Disk) (before after report report' : Ou
     stays job asked (inr (inl nothing)) = absurd (nothing.unasked job asked)
     stays job asked (inr (inr lacking)) = let P : Disk → Type 0 = λ d. StaysWithin job old d in subst P (sym lacking.kept) (none_within job old)
 
-    unchanged : AskNothing words → ComesOf words old new before after o → new ≡ old
+    unchanged : AskNoJob words → ComesOf words old new before after o → new ≡ old
     unchanged none (inl j) = absurd (none j.job j.asked)
     unchanged none (inr (inl nothing)) = nothing.kept
     unchanged none (inr (inr lacking)) = lacking.kept

@@ -7,3 +7,4 @@ pub mod RunningLemmas
 pub mod ToldLemmas
 pub mod Verdicts
 pub mod RunFacts
+pub mod TextLemmas

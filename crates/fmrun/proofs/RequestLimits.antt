@@ -4,7 +4,7 @@ use Rattle.std.specs.List.{AllByRecursion}
 use Rattle.fm_base.specs.declared.limits.TheConstants.{MAX_ARGUMENTS, MAX_COMMAND_LINE_VALUE_BYTES}
 use Rattle.fm_cli_requests.proofs.ArgumentLemmas.{argument_lengths}
 use Rattle.fm_cli_requests.specs.Arguments.{arguments_of}
-use Rattle.fm_cli_requests.proofs.RequestLemmas.{steps_within, words_within}
+use Rattle.fm_cli_requests.proofs.FmrunRequestLemmas.{steps_within, words_within}
 use Rattle.fm_cli_requests.specs.FmrunRequest.{Asks, FmrunJob}
 use Rattle.fm_cli_requests.specs.Values.{IsValue}
 use Rattle.fm_law_sound.specs.Making.{ArgumentsFit, AreUnits}

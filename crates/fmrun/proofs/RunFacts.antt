@@ -21,7 +21,7 @@ use Rattle.fm_load.specs.Taking.{AllTaken}
 use Rattle.fm_law_cells_made.specs.MostHeld.{all_most_held, MadeIsMostHeld}
 use Rattle.fm_law_can_step.specs.Ready.{CanRun}
 use Rattle.fm_run_job.specs.declared.status.TheConstants.{FAULT}
-use Rattle.fm_cli_requests.proofs.RequestLemmas.{asks_one}
+use Rattle.fm_cli_requests.proofs.FmrunRequestLemmas.{asks_one}
 use Rattle.fm_cli_requests.specs.FmrunRequest.{FmrunJob}
 use Rattle.fm_law_linked.specs.Laws.{ProgramsCanRun}
 use Rattle.fm_run_job.proofs.Opened.{job_of, last_after, opening-silent}
@@ -30,7 +30,7 @@ use Rattle.fm_cli.specs.Encoding.{modified}
 use Rattle.fm_law_no_fault.specs.Whole.{HasNoFault}
 use Rattle.fmrun.proofs.EndStatuses.{among_refusals, fault_status, IsFault}
 use Rattle.fmrun.proofs.JobLemmas.{taken_accepted, taken_few, taken_spelled}
-use Rattle.fmrun.specs.Causes.{AskFor, IsForFault, IsForRun, IsKnownFreeless, refusal_statuses, ReportsMostHeld, SaysFault, SaysRun}
+use Rattle.fmrun.specs.Causes.{AskFor, IsForFault, IsKnownFreeless, refusal_statuses, ReportsMostHeld, SaysFault, SaysRun}
 use Rattle.fmrun.specs.Jobs.{budgets_of, given_of, job_arguments, job_program}
 
 -- ---- 83
@@ -83,12 +83,12 @@ module _ (words : List Bytes) (old new : Disk) (before after report report' : Ou
   no_refusal : Contains refusal_statuses FAULT → ⊥
   no_refusal among = let bounds = among_refusals FAULT among in let high = bounds.high in omega arith
 
-  pub is_for_fault : (result : ℕ) → IsForRun words old new before after report report' result → IsForFault words old new before after report report' result
+  pub is_for_fault : (result : ℕ) → (¬ Contains refusal_statuses result → SaysRun words old new before after report report' result) → IsForFault words old new before after report report' result
   is_for_fault result run = record { only = only; never = λ known is. known_frees known (only is) } where
     only : result ≡ FAULT → SaysFault words old new before after report report'
     only is =
         let P : ℕ → Type 0 = λ s. (Contains refusal_statuses s → ⊥) → SaysRun words old new before after report report' s in
-        fault_said (subst P is run.only no_refusal)
+        fault_said (subst P is run no_refusal)
 
   -- ---- cells
 

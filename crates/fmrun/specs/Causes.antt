@@ -20,7 +20,9 @@ use Rattle.fm_load.specs.declared.class_refusal.ClassRefusal.{ClassRefusal}
 use Rattle.fm_law_cells_made.specs.MostHeld.{all_most_held}
 use Rattle.fm_run_job.specs.Reports.{end_status}
 use Rattle.fm_run_job.specs.declared.status.TheConstants.{FAULT}
-use Rattle.fm_cli_requests.specs.FmrunRequest.{FmrunJob, Asks, AskNothing}
+use Rattle.fm_cli_requests.specs.FmrunRequest.{FmrunJob, Asks, AskNoJob, AskNothing, AskOnlyForText}
+use Rattle.fm_cli_requests.specs.ProgramText.{AskForText}
+use Rattle.fm_cli_requests.specs.declared.program_text.ProgramText.{ProgramText}
 use Rattle.fm_run_job.specs.Runs.{choice}
 use Rattle.fm_same.specs.Resolved.{CallsNoFreeMe}
 use Rattle.fm_cli.specs.Outside.{HasNoFileFault, IsKnownMissing, IsKnownSuch}
@@ -29,7 +31,7 @@ use Rattle.fm_cli.specs.Status.{ComesExactly}
 use Rattle.fm_cli.specs.declared.status.TheConstants.{WORDS, READ, MALFORMED, VERSION, LIMIT, UNSUPPORTED, LINK, CHECK, WRITE, OUT_OF_MEMORY}
 use Rattle.fm_world.specs.Causes.{Refusal}
 use Rattle.fmrun.specs.Jobs.{given_of, job_arguments, job_program, opened_job, IsReady}
-use Rattle.fmrun.specs.TopCall.{AreManyArguments, ComesOf, HasBroken, HasFailed, HasInput, HasRun, IsInputLong, IsInputUnread, Outcome, StaysWithin, outcome_line}
+use Rattle.fmrun.specs.TopCall.{AreManyArguments, ComesOf, HasBroken, HasFailed, HasInput, HasRun, IsInputLong, IsInputUnread, IsTextPut, Outcome, StaysWithin, outcome_line}
 
 -- ---- all statuses
 
@@ -203,6 +205,13 @@ IsForCheck words old new before after report report' result =
     ComesExactly CHECK (READ ∷ WRITE ∷ OUT_OF_MEMORY ∷ []) result (SaysCheck words old new before after report report')
     (AskToRead words (λ job. IsKnownUntyped old (given_of job) × HasInput job old.contents))
 
+-- ---- 0, for a text
+
+-- where the words ask for a text, it is put, or the put fails, or memory can't be had, and nothing else happens
+abbrev pub IsForText : List Bytes → Disk → Disk → Output → Output → Output → Output → ℕ → Type 0
+IsForText words old new before after report report' result =
+    (asked : ProgramText) → AskForText words asked → IsTextPut asked old new before after report report' result
+
 -- ---- the ends of runs
 
 -- the run reached its end: the status, what the output got and the one line of the report are those
@@ -232,10 +241,10 @@ pub record IsKnownRun (status : ℕ) (old : Disk) (job : FmrunJob) : Type 0 wher
   pub run : IsRun (job_program job classes) choice job.steps (silent (opened_job job classes input)) (record { state = last; printed = printed })
   pub status_is : status ≡ end_status (report_of last).end
 
--- each status that isn't of a refusal comes only of the run; where a job is ready, only that of its
+-- each status that isn't of a refusal comes only of the run, or where the words ask for a text; where a job is ready, only that of its
 -- run is returned, unless a read or a put fails or memory can't be had
 pub record IsForRun (words : List Bytes) (old new : Disk) (before after report report' : Output) (result : ℕ) : Type 0 where
-  pub only : ¬ Contains refusal_statuses result → SaysRun words old new before after report report' result
+  pub only : ¬ Contains refusal_statuses result → SaysRun words old new before after report report' result ⊎ AskOnlyForText words
   pub ready : AskFor words (IsKnownReady old) → SaysRun words old new before after report report' result ⊎ Contains (READ ∷ WRITE ∷ OUT_OF_MEMORY ∷ []) result
   pub ends : (status : ℕ) → AskFor words (IsKnownRun status old) → Contains (status ∷ READ ∷ WRITE ∷ OUT_OF_MEMORY ∷ []) result
 
@@ -284,9 +293,10 @@ pub record SaysUntold (words : List Bytes) (old new : Disk) (before after report
   pub line_is : outcome_line outcome ≡ Some line
   pub fails : FailsPut line report report'
 
--- only there, and exactly where a sink's faults rose
+-- only there, or where the words ask for a text, and exactly where a sink's faults rose
 pub record IsForWrite (words : List Bytes) (old new : Disk) (before after report report' : Output) (result : ℕ) : Type 0 where
-  pub only : result ≡ WRITE → SaysUnprinted words old new before after report report' ⊎ SaysUntold words old new before after report report'
+  pub only : result ≡ WRITE
+      → SaysUnprinted words old new before after report report' ⊎ (SaysUntold words old new before after report report' ⊎ AskOnlyForText words)
   pub there : (before.faults < after.faults) ⊎ (report.faults < report'.faults) → result ≡ WRITE
 
 -- ---- 76
@@ -302,10 +312,11 @@ pub record LacksLine (words : List Bytes) (old new : Disk) (before after report 
   pub comes : ComesOf words old new before after outcome
   pub silent : report' ≡ report
 
--- only there
+-- only there, or where the words ask for a text
 abbrev pub IsForMemory : List Bytes → Disk → Disk → Output → Output → Output → Output → ℕ → Type 0
 IsForMemory words old new before after report report' result =
-    result ≡ OUT_OF_MEMORY → SaysMemory words old new before after report report' ⊎ LacksLine words old new before after report report'
+    result ≡ OUT_OF_MEMORY
+    → SaysMemory words old new before after report report' ⊎ (LacksLine words old new before after report report' ⊎ AskOnlyForText words)
 
 -- ---- what fails and what changes
 
@@ -318,8 +329,8 @@ IsFaultless old new before after report report' result =
 abbrev pub IsSilent : Output → Output → ℕ → Type 0
 IsSilent before after result = Contains before_run result → after ≡ before
 
--- a job reads only its files, and words that ask for nothing leave the files as they were; no
+-- a job reads only its files, and words that ask for no job leave the files as they were; no
 -- contents change and no write fails
 pub record OnlyReads (words : List Bytes) (old new : Disk) : Type 0 where
   pub asked : (job : FmrunJob) → Asks words job → StaysWithin job old new
-  pub unasked : AskNothing words → new ≡ old
+  pub unasked : AskNoJob words → new ≡ old

@@ -15,7 +15,10 @@ use Rattle.fm_load.specs.declared.refusal.JobRefusal.TheVariants as job_refusal
 use Rattle.fm_run_job.specs.Reading.{IsInputOf}
 use Rattle.fm_link_refusals.specs.Refused.{refusal_of}
 use Rattle.fm_run_job.specs.Reports.{report_line, end_status}
-use Rattle.fm_cli_requests.specs.FmrunRequest.{FmrunJob, Asks, AskNothing}
+use Rattle.fm_cli_requests.specs.FmrunRequest.{FmrunJob, Asks, AskNoJob}
+use Rattle.fm_cli_requests.specs.ProgramText.{AskForNoText, AskForText}
+use Rattle.fm_cli_requests.specs.declared.program_text.ProgramText.{ProgramText}
+use Rattle.fm_cli_requests.specs.declared.program_text.ProgramText.TheVariants as text
 use Rattle.fm_run.specs.Running.{BreaksRun, FailsRun, RunsTo}
 use Rattle.fm_run_job.specs.Runs.{choice}
 use Rattle.fm_same.specs.Resolved.{CallsNoFreeMe}
@@ -23,11 +26,12 @@ use Rattle.fm_run_job.specs.declared.runs.RunReport.{RunReport}
 use Rattle.fm_cli.specs.Line.{Tells}
 use Rattle.fm_cli.specs.Outside.{HasReadFault, HoldsSuch}
 use Rattle.fm_cli.specs.declared.command_refusal.CommandRefusal.TheVariants as refusal
-use Rattle.fm_cli.specs.declared.status.TheConstants.{WRITE}
+use Rattle.fm_cli.specs.declared.status.TheConstants.{DONE, WRITE}
 use Rattle.fm_law_no_fault.specs.Whole.{HasNoFault}
 use Rattle.fmrun.specs.Jobs.{given_of, job_arguments, job_files, job_program, opened_job, IsReady}
 use Rattle.fmrun.specs.declared.outcome.JobFail.{JobFail}
 use Rattle.fmrun.specs.declared.outcome.JobFail.TheVariants as fail
+use Rattle.fmrun.specs.declared.program_text.TheConstants.{HELP, VERSION_LINE}
 
 -- ---- what a job does whatever its outcome
 
@@ -136,9 +140,9 @@ pub record ComesOfJob (words : List Bytes) (old new : Disk) (before after : Outp
   pub within : StaysWithin job old new
   pub comes : ComesTo job old new before after outcome
 
--- the words ask for nothing, which is refused, and leaves the files and the output as they were
+-- the words ask for no job, which is refused, and leaves the files and the output as they were
 pub record ComesOfNothing (words : List Bytes) (old new : Disk) (before after : Output) (outcome : Outcome) : Type 0 where
-  pub unasked : AskNothing words
+  pub unasked : AskNoJob words
   pub refused : outcome ≡ Err (fail.Refused (job_refusal.Shared refusal.Words))
   pub kept : new ≡ old
   pub silent : after ≡ before
@@ -171,8 +175,31 @@ abbrev pub IsTold : Outcome → Output → Output → ℕ → Type 0
 IsTold outcome old new result =
     MatchOption (outcome_line outcome) ((result ≡ outcome_status outcome) × (new ≡ old)) (λ line. Tells line (outcome_status outcome) old new result)
 
--- what a call does: what the words ask for comes out in some way, and that is reported
-pub record IsTopCall (words : List Bytes) (old new : Disk) (before after report report' : Output) (result : ℕ) : Type 0 where
+-- a call for no text: what the words ask for comes out in some way, and that is reported
+pub record IsJobCall (words : List Bytes) (old new : Disk) (before after report report' : Output) (result : ℕ) : Type 0 where
+  pub no_text : AskForNoText words
   pub outcome : Outcome
   pub comes : ComesOf words old new before after outcome
   pub tells : IsTold outcome report report' result
+
+-- the bytes of a text of the program
+abbrev pub text_bytes : ProgramText → List ℕ
+text_bytes text.Help = HELP.now
+text_bytes text.Version = VERSION_LINE.now
+
+-- the text is put into the output as one piece, or the put fails, or memory for it can't be had; the files and the report are as they were
+pub record IsTextPut (asked : ProgramText) (old new : Disk) (before after report report' : Output) (result : ℕ) : Type 0 where
+  pub kept : new ≡ old
+  pub unreported : report' ≡ report
+  pub tells : Tells (text_bytes asked) DONE before after result
+
+-- a call for a text
+pub record IsTextCall (words : List Bytes) (old new : Disk) (before after report report' : Output) (result : ℕ) : Type 0 where
+  pub asked : ProgramText
+  pub asks : AskForText words asked
+  pub put : IsTextPut asked old new before after report report' result
+
+-- what a call does, by what the words ask for
+abbrev pub IsTopCall : List Bytes → Disk → Disk → Output → Output → Output → Output → ℕ → Type 0
+IsTopCall words old new before after report report' result =
+    IsTextCall words old new before after report report' result ⊎ IsJobCall words old new before after report report' result

@@ -5,6 +5,7 @@
 #![tactic(auto)]
 
 mod outcome;
+mod program_text;
 mod running;
 #[cfg(test)]
 mod tests;

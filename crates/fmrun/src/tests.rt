@@ -4,6 +4,7 @@ mod ends;
 mod rows;
 mod samples;
 mod stores;
+mod texts;
 
 use crate::top_call::fmrun_run;
 use fm_base::NoMemory;

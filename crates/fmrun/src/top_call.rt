@@ -7,16 +7,18 @@ ghost use Rattle.fm_cli_requests.specs.FmrunRequest.{job_of};
 ghost use Rattle.fm_law_sound.specs.Making.{AreUnits};
 ghost use Rattle.fm_cli.specs.Words.{texts};
 ghost use Rattle.fm_cli.specs.declared.status.TheConstants.{MALFORMED, UNSUPPORTED, VERSION};
-ghost use Rattle.fmrun.specs.Causes.{IsFaultless, IsForBytes, IsForCheck, IsForFault, IsForLimit, IsForLink, IsForMemory, IsForRead, IsForRun, IsForWords, IsForWrite, IsSilent, IsStatus, OnlyReads, ReportsMostHeld};
+ghost use Rattle.fmrun.specs.Causes.{IsFaultless, IsForBytes, IsForCheck, IsForFault, IsForLimit, IsForLink, IsForMemory, IsForRead, IsForRun, IsForText, IsForWords, IsForWrite, IsSilent, IsStatus, OnlyReads, ReportsMostHeld};
 ghost use Rattle.fmrun.specs.Jobs.{IsWithinLimits, text_arguments};
 ghost use Rattle.fmrun.specs.TopCall.{ComesOf, ComesTo, IsTold, IsTopCall, StaysWithin};
 
 use crate::outcome::JobFail;
+use crate::program_text::put_text;
 use crate::running::run_classes;
 use fm_base::limits::{MAX_ARGUMENTS, MAX_CLASS_FILES, MAX_MADE_WORDS};
 use fm_base::{NoMemory, Units};
 use fm_cli::{CommandRefusal, put_line, status};
-use fm_cli_requests::{FmrunRequest, arguments_of, request_of};
+use fm_cli_requests::fmrun_request::{FmrunRequest, request_of};
+use fm_cli_requests::{ProgramText, arguments_of};
 use fm_files::{Files, Sink};
 use fm_law_cells_made::law_most_held;
 use fm_law_linked::law_can_run;
@@ -41,6 +43,9 @@ pub fn fmrun_run<F: Files, O: Sink, R: Sink>(
     // Each status: when it comes, and what it says. There is no other.
     ensures status { IsStatus result }
     ensures run { IsForRun (texts words.now)
+        (F.disk files.old) (F.disk files.new) (O.output out.old) (O.output out.new)
+        (R.output report.old) (R.output report.new) result }
+    ensures text { IsForText (texts words.now)
         (F.disk files.old) (F.disk files.new) (O.output out.old) (O.output out.new)
         (R.output report.old) (R.output report.new) result }
     ensures words { IsForWords (texts words.now)
@@ -91,8 +96,13 @@ pub fn fmrun_run<F: Files, O: Sink, R: Sink>(
     // For their clauses: a run can go on, and no more cells are made than were held at once.
     law_can_run();
     law_most_held();
-    let outcome = do_words(alloc, words, files, out);
-    tell(alloc, outcome, report)
+    match ProgramText::asked_by(words) {
+        Some(asked) => put_text(alloc, asked, out),
+        None => {
+            let outcome = do_words(alloc, words, files, out);
+            tell(alloc, outcome, report)
+        }
+    }
 }
 
 // Puts the line of an outcome, if it has one, and returns its status, or that of the put.
@@ -109,7 +119,7 @@ fn tell<R: Sink>(alloc: Global, outcome: Result<RunReport, JobFail<'_>>, report:
     }
 }
 
-// Does what the words ask for.
+// Does the job that the words ask for.
 fn do_words<'a, F: Files, O: Sink>(
     alloc: Global,
     words: &'a [String],

@@ -29,7 +29,9 @@ use Rattle.fm_load.specs.Given.{AreMany, IsUntouched, AreNotLinked, IsNotLinked,
 use Rattle.freeme.specs.Causes.{AskFor, AskForGiven, BecomesAs, IsKnownAs, cause_status, SaysWords, SaysRead, SaysRefused, SaysLimit, SaysLink, SaysCheck, SaysNotFreed, SaysDone, SaysUnwritten, SaysWrite, SaysMemory, LacksLine, IsForWords, IsForRead, IsForBytes, IsForLimit, IsForLink, IsForCheck, IsForRewrite, IsForDone, IsForWrite, IsForMemory, IsFaultless, KeepsContents, ChangesOnly}
 use Rattle.fm_load.specs.Causes.{FailsARead, FailsAWrite, IsMissing, HasTooMany, IsKnownLong, IsKnownRefused, IsKnownUnlinked, IsKnownUntyped}
 use Rattle.fm_load.specs.LinkRefusal.{cause_line}
-use Rattle.freeme.specs.FreemeRequest.{FreemeJob, Asks, AskNothing, given_of, main_name}
+use Rattle.fm_cli_requests.specs.FreemeRequest.{FreemeJob, Asks, AskNoJob, AskNothing, AskOnlyForText}
+use Rattle.fm_cli_requests.specs.ProgramText.{AskForNoText}
+use Rattle.freeme.specs.Jobs.{given_of, main_name}
 use Rattle.fm_load.specs.Taking.{total_bytes, AllTaken, IsTooLong, IsRefused}
 use Rattle.freeme.specs.TopCall.{IsFirstCause, StaysWithin, IsBroken, ComesTo, ComesOfJob, ComesOf, Outcome, outcome_line, outcome_status}
 use Rattle.freeme.specs.Refusal.{rewrite_status}
@@ -40,7 +42,7 @@ use Rattle.fm_load.specs.Refusal.{many_line}
 use Rattle.fm_cli.specs.CommandRefusal.{memory_line}
 use Rattle.freeme.proofs.JobLemmas.{reads_within}
 use Rattle.fm_load.proofs.ReadLemmas.{reads_none}
-use Rattle.freeme.proofs.RequestLemmas.{asks_one}
+use Rattle.fm_cli_requests.proofs.FreemeRequestLemmas.{asks_one}
 use Rattle.fm_load.proofs.KnownLemmas.{all_taken, bytes_stop, long_stops, missing_stops, not_empty, not_typed}
 use Rattle.fm_load.proofs.RefusalLemmas.{class_status}
 use Rattle.fm_load.proofs.VerdictLemmas.{Ends, EndsOnce, Links, links_once, Verdict, one_verdict}
@@ -351,7 +353,7 @@ not_for_words job old new (Err (free_refusal.Rewrite cause name)) comes is = let
 not_for_words job old new o comes is = omega arith
 
 -- the statuses at which nothing failed, and those at which contents are kept
-abbrev faultless_statuses : List ℕ
+abbrev pub faultless_statuses : List ℕ
 faultless_statuses = DONE ∷ WORDS ∷ MALFORMED ∷ VERSION ∷ LIMIT ∷ UNSUPPORTED ∷ LINK ∷ CHECK ∷ CALLS_FREE ∷ POOL_FULL ∷ METHOD_TOO_LONG ∷ []
 
 abbrev keeping_statuses : List ℕ
@@ -452,15 +454,15 @@ module _ {words : List Bytes} {old new : Disk} {before after : Output} {result :
   of_files status unlike_words write memory said decides =
       comes_of_file (outcome_line o) (outcome_status o) before after result tells status write memory (of_job_alone status unlike_words memory said) decides
 
-  pub is_for_words : IsForWords words old new before after result
-  is_for_words = comes_of_words (outcome_line o) (outcome_status o) before after result tells WORDS (λ e. omega arith) (λ e. omega arith) (words_said comes) (λ unasked. nothing_decides unasked comes) where
+  pub is_for_words : AskForNoText words → IsForWords words old new before after result
+  is_for_words no_text = comes_of_words (outcome_line o) (outcome_status o) before after result tells WORDS (λ e. omega arith) (λ e. omega arith) (words_said comes) (λ unasked. nothing_decides unasked comes) where
     words_said : ComesOf words old new o → outcome_status o ≡ WORDS → after ≡ with_piece (outcome_line o) before → SaysWords words old new before after
     words_said (inl j) is line = absurd (not_for_words j.job old new o j.comes is)
-    words_said (inr (inl nothing)) is line = record { unasked = nothing.unasked; kept = nothing.kept; line = let P : Outcome → Type 0 = λ x. after ≡ with_piece (outcome_line x) before in subst P nothing.refused line }
+    words_said (inr (inl nothing)) is line = record { unasked = record { no_text = no_text; no_job = nothing.unasked }; kept = nothing.kept; line = let P : Outcome → Type 0 = λ x. after ≡ with_piece (outcome_line x) before in subst P nothing.refused line }
     words_said (inr (inr lacking)) is line = absurd (let other = sym is ∙ ap outcome_status lacking.refused in omega arith)
 
     nothing_decides : AskNothing words → ComesOf words old new o → Contains (WORDS ∷ instead_for_words) (outcome_status o)
-    nothing_decides unasked (inl j) = absurd (unasked j.job j.asked)
+    nothing_decides unasked (inl j) = absurd (unasked.no_job j.job j.asked)
     nothing_decides unasked (inr (inl nothing)) = (0, omega arith, sym (ap outcome_status nothing.refused))
     nothing_decides unasked (inr (inr lacking)) = (2, omega arith, sym (ap outcome_status lacking.refused))
 
@@ -494,7 +496,8 @@ module _ {words : List Bytes} {old new : Disk} {before after : Output} {result :
       of_files status (λ e. omega arith) (λ e. omega arith) (λ e. omega arith) (not_freed_said words old new before after status low high o) (rewriting_decides words old new o comes status)
 
   pub is_for_done : IsForDone words old new before after result
-  is_for_done = of_files DONE (λ e. omega arith) (λ e. omega arith) (λ e. omega arith) (done_said words old new before after o) (rewriting_decides words old new o comes DONE)
+  is_for_done =
+      of_files DONE (λ e. omega arith) (λ e. omega arith) (λ e. omega arith) (λ j is line. inl (done_said words old new before after o j is line)) (rewriting_decides words old new o comes DONE)
 
   pub is_for_write : IsForWrite words old new before after result
   is_for_write = record {
@@ -505,7 +508,7 @@ module _ {words : List Bytes} {old new : Disk} {before after : Output} {result :
     only : Tells (outcome_line o) (outcome_status o) before after result → result ≡ WRITE → SaysWrite words old new before after
     only (inl own) is =
         let same : outcome_status o ≡ WRITE = sym own.0 ∙ is in
-        inr (unwritten_said words old new before after o (job_of_status words old new o WRITE comes same (λ e. omega arith) (λ e. omega arith)) same own.1)
+        inr (inl (unwritten_said words old new before after o (job_of_status words old new o WRITE comes same (λ e. omega arith) (λ e. omega arith)) same own.1))
     only (inr (inl failed)) is = inl (record { outcome = o; comes = comes; fails = failed.1 })
     only (inr (inr lacking)) is = absurd (let e = lacking.0 in omega arith)
 
@@ -516,12 +519,12 @@ module _ {words : List Bytes} {old new : Disk} {before after : Output} {result :
     own_line (inr (inl nothing)) same = absurd (let other = sym same ∙ ap outcome_status nothing.refused in omega arith)
     own_line (inr (inr lacking)) same = inl (record { faultless = no_fault_where_same old new lacking.kept; kept = ap (λ (d : Disk). d.contents) lacking.kept })
 
-    go : Tells (outcome_line o) (outcome_status o) before after result → SaysMemory words old new before after ⊎ LacksLine words old new before after
+    go : Tells (outcome_line o) (outcome_status o) before after result → SaysMemory words old new before after ⊎ (LacksLine words old new before after ⊎ AskOnlyForText words)
     go (inl own) =
         let same : outcome_status o ≡ OUT_OF_MEMORY = sym own.0 ∙ is in
         inl (record { stopped = own_line comes same; line = own.1 ∙ ap (λ (line : List ℕ). with_piece line before) (memory_line_is words old new before after o same) })
     go (inr (inl failed)) = absurd (let e = failed.0 in omega arith)
-    go (inr (inr lacking)) = inr (record { outcome = o; comes = comes; silent = lacking.1 })
+    go (inr (inr lacking)) = inr (inl (record { outcome = o; comes = comes; silent = lacking.1 }))
 
   -- where the line is put no put failed
   own_line_put : (status : ℕ) → status ≢ WRITE → status ≢ OUT_OF_MEMORY → result ≡ status → (outcome_status o ≡ status) × (after.faults ≡ before.faults)
@@ -551,7 +554,7 @@ module _ {words : List Bytes} {old new : Disk} {before after : Output} {result :
     stays job asked (inr (inl nothing)) = absurd (nothing.unasked job asked)
     stays job asked (inr (inr lacking)) = let P : Disk → Type 0 = λ d. StaysWithin job old d in subst P (sym lacking.kept) (reads_within job old old (reads_none job.files old))
 
-    unchanged : AskNothing words → ComesOf words old new o → new ≡ old
+    unchanged : AskNoJob words → ComesOf words old new o → new ≡ old
     unchanged none (inl j) = absurd (none j.job j.asked)
     unchanged none (inr (inl nothing)) = nothing.kept
     unchanged none (inr (inr lacking)) = lacking.kept

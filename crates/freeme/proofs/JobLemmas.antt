@@ -36,7 +36,8 @@ use Rattle.fm_law_spelled.specs.Names.{AreNew}
 use Rattle.fm_law_spelled.specs.Changed.{IsShort}
 use Rattle.fm_load.specs.Given.{IsFirstUntypedName, IsUntouched, IsNotLinked, IsNotTyped, AreChecked, given_program}
 use Rattle.fm_load.specs.Changes.{RisesOnlyAt, ChangesOnlyAt}
-use Rattle.freeme.specs.FreemeRequest.{FreemeJob, given_of, job_of, main_name}
+use Rattle.fm_cli_requests.specs.FreemeRequest.{FreemeJob, job_of}
+use Rattle.freeme.specs.Jobs.{given_of, main_name}
 use Rattle.fm_load.specs.Taking.{AreTaken, ClassIsSpelled}
 use Rattle.freeme.specs.TopCall.{AreFreed, AreTakenAgain, IsFirstCause, IsNotFreed, StaysWithin, IsDone, ComesTo, told_name}
 use Rattle.freeme.specs.Writing.{HasName, class_text, written_name, class_lines, IsClassFileIn, IsFileOf, AreWritten, AllWritten}
@@ -49,7 +50,7 @@ use Rattle.freeme.specs.declared.refusal.FreeRefusal.TheVariants as free_refusal
 use Rattle.fm_load.specs.declared.refusal.JobRefusal.{JobRefusal}
 use Rattle.fm_load.specs.declared.refusal.JobRefusal.TheVariants as job_refusal
 use Rattle.fm_load.proofs.ChangesLemmas.{rises_of_kept, rises_then, changes_of_kept, changes_then, faultless_then, write_fault_then}
-use Rattle.freeme.specs.declared.freeme_request.FreemeRequest.{FreemeRequest}
+use Rattle.fm_cli_requests.specs.declared.freeme_request.FreemeRequest.{FreemeRequest}
 use Rattle.fm_load.proofs.TakenLemmas.{are_spelled, are_within}
 
 -- ---- classes that are taken

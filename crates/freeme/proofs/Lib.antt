@@ -1,10 +1,10 @@
 pub mod CauseLemmas
 pub mod FreeingLemmas
 pub mod JobLemmas
-pub mod RequestLemmas
 pub mod StatusLemmas
 pub mod UnheldLemmas
 pub mod WovenFew
 pub mod WriteLemmas
 pub mod WrittenLemmas
 pub mod TakenAgain
+pub mod TextLemmas

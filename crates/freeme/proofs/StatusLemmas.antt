@@ -8,7 +8,7 @@ use Rattle.fm_cli.specs.declared.command_refusal.CommandRefusal.TheVariants as r
 use Rattle.fm_cli.specs.declared.status.TheConstants.{DONE, WORDS, READ, MALFORMED, VERSION, LIMIT, UNSUPPORTED, LINK, CHECK, WRITE, OUT_OF_MEMORY}
 use Rattle.fm_rewrite.specs.declared.error.RewriteFail.TheVariants as fail
 use Rattle.freeme.specs.Causes.{IsStatus}
-use Rattle.freeme.specs.FreemeRequest.{FreemeJob}
+use Rattle.fm_cli_requests.specs.FreemeRequest.{FreemeJob}
 use Rattle.freeme.specs.TopCall.{ComesOf, ComesTo, Outcome, outcome_line, outcome_status}
 use Rattle.freeme.specs.declared.refusal.FreeRefusal.TheVariants as free_refusal
 use Rattle.freeme.specs.declared.status.TheConstants.{CALLS_FREE, POOL_FULL, METHOD_TOO_LONG}

@@ -19,8 +19,11 @@ use Rattle.fm_load.specs.ClassRefusal.{class_refusal_line, class_refusal_status}
 use Rattle.fm_load.specs.LinkRefusal.{link_line}
 use Rattle.fm_load.specs.Refusal.{check_line, many_line, long_line, write_line}
 use Rattle.freeme.specs.Refusal.{rewrite_line, rewrite_status}
-use Rattle.freeme.specs.FreemeRequest.{FreemeJob, Asks, AskNothing, given_of, main_name}
-use Rattle.freeme.specs.TopCall.{StaysWithin, IsDone, IsUnwritten, IsBroken, IsNotFreed, Outcome, ComesOf, outcome_line}
+use Rattle.fm_cli_requests.specs.FreemeRequest.{FreemeJob, Asks, AskNoJob, AskNothing, AskOnlyForText}
+use Rattle.fm_cli_requests.specs.ProgramText.{AskForText}
+use Rattle.fm_cli_requests.specs.declared.program_text.ProgramText.{ProgramText}
+use Rattle.freeme.specs.Jobs.{given_of, main_name}
+use Rattle.freeme.specs.TopCall.{StaysWithin, IsDone, IsUnwritten, IsBroken, IsNotFreed, IsTextPut, Outcome, ComesOf, outcome_line}
 use Rattle.freeme.specs.declared.status.TheConstants.{CALLS_FREE, POOL_FULL, METHOD_TOO_LONG}
 use Rattle.fm_load.specs.Causes.{FailsARead, FailsAWrite, HasTooMany, IsMissing, IsKnownLong, IsKnownRefused, IsKnownUnlinked, IsKnownUntyped}
 use Rattle.fm_load.specs.Given.{Given, IsUntouched, AreMany, IsUnread, IsLong, IsRefusedFile, IsNotLinked, IsNotTyped, AreChecked, given_program}
@@ -197,10 +200,17 @@ pub record SaysDone (words : List Bytes) (old new : Disk) (before after : Output
   pub done : IsDone job lines old new
   pub line : after ≡ with_piece lines before
 
--- exactly where there is no cause against it, unless a read, a write or the put fails or memory can't be had
+-- only there, or where the words ask for a text; exactly where there is no cause against it, unless a read, a write or the put fails or memory can't
+-- be had
 abbrev pub IsForDone : List Bytes → Disk → Disk → Output → Output → ℕ → Type 0
 IsForDone words old new before after result =
-    ComesExactly DONE (READ ∷ WRITE ∷ OUT_OF_MEMORY ∷ []) result (SaysDone words old new before after) (AskFor words (IsKnownAs DONE old))
+    ComesExactly DONE (READ ∷ WRITE ∷ OUT_OF_MEMORY ∷ []) result (SaysDone words old new before after ⊎ AskOnlyForText words) (AskFor words (IsKnownAs DONE old))
+
+-- ---- 0, for a text
+
+-- where the words ask for a text, it is put, or the put fails, or memory can't be had, and nothing else happens
+abbrev pub IsForText : List Bytes → Disk → Disk → Output → Output → ℕ → Type 0
+IsForText words old new before after result = (asked : ProgramText) → AskForText words asked → IsTextPut asked old new before after result
 
 -- ---- 75
 
@@ -218,9 +228,9 @@ pub record SaysUnput (words : List Bytes) (old new : Disk) (before after : Outpu
   pub comes : ComesOf words old new outcome
   pub fails : FailsPut (outcome_line outcome) before after
 
--- one of the two
+-- one of the two, or the words ask for a text
 abbrev pub SaysWrite : List Bytes → Disk → Disk → Output → Output → Type 0
-SaysWrite words old new before after = SaysUnput words old new before after ⊎ SaysUnwritten words old new before after
+SaysWrite words old new before after = SaysUnput words old new before after ⊎ (SaysUnwritten words old new before after ⊎ AskOnlyForText words)
 
 -- only there; exactly there where a put failed, and where a write failed unless memory for its line can't be had
 pub record IsForWrite (words : List Bytes) (old new : Disk) (before after : Output) (result : ℕ) : Type 0 where
@@ -241,9 +251,10 @@ pub record LacksLine (words : List Bytes) (old new : Disk) (before after : Outpu
   pub comes : ComesOf words old new outcome
   pub silent : after ≡ before
 
--- one of the two
+-- one of the two, or the words ask for a text
 abbrev pub IsForMemory : List Bytes → Disk → Disk → Output → Output → ℕ → Type 0
-IsForMemory words old new before after result = result ≡ OUT_OF_MEMORY → SaysMemory words old new before after ⊎ LacksLine words old new before after
+IsForMemory words old new before after result =
+    result ≡ OUT_OF_MEMORY → SaysMemory words old new before after ⊎ (LacksLine words old new before after ⊎ AskOnlyForText words)
 
 -- ---- what changes
 
@@ -258,7 +269,7 @@ KeepsContents old new result =
     Contains (WORDS ∷ READ ∷ MALFORMED ∷ VERSION ∷ LIMIT ∷ UNSUPPORTED ∷ LINK ∷ CHECK ∷ CALLS_FREE ∷ POOL_FULL ∷ METHOD_TOO_LONG ∷ []) result → new.contents ≡ old.contents
 
 -- a job reads only its files and changes no name but those of class files in its folder, and words
--- that ask for nothing leave the files as they were
+-- that ask for no job leave the files as they were
 pub record ChangesOnly (words : List Bytes) (old new : Disk) : Type 0 where
   pub asked : (job : FreemeJob) → Asks words job → StaysWithin job old new
-  pub unasked : AskNothing words → new ≡ old
+  pub unasked : AskNoJob words → new ≡ old

@@ -1,5 +1,5 @@
 pub mod inner
-pub mod FreemeRequest
+pub mod Jobs
 pub mod Refusal
 pub mod Writing
 pub mod TopCall

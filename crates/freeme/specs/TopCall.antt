@@ -25,8 +25,13 @@ use Rattle.fm_load.specs.Given.{given_program, IsUntouched, AreMany, IsUnread, I
 use Rattle.fm_load.specs.Taking.{ClassIsSpelled}
 use Rattle.fm_load.specs.Changes.{RisesOnlyAt, ChangesOnlyAt, ReadsOnly}
 use Rattle.freeme.specs.Refusal.{refusal_line, refusal_status}
-use Rattle.freeme.specs.FreemeRequest.{FreemeJob, Asks, AskNothing, given_of, main_name}
+use Rattle.fm_cli_requests.specs.FreemeRequest.{FreemeJob, Asks, AskNoJob}
+use Rattle.fm_cli_requests.specs.ProgramText.{AskForNoText, AskForText}
+use Rattle.fm_cli_requests.specs.declared.program_text.ProgramText.{ProgramText}
+use Rattle.fm_cli_requests.specs.declared.program_text.ProgramText.TheVariants as text
+use Rattle.freeme.specs.Jobs.{given_of, main_name}
 use Rattle.freeme.specs.Writing.{IsClassFileIn, written_name, class_lines, AllWritten, SomeWritten, FailsToWrite}
+use Rattle.freeme.specs.declared.program_text.TheConstants.{HELP, VERSION_LINE}
 use Rattle.freeme.specs.declared.refusal.FreeRefusal.{FreeRefusal}
 use Rattle.freeme.specs.declared.refusal.FreeRefusal.TheVariants as free_refusal
 use Rattle.fm_load.specs.declared.refusal.JobRefusal.TheVariants as job_refusal
@@ -141,9 +146,9 @@ pub record ComesOfJob (words : List Bytes) (old new : Disk) (outcome : Outcome) 
   pub within : StaysWithin job old new
   pub comes : ComesTo job old new outcome
 
--- the words ask for nothing, which is refused, and leaves the files as they were
+-- the words ask for no job, which is refused, and leaves the files as they were
 pub record ComesOfNothing (words : List Bytes) (old new : Disk) (outcome : Outcome) : Type 0 where
-  pub unasked : AskNothing words
+  pub unasked : AskNoJob words
   pub refused : outcome ≡ Err (free_refusal.Job (job_refusal.Shared refusal.Words))
   pub kept : new ≡ old
 
@@ -166,9 +171,30 @@ abbrev pub outcome_status : Outcome → ℕ
 outcome_status (Ok lines) = DONE
 outcome_status (Err refusal) = refusal_status refusal
 
--- what a call does: what the words ask for comes out in some way, and the lines of that are put as one piece, or the put fails, or memory for them
+-- a call for no text: what the words ask for comes out in some way, and the lines of that are put as one piece, or the put fails, or memory for them
 -- can't be had
-pub record IsTopCall (words : List Bytes) (old new : Disk) (before after : Output) (result : ℕ) : Type 0 where
+pub record IsJobCall (words : List Bytes) (old new : Disk) (before after : Output) (result : ℕ) : Type 0 where
+  pub no_text : AskForNoText words
   pub outcome : Outcome
   pub comes : ComesOf words old new outcome
   pub tells : Tells (outcome_line outcome) (outcome_status outcome) before after result
+
+-- the bytes of a text of the program
+abbrev pub text_bytes : ProgramText → List ℕ
+text_bytes text.Help = HELP.now
+text_bytes text.Version = VERSION_LINE.now
+
+-- the text is put as one piece, or the put fails, or memory for it can't be had; the files are as they were
+pub record IsTextPut (asked : ProgramText) (old new : Disk) (before after : Output) (result : ℕ) : Type 0 where
+  pub kept : new ≡ old
+  pub tells : Tells (text_bytes asked) DONE before after result
+
+-- a call for a text
+pub record IsTextCall (words : List Bytes) (old new : Disk) (before after : Output) (result : ℕ) : Type 0 where
+  pub asked : ProgramText
+  pub asks : AskForText words asked
+  pub put : IsTextPut asked old new before after result
+
+-- what a call does, by what the words ask for
+abbrev pub IsTopCall : List Bytes → Disk → Disk → Output → Output → ℕ → Type 0
+IsTopCall words old new before after result = IsTextCall words old new before after result ⊎ IsJobCall words old new before after result

@@ -8,7 +8,7 @@
 #![tactic(auto)]
 
 mod freeing;
-mod freeme_request;
+mod program_text;
 mod refusal;
 mod status;
 #[cfg(test)]

@@ -9,6 +9,7 @@ mod malformed;
 mod refused;
 mod rows;
 mod taken;
+mod texts;
 
 use crate::tests::changes::is_answered;
 use crate::top_call::freeme_run;

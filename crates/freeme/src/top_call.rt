@@ -3,18 +3,20 @@
 ghost use Rattle.fm_cli.specs.Line.{Tells};
 ghost use Rattle.fm_cli.specs.Words.{texts};
 ghost use Rattle.fm_cli.specs.declared.status.TheConstants.{MALFORMED, UNSUPPORTED, VERSION};
-ghost use Rattle.freeme.specs.Causes.{ChangesOnly, IsFaultless, IsForBytes, IsForCheck, IsForDone, IsForLimit, IsForLink, IsForMemory, IsForRead, IsForRewrite, IsForWords, IsForWrite, IsStatus, KeepsContents};
-ghost use Rattle.freeme.specs.FreemeRequest.{job_of};
+ghost use Rattle.freeme.specs.Causes.{ChangesOnly, IsFaultless, IsForBytes, IsForCheck, IsForDone, IsForLimit, IsForLink, IsForMemory, IsForRead, IsForRewrite, IsForText, IsForWords, IsForWrite, IsStatus, KeepsContents};
+ghost use Rattle.fm_cli_requests.specs.FreemeRequest.{job_of};
 ghost use Rattle.freeme.specs.TopCall.{ComesOf, ComesTo, IsTopCall, StaysWithin, outcome_line, outcome_status};
 ghost use Rattle.freeme.specs.declared.status.TheConstants.{CALLS_FREE, METHOD_TOO_LONG, POOL_FULL};
 
 use crate::freeing::{class_lines, freed_classes};
-use crate::freeme_request::{FreemeRequest, request_of};
+use crate::program_text::put_text;
 use crate::refusal::FreeRefusal;
 use crate::writing::write_classes;
 use fm_base::NoMemory;
 use fm_base::limits::MAX_CLASS_FILES;
 use fm_cli::{CommandRefusal, put_line, status};
+use fm_cli_requests::ProgramText;
+use fm_cli_requests::freeme_request::{FreemeRequest, request_of};
 use fm_code::ClassDef;
 use fm_files::{Files, Sink};
 use fm_law_relinked::law_links;
@@ -38,6 +40,8 @@ pub fn freeme_run<F: Files, S: Sink>(
     // Each status: when it comes, and what it says. There is no other.
     ensures status { IsStatus result }
     ensures done { IsForDone (texts words.now)
+        (F.disk files.old) (F.disk files.new) (S.output out.old) (S.output out.new) result }
+    ensures text { IsForText (texts words.now)
         (F.disk files.old) (F.disk files.new) (S.output out.old) (S.output out.new) result }
     ensures words { IsForWords (texts words.now)
         (F.disk files.old) (F.disk files.new) (S.output out.old) (S.output out.new) result }
@@ -72,11 +76,16 @@ pub fn freeme_run<F: Files, S: Sink>(
     ensures kept { KeepsContents (F.disk files.old) (F.disk files.new) result }
     ensures others { ChangesOnly (texts words.now) (F.disk files.old) (F.disk files.new) }
 {
-    let outcome = do_words(alloc, words, files);
-    tell(alloc, outcome, out)
+    match ProgramText::asked_by(words) {
+        Some(asked) => put_text(alloc, asked, out),
+        None => {
+            let outcome = do_words(alloc, words, files);
+            tell(alloc, outcome, out)
+        }
+    }
 }
 
-// Does what the words ask for, and returns the lines that report it.
+// Does the job that the words ask for, and returns the lines that report it.
 fn do_words<'a, F: Files>(
     alloc: Global,
     words: &'a [String],

@@ -1,5 +1,5 @@
 use Rattle.clap.specs.Words.{found_of}
-use Rattle.fm_cli_requests.proofs.RequestLemmas.{budget_default, budget_named}
+use Rattle.fm_cli_requests.proofs.FmrunRequestLemmas.{budget_default, budget_named}
 use Rattle.fm_cli_requests.proofs.fmrun_request.budget_in.Goals as goal
 
 pub returns-in-Some : goal.returns-in-Some

@@ -3,7 +3,7 @@ use Rattle.clap.specs.Words.{app_of}
 use Rattle.fm_cli_requests.specs.FmrunRequest.{class_rule}
 use Rattle.fm_cli_requests.specs.Values.{files_rule, option_rule}
 use Rattle.fm_cli_requests.proofs.CommandLemmas.{with_one_more}
-use Rattle.fm_cli_requests.proofs.RequestLemmas.{is_command}
+use Rattle.fm_cli_requests.proofs.FmrunRequestLemmas.{is_command}
 use Rattle.fm_cli_requests.proofs.fmrun_request.fmrun_command.Goals as goal
 
 pub returns : goal.returns

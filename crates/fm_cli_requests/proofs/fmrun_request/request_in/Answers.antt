@@ -3,7 +3,7 @@ use Rattle.std.specs.List.{AllByRecursion}
 use Rattle.clap.specs.Words.{found_of}
 use Rattle.fm_cli_requests.specs.Values.{IsValue}
 use Rattle.fm_cli_requests.proofs.MatchLemmas.{first_found, first_is, first_missing, texts_of, untested}
-use Rattle.fm_cli_requests.proofs.RequestLemmas.{untested_if_any, value_if_any}
+use Rattle.fm_cli_requests.proofs.FmrunRequestLemmas.{untested_if_any, value_if_any}
 use Rattle.fm_cli_requests.proofs.fmrun_request.request_in.Goals as goal
 
 pub returns-in_default : goal.returns-in_default

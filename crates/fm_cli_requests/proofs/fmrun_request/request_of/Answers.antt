@@ -5,7 +5,7 @@ use Rattle.clap.specs.Values.{kind_of}
 use Rattle.fm_cli.specs.Words.{texts}
 use Rattle.fm_cli_requests.specs.FmrunRequest.{HasNoValues, HasValuesOf, job_of}
 use Rattle.fm_cli_requests.specs.declared.fmrun_request.FmrunRequest.{FmrunRequest}
-use Rattle.fm_cli_requests.proofs.RequestLemmas.{asked_by, faults_are, faulty, matched_are}
+use Rattle.fm_cli_requests.proofs.FmrunRequestLemmas.{asked_by, faults_are, faulty, matched_are}
 use Rattle.fm_cli_requests.proofs.fmrun_request.request_of.Goals as goal
 
 pub returns-in-Ok : goal.returns-in-Ok

@@ -1,84 +1,126 @@
-use Rattle.std.proofs.Common.{arith}
+use Rattle.std.proofs.Common.{arith, inr}
 use Rattle.fm_cli.specs.Words.{texts}
-use Rattle.fmrun.proofs.CauseLemmas.{is_for_bytes, is_for_check, is_for_limit, is_for_link, is_for_read, is_for_run, is_for_words}
+use Rattle.fm_cli.specs.declared.status.TheConstants.{MALFORMED, VERSION, UNSUPPORTED}
+use Rattle.fmrun.proofs.CauseLemmas.{is_for_bytes, is_for_check, is_for_limit, is_for_link, is_for_read, is_for_run, is_for_words, run_only}
 use Rattle.fmrun.proofs.ChangeLemmas.{is_faultless, is_for_memory, is_for_write, is_silent, is_status, only_reads}
 use Rattle.fmrun.proofs.RunFacts.{is_for_fault, reports_most_held}
+use Rattle.fmrun.proofs.TextLemmas.{text_check, text_fault, text_faultless, text_limit, text_link, text_memory, text_most_held, text_of_bytes, text_read, text_reads, text_run, text_silent, text_status, text_text, text_whole, text_words, text_write}
 use Rattle.fmrun.proofs.top_call.fmrun_run.Goals as goal
 
-pub returns-clause-status : goal.returns-clause-status
-returns-clause-status g c =
+pub returns-in-Some : goal.returns-in-Some
+returns-in-Some g c =
+    let words = texts c.args.words.now in
+    let files = g.F.Files.disk c.args.files.now in
+    let before = g.O.Sink.output c.args.out.now in
+    let after = g.O.Sink.output c.put_text.new.out in
+    let report = g.R.Sink.output c.args.report.now in
+    let result = c.put_text.result in
+    let asked = c.in-Some.asked in
+    let asks = c.in-Some.ensures in
+    let tells = c.put_text.ensures in
+    record {
+      whole = text_whole words files before after report result asked asks tells;
+      status = text_status words files before after report result asked asks tells;
+      run = text_run words files before after report result asked asks tells;
+      text = text_text words files before after report result asked asks tells;
+      words = text_words words files before after report result asked asks tells;
+      read = text_read words files before after report result asked asks tells;
+      malformed = text_of_bytes words files before after report result asked asks tells MALFORMED (omega arith) (omega arith);
+      version = text_of_bytes words files before after report result asked asks tells VERSION (omega arith) (omega arith);
+      limit = text_limit words files before after report result asked asks tells;
+      unsupported = text_of_bytes words files before after report result asked asks tells UNSUPPORTED (omega arith) (omega arith);
+      link = text_link words files before after report result asked asks tells;
+      check = text_check words files before after report result asked asks tells;
+      fault = text_fault words files before after report result asked asks tells;
+      write = text_write words files before after report result asked asks tells;
+      memory = text_memory words files before after report result asked asks tells;
+      most_held = text_most_held words files before after report result asked asks tells;
+      faultless = text_faultless words files before after report result asked asks tells;
+      silent = text_silent words files before after report result asked asks tells;
+      reads = text_reads words files before after report result asked asks tells;
+    }
+
+pub returns-in-None-clause-whole : goal.returns-in-None-clause-whole
+returns-in-None-clause-whole g c =
+    inr (record { no_text = c.in-None.ensures; outcome = c.do_words-outcome.result; comes = c.do_words-outcome.ensures; tells = c.tell.ensures })
+
+pub returns-in-None-clause-text : goal.returns-in-None-clause-text
+returns-in-None-clause-text g c = λ asked asks. absurd (c.in-None.ensures asked asks)
+
+pub returns-in-None-clause-status : goal.returns-in-None-clause-status
+returns-in-None-clause-status g c =
     is_status (texts c.args.words.now) (g.F.Files.disk c.args.files.now) (g.F.Files.disk c.do_words-outcome.new.files) (g.O.Sink.output c.args.out.now)
     (g.O.Sink.output c.do_words-outcome.new.out) (g.R.Sink.output c.args.report.now) (g.R.Sink.output c.tell.new.report) c.tell.result c.do_words-outcome.result c.do_words-outcome.ensures c.tell.ensures
 
-pub returns-clause-run : goal.returns-clause-run
-returns-clause-run g c =
+pub returns-in-None-clause-run : goal.returns-in-None-clause-run
+returns-in-None-clause-run g c =
     is_for_run (g.R.Sink.output c.args.report.now) (g.R.Sink.output c.tell.new.report) c.tell.result c.do_words-outcome.result c.do_words-outcome.ensures c.tell.ensures
 
-pub returns-clause-words : goal.returns-clause-words
-returns-clause-words g c =
-    is_for_words (g.R.Sink.output c.args.report.now) (g.R.Sink.output c.tell.new.report) c.tell.result c.do_words-outcome.result c.do_words-outcome.ensures c.tell.ensures
+pub returns-in-None-clause-words : goal.returns-in-None-clause-words
+returns-in-None-clause-words g c =
+    is_for_words (g.R.Sink.output c.args.report.now) (g.R.Sink.output c.tell.new.report) c.tell.result c.do_words-outcome.result c.do_words-outcome.ensures c.tell.ensures c.in-None.ensures
 
-pub returns-clause-read : goal.returns-clause-read
-returns-clause-read g c =
+pub returns-in-None-clause-read : goal.returns-in-None-clause-read
+returns-in-None-clause-read g c =
     is_for_read (g.R.Sink.output c.args.report.now) (g.R.Sink.output c.tell.new.report) c.tell.result c.do_words-outcome.result c.do_words-outcome.ensures c.tell.ensures
 
-pub returns-clause-malformed : goal.returns-clause-malformed
-returns-clause-malformed g c =
+pub returns-in-None-clause-malformed : goal.returns-in-None-clause-malformed
+returns-in-None-clause-malformed g c =
     is_for_bytes (g.R.Sink.output c.args.report.now) (g.R.Sink.output c.tell.new.report) c.tell.result c.do_words-outcome.result c.do_words-outcome.ensures c.tell.ensures _ (omega arith) (omega arith) (λ e. omega arith)
 
-pub returns-clause-version : goal.returns-clause-version
-returns-clause-version g c =
+pub returns-in-None-clause-version : goal.returns-in-None-clause-version
+returns-in-None-clause-version g c =
     is_for_bytes (g.R.Sink.output c.args.report.now) (g.R.Sink.output c.tell.new.report) c.tell.result c.do_words-outcome.result c.do_words-outcome.ensures c.tell.ensures _ (omega arith) (omega arith) (λ e. omega arith)
 
-pub returns-clause-limit : goal.returns-clause-limit
-returns-clause-limit g c =
+pub returns-in-None-clause-limit : goal.returns-in-None-clause-limit
+returns-in-None-clause-limit g c =
     is_for_limit (g.R.Sink.output c.args.report.now) (g.R.Sink.output c.tell.new.report) c.tell.result c.do_words-outcome.result c.do_words-outcome.ensures c.tell.ensures
 
-pub returns-clause-unsupported : goal.returns-clause-unsupported
-returns-clause-unsupported g c =
+pub returns-in-None-clause-unsupported : goal.returns-in-None-clause-unsupported
+returns-in-None-clause-unsupported g c =
     is_for_bytes (g.R.Sink.output c.args.report.now) (g.R.Sink.output c.tell.new.report) c.tell.result c.do_words-outcome.result c.do_words-outcome.ensures c.tell.ensures _ (omega arith) (omega arith) (λ e. omega arith)
 
-pub returns-clause-link : goal.returns-clause-link
-returns-clause-link g c =
+pub returns-in-None-clause-link : goal.returns-in-None-clause-link
+returns-in-None-clause-link g c =
     is_for_link (g.R.Sink.output c.args.report.now) (g.R.Sink.output c.tell.new.report) c.tell.result c.do_words-outcome.result c.do_words-outcome.ensures c.tell.ensures
 
-pub returns-clause-check : goal.returns-clause-check
-returns-clause-check g c =
+pub returns-in-None-clause-check : goal.returns-in-None-clause-check
+returns-in-None-clause-check g c =
     is_for_check (g.R.Sink.output c.args.report.now) (g.R.Sink.output c.tell.new.report) c.tell.result c.do_words-outcome.result c.do_words-outcome.ensures c.tell.ensures
 
-pub returns-clause-fault : goal.returns-clause-fault
-returns-clause-fault g c =
+pub returns-in-None-clause-fault : goal.returns-in-None-clause-fault
+returns-in-None-clause-fault g c =
     is_for_fault (texts c.args.words.now) (g.F.Files.disk c.args.files.now) (g.F.Files.disk c.do_words-outcome.new.files) (g.O.Sink.output c.args.out.now)
     (g.O.Sink.output c.do_words-outcome.new.out) (g.R.Sink.output c.args.report.now) (g.R.Sink.output c.tell.new.report) c.tell.result
-    (is_for_run (g.R.Sink.output c.args.report.now) (g.R.Sink.output c.tell.new.report) c.tell.result c.do_words-outcome.result c.do_words-outcome.ensures c.tell.ensures)
+    (run_only (g.R.Sink.output c.args.report.now) (g.R.Sink.output c.tell.new.report) c.tell.result c.do_words-outcome.result c.do_words-outcome.ensures c.tell.ensures)
 
-pub returns-clause-most_held : goal.returns-clause-most_held
-returns-clause-most_held g c =
+pub returns-in-None-clause-most_held : goal.returns-in-None-clause-most_held
+returns-in-None-clause-most_held g c =
     reports_most_held (texts c.args.words.now) (g.F.Files.disk c.args.files.now) (g.F.Files.disk c.do_words-outcome.new.files) (g.O.Sink.output c.args.out.now)
     (g.O.Sink.output c.do_words-outcome.new.out) (g.R.Sink.output c.args.report.now) (g.R.Sink.output c.tell.new.report) c.law_can_run.ensures
     c.law_most_held.ensures c.tell.result
 
-pub returns-clause-write : goal.returns-clause-write
-returns-clause-write g c =
+pub returns-in-None-clause-write : goal.returns-in-None-clause-write
+returns-in-None-clause-write g c =
     is_for_write (texts c.args.words.now) (g.F.Files.disk c.args.files.now) (g.F.Files.disk c.do_words-outcome.new.files) (g.O.Sink.output c.args.out.now)
     (g.O.Sink.output c.do_words-outcome.new.out) (g.R.Sink.output c.args.report.now) (g.R.Sink.output c.tell.new.report) c.tell.result c.do_words-outcome.result c.do_words-outcome.ensures c.tell.ensures
 
-pub returns-clause-memory : goal.returns-clause-memory
-returns-clause-memory g c =
+pub returns-in-None-clause-memory : goal.returns-in-None-clause-memory
+returns-in-None-clause-memory g c =
     is_for_memory (texts c.args.words.now) (g.F.Files.disk c.args.files.now) (g.F.Files.disk c.do_words-outcome.new.files) (g.O.Sink.output c.args.out.now)
     (g.O.Sink.output c.do_words-outcome.new.out) (g.R.Sink.output c.args.report.now) (g.R.Sink.output c.tell.new.report) c.tell.result c.do_words-outcome.result c.do_words-outcome.ensures c.tell.ensures
 
-pub returns-clause-faultless : goal.returns-clause-faultless
-returns-clause-faultless g c =
+pub returns-in-None-clause-faultless : goal.returns-in-None-clause-faultless
+returns-in-None-clause-faultless g c =
     is_faultless (texts c.args.words.now) (g.F.Files.disk c.args.files.now) (g.F.Files.disk c.do_words-outcome.new.files) (g.O.Sink.output c.args.out.now)
     (g.O.Sink.output c.do_words-outcome.new.out) (g.R.Sink.output c.args.report.now) (g.R.Sink.output c.tell.new.report) c.tell.result c.do_words-outcome.result c.do_words-outcome.ensures c.tell.ensures
 
-pub returns-clause-silent : goal.returns-clause-silent
-returns-clause-silent g c =
+pub returns-in-None-clause-silent : goal.returns-in-None-clause-silent
+returns-in-None-clause-silent g c =
     is_silent (texts c.args.words.now) (g.F.Files.disk c.args.files.now) (g.F.Files.disk c.do_words-outcome.new.files) (g.O.Sink.output c.args.out.now)
     (g.O.Sink.output c.do_words-outcome.new.out) (g.R.Sink.output c.args.report.now) (g.R.Sink.output c.tell.new.report) c.tell.result c.do_words-outcome.result c.do_words-outcome.ensures c.tell.ensures
 
-pub returns-clause-reads : goal.returns-clause-reads
-returns-clause-reads g c =
+pub returns-in-None-clause-reads : goal.returns-in-None-clause-reads
+returns-in-None-clause-reads g c =
     only_reads (texts c.args.words.now) (g.F.Files.disk c.args.files.now) (g.F.Files.disk c.do_words-outcome.new.files) (g.O.Sink.output c.args.out.now)
     (g.O.Sink.output c.do_words-outcome.new.out) (g.R.Sink.output c.args.report.now) (g.R.Sink.output c.tell.new.report) c.tell.result c.do_words-outcome.result c.do_words-outcome.ensures

@@ -6,33 +6,33 @@ use fm_base::NoMemory;
 use std::alloc::Global;
 use std::test::Fail;
 
-// The words, a space between each two, and the values of the job that they ask for, or nothing.
+// The words, a `|` between each two, and the values of the job that they ask for, or nothing.
 const CASES: [(&str, &str); 22] = [
-    ("--out d --main M M.class", "d M M.class"),
-    ("--main M --out d M.class", "d M M.class"),
-    ("M.class --main M --out d", "d M M.class"),
+    ("--out|d|--main|M|M.class", "d M M.class"),
+    ("--main|M|--out|d|M.class", "d M M.class"),
+    ("M.class|--main|M|--out|d", "d M M.class"),
     (
-        "A.class --out d B.class --main M C.class",
+        "A.class|--out|d|B.class|--main|M|C.class",
         "d M A.class B.class C.class",
     ),
-    ("--out=d --main=M M.class", "d M M.class"),
-    ("--out d --main M -- M.class", "d M M.class"),
-    ("--out d --main M -- --x -", "d M --x -"),
-    ("--out - --main - -", "- - -"),
-    ("--out=-x --main=--y -", "-x --y -"),
+    ("--out=d|--main=M|M.class", "d M M.class"),
+    ("--out|d|--main|M|--|M.class", "d M M.class"),
+    ("--out|d|--main|M|--|--x|-", "d M --x -"),
+    ("--out|-|--main|-|-", "- - -"),
+    ("--out=-x|--main=--y|-", "-x --y -"),
     ("", ""),
-    ("--out d M.class", ""),
-    ("--main M M.class", ""),
-    ("--out d --main M", ""),
-    ("--out d --main M --", ""),
-    ("--out d --main M --out e M.class", ""),
-    ("--out d --main M --out d M.class", ""),
-    ("--out d --main M M.class --help", ""),
+    ("--out|d|M.class", ""),
+    ("--main|M|M.class", ""),
+    ("--out|d|--main|M", ""),
+    ("--out|d|--main|M|--", ""),
+    ("--out|d|--main|M|--out|e|M.class", ""),
+    ("--out|d|--main|M|--out|d|M.class", ""),
+    ("--out|d|--main|M|M.class|--help", ""),
     ("--help", ""),
-    ("--out  --main M M.class", ""),
-    ("--out d --main M ", ""),
-    ("--out -x --main M M.class", ""),
-    ("--out d --main M --steps M.class", ""),
+    ("--out||--main|M|M.class", ""),
+    ("--out|d|--main|M|", ""),
+    ("--out|-x|--main|M|M.class", ""),
+    ("--out|d|--main|M|--steps|M.class", ""),
 ];
 
 // The values of a request, a space between each two.
@@ -75,7 +75,7 @@ fn words_are_read_in_the_ways_of_clap(rt: HostRuntime) -> Result<(), Fail> {
 
 // Whether words with a file of a name of `length` letters ask for something.
 fn asks_for_name(alloc: Global, length: u32) -> Result<bool, NoMemory> {
-    let mut words = split_words(alloc, "--out d --main M")?;
+    let mut words = split_words(alloc, "--out|d|--main|M")?;
     let mut name = String::new(alloc);
     for _ in 0..length {
         name.push('M')?;

@@ -3,10 +3,10 @@ use Rattle.std.proofs.lemmas.Result.{IfOk-weaker}
 use Rattle.clap.specs.Words.{Row, app_of}
 use Rattle.clap.specs.Values.{kind_of}
 use Rattle.fm_cli.specs.Words.{texts}
-use Rattle.freeme.specs.FreemeRequest.{HasNoValues, HasValuesOf, job_of}
-use Rattle.freeme.specs.declared.freeme_request.FreemeRequest.{FreemeRequest}
-use Rattle.freeme.proofs.RequestLemmas.{asked_by, faults_are, faulty, matched_are}
-use Rattle.freeme.proofs.freeme_request.request_of.Goals as goal
+use Rattle.fm_cli_requests.specs.FreemeRequest.{HasNoValues, HasValuesOf, job_of}
+use Rattle.fm_cli_requests.specs.declared.freeme_request.FreemeRequest.{FreemeRequest}
+use Rattle.fm_cli_requests.proofs.FreemeRequestLemmas.{asked_by, faults_are, faulty, matched_are}
+use Rattle.fm_cli_requests.proofs.freeme_request.request_of.Goals as goal
 
 pub returns-in-Ok : goal.returns-in-Ok
 returns-in-Ok c =

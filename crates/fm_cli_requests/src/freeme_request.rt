@@ -1,32 +1,34 @@
-// What the words of the command line ask for.
+// What the words of the command line ask freeme for.
 
 ghost use Rattle.std.specs.Prelude.{◌≡◌, false, IfOk, MatchOption};
 ghost use Rattle.clap.specs.Words.{app_of, found_of, rows_of, rule_of};
 ghost use Rattle.fm_cli.specs.Words.{texts};
 ghost use Rattle.fm_cli_requests.specs.Values.{wanted_option_rule};
-ghost use Rattle.freeme.specs.FreemeRequest.{Asks, AskNothing, HasValuesOf, HasNoValues, freeme_command, job_of};
+ghost use Rattle.fm_cli_requests.specs.FreemeRequest.{Asks, AskNoJob, HasValuesOf, HasNoValues, freeme_command, job_of};
 
 #[cfg(test)]
 mod tests;
 
+use crate::values::{are_values, command, files, is_value};
 use clap::error::ErrorKind;
 use clap::{Arg, ArgMatches, Command};
 use fm_base::NoMemory;
-use fm_cli_requests::{are_values, command, files, is_value};
 use std::alloc::Global;
 
-/// The folder to write into, the main class and the files to read, in order, as the words
-/// `--out DIR --main CLASS FILE...` name them.
+/// What the words `--out DIR --main CLASS FILE...` name.
 #[derive(Drop)]
 pub struct FreemeRequest<'a> {
+    /// The folder to write into.
     pub folder: &'a str,
+    /// The main class.
     pub main: &'a str,
+    /// The class files, in order.
     pub files: Vec<&'a str>,
 }
 
-/// What the words ask for, or None where they ask for nothing.
+/// What the words ask for, or None where they aren't of that form.
 pub fn request_of(alloc: Global, words: &[String]) -> Result<Option<FreemeRequest<'_>>, NoMemory>
-    ensures { IfOk result (λ asked. MatchOption asked (AskNothing (texts words.now))
+    ensures { IfOk result (λ asked. MatchOption asked (AskNoJob (texts words.now))
         (λ r. Asks (texts words.now) (job_of r))) }
 {
     let command = freeme_command(alloc)?;

@@ -2,8 +2,8 @@ use Rattle.std.proofs.Common.{[], ◌∷◌, codes}
 use Rattle.clap.specs.Words.{app_of}
 use Rattle.fm_cli_requests.specs.Values.{files_rule, wanted_option_rule}
 use Rattle.fm_cli_requests.proofs.CommandLemmas.{with_one_more}
-use Rattle.freeme.proofs.RequestLemmas.{is_command}
-use Rattle.freeme.proofs.freeme_request.freeme_command.Goals as goal
+use Rattle.fm_cli_requests.proofs.FreemeRequestLemmas.{is_command}
+use Rattle.fm_cli_requests.proofs.freeme_request.freeme_command.Goals as goal
 
 pub returns : goal.returns
 returns c =

@@ -1,5 +1,5 @@
--- What words ask for, by what clap matches in them.
-use Rattle.std.proofs.Common.{◌≡◌, ◌∙◌, ◌<◌, ℕ, true, Option, Some, None, List, [], length, ap, refl, codes}
+-- What words ask freeme for, by what clap matches in them.
+use Rattle.std.proofs.Common.{◌≡◌, ◌∙◌, ◌<◌, ⊎_elim, ℕ, true, Contains, Option, Some, None, List, [], ◌∷◌, length, ap, sym, refl, codes}
 use Rattle.std.specs.Prelude.{◌⊎◌, MatchOption, Result}
 use Rattle.clap.specs.Kinds.{FailsBy, IsAmong}
 use Rattle.clap.specs.declared.error.Error.{Error}
@@ -9,9 +9,13 @@ use Rattle.clap.specs.Words.{App, HasMatchesOf, all_of, fault_of, first_of, foun
 use Rattle.clap.specs.declared.parser.matches.ArgMatches.{ArgMatches}
 use Rattle.fm_cli_requests.specs.Values.{command_with}
 use Rattle.fm_cli_requests.proofs.CommandLemmas.{faults_by, is_fault, matched_by}
+use Rattle.fm_cli_requests.proofs.ProgramTextLemmas.{one_of_two}
 use Rattle.fm_cli_requests.proofs.MatchLemmas.{same_value}
-use Rattle.freeme.specs.FreemeRequest.{AskNothing, Asks, HasNoValues, HasValuesOf, FreemeJob, faults_in, freeme_command, freeme_rules, job_of, matched_in}
-use Rattle.freeme.specs.declared.freeme_request.FreemeRequest.{FreemeRequest}
+use Rattle.fm_cli_requests.specs.ProgramText.{AskForText, text_words}
+use Rattle.fm_cli_requests.specs.declared.program_text.ProgramText.{ProgramText}
+use Rattle.fm_cli_requests.specs.declared.program_text.ProgramText.TheVariants as text
+use Rattle.fm_cli_requests.specs.FreemeRequest.{AskNoJob, Asks, HasNoValues, HasValuesOf, FreemeJob, faults_in, freeme_command, freeme_rules, job_of, matched_in}
+use Rattle.fm_cli_requests.specs.declared.freeme_request.FreemeRequest.{FreemeRequest}
 
 -- the command by its arguments
 pub is_command : (app : App) → app ≡ command_with (codes "freeme") freeme_rules → app ≡ freeme_command
@@ -39,13 +43,47 @@ faults_are app words result = faults_by freeme_command app words result is_free_
 
 -- what the matches hold is what the words ask for
 pub asked_by : (words : List (List ℕ)) (asked : Option FreemeRequest) → faults_in words ≡ [] →
-    MatchOption asked (HasNoValues (matched_in words)) (λ r. HasValuesOf (matched_in words) (job_of r)) → MatchOption asked (AskNothing words) (λ r. Asks words (job_of r))
+    MatchOption asked (HasNoValues (matched_in words)) (λ r. HasValuesOf (matched_in words) (job_of r)) → MatchOption asked (AskNoJob words) (λ r. Asks words (job_of r))
 asked_by words None faultless h = λ job asks. h job asks.values
 asked_by words (Some r) faultless h = record { faultless = faultless; values = h }
 
--- words in which there is a fault ask for nothing
-pub faulty : (words : List (List ℕ)) (kind : ErrorKind) → ¬ (kind ≡ OutOfMemory) → (kind ≡ OutOfMemory) ⊎ IsAmong kind (faults_in words) → AskNothing words
+-- words in which there is a fault ask for no job
+pub faulty : (words : List (List ℕ)) (kind : ErrorKind) → ¬ (kind ≡ OutOfMemory) → (kind ≡ OutOfMemory) ⊎ IsAmong kind (faults_in words) → AskNoJob words
 faulty words kind known fails = λ job asks. is_fault (faults_in words) kind known fails asks.faultless
+
+-- clap finds a fault in each word that asks for a text
+faulty_word : (word : List ℕ) → ¬ (faults_in (word ∷ []) ≡ []) → (asked : List ℕ) → asked ≡ word → ¬ (faults_in (asked ∷ []) ≡ [])
+faulty_word word fault asked is none = fault (rw (sym is) at none)
+
+help_faulty : ¬ (faults_in (codes "--help" ∷ []) ≡ [])
+unfolding faults_in freeme_command
+help_faulty none = cc
+
+short_help_faulty : ¬ (faults_in (codes "-h" ∷ []) ≡ [])
+unfolding faults_in freeme_command
+short_help_faulty none = cc
+
+version_faulty : ¬ (faults_in (codes "--version" ∷ []) ≡ [])
+unfolding faults_in freeme_command
+version_faulty none = cc
+
+short_version_faulty : ¬ (faults_in (codes "-V" ∷ []) ≡ [])
+unfolding faults_in freeme_command
+short_version_faulty none = cc
+
+text_faulty : (asked : ProgramText) (word : List ℕ) → Contains (text_words asked) word → ¬ (faults_in (word ∷ []) ≡ [])
+text_faulty text.Help word among =
+    ⊎_elim (faulty_word (codes "--help") help_faulty word) (faulty_word (codes "-h") short_help_faulty word)
+    (one_of_two (codes "--help") (codes "-h") word among)
+text_faulty text.Version word among =
+    ⊎_elim (faulty_word (codes "--version") version_faulty word) (faulty_word (codes "-V") short_version_faulty word)
+    (one_of_two (codes "--version") (codes "-V") word among)
+
+-- so words that ask for a text ask for no job
+pub text_no_job : (words : List (List ℕ)) (asked : ProgramText) → AskForText words asked → AskNoJob words
+text_no_job [] asked asks = absurd asks
+text_no_job (word ∷ []) asked asks = λ job has. text_faulty asked word asks has.faultless
+text_no_job (word ∷ next ∷ words) asked asks = absurd asks
 
 same_job : (a b : FreemeJob) → a.folder ≡ b.folder → a.main ≡ b.main → a.files ≡ b.files → a ≡ b
 same_job a b folder main files =

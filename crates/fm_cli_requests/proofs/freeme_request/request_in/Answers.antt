@@ -3,8 +3,8 @@ use Rattle.std.specs.List.{AllByRecursion}
 use Rattle.clap.specs.Words.{found_of}
 use Rattle.fm_cli_requests.specs.Values.{IsValue}
 use Rattle.fm_cli_requests.proofs.MatchLemmas.{all_found, all_missing, empty_all, first_found, first_missing, of_texts, some_text, texts_of, untested, untested_all}
-use Rattle.freeme.proofs.freeme_request.request_in.Goals as goal
-use Rattle.freeme.proofs.freeme_request.request_in.Goals.{then-is_empty-via-then-is_empty, then-is_empty-via-else-is_empty+then-not-is_value, then-is_empty-via-else-is_empty+else-not-is_value+then-not-is_value-2, then-is_empty-via-else-is_empty+else-not-is_value+else-not-is_value-2+then-not-are_values}
+use Rattle.fm_cli_requests.proofs.freeme_request.request_in.Goals as goal
+use Rattle.fm_cli_requests.proofs.freeme_request.request_in.Goals.{then-is_empty-via-then-is_empty, then-is_empty-via-else-is_empty+then-not-is_value, then-is_empty-via-else-is_empty+else-not-is_value+then-not-is_value-2, then-is_empty-via-else-is_empty+else-not-is_value+else-not-is_value-2+then-not-are_values}
 
 pub returns-in_default : goal.returns-in_default
 returns-in_default c = λ job h.

@@ -1,25 +1,17 @@
--- What the words of the command line ask for.
+-- What the words of the command line ask freeme for.
 use Rattle.std.specs.Prelude.{◌≡◌, ℕ, ◌<◌, List, [], ◌∷◌, Some, length, map, codes}
 use Rattle.std.specs.List.{AllByRecursion}
 use Rattle.clap.specs.Words.{App, Kinds, Row, Rule, all_of, fault_of, first_of, matches_of}
-use Rattle.fm_cli.specs.Encoding.{modified}
-use Rattle.fm_load.specs.Given.{Given}
+use Rattle.fm_cli_requests.specs.ProgramText.{AskForNoText, AskForText}
 use Rattle.fm_cli_requests.specs.Values.{IsValue, command_with, files_rule, wanted_option_rule}
-use Rattle.freeme.specs.declared.freeme_request.FreemeRequest.{FreemeRequest}
+use Rattle.fm_cli_requests.specs.declared.program_text.ProgramText.{ProgramText}
+use Rattle.fm_cli_requests.specs.declared.freeme_request.FreemeRequest.{FreemeRequest}
 
 -- the folder to write into, the main class, and the files to read in order
 pub record FreemeJob : Type 0 where
   pub folder : List ℕ
   pub main : List ℕ
   pub files : List (List ℕ)
-
--- the main class as class files spell it
-abbrev pub main_name : FreemeJob → List ℕ
-main_name job = modified job.main
-
--- its class files and its main class
-abbrev pub given_of : FreemeJob → Given
-given_of job = record { files = job.files; main = main_name job }
 
 -- what may be among the words: two options and the files
 abbrev pub freeme_rules : List Rule
@@ -56,9 +48,20 @@ pub record Asks (words : List (List ℕ)) (job : FreemeJob) : Type 0 where
   pub faultless : faults_in words ≡ []
   pub values : HasValuesOf (matched_in words) job
 
--- the words are of no such form
-abbrev pub AskNothing : List (List ℕ) → Type 0
-AskNothing words = (job : FreemeJob) → ¬ Asks words job
+-- the words ask for no job
+abbrev pub AskNoJob : List (List ℕ) → Type 0
+AskNoJob words = (job : FreemeJob) → ¬ Asks words job
+
+-- the words ask for a text, and so for no job
+pub record AskOnlyForText (words : List (List ℕ)) : Type 0 where
+  pub asked : ProgramText
+  pub asks : AskForText words asked
+  pub no_job : AskNoJob words
+
+-- the words ask for no text and for no job
+pub record AskNothing (words : List (List ℕ)) : Type 0 where
+  pub no_text : AskForNoText words
+  pub no_job : AskNoJob words
 
 -- the job of a request
 abbrev pub job_of : FreemeRequest → FreemeJob

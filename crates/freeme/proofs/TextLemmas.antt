@@ -1,0 +1,115 @@
+-- What each clause says of a call for a text.
+use Rattle.std.proofs.Common.{◌≡◌, ◌≢◌, ◌<◌, ◌≤◌, ◌⊎◌, ℕ, inl, inr, List, Contains, refl, sym, ap, ◌∙◌, subst, arith}
+use Rattle.fm_base.proofs.ContainsFacts.{unlike_elements}
+use Rattle.fm_files.specs.Files.{Bytes, Disk}
+use Rattle.fm_files.specs.Sink.{Output}
+use Rattle.fm_cli.proofs.LineLemmas.{put_fails, told_among}
+use Rattle.fm_cli.proofs.OutsideLemmas.{no_fault_where_same}
+use Rattle.fm_cli.specs.Line.{Tells}
+use Rattle.fm_cli.specs.Status.{ComesExactly}
+use Rattle.fm_cli.specs.declared.status.TheConstants.{DONE, WORDS, READ, LIMIT, LINK, CHECK, WRITE, OUT_OF_MEMORY}
+use Rattle.fm_cli_requests.proofs.FreemeRequestLemmas.{text_no_job}
+use Rattle.fm_cli_requests.proofs.ProgramTextLemmas.{one_text}
+use Rattle.fm_cli_requests.specs.FreemeRequest.{FreemeJob, Asks, AskNoJob, AskOnlyForText}
+use Rattle.fm_cli_requests.specs.ProgramText.{AskForText}
+use Rattle.fm_cli_requests.specs.declared.program_text.ProgramText.{ProgramText}
+use Rattle.fm_load.specs.Causes.{FailsARead, FailsAWrite, IsMissing}
+use Rattle.freeme.proofs.CauseLemmas.{faultless_statuses}
+use Rattle.freeme.specs.Causes.{AskFor, AskForGiven, ChangesOnly, IsFaultless, IsForBytes, IsForCheck, IsForDone, IsForLimit, IsForLink, IsForMemory, IsForRead, IsForRewrite, IsForText, IsForWords, IsForWrite, IsStatus, KeepsContents}
+use Rattle.freeme.specs.TopCall.{IsTextPut, IsTopCall, text_bytes}
+
+module _ (words : List Bytes) (files : Disk) (before after : Output) (result : ℕ) (asked : ProgramText) (asks : AskForText words asked) (tells : Tells (text_bytes asked) DONE before after result) where
+  no_job : AskNoJob words
+  no_job = text_no_job words asked asks
+
+  only_text : AskOnlyForText words
+  only_text = record { asked = asked; asks = asks; no_job = no_job }
+
+  none_for : {P : FreemeJob → Type 0} → ¬ AskFor words P
+  none_for (job, (has, holds)) = no_job job has
+
+  -- the status is that of what is done, of a write or of memory
+  apart : (status : ℕ) → DONE ≢ status → WRITE ≢ status → OUT_OF_MEMORY ≢ status → result ≢ status
+  apart status done write memory is = go tells where
+    go : Tells (text_bytes asked) DONE before after result → ⊥
+    go (inl own) = done (sym own.0 ∙ is)
+    go (inr (inl failed)) = write (sym failed.0 ∙ is)
+    go (inr (inr lacking)) = memory (sym lacking.0 ∙ is)
+
+  never : {Said Cause : Type 0} {instead : List ℕ} (status : ℕ) → DONE ≢ status → WRITE ≢ status → OUT_OF_MEMORY ≢ status → ¬ Cause
+      → ComesExactly status instead result Said Cause
+  never status done write memory none = record { only = λ is. absurd (apart status done write memory is); there = λ cause. absurd (none cause) }
+
+  -- no read and no write failed
+  no_read : ¬ FailsARead files files
+  no_read (name, rose) = omega arith
+
+  no_write : ¬ FailsAWrite files files
+  no_write (name, rose) = omega arith
+
+  put : IsTextPut asked files files before after result
+  put = record { kept = refl; tells = tells }
+
+  pub text_whole : IsTopCall words files files before after result
+  text_whole = inl (record { asked = asked; asks = asks; put = put })
+
+  pub text_status : IsStatus result
+  text_status = told_among (text_bytes asked) DONE before after result tells _ (0, omega arith, refl) (12, omega arith, refl) (13, omega arith, refl)
+
+  pub text_done : IsForDone words files files before after result
+  text_done = record { only = λ is. inr only_text; there = λ cause. absurd (none_for cause) }
+
+  pub text_text : IsForText words files files before after result
+  text_text other also = let P : ProgramText → Type 0 = λ t. IsTextPut t files files before after result in subst P (one_text words asked other asks also) put
+
+  pub text_words : IsForWords words files files before after result
+  text_words = never WORDS (λ e. omega arith) (λ e. omega arith) (λ e. omega arith) (λ nothing. nothing.no_text asked asks)
+
+  pub text_read : IsForRead words files files before after result
+  text_read = never READ (λ e. omega arith) (λ e. omega arith) (λ e. omega arith) none where
+    none : ¬ (FailsARead files files ⊎ AskForGiven words (IsMissing files))
+    none (inl fault) = no_read fault
+    none (inr missing) = none_for missing
+
+  pub text_of_bytes : (status : ℕ) → 66 ≤ status → status ≤ 69 → IsForBytes status words files files before after result
+  text_of_bytes status low high = never status (λ e. omega arith) (λ e. omega arith) (λ e. omega arith) none_for
+
+  pub text_limit : IsForLimit words files files before after result
+  text_limit = record {
+    only = λ is. absurd (apart LIMIT (λ e. omega arith) (λ e. omega arith) (λ e. omega arith) is);
+    many = λ cause. absurd (none_for cause);
+    long = λ cause. absurd (none_for cause);
+    bytes = λ cause. absurd (none_for cause);
+  }
+
+  pub text_link : IsForLink words files files before after result
+  text_link = never LINK (λ e. omega arith) (λ e. omega arith) (λ e. omega arith) none_for
+
+  pub text_check : IsForCheck words files files before after result
+  text_check = never CHECK (λ e. omega arith) (λ e. omega arith) (λ e. omega arith) none_for
+
+  pub text_rewrite : (status : ℕ) → 72 ≤ status → status ≤ 74 → IsForRewrite status words files files before after result
+  text_rewrite status low high = never status (λ e. omega arith) (λ e. omega arith) (λ e. omega arith) none_for
+
+  pub text_write : IsForWrite words files files before after result
+  text_write = record {
+    only = λ is. inr (inr only_text);
+    put = put_fails (text_bytes asked) DONE before after result tells;
+    write = λ cause. absurd (no_write cause);
+  }
+
+  pub text_memory : IsForMemory words files files before after result
+  text_memory is = inr (inr only_text)
+
+  pub text_faultless : IsFaultless files files before after result
+  text_faultless among = (no_fault_where_same files files refl, go tells) where
+    go : Tells (text_bytes asked) DONE before after result → after.faults ≡ before.faults
+    go (inl own) = ap (λ (o : Output). o.faults) own.1
+    go (inr (inl failed)) = absurd (unlike_elements WRITE faultless_statuses refl result among failed.0)
+    go (inr (inr lacking)) = ap (λ (o : Output). o.faults) lacking.1
+
+  pub text_kept : KeepsContents files files result
+  text_kept among = refl
+
+  pub text_changes : ChangesOnly words files files
+  text_changes = record { asked = λ job has. absurd (no_job job has); unasked = λ none. refl }

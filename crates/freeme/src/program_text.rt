@@ -1,0 +1,49 @@
+// The texts of freeme that one word asks for.
+
+ghost use Rattle.std.specs.Prelude.{◌≡◌};
+ghost use Rattle.fm_cli.specs.Line.{Tells};
+ghost use Rattle.fm_cli.specs.declared.status.TheConstants.{DONE};
+ghost use Rattle.freeme.specs.TopCall.{text_bytes};
+
+use fm_cli::{put_line, status};
+use fm_cli_requests::ProgramText;
+use fm_files::Sink;
+use std::alloc::Global;
+
+/// The help, with its line ends.
+pub const HELP: &str = "\
+freeme writes the class files of a program again, with calls that free what dies young.
+
+usage: freeme --out DIR --main CLASS FILE...
+
+  --out DIR      write each class as DIR/NAME.class
+  --main CLASS   the class of the main method, with / between the parts of its name
+  FILE...        the class files of the program
+  -h, --help     print this help; taken as the only word
+  -V, --version  print the version; taken as the only word
+
+status: 0 done, 64 these words, 65 a read failed, 66 to 69 a class file, 70 links, 71 types,
+        72 to 74 no rewriting, 75 a write failed, 76 no memory
+
+example: freeme --out freed --main Main classes/*.class
+";
+
+/// The version, with its line end.
+pub const VERSION_LINE: &str = "freeme 0.1.0\n";
+
+/// Puts the text, and returns the status of what is done, or that of the put.
+pub fn put_text<S: Sink>(alloc: Global, asked: ProgramText, out: &mut S) -> u8
+    ensures { Tells (text_bytes asked) DONE (S.output out.old) (S.output out.new) result }
+{
+    put_line(alloc, out, text_of(asked).as_bytes(), status::DONE)
+}
+
+// The text.
+fn text_of(asked: ProgramText) -> &'static str
+    ensures { result.now ≡ text_bytes asked }
+{
+    match asked {
+        ProgramText::Help => HELP,
+        ProgramText::Version => VERSION_LINE,
+    }
+}
