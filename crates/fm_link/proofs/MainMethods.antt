@@ -12,10 +12,11 @@ use Rattle.fm_code.specs.declared.class_file.ClassDef.{ClassDef}
 use Rattle.fm_link_names.specs.declared.given.GivenFile.{GivenFile}
 use Rattle.fm_link_names.specs.inner.Numbering.{texts_in}
 use Rattle.fm_link_supers.proofs.Downwards.{or_true, same_number, walk_within}
+use Rattle.fm_link_names.proofs.PlaceLemmas.{position_from-map}
 use Rattle.fm_link_members.proofs.FirstOnes.{first_from-is, first_is_one, position-is}
 use Rattle.fm_link_members.proofs.NearestLemmas.{first_found-cons, widened}
 use Rattle.fm_link_supers.proofs.ParentTables.{row_within}
-use Rattle.fm_link_members.proofs.SectionLemmas.{is_named as is_member_named, own_method-position, position_from-append, position_from-map}
+use Rattle.fm_link_members.proofs.SectionLemmas.{is_named as is_member_named, own_method-position, position_from-append}
 use Rattle.fm_link_members.proofs.SectionRows.{AreSections-methods}
 use Rattle.fm_link_members.specs.declared.members.MemberRow.{MemberRow}
 use Rattle.fm_link_members.specs.declared.members.Members.{Members}

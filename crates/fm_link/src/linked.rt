@@ -66,7 +66,7 @@ pub(crate) fn linked_classes<'w>(
         (texts_in ready.entry.texts.now)) }
 {
     let texts = ready.texts.texts.as_slice();
-    let numbers = ClassNumbers::of(alloc, ready.classes)?;
+    let numbers = ClassNumbers::of(alloc, ready.texts.key(), ready.classes)?;
     refuse_missing_classes(alloc, &numbers, ready.texts, ready.files)?;
     let named = classes_by_text(alloc, &numbers, texts)?;
     let by_text = named.as_slice();

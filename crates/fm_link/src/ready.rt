@@ -8,7 +8,7 @@ ghost use Rattle.fm_link_refusals.specs.Refused.{Refuses};
 
 use fm_code::ClassDef;
 use fm_link_members::{Members, fields_of, methods_of};
-use fm_link_names::{GivenFile, Texts, declared_classes, given_files, shared_texts};
+use fm_link_names::{GivenFile, NameKey, Texts, declared_classes, given_files, shared_texts};
 use fm_link_refusals::{LinkFail, refuse_built_ins, refuse_duplicates};
 use fm_world::DeclaredClass;
 use std::alloc::Global;
@@ -45,7 +45,7 @@ pub(crate) fn numbered_files<'a>(
 {
     refuse_duplicates(alloc, given)?;
     refuse_built_ins(alloc, given)?;
-    let mut texts = Texts::new(alloc);
+    let mut texts = Texts::new(alloc, NameKey::of(given));
     let numbered = given_files(alloc, &mut texts, given)?;
     let files = numbered.as_slice();
     let fields = fields_of(alloc, &mut texts, files)?;

@@ -13,6 +13,7 @@ use Rattle.fm_world.specs.Members.{fields_from, fields_of, methods_from, methods
 use Rattle.fm_world.specs.declared.declarations.DeclaredClass.{DeclaredClass}
 use Rattle.fm_world.specs.declared.declarations.DeclaredField.{DeclaredField}
 use Rattle.fm_world.specs.declared.declarations.DeclaredMethod.{DeclaredMethod}
+use Rattle.fm_link_names.proofs.PlaceLemmas.{position_from-map}
 use Rattle.fm_link_members.specs.inner.MemberRows.{Owned, field_alike, method_alike}
 
 -- the class's own member of the name and the descriptor, with flags that pass
@@ -43,13 +44,6 @@ pub position_from-none : {A B : Type 0} (f : A → B) (p : B → Bool) (i : ℕ)
 position_from-none f p i [] none = refl
 position_from-none f p i (x ∷ xs) none =
     ap (λ b. cond b (Some i) (position_from p (i + 1) (map f xs))) (none x) ∙ position_from-none f p (i + 1) xs none
-
-pub position_from-map : {A B : Type 0} (f : A → B) (p : B → Bool) (q : A → Bool) (i : ℕ) (xs : List A) → ((x : A) → p (f x) ≡ q x)
-    → position_from p i (map f xs) ≡ position_from q i xs
-position_from-map f p q i [] same = refl
-position_from-map f p q i (x ∷ xs) same =
-    ap (λ b. cond b (Some i) (position_from p (i + 1) (map f xs))) (same x)
-    ∙ ap (λ o. cond (q x) (Some i) o) (position_from-map f p q (i + 1) xs same)
 
 pub position_from-moved : {A : Type 0} (q : A → Bool) (a i j : ℕ) (xs : List A) → j ≡ a + i
     → option_map (λ k. a + k) (position_from q i xs) ≡ position_from q j xs

@@ -3,24 +3,30 @@
 ghost use Rattle.std.specs.Prelude.{◌≡◌, IfOk};
 ghost use Rattle.fm_link_names.specs.inner.ClassNumbering.{number_in, NumbersClasses};
 
+use crate::name_key::NameKey;
 use crate::places::number_of;
 use fm_base::NoMemory;
 use fm_world::DeclaredClass;
+use indexmap::IndexMap;
 use std::alloc::Global;
-use std::collections::BTreeMap;
 
 /// For each name of a class the number of the first class that has it.
 #[derive(Drop)]
 pub struct ClassNumbers<'a> {
-    numbers: BTreeMap<&'a [u8], u32>,
+    numbers: IndexMap<&'a [u8], u32, NameKey>,
 }
 
 impl<'a> ClassNumbers<'a> {
-    /// The numbers of these classes. `NoMemory` where memory runs out.
-    pub fn of(alloc: Global, classes: &'a [DeclaredClass]) -> Result<ClassNumbers<'a>, NoMemory>
+    /// The numbers of these classes, whose names are hashed by this key. `NoMemory` where memory runs
+    /// out.
+    pub fn of(
+        alloc: Global,
+        key: NameKey,
+        classes: &'a [DeclaredClass],
+    ) -> Result<ClassNumbers<'a>, NoMemory>
         ensures { IfOk result (λ found. NumbersClasses classes.entry.now found.numbers) }
     {
-        let mut numbers = BTreeMap::new(alloc);
+        let mut numbers = IndexMap::with_hasher(alloc, key);
         let mut left = classes.len();
         while left > 0 {
             left -= 1;

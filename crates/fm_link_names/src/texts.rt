@@ -1,7 +1,7 @@
 // The texts of all pools and of the built-in classes by number, each text once.
 //
 // Members, classes and descriptors go by these numbers, so that no text is compared once for each
-// entry that names it. The texts are in a balanced tree: no choice of texts makes it slow.
+// entry that names it. A text is numbered when it is first seen.
 
 ghost use Rattle.std.specs.Prelude.{
   ◌≡◌,
@@ -15,6 +15,7 @@ ghost use Rattle.std.specs.Prelude.{
 };
 ghost use Rattle.std.specs.List.{slice_index_or};
 ghost use Rattle.std.specs.Str.{bytes_eq};
+ghost use Rattle.indexmap.specs.IndexSet.{hasher_of};
 ghost use Rattle.fm_code.specs.ConstantPool.{utf8_at};
 ghost use Rattle.fm_link_names.specs.inner.Numbering.{
   entry_text,
@@ -25,61 +26,49 @@ ghost use Rattle.fm_link_names.specs.inner.Numbering.{
   IsNumberOf,
 };
 
-use crate::places::number_of;
+use crate::name_key::NameKey;
 use fm_base::NoMemory;
 use fm_code::Entry;
+use indexmap::IndexSet;
 use std::alloc::Global;
-use std::collections::BTreeMap;
 
-/// Texts by number, and numbers by text.
+/// Texts by number, and numbers by text. The number of a text is its index in the set.
 #[derive(Drop)]
 pub struct Texts<'a> {
-    pub numbers: BTreeMap<&'a [u8], u32>,
-    pub texts: Vec<&'a [u8]>,
+    pub texts: IndexSet<&'a [u8], NameKey>,
 }
 
 impl<'a> Texts<'a> {
-    /// No texts.
-    pub fn new(alloc: Global) -> Texts<'a>
+    /// No texts. They are going to be hashed by this key.
+    pub fn new(alloc: Global, key: NameKey) -> Texts<'a>
         ensures are { AreTexts result }
         ensures none { texts_in result ≡ [] }
     {
         Texts {
-            numbers: BTreeMap::new(alloc),
-            texts: Vec::new(alloc),
+            texts: IndexSet::with_hasher(alloc, key),
         }
     }
 
-    /// The number of a text, which is new where the text is. `NoMemory` where memory runs out.
+    /// The key by which texts are hashed.
+    pub fn key(&self) -> NameKey
+        ensures { result ≡ hasher_of self.now.texts }
+    {
+        *self.texts.hasher()
+    }
+
+    /// The number of a text, which is new where the text is. `NoMemory` where memory runs out, or
+    /// where as many texts have numbers as there are numbers of 32 bits.
     pub fn add(&mut self, text: &'a [u8]) -> Result<u32, NoMemory>
         requires { AreTexts self.old }
         ensures are { AreTexts self.new }
         ensures extends { Extends (texts_in self.old) (texts_in self.new) }
         ensures number { IfOk result (λ n. slice_get (texts_in self.new) n ≡ Some text.entry.now) }
     {
-        match self.number(text) {
-            Some(number) => Ok(number),
-            None => self.add_new(text),
+        if self.texts.len() > u32::MAX as usize {
+            return Err(NoMemory);
         }
-    }
-
-    // The number of a text that has none yet.
-    fn add_new(&mut self, text: &'a [u8]) -> Result<u32, NoMemory>
-        requires are { AreTexts self.old }
-        requires is_new { position (bytes_eq text.now) (texts_in self.old) ≡ None }
-        ensures are { AreTexts self.new }
-        ensures extends { Extends (texts_in self.old) (texts_in self.new) }
-        ensures number { IfOk result (λ n. slice_get (texts_in self.new) n ≡ Some text.entry.now) }
-    {
-        let number = number_of(self.texts.len())?;
-        self.texts.push(text)?;
-        match self.numbers.insert(text, number) {
-            Ok(_) => Ok(number),
-            Err(_) => {
-                let _ = self.texts.pop();
-                Err(NoMemory)
-            }
-        }
+        let (index, _) = self.texts.insert_full(text)?;
+        Ok(index as u32)
     }
 
     /// The number of a text that has one.
@@ -87,14 +76,17 @@ impl<'a> Texts<'a> {
         requires { AreTexts self.now }
         ensures { result ≡ position (bytes_eq text.now) (texts_in self.now) }
     {
-        self.numbers.get(text).copied()
+        match self.texts.get_index_of(text) {
+            Some(index) => Some(index as u32),
+            None => None,
+        }
     }
 
     /// The text of a number; a number that none has stands for the empty text.
     pub fn text(&self, number: u32) -> &'a [u8]
         ensures { result.now ≡ text_of (texts_in self.now) number }
     {
-        match self.texts.get(number as usize) {
+        match self.texts.get_index(number as usize) {
             Some(text) => *text,
             None => &[],
         }

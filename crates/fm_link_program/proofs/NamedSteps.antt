@@ -89,7 +89,7 @@ modified_texts texts read given files naming spelled are read_is naming_is =
 -- what entries are resolved by, where the texts were read from the tables
 pub is_resolving : (r : Resolving) (given : List ClassDef) (read : List (Bor (List ℕ))) → IsLinking (classes_of given) r.linking
     → r.by_text.now ≡ map (type_of_name (classes_of given)) (texts_in r.linking.texts.now)
-    → AreNumbered r.types.now.numbers r.types.now.types.items → read ≡ r.linking.texts.now.texts.items
+    → AreNumbered r.types.now.numbers r.types.now.types.items → read ≡ r.linking.texts.now.texts.keys
     → text_numbers.AreNumbered (lent read) r.literals.now.units.items r.literals.now.by_text.items → IsResolving r
 is_resolving r given read linked types numbers read_is texts =
     let same = sym linked.hierarchy.classes_are in

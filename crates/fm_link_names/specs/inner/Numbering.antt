@@ -1,11 +1,7 @@
 -- The texts by number, and the numbers of texts.
-use Rattle.std.specs.Prelude.{◌≡◌, ℕ, List, [], map, position, Option, Some, None, slice_get}
+use Rattle.std.specs.Prelude.{◌≡◌, ◌≤◌, ◌^◌, ℕ, List, map, length, Option, Some, None, slice_get, []}
 use Rattle.std.specs.Borrow.{Bor}
-use Rattle.std.specs.BTreeMap.{BTreeMap, get_by}
-use Rattle.std.specs.Cmp.Lexicographic.{slice_cmp}
 use Rattle.std.specs.List.{slice_index_or}
-use Rattle.std.specs.Ordering.{nat_cmp}
-use Rattle.std.specs.Str.{bytes_eq}
 use Rattle.fm_code.specs.declared.constant_pool.Entry.{Entry}
 use Rattle.fm_code.specs.declared.constant_pool.Entry.TheVariants as entry
 use Rattle.fm_link_names.specs.declared.texts.Texts.{Texts}
@@ -16,16 +12,12 @@ lent texts = map (λ (b : Bor (List ℕ)). b.now) texts
 
 -- the texts by number
 abbrev pub texts_in : Texts → List (List ℕ)
-texts_in t = lent t.texts.items
+texts_in t = lent t.texts.keys
 
--- what the map has at a text
-abbrev pub number_of_text : BTreeMap (Bor (List ℕ)) ℕ → List ℕ → Option ℕ
-number_of_text numbers text = get_by (λ (k : Bor (List ℕ)). slice_cmp nat_cmp text k.now) numbers
-
--- each text has the number of its place, and is at no other
+-- each text is at one place only, and its place is a number of 32 bits
 pub record AreTexts (t : Texts) : Type 0 where
-  pub numbered : (text : List ℕ) → number_of_text t.numbers text ≡ position (bytes_eq text) (texts_in t)
   pub once : (m n : ℕ) (text : List ℕ) → slice_get (texts_in t) m ≡ Some text → slice_get (texts_in t) n ≡ Some text → m ≡ n
+  pub fits : length t.texts.keys ≤ 2 ^ 32
 
 -- the text of a number, the empty one past the end
 abbrev pub text_of : List (List ℕ) → ℕ → List ℕ

@@ -36,7 +36,7 @@ returns-in_err-refuse_parents-clause-refuses c =
     let texts = texts_in c.args.ready.texts.now in
     let named = named-made given texts (lent c.as_slice-texts.result.now) c.args.ready.files.now c.args.ready.classes.now c.in_ok-numbers.numbers
     c.as_slice-by_text.result.now c.in_ok-named.named.items c.in_ok-ancestors.ancestors c.requires.classes_are c.requires.files_are
-    c.in_ok-numbers.ensures (ap lent c.as_slice-texts.ensures.value) c.as_slice-by_text.ensures.value c.in_ok-named.ensures c.in_ok-ancestors.ensures in
+    c.in_ok-numbers.ensures (ap lent c.as_slice-texts.ensures.keys) c.as_slice-by_text.ensures.value c.in_ok-named.ensures c.in_ok-ancestors.ensures in
     let p = err_from_is_err_and c.from_residual-in_err-refuse_parents.result c.from_residual-in_err-refuse_parents.ensures.1 in
     rw (p.1, p.2)
     (first_after (refused_missing_classes given) (refused_parents given) (refusal_of c.in_err-refuse_parents.field-0.0)
@@ -50,7 +50,7 @@ returns-clause-refuses c =
     let texts = texts_in c.args.ready.texts.now in
     let named = named-made given texts (lent c.as_slice-texts.result.now) c.args.ready.files.now c.args.ready.classes.now c.in_ok-numbers.numbers
     c.as_slice-by_text.result.now c.in_ok-named.named.items c.in_ok-ancestors.ancestors c.requires.classes_are c.requires.files_are
-    c.in_ok-numbers.ensures (ap lent c.as_slice-texts.ensures.value) c.as_slice-by_text.ensures.value c.in_ok-named.ensures c.in_ok-ancestors.ensures in
+    c.in_ok-numbers.ensures (ap lent c.as_slice-texts.ensures.keys) c.as_slice-by_text.ensures.value c.in_ok-named.ensures c.in_ok-ancestors.ensures in
     none_of_both (refused_missing_classes given) (refused_parents given) c.in_ok-refuse_missing_classes.ensures
     (c.in_ok-refuse_parents.ensures texts (files_numbered texts c.args.ready.files.now c.requires.files_are) named.ancestors named.numbers_are
     named.by_text_is)
@@ -60,7 +60,7 @@ returns-clause-linked c =
     let given = given_in c.args.ready.files.now in
     let texts = texts_in c.args.ready.texts.now in
     let classes = classes_of given in
-    let read = ap lent c.as_slice-texts.ensures.value in
+    let read = ap lent c.as_slice-texts.ensures.keys in
     let named = named-made given texts (lent c.as_slice-texts.result.now) c.args.ready.files.now c.args.ready.classes.now c.in_ok-numbers.numbers
     c.as_slice-by_text.result.now c.in_ok-named.named.items c.in_ok-ancestors.ancestors c.requires.classes_are c.requires.files_are
     c.in_ok-numbers.ensures read c.as_slice-by_text.ensures.value c.in_ok-named.ensures c.in_ok-ancestors.ensures in

@@ -46,7 +46,7 @@ tables_of-requires-clause-types c =
     let name : List ℕ → Option TypeRef = type_of_name classes in
     c.as_slice-by_text.ensures.value ∙ c.in_ok-named.ensures classes c.in_ok-linked.ensures.linked.numbers
     ∙ sym (map-map name (λ (b : Bor (List ℕ)). b.now) c.as_slice-texts.result.now)
-    ∙ ap (λ ts. map name (lent ts)) c.as_slice-texts.ensures.value
+    ∙ ap (λ ts. map name (lent ts)) c.as_slice-texts.ensures.keys
     ∙ ap (λ (ts : Texts). map name (texts_in ts)) (sym c.linking-linking.ensures.texts)
 
 pub tables_of-requires-clause-files : goal.tables_of-requires-clause-files

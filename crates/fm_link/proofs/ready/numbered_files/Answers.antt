@@ -51,6 +51,6 @@ returns-clause-numbered c =
           (λ cs of. c.in_ok-classes.ensures cs
           (let Q : List (List ℕ) → Type 0 = λ ts. AreFiles ts cs slice in
           let R : List GivenFile → Type 0 = λ fs. AreFiles (texts_in c.add.new.self) cs fs in
-          subst Q (sym (c.as_slice-by_number.ensures.value ∙ c.in_ok-shared.ensures ∙ ap lent c.as_slice-lent.ensures.value))
+          subst Q (sym (c.as_slice-by_number.ensures.value ∙ c.in_ok-shared.ensures ∙ ap lent c.as_slice-lent.ensures.keys))
           (subst R (sym same) of)));
     }

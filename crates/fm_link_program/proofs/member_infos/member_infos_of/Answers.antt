@@ -25,7 +25,7 @@ returns c = λ o classes uses_are.
     let method_rows = c.args.linking.methods.now.members.rows.items in
     let of_fields = c.as_slice-of_all_fields.ensures.value ∙ c.in_ok-described.ensures ∙ ap descriptors_in c.as_slice-field_rows.ensures.value in
     let of_methods = c.as_slice-of_all_methods.ensures.value ∙ c.in_ok-typed.ensures ∙ ap descriptors_in c.as_slice-method_rows.ensures.value in
-    let behind = ap lent c.as_slice-texts.ensures.value in
+    let behind = ap lent c.as_slice-texts.ensures.keys in
     let kinds = c.as_slice-kinds.result.now in
     let kept = c.as_slice-kinds.ensures.value in
     told-made texts given c.args.files.now o field_rows method_rows kinds (lent_kinds c.as_slice-field_kinds.result.now)

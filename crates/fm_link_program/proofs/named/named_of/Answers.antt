@@ -8,18 +8,18 @@ use Rattle.fm_link_program.proofs.named.named_of.Goals as goal
 
 pub of-requires-2-clause-apart : goal.of-requires-2-clause-apart
 of-requires-2-clause-apart c =
-    subst (λ (ts : List (Bor (List ℕ))). AreApart (lent ts)) (sym c.as_slice-texts.ensures.value) (apart c.args.linking.texts.now c.requires.linked.texts)
+    subst (λ (ts : List (Bor (List ℕ))). AreApart (lent ts)) (sym c.as_slice-texts.ensures.keys) (apart c.args.linking.texts.now c.requires.linked.texts)
 
 pub of-requires-2-clause-modified : goal.of-requires-2-clause-modified
 of-requires-2-clause-modified c =
     modified_texts (texts_in c.args.linking.texts.now) (lent c.as_slice-texts.result.now) (given_in c.args.files.now) c.args.files.now
-    c.as_slice-3.result.now c.requires.spelled c.requires.files (ap lent c.as_slice-texts.ensures.value)
+    c.as_slice-3.result.now c.requires.spelled c.requires.files (ap lent c.as_slice-texts.ensures.keys)
     (c.as_slice-3.ensures.value ∙ c.in_ok-spelled.ensures)
 
 pub uses_of-requires-clause-resolving : goal.uses_of-requires-clause-resolving
 uses_of-requires-clause-resolving c =
     is_resolving _ (given_in c.args.files.now) c.as_slice-texts.result.now c.requires.linked c.requires.types c.in_ok-types.ensures.numbers
-    c.as_slice-texts.ensures.value c.in_ok-literals.ensures.numbers
+    c.as_slice-texts.ensures.keys c.in_ok-literals.ensures.numbers
 
 pub returns : goal.returns
 returns c =
@@ -32,5 +32,5 @@ returns c =
     (c.as_slice.ensures.value ∙ c.in_ok-used.ensures) (c.as_slice-2.ensures.value ∙ c.in_ok-arrays.ensures)
     (c.as_slice-3.ensures.value ∙ c.in_ok-spelled.ensures)
     c.in_ok-types.ensures.types c.in_ok-types.ensures.numbers
-    (c.in_ok-literals.ensures.units ∙ ap (λ (ts : List (Bor (List ℕ))). literals_by (lent ts) naming) c.as_slice-texts.ensures.value)
+    (c.in_ok-literals.ensures.units ∙ ap (λ (ts : List (Bor (List ℕ))). literals_by (lent ts) naming) c.as_slice-texts.ensures.keys)
     c.in_ok-uses.ensures

@@ -15,9 +15,9 @@ returns c =
       names =
           c.as_slice-3.ensures.value
           ∙ c.in_ok-names_met.ensures classes c.requires.classes
-          ∙ ap (λ ts. map (is_name_met classes) (lent ts)) c.as_slice.ensures.value;
+          ∙ ap (λ ts. map (is_name_met classes) (lent ts)) c.as_slice.ensures.keys;
       descriptors =
           c.as_slice-4.ensures.value
           ∙ c.in_ok-descriptors_met.ensures classes c.requires.classes
-          ∙ ap (λ ts. map (is_descriptor_met classes) (lent ts)) c.as_slice-2.ensures.value;
+          ∙ ap (λ ts. map (is_descriptor_met classes) (lent ts)) c.as_slice-2.ensures.keys;
     })

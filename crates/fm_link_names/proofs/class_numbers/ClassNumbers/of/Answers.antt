@@ -14,7 +14,7 @@ loop-left-preserved c =
     let so_far = subst (λ j. (name : List ℕ) → number_in c.loop-left.numbers name ≡ position_from (λ d. bytes_eq d.name name) j
     (drop j classes)) one c.loop-left.invariant.1 in (
       omega (arith, c.loop-left.invariant.0),
-      numbers_step classes k c.index-classes-left.result c.loop-left.numbers c.insert.new.self c.as_slice.result.now c.in_ok-number.number
+      numbers_step classes k c.index-classes-left.result c.loop-left.numbers c.insert.new.self c.as_slice.result c.in_ok-number.number
           (omega (arith, c.loop-left.invariant.0, one)) c.index-classes-left.is (c.as_slice.ensures
           ∙ ap (λ (d : DeclaredClass). d.name) (sym c.index-classes-left.is)) c.in_ok-number.ensures so_far c.in_ok-insert.ensures.updates,
     )
