@@ -1,6 +1,8 @@
 -- What clap makes of a command, argument by argument, and of words by it.
 use Rattle.std.proofs.Common.{inl, inr, ◌≡◌, ◌∙◌, ◌++◌, ◌∷◌, [], ℕ, true, false, List, sym, ap, subst}
+use Rattle.std.proofs.lemmas.Bool.{false≢true}
 use Rattle.std.specs.Prelude.{◌⊎◌, Result}
+use Rattle.clap.specs.Walk.{is_empty}
 use Rattle.clap.specs.Kinds.{FailsBy, IsAmong, Kinds}
 use Rattle.clap.specs.Words.{AddsArg, App, HasMatchesOf, Rule, app_of, fault_of, found_of, is_simple, is_simple_and_free, matches_of, rows_of, rule_of, with_rule}
 use Rattle.clap.specs.declared.builder.arg.Arg.{Arg}
@@ -30,3 +32,7 @@ faults_by wanted app words result free is fails = subst (λ (a : App). is_simple
 pub is_fault : (faults : Kinds) (kind : ErrorKind) → ¬ (kind ≡ OutOfMemory) → (kind ≡ OutOfMemory) ⊎ IsAmong kind faults → ¬ (faults ≡ [])
 is_fault faults kind known (inl memory) none = absurd (known memory)
 is_fault faults kind known (inr among) none = subst (IsAmong kind) none among
+
+-- where computing shows a fault there is one
+pub found_fault : (faults : Kinds) → is_empty faults ≡ false → ¬ (faults ≡ [])
+found_fault faults found none = false≢true (sym found ∙ ap is_empty none)

@@ -1,5 +1,5 @@
 -- What words ask freeme for, by what clap matches in them.
-use Rattle.std.proofs.Common.{◌≡◌, ◌∙◌, ◌<◌, ⊎_elim, ℕ, true, Contains, Option, Some, None, List, [], ◌∷◌, length, ap, sym, refl, codes}
+use Rattle.std.proofs.Common.{◌≡◌, ◌∙◌, ◌<◌, ⊎_elim, ℕ, true, Contains, Option, Some, None, List, [], ◌∷◌, length, ap, refl, subst, codes}
 use Rattle.std.specs.Prelude.{◌⊎◌, MatchOption, Result}
 use Rattle.clap.specs.Kinds.{FailsBy, IsAmong}
 use Rattle.clap.specs.declared.error.Error.{Error}
@@ -8,7 +8,8 @@ use Rattle.clap.specs.declared.error.kind.ErrorKind.TheVariants.{OutOfMemory}
 use Rattle.clap.specs.Words.{App, HasMatchesOf, all_of, fault_of, first_of, found_of, is_simple, is_simple_and_free, rows_of}
 use Rattle.clap.specs.declared.parser.matches.ArgMatches.{ArgMatches}
 use Rattle.fm_cli_requests.specs.Values.{command_with}
-use Rattle.fm_cli_requests.proofs.CommandLemmas.{faults_by, is_fault, matched_by}
+use Rattle.clap.proofs.OnLiterals.{clap_on_literals}
+use Rattle.fm_cli_requests.proofs.CommandLemmas.{faults_by, found_fault, is_fault, matched_by}
 use Rattle.fm_cli_requests.proofs.ProgramTextLemmas.{one_of_two}
 use Rattle.fm_cli_requests.proofs.MatchLemmas.{same_value}
 use Rattle.fm_cli_requests.specs.ProgramText.{AskForText, text_words}
@@ -53,23 +54,23 @@ faulty words kind known fails = λ job asks. is_fault (faults_in words) kind kno
 
 -- clap finds a fault in each word that asks for a text
 faulty_word : (word : List ℕ) → ¬ (faults_in (word ∷ []) ≡ []) → (asked : List ℕ) → asked ≡ word → ¬ (faults_in (asked ∷ []) ≡ [])
-faulty_word word fault asked is none = fault (rw (sym is) at none)
+faulty_word word fault asked is none = fault (subst (λ (w : List ℕ). faults_in (w ∷ []) ≡ []) is none)
 
 help_faulty : ¬ (faults_in (codes "--help" ∷ []) ≡ [])
-unfolding faults_in freeme_command
-help_faulty none = cc
+unfolding faults_in freeme_command clap_on_literals
+help_faulty = found_fault (faults_in (codes "--help" ∷ [])) refl
 
 short_help_faulty : ¬ (faults_in (codes "-h" ∷ []) ≡ [])
-unfolding faults_in freeme_command
-short_help_faulty none = cc
+unfolding faults_in freeme_command clap_on_literals
+short_help_faulty = found_fault (faults_in (codes "-h" ∷ [])) refl
 
 version_faulty : ¬ (faults_in (codes "--version" ∷ []) ≡ [])
-unfolding faults_in freeme_command
-version_faulty none = cc
+unfolding faults_in freeme_command clap_on_literals
+version_faulty = found_fault (faults_in (codes "--version" ∷ [])) refl
 
 short_version_faulty : ¬ (faults_in (codes "-V" ∷ []) ≡ [])
-unfolding faults_in freeme_command
-short_version_faulty none = cc
+unfolding faults_in freeme_command clap_on_literals
+short_version_faulty = found_fault (faults_in (codes "-V" ∷ [])) refl
 
 text_faulty : (asked : ProgramText) (word : List ℕ) → Contains (text_words asked) word → ¬ (faults_in (word ∷ []) ≡ [])
 text_faulty text.Help word among =

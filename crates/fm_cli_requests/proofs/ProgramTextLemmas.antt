@@ -1,5 +1,6 @@
 -- Which text a word asks for.
-use Rattle.std.proofs.Common.{◌≡◌, ◌<◌, ◌≤◌, ◌⊎◌, ℕ, inl, inr, List, [], ◌∷◌, Contains, Option, MatchOption, String, string_bytes, length, refl, sym, ◌∙◌, ap, subst, get_or, arith, codes}
+use Rattle.std.proofs.Common.{◌≡◌, ◌<◌, ◌≤◌, ◌⊎◌, ℕ, inl, inr, List, [], ◌∷◌, Contains, Option, MatchOption, String, string_bytes, length, eqb, eq-eqb, false, refl, sym, ◌∙◌, ap, subst, get_or, arith, codes}
+use Rattle.std.proofs.lemmas.Bool.{false≢true}
 use Rattle.fm_base.proofs.ContainsFacts.{Contains-cons_cases}
 use Rattle.fm_cli.specs.Words.{texts}
 use Rattle.fm_cli_requests.specs.ProgramText.{AskForNoText, AskForText, text_words}
@@ -20,17 +21,18 @@ one_of_two a b word among = go (Contains-cons_cases a (b ∷ []) word among) whe
   go (inl same) = inl same
   go (inr rest) = inr (one_of b word rest)
 
--- the word for one text isn't that for the other: its second character is `h`, or its third
-letter : ℕ → List ℕ → ℕ
-letter n word = get_or word n 0
+-- a word isn't two words with other letters at one place
+letters_apart : (place : ℕ) (a b word : List ℕ) → eqb (get_or a place 0) (get_or b place 0) ≡ false → word ≡ a → word ≡ b → ⊥
+letters_apart place a b word unlike is also =
+    false≢true (sym unlike ∙ eq-eqb (get_or a place 0) (get_or b place 0) (ap (λ (w : List ℕ). get_or w place 0) (sym is ∙ also)))
 
 not_both : (word : List ℕ) → Contains (text_words text.Help) word → Contains (text_words text.Version) word → ⊥
 not_both word help version = go (one_of_two (codes "--help") (codes "-h") word help) (one_of_two (codes "--version") (codes "-V") word version) where
   go : (word ≡ codes "--help") ⊎ (word ≡ codes "-h") → (word ≡ codes "--version") ⊎ (word ≡ codes "-V") → ⊥
-  go (inl a) (inl b) = let same = ap (letter 2) (sym a ∙ b) in omega arith
-  go (inl a) (inr b) = let same = ap (letter 1) (sym a ∙ b) in omega arith
-  go (inr a) (inl b) = let same = ap (letter 1) (sym a ∙ b) in omega arith
-  go (inr a) (inr b) = let same = ap (letter 1) (sym a ∙ b) in omega arith
+  go (inl a) (inl b) = letters_apart 2 (codes "--help") (codes "--version") word refl a b
+  go (inl a) (inr b) = letters_apart 1 (codes "--help") (codes "-V") word refl a b
+  go (inr a) (inl b) = letters_apart 1 (codes "-h") (codes "--version") word refl a b
+  go (inr a) (inr b) = letters_apart 1 (codes "-h") (codes "-V") word refl a b
 
 -- words ask for one text at most
 pub one_text : (words : List (List ℕ)) (a b : ProgramText) → AskForText words a → AskForText words b → a ≡ b
