@@ -15,6 +15,10 @@ use Rattle.freeme.specs.declared.status.TheConstants.{CALLS_FREE, POOL_FULL, MET
 use Rattle.fm_load.specs.declared.class_refusal.ClassRefusal.TheVariants as refused
 use Rattle.fm_load.specs.declared.refusal.JobRefusal.TheVariants as job_refusal
 
+-- all statuses
+abbrev pub all_statuses : List ℕ
+all_statuses = DONE ∷ WORDS ∷ READ ∷ MALFORMED ∷ VERSION ∷ LIMIT ∷ UNSUPPORTED ∷ LINK ∷ CHECK ∷ CALLS_FREE ∷ POOL_FULL ∷ METHOD_TOO_LONG ∷ WRITE ∷ OUT_OF_MEMORY ∷ []
+
 -- the status of a job that comes out so is one of these
 job_status : (job : FreemeJob) (old new : Disk) (o : Outcome) → ComesTo job old new o → IsStatus (outcome_status o)
 job_status job old new (Ok lines) comes = (0, omega arith, refl)
@@ -45,5 +49,5 @@ pub is_status : (words : List Bytes) (old new : Disk) (o : Outcome) (before afte
     → Tells (outcome_line o) (outcome_status o) before after result → IsStatus result
 is_status words old new o before after result comes tells =
     told_among (outcome_line o) (outcome_status o) before after result tells
-    (DONE ∷ WORDS ∷ READ ∷ MALFORMED ∷ VERSION ∷ LIMIT ∷ UNSUPPORTED ∷ LINK ∷ CHECK ∷ CALLS_FREE ∷ POOL_FULL ∷ METHOD_TOO_LONG ∷ WRITE ∷ OUT_OF_MEMORY ∷ [])
+    all_statuses
     (own_status words old new o comes) (12, omega arith, refl) (13, omega arith, refl)

@@ -15,6 +15,7 @@ use Rattle.fm_cli_requests.specs.ProgramText.{AskForText}
 use Rattle.fm_cli_requests.specs.declared.program_text.ProgramText.{ProgramText}
 use Rattle.fm_load.specs.Causes.{FailsARead, FailsAWrite, IsMissing}
 use Rattle.freeme.proofs.CauseLemmas.{faultless_statuses}
+use Rattle.freeme.proofs.StatusLemmas.{all_statuses}
 use Rattle.freeme.specs.Causes.{AskFor, AskForGiven, ChangesOnly, IsFaultless, IsForBytes, IsForCheck, IsForDone, IsForLimit, IsForLink, IsForMemory, IsForRead, IsForRewrite, IsForText, IsForWords, IsForWrite, IsStatus, KeepsContents}
 use Rattle.freeme.specs.TopCall.{IsTextPut, IsTopCall, text_bytes}
 
@@ -54,7 +55,7 @@ module _ (words : List Bytes) (files : Disk) (before after : Output) (result : �
   text_whole = inl (record { asked = asked; asks = asks; put = put })
 
   pub text_status : IsStatus result
-  text_status = told_among (text_bytes asked) DONE before after result tells _ (0, omega arith, refl) (12, omega arith, refl) (13, omega arith, refl)
+  text_status = told_among (text_bytes asked) DONE before after result tells all_statuses (0, omega arith, refl) (12, omega arith, refl) (13, omega arith, refl)
 
   pub text_done : IsForDone words files files before after result
   text_done = record { only = λ is. inr only_text; there = λ cause. absurd (none_for cause) }
