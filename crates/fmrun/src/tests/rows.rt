@@ -14,7 +14,7 @@ type Report = (u8, &'static str, [u64; 7]);
 // A program, the options, what is printed, and the reports of the class files that are read and of those
 // that are written, where they are.
 type Row = (
-    Program<'static>,
+    TestProgram<'static>,
     &'static [&'static str],
     &'static [u8],
     Report,

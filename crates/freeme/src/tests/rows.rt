@@ -8,7 +8,7 @@ use std::alloc::Global;
 use std::test::Fail;
 
 // A program, the status and the lines.
-type Row = (Program<'static>, u8, &'static str);
+type Row = (TestProgram<'static>, u8, &'static str);
 
 // Objects and arrays.
 const OBJECTS: [Row; 10] = [
@@ -94,7 +94,7 @@ const LONG: [Row; 8] = [
 ];
 
 // The words of a call for a program.
-fn words_for(alloc: Global, program: &Program) -> Result<String, NoMemory> {
+fn words_for(alloc: Global, program: &TestProgram) -> Result<String, NoMemory> {
     let mut words = String::from_str(alloc, "--out d --main M")?;
     for file in program.read {
         words.push_str(" ")?;
