@@ -2,8 +2,8 @@
 // names a class or a method that is there, whichever exact facts were used.
 #![tactic(auto)]
 
-mod exact;
+mod exact_facts;
 mod written;
 
-pub use exact::{law_exact, law_refusals};
+pub use exact_facts::{law_exact, law_refusals};
 pub use written::{law_lengths, law_written};
