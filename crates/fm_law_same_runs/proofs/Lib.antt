@@ -1,1 +1,4 @@
+pub mod Costs
 pub mod Matches
+pub mod Openings
+pub mod Paces

@@ -15,6 +15,7 @@ use Rattle.fm_frames.specs.States.{Frame, Moved, State}
 use Rattle.fm_frames.specs.Steps.{max_locals_of}
 use Rattle.fm_frames.specs.declared.ends.Ended.{Ended}
 use Rattle.fm_frames.specs.declared.ends.Ended.TheVariants as end
+use Rattle.fm_law_no_fault.specs.Whole.{HasNoFault}
 use Rattle.fm_law_two_memories.specs.Runs.{LacksWords}
 use Rattle.fm_law_sound.specs.Making.{ArgumentsFit}
 
@@ -41,6 +42,11 @@ abbrev pub kept_cost : Marks → (ℕ → Moved) → ℕ → ℕ
 kept_cost marks ys zero = 0
 kept_cost marks ys (suc l) =
     kept_cost marks ys l + (if is_at_kept marks (ys l).state then (ys (suc l)).state.steps - (ys l).state.steps else 0)
+
+-- how many of this many steps from the first on are at kept items
+abbrev pub kept_steps : Marks → (ℕ → Moved) → ℕ → ℕ
+kept_steps marks ys zero = 0
+kept_steps marks ys (suc l) = kept_steps marks ys l + (if is_at_kept marks (ys l).state then 1 else 0)
 
 -- ---- how far the second run may be behind
 
@@ -151,13 +157,25 @@ pub record IsAtInserted (marks : Marks) (x : State) : Type 0 where
   pub goes_on : x.ended ≡ None
   pub inserted : is_at_kept marks x ≡ false
 
+-- this many states in a row go on at inserted items, from the l-th on
+abbrev pub AreAtInserted : Beside → (l count : ℕ) → Type 0
+AreAtInserted b l count = (j : ℕ) → j < count → IsAtInserted b.marks (b.ys (l + j)).state
+
+-- few inserted steps follow one another, wherever the second run is
+abbrev pub FewAreInserted : Beside → Type 0
+FewAreInserted b = (l count : ℕ) → AreAtInserted b l count → count ≤ most_inserted_steps b.one b.other
+
 -- Each state that the first run reaches has its match, and its end is that of the second run,
 -- unless that ended before for want of memory; so the second run never ends in a fault before the
 -- first one ends. And few inserted steps follow one another.
 pub record GoTogether (b : Beside) : Type 0 where
   pub states : (k : ℕ) → FirstReaches b k → (b.xs k).state.ended ≡ None → EndedBefore b k ⊎ HasMatch b k
   pub ends : (k : ℕ) (e : Ended) → FirstReaches b k → (b.xs k).state.ended ≡ Some e → EndedBefore b k ⊎ EndsAs b k e
-  pub few_inserted : (l count : ℕ) → ((j : ℕ) → j < count → IsAtInserted b.marks (b.ys (l + j)).state) → count ≤ most_inserted_steps b.one b.other
+  pub few_inserted : FewAreInserted b
+
+-- As long as the second run does no more kept steps than the first one did, it never reads, writes or frees a freed cell.
+abbrev pub IsWithoutFault : Beside → Type 0
+IsWithoutFault b = (k l : ℕ) → FirstReaches b k → SecondReaches b l → kept_steps b.marks b.ys l ≤ k → HasNoFault (b.ys l).state
 
 -- ---- the programs do the same
 
@@ -170,9 +188,10 @@ pub record IsGiven (job : Job) : Type 0 where
   pub arguments : ArgumentsFit job.arguments
   pub input : AllByRecursion (λ byte. byte < 2 ^ 8) job.input
 
--- the states of a run on memory that is never reused, whose store has no limit
+-- The states of a run on memory that is never reused, whose store has no limit. What that memory chooses is lawful as it is: `lawful` is here because the
+-- laws of runs speak of lawful choices.
 abbrev pub never_run : Program → Job → (words : ℕ) → ℕ → Moved
-never_run p job words k = after p never_choice k (opening p never_choice job (opened words None []))
+never_run p job words k = after p (lawful never_choice) k (opening p (lawful never_choice) job (opened words None []))
 
 -- the states of a run on memory that reuses cells in any way, whose store has the limit of a run
 abbrev pub reuse_run : Program → Choose → Job → (words : ℕ) → (free : List (List ℕ)) → ℕ → Moved

@@ -1,5 +1,5 @@
 -- What is to be proved of class files and of those that are written for them. These are statements: their proofs aren't made yet.
-use Rattle.std.specs.Prelude.{◌≡◌, ℕ, ◌+◌, ◌<◌, ◌≤◌, Bool, true, false, List, [], ◌∷◌, length, Some, None, slice_get}
+use Rattle.std.specs.Prelude.{◌≡◌, ℕ, ◌+◌, ◌<◌, ◌≤◌, Bool, true, false, List, [], length, Some, None, slice_get}
 use Rattle.std.specs.List.{AllByRecursion}
 use Rattle.fm_base.specs.declared.limits.TheConstants.{MAX_CLASS_FILES, MAX_LIVE_WORDS, MAX_MADE_WORDS}
 use Rattle.fm_cells.specs.Choices.{lawful}
@@ -7,7 +7,7 @@ use Rattle.fm_cells.specs.Stores.{live_words, opened}
 use Rattle.fm_code.specs.Profile.{IsSupported}
 use Rattle.fm_code.specs.Spells.{HasSpelling}
 use Rattle.fm_code.specs.declared.class_file.ClassDef.{ClassDef}
-use Rattle.fm_conn.specs.Facts.{AreFacts, Facts}
+use Rattle.fm_conn.specs.Facts.{Facts}
 use Rattle.fm_conn.specs.Nodes.{TypedMethod}
 use Rattle.fm_world.specs.Linking.{refusals}
 use Rattle.fm_world.specs.Programs.{Program, program_of}
@@ -22,7 +22,7 @@ use Rattle.fm_place.specs.Places.{is_busy}
 use Rattle.fm_place.specs.Safe.{Full, method_in_facts, Safe}
 use Rattle.fm_place.specs.Woven.{local_of}
 use Rattle.fm_same.specs.Resolved.{CallsNoFreeMe}
-use Rattle.fm_law_same_runs.specs.Beside.{AreMatched, Beside, InAllRuns, IsGiven, kept_item, Marks, reuse_run, Same, steps_allowed}
+use Rattle.fm_law_same_runs.specs.Beside.{AreMatched, Beside, InAllRuns, IsGiven, IsWithoutFault, kept_item, Marks, reuse_run, Same, steps_allowed}
 use Rattle.fm_law_same_runs.specs.Renaming.{StatesAreRenamed}
 
 -- class files that are accepted and link, and whose program calls no FreeMe
@@ -41,14 +41,21 @@ StepsAreMatched =
     (given : List ClassDef) (main : List ℕ) → AreTaken given main → (written : List ClassDef) (marks : Marks) → Safe given main written marks
     → Same (program_of given main) (program_of written main) marks
 
+-- ---- no fault
+
+-- whatever is inserted safely, the classes written read, write and free no freed cell
+abbrev pub RunsAreFaultless : Type 0
+RunsAreFaultless =
+    (given : List ClassDef) (main : List ℕ) → AreTaken given main → (written : List ClassDef) (marks : Marks) → Safe given main written marks
+    → InAllRuns (program_of given main) (program_of written main) marks IsWithoutFault
+
 -- ---- the renaming
 
--- in matched states what isn't retired is the same under other cells
+-- in matched states what isn't retired by the facts of the insertions is the same under other cells
 abbrev pub ObjectsAreRenamed : Type 0
 ObjectsAreRenamed =
-    (given : List ClassDef) (main : List ℕ) → AreTaken given main → (written : List ClassDef) (marks : Marks) → Safe given main written marks
-    → (facts : Facts) → AreFacts (program_of given main) facts
-    → InAllRuns (program_of given main) (program_of written main) marks (λ b. (k l : ℕ) → AreMatched b k l → StatesAreRenamed facts b k l)
+    (given : List ClassDef) (main : List ℕ) → AreTaken given main → (written : List ClassDef) (marks : Marks) → (safe : Safe given main written marks)
+    → InAllRuns (program_of given main) (program_of written main) marks (λ b. (k l : ℕ) → AreMatched b k l → StatesAreRenamed safe.facts b k l)
 
 -- ---- two programs
 
@@ -107,26 +114,26 @@ ProgramsEndTheSame =
 
 -- ---- prompt frees
 
--- at a kept item of a method each holder whose class isn't busy there is null
+-- in a frame at item j of the old code each holder whose class isn't busy there is null
 pub record AreClear (facts : Facts) (x : TypedMethod) (plan : Insertions) (f : Frame) (j : ℕ) : Type 0 where
   pub clear : (number : ℕ) (h : Holder) → slice_get plan.holders number ≡ Some h → is_busy facts x h.class j ≡ false
       → word_at f.locals (local_of x.code number) ≡ null
 
--- the topmost frame is at a kept item of a method with holders, and those of classes that aren't
--- busy are null
-abbrev pub IsClearAt : Program → Facts → Marks → List Frame → Type 0
-IsClearAt p facts marks [] = Unit {0}
-IsClearAt p facts marks (f ∷ callers) =
+-- where a frame is at a kept item of a method with holders, those of classes that aren't busy are
+-- null
+abbrev pub IsClear : Program → Facts → Marks → Frame → Type 0
+IsClear p facts marks f =
     (j : ℕ) (x : TypedMethod) (plan : Insertions) → kept_item marks f.method f.item ≡ Some j → method_in_facts p facts f.method ≡ Some x
     → full_insertions facts x ≡ Some plan → AreClear facts x plan f j
 
--- In each run of the classes written with all held sites and all places, over memory that reuses cells in any way.
+-- In each run of the classes written with all held sites and all places, over memory that reuses cells in any way: so it is in all frames, also in those
+-- that wait for a call to return.
 abbrev pub HoldersAreCleared : Type 0
 HoldersAreCleared =
     (given : List ClassDef) (main : List ℕ) → AreTaken given main → (written : List ClassDef) (marks : Marks) → (full : Full given main written marks)
-    → (job : Job) → IsGiven job → (choose : Choose) (words : ℕ) (free : List (List ℕ)) (l : ℕ)
+    → (job : Job) → IsGiven job → (choose : Choose) (words : ℕ) → words ≤ MAX_LIVE_WORDS → (free : List (List ℕ)) (l : ℕ)
     → (reuse_run (program_of written main) choose job words free l).state.ended ≡ None
-    → IsClearAt (program_of given main) full.facts marks (reuse_run (program_of written main) choose job words free l).state.frames
+    → AllByRecursion (IsClear (program_of given main) full.facts marks) (reuse_run (program_of written main) choose job words free l).state.frames
 
 -- the words that live, with those that were freed, are the words that live in the first run
 abbrev pub WordsAreBalanced : Beside → (k l : ℕ) → Type 0

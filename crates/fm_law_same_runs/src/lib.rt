@@ -4,4 +4,4 @@
 
 mod laws;
 
-pub use laws::law_matches;
+pub use laws::{law_matches, law_paces, law_runs};
