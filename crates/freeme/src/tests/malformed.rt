@@ -134,14 +134,13 @@ const MEMBERS: [Change; 16] = [
     ),
 ];
 
-const INSTRUCTIONS: [Change; 19] = [
+const INSTRUCTIONS: [Change; 18] = [
     // code of no bytes
     (
         b"\x11\0\x01\0\x01\0\0\0\x05\x2a\xb7\0\x1a\xb1",
         b"\x0c\0\x01\0\x01\0\0\0\0",
     ),
     (b"\x2a\xb7\0\x1a\xb1", b"\x2a\xb1\x2a\xb1\xb7"), // an instruction that isn't whole
-    (b"\xb9\0\x0d\x01\0", b"\xba\0\x0d\0\0"), // an invokedynamic
     (b"\x01\xc0\0\x20", b"\x01\xca\0\0"), // an opcode 202
     (b"\x01\xc0\0\x20", b"\x01\xff\0\0"), // an opcode 255
     (b"\xc4\x15\0\x03", b"\xc4\x60\0\x03"), // a wide iadd
@@ -195,13 +194,12 @@ const TABLES: [Change; 12] = [
     (b"\0\x02\0\x32\0\x0e", b"\0\x02\0\x5e\0\x0e"), // a variable that ends after the code
 ];
 
-const OPERANDS: [Change; 16] = [
+const OPERANDS: [Change; 15] = [
     (b"\x12\x13\x57", b"\x12\x16\x57"), // a constant that is a text
     (b"\x12\x13\x57", b"\x12\x14\x57"), // a constant of one word that is a Long
     (b"\x14\0\x14\x40", b"\x14\0\x13\x40"), // a constant of two words that is an Integer
     (b"\xb2\0\x11", b"\xb2\0\x1a"), // a field that is a method
     (b"\xc0\0\x20", b"\xc0\0\x1f"), // a class that is a text
-    (b"\xb7\0\x1a", b"\xb7\0\x0d"), // a method that is one of an interface
     (b"\xb9\0\x0d", b"\xb9\0\x1a"), // a method of an interface that is one of a class
     (b"\xb9\0\x0d\x01\0", b"\xb9\0\x0d\0\0"), // a count that is too small
     (b"\xb9\0\x0d\x01\0", b"\xb9\0\x0d\x02\0"), // a count that is too great
