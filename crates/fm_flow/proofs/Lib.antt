@@ -2,7 +2,7 @@ pub mod AnyLemmas
 pub mod CodeFacts
 pub mod EdgeListsLemmas
 pub mod EdgesOfLemmas
-pub mod HandBackLemmas
+pub mod HandOverLemmas
 pub mod HandlerLemmas
 pub mod KeptRowLemmas
 pub mod MergeLemmas

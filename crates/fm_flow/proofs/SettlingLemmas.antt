@@ -16,7 +16,7 @@ use Rattle.fm_code.specs.declared.instructions.Insn.TheVariants as insn
 use Rattle.fm_flow.proofs.ReachLemmas.{edge_inside, edge_from_item}
 use Rattle.fm_flow.proofs.RowFacts.{has_inside, has-replicate, or_cases, or_left, or_right, and_both, not_true}
 use Rattle.fm_flow.specs.LiveRows.{AreLiveOf}
-use Rattle.fm_flow.specs.inner.LiveWalks.{AreSourcesOf, loads, live_before, IsRowBefore, row_of, HaveWidth, HandsBack, IsLiveBefore, IsLiveAfter, AreSettled, Settling}
+use Rattle.fm_flow.specs.inner.LiveWalks.{AreSourcesOf, loads, live_before, IsRowBefore, row_of, HaveWidth, HandsOver, IsLiveBefore, IsLiveAfter, AreSettled, Settling}
 
 -- ---- what is live at an item
 
@@ -132,7 +132,7 @@ before_same code after new k j same live = record {
 -- what is live at item j, which waits no longer, is handed back
 pub Settling-more : (code : Code) (sources : List (List ℕ)) (after new : List (List Bool)) (waits new_waits : List Bool) (rest waiting : List ℕ) (j : ℕ) (i : Insn) (row : List Bool) →
     AreSourcesOf code sources → Settling code after waits (rest ++ j ∷ []) → insn_of code j ≡ Some i → LocalsFit code.max_locals i →
-    IsRowBefore i (row_of after j) row → HandsBack (get_or sources j []) row after new (set waits j false) new_waits rest waiting → Settling code new new_waits waiting
+    IsRowBefore i (row_of after j) row → HandsOver (get_or sources j []) row after new (set waits j false) new_waits rest waiting → Settling code new new_waits waiting
 Settling-more code sources after new waits new_waits rest waiting j i row listed so_far is fits before hands =
     let inside : j < length code.items = so_far.waiting_inside j (Contains-push rest j) in
     let count = so_far.one_each in

@@ -1,13 +1,15 @@
 // The flow of control between the items of a code, and live local variables.
 //
 // The layers above use that the edges of a flow are those of its code, that it says which items are
-// reachable, and that a local is said to be live exactly where a path leads to a load of it.
+// reachable, and that a local is said to be live exactly where a path leads to a load of it. Walks of
+// their own share the steps with rows of bits.
 #![tactic(auto)]
 
 mod edge_lists;
 mod error;
 mod flow;
 mod item_edges;
+mod item_rows;
 mod live_rows;
 mod live_walk;
 mod reach;
@@ -17,4 +19,5 @@ mod tests;
 
 pub use error::FlowFail;
 pub use flow::Flow;
+pub use item_rows::{copy_of, empty_rows, hand_over};
 pub use live_rows::{LiveRows, live};

@@ -1,13 +1,14 @@
 // The walk back along the edges that finds what is live after each item.
 
-ghost use Rattle.std.specs.Prelude.{◌≡◌, ℕ, ◌<◌, ◌↔◌, true, false, Contains, IfOk, OnOk, length, replicate};
+ghost use Rattle.std.specs.Prelude.{◌≡◌, ℕ, ◌<◌, ◌↔◌, Contains, IfOk, length};
 ghost use Rattle.fm_code.specs.Edges.{MeetsCodeRules};
 ghost use Rattle.fm_code.specs.Live.{stores_over};
 ghost use Rattle.fm_code.specs.SpellsCode.{LocalsFit};
 ghost use Rattle.fm_code.specs.declared.instructions.Insn.TheVariants.{Store};
-ghost use Rattle.fm_flow.specs.inner.LiveWalks.{AreSettled, AreSourcesOf, HandsBack, HaveWidth, IsKeptRow, IsRowBefore};
+ghost use Rattle.fm_flow.specs.inner.LiveWalks.{AreSettled, AreSourcesOf, IsKeptRow, IsRowBefore};
 
 use crate::item_edges::item_count;
+use crate::item_rows::{copy_of, empty_rows, hand_over};
 use fm_base::{NoMemory, Row, Seq};
 use fm_code::{Code, Insn, Reg};
 use std::alloc::Global;
@@ -27,7 +28,7 @@ pub fn settled(alloc: Global, code: &Code, sources: &[Seq<u32>]) -> Result<Vec<R
         waits[j as usize] = false;
         let insn = &code.items.as_slice()[j as usize].insn;
         let row = row_before(alloc, insn, &after[j as usize])?;
-        hand_back(
+        hand_over(
             sources[j as usize].as_slice(),
             &row,
             &mut after,
@@ -36,17 +37,6 @@ pub fn settled(alloc: Global, code: &Code, sources: &[Seq<u32>]) -> Result<Vec<R
         )?;
     }
     Ok(after)
-}
-
-// A row with no bit set for each item.
-fn empty_rows(alloc: Global, count: u32, bits: u32) -> Result<Vec<Row>, NoMemory>
-    ensures { IfOk result (λ rows. rows.items ≡ replicate count (replicate bits false)) }
-{
-    let mut rows = Vec::with_capacity(alloc, count as usize)?;
-    for _ in 0..count {
-        rows.push(Row::new(alloc, bits)?)?;
-    }
-    Ok(rows)
 }
 
 // The items from the first to the last.
@@ -58,32 +48,6 @@ fn all_items(alloc: Global, count: u32) -> Result<Vec<u32>, NoMemory>
         items.push(j)?;
     }
     Ok(items)
-}
-
-// Adds the row to that of each of these items, and lets those wait whose row grew. After `NoMemory`
-// only some have it.
-fn hand_back(
-    sources: &[u32],
-    row: &Row,
-    after: &mut Vec<Row>,
-    waits: &mut Vec<bool>,
-    waiting: &mut Vec<u32>,
-) -> Result<(), NoMemory>
-    requires items { (j : ℕ) → Contains sources.now j → j < length after.old.items }
-    requires widths { HaveWidth (length row.now) after.old.items }
-    requires one_each { length waits.old.items ≡ length after.old.items }
-    ensures { OnOk result (HandsBack sources.now row.now
-        after.old.items after.new.items waits.old.items waits.new.items
-        waiting.old.items waiting.new.items) }
-{
-    for j in sources {
-        let grown = after[*j as usize].union(row);
-        if grown && !waits[*j as usize] {
-            waits[*j as usize] = true;
-            waiting.push(*j)?;
-        }
-    }
-    Ok(())
 }
 
 /// What is live at an item with this instruction, from what is live after it.
@@ -124,14 +88,4 @@ fn is_stored_over(kind: Reg, local: u32, k: u32) -> bool
         Reg::Int | Reg::Ref => local == k,
         Reg::Long => local == k || local + 1 == k,
     }
-}
-
-// An equal row.
-fn copy_of(alloc: Global, row: &Row) -> Result<Row, NoMemory>
-    ensures { IfOk result (λ copy. copy ≡ row.now) }
-{
-    let mut copy = Row::new(alloc, row.bits())?;
-    // Whether a member came in is not needed.
-    let _grown = copy.union(row);
-    Ok(copy)
 }

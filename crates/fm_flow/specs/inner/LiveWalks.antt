@@ -1,4 +1,4 @@
--- The state of the walk back along the edges.
+-- The states of walks along edges, of which each item has a row of bits.
 use Rattle.std.specs.Prelude.{◌≡◌, ℕ, ◌+◌, ◌<◌, ◌≤◌, ◌⊎◌, ◌↔◌, ◌==◌, ◌||◌, ◌&&◌, Bool, true, false, not, List, [], length, Contains, Some, sum_by}
 use Rattle.std.specs.List.{slice_index_or}
 use Rattle.fm_base.specs.Rows.{has}
@@ -58,7 +58,7 @@ abbrev pub all_unset : List (List Bool) → ℕ
 all_unset rows = sum_by unset rows
 
 -- the row is added to those of the items of a list, and items whose row grew wait
-pub record HandsBack (list : List ℕ) (row : List Bool) (old_after after : List (List Bool)) (old_waits waits : List Bool) (old_waiting waiting : List ℕ) : Type 0 where
+pub record HandsOver (list : List ℕ) (row : List Bool) (old_after after : List (List Bool)) (old_waits waits : List Bool) (old_waiting waiting : List ℕ) : Type 0 where
   pub same_count : length after ≡ length old_after
   pub same_waits : length waits ≡ length old_waits
   pub same_width : (j : ℕ) → length (row_of after j) ≡ length (row_of old_after j)

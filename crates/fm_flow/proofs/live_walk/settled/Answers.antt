@@ -8,7 +8,7 @@ use Rattle.fm_code.specs.declared.instructions.Insn.{Insn}
 use Rattle.fm_flow.proofs.EdgesOfLemmas.{insn_of-get_or}
 use Rattle.fm_flow.proofs.ReachLemmas.{edge_from_item}
 use Rattle.fm_flow.proofs.SettlingLemmas.{Settling-first, Settling-more, AreSettled-all, locals_fit}
-use Rattle.fm_flow.specs.inner.LiveWalks.{Settling, HandsBack, IsRowBefore, row_of, all_unset}
+use Rattle.fm_flow.specs.inner.LiveWalks.{Settling, HandsOver, IsRowBefore, row_of, all_unset}
 use Rattle.fm_flow.proofs.live_walk.settled.Goals as goal
 
 pub loop-j-init : goal.loop-j-init
@@ -61,8 +61,8 @@ row_before-requires c =
     subst (λ (n : ℕ). P n c.as_slice.result.now) (sym (ap length row ∙ before.widths j in_rows))
     (subst (λ (items : List Item). P code.max_locals items) (sym c.as_slice.ensures) fits)
 
-pub hand_back-requires : goal.hand_back-requires
-hand_back-requires c =
+pub hand_over-requires : goal.hand_over-requires
+hand_over-requires c =
     let before = subst (λ (waiting : List ℕ). Settling c.args.code.now c.loop-j.after.items c.loop-j.waits.items waiting) c.in-Some.ensures.items c.loop-j.invariant in
     let inside = before.waiting_inside c.in-Some.j (Contains-push c.pop.new.self.items c.in-Some.j) in
     let code = c.args.code.now in
@@ -104,15 +104,15 @@ loop-j-preserved c =
     let P : List Item → List Bool → Type 0 = λ items old. IsRowBefore (get_or items j item).insn old c.in_ok-row.row in
     let told : IsRowBefore insn (row_of after j) c.in_ok-row.row =
     subst (λ (items : List Item). P items (row_of after j)) c.as_slice.ensures (subst (λ (old : List Bool). P c.as_slice.result.now old) row c.in_ok-row.ensures) in
-    let hands = subst (λ (list : List ℕ). HandsBack list c.in_ok-row.row after c.hand_back.new.after.items (set c.loop-j.waits.items j false)
-    c.hand_back.new.waits.items c.pop.new.self.items c.hand_back.new.waiting.items) source c.in_ok-hand_back.ensures in
-    Settling-more code c.args.sources.now after c.hand_back.new.after.items c.loop-j.waits.items c.hand_back.new.waits.items c.pop.new.self.items
-    c.hand_back.new.waiting.items j insn c.in_ok-row.row c.requires.sources before is fits told hands
+    let hands = subst (λ (list : List ℕ). HandsOver list c.in_ok-row.row after c.hand_over.new.after.items (set c.loop-j.waits.items j false)
+    c.hand_over.new.waits.items c.pop.new.self.items c.hand_over.new.waiting.items) source c.in_ok-hand_over.ensures in
+    Settling-more code c.args.sources.now after c.hand_over.new.after.items c.loop-j.waits.items c.hand_over.new.waits.items c.pop.new.self.items
+    c.hand_over.new.waiting.items j insn c.in_ok-row.row c.requires.sources before is fits told hands
 
 pub loop-j-smaller : goal.loop-j-smaller
 loop-j-smaller c =
-    let work : all_unset c.hand_back.new.after.items + length c.hand_back.new.waiting.items ≤ all_unset c.loop-j.after.items + length c.pop.new.self.items =
-    c.in_ok-hand_back.ensures.work in
+    let work : all_unset c.hand_over.new.after.items + length c.hand_over.new.waiting.items ≤ all_unset c.loop-j.after.items + length c.pop.new.self.items =
+    c.in_ok-hand_over.ensures.work in
     let longer : length c.loop-j.waiting.items ≡ length c.pop.new.self.items + 1 =
     ap length c.in-Some.ensures.items ∙ length_push c.pop.new.self.items c.in-Some.j in
     omega arith

@@ -2,49 +2,49 @@ use Rattle.std.proofs.Common.{◌≡◌, ◌∙◌, ◌<◌, ◌⊎◌, ℕ, Lis
 use Rattle.std.proofs.lemmas.List.{get_or_read, take_all}
 use Rattle.std.proofs.lemmas.List.Elements.{Contains-get_or}
 use Rattle.fm_base.specs.Rows.{has, IsUnion, AddsBit}
-use Rattle.fm_flow.proofs.HandBackLemmas.{HandsBack-none, HandsBack-more, Marked, Marked-new, Marked-known}
-use Rattle.fm_flow.specs.inner.LiveWalks.{HandsBack, row_of}
-use Rattle.fm_flow.proofs.live_walk.hand_back.Goals.{then-grown+then-not-index+in_ok-push, else-grown, else-grown-via-then-grown+else-not-index, else-grown-via-else-grown}
-use Rattle.fm_flow.proofs.live_walk.hand_back.Goals as goal
+use Rattle.fm_flow.proofs.HandOverLemmas.{HandsOver-none, HandsOver-more, Marked, Marked-new, Marked-known}
+use Rattle.fm_flow.specs.inner.LiveWalks.{HandsOver, row_of}
+use Rattle.fm_flow.proofs.item_rows.hand_over.Goals.{then-grown+then-not-index+in_ok-push, else-grown, else-grown-via-then-grown+else-not-index, else-grown-via-else-grown}
+use Rattle.fm_flow.proofs.item_rows.hand_over.Goals as goal
 
 pub index_mut-requires : goal.index_mut-requires
 index_mut-requires c =
-    let below = c.requires.items (get_or c.args.sources.now c.loop-j.j-index 0) (Contains-get_or c.args.sources.now c.loop-j.j-index 0 c.loop-j-test.true) in
+    let below = c.requires.items (get_or c.args.items.now c.loop-j.j-index 0) (Contains-get_or c.args.items.now c.loop-j.j-index 0 c.loop-j-test.true) in
     let same = c.loop-j.invariant.same_count in
-    let ok = c.loop-j.after.ok.0 in omega arith
+    let ok = c.loop-j.rows.ok.0 in omega arith
 
 pub index-requires : goal.index-requires
 index-requires c =
-    let below = c.requires.items (get_or c.args.sources.now c.loop-j.j-index 0) (Contains-get_or c.args.sources.now c.loop-j.j-index 0 c.loop-j-test.true) in
+    let below = c.requires.items (get_or c.args.items.now c.loop-j.j-index 0) (Contains-get_or c.args.items.now c.loop-j.j-index 0 c.loop-j-test.true) in
     let same = c.loop-j.invariant.same_waits in
     let one = c.requires.one_each in
     let ok = c.loop-j.waits.ok.0 in omega arith
 
 pub index_mut-requires-then-not-index : goal.index_mut-requires-then-not-index
 index_mut-requires-then-not-index c =
-    let below = c.requires.items (get_or c.args.sources.now c.loop-j.j-index 0) (Contains-get_or c.args.sources.now c.loop-j.j-index 0 c.loop-j-test.true) in
+    let below = c.requires.items (get_or c.args.items.now c.loop-j.j-index 0) (Contains-get_or c.args.items.now c.loop-j.j-index 0 c.loop-j-test.true) in
     let same = c.loop-j.invariant.same_waits in
     let one = c.requires.one_each in
     let ok = c.loop-j.waits.ok.0 in omega arith
 
 pub union-grown-requires : goal.union-grown-requires
 union-grown-requires c =
-    let j = get_or c.args.sources.now c.loop-j.j-index 0 in
-    let below = c.requires.items j (Contains-get_or c.args.sources.now c.loop-j.j-index 0 c.loop-j-test.true) in
+    let j = get_or c.args.items.now c.loop-j.j-index 0 in
+    let below = c.requires.items j (Contains-get_or c.args.items.now c.loop-j.j-index 0 c.loop-j-test.true) in
     let same = c.loop-j.invariant.same_count in
-    let is : c.index_mut.result.now ≡ row_of c.loop-j.after.items j = get_or_read c.loop-j.after.items j c.index_mut.result.now (omega arith) c.index_mut.ensures.value [] in
+    let is : c.index_mut.result.now ≡ row_of c.loop-j.rows.items j = get_or_read c.loop-j.rows.items j c.index_mut.result.now (omega arith) c.index_mut.ensures.value [] in
     ap length is ∙ c.loop-j.invariant.same_width j ∙ c.requires.widths j below
 
 pub loop-j-init : goal.loop-j-init
-loop-j-init c = HandsBack-none c.args.row.now c.args.after.now.items c.args.waits.now.items c.args.waiting.now.items
+loop-j-init c = HandsOver-none c.args.row.now c.args.rows.now.items c.args.waits.now.items c.args.waiting.now.items
 
 pub loop-j-preserved : goal.loop-j-preserved
 loop-j-preserved c =
-    let list = c.args.sources.now in
+    let list = c.args.items.now in
     let i = c.loop-j.j-index in
     let j = get_or list i 0 in
     let row = c.args.row.now in
-    let after = c.loop-j.after.items in
+    let after = c.loop-j.rows.items in
     let waits = c.loop-j.waits.items in
     let waiting = c.loop-j.waiting.items in
     let new = c.union-grown.new.self in
@@ -70,11 +70,11 @@ loop-j-preserved c =
           ] in
           rw (w.waits-is, w.waiting-is) (Marked-known j (row_of after j) row new waits waiting union settled)
     ] in
-    HandsBack-more list i row c.args.after.now.items after c.args.waits.now.items waits c.if-grown.waits.items c.args.waiting.now.items waiting
+    HandsOver-more list i row c.args.rows.now.items after c.args.waits.now.items waits c.if-grown.waits.items c.args.waiting.now.items waiting
     c.if-grown.waiting.items new c.loop-j-test.true in_rows c.loop-j.invariant union marked
 
 pub returns : goal.returns
 returns c =
-    let Done : List ℕ → Type 0 = λ list. HandsBack list c.args.row.now c.args.after.now.items c.loop-j.after.items c.args.waits.now.items c.loop-j.waits.items
+    let Done : List ℕ → Type 0 = λ list. HandsOver list c.args.row.now c.args.rows.now.items c.loop-j.rows.items c.args.waits.now.items c.loop-j.waits.items
     c.args.waiting.now.items c.loop-j.waiting.items in
-    subst Done (take_all c.loop-j.j-index c.args.sources.now c.loop-j-test.false) c.loop-j.invariant
+    subst Done (take_all c.loop-j.j-index c.args.items.now c.loop-j-test.false) c.loop-j.invariant

@@ -1,4 +1,4 @@
--- What is live at an item is handed back to the items before it, one after the other.
+-- A row is added to those of some items, one after the other.
 use Rattle.std.proofs.Common.{◌≡◌, ◌≢◌, ℕ, ◌+◌, ◌<◌, ◌≤◌, ◌⊎◌, ◌↔◌, Bool, true, List, [], ◌∷◌, ◌++◌, length, take, get_or, set, Contains, refl, inl, inr, ⊎_elim, ap, sym, ◌∙◌, subst, arith, length-set}
 use Rattle.std.proofs.lemmas.Bool.{cases_eq}
 use Rattle.std.proofs.lemmas.List.{get_or-set_same, get_or-set_other, length_push}
@@ -7,7 +7,7 @@ use Rattle.std.proofs.lemmas.List.Sums.{sum_by-set}
 use Rattle.fm_base.specs.Rows.{has, IsUnion, AddsBit}
 use Rattle.fm_flow.proofs.RisingLemmas.{Contains-take_more}
 use Rattle.fm_flow.proofs.RowFacts.{has-set_same, has-set_kept, has-set_only, unset-le, unset-lt, or_left, or_right, or_cases}
-use Rattle.fm_flow.specs.inner.LiveWalks.{HandsBack, row_of, all_unset}
+use Rattle.fm_flow.specs.inner.LiveWalks.{HandsOver, row_of, all_unset}
 use Rattle.fm_flow.specs.inner.Walks.{unset}
 
 -- ---- unions
@@ -23,8 +23,8 @@ unset-grown old other new union (i, (was, is)) = unset-lt old new i union.same_l
 -- ---- one item more
 
 -- nothing is handed back
-pub HandsBack-none : (row : List Bool) (after : List (List Bool)) (waits : List Bool) (waiting : List ℕ) → HandsBack [] row after after waits waits waiting waiting
-HandsBack-none row after waits waiting = record {
+pub HandsOver-none : (row : List Bool) (after : List (List Bool)) (waits : List Bool) (waiting : List ℕ) → HandsOver [] row after after waits waits waiting waiting
+HandsOver-none row after waits waiting = record {
   same_count = refl;
   same_waits = refl;
   same_width = λ j. refl;
@@ -89,11 +89,11 @@ row_of-here after j x row inside same = ap (row_of (set after j row)) same ∙ g
 row_of-elsewhere : (after : List (List Bool)) (j x : ℕ) (row : List Bool) → x ≢ j → row_of (set after j row) x ≡ row_of after x
 row_of-elsewhere after j x row apart = get_or-set_other after j x row [] apart
 
-pub HandsBack-more : (list : List ℕ) (i : ℕ) (row : List Bool) (old_after after : List (List Bool)) (old_waits mid_waits waits : List Bool) (old_waiting mid_waiting waiting : List ℕ)
-    (new : List Bool) → i < length list → get_or list i 0 < length after → HandsBack (take i list) row old_after after old_waits mid_waits old_waiting mid_waiting →
+pub HandsOver-more : (list : List ℕ) (i : ℕ) (row : List Bool) (old_after after : List (List Bool)) (old_waits mid_waits waits : List Bool) (old_waiting mid_waiting waiting : List ℕ)
+    (new : List Bool) → i < length list → get_or list i 0 < length after → HandsOver (take i list) row old_after after old_waits mid_waits old_waiting mid_waiting →
     IsUnion (row_of after (get_or list i 0)) row new → Marked (get_or list i 0) (row_of after (get_or list i 0)) new mid_waits waits mid_waiting waiting →
-    HandsBack (take (i + 1) list) row old_after (set after (get_or list i 0) new) old_waits waits old_waiting waiting
-HandsBack-more list i row old_after after old_waits mid_waits waits old_waiting mid_waiting waiting new inside in_rows so_far union marked =
+    HandsOver (take (i + 1) list) row old_after (set after (get_or list i 0) new) old_waits waits old_waiting waiting
+HandsOver-more list i row old_after after old_waits mid_waits waits old_waiting mid_waiting waiting new inside in_rows so_far union marked =
     let j = get_or list i 0 in
     let now = set after j new in
     let more : (x : ℕ) → Contains (take (i + 1) list) x ↔ (Contains (take i list) x ⊎ (j ≡ x)) = λ x. Contains-take_more list i x inside in

@@ -1,7 +1,7 @@
 use Rattle.std.proofs.Common.{List, Bool, sym, subst}
 use Rattle.fm_base.specs.Rows.{IsUnion}
 use Rattle.fm_flow.proofs.RowFacts.{IsUnion-unset}
-use Rattle.fm_flow.proofs.live_walk.copy_of.Goals as goal
+use Rattle.fm_flow.proofs.item_rows.copy_of.Goals as goal
 
 pub returns : goal.returns
 returns c =
