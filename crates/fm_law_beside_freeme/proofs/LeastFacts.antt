@@ -24,10 +24,9 @@ use Rattle.fm_conn.specs.declared.ends.End2.TheVariants as end
 use Rattle.fm_place.proofs.PlanLemmas.{full_of}
 use Rattle.fm_place.proofs.SiteLemmas.{parameter_listed, same_test}
 use Rattle.fm_place.specs.Insertions.{all_insertions, full_insertions, Holder, Insertions, numbers_of}
-use Rattle.fm_place.specs.Places.{is_busy, is_place, is_reference_word}
+use Rattle.fm_place.specs.Places.{is_busy, is_place, is_reference_word, leads_busily}
 use Rattle.fm_place.specs.Safe.{full_plans}
 use Rattle.fm_place.specs.Sites.{constructs, Constructs, held_sites, is_captured, is_captured_site, is_doubled, kind_of_site, makes_array, MakesArray, may_give_old, names_constructor, new_item, new_item_at, receives_new, ReceivesNew, reference_parameters, site_class, site_kind, site_node}
-use Rattle.fm_place.specs.inner.PlanRows.{numbers_by}
 use Rattle.fm_place.specs.declared.limits.TheConstants.{MAX_HOLDING_STACK_WORDS}
 use Rattle.fm_check_rows.proofs.WordLemmas.{reverse-map}
 use Rattle.fm_same.proofs.TargetMethods.{target_alike}
@@ -39,7 +38,6 @@ use Rattle.fm_types.specs.States.{all_fit, is_reference, state_fits, TypeState}
 use Rattle.fm_types.specs.Typed.{entry_slots, state_at}
 use Rattle.fm_types.specs.declared.slots.Slot as slots
 use Rattle.fm_types.specs.declared.slots.Slot.TheVariants as slot
-use Rattle.fm_world.specs.Chains.{is_among}
 use Rattle.fm_world.specs.Descriptors.{result_kind}
 use Rattle.fm_world.specs.Programs.{code_at, Outline, Program, targets}
 use Rattle.fm_world.specs.declared.calls.Call.{Call}
@@ -120,6 +118,11 @@ result_there None holds = absurd (false≢true holds)
 result_there (Some k) holds = holds
 
 -- ---- holders
+
+-- the numbers, from one on, of the elements that pass a test, rising
+abbrev numbers_by : (ℕ → Bool) → ℕ → List ℕ → List ℕ
+numbers_by test number [] = []
+numbers_by test number (x ∷ xs) = let rest = numbers_by test (number + 1) xs in cond (test x) (number ∷ rest) rest
 
 numbers_of-map : (test : Holder → Bool) (to : ℕ → Holder) (n : ℕ) (sites : List ℕ) → numbers_of test n (map to sites) ≡ numbers_by (λ s. test (to s)) n sites
 numbers_of-map test to n [] = refl
@@ -298,23 +301,26 @@ module _ (p : Program) (f g : Facts) (first : AreLeastFacts p f) (second : AreLe
       && (list_any (λ depth. reference_same j depth k && class_same (Slot j depth) n k) (range_with_len 0 (depths j k))
       || list_any (λ local. live_same local j k && class_same (Local local) n k) (range_with_len 0 code.max_locals))
 
-  place_same : (n : Node) (j : ℕ) → is_place f x (f.class m n) j ≡ is_place g y (g.class m n) j
-  place_same n j =
-      λ k. not (busy_same n j k)
-      && list_any (λ before. busy_same n before k && is_among j (edges_listed code before)) (range_with_len 0 (length code.items))
+  leads_same : (n : Node) (edges j last : ℕ) → leads_busily f x (f.class m n) edges j last ≡ leads_busily g y (g.class m n) edges j last
+  leads_same n zero j last = refl
+  leads_same n (suc edges) j last =
+      λ k. nat_eq j last || (busy_same n j k && list_any (λ next. leads_same n edges next last k) (edges_listed code j))
 
-  site_place_same : (site j : ℕ) → is_place f x (site_class f x site) j ≡ is_place g y (site_class g y site) j
-  site_place_same site j = place_same (site_node x site) j ∙ ap (λ n. is_place g y (g.class m n) j) (node_same site)
+  place_same : (site : ℕ) (n : Node) (j : ℕ) → is_place f x site (f.class m n) j ≡ is_place g y site (g.class m n) j
+  place_same site n j = λ k. not (busy_same n j k) && leads_same n (length code.items) (site + 1) j k
+
+  site_place_same : (site j : ℕ) → is_place f x site (site_class f x site) j ≡ is_place g y site (site_class g y site) j
+  site_place_same site j = place_same site (site_node x site) j ∙ ap (λ n. is_place g y site (g.class m n) j) (node_same site)
 
   -- ---- insertions
 
   freed_same : (j : ℕ)
-      → numbers_of (λ h. is_place f x h.class j) 0 (map (holder_of (site_class f x)) (held_sites f x))
-      ≡ numbers_of (λ h. is_place g y h.class j) 0 (map (holder_of (site_class g y)) (held_sites g y))
+      → numbers_of (λ h. is_place f x h.site h.class j) 0 (map (holder_of (site_class f x)) (held_sites f x))
+      ≡ numbers_of (λ h. is_place g y h.site h.class j) 0 (map (holder_of (site_class g y)) (held_sites g y))
   freed_same j =
-      numbers_of-map (λ h. is_place f x h.class j) (holder_of (site_class f x)) 0 (held_sites f x)
+      numbers_of-map (λ h. is_place f x h.site h.class j) (holder_of (site_class f x)) 0 (held_sites f x)
       ∙ (λ k. numbers_by (λ site. site_place_same site j k) 0 (held_same k))
-      ∙ sym (numbers_of-map (λ h. is_place g y h.class j) (holder_of (site_class g y)) 0 (held_sites g y))
+      ∙ sym (numbers_of-map (λ h. is_place g y h.site h.class j) (holder_of (site_class g y)) 0 (held_sites g y))
 
   holders_same : map unnumbered (map (holder_of (site_class f x)) (held_sites f x)) ≡ map unnumbered (map (holder_of (site_class g y)) (held_sites g y))
   holders_same =

@@ -33,7 +33,7 @@ pub busy : map (is_busy popping_facts popping_main 9) (range_with_len 0 4) ≡ f
 unfolding built_in chain_of resolved_field resolved_method fields_of methods_of texts_of types_of classes_of outline_of uses_of codes_of program_of used_indices words_taken
 busy = refl
 
-pub places : map (is_place popping_facts popping_main 9) (range_with_len 0 4) ≡ false ∷ false ∷ false ∷ true ∷ []
+pub places : map (is_place popping_facts popping_main 1 9) (range_with_len 0 4) ≡ false ∷ false ∷ false ∷ true ∷ []
 unfolding built_in chain_of resolved_field resolved_method fields_of methods_of texts_of types_of classes_of outline_of uses_of codes_of program_of used_indices words_taken
 places = refl
 

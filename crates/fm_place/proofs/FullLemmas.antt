@@ -11,10 +11,10 @@ use Rattle.fm_code.proofs.EdgesLemmas.{Contains-cons_cases, Contains-first, Cont
 use Rattle.fm_conn.specs.Facts.{Facts}
 use Rattle.fm_conn.specs.Nodes.{TypedMethod}
 use Rattle.fm_world.specs.Programs.{Program, program_of}
-use Rattle.fm_place.proofs.PlaceLemmas.{places_are_by_edges}
+use Rattle.fm_place.proofs.PathLemmas.{places_are_by_paths}
 use Rattle.fm_place.specs.Insertions.{all_holders, all_insertions, before_at, full_insertions, Holder, Insertions, numbers_of}
 use Rattle.fm_place.specs.Laws.{FullIsSafe}
-use Rattle.fm_place.specs.Places.{ComesFromBusy, is_busy, is_place}
+use Rattle.fm_place.specs.Places.{is_busy, is_place, MayHold}
 use Rattle.fm_place.specs.Safe.{AreSafe, full_plans, IsSafeAt, IsSafeHolder, IsSafeMethod, MayFree, method_in_facts}
 use Rattle.fm_place.specs.Sites.{captured_sites, held_sites, is_captured_site, site_class}
 use Rattle.fm_place.specs.declared.limits.TheConstants.{MAX_HOLDING_STACK_WORDS}
@@ -169,15 +169,15 @@ holder-safe facts x h found = of_site (Contains-from_map made (held_sites facts 
       subst (IsSafeHolder facts x) same (record { captured = held-captured facts x j held; class = refl; single = refl })
 
 pub before-is : (facts : Facts) (x : TypedMethod) (j : ℕ) → j < length x.code.items
-    → before_at (all_insertions facts x) j ≡ numbers_of (λ h. is_place facts x h.class j) 0 (all_holders facts x)
+    → before_at (all_insertions facts x) j ≡ numbers_of (λ h. is_place facts x h.site h.class j) 0 (all_holders facts x)
 before-is facts x j inside =
-    get_or-map-range_with_len (λ i. numbers_of (λ h. is_place facts x h.class i) 0 (all_holders facts x)) 0 (length x.code.items) j j []
+    get_or-map-range_with_len (λ i. numbers_of (λ h. is_place facts x h.site h.class i) 0 (all_holders facts x)) 0 (length x.code.items) j j []
     inside (omega arith)
 
 item-safe : (facts : Facts) (x : TypedMethod) (j : ℕ) → j < length x.code.items → IsSafeAt facts x (all_insertions facts x) j
 item-safe facts x j inside = record { once = once; may = may; must = must } where
   test : Holder → Bool
-  test h = is_place facts x h.class j
+  test h = is_place facts x h.site h.class j
 
   same : before_at (all_insertions facts x) j ≡ numbers_of test 0 (all_holders facts x)
   same = before-is facts x j inside
@@ -189,18 +189,18 @@ item-safe facts x j inside = record { once = once; may = may; must = must } wher
   quiet_of number was = record {
     holder = was.holder;
     is = subst (λ k. slice_get (all_holders facts x) k ≡ Some was.holder) (omega (arith, was.number)) was.there;
-    quiet = ((places_are_by_edges facts x was.holder.class j).0 was.passes).0;
+    quiet = ((places_are_by_paths facts x was.holder.site was.holder.class j).0 was.passes).0;
   }
 
   may : (number : ℕ) → Contains (before_at (all_insertions facts x) j) number → MayFree facts x (all_insertions facts x) j number
   may number found = quiet_of number (numbers-found test 0 (all_holders facts x) number (subst (λ xs. Contains xs number) same found))
 
   must : (number : ℕ) (h : Holder) → slice_get (all_holders facts x) number ≡ Some h → is_busy facts x h.class j ≡ false
-      → ComesFromBusy facts x h.class j → Contains (before_at (all_insertions facts x) j) number
-  must number h there quiet from =
+      → MayHold facts x h.site h.class j → Contains (before_at (all_insertions facts x) j) number
+  must number h there quiet holds =
       subst (λ xs. Contains xs number) (sym same)
       (subst (Contains (numbers_of test 0 (all_holders facts x))) (omega arith)
-      (numbers-from test 0 (all_holders facts x) number h there ((places_are_by_edges facts x h.class j).1 (quiet, from))))
+      (numbers-from test 0 (all_holders facts x) number h there ((places_are_by_paths facts x h.site h.class j).1 (quiet, holds))))
 
 plan-safe : (facts : Facts) (x : TypedMethod) → 0 < length (held_sites facts x) → AreSafe facts x (all_insertions facts x)
 plan-safe facts x some = record {
@@ -208,7 +208,7 @@ plan-safe facts x some = record {
   room = subst (λ n. x.code.max_locals + n ≤ MAX_LOCAL_WORDS) (sym count) (let few = held-few facts x in omega arith);
   holders = all-from (IsSafeHolder facts x) (all_holders facts x) (holder-safe facts x);
   own_sites = subst (IsDistinct nat_eq) (sym (sites-back facts x (held_sites facts x))) (rises-distinct 0 (held_sites facts x) (held-rises facts x));
-  one_each = length-map-range_with_len (λ j. numbers_of (λ h. is_place facts x h.class j) 0 (all_holders facts x)) 0 (length x.code.items);
+  one_each = length-map-range_with_len (λ j. numbers_of (λ h. is_place facts x h.site h.class j) 0 (all_holders facts x)) 0 (length x.code.items);
   items = item-safe facts x;
 } where
   made : ℕ → Holder

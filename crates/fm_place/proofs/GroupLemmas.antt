@@ -1,14 +1,17 @@
--- Groups of classes, one holder more, and rows of bits in which a group's bit is set.
-use Rattle.std.proofs.Common.{◌≡◌, ◌≢◌, ◌⊎◌, ℕ, zero, suc, ◌<◌, ◌||◌, Bool, true, false, cond, List, [], ◌∷◌, ◌++◌, length, get_or, set, Option, Some, None, unwrap_or, refl, inl, inr, ⊎_elim, ap, sym, ◌∙◌, subst, eq-eqb, arith, length-append, length-set}
-use Rattle.std.specs.Prelude.{nat_eq, slice_get}
-use Rattle.std.proofs.lemmas.Bool.{cases_eq, eqb-true}
-use Rattle.std.proofs.lemmas.List.{get_or_push, get_or-set_other, get_or-set_same}
-use Rattle.std.proofs.lemmas.Option.{none-some, slice_get_within}
+-- Groups of classes, one holder more, and rows of bits in which the holders of a class are set.
+use Rattle.std.proofs.Common.{◌≡◌, ◌≢◌, ◌⊎◌, ℕ, zero, suc, ◌+◌, ◌<◌, ◌≤◌, ◌||◌, ◌&&◌, Bool, true, false, cond, List, [], ◌∷◌, ◌++◌, length, map, replicate, get_or, set, Option, Some, None, unwrap_or, refl, inl, inr, ⊎_elim, ap, sym, ◌∙◌, subst, eq-eqb, arith, le-ltb, length-append, length-set, lt-ltb}
+use Rattle.std.specs.Prelude.{nat_eq, nat_lt, slice_get}
+use Rattle.std.proofs.lemmas.Bool.{cases_eq, cases_lt, eqb-true}
+use Rattle.std.proofs.lemmas.List.{get_or-replicate, get_or-set_other, get_or-set_same, get_or_push, length-map, length-replicate}
+use Rattle.std.proofs.lemmas.Option.{none-some, slice_get-get_or, slice_get_within}
 use Rattle.std.proofs.Math.Bool.{or-false, or-true}
 use Rattle.std.proofs.Math.ListN.{get_or-append}
-use Rattle.fm_base.specs.Rows.{has}
+use Rattle.fm_base.specs.Rows.{has, IsUnion}
+use Rattle.fm_flow.proofs.RowFacts.{has-replicate}
+use Rattle.fm_flow.specs.inner.LiveWalks.{row_of}
 use Rattle.fm_place.proofs.FullLemmas.{some-same}
-use Rattle.fm_place.specs.inner.PlanRows.{is_class, IsGroupsOf, IsRowOf}
+use Rattle.fm_place.proofs.SiteLemmas.{same_test}
+use Rattle.fm_place.specs.inner.PlanRows.{AreBelow, AreMembers, classes_of, is_class, IsGroupsOf, IsRowOf, SetsBit}
 
 -- ---- tests
 
@@ -94,26 +97,195 @@ module _ (held of_holders : List ℕ) (numbers after : ℕ → Option ℕ) (clas
 
 -- ---- rows
 
-pub row_retested : (width : ℕ) (numbers : ℕ → Option ℕ) (test other : ℕ → Bool) (row : List Bool) → ((class : ℕ) → test class ≡ other class)
-    → IsRowOf width numbers test row → IsRowOf width numbers other row
-row_retested width numbers test other row same is = record { wide = is.wide; each = λ class group there. is.each class group there ∙ same class }
+pub row_retested : (held : List (ℕ × ℕ)) (test other : ℕ × ℕ → Bool) (row : List Bool)
+    → ((h : ℕ) (pair : ℕ × ℕ) → slice_get held h ≡ Some pair → test pair ≡ other pair) → IsRowOf held test row → IsRowOf held other row
+row_retested held test other row same is = record { wide = is.wide; each = λ h pair there. is.each h pair there ∙ same h pair there }
 
--- a class that has a group is set
-pub row_marked : (held of_holders : List ℕ) (numbers : ℕ → Option ℕ) (test : ℕ → Bool) (row : List Bool) (class group : ℕ)
-    → IsGroupsOf held numbers of_holders → numbers class ≡ Some group → IsRowOf (length held) numbers test row
-    → IsRowOf (length held) numbers (λ c. test c || is_class (Some class) c) (set row group true)
-row_marked held of_holders numbers test row class group groups some is = record {
-  wide = length-set row group true ∙ is.wide;
-  each = λ c g there.
+-- the holders of a class are set
+pub row_joined : (held : List (ℕ × ℕ)) (test : ℕ → Bool) (class : ℕ) (row members union : List Bool) → IsRowOf held (λ pair. test pair.1) row
+    → IsRowOf held (λ pair. is_class (Some class) pair.1) members → IsUnion row members union
+    → IsRowOf held (λ pair. test pair.1 || is_class (Some class) pair.1) union
+row_joined held test class row members union is of_class joined = record {
+  wide = joined.same_length ∙ is.wide;
+  each = λ h pair there. joined.members h ∙ (λ k. is.each h pair there k || of_class.each h pair there k);
+}
+
+-- a class that no holder has sets none
+pub row_unmarked : (held : List (ℕ × ℕ)) (test : ℕ → Bool) (class : ℕ) (row : List Bool)
+    → ((h : ℕ) (pair : ℕ × ℕ) → slice_get held h ≡ Some pair → class ≢ pair.1) → IsRowOf held (λ pair. test pair.1) row
+    → IsRowOf held (λ pair. test pair.1 || is_class (Some class) pair.1) row
+row_unmarked held test class row none is =
+    row_retested held (λ pair. test pair.1) (λ pair. test pair.1 || is_class (Some class) pair.1) row
+    (λ h pair there. sym (or-false (test pair.1)) ∙ ap (λ b. test pair.1 || b) (sym (differs class pair.1 (none h pair there)))) is
+
+-- ---- elements of pairs
+
+pub slice_get-mapped : {X Y : Type 0} (f : X → Y) (xs : List X) (k : ℕ) (x : X) → slice_get xs k ≡ Some x → slice_get (map f xs) k ≡ Some (f x)
+slice_get-mapped f [] k x there = absurd (none-some x there)
+slice_get-mapped f (y ∷ ys) zero x there = ap (λ z. Some (f z)) (some-same there)
+slice_get-mapped f (y ∷ ys) (suc k) x there = slice_get-mapped f ys k x there
+
+pub class-there : (held : List (ℕ × ℕ)) (h : ℕ) (pair : ℕ × ℕ) → slice_get held h ≡ Some pair → slice_get (classes_of held) h ≡ Some pair.1
+class-there held h pair there = slice_get-mapped (λ (p : ℕ × ℕ). p.1) held h pair there
+
+pub classes_push : (held : List (ℕ × ℕ)) (pair : ℕ × ℕ) → classes_of (held ++ pair ∷ []) ≡ classes_of held ++ pair.1 ∷ []
+classes_push [] pair = refl
+classes_push (p ∷ held) pair = ap (λ rest. p.1 ∷ rest) (classes_push held pair)
+
+-- ---- bits that are set one by one
+
+same_bits : (here : Bool) → ((false && here) || (here && true)) ≡ here
+same_bits true = refl
+same_bits false = refl
+
+other_bits : (below here now : Bool) → ((below && here) || (now && false)) ≡ (below && here)
+other_bits true true now = refl
+other_bits true false true = refl
+other_bits true false false = refl
+other_bits false here true = refl
+other_bits false here false = refl
+
+not-below : (i : ℕ) → nat_lt i i ≡ false
+not-below i = le-ltb i i (omega arith)
+
+-- with one bit more, that of number i, in a row
+pub bits_more : (h i : ℕ) (here now : Bool) → (h ≡ i → now ≡ here) → ((nat_lt h i && here) || (now && nat_eq i h)) ≡ (nat_lt h (i + 1) && here)
+bits_more h i here now same_row =
+    ⊎_elim
+    (λ (same : h ≡ i).
+    let below : nat_lt h i ≡ false = ap (λ n. nat_lt n i) same ∙ not-below i in
+    let next : nat_lt h (i + 1) ≡ true = lt-ltb h (i + 1) (omega arith) in
+    (λ k. (below k && here) || (same_row same k && eq-eqb i h (sym same) k)) ∙ same_bits here ∙ sym (λ k. next k && here))
+    (λ (other : h ≢ i).
+    let apart : i ≢ h = λ same. other (sym same) in
+    (λ k. (nat_lt h i && here) || (now && differs i h apart k)) ∙ other_bits (nat_lt h i) here now ∙ (λ k. below_same other k && here))
+    (cases_eq h i) where
+      below_same : h ≢ i → nat_lt h i ≡ nat_lt h (i + 1)
+      below_same other =
+          ⊎_elim (λ (less : h < i). lt-ltb h i less ∙ sym (lt-ltb h (i + 1) (omega arith)))
+          (λ (past : i ≤ h).
+          let above : i + 1 ≤ h = ⊎_elim (λ (same : h ≡ i). absurd (other same)) (λ (apart : h ≢ i). omega arith) (cases_eq h i) in
+          le-ltb h i past ∙ sym (le-ltb h (i + 1) above))
+          (cases_lt h i)
+
+-- the bit of one row is set
+pub sets_bit : (item bit : ℕ) (rows : List (List Bool)) → item < length rows → bit < length (row_of rows item)
+    → SetsBit item bit rows (set rows item (set (row_of rows item) bit true))
+sets_bit item bit rows inside within = record { same_count = length-set rows item row; same_width = width; members = λ j k below. members j k } where
+  row : List Bool
+  row = set (row_of rows item) bit true
+
+  at_item : (j : ℕ) → j ≡ item → row_of (set rows item row) j ≡ row
+  at_item j same = ap (row_of (set rows item row)) same ∙ get_or-set_same rows item row [] inside
+
+  width : (j : ℕ) → length (row_of (set rows item row) j) ≡ length (row_of rows j)
+  width j =
+      ⊎_elim (λ (same : j ≡ item). ap length (at_item j same) ∙ length-set (row_of rows item) bit true ∙ ap (λ n. length (row_of rows n)) (sym same))
+      (λ (other : j ≢ item). ap length (get_or-set_other rows item j row [] other)) (cases_eq j item)
+
+  here : (k : ℕ) → has row k ≡ (has (row_of rows item) k || nat_eq bit k)
+  here k =
       ⊎_elim
-      (λ (same : g ≡ group).
-      let one : class ≡ c = some-same (sym (groups.known class group some) ∙ ap (slice_get held) (sym same) ∙ groups.known c g there) in
-      ap (λ n. has (set row group true) n) same ∙ get_or-set_same row group true false inside
-      ∙ sym (ap (λ b. test c || b) (eq-eqb class c one) ∙ or-true (test c)))
-      (λ (other : g ≢ group).
-      get_or-set_other row group g true false other ∙ is.each c g there ∙ sym (or-false (test c))
-      ∙ ap (λ b. test c || b) (sym (differs class c (λ same. other (some-same (sym there ∙ sym (ap numbers same) ∙ some))))))
-      (cases_eq g group);
-} where
-  inside : group < length row
-  inside = let within = slice_get_within held group class (groups.known class group some) in omega (arith, within, is.wide)
+      (λ (same : k ≡ bit).
+      ap (has row) same ∙ get_or-set_same (row_of rows item) bit true false within ∙ sym (or-true (has (row_of rows item) k))
+      ∙ ap (λ b. has (row_of rows item) k || b) (sym (eq-eqb bit k (sym same))))
+      (λ (other : k ≢ bit).
+      get_or-set_other (row_of rows item) bit k true false other ∙ sym (or-false (has (row_of rows item) k))
+      ∙ ap (λ b. has (row_of rows item) k || b) (sym (differs bit k (λ same. other (sym same)))))
+      (cases_eq k bit)
+
+  members : (j k : ℕ) → has (row_of (set rows item row) j) k ≡ (has (row_of rows j) k || (nat_eq item j && nat_eq bit k))
+  members j k =
+      ⊎_elim
+      (λ (same : j ≡ item).
+      ap (λ r. has r k) (at_item j same) ∙ here k
+      ∙ (λ i. has (row_of rows (sym same i)) k || (sym (eq-eqb item j (sym same)) i && nat_eq bit k)))
+      (λ (other : j ≢ item).
+      ap (λ r. has r k) (get_or-set_other rows item j row [] other) ∙ sym (or-false (has (row_of rows j) k))
+      ∙ ap (λ b. has (row_of rows j) k || (b && nat_eq bit k)) (sym (differs item j (λ same. other (sym same)))))
+      (cases_eq j item)
+
+-- there is no such row
+pub sets_none : (item bit : ℕ) (rows : List (List Bool)) → length rows ≤ item → SetsBit item bit rows rows
+sets_none item bit rows past = record {
+  same_count = refl;
+  same_width = λ j. refl;
+  members = λ j k below.
+      let apart : item ≢ j = λ same. omega (arith, same, below, past) in
+      sym (or-false (has (row_of rows j) k)) ∙ ap (λ b. has (row_of rows j) k || (b && nat_eq bit k)) (sym (differs item j apart));
+}
+
+-- ---- the holders of groups
+
+pub members_none : (groups : List ℕ) (rows : List (List Bool)) → rows ≡ replicate (length groups) (replicate (length groups) false) → AreMembers groups 0 rows
+members_none groups rows is = subst (AreMembers groups 0) (sym is) (record {
+  one_each = length-replicate (length groups) none;
+  wide = λ g inside. ap (λ (row : List Bool). length row) (row g inside) ∙ length-replicate (length groups) false;
+  members = λ g h inside. ap (λ (r : List Bool). has r h) (row g inside) ∙ has-replicate (length groups) h;
+}) where
+  none : List Bool
+  none = replicate (length groups) false
+
+  row : (g : ℕ) → g < length groups → get_or (replicate (length groups) none) g [] ≡ none
+  row g inside = get_or-replicate (length groups) g none [] inside
+
+pub members_more : (groups : List ℕ) (i : ℕ) (rows after : List (List Bool)) → AreMembers groups i rows → SetsBit (get_or groups i 0) i rows after
+    → AreMembers groups (i + 1) after
+members_more groups i rows after so_far sets = record {
+  one_each = sets.same_count ∙ so_far.one_each;
+  wide = λ g inside. sets.same_width g ∙ so_far.wide g inside;
+  members = λ g h inside.
+      sets.members g h (omega (arith, so_far.one_each, inside))
+      ∙ ap (λ b. b || (nat_eq (get_or groups i 0) g && nat_eq i h)) (so_far.members g h inside)
+      ∙ bits_more h i (nat_eq (get_or groups h 0) g) (nat_eq (get_or groups i 0) g) (λ same. ap (λ n. nat_eq (get_or groups n 0) g) (sym same));
+}
+
+-- ---- all groups
+
+module _ (held : List (ℕ × ℕ)) (numbers : ℕ → Option ℕ) (of_holders : List ℕ) (groups : IsGroupsOf (classes_of held) numbers of_holders)
+    (rows : List (List Bool)) (are : AreMembers of_holders (length of_holders) rows) where
+  pub same_count : length of_holders ≡ length held
+  same_count = groups.one_each ∙ length-map held (λ (p : ℕ × ℕ). p.1)
+
+  pub group_within : (class group : ℕ) → numbers class ≡ Some group → group < length rows
+  group_within class group there =
+      let inside = slice_get_within (classes_of held) group class (groups.known class group there) in
+      omega (arith, inside, groups.one_each, are.one_each)
+
+  pub group_row : (class group : ℕ) → numbers class ≡ Some group → IsRowOf held (λ pair. is_class (Some class) pair.1) (get_or rows group [])
+  group_row class group there = record { wide = are.wide group within ∙ same_count; each = each } where
+    within : group < length of_holders
+    within = let inside = group_within class group there in omega (arith, inside, are.one_each)
+
+    each : (h : ℕ) (pair : ℕ × ℕ) → slice_get held h ≡ Some pair → has (get_or rows group []) h ≡ nat_eq class pair.1
+    each h pair at =
+        are.members group h within
+        ∙ ap (λ b. b && nat_eq (get_or of_holders h 0) group) (lt-ltb h (length of_holders) (omega (arith, inside, same_count)))
+        ∙ same_test (nat_eq (get_or of_holders h 0) group) (nat_eq class pair.1) forth back where
+          inside : h < length held
+          inside = slice_get_within held h pair at
+
+          number : numbers pair.1 ≡ Some (get_or of_holders h 0)
+          number = groups.each h pair.1 (class-there held h pair at)
+
+          forth : nat_eq (get_or of_holders h 0) group ≡ true → nat_eq class pair.1 ≡ true
+          forth same =
+              let is : get_or of_holders h 0 ≡ group = eqb-true (get_or of_holders h 0) group same in
+              eq-eqb class pair.1
+              (some-same (sym (groups.known class group there) ∙ groups.known pair.1 group (number ∙ ap (λ n. Some n) is)))
+
+          back : nat_eq class pair.1 ≡ true → nat_eq (get_or of_holders h 0) group ≡ true
+          back same =
+              eq-eqb (get_or of_holders h 0) group (some-same (sym number ∙ ap numbers (sym (eqb-true class pair.1 same)) ∙ there))
+
+  pub class_known : (h : ℕ) (pair : ℕ × ℕ) → slice_get held h ≡ Some pair → numbers pair.1 ≢ None
+  class_known h pair at none = none-some (get_or of_holders h 0) (sym none ∙ groups.each h pair.1 (class-there held h pair at))
+
+-- a group is the place of a holder
+pub groups_below : (classes of_holders : List ℕ) (numbers : ℕ → Option ℕ) → IsGroupsOf classes numbers of_holders → AreBelow (length of_holders) of_holders
+groups_below classes of_holders numbers groups k inside =
+    let within : k < length classes = omega (arith, groups.one_each, inside) in
+    let class = get_or classes k 0 in
+    let there = slice_get_within classes (get_or of_holders k 0) class
+    (groups.known class (get_or of_holders k 0) (groups.each k class (slice_get-get_or classes k 0 within))) in
+    omega (arith, there, groups.one_each)

@@ -1,6 +1,6 @@
 -- The holders of sites are those of the definitions, and so is the plan that is made of pairs.
 use Rattle.std.proofs.Common.{◌≡◌, ◌≢◌, ℕ, zero, suc, ◌+◌, ◌-◌, ◌<◌, ◌≤◌, ◌&&◌, ◌++◌, Bool, true, false, cond, List, [], ◌∷◌, length, map, take, Option, Some, None, refl, ap, sym, ◌∙◌, subst, ⊎_elim, eq-eqb, arith}
-use Rattle.std.specs.Prelude.{filter, is_some, nat_eq, nat_lt}
+use Rattle.std.specs.Prelude.{filter, is_some, nat_eq, nat_lt, slice_get}
 use Rattle.std.specs.List.{filter_map, flat_map, range_with_len}
 use Rattle.std.proofs.lemmas.Bool.{cases_eq, ltb-false, ltb-true}
 use Rattle.std.proofs.lemmas.List.{length-map}
@@ -16,7 +16,7 @@ use Rattle.fm_place.specs.PlansBy.{holder_of, holders_in, paired}
 use Rattle.fm_place.specs.Sites.{captured_before, captured_sites, held_sites, holder_room, is_captured, is_captured_site, site_at, site_class, site_kind, sites_of}
 use Rattle.fm_place.specs.declared.found_sites.Site.{Site}
 use Rattle.fm_place.specs.declared.limits.TheConstants.{MAX_HOLDING_STACK_WORDS}
-use Rattle.fm_place.specs.inner.PlanRows.{class_held, numbers_by, pair_of}
+use Rattle.fm_place.specs.inner.PlanRows.{held_of, pair_of}
 
 -- ---- lists over ranges
 
@@ -218,18 +218,27 @@ module _ (facts : Facts) (x : TypedMethod) where
       let few = held-few facts x in
       omega (arith, count, few)
 
--- ---- classes that are held
+-- ---- sites that have a holder
 
-pub classes_held : (sites : List Site) → filter_map class_held sites ≡ map (λ (h : Holder). h.class) (holders_in sites)
-classes_held [] = refl
-classes_held (s ∷ sites) = by_holder s.holder (classes_held sites) where
-  by_holder : (o : Option ℕ) → filter_map class_held sites ≡ map (λ (h : Holder). h.class) (holders_in sites)
-      → filter_map class_held (record s { holder = o } ∷ sites) ≡ map (λ (h : Holder). h.class) (holders_in (record s { holder = o } ∷ sites))
+-- the item and the class of a holder's site
+abbrev pub pair_held : Holder → ℕ × ℕ
+pair_held h = (h.site, h.class)
+
+pub pairs_held : (sites : List Site) → filter_map held_of sites ≡ map pair_held (holders_in sites)
+pairs_held [] = refl
+pairs_held (s ∷ sites) = by_holder s.holder (pairs_held sites) where
+  by_holder : (o : Option ℕ) → filter_map held_of sites ≡ map pair_held (holders_in sites)
+      → filter_map held_of (record s { holder = o } ∷ sites) ≡ map pair_held (holders_in (record s { holder = o } ∷ sites))
   by_holder None so_far = so_far
-  by_holder (Some h) so_far = ap (λ cs. s.class ∷ cs) so_far
+  by_holder (Some h) so_far = ap (λ pairs. (s.item, s.class) ∷ pairs) so_far
 
-pub numbers_by_class : (test : ℕ → Bool) (n : ℕ) (holders : List Holder)
-    → numbers_by test n (map (λ (h : Holder). h.class) holders) ≡ numbers_of (λ h. test h.class) n holders
-numbers_by_class test n [] = refl
-numbers_by_class test n (h ∷ holders) =
-    ap (λ ks. cond (test h.class) (n ∷ ks) ks) (numbers_by_class test (n + 1) holders)
+-- the numbers that pass a test are those of the holders that pass one
+pub numbers_by_range : (t : ℕ → Bool) (u : Holder → Bool) (a : ℕ) (holders : List Holder)
+    → ((k : ℕ) (h : Holder) → slice_get holders k ≡ Some h → t (a + k) ≡ u h) → filter t (range_with_len a (length holders)) ≡ numbers_of u a holders
+numbers_by_range t u a [] same = refl
+numbers_by_range t u a (h ∷ holders) same =
+    let rest = filter t (range_with_len (a + 1) (length holders)) in
+    let start : a ≡ a + 0 = omega arith in
+    ap (λ b. cond b (a ∷ rest) rest) (ap t start ∙ same 0 h refl)
+    ∙ ap (λ ks. cond (u h) (a ∷ ks) ks)
+    (numbers_by_range t u (a + 1) holders (λ k g there. let next : a + 1 + k ≡ a + suc k = omega arith in ap t next ∙ same (suc k) g there))

@@ -1,10 +1,12 @@
 pub mod PlaceLemmas
 pub mod BusyLemmas
+pub mod PathLemmas
 pub mod FullLemmas
 pub mod WovenLemmas
 pub mod Example
 pub mod SiteLemmas
 pub mod GroupLemmas
 pub mod RowLemmas
+pub mod HoldingLemmas
 pub mod HolderLemmas
 pub mod PlanLemmas

@@ -1,7 +1,7 @@
 -- The plan that is made of pairs is that of the definitions, by all facts that agree on the method
 -- with its classes and its live locals.
 use Rattle.std.proofs.Common.{◌≡◌, ℕ, zero, suc, ◌+◌, ◌<◌, ◌≤◌, ◌++◌, IfOk, Result, Bool, false, cond, List, [], ◌∷◌, length, map, get_or, Option, Some, None, Contains, refl, ap, sym, ◌∙◌, subst, ⊎_elim, append_assoc, arith, length-append}
-use Rattle.std.specs.Prelude.{nat_eq}
+use Rattle.std.specs.Prelude.{filter, nat_eq, slice_get}
 use Rattle.std.specs.List.{filter_map, flat_map, range_with_len, sum}
 use Rattle.std.proofs.lemmas.Bool.{cases_lt}
 use Rattle.std.proofs.lemmas.List.{get_or_past, length-map}
@@ -19,9 +19,9 @@ use Rattle.fm_conn.specs.declared.class_numbers.Classes.{Classes}
 use Rattle.fm_conn.specs.declared.ends.End2.{End2}
 use Rattle.fm_conn.specs.declared.summaries.Summaries.{Summaries}
 use Rattle.fm_place.proofs.FullLemmas.{before-is, full-safe}
-use Rattle.fm_place.proofs.GroupLemmas.{differs}
+use Rattle.fm_place.proofs.GroupLemmas.{differs, slice_get-mapped}
 use Rattle.fm_place.proofs.RowLemmas.{freed_same}
-use Rattle.fm_place.proofs.HolderLemmas.{classes_held, flat_range_same, holders_are, numbers_by_class, pairs_are}
+use Rattle.fm_place.proofs.HolderLemmas.{flat_range_same, holders_are, numbers_by_range, pair_held, pairs_are, pairs_held}
 use Rattle.fm_place.specs.FactsBy.{facts_by}
 use Rattle.fm_place.specs.Insertions.{after_at, all_holders, all_insertions, before_at, Holder, Insertions, numbers_of}
 use Rattle.fm_place.specs.Laws.{FreesAreCounted, FullSuits, HoldersTellFull}
@@ -31,44 +31,48 @@ use Rattle.fm_place.specs.Sites.{held_sites, site_class, sites_of}
 use Rattle.fm_place.specs.declared.busy_rows.Seen.{Seen}
 use Rattle.fm_place.specs.declared.found_sites.Site.{Site}
 use Rattle.fm_place.specs.declared.plans.Plan.{Plan}
-use Rattle.fm_place.specs.inner.PlanRows.{AreRowsOf, class_held, facts_seen, freed_at, freed_of, has_come, is_busy_at, IsGroupsOf, IsPlanBy, pair_of, typed_seen}
+use Rattle.fm_place.specs.inner.PlanRows.{AreRowsOf, busy_at, facts_seen, freed_by_rows, freed_of, held_of, is_place_at, IsPlanBy, may_hold_at, pair_of, typed_seen}
 
 abbrev pub full_of : Facts → TypedMethod → List ℕ → Option Insertions
 full_of facts x [] = None
 full_of facts x (site ∷ sites) = Some (all_insertions facts x)
 
 -- a place by one kind of facts is one by the other
-place_told : (s : Seen) (facts : Facts) (class j : ℕ) → IsToldBy facts s.method.number.0 s.classes.now s.live.now
-    → is_place (facts_seen s) (typed_seen s) class j ≡ is_place facts (typed_seen s) class j
-place_told s facts class j told =
+place_told : (s : Seen) (facts : Facts) (site class j : ℕ) → IsToldBy facts s.method.number.0 s.classes.now s.live.now
+    → is_place (facts_seen s) (typed_seen s) site class j ≡ is_place facts (typed_seen s) site class j
+place_told s facts site class j told =
     sym (λ k. is_place (record {
       typing = λ method. [];
       linked = λ method a b. false;
       live = λ method local item. told.lives local item k;
       class = λ method node. told.class node k;
-    }) (typed_seen s) class j)
+    }) (typed_seen s) site class j)
 
 -- what is freed before an item
 freed_told : (s : Seen) (facts : Facts) (sites : List Site) (j : ℕ) → IsToldBy facts s.method.number.0 s.classes.now s.live.now
     → sites ≡ sites_of facts (typed_seen s) → j < length s.method.code.now.items
-    → freed_of s (filter_map class_held sites) j ≡ before_at (all_insertions facts (typed_seen s)) j
+    → freed_of s (filter_map held_of sites) j ≡ before_at (all_insertions facts (typed_seen s)) j
 freed_told s facts sites j told are inside =
-    ap (λ cs. freed_of s cs j) (classes_held sites)
-    ∙ numbers_by_class (λ class. is_place (facts_seen s) (typed_seen s) class j) 0 (holders_in sites)
-    ∙ (λ k. numbers_of (λ (h : Holder). place_told s facts h.class j told k) 0 (holders_in sites))
-    ∙ ap (numbers_of (λ (h : Holder). is_place facts (typed_seen s) h.class j) 0) (ap holders_in are ∙ holders_are facts (typed_seen s))
-    ∙ sym (before-is facts (typed_seen s) j inside)
+    ap (λ held. freed_of s held j) (pairs_held sites)
+    ∙ ap (λ n. filter (λ h. is_place_at s j (slice_get (map pair_held holders) h)) (range_with_len 0 n)) (length-map holders pair_held)
+    ∙ numbers_by_range (λ h. is_place_at s j (slice_get (map pair_held holders) h)) (λ (h : Holder). is_place facts (typed_seen s) h.site h.class j) 0 holders
+    (λ k h there.
+    ap (is_place_at s j) (slice_get-mapped pair_held holders k h there) ∙ place_told s facts h.site h.class j told)
+    ∙ ap (numbers_of (λ (h : Holder). is_place facts (typed_seen s) h.site h.class j) 0) (ap holders_in are ∙ holders_are facts (typed_seen s))
+    ∙ sym (before-is facts (typed_seen s) j inside) where
+      holders : List Holder
+      holders = holders_in sites
 
 pub plan_told : (s : Seen) (facts : Facts) (sites : List Site) (plan : Plan) → IsToldBy facts s.method.number.0 s.classes.now s.live.now
     → sites ≡ sites_of facts (typed_seen s) → IsPlanBy s sites plan → IsPlanOf (all_insertions facts (typed_seen s)) plan
 plan_told s facts sites plan told are is = record {
   holders =
-      is.holders ∙ ap length (classes_held sites) ∙ length-map (holders_in sites) (λ (h : Holder). h.class)
+      is.holders ∙ ap length (pairs_held sites) ∙ length-map (holders_in sites) pair_held
       ∙ ap length (ap holders_in are ∙ holders_are facts x);
   after = is.after ∙ ap (filter_map pair_of) are ∙ pairs_are facts x ∙ ap (λ n. flat_map (paired (after_at plan_is)) (range_with_len 0 n)) (sym all);
   before =
       is.before
-      ∙ flat_range_same (paired (freed_of s (filter_map class_held sites))) (paired (before_at plan_is)) 0 (length x.code.items)
+      ∙ flat_range_same (paired (freed_of s (filter_map held_of sites))) (paired (before_at plan_is)) 0 (length x.code.items)
       (λ j low high. ap (map (λ h. (j, h))) (freed_told s facts sites j told are (omega arith)))
       ∙ ap (λ n. flat_map (paired (before_at plan_is)) (range_with_len 0 n)) (sym all);
 } where
@@ -79,7 +83,7 @@ plan_told s facts sites plan told are is = record {
   plan_is = all_insertions facts x
 
   all : length plan_is.before ≡ length x.code.items
-  all = length-map-range_with_len (λ j. numbers_of (λ h. is_place facts x h.class j) 0 (all_holders facts x)) 0 (length x.code.items)
+  all = length-map-range_with_len (λ j. numbers_of (λ h. is_place facts x h.site h.class j) 0 (all_holders facts x)) 0 (length x.code.items)
 
 -- ---- the facts of one method and those of a program
 
@@ -154,24 +158,22 @@ pub plans_told : {E : Type 0} (s : Seen) (facts : Facts) (sites : List Site) (an
 plans_told s facts sites answer is told are =
     IfOk-weaker answer (IsPlanBy s sites) (IsPlanOf (all_insertions facts (typed_seen s))) (λ plan by. plan_told s facts sites plan told are by) is
 
--- what is freed by rows is what is freed by places
-pub all_freed_same : (s : Seen) (held of_holders : List ℕ) (numbers : ℕ → Option ℕ) (count : ℕ) (busy came : List (List Bool))
-    → IsGroupsOf held numbers of_holders → count ≡ length s.method.code.now.items → AreRowsOf (length held) numbers count (is_busy_at s) busy
-    → AreRowsOf (length held) numbers count (has_come s count) came
-    → flat_map (paired (freed_at of_holders busy came)) (range_with_len 0 count)
+-- what is freed by rows is what is freed at places
+pub all_freed_same : (s : Seen) (held : List (ℕ × ℕ)) (count : ℕ) (busy holding : List (List Bool)) → count ≡ length s.method.code.now.items
+    → AreRowsOf held count (busy_at s) busy → AreRowsOf held count (may_hold_at s) holding
+    → flat_map (paired (freed_by_rows (length held) busy holding)) (range_with_len 0 count)
     ≡ flat_map (paired (freed_of s held)) (range_with_len 0 (length s.method.code.now.items))
-all_freed_same s held of_holders numbers count busy came groups all busy_are came_are =
-    flat_range_same (paired (freed_at of_holders busy came)) (paired (freed_of s held)) 0 count
+all_freed_same s held count busy holding all busy_are holding_are =
+    flat_range_same (paired (freed_by_rows (length held) busy holding)) (paired (freed_of s held)) 0 count
     (λ j low high.
     let inside : j < count = omega arith in
-    ap (map (λ h. (j, h))) (freed_same s held of_holders numbers count j (get_or busy j []) (get_or came j []) groups all (busy_are.each j inside)
-    (came_are.each j inside)))
+    ap (map (λ h. (j, h))) (freed_same s held j (get_or busy j []) (get_or holding j []) (busy_are.each j inside) (holding_are.each j inside)))
     ∙ ap (λ n. flat_map (paired (freed_of s held)) (range_with_len 0 n)) all
 
 -- nothing is freed where nothing is held
-pub nothing_freed : (s : Seen) (held : List ℕ) (count : ℕ) → length held ≡ 0 → flat_map (paired (freed_of s held)) (range_with_len 0 count) ≡ []
+pub nothing_freed : (s : Seen) (held : List (ℕ × ℕ)) (count : ℕ) → length held ≡ 0 → flat_map (paired (freed_of s held)) (range_with_len 0 count) ≡ []
 nothing_freed s [] count none = none_over 0 count where
   none_over : (a n : ℕ) → flat_map (paired (freed_of s [])) (range_with_len a n) ≡ []
   none_over a zero = refl
   none_over a (suc n) = none_over (a + 1) n
-nothing_freed s (class ∷ held) count none = absurd (omega arith)
+nothing_freed s (pair ∷ held) count none = absurd (omega arith)

@@ -37,13 +37,13 @@ after_at plan j = numbers_of (λ h. h.site == j) 0 plan.holders
 abbrev pub all_holders : Facts → TypedMethod → List Holder
 all_holders facts x = map (λ j. record { site = j; class = site_class facts x j; looped = false }) (held_sites facts x)
 
--- before each place the holders of its class, rising
+-- before each item the holders of which it is a place, rising
 abbrev pub all_insertions : Facts → TypedMethod → Insertions
 all_insertions facts x =
     let holders = all_holders facts x in
     record {
       holders = holders;
-      before = map (λ j. numbers_of (λ h. is_place facts x h.class j) 0 holders) (range_with_len 0 (length x.code.items));
+      before = map (λ j. numbers_of (λ h. is_place facts x h.site h.class j) 0 holders) (range_with_len 0 (length x.code.items));
     }
 
 -- a method without a held site stays as it is

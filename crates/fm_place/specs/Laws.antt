@@ -17,7 +17,7 @@ use Rattle.fm_layout.specs.Tables.{AreAnchors}
 use Rattle.fm_layout.specs.declared.laying.TheConstants.{MAX_NEW_ITEMS}
 use Rattle.fm_place.specs.FactsBy.{facts_by}
 use Rattle.fm_place.specs.Insertions.{all_holders, all_insertions, before_at, full_insertions, Insertions}
-use Rattle.fm_place.specs.Places.{ComesFromBusy, is_busy, is_place, IsBusy}
+use Rattle.fm_place.specs.Places.{is_busy, is_place, IsBusy, MayHold}
 use Rattle.fm_place.specs.PlansBy.{holders_in, IsPlanOf}
 use Rattle.fm_place.specs.Rewriting.{free_count}
 use Rattle.fm_place.specs.Safe.{Full, Safe}
@@ -36,11 +36,11 @@ abbrev pub WordsKeepBusy : Type 0
 WordsKeepBusy =
     (facts : Facts) (x : TypedMethod) (j depth : ℕ) → IsNode x (Slot j depth) → is_busy facts x (facts.class x.number (Slot j depth)) j ≡ true
 
--- a place is an item at which the class isn't busy, with an edge from one at which it is
-abbrev pub PlacesAreByEdges : Type 0
-PlacesAreByEdges =
-    (facts : Facts) (x : TypedMethod) (class j : ℕ)
-    → (is_place facts x class j ≡ true) ↔ ((is_busy facts x class j ≡ false) × ComesFromBusy facts x class j)
+-- a place of a holder is an item at which its class isn't busy, and at which it may hold something, by a path of any length
+abbrev pub PlacesAreByPaths : Type 0
+PlacesAreByPaths =
+    (facts : Facts) (x : TypedMethod) (site class j : ℕ)
+    → (is_place facts x site class j ≡ true) ↔ ((is_busy facts x class j ≡ false) × MayHold facts x site class j)
 
 -- all held sites and all places together are safe
 abbrev pub FullIsSafe : Type 0

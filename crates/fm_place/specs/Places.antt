@@ -1,5 +1,5 @@
--- Where the objects of a class are still in use in a method, and where they no longer are.
-use Rattle.std.specs.Prelude.{◌≡◌, ℕ, ◌==◌, ◌&&◌, ◌||◌, not, Bool, true, false, length, Option, Some, None, is_some}
+-- Where the objects of a class are still in use in a method, and where a holder may hold one that no longer is.
+use Rattle.std.specs.Prelude.{◌≡◌, ℕ, zero, suc, ◌+◌, ◌==◌, ◌&&◌, ◌||◌, not, Bool, true, false, List, [], ◌∷◌, length, Option, Some, None, is_some}
 use Rattle.std.specs.List.{list_any, range_with_len}
 use Rattle.fm_code.specs.Edges.{IsEdge}
 use Rattle.fm_code.specs.EdgesExample.{edges_listed}
@@ -8,7 +8,6 @@ use Rattle.fm_conn.specs.Nodes.{depth_at, IsNode, Local, Slot, TypedMethod, word
 use Rattle.fm_types.specs.States.{is_reference}
 use Rattle.fm_types.specs.Typed.{state_at}
 use Rattle.fm_types.specs.declared.slots.Slot as slots
-use Rattle.fm_world.specs.Chains.{is_among}
 
 -- ---- busy
 
@@ -39,19 +38,30 @@ pub data IsBusy (facts : Facts) (x : TypedMethod) (class j : ℕ) : Type 0 where
   InLocal : (k : ℕ) → is_some (state_at x.states j) ≡ true → facts.live x.number k j ≡ true → facts.class x.number (Local k) ≡ class
       → IsBusy facts x class j
 
+-- ---- what a holder may hold
+
+-- The items lead from one end to the other, each with an edge to the next, and the class is busy at each of them but the last.
+abbrev pub IsBusyPath : Facts → TypedMethod → (class j : ℕ) → List ℕ → ℕ → Type 0
+IsBusyPath facts x class j [] last = j ≡ last
+IsBusyPath facts x class j (next ∷ rest) last = (is_busy facts x class j ≡ true) × (IsEdge x.code j next × IsBusyPath facts x class next rest last)
+
+-- A holder of a site, whose object is in this class, may hold something at an item to which such a path leads from the item after the site, where the
+-- holder has just taken the object: as long as the class is busy nothing frees it.
+abbrev pub MayHold : Facts → TypedMethod → (site class j : ℕ) → Type 0
+MayHold facts x site class j = (path : List ℕ) × IsBusyPath facts x class (site + 1) path j
+
+-- whether such a path of at most this many edges leads from one item to another
+abbrev pub leads_busily : Facts → TypedMethod → (class edges j last : ℕ) → Bool
+leads_busily facts x class zero j last = j == last
+leads_busily facts x class (suc edges) j last =
+    j == last || (is_busy facts x class j && list_any (λ next. leads_busily facts x class edges next last) (edges_listed x.code j))
+
+-- the same by paths that are no longer than the code: what goes past no item twice has fewer edges than there are items
+abbrev pub may_hold : Facts → TypedMethod → (site class j : ℕ) → Bool
+may_hold facts x site class j = leads_busily facts x class (length x.code.items) (site + 1) j
+
 -- ---- places
 
--- some item with an edge to this one is one at which the class is busy
-pub record ComesFromBusy (facts : Facts) (x : TypedMethod) (class j : ℕ) : Type 0 where
-  pub before : ℕ
-  pub edge : IsEdge x.code before j
-  pub busy : is_busy facts x class before ≡ true
-
--- the same by a list of all items
-abbrev pub comes_from_busy : Facts → TypedMethod → (class j : ℕ) → Bool
-comes_from_busy facts x class j =
-    list_any (λ before. is_busy facts x class before && is_among j (edges_listed x.code before)) (range_with_len 0 (length x.code.items))
-
--- control comes from where the class is busy to where it isn't: what its objects lead to is of no more use
-abbrev pub is_place : Facts → TypedMethod → (class j : ℕ) → Bool
-is_place facts x class j = not (is_busy facts x class j) && comes_from_busy facts x class j
+-- a holder may hold something where its class isn't busy: what its object leads to is of no more use
+abbrev pub is_place : Facts → TypedMethod → (site class j : ℕ) → Bool
+is_place facts x site class j = not (is_busy facts x class j) && may_hold facts x site class j

@@ -8,7 +8,7 @@ use Rattle.fm_conn.specs.Links.{typed_method}
 use Rattle.fm_conn.specs.Nodes.{TypedMethod}
 use Rattle.fm_world.specs.Programs.{code_at, Program, program_of}
 use Rattle.fm_place.specs.Insertions.{before_at, full_insertions, Holder, Insertions}
-use Rattle.fm_place.specs.Places.{ComesFromBusy, is_busy}
+use Rattle.fm_place.specs.Places.{is_busy, MayHold}
 use Rattle.fm_place.specs.Rewriting.{marks_with, Plans, rewritten}
 use Rattle.fm_place.specs.Sites.{is_captured_site, site_class}
 
@@ -26,13 +26,13 @@ pub record MayFree (facts : Facts) (x : TypedMethod) (plan : Insertions) (j numb
   pub is : slice_get plan.holders number ≡ Some holder
   pub quiet : is_busy facts x holder.class j ≡ false
 
--- Before item j each holder is freed at most once, and only where its class isn't busy; and each one is freed to whose class control may come from where
--- it was busy. The order is left open, and a holder whose class wasn't busy before may be freed too: it is null then.
+-- Before item j each holder is freed at most once, and only where its class isn't busy; and each one is freed that may hold something there. The order is
+-- left open, and a holder that can't hold anything may be freed too: it is null then.
 pub record IsSafeAt (facts : Facts) (x : TypedMethod) (plan : Insertions) (j : ℕ) : Type 0 where
   pub once : IsDistinct nat_eq (before_at plan j)
   pub may : (number : ℕ) → Contains (before_at plan j) number → MayFree facts x plan j number
   pub must : (number : ℕ) (holder : Holder) → slice_get plan.holders number ≡ Some holder → is_busy facts x holder.class j ≡ false
-      → ComesFromBusy facts x holder.class j → Contains (before_at plan j) number
+      → MayHold facts x holder.site holder.class j → Contains (before_at plan j) number
 
 -- what is inserted into a method keeps its meaning: there are holders, as many as there are locals left for, each one of a site of its own
 pub record AreSafe (facts : Facts) (x : TypedMethod) (plan : Insertions) : Type 0 where
@@ -71,7 +71,7 @@ pub record Safe (given : List ClassDef) (main : List ℕ) (written : List ClassD
 abbrev pub full_plans : Program → Facts → Plans
 full_plans p facts method = option_and_then (full_insertions facts) (method_in_facts p facts method)
 
--- exactly the held sites have holders, and these are freed exactly at the places of their classes: whatever the numbers of classes, one result
+-- exactly the held sites have holders, and each is freed exactly at its places: whatever the numbers of classes, one result
 pub record Full (given : List ClassDef) (main : List ℕ) (written : List ClassDef) (marks : List (List (Option ℕ))) : Type 0 where
   pub facts : Facts
   pub exact : AreFacts (program_of given main) facts

@@ -1,10 +1,9 @@
-// Where the classes that are held are busy, and what control reaches from there.
+// Where the classes of holders are busy.
 
-ghost use Rattle.std.specs.Prelude.{◌≡◌, ◌<◌, ◌≤◌, ℕ, IfOk, Contains, Some, length};
+ghost use Rattle.std.specs.Prelude.{◌≡◌, ◌<◌, ◌≤◌, ℕ, IfOk, Some, length};
 ghost use Rattle.std.specs.Option.{option_copied, option_map};
-ghost use Rattle.fm_flow.specs.inner.LiveWalks.{HaveWidth};
 ghost use Rattle.fm_place.specs.Places.{is_local_in, is_word_in};
-ghost use Rattle.fm_place.specs.inner.PlanRows.{AddsTo, AreGroups, AreRowsIn, IsRowIn, IsSeen, facts_seen, has_come, is_busy_at, is_class, is_in_locals, is_in_words, no_class, typed_seen};
+ghost use Rattle.fm_place.specs.inner.PlanRows.{AreGroups, AreRowsIn, IsRowIn, IsSeen, facts_seen, is_busy_at, is_class, is_in_locals, is_in_words, no_class, typed_seen};
 ghost use Rattle.fm_types.specs.Typed.{state_at};
 ghost use Rattle.fm_types.specs.Typings.{states_of, type_state};
 
@@ -25,7 +24,7 @@ pub struct Seen<'a> {
 }
 
 impl Seen<'_> {
-    /// For each item a row with the classes that are busy there.
+    /// For each item a row with the holders of classes that are busy there.
     pub fn busy_rows(
         &self,
         alloc: Global,
@@ -45,7 +44,7 @@ impl Seen<'_> {
         Ok(rows)
     }
 
-    // The classes that are busy at an item.
+    // The holders of classes that are busy at an item.
     fn busy_row(&self, alloc: Global, groups: &Groups<'_>, item: u32) -> Result<Row, NoMemory>
         requires seen { IsSeen self.now }
         requires groups { AreGroups groups.now }
@@ -62,7 +61,7 @@ impl Seen<'_> {
         Ok(row)
     }
 
-    // Sets the classes of the lowest words of the stack.
+    // Sets the holders of the classes of the lowest words of the stack.
     fn mark_words(&self, groups: &Groups<'_>, item: u32, depth: u16, row: &mut Row)
         requires seen { IsSeen self.now }
         requires groups { AreGroups groups.now }
@@ -75,7 +74,7 @@ impl Seen<'_> {
         }
     }
 
-    // Sets the classes of the live locals.
+    // Sets the holders of the classes of the live locals.
     fn mark_locals(&self, groups: &Groups<'_>, item: u32, depth: u16, row: &mut Row)
         requires seen { IsSeen self.now }
         requires groups { AreGroups groups.now }
@@ -113,53 +112,6 @@ impl Seen<'_> {
         } else {
             None
         }
-    }
-
-    /// For each item a row with the classes that are busy at an item with an edge to it.
-    pub fn came_rows(
-        &self,
-        alloc: Global,
-        groups: &Groups<'_>,
-        busy: &[Row],
-        count: u32,
-    ) -> Result<Vec<Row>, NoMemory>
-        requires seen { IsSeen self.now }
-        requires groups { AreGroups groups.now }
-        requires count { count ≡ length self.now.method.code.now.items }
-        requires busy { AreRowsIn groups.now count (is_busy_at self.now) busy.now }
-        ensures { IfOk result
-            (λ rows. AreRowsIn groups.now count (has_come self.now count) rows.items) }
-    {
-        let mut came = empty_rows(alloc, groups, count)?;
-        for item in 0..count {
-            let row = &busy[item as usize];
-            add_to_all(&mut came, self.flow.edges(item), row);
-        }
-        Ok(came)
-    }
-}
-
-// A row for each item, in which no class is set.
-fn empty_rows(alloc: Global, groups: &Groups<'_>, count: u32) -> Result<Vec<Row>, NoMemory>
-    requires { AreGroups groups.now }
-    ensures { IfOk result (λ rows. AreRowsIn groups.now count (λ item. no_class) rows.items) }
-{
-    let mut rows = Vec::new(alloc);
-    for _ in 0..count {
-        let row = groups.row(alloc)?;
-        rows.push(row)?;
-    }
-    Ok(rows)
-}
-
-// Adds the row to those of all these items.
-fn add_to_all(rows: &mut Vec<Row>, items: &[u32], row: &Row)
-    requires items { (j : ℕ) → Contains items.now j → j < length rows.old.items }
-    requires widths { HaveWidth (length row.now) rows.old.items }
-    ensures { AddsTo items.now row.now rows.old.items rows.new.items }
-{
-    for item in items {
-        rows[*item as usize].union(row);
     }
 }
 

@@ -1,46 +1,49 @@
-// The classes that are held, grouped: holders of one class share a bit in the rows of a plan.
+// The holders of each class: they share where they are busy.
 
-ghost use Rattle.std.specs.Prelude.{◌≡◌, ◌≤◌, ◌||◌, ℕ, Bool, IfOk, Some, length, unwrap_or, nat_eq, if◌then◌else◌};
+ghost use Rattle.std.specs.Prelude.{◌≡◌, ◌<◌, ◌≤◌, ◌||◌, ℕ, Bool, IfOk, Some, length, map, unwrap_or, nat_eq, if◌then◌else◌};
 ghost use Rattle.fm_base.specs.declared.limits.TheConstants.{MAX_LOCAL_WORDS};
-ghost use Rattle.fm_place.specs.inner.PlanRows.{number_in};
+ghost use Rattle.fm_place.specs.inner.PlanRows.{number_in, AreBelow, AreMembers, IsGroupsOf};
 
+use crate::set_bits::set_at;
 use fm_base::{NoMemory, Row};
+use fm_flow::empty_rows;
 use std::alloc::Global;
 use std::collections::BTreeMap;
 
-/// Of each class that is held the first holder that has it, which represents the class in rows.
+/// The classes that are held, and the holders of each. The first holder of a class represents it.
 #[derive(Drop)]
 pub struct Groups<'a> {
-    /// The class of each holder.
-    pub held: &'a [u32],
-    /// The group of each class.
+    /// Of each holder the item of its site, and its class.
+    pub held: &'a [(u32, u32)],
+    /// Of each class the first of its holders.
     pub numbers: BTreeMap<u32, u32>,
-    /// The group of each holder.
-    pub of_holders: Vec<u32>,
+    /// For each holder that is the first of its class a row with all holders of the class.
+    pub members: Vec<Row>,
 }
 
 impl<'a> Groups<'a> {
     ghost use Rattle.fm_place.specs.inner.PlanRows.{is_class, no_class, AreGroups, IsRowIn};
 
-    /// The groups of these classes, of which each holder has one.
-    pub fn of(alloc: Global, held: &'a [u32]) -> Result<Groups<'a>, NoMemory>
+    /// The groups of these holders. Takes memory for one bit for each two holders.
+    pub fn of(alloc: Global, held: &'a [(u32, u32)]) -> Result<Groups<'a>, NoMemory>
         requires { length held.now ≤ MAX_LOCAL_WORDS }
         ensures { IfOk result (λ groups. AreGroups groups × (groups.held.now ≡ held.now)) }
     {
         let mut numbers = BTreeMap::new(alloc);
         let mut of_holders = Vec::new(alloc);
-        for (holder, class) in held.iter().enumerate() {
-            let group = add_class(&mut numbers, *class, holder as u32)?;
+        for (holder, pair) in held.iter().enumerate() {
+            let group = add_class(&mut numbers, pair.1, holder as u32)?;
             of_holders.push(group)?;
         }
+        let members = members_of(alloc, of_holders.as_slice())?;
         Ok(Groups {
             held,
             numbers,
-            of_holders,
+            members,
         })
     }
 
-    /// A row in which no class is set.
+    /// A row in which no holder is set.
     pub fn row(&self, alloc: Global) -> Result<Row, NoMemory>
         requires { AreGroups self.now }
         ensures { IfOk result (IsRowIn self.now no_class) }
@@ -48,7 +51,7 @@ impl<'a> Groups<'a> {
         Row::new(alloc, self.held.len() as u32)
     }
 
-    /// Sets the class in a row, if some holder has it.
+    /// Sets the holders of the class in a row.
     pub fn mark(&self, class: Option<u32>, row: &mut Row)
         requires groups { AreGroups self.now }
         requires wide { length row.old ≡ length self.now.held.now }
@@ -61,7 +64,8 @@ impl<'a> Groups<'a> {
         let Some(group) = self.numbers.get(&class) else {
             return;
         };
-        row.set(*group);
+        // Whether a holder came in is not needed.
+        let _grown = row.union(&self.members[*group as usize]);
     }
 }
 
@@ -78,4 +82,18 @@ fn add_class(numbers: &mut BTreeMap<u32, u32>, class: u32, fresh: u32) -> Result
             Ok(fresh)
         }
     }
+}
+
+// For each group a row with its holders.
+fn members_of(alloc: Global, groups: &[u32]) -> Result<Vec<Row>, NoMemory>
+    requires few { length groups.now ≤ MAX_LOCAL_WORDS }
+    requires below { AreBelow (length groups.now) groups.now }
+    ensures { IfOk result (λ rows. AreMembers groups.now (length groups.now) rows.items) }
+{
+    let count = groups.len() as u32;
+    let mut rows = empty_rows(alloc, count, count)?;
+    for (holder, group) in groups.iter().enumerate() {
+        set_at(&mut rows, *group as usize, holder as u32);
+    }
+    Ok(rows)
 }

@@ -6,7 +6,7 @@ ghost use Rattle.fm_base.specs.declared.limits.TheConstants.{MAX_STACK_WORDS};
 ghost use Rattle.fm_code.specs.ClassBytes.{class_bytes};
 ghost use Rattle.fm_place.specs.Example.{array_holder, main_number, popping_class, popping_code, popping_facts, popping_main, popping_marks, popping_plan, popping_program, popping_woven, read_bytes, written_bytes};
 ghost use Rattle.fm_place.specs.Insertions.{full_insertions};
-ghost use Rattle.fm_place.specs.Laws.{AnchorsAreAnchors, BusyIsByWitness, FreesAreCounted, FullIsSafe, FullSuits, HoldersAreAll, HoldersAreFew, HoldersTellFull, PlacesAreByEdges, SitesAreTold, WordsKeepBusy, WovenIsLaidOut};
+ghost use Rattle.fm_place.specs.Laws.{AnchorsAreAnchors, BusyIsByWitness, FreesAreCounted, FullIsSafe, FullSuits, HoldersAreAll, HoldersAreFew, HoldersTellFull, PlacesAreByPaths, SitesAreTold, WordsKeepBusy, WovenIsLaidOut};
 ghost use Rattle.fm_place.specs.Places.{is_busy, is_place};
 ghost use Rattle.fm_place.specs.Rewriting.{frees_in, marks_with, rewritten, sites_in};
 ghost use Rattle.fm_place.specs.Safe.{full_plans};
@@ -26,12 +26,13 @@ pub fn law_busy()
     ensures words { WordsKeepBusy }
 {}
 
-/// A place is an item at which the class isn't busy, with an edge from an item at which it is.
+/// A place of a holder is an item at which its class isn't busy, and to which a path along edges
+/// leads from the item after its site, with the class busy at each item before the last.
 pub fn law_places()
-    ensures { PlacesAreByEdges }
+    ensures { PlacesAreByPaths }
 {}
 
-/// Holders for all held sites, freed at all places of their classes, are safe.
+/// Holders for all held sites, freed at all their places, are safe.
 pub fn law_full()
     ensures { FullIsSafe }
 {}
@@ -66,7 +67,7 @@ pub fn law_example()
     ensures held { held_sites popping_facts popping_main ≡ 1 ∷ [] }
     ensures busy { map (is_busy popping_facts popping_main 9) (range_with_len 0 4)
         ≡ false ∷ false ∷ true ∷ false ∷ [] }
-    ensures places { map (is_place popping_facts popping_main 9) (range_with_len 0 4)
+    ensures places { map (is_place popping_facts popping_main 1 9) (range_with_len 0 4)
         ≡ false ∷ false ∷ false ∷ true ∷ [] }
     ensures plan { full_plans popping_program popping_facts main_number ≡ Some popping_plan }
     ensures items { woven 13 popping_code popping_plan ≡ popping_woven }

@@ -6,9 +6,11 @@
 mod busy_rows;
 mod found_sites;
 mod groups;
+mod holding_rows;
 mod laws;
 pub mod limits;
 mod plans;
+mod set_bits;
 
 pub use found_sites::{Site, sites};
 pub use laws::{

@@ -1,15 +1,14 @@
 // The plan of a method: which locals are added, where each takes an object, and where it is freed.
 
-ghost use Rattle.std.specs.Prelude.{◌≡◌, ◌≤◌, ◌<◌, ◌++◌, ℕ, [], ◌∷◌, IfOk, OnOk, Some, false, length, map, replicate, if◌then◌else◌};
-ghost use Rattle.std.specs.Bool.{OnFalse};
+ghost use Rattle.std.specs.Prelude.{◌≡◌, ◌≤◌, ◌<◌, ◌++◌, ℕ, [], ◌∷◌, IfOk, OnOk, Some, length, map, if◌then◌else◌};
 ghost use Rattle.std.specs.List.{filter_map, flat_map, range_with_len};
 ghost use Rattle.fm_base.specs.declared.ids.MethodId.{MethodId};
-ghost use Rattle.fm_base.specs.Rows.{IsUnion};
 ghost use Rattle.fm_base.specs.declared.limits.TheConstants.{MAX_LOCAL_WORDS};
 ghost use Rattle.fm_code.specs.declared.code_array.Code.{Code};
 ghost use Rattle.fm_conn.specs.Facts.{Facts};
 ghost use Rattle.fm_conn.specs.Shapes.{method_with, IsCoded, IsFlowAt};
 ghost use Rattle.fm_flow.specs.LiveRows.{IsLiveRowsOf};
+ghost use Rattle.fm_flow.specs.inner.LiveWalks.{HaveWidth};
 ghost use Rattle.fm_types.specs.Typed.{IsTyping};
 ghost use Rattle.fm_types.specs.Typings.{states_of};
 ghost use Rattle.fm_world.specs.Members.{methods_of};
@@ -17,11 +16,12 @@ ghost use Rattle.fm_world.specs.Programs.{code_at, method_info};
 ghost use Rattle.fm_place.specs.Insertions.{all_insertions};
 ghost use Rattle.fm_place.specs.PlansBy.{holders_in, paired, HasNodesOf, IsPlanOf, IsToldBy};
 ghost use Rattle.fm_place.specs.Sites.{sites_of};
-ghost use Rattle.fm_place.specs.inner.PlanRows.{class_held, freed_at, freed_of, is_freed, listed, numbers_by, pair_of, AreAsWide, AreBelow, AreWide, IsPlanBy, IsSeen};
+ghost use Rattle.fm_place.specs.inner.PlanRows.{freed_at, freed_by_rows, freed_of, held_of, is_freed, listed, pair_of, IsPlanBy, IsSeen};
 
 use crate::busy_rows::Seen;
 use crate::found_sites::{Site, item_count};
 use crate::groups::Groups;
+use crate::holding_rows::is_any_freed;
 use fm_base::{MethodId, NoMemory, Row};
 use fm_conn::{AnalysedMethod, Classes};
 use fm_flow::{Flow, LiveRows};
@@ -41,8 +41,8 @@ pub struct Plan {
     pub before: Vec<(u32, u16)>,
 }
 
-/// What is inserted into a method with these sites: all holders, and each is freed at all places of
-/// its class. Typing, flow, live locals and classes are those of this method.
+/// What is inserted into a method with these sites: all holders, and each is freed at all its places.
+/// Typing, flow, live locals and classes are those of this method.
 /// Takes memory for the plan, and two bits for each item and holder.
 pub fn places(
     alloc: Global,
@@ -95,10 +95,10 @@ pub fn places(
 // The same of what is known of the method.
 fn plan_of(alloc: Global, seen: &Seen<'_>, sites: &[Site]) -> Result<Plan, NoMemory>
     requires seen { IsSeen seen.now }
-    requires few { length (filter_map class_held sites.now) ≤ MAX_LOCAL_WORDS }
+    requires few { length (filter_map held_of sites.now) ≤ MAX_LOCAL_WORDS }
     ensures { IfOk result (IsPlanBy seen.now sites.now) }
 {
-    let held = held_classes(alloc, sites)?;
+    let held = held_sites(alloc, sites)?;
     let after = after_sites(alloc, sites)?;
     let before = before_places(alloc, seen, held.as_slice())?;
     let holders = held.len() as u16;
@@ -109,25 +109,25 @@ fn plan_of(alloc: Global, seen: &Seen<'_>, sites: &[Site]) -> Result<Plan, NoMem
     })
 }
 
-// The class of each holder.
-fn held_classes(alloc: Global, sites: &[Site]) -> Result<Vec<u32>, NoMemory>
-    ensures { IfOk result (λ held. held.items ≡ filter_map class_held sites.now) }
+// The item and the class of each site that has a holder.
+fn held_sites(alloc: Global, sites: &[Site]) -> Result<Vec<(u32, u32)>, NoMemory>
+    ensures { IfOk result (λ held. held.items ≡ filter_map held_of sites.now) }
 {
     let mut held = Vec::new(alloc);
     for site in sites {
-        push_class(&mut held, site)?;
+        push_held(&mut held, site)?;
     }
     Ok(held)
 }
 
-// Puts the class of the site's holder after the last one, if it has one.
-fn push_class(held: &mut Vec<u32>, site: &Site) -> Result<(), NoMemory>
-    ensures { OnOk result (held.new.items ≡ held.old.items ++ listed (class_held site.now)) }
+// Puts the item and the class of the site after the last pair, if it has a holder.
+fn push_held(held: &mut Vec<(u32, u32)>, site: &Site) -> Result<(), NoMemory>
+    ensures { OnOk result (held.new.items ≡ held.old.items ++ listed (held_of site.now)) }
 {
     if site.holder.is_none() {
         return Ok(());
     }
-    held.push(site.class)?;
+    held.push((site.item, site.class))?;
     Ok(())
 }
 
@@ -153,8 +153,12 @@ fn push_pair(after: &mut Vec<(u32, u16)>, site: &Site) -> Result<(), NoMemory>
     Ok(())
 }
 
-// Before which items the holders of these classes are freed.
-fn before_places(alloc: Global, seen: &Seen<'_>, held: &[u32]) -> Result<Vec<(u32, u16)>, NoMemory>
+// Before which items these holders are freed.
+fn before_places(
+    alloc: Global,
+    seen: &Seen<'_>,
+    held: &[(u32, u32)],
+) -> Result<Vec<(u32, u16)>, NoMemory>
     requires seen { IsSeen seen.now }
     requires few { length held.now ≤ MAX_LOCAL_WORDS }
     ensures { IfOk result (λ before. before.items ≡ flat_map (paired (freed_of seen.now held.now))
@@ -167,34 +171,32 @@ fn before_places(alloc: Global, seen: &Seen<'_>, held: &[u32]) -> Result<Vec<(u3
     let groups = Groups::of(alloc, held)?;
     let busy = seen.busy_rows(alloc, &groups, count)?;
     let busy_rows = busy.as_slice();
-    let came = seen.came_rows(alloc, &groups, busy_rows, count)?;
-    let came_rows = came.as_slice();
-    let of_holders = groups.of_holders.as_slice();
-    all_freed(alloc, of_holders, busy_rows, came_rows, count)
+    let holding = seen.holding_rows(alloc, held, busy_rows, count)?;
+    let holding_rows = holding.as_slice();
+    all_freed(alloc, held.len() as u32, busy_rows, holding_rows, count)
 }
 
-// For each item the holders that are freed before it, by the groups of the holders.
+// For each item the holders that are freed before it.
 fn all_freed(
     alloc: Global,
-    groups: &[u32],
+    holders: u32,
     busy: &[Row],
-    came: &[Row],
+    holding: &[Row],
     count: u32,
 ) -> Result<Vec<(u32, u16)>, NoMemory>
-    requires few { length groups.now ≤ MAX_LOCAL_WORDS }
-    requires rows { length busy.now ≡ count }
-    requires came_rows { length came.now ≡ count }
-    requires busy { AreWide groups.now count busy.now }
-    requires came { AreWide groups.now count came.now }
-    requires as_wide { AreAsWide count busy.now came.now }
+    requires few { holders ≤ MAX_LOCAL_WORDS }
+    requires busy_rows { length busy.now ≡ count }
+    requires holding_rows { length holding.now ≡ count }
+    requires busy { HaveWidth holders busy.now }
+    requires holding { HaveWidth holders holding.now }
     ensures { IfOk result (λ found. found.items
-        ≡ flat_map (paired (freed_at groups.now busy.now came.now)) (range_with_len 0 count)) }
+        ≡ flat_map (paired (freed_by_rows holders busy.now holding.now)) (range_with_len 0 count)) }
 {
     let mut found = Vec::new(alloc);
     for item in 0..count {
         let busy_row = &busy[item as usize];
-        let came_row = &came[item as usize];
-        push_freed(alloc, &mut found, groups, item, busy_row, came_row)?;
+        let holding_row = &holding[item as usize];
+        push_freed(alloc, &mut found, item, busy_row, holding_row)?;
     }
     Ok(found)
 }
@@ -204,76 +206,51 @@ fn all_freed(
 fn push_freed(
     alloc: Global,
     found: &mut Vec<(u32, u16)>,
-    groups: &[u32],
     item: u32,
     busy: &Row,
-    came: &Row,
+    holding: &Row,
 ) -> Result<(), NoMemory>
-    requires few { length groups.now ≤ MAX_LOCAL_WORDS }
-    requires busy { AreBelow (length busy.now) groups.now }
-    requires came { AreBelow (length came.now) groups.now }
-    requires as_wide { length came.now ≡ length busy.now }
+    requires few { length busy.now ≤ MAX_LOCAL_WORDS }
+    requires as_wide { length holding.now ≡ length busy.now }
     ensures { OnOk result (found.new.items ≡ found.old.items
-        ++ map (λ (h : ℕ). (item, h)) (numbers_by (is_freed busy.now came.now) 0 groups.now)) }
+        ++ map (λ (h : ℕ). (item, h)) (freed_at (length busy.now) busy.now holding.now)) }
 {
-    let any = is_any_freed(alloc, busy, came)?;
+    let any = is_any_freed(alloc, busy, holding)?;
     if !any {
         return Ok(());
     }
-    push_each_freed(found, groups, item, busy, came)
-}
-
-// Whether some group isn't busy, and has come from where it is: false only if there is none.
-// Takes memory for a row.
-fn is_any_freed(alloc: Global, busy: &Row, came: &Row) -> Result<bool, NoMemory>
-    requires { length came.now ≡ length busy.now }
-    ensures { IfOk result (λ any. OnFalse any
-        ((group : ℕ) → is_freed busy.now came.now group ≡ false)) }
-{
-    let mut both = copied(alloc, busy)?;
-    Ok(both.union(came))
-}
-
-// A row in which the same bits are set. Takes memory for it.
-fn copied(alloc: Global, row: &Row) -> Result<Row, NoMemory>
-    ensures { IfOk result (IsUnion (replicate (length row.now) false) row.now) }
-{
-    let mut copy = Row::new(alloc, row.bits())?;
-    copy.union(row);
-    Ok(copy)
+    push_each_freed(found, item, busy, holding)
 }
 
 // The same holders, by a look at each of them.
 fn push_each_freed(
     found: &mut Vec<(u32, u16)>,
-    groups: &[u32],
     item: u32,
     busy: &Row,
-    came: &Row,
+    holding: &Row,
 ) -> Result<(), NoMemory>
-    requires few { length groups.now ≤ MAX_LOCAL_WORDS }
-    requires busy { AreBelow (length busy.now) groups.now }
-    requires came { AreBelow (length came.now) groups.now }
+    requires few { length busy.now ≤ MAX_LOCAL_WORDS }
+    requires as_wide { length holding.now ≡ length busy.now }
     ensures { OnOk result (found.new.items ≡ found.old.items
-        ++ map (λ (h : ℕ). (item, h)) (numbers_by (is_freed busy.now came.now) 0 groups.now)) }
+        ++ map (λ (h : ℕ). (item, h)) (freed_at (length busy.now) busy.now holding.now)) }
 {
-    for (holder, group) in groups.iter().enumerate() {
-        let freed = is_freed(busy, came, *group);
+    for holder in 0..busy.bits() {
+        let freed = is_freed(busy, holding, holder);
         push_if(found, freed, item, holder as u16)?;
     }
     Ok(())
 }
 
-// Whether the group isn't busy, and has come from where it is.
-fn is_freed(busy: &Row, came: &Row, group: u32) -> bool
-    requires busy { group < length busy.now }
-    requires came { group < length came.now }
-    ensures { result ≡ is_freed busy.now came.now group }
+// Whether the holder may hold something, and its class isn't busy.
+fn is_freed(busy: &Row, holding: &Row, holder: u32) -> bool
+    requires busy { holder < length busy.now }
+    requires holding { holder < length holding.now }
+    ensures { result ≡ is_freed busy.now holding.now holder }
 {
-    if busy.get(group) {
+    if busy.get(holder) {
         return false;
     }
-    came.get(group)
+    holding.get(holder)
 }
 
 // Puts the pair after the last one, if the test holds.

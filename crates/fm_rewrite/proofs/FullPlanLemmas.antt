@@ -98,7 +98,7 @@ number_few number j before after (item ∷ items) =
 
 module _ (facts : Facts) (x : TypedMethod) where
   pub one_each : length (all_insertions facts x).before ≡ length x.code.items
-  one_each = length-map-range_with_len (λ j. numbers_of (λ h. is_place facts x h.class j) 0 (all_holders facts x)) 0 (length x.code.items)
+  one_each = length-map-range_with_len (λ j. numbers_of (λ h. is_place facts x h.site h.class j) 0 (all_holders facts x)) 0 (length x.code.items)
 
   abbrev made : ℕ → Holder
   made j = record { site = j; class = site_class facts x j; looped = false }
@@ -113,7 +113,7 @@ module _ (facts : Facts) (x : TypedMethod) where
   before_few j = ⊎_elim
       (λ (inside : j < length x.code.items).
       subst (λ (numbers : List ℕ). length numbers ≤ length (all_holders facts x)) (sym (before-is facts x j inside))
-      (numbers_few (λ h. is_place facts x h.class j) 0 (all_holders facts x)))
+      (numbers_few (λ h. is_place facts x h.site h.class j) 0 (all_holders facts x)))
       (λ (past : length x.code.items ≤ j).
       subst (λ (numbers : List ℕ). length numbers ≤ length (all_holders facts x)) (sym (none_past j past)) (omega arith))
       (cases_lt j (length x.code.items))
@@ -121,7 +121,7 @@ module _ (facts : Facts) (x : TypedMethod) where
   freed_inside : (j number : ℕ) → Contains (before_at (all_insertions facts x) j) number → number < length (all_holders facts x)
   freed_inside j number found = ⊎_elim
       (λ (inside : j < length x.code.items).
-      let was = numbers-found (λ h. is_place facts x h.class j) 0 (all_holders facts x) number
+      let was = numbers-found (λ h. is_place facts x h.site h.class j) 0 (all_holders facts x) number
       (subst (λ numbers. Contains numbers number) (before-is facts x j inside) found) in
       let there = slice_get_within (all_holders facts x) was.place was.holder was.there in
       omega (arith, there, was.number))

@@ -1,4 +1,4 @@
--- What becomes of the class files of a program: they are written again, each held site with a holder that is freed at all places of its class,
+-- What becomes of the class files of a program: they are written again, each held site with a holder that is freed at all its places,
 -- or there is a cause for which they aren't.
 use Rattle.std.specs.Prelude.{◌≡◌, ℕ, ◌+◌, ◌&&◌, List, [], ◌∷◌, length, Option, Some, None, option_and_then, nat_lt, Result, Ok, Err, if◌then◌else◌}
 use Rattle.std.specs.List.{AllByRecursion}

@@ -19,7 +19,7 @@ use fm_world::{Body, Program};
 use std::alloc::Global;
 
 /// All that can be inserted into a method with this code, as the summaries link the ends of
-/// methods: a holder for each held site, freed at all places of its class. Takes memory for the
+/// methods: a holder for each held site, freed at all its places. Takes memory for the
 /// plan, and for what the analysis returns for the method.
 pub fn full_plan(
     alloc: Global,

@@ -32,7 +32,7 @@ pub struct Rewritten {
     pub counts: Vec<Count>,
 }
 
-/// The classes of a program, each held site with a holder that is freed at all places of its class. A
+/// The classes of a program, each held site with a holder that is freed at all its places. A
 /// method without a held site stays as it is, and so does a class without such a method. A refusal
 /// names the first cause: a call of FreeMe, else a pool that is full, else a method that is too long.
 /// Takes memory for the classes and for the plans of all methods.

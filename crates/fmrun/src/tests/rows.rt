@@ -85,7 +85,7 @@ const OBJECTS: [Row; 10] = [
         &[],
         b"3\n4\n",
         (0, RETURNED, [17, 5, 0, 0, 10, 10, 5]),
-        Some((0, RETURNED, [41, 5, 2, 4, 6, 8, 4])),
+        Some((0, RETURNED, [33, 5, 2, 4, 6, 8, 4])),
     ),
     (
         ESCAPING_STATIC,

@@ -28,7 +28,7 @@ const OBJECTS: [Row; 10] = [
         "M: 2 sites, 2 frees\nNode: 0 sites, 0 frees\n",
     ),
     (CHAINS, 0, "M: 1 sites, 1 frees\nNode: 0 sites, 0 frees\n"),
-    (BIRTH_HASHES, 0, "M: 2 sites, 4 frees\n"),
+    (BIRTH_HASHES, 0, "M: 2 sites, 2 frees\n"),
     (ESCAPING_STATIC, 0, "M: 0 sites, 0 frees\n"),
 ];
 

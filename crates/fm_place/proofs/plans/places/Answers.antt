@@ -10,9 +10,9 @@ use Rattle.fm_types.specs.Typed.{IsTypingOf}
 use Rattle.fm_types.specs.Typings.{states_of}
 use Rattle.fm_world.specs.Programs.{code_at}
 use Rattle.fm_world.specs.declared.records.MethodInfo.{MethodInfo}
-use Rattle.fm_place.proofs.HolderLemmas.{classes_held}
+use Rattle.fm_place.proofs.HolderLemmas.{pair_held, pairs_held}
 use Rattle.fm_place.proofs.PlanLemmas.{plans_told}
-use Rattle.fm_place.specs.Insertions.{all_insertions, Holder}
+use Rattle.fm_place.specs.Insertions.{all_insertions}
 use Rattle.fm_place.specs.PlansBy.{holders_in, IsPlanOf}
 use Rattle.fm_place.specs.Sites.{sites_of}
 use Rattle.fm_place.proofs.plans.places.Goals as goal
@@ -32,7 +32,7 @@ plan_of-requires-clause-seen c =
 pub plan_of-requires-clause-few : goal.plan_of-requires-clause-few
 plan_of-requires-clause-few c =
     subst (λ n. n ≤ MAX_LOCAL_WORDS)
-    (sym (ap length (classes_held c.args.sites.now) ∙ length-map (holders_in c.args.sites.now) (λ (h : Holder). h.class))) c.requires.few
+    (sym (ap length (pairs_held c.args.sites.now) ∙ length-map (holders_in c.args.sites.now) pair_held)) c.requires.few
 
 pub returns : goal.returns
 returns c =

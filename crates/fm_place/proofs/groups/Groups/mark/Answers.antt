@@ -1,24 +1,19 @@
-use Rattle.std.proofs.Common.{rules, ◌≡◌, ◌||◌, ℕ, Bool, List, Option, Some, length, sym, subst, arith}
-use Rattle.std.proofs.lemmas.Option.{slice_get_within}
-use Rattle.fm_place.proofs.GroupLemmas.{row_marked}
+use Rattle.std.proofs.Common.{rules, ◌≡◌, ◌∙◌, ◌||◌, ℕ, Bool, List, [], Option, Some, get_or, ap, sym, subst, arith}
+use Rattle.std.proofs.lemmas.List.{get_or_read}
+use Rattle.fm_base.specs.Rows.{IsUnion}
+use Rattle.fm_place.proofs.GroupLemmas.{row_joined, row_unmarked}
 use Rattle.fm_place.specs.inner.PlanRows.{is_class, number_in, IsRowOf}
 use Rattle.fm_place.proofs.groups.Groups.mark.Goals as goal
-
-pub set-requires : goal.set-requires
-set-requires c =
-    let held = c.args.self.now.held.now in
-    let group = c.in-Some-get.group.now in
-    let there : number_in c.args.self.now.numbers c.in-Some.class ≡ Some group = search rules in
-    let within = slice_get_within held group c.in-Some.class (c.requires.groups.groups.known c.in-Some.class group there) in
-    omega (arith, within, c.requires.wide)
 
 pub returns : goal.returns
 returns c = λ test is.
     let held = c.args.self.now.held.now in
-    let numbers = number_in c.args.self.now.numbers in
     let class = c.in-Some.class in
     let group = c.in-Some-get.group.now in
     let there : number_in c.args.self.now.numbers class ≡ Some group = search rules in
-    let marked = row_marked held c.args.self.now.of_holders.items numbers test c.args.row.now class group c.requires.groups.groups there is in
-    subst (λ (o : Option ℕ). IsRowOf (length held) numbers (λ k. test k || is_class o k) c.set.new.self) (sym c.in-Some.is)
-    (subst (λ (row : List Bool). IsRowOf (length held) numbers (λ k. test k || is_class (Some class) k) row) (sym c.set.ensures) marked)
+    let members = get_or c.args.self.now.members.items group [] in
+    let within = c.requires.groups.within class group there in
+    let read : c.index.result.now ≡ members = get_or_read c.args.self.now.members.items group c.index.result.now within c.index.ensures [] in
+    let joined : IsUnion c.args.row.now members c.union.new.self = subst (λ (row : List Bool). IsUnion c.args.row.now row c.union.new.self) read c.union.ensures.union in
+    subst (λ (o : Option ℕ). IsRowOf held (λ pair. test pair.1 || is_class o pair.1) c.union.new.self) (sym c.in-Some.is)
+    (row_joined held test class c.args.row.now members c.union.new.self is (c.requires.groups.known class group there) joined)
