@@ -56,7 +56,7 @@ IsUnion-unset n row new size union =
 
 -- ---- how many bits aren't set
 
-unset-cons : (x : Bool) (row : List Bool) → unset (x ∷ row) ≡ cond (not x) 1 0 + unset row
+pub unset-cons : (x : Bool) (row : List Bool) → unset (x ∷ row) ≡ cond (not x) 1 0 + unset row
 unset-cons x row = sum_by-cons (λ b. cond (not b) 1 0) x row
 
 -- no more where all bits stay set

@@ -138,12 +138,12 @@ same_bits : (here : Bool) → ((false && here) || (here && true)) ≡ here
 same_bits true = refl
 same_bits false = refl
 
-other_bits : (below here now : Bool) → ((below && here) || (now && false)) ≡ (below && here)
+other_bits : (below there now : Bool) → ((below && there) || (now && false)) ≡ (below && there)
 other_bits true true now = refl
 other_bits true false true = refl
 other_bits true false false = refl
-other_bits false here true = refl
-other_bits false here false = refl
+other_bits false there true = refl
+other_bits false there false = refl
 
 not-below : (i : ℕ) → nat_lt i i ≡ false
 not-below i = le-ltb i i (omega arith)
@@ -221,7 +221,9 @@ pub members_none : (groups : List ℕ) (rows : List (List Bool)) → rows ≡ re
 members_none groups rows is = subst (AreMembers groups 0) (sym is) (record {
   one_each = length-replicate (length groups) none;
   wide = λ g inside. ap (λ (row : List Bool). length row) (row g inside) ∙ length-replicate (length groups) false;
-  members = λ g h inside. ap (λ (r : List Bool). has r h) (row g inside) ∙ has-replicate (length groups) h;
+  members = λ g h inside.
+      ap (λ (r : List Bool). has r h) (row g inside) ∙ has-replicate (length groups) h
+      ∙ sym (ap (λ b. b && nat_eq (get_or groups h 0) g) (le-ltb h 0 (omega arith)));
 }) where
   none : List Bool
   none = replicate (length groups) false

@@ -1,5 +1,5 @@
 -- The walk along the edges: what a holder may hold at an item, and that nothing is missed.
-use Rattle.std.proofs.Common.{◌≡◌, ◌≢◌, ◌⊎◌, ◌↔◌, ℕ, ◌+◌, ◌<◌, ◌≤◌, ◌&&◌, ◌||◌, Bool, true, false, List, [], ◌∷◌, ◌++◌, length, replicate, get_or, set, Contains, Option, Some, refl, inl, inr, ⊎_elim, ap, sym, ◌∙◌, subst, eq-eqb, arith, lt-ltb, length-set}
+use Rattle.std.proofs.Common.{◌≡◌, ◌≢◌, ◌⊎◌, ◌↔◌, ℕ, ◌+◌, ◌<◌, ◌≤◌, ◌&&◌, ◌||◌, Bool, true, false, List, [], ◌∷◌, ◌++◌, length, replicate, get_or, set, Contains, Option, Some, refl, inl, inr, ⊎_elim, ap, sym, ◌∙◌, subst, eq-eqb, arith, le-ltb, lt-ltb, length-set}
 use Rattle.std.specs.Prelude.{nat_eq, nat_lt, slice_get}
 use Rattle.std.proofs.lemmas.Bool.{cases_eq, cases_lt, eqb-true, false≢true}
 use Rattle.std.proofs.lemmas.List.{get_or-replicate, get_or-set_other, get_or-set_same, get_or_past, length-replicate}
@@ -34,7 +34,9 @@ started_none held count = record {
   widths = λ j inside.
       let size = length-replicate count (replicate (length held) false) in
       ap (λ (row : List Bool). length row) (started-row count (length held) j (omega (arith, inside, size))) ∙ length-replicate (length held) false;
-  members = λ j h pair inside there. ap (λ row. has row h) (started-row count (length held) j inside) ∙ has-replicate (length held) h;
+  members = λ j h pair inside there.
+      ap (λ row. has row h) (started-row count (length held) j inside) ∙ has-replicate (length held) h
+      ∙ sym (ap (λ b. b && nat_eq (pair.0 + 1) j) (le-ltb h 0 (omega arith)));
 }
 
 pub started_more : (held : List (ℕ × ℕ)) (i count : ℕ) (now : ℕ × ℕ) (rows after : List (List Bool)) → AreStarted held i count rows
@@ -183,7 +185,7 @@ module _ (s : Seen) (held : List (ℕ × ℕ)) (count : ℕ) (all : count ≡ le
       let inside : a < count = omega (arith, from, all) in
       let busy_bit : has (row_of busy a) h ≡ true = (busy_are.each a inside).each h pair there ∙ busy_now in
       holding-along rows waits done h pair there path next j
-      (⊎_elim (λ waits_still. let none = (done.waiting_known a waits_still).1.0 in absurd (omega (arith, none))) (λ (on : IsHandedOn s busy rows a). on next h edge is busy_bit)
+      (⊎_elim (λ waits_still. let none = (done.waiting_known a waits_still).1 in absurd (omega arith)) (λ (on : IsHandedOn s busy rows a). on next h edge is busy_bit)
       (done.closed a inside))
       rest
 

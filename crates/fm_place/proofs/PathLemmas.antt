@@ -1,11 +1,10 @@
 -- What a holder may hold: by a bound on the edges of a path, and by a path of any length.
-use Rattle.std.proofs.Common.{◌≡◌, ◌⊎◌, ℕ, zero, suc, ◌+◌, ◌<◌, ◌≤◌, ◌&&◌, not, cond, Bool, true, false, List, [], ◌∷◌, length, map, replicate, Contains, refl, inl, inr, ⊎_elim, ap, sym, ◌∙◌, subst, eq-eqb, arith}
+use Rattle.std.proofs.Common.{◌≡◌, ◌⊎◌, ℕ, zero, suc, ◌+◌, ◌<◌, ◌≤◌, ◌&&◌, not, Bool, true, false, List, [], ◌∷◌, length, map, replicate, Contains, refl, inl, inr, ⊎_elim, ap, sym, ◌∙◌, subst, eq-eqb, arith}
 use Rattle.std.specs.Prelude.{nat_eq}
 use Rattle.std.specs.List.{list_any, range_with_len}
 use Rattle.std.proofs.lemmas.Bool.{cases_lt, eqb-true, false≢true}
 use Rattle.std.proofs.lemmas.List.{length-replicate}
 use Rattle.std.proofs.lemmas.List.FromFn.{get_or-map-range_with_len, length-map-range_with_len}
-use Rattle.std.proofs.lemmas.List.Sums.{sum_by-cons}
 use Rattle.fm_base.specs.Rows.{has}
 use Rattle.fm_code.proofs.EdgesLemmas.{edge-from_edges_listed, edges_listed-from_edge}
 use Rattle.fm_code.specs.Edges.{IsEdge}
@@ -14,7 +13,7 @@ use Rattle.fm_conn.proofs.ListLemmas.{Contains-from_range, Contains-range}
 use Rattle.fm_conn.specs.Facts.{Facts}
 use Rattle.fm_conn.specs.Nodes.{TypedMethod}
 use Rattle.fm_flow.proofs.ReachLemmas.{edge_from_item, edge_inside}
-use Rattle.fm_flow.proofs.RowFacts.{has-replicate, has_inside, unset-lt}
+use Rattle.fm_flow.proofs.RowFacts.{has-replicate, has_inside, unset-cons, unset-lt}
 use Rattle.fm_flow.specs.inner.Walks.{unset}
 use Rattle.fm_place.proofs.BusyLemmas.{either, from-first, from-second}
 use Rattle.fm_place.proofs.PlaceLemmas.{any-found, any-from, both-first, both-from, both-second, not-from, not-true}
@@ -24,8 +23,8 @@ use Rattle.fm_place.specs.Places.{is_busy, is_place, IsBusyPath, leads_busily, m
 -- no more bits aren't set than there are
 unset-most : (row : List Bool) → unset row ≤ length row
 unset-most [] = omega arith
-unset-most (true ∷ row) = let rest = unset-most row in let all = sum_by-cons (λ b. cond (not b) 1 0) true row in omega (arith, rest, all)
-unset-most (false ∷ row) = let rest = unset-most row in let all = sum_by-cons (λ b. cond (not b) 1 0) false row in omega (arith, rest, all)
+unset-most (true ∷ row) = let rest = unset-most row in omega (arith, rest, unset-cons true row)
+unset-most (false ∷ row) = let rest = unset-most row in omega (arith, rest, unset-cons false row)
 
 module _ (facts : Facts) (x : TypedMethod) (class : ℕ) where
   -- a path of at most this many edges leads there

@@ -57,7 +57,9 @@ freed_told s facts sites j told are inside =
     ∙ ap (λ n. filter (λ h. is_place_at s j (slice_get (map pair_held holders) h)) (range_with_len 0 n)) (length-map holders pair_held)
     ∙ numbers_by_range (λ h. is_place_at s j (slice_get (map pair_held holders) h)) (λ (h : Holder). is_place facts (typed_seen s) h.site h.class j) 0 holders
     (λ k h there.
-    ap (is_place_at s j) (slice_get-mapped pair_held holders k h there) ∙ place_told s facts h.site h.class j told)
+    let same : 0 + k ≡ k = omega arith in
+    ap (λ n. is_place_at s j (slice_get (map pair_held holders) n)) same
+    ∙ ap (is_place_at s j) (slice_get-mapped pair_held holders k h there) ∙ place_told s facts h.site h.class j told)
     ∙ ap (numbers_of (λ (h : Holder). is_place facts (typed_seen s) h.site h.class j) 0) (ap holders_in are ∙ holders_are facts (typed_seen s))
     ∙ sym (before-is facts (typed_seen s) j inside) where
       holders : List Holder

@@ -1,10 +1,10 @@
 -- Rows of all items: where classes are busy, and what is freed.
-use Rattle.std.proofs.Common.{◌≡◌, ◌≢◌, ℕ, zero, suc, ◌+◌, ◌<◌, ◌≤◌, ◌||◌, ◌&&◌, not, Bool, true, false, cond, List, [], ◌∷◌, ◌++◌, length, get_or, map, set, Option, Some, refl, ⊎_elim, ap, sym, ◌∙◌, append-nil, append_assoc, arith, eq-eqb, length-set, lt-ltb}
+use Rattle.std.proofs.Common.{◌≡◌, ◌≢◌, ℕ, zero, suc, ◌+◌, ◌<◌, ◌≤◌, ◌||◌, ◌&&◌, not, Bool, true, false, cond, List, [], ◌∷◌, ◌++◌, length, get_or, map, set, Option, Some, refl, ⊎_elim, ap, subst, sym, ◌∙◌, append-nil, append_assoc, arith, eq-eqb, length-set, lt-ltb}
 use Rattle.std.specs.Prelude.{filter, nat_eq, nat_lt, slice_get}
 use Rattle.std.specs.Bool.{OnFalse}
 use Rattle.std.specs.List.{list_any, range_with_len}
 use Rattle.std.proofs.lemmas.Bool.{cases_eq, cases_lt}
-use Rattle.std.proofs.lemmas.List.{get_or-set_other, get_or-set_same, get_or_past}
+use Rattle.std.proofs.lemmas.List.{get_or-set_other, get_or-set_same, get_or_append_left, get_or_past, get_or_push, length_push}
 use Rattle.std.proofs.lemmas.Option.{slice_get-get_or}
 use Rattle.std.proofs.Math.Bool.{or-false, or-true, or_assoc}
 use Rattle.fm_base.specs.Rows.{has, IsUnion}
@@ -53,6 +53,24 @@ local_more s held item depth local found row is =
     (list_any (is_local_in (facts_seen s) (typed_seen s) pair.1 item) (range_with_len 0 local))
     (is_local_in (facts_seen s) (typed_seen s) pair.1 item local)
     ∙ ap (λ b. is_in_words s item depth pair.1 || b) (sym (any_next (is_local_in (facts_seen s) (typed_seen s) pair.1 item) local)))
+
+-- ---- all items
+
+-- the row of an item more
+pub rows_more : (held : List (ℕ × ℕ)) (count : ℕ) (test : ℕ → ℕ × ℕ → Bool) (rows : List (List Bool)) (row : List Bool) → AreRowsOf held count test rows
+    → IsRowOf held (test count) row → AreRowsOf held (count + 1) test (rows ++ row ∷ [])
+rows_more held count test rows row were is = record {
+  one_each = let longer = length_push rows row in omega (arith, longer, were.one_each);
+  each = λ j inside.
+      ⊎_elim
+      (λ (before : j < count).
+      subst (IsRowOf held (test j)) (sym (get_or_append_left rows (row ∷ []) [] j (omega (arith, before, were.one_each)))) (were.each j before))
+      (λ (past : count ≤ j).
+      let same : count ≡ j = omega (arith, past, inside) in
+      subst (λ n. IsRowOf held (test n) (get_or (rows ++ row ∷ []) n [])) same
+      (subst (IsRowOf held (test count)) (sym (get_or_push rows row [] count (were.one_each))) is))
+      (cases_lt j count);
+}
 
 -- ---- what is freed
 

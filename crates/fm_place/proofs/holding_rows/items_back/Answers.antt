@@ -23,3 +23,8 @@ more items count past inside so_far x = (
 pub loop-past-preserved : goal.loop-past-preserved
 loop-past-preserved c =
     rw c.in_ok-push.ensures.items (more c.loop-past.items.items c.args.count c.loop-past.past c.loop-past-test.true c.loop-past.invariant)
+
+pub returns : goal.returns
+returns c = λ j.
+    let all : c.loop-past.past ≡ c.args.count = omega arith in
+    (λ found. ((c.loop-past.invariant j).0 found).0, λ inside. (c.loop-past.invariant j).1 (inside, omega (arith, all)))

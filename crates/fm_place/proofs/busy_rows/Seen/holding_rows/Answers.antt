@@ -7,7 +7,7 @@ use Rattle.fm_flow.specs.Tables.{IsRisingListOf}
 use Rattle.fm_flow.specs.inner.LiveWalks.{all_unset, HandsOver, row_of}
 use Rattle.fm_place.proofs.HoldingLemmas.{holding_all, holding_first, holding_more}
 use Rattle.fm_place.specs.inner.PlanRows.{Holding, IsBoth}
-use Rattle.fm_place.proofs.holding_rows.Seen.holding_rows.Goals as goal
+use Rattle.fm_place.proofs.busy_rows.Seen.holding_rows.Goals as goal
 
 pub loop-j-init : goal.loop-j-init
 loop-j-init c =
