@@ -1,5 +1,5 @@
 -- The walk along the edges: what a holder may hold at an item, and that nothing is missed.
-use Rattle.std.proofs.Common.{◌≡◌, ◌≢◌, ◌⊎◌, ◌↔◌, ℕ, ◌+◌, ◌<◌, ◌≤◌, ◌&&◌, ◌||◌, Bool, true, false, List, [], ◌∷◌, ◌++◌, length, replicate, get_or, set, Contains, Option, Some, refl, inl, inr, ⊎_elim, ap, sym, ◌∙◌, subst, eq-eqb, arith, le-ltb, lt-ltb, length-set}
+use Rattle.std.proofs.Common.{◌≡◌, ◌≢◌, ◌⊎◌, ◌↔◌, ℕ, ◌+◌, ◌<◌, ◌≤◌, ◌&&◌, ◌||◌, Bool, true, false, List, [], ◌∷◌, ◌++◌, length, replicate, get_or, set, Contains, Some, refl, inl, inr, ⊎_elim, ap, sym, ◌∙◌, subst, eq-eqb, arith, le-ltb, lt-ltb, length-set}
 use Rattle.std.specs.Prelude.{nat_eq, nat_lt, slice_get}
 use Rattle.std.proofs.lemmas.Bool.{cases_eq, cases_lt, eqb-true, false≢true}
 use Rattle.std.proofs.lemmas.List.{get_or-replicate, get_or-set_other, get_or-set_same, get_or_past, length-replicate}
@@ -13,13 +13,13 @@ use Rattle.fm_conn.specs.Nodes.{TypedMethod}
 use Rattle.fm_flow.proofs.ReachLemmas.{edge_from_item, edge_inside}
 use Rattle.fm_flow.proofs.RowFacts.{has-replicate, has_inside}
 use Rattle.fm_flow.specs.Tables.{IsRisingListOf}
-use Rattle.fm_flow.specs.inner.LiveWalks.{HandsOver, HaveWidth, row_of}
+use Rattle.fm_flow.specs.inner.LiveWalks.{HandsOver, row_of}
 use Rattle.fm_place.proofs.FullLemmas.{some-same}
 use Rattle.fm_place.proofs.GroupLemmas.{bits_more}
 use Rattle.fm_place.proofs.PathLemmas.{may_hold-from, may_hold-tells}
 use Rattle.fm_place.proofs.PlaceLemmas.{both-first, both-from, both-second}
 use Rattle.fm_place.proofs.SiteLemmas.{same_test}
-use Rattle.fm_place.specs.Places.{is_busy, IsBusyPath, may_hold, MayHold}
+use Rattle.fm_place.specs.Places.{is_busy, IsBusyPath, MayHold}
 use Rattle.fm_place.specs.declared.busy_rows.Seen.{Seen}
 use Rattle.fm_place.specs.inner.PlanRows.{AreRowsOf, AreStarted, busy_at, facts_seen, Holding, IsBoth, IsHandedOn, IsHolding, may_hold_at, SetsBit, typed_seen}
 

@@ -1,4 +1,4 @@
-use Rattle.std.proofs.Common.{arith, get_or, length}
+use Rattle.std.proofs.Common.{arith, get_or}
 use Rattle.fm_place.proofs.GroupLemmas.{members_more, members_none}
 use Rattle.fm_place.proofs.groups.members_of.Goals as goal
 

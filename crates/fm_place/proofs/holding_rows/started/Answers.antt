@@ -1,4 +1,4 @@
-use Rattle.std.proofs.Common.{◌+◌, arith, get_or, length, subst, sym}
+use Rattle.std.proofs.Common.{◌+◌, arith, get_or, subst, sym}
 use Rattle.std.proofs.lemmas.Option.{slice_get-get_or}
 use Rattle.fm_place.proofs.HoldingLemmas.{started_more, started_none}
 use Rattle.fm_place.specs.inner.PlanRows.{AreStarted}

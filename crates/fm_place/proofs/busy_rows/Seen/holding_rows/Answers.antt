@@ -1,10 +1,10 @@
-use Rattle.std.proofs.Common.{◌≡◌, ◌∙◌, ◌<◌, ◌≤◌, ◌+◌, [], List, Bool, ℕ, true, false, set, replicate, length, get_or, Contains, ap, sym, subst, arith, length-set}
+use Rattle.std.proofs.Common.{◌≡◌, ◌∙◌, ◌<◌, ◌≤◌, ◌+◌, [], List, Bool, true, false, replicate, length, ap, sym, subst, arith, length-set}
 use Rattle.std.proofs.lemmas.List.{get_or_read, nil_from_length, length_push}
 use Rattle.std.proofs.lemmas.List.Elements.{Contains-push}
 use Rattle.fm_code.specs.Edges.{IsEdge}
 use Rattle.fm_flow.proofs.ReachLemmas.{edge_inside}
 use Rattle.fm_flow.specs.Tables.{IsRisingListOf}
-use Rattle.fm_flow.specs.inner.LiveWalks.{all_unset, HandsOver, row_of}
+use Rattle.fm_flow.specs.inner.LiveWalks.{all_unset, row_of}
 use Rattle.fm_place.proofs.HoldingLemmas.{holding_all, holding_first, holding_more}
 use Rattle.fm_place.specs.inner.PlanRows.{Holding, IsBoth}
 use Rattle.fm_place.proofs.busy_rows.Seen.holding_rows.Goals as goal

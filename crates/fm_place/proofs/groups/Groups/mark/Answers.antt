@@ -1,7 +1,7 @@
-use Rattle.std.proofs.Common.{rules, ◌≡◌, ◌∙◌, ◌||◌, ℕ, Bool, List, [], Option, Some, get_or, length, ap, sym, subst, arith}
+use Rattle.std.proofs.Common.{rules, ◌≡◌, ◌∙◌, ◌||◌, ℕ, Bool, List, [], Option, Some, get_or, length, ap, sym, subst}
 use Rattle.std.proofs.lemmas.List.{get_or_read}
 use Rattle.fm_base.specs.Rows.{IsUnion}
-use Rattle.fm_place.proofs.GroupLemmas.{row_joined, row_unmarked}
+use Rattle.fm_place.proofs.GroupLemmas.{row_joined}
 use Rattle.fm_place.specs.inner.PlanRows.{is_class, number_in, IsRowOf}
 use Rattle.fm_place.proofs.groups.Groups.mark.Goals as goal
 

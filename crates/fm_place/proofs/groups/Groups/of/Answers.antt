@@ -1,4 +1,4 @@
-use Rattle.std.proofs.Common.{◌≡◌, ◌∙◌, ◌+◌, ◌++◌, ◌∷◌, [], List, Bool, ℕ, length, get_or, map, refl, take, unwrap_or, ap, sym, subst, arith, length-take-le}
+use Rattle.std.proofs.Common.{◌≡◌, ◌∙◌, ◌+◌, ◌++◌, ◌∷◌, [], List, ℕ, length, get_or, refl, take, unwrap_or, ap, sym, subst, arith, length-take-le}
 use Rattle.std.proofs.lemmas.List.{length-map, take_all, take_more}
 use Rattle.fm_place.proofs.GroupLemmas.{class_known, classes_push, group_row, group_within, groups_below, groups_more}
 use Rattle.fm_place.specs.inner.PlanRows.{AreBelow, AreMembers, classes_of, number_in, IsGroupsOf}
