@@ -104,14 +104,14 @@ loop-j-preserved c =
     let P : List Item → List Bool → Type 0 = λ items old. IsRowBefore (get_or items j item).insn old c.in_ok-row.row in
     let told : IsRowBefore insn (row_of after j) c.in_ok-row.row =
     subst (λ (items : List Item). P items (row_of after j)) c.as_slice.ensures (subst (λ (old : List Bool). P c.as_slice.result.now old) row c.in_ok-row.ensures) in
-    let hands = subst (λ (list : List ℕ). HandsOver list c.in_ok-row.row after c.hand_over.new.after.items (set c.loop-j.waits.items j false)
+    let hands = subst (λ (list : List ℕ). HandsOver list c.in_ok-row.row after c.hand_over.new.rows.items (set c.loop-j.waits.items j false)
     c.hand_over.new.waits.items c.pop.new.self.items c.hand_over.new.waiting.items) source c.in_ok-hand_over.ensures in
-    Settling-more code c.args.sources.now after c.hand_over.new.after.items c.loop-j.waits.items c.hand_over.new.waits.items c.pop.new.self.items
+    Settling-more code c.args.sources.now after c.hand_over.new.rows.items c.loop-j.waits.items c.hand_over.new.waits.items c.pop.new.self.items
     c.hand_over.new.waiting.items j insn c.in_ok-row.row c.requires.sources before is fits told hands
 
 pub loop-j-smaller : goal.loop-j-smaller
 loop-j-smaller c =
-    let work : all_unset c.hand_over.new.after.items + length c.hand_over.new.waiting.items ≤ all_unset c.loop-j.after.items + length c.pop.new.self.items =
+    let work : all_unset c.hand_over.new.rows.items + length c.hand_over.new.waiting.items ≤ all_unset c.loop-j.after.items + length c.pop.new.self.items =
     c.in_ok-hand_over.ensures.work in
     let longer : length c.loop-j.waiting.items ≡ length c.pop.new.self.items + 1 =
     ap length c.in-Some.ensures.items ∙ length_push c.pop.new.self.items c.in-Some.j in
