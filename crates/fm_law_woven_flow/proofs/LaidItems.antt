@@ -264,7 +264,7 @@ laid_item free old plan n r found =
 
 -- ---- instructions and holders
 
-whole-has : (free : ℕ) (old : Code) (goes : ℕ → ℕ) (r : Role) (i : Insn) → HasWhole free old goes r i → HasInsn free old r i
+pub whole-has : (free : ℕ) (old : Code) (goes : ℕ → ℕ) (r : Role) (i : Insn) → HasWhole free old goes r i → HasInsn free old r i
 whole-has free old goes (StartNull h) i whole = whole
 whole-has free old goes (StartStore h) i whole = whole
 whole-has free old goes (LoadBefore j h) i whole = whole

@@ -145,12 +145,12 @@ length-item plan j =
     omega (arith, before, after, both)
 
 -- the roles of item j are in the list from the anchor at an index on
-record Part (plan : Insertions) (whole : List Role) (anchors : List ℕ) (t j : ℕ) : Type 0 where
-  front : List Role
-  back : List Role
-  is : whole ≡ front ++ (flat_map (before_roles j) (before_at plan j) ++ (Keep j ∷ (flat_map (after_roles j) (after_at plan j) ++ back)))
-  at : length front ≡ slice_index anchors t
-  next : slice_index anchors (suc t) ≡ slice_index anchors t + count_at plan j
+pub record Part (plan : Insertions) (whole : List Role) (anchors : List ℕ) (t j : ℕ) : Type 0 where
+  pub front : List Role
+  pub back : List Role
+  pub is : whole ≡ front ++ (flat_map (before_roles j) (before_at plan j) ++ (Keep j ∷ (flat_map (after_roles j) (after_at plan j) ++ back)))
+  pub at : length front ≡ slice_index anchors t
+  pub next : slice_index anchors (suc t) ≡ slice_index anchors t + count_at plan j
 
 part_here : (plan : Insertions) (n j : ℕ) (item : Item) (items : List Item) (front whole : List Role)
     → whole ≡ front ++ roles_from plan j (item ∷ items) → length front ≡ n → Part plan whole (anchors_from plan n j (item ∷ items)) 0 j
@@ -178,7 +178,7 @@ part_from plan n j (item ∷ items) front whole (suc t) k is at inside same =
     (is ∙ sym (append_assoc front (item_roles plan j) (roles_from plan (j + 1) items))) (omega (arith, size, item_size, at)) (omega arith) (omega arith) in
     record { front = later.front; back = later.back; is = later.is; at = later.at; next = later.next }
 
-part_of : (old : Code) (plan : Insertions) (j : ℕ) → j < length old.items → Part plan (new_roles old plan) (anchors_of plan old.items) j j
+pub part_of : (old : Code) (plan : Insertions) (j : ℕ) → j < length old.items → Part plan (new_roles old plan) (anchors_of plan old.items) j j
 part_of old plan j inside =
     part_from plan (null_stored_items * length plan.holders) 0 old.items (flat_map start_roles (range_with_len 0 (length plan.holders))) (new_roles old plan) j j
     refl (length-start 0 (length plan.holders)) inside (omega arith)
