@@ -144,7 +144,7 @@ can_step p x can going =
       items_fit = fits;
       within = sound.within;
       birth_fits = omega (arith, many);
-      budget_fits = sound.areas.budget;
+      budget_fits = going.sound.2;
     }
 
 -- ---- the next instruction

@@ -5,7 +5,7 @@ use Rattle.std.specs.List.{AllByRecursion}
 use Rattle.fm_base.specs.declared.ids.FieldId.{FieldId}
 use Rattle.fm_base.specs.declared.ids.TypeId.{TypeId}
 use Rattle.fm_base.specs.declared.kinds.TypeRef.{TypeRef}
-use Rattle.fm_base.specs.declared.limits.TheConstants.{MAX_FILE_BYTES, MAX_LIVE_WORDS}
+use Rattle.fm_base.specs.declared.limits.TheConstants.{MAX_LIVE_WORDS}
 use Rattle.fm_exec_calls.specs.Calls.{AreRowsBuiltIn}
 use Rattle.fm_exec_calls.specs.Constants.{ConstantsSuit}
 use Rattle.fm_exec_calls.specs.inner.Actions.{unmade}
@@ -122,7 +122,7 @@ StepsStaySteady =
 abbrev pub OpeningsAreSteady : Type 0
 OpeningsAreSteady =
     (p : Program) (typings : Typings) (choose : Choose) (job : Job) → IsLawful choose → CanRun p → AreTyped p typings
-    → length job.input ≤ MAX_FILE_BYTES → ArgumentsFit job.arguments → (budget : ℕ) (limit : Option ℕ) (free : List (List ℕ)) → budget ≤ MAX_LIVE_WORDS
+    → ArgumentsFit job.arguments → (budget : ℕ) (limit : Option ℕ) (free : List (List ℕ)) → budget ≤ MAX_LIVE_WORDS
     → CellsFit (opening p choose job (opened budget limit free)).state.areas.store
     → IsSound p (opening p choose job (opened budget limit free)).state × HoldsCells p (opening p choose job (opened budget limit free)).state
 

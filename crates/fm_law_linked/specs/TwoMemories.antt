@@ -1,7 +1,7 @@
 -- The law of one program on two memories, of linked programs.
 use Rattle.std.specs.Prelude.{◌≡◌, ℕ, ◌≤◌, List, [], length, Option}
 use Rattle.std.specs.List.{AllByRecursion}
-use Rattle.fm_base.specs.declared.limits.TheConstants.{MAX_CLASS_FILES, MAX_FILE_BYTES, MAX_LIVE_WORDS}
+use Rattle.fm_base.specs.declared.limits.TheConstants.{MAX_CLASS_FILES, MAX_LIVE_WORDS}
 use Rattle.fm_cells.specs.Choices.{lawful}
 use Rattle.fm_cells.specs.Stores.{opened}
 use Rattle.fm_code.specs.Profile.{IsSupported}
@@ -48,7 +48,7 @@ PrintAndEndTheSame x y = (y.printed ≡ x.printed) × (y.state.ended ≡ x.state
 -- On two memories with one budget of words, each with room for twice as many, two whole runs that one budget of steps allows print and end the same.
 abbrev pub EndsTheSameOnMemories : Program → Type 0
 EndsTheSameOnMemories p =
-    (first second : Choose) (job : Job) → length job.input ≤ MAX_FILE_BYTES → ArgumentsFit job.arguments → (budget : ℕ) (limit other : Option ℕ)
+    (first second : Choose) (job : Job) → ArgumentsFit job.arguments → (budget : ℕ) (limit other : Option ℕ)
     (free freed : List (List ℕ)) → budget ≤ MAX_LIVE_WORDS → IsRoomy limit budget → IsRoomy other budget → (steps : ℕ) (x y : Moved)
     → IsRun p (lawful first) steps (opening p (lawful first) job (opened budget limit free)) x
     → IsRun p (lawful second) steps (opening p (lawful second) job (opened budget other freed)) y → PrintAndEndTheSame x y

@@ -32,7 +32,7 @@ use Rattle.fm_frames.specs.declared.values.Value.{Value}
 use Rattle.fm_law_sound.specs.Acting.{ActsFit}
 use Rattle.fm_law_sound.specs.Going.{CallLeads, StandsAtRow, StartsClass}
 use Rattle.fm_law_sound.specs.Leading.{is_call, LeadsAs, LeavesAs, sources_of}
-use Rattle.fm_law_sound.specs.Making.{MakesAreResolved}
+use Rattle.fm_law_sound.specs.Making.{MakesAreResolved, MakesFew}
 use Rattle.fm_law_sound.specs.Resolved.{StepsAreResolved}
 use Rattle.fm_law_sound.specs.Sound.{AreasAreSound, AreTyped, FrameHasKinds, HaveKinds, IsSoundBy, StandBelow, StandsWithout, static_slots, Typings}
 use Rattle.fm_law_sound.proofs.CallsLead.{calls_lead}
@@ -376,11 +376,11 @@ by_frames p typings typed steps makes cells numbers rows choose z (f ∷ callers
     frame_kept p typings typed steps makes cells numbers rows choose z f callers whole not_ended (fit f callers refl) sound
 
 pub step_kept : (p : Program) (typings : Typings) (typed : AreTyped p typings) (steps : StepsAreResolved p) → MakesAreResolved p → (cells : CellsAreResolved p)
-    → NumbersAreConstants p.outline → RowsOwe p typings typed steps cells → (choose : Choose) (x : State) → IsWholeStill p typings x
+    → NumbersAreConstants p.outline → RowsOwe p typings typed steps cells → (choose : Choose) (x : State) → IsWholeStill p typings x → MakesFew p x
     → IsWholeStill p typings (step p (lawful choose) x).state
 unfolding step
-step_kept p typings typed steps makes cells numbers rows choose x kept =
-    by_end x.ended refl (step_sound p typings steps choose x kept.whole.sound (λ running. next_acts_fit p typings steps makes x kept.whole.sound)) where
+step_kept p typings typed steps makes cells numbers rows choose x kept few =
+    by_end x.ended refl (step_sound p typings steps choose x kept.whole.sound (λ running. next_acts_fit p typings steps makes x kept.whole.sound few)) where
       moved_with : Option Ended → Moved
       moved_with (Some e) = record { state = x; printed = [] }
       moved_with None = attempted p (lawful choose) x (next_effect p x)
@@ -389,4 +389,4 @@ step_kept p typings typed steps makes cells numbers rows choose x kept =
       by_end (Some e) is sound = kept
       by_end None is sound =
           by_frames p typings typed steps makes cells numbers rows choose x x.frames kept.whole is
-          (λ f callers frames within. next_acts_fit p typings steps makes x kept.whole.sound f callers frames within) sound
+          (λ f callers frames within. next_acts_fit p typings steps makes x kept.whole.sound few f callers frames within) sound

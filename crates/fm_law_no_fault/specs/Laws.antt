@@ -24,13 +24,13 @@ use Rattle.fm_frames.specs.declared.values.Value.{Value}
 use Rattle.fm_law_sound.specs.Going.{IsGoingOn, StandsAtRow, StartsClass}
 use Rattle.fm_law_sound.specs.Leading.{is_call, LeadsAs, sources_of}
 use Rattle.fm_same.specs.Resolved.{CallsNoFreeMe, IsResolved}
-use Rattle.fm_law_sound.specs.Making.{MakesAreResolved}
+use Rattle.fm_law_sound.specs.Making.{MakesAreResolved, MakesFew}
 use Rattle.fm_law_sound.specs.Resolved.{MainIsReady, StepsAreResolved}
 use Rattle.fm_law_sound.specs.Sound.{AreasAreSound, AreTyped, IsReference, StandBelow, StandsWithout, Typings}
 use Rattle.fm_law_no_fault.specs.Catching.{CatchesFit}
 use Rattle.fm_law_no_fault.specs.CellsResolved.{BuiltInsFit, CellsAreResolved}
 use Rattle.fm_law_no_fault.specs.Doing.{ActsLead, LeavesWhole}
-use Rattle.fm_law_no_fault.specs.NoFault.{NeverFaults}
+use Rattle.fm_law_no_fault.specs.NoFault.{NeverFaults, NeverFaultsWhileFew}
 use Rattle.fm_law_no_fault.specs.Seen.{IsNoFault, SeesA}
 use Rattle.fm_law_no_fault.specs.Whole.{AreasAreWhole, FrameFits, FrameIsWhole, HasNoFault, IsWholeBy, LeadsToA, WordFits}
 
@@ -138,14 +138,19 @@ CatchingKeepsWhole =
 
 -- ---- steps and runs
 
--- A step of a typed and linked program that calls no FreeMe leads from a whole state to a whole one, and never to a fault, at each choice of a memory that
--- reuses cells in any way.
+-- A step of a typed and linked program that calls no FreeMe leads from a whole state to a whole one, and never to a fault, unless it makes an object of too
+-- many words, at each choice of a memory that reuses cells in any way.
 abbrev pub StepsKeepWhole : Type 0
 StepsKeepWhole =
     (p : Program) (typings : Typings) → IsResolved p → StepsAreResolved p → MakesAreResolved p → CellsAreResolved p → CallsNoFreeMe p → (choose : Choose) (x : State)
-    → IsWholeBy p typings x → HasNoFault x → IsWholeBy p typings (step p (lawful choose) x).state × HasNoFault (step p (lawful choose) x).state
+    → IsWholeBy p typings x → HasNoFault x → MakesFew p x → IsWholeBy p typings (step p (lawful choose) x).state × HasNoFault (step p (lawful choose) x).state
 
 -- So each state of each of its runs is whole, from the opening on, and none ends in a fault.
 abbrev pub RunsNeverFault : Type 0
 RunsNeverFault =
     (p : Program) (typings : Typings) → IsResolved p → StepsAreResolved p → MakesAreResolved p → CellsAreResolved p → MainIsReady p → NeverFaults p typings
+
+-- and so it is however many words may live
+abbrev pub RunsNeverFaultWhileFew : Type 0
+RunsNeverFaultWhileFew =
+    (p : Program) (typings : Typings) → IsResolved p → StepsAreResolved p → MakesAreResolved p → CellsAreResolved p → MainIsReady p → NeverFaultsWhileFew p typings

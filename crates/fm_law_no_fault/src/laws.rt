@@ -56,5 +56,6 @@ pub fn law_rows()
 /// whatever the memory chooses.
 pub fn law_no_fault()
     ensures steps { law.StepsKeepWhole }
+    ensures while_few { law.RunsNeverFaultWhileFew }
     ensures runs { law.RunsNeverFault }
 {}

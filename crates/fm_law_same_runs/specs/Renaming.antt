@@ -11,7 +11,7 @@ use Rattle.fm_frames.specs.States.{Frame, State, word_at}
 use Rattle.fm_frames.specs.declared.values.Value.{Value}
 use Rattle.fm_same.specs.DeadRegions.{IsRetired}
 use Rattle.fm_law_sound.specs.Placing.{kind_in}
-use Rattle.fm_law_two_memories.specs.Pairing.{AreTwins, SameCell, SameValue}
+use Rattle.fm_law_two_memories.specs.Pairing.{AreTwins, none_gone, SameCell, SameValue}
 use Rattle.fm_law_same_runs.specs.Beside.{Beside}
 
 -- ---- what is retired
@@ -38,7 +38,7 @@ pub record LeadsToRetired (Retired : ℕ → Type 0) (store : Store) (element : 
 -- elements at a place of this kind: equal numbers, or references that correspond to each other, but
 -- for one to what is retired
 abbrev pub SameOrRetired : (ℕ → Type 0) → Store → Store → Option Kind → ℕ → ℕ → Type 0
-SameOrRetired Retired one other (Some (kind.Ref t)) element twin = SameCell one other element twin ⊎ LeadsToRetired Retired one element
+SameOrRetired Retired one other (Some (kind.Ref t)) element twin = SameCell none_gone one other element twin ⊎ LeadsToRetired Retired one element
 SameOrRetired Retired one other k element twin = twin ≡ element
 
 -- the object in the cell of the second store is that of the first one's, under another cell
@@ -61,8 +61,8 @@ pub record HasName (o : Outline) (Retired : ℕ → Type 0) (one other : Store) 
 -- live locals and all words of the stack are the same under the renaming
 pub record IsFrameRenamed (facts : Facts) (one other : Store) (f g : Frame) : Type 0 where
   pub method : g.method ≡ f.method
-  pub locals : (k : ℕ) (v : Value) → slice_get f.locals k ≡ Some v → facts.live f.method k f.item ≡ true → SameValue one other v (word_at g.locals k)
-  pub stack : AllZip (SameValue one other) f.stack g.stack
+  pub locals : (k : ℕ) (v : Value) → slice_get f.locals k ≡ Some v → facts.live f.method k f.item ≡ true → SameValue none_gone one other v (word_at g.locals k)
+  pub stack : AllZip (SameValue none_gone one other) f.stack g.stack
 
 -- ---- states
 
@@ -72,7 +72,7 @@ pub record AreRenamed (o : Outline) (facts : Facts) (Retired : ℕ → Type 0) (
       → Retired object.birth ⊎ HasName o Retired x.areas.store y.areas.store object
   pub apart : (cell second twin : ℕ) → AreTwins x.areas.store y.areas.store cell twin → AreTwins x.areas.store y.areas.store second twin → cell ≡ second
   pub frames : AllZip (IsFrameRenamed facts x.areas.store y.areas.store) x.frames y.frames
-  pub statics : AllZip (SameValue x.areas.store y.areas.store) x.areas.statics y.areas.statics
+  pub statics : AllZip (SameValue none_gone x.areas.store y.areas.store) x.areas.statics y.areas.statics
 
 -- this holds of matched states of two runs
 abbrev pub StatesAreRenamed : Facts → Beside → (k l : ℕ) → Type 0

@@ -203,7 +203,6 @@ module _ (o : Outline) where
     statics = h.statics;
     started = h.started;
     literals = h.literals;
-    budget = h.budget;
     heap = heap_put (IsObjectIn o) x.store (with_object x.store cell object) cell object new (λ q. object_at-with_object x.store cell object q) h.heap;
     freed = ap (λ n. x.frees + n) (held_insert_held x.store.held cell old object held) ∙ h.freed;
     freed_words = h.freed_words;
@@ -215,7 +214,6 @@ module _ (o : Outline) where
     statics = h.statics;
     started = h.started;
     literals = h.literals;
-    budget = h.budget;
     heap = heap_put (IsObjectIn o) x.store (made_by x.store request (Take cell grows)) cell (new_object x.store.births request) new
         (λ q. object_at-made_by x.store request cell grows q) h.heap;
     freed =
@@ -233,7 +231,6 @@ module _ (o : Outline) where
     statics = h.statics;
     started = h.started;
     literals = h.literals;
-    budget = h.budget;
     heap = λ q found is. h.heap q found (kept_object (nat_eq q cell) q found (sym (object_at-without_object x.store cell object q) ∙ is));
     freed =
         let less = held_remove x.store.held cell object held in
@@ -448,7 +445,6 @@ module _ (o : Outline) (sizes : (class : ℕ) → size_of o.classes class < 2 ^ 
     statics = kinds-set (static_slots o) x.statics slot (field_slot k) (cut k v) h.statics at (read_kind k (kept k v));
     started = h.started;
     literals = h.literals;
-    budget = h.budget;
     heap = h.heap;
     freed = h.freed;
     freed_words = h.freed_words;
@@ -459,7 +455,6 @@ module _ (o : Outline) (sizes : (class : ℕ) → size_of o.classes class < 2 ^ 
     statics = h.statics;
     started = length-set x.started class true ∙ h.started;
     literals = h.literals;
-    budget = h.budget;
     heap = h.heap;
     freed = h.freed;
     freed_words = h.freed_words;
@@ -470,7 +465,6 @@ module _ (o : Outline) (sizes : (class : ℕ) → size_of o.classes class < 2 ^ 
     statics = h.statics;
     started = h.started;
     literals = length-set x.literals text cell ∙ h.literals;
-    budget = h.budget;
     heap = h.heap;
     freed = h.freed;
     freed_words = h.freed_words;

@@ -31,6 +31,7 @@ pub mod HiddenFields
 pub mod OpeningActs
 pub mod NextActs
 pub mod Opening
+pub mod Budgets
 pub mod RunsSound
 pub mod Following
 pub mod KindsAgree

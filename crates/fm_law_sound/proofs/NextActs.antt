@@ -18,12 +18,11 @@ use Rattle.fm_law_sound.specs.Acting.{ActsFit}
 use Rattle.fm_law_sound.specs.Going.{StandsAtRow}
 use Rattle.fm_law_sound.specs.Laws.{NextActsFit}
 use Rattle.fm_law_sound.specs.Leading.{is_call}
-use Rattle.fm_law_sound.specs.Making.{MakesAreResolved}
+use Rattle.fm_law_sound.specs.Making.{AreFew, MakesAreResolved, MakesFew}
 use Rattle.fm_law_sound.specs.Resolved.{IsNamed, StepsAreResolved}
 use Rattle.fm_law_sound.specs.Sound.{FrameHasKinds, IsSoundBy, StandsWithout, Typings}
 use Rattle.fm_law_sound.proofs.BuiltInActs.{built_ins_fit}
 use Rattle.fm_law_sound.proofs.CallCases.{by_call, HoldsOfCalls}
-use Rattle.fm_law_sound.proofs.FewWords.{few_within}
 use Rattle.fm_law_sound.proofs.FramesStand.{typing_of}
 use Rattle.fm_law_sound.proofs.HiddenFields.{text_first}
 use Rattle.fm_law_sound.proofs.InsnActs.{Fits, insn_fits}
@@ -103,13 +102,13 @@ module _ (p : Program) (typings : Typings) (ready : StepsAreResolved p) (made : 
       found_insn : next_insn p f ≡ Some i
       found_insn = ap (λ found. option_and_then (λ (c : Code). insn_of c f.item) found) stands.code_is ∙ insn_is
 
-      acts_fit : is_over o z.areas (next_effect p x).actions ≡ false → ActsFit o z.areas.store f [] (next_effect p x).actions
+      acts_fit : MakesFew p x → is_over o z.areas (next_effect p x).actions ≡ false → ActsFit o z.areas.store f [] (next_effect p x).actions
       unfolding next_effect
       acts_fit =
-          subst (λ e. is_over o z.areas (with_start o z.areas.started e).actions ≡ false → ActsFit o z.areas.store f [] (with_start o z.areas.started e).actions)
+          subst (λ e. (is_over o z.areas (with_start o z.areas.started e).actions ≡ false → AreFew o (with_start o z.areas.started e).actions)
+          → is_over o z.areas (with_start o z.areas.started e).actions ≡ false → ActsFit o z.areas.store f [] (with_start o z.areas.started e).actions)
           (sym (ap (effect_by p x f) found_insn))
-          (λ within. before_fits p made.makeable made.constants z.areas.store f z.areas.started own (own_fits (is_call i) refl).fits
-          (few_within o z.areas (with_start o z.areas.started own).actions sound.areas.budget within))
+          (λ few within. before_fits p made.makeable made.constants z.areas.store f z.areas.started own (own_fits (is_call i) refl).fits (few within))
 
     found_row : (after : TypeState) × (after_item p f.method stands.code f.item stands.known ≡ Some after)
     found_row =
@@ -117,15 +116,17 @@ module _ (p : Program) (typings : Typings) (ready : StepsAreResolved p) (made : 
         (λ given. (next : ℕ) → IsNormalEdge stands.code f.item next → FitsAt p (typings f.method) next given) meets.row in
         (found.0, found.1)
 
-    frame_acts_fit : is_over o z.areas (next_effect p x).actions ≡ false → ActsFit o z.areas.store f [] (next_effect p x).actions
+    frame_acts_fit : MakesFew p x → is_over o z.areas (next_effect p x).actions ≡ false → ActsFit o z.areas.store f [] (next_effect p x).actions
     frame_acts_fit =
         let parts = option_and_then-some
         (λ other. row_after o f.method f.item (made_at p f.method stands.code) (use_by p f.method other) other stands.known)
         (insn_of stands.code f.item) found_row.0 found_row.1 in
         acts_fit parts.0 found_row.0 parts.1 parts.2
 
-pub next_acts_fit : (p : Program) (typings : Typings) → StepsAreResolved p → MakesAreResolved p → (x : State) → IsSoundBy p typings x → NextActsFit p x
-next_acts_fit p typings ready made x sound f callers is =
-    subst (λ frames. IsSoundBy p typings (record x { frames = frames }) → is_over p.outline x.areas (next_effect p (record x { frames = frames })).actions ≡ false
+pub next_acts_fit : (p : Program) (typings : Typings) → StepsAreResolved p → MakesAreResolved p → (x : State) → IsSoundBy p typings x → MakesFew p x
+    → NextActsFit p x
+next_acts_fit p typings ready made x sound few f callers is =
+    subst (λ frames. IsSoundBy p typings (record x { frames = frames }) → MakesFew p (record x { frames = frames })
+    → is_over p.outline x.areas (next_effect p (record x { frames = frames })).actions ≡ false
     → ActsFit p.outline x.areas.store f [] (next_effect p (record x { frames = frames })).actions) (sym is)
-    (λ sound_here within. frame_acts_fit p typings ready made x f callers sound_here within) sound
+    (λ sound_here few_here within. frame_acts_fit p typings ready made x f callers sound_here few_here within) sound few

@@ -1,5 +1,5 @@
 -- The opening of a run leaves a sound state.
-use Rattle.std.proofs.Common.{◌≡◌, ℕ, ◌+◌, ◌^◌, ◌<◌, ◌≤◌, cond, Bool, true, false, List, [], ◌∷◌, ◌++◌, length, map, nat_lt, codes, Option, Some, None, refl, sym, ◌∙◌, ap, subst, slice_set, slice_index_or, arith, append_assoc}
+use Rattle.std.proofs.Common.{◌≡◌, ℕ, ◌+◌, ◌^◌, ◌<◌, cond, Bool, true, false, List, [], ◌∷◌, ◌++◌, length, map, nat_lt, codes, Option, Some, None, refl, sym, ◌∙◌, ap, subst, slice_set, slice_index_or, arith, append_assoc}
 use Rattle.std.specs.Prelude.{option_map, unwrap_or}
 use Rattle.std.specs.List.{AllByRecursion, flat_map}
 use Rattle.std.specs.FinMap.{gets}
@@ -8,7 +8,6 @@ use Rattle.std.proofs.lemmas.List.{length-append, length-map}
 use Rattle.fm_base.specs.Texts.{units}
 use Rattle.fm_base.specs.declared.kinds.Kind.TheVariants as kind
 use Rattle.fm_base.specs.declared.kinds.TypeRef.{TypeRef}
-use Rattle.fm_base.specs.declared.limits.TheConstants.{MAX_FILE_BYTES, MAX_LIVE_WORDS}
 use Rattle.fm_cells.proofs.Choices.{lawful_choice-may}
 use Rattle.fm_cells.proofs.Maps.{total-empty}
 use Rattle.fm_cells.specs.Changes.{Choice, made_by, RefuseStore, Take}
@@ -128,7 +127,7 @@ fit_later o store f types (action ∷ more) h fit = absurd h.0
 
 -- ---- each action by itself
 
-module _ (p : Program) (typings : Typings) (typed : AreTyped p typings) (sizes : (class : ℕ) → size_of p.outline.classes class < 2 ^ 31) (choose : Choose) (may : (s : Store) (request : Request) → MayReuse s request (choose s request)) (store : Store) (z : State) (few : length z.input ≤ MAX_FILE_BYTES) where
+module _ (p : Program) (typings : Typings) (typed : AreTyped p typings) (sizes : (class : ℕ) → size_of p.outline.classes class < 2 ^ 31) (choose : Choose) (may : (s : Store) (request : Request) → MayReuse s request (choose s request)) (store : Store) (z : State) where
   abbrev o : Outline
   o = p.outline
 
@@ -140,7 +139,6 @@ module _ (p : Program) (typings : Typings) (typed : AreTyped p typings) (sizes :
   ended_sound areas sound e = record {
     typed = typed;
     areas = sound;
-    input = few;
     frames = tt;
     running = λ running. absurd (cc);
     within = omega arith;
@@ -233,13 +231,12 @@ first_kinds cs (f ∷ fields) = by_flag _ _ (is_static f.field.flags) (first_kin
   by_flag slots words true rest = (read_kind (field_kind cs f.field) 0, rest)
   by_flag slots words false rest = rest
 
-pub first_sound : (o : Outline) (budget : ℕ) (limit : Option ℕ) (free : List (List ℕ)) → budget ≤ MAX_LIVE_WORDS
+pub first_sound : (o : Outline) (budget : ℕ) (limit : Option ℕ) (free : List (List ℕ))
     → AreasAreSound o (first_areas o (opened budget limit free))
-first_sound o budget limit free few = record {
+first_sound o budget limit free = record {
   statics = first_kinds o.classes (fields_of o.classes);
   started = length-map o.classes (λ class. false);
   literals = length-map o.texts (λ text. 0);
-  budget = few;
   heap = λ cell held there. absurd (nothing_held cell held there);
   freed = ap (λ n. 0 + n) (held_total (opened budget limit free).held ∙ total-empty (λ (held : Object). 1));
   freed_words = omega arith;
@@ -318,7 +315,6 @@ streams_keep p ready choose store areas types made h =
       statics = streams_kinds p.outline ready.calls.runnable.given ready.calls.runnable.classes areas.statics _ _ h.sound.statics;
       started = h.sound.started;
       literals = h.sound.literals;
-      budget = h.sound.budget;
       heap = h.sound.heap;
       freed = h.sound.freed;
       freed_words = h.sound.freed_words;
@@ -326,7 +322,7 @@ streams_keep p ready choose store areas types made h =
 
 -- ---- all together
 
-module _ (p : Program) (typings : Typings) (typed : AreTyped p typings) (ready : StepsAreResolved p) (main : MainIsReady p) (choose : Choose) (job : Job) (few : length job.input ≤ MAX_FILE_BYTES) (store : Store) where
+module _ (p : Program) (typings : Typings) (typed : AreTyped p typings) (ready : StepsAreResolved p) (main : MainIsReady p) (choose : Choose) (job : Job) (store : Store) where
   abbrev bare : Areas → State
   bare areas = record { frames = []; areas = areas; input = job.input; depth = job.depth; steps = 0; ended = None }
 
@@ -351,7 +347,6 @@ module _ (p : Program) (typings : Typings) (typed : AreTyped p typings) (ready :
     by_depth true deep = record {
       typed = typed;
       areas = sound;
-      input = few;
       frames = tt;
       running = λ running. absurd (cc);
       within = omega arith;
@@ -361,7 +356,6 @@ module _ (p : Program) (typings : Typings) (typed : AreTyped p typings) (ready :
         record {
           typed = typed;
           areas = sound;
-          input = few;
           frames = frames_stand classes arguments;
           running = λ running. omega (arith, count);
           within = grind (arith, nat_tests, shallow);
@@ -373,10 +367,10 @@ module _ (p : Program) (typings : Typings) (typed : AreTyped p typings) (ready :
   opened_sound fit sound =
       let classes : List ℕ = to_start p.outline (first_areas p.outline store).started p.outline.main_class in
       let may : (s : Store) (request : Request) → MayReuse s request (lawful choose s request) = λ s request. lawful_choice-may s request (choose s request) in
-      each_sound p typings typed ready.calls.runnable.sizes (lawful choose) may store (bare (first_areas p.outline store)) few
+      each_sound p typings typed ready.calls.runnable.sizes (lawful choose) may store (bare (first_areas p.outline store))
       (opening_actions p.outline job) (first_areas p.outline store) [] [] _
       (λ areas types made kept.
-      each_sound p typings typed ready.calls.runnable.sizes (lawful choose) may store (bare (first_areas p.outline store)) few
+      each_sound p typings typed ready.calls.runnable.sizes (lawful choose) may store (bare (first_areas p.outline store))
       (start_actions p.outline classes) (with_streams areas made) types made _
       (λ later more cells keeps. framed_sound classes (slice_index_or made 2 0) later keeps.sound)
       (of_start_made (start_actions p.outline classes) (start_made p.outline classes))
@@ -390,7 +384,7 @@ module _ (p : Program) (typings : Typings) (typed : AreTyped p typings) (ready :
       })
 
 pub opening_sound : (p : Program) (typings : Typings) → AreTyped p typings → StepsAreResolved p → MainIsReady p → (choose : Choose) (job : Job)
-    → length job.input ≤ MAX_FILE_BYTES → (budget : ℕ) (limit : Option ℕ) (free : List (List ℕ)) → budget ≤ MAX_LIVE_WORDS
-    → OpeningActsFit p job (opened budget limit free) → IsSoundBy p typings (opening p (lawful choose) job (opened budget limit free)).state
-opening_sound p typings typed ready main choose job input budget limit free few fit =
-    opened_sound p typings typed ready main choose job input (opened budget limit free) fit (first_sound p.outline budget limit free few)
+    → (budget : ℕ) (limit : Option ℕ) (free : List (List ℕ)) → OpeningActsFit p job (opened budget limit free)
+    → IsSoundBy p typings (opening p (lawful choose) job (opened budget limit free)).state
+opening_sound p typings typed ready main choose job budget limit free fit =
+    opened_sound p typings typed ready main choose job (opened budget limit free) fit (first_sound p.outline budget limit free)

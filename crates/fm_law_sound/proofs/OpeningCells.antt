@@ -1,11 +1,10 @@
 -- The opening of a run leads to no cell but to those that are held after it.
-use Rattle.std.proofs.Common.{◌≡◌, ℕ, ◌+◌, ◌^◌, ◌<◌, ◌≤◌, ◌⊎◌, cond, Bool, true, false, List, [], ◌∷◌, ◌++◌, length, nat_lt, Option, Some, is_some, refl, ap, inl, inr, slice_set, slice_index_or, arith, ⊎_elim}
+use Rattle.std.proofs.Common.{◌≡◌, ℕ, ◌+◌, ◌^◌, ◌<◌, ◌⊎◌, cond, Bool, true, false, List, [], ◌∷◌, ◌++◌, length, nat_lt, Option, Some, is_some, refl, ap, inl, inr, slice_set, slice_index_or, arith, ⊎_elim}
 use Rattle.std.specs.List.{All, AllByRecursion, flat_map}
 use Rattle.std.specs.FinMap.{gets}
 use Rattle.std.proofs.lemmas.Bool.Decides.{nat_tests}
 use Rattle.std.proofs.lemmas.List.Elements.{All-append, All-cons, All-from_recursion, All-map, All-nil, All-push, All-set}
 use Rattle.fm_base.specs.declared.kinds.TypeRef.{TypeRef}
-use Rattle.fm_base.specs.declared.limits.TheConstants.{MAX_LIVE_WORDS}
 use Rattle.fm_cells.proofs.Choices.{lawful_choice-may}
 use Rattle.fm_cells.specs.Changes.{Choice, made_by, put_by, RefuseStore, Take}
 use Rattle.fm_cells.specs.Choices.{lawful, MayReuse}
@@ -322,11 +321,10 @@ module _ (p : Program) (ready : StepsAreResolved p) (choose : Choose) (job : Job
       }) leads (λ n d inside. absurd (omega (arith, inside)))
 
 pub opening_holds : (p : Program) → StepsAreResolved p → MakesAreResolved p → (choose : Choose) (job : Job) → ArgumentsFit job.arguments
-    → (budget : ℕ) (limit : Option ℕ) (free : List (List ℕ)) → budget ≤ MAX_LIVE_WORDS
-    → CellsFit (opening p (lawful choose) job (opened budget limit free)).state.areas.store
+    → (budget : ℕ) (limit : Option ℕ) (free : List (List ℕ)) → CellsFit (opening p (lawful choose) job (opened budget limit free)).state.areas.store
     → HoldsCells p (opening p (lawful choose) job (opened budget limit free)).state
-opening_holds p ready made choose job given budget limit free few =
+opening_holds p ready made choose job given budget limit free =
     opened_holds p ready choose job (opened budget limit free) (record {
       opening = opening_fits p made.makeable (opened budget limit free) no_frame job given;
       start = start_alone p made.makeable made.constants (opened budget limit free) no_frame;
-    }) (first_sound p.outline budget limit free few) (first_leads p.outline budget limit free)
+    }) (first_sound p.outline budget limit free) (first_leads p.outline budget limit free)

@@ -18,7 +18,7 @@ use Rattle.fm_frames.specs.declared.values.Value.{Value}
 use Rattle.fm_frames.specs.declared.values.Value.TheVariants as value
 use Rattle.fm_law_sound.specs.HeldCells.{AreasLeadWithin, FrameLeadsWithin, HoldsCells, LeadsWithin}
 use Rattle.fm_law_sound.specs.Leading.{sources_of}
-use Rattle.fm_law_sound.specs.Making.{MakesAreResolved}
+use Rattle.fm_law_sound.specs.Making.{MakesAreResolved, MakesFew}
 use Rattle.fm_law_sound.specs.Placing.{PlacesAgree, ReadAgrees, thrown_in}
 use Rattle.fm_law_sound.specs.Resolved.{StepsAreResolved}
 use Rattle.fm_law_sound.specs.Sound.{IsSoundBy, Typings}
@@ -160,7 +160,7 @@ module _ (p : Program) (typings : Typings) (ready : StepsAreResolved p) (made : 
   abbrev o : Outline
   o = p.outline
 
-  module _ (sound : IsSoundBy p typings x) (holds : HoldsCells p x) where
+  module _ (sound : IsSoundBy p typings x) (makes : MakesFew p x) (holds : HoldsCells p x) where
     abbrev e : Effect
     e = next_effect p x
 
@@ -211,22 +211,23 @@ module _ (p : Program) (typings : Typings) (ready : StepsAreResolved p) (made : 
         (λ shallow. moved_by (Holds p) (is_over o z.areas e.actions) _ _ (λ over fits. as_it_was _)
         (λ few. finished_holds (max 1 (objects_made e.actions)) (performed o (lawful choose) f.locals f.stack e.actions z.areas [])
         (actions_hold o ready.calls.runnable.sizes (lawful choose) (λ s request. lawful_choice-may s request (choose s request)) f within z.areas
-        e.actions sound.areas (next_acts_fit p typings ready made x sound f callers refl few) agrees.puts holds.areas)))
+        e.actions sound.areas (next_acts_fit p typings ready made x sound makes f callers refl few) agrees.puts holds.areas)))
 
 by_frames : (p : Program) (typings : Typings) → StepsAreResolved p → MakesAreResolved p → (choose : Choose) (z : State) (frames : List Frame)
-    → IsSoundBy p typings (record z { frames = frames }) → HoldsCells p (record z { frames = frames }) → z.ended ≡ None
+    → IsSoundBy p typings (record z { frames = frames }) → MakesFew p (record z { frames = frames }) → HoldsCells p (record z { frames = frames })
+    → z.ended ≡ None
     → Holds p (attempted p (lawful choose) (record z { frames = frames }) (next_effect p (record z { frames = frames }))).state
-by_frames p typings ready made choose z [] sound holds running = let some = sound.running running in absurd (omega (arith, some))
-by_frames p typings ready made choose z (f ∷ callers) sound holds running = frame_holds p typings ready made choose z f callers sound holds
+by_frames p typings ready made choose z [] sound makes holds running = let some = sound.running running in absurd (omega (arith, some))
+by_frames p typings ready made choose z (f ∷ callers) sound makes holds running = frame_holds p typings ready made choose z f callers sound makes holds
 
 pub step_holds : (p : Program) (typings : Typings) → StepsAreResolved p → MakesAreResolved p → (choose : Choose) (x : State) → IsSoundBy p typings x
-    → HoldsCells p x → CellsFit (step p (lawful choose) x).state.areas.store → HoldsCells p (step p (lawful choose) x).state
+    → MakesFew p x → HoldsCells p x → CellsFit (step p (lawful choose) x).state.areas.store → HoldsCells p (step p (lawful choose) x).state
 unfolding step
-step_holds p typings ready made choose x sound holds = by_end x.ended refl where
+step_holds p typings ready made choose x sound makes holds = by_end x.ended refl where
   moved_with : Option Ended → Moved
   moved_with (Some ended) = record { state = x; printed = [] }
   moved_with None = attempted p (lawful choose) x (next_effect p x)
 
   by_end : (ended : Option Ended) → x.ended ≡ ended → Holds p (moved_with ended).state
   by_end (Some ended) is = λ fits. holds
-  by_end None is = by_frames p typings ready made choose x x.frames sound holds is
+  by_end None is = by_frames p typings ready made choose x x.frames sound makes holds is

@@ -1,5 +1,5 @@
 -- A step whose actions fit keeps a state sound.
-use Rattle.std.proofs.Common.{◌≡◌, ℕ, zero, suc, ◌+◌, ◌<◌, ◌≤◌, cond, Bool, true, false, List, [], ◌∷◌, ◌++◌, drop, length, max, take, Option, Some, None, option_and_then, refl, sym, ◌∙◌, ap, subst, slice_get, arith}
+use Rattle.std.proofs.Common.{◌≡◌, ℕ, ◌+◌, ◌<◌, ◌≤◌, cond, Bool, true, false, List, [], ◌∷◌, ◌++◌, length, max, take, Option, Some, None, option_and_then, refl, sym, ◌∙◌, ap, subst, slice_get, arith}
 use Rattle.std.specs.List.{AllByRecursion}
 use Rattle.std.proofs.lemmas.Bool.Decides.{nat_tests}
 use Rattle.std.proofs.lemmas.List.{length-append, length-map}
@@ -14,7 +14,6 @@ use Rattle.fm_types.specs.Rows.{row_after}
 use Rattle.fm_types.specs.States.{TypeState}
 use Rattle.fm_types.specs.Typed.{after_item, FitsAt, IsTypingOf, made_at, MeetsItem, use_by}
 use Rattle.fm_world.specs.Programs.{Outline, Program}
-use Rattle.fm_base.specs.declared.limits.TheConstants.{MAX_FILE_BYTES}
 use Rattle.fm_types.specs.Named.{result_words}
 use Rattle.fm_frames.specs.Acts.{Choose, Did, FullAt, LostAt, performed, Performed, value_of}
 use Rattle.fm_frames.specs.Effects.{Action, Calls, Effect, Enters, Exits, Falls, Faults, Jumps, JumpsIfSame, Next, nothing, Returns, Throws}
@@ -22,7 +21,7 @@ use Rattle.fm_frames.specs.Rows.{effect_of}
 use Rattle.fm_frames.specs.Sights.{sights}
 use Rattle.fm_frames.specs.Starts.{start_actions, start_methods, started_by, to_start, with_start}
 use Rattle.fm_frames.specs.States.{Areas, Frame, Moved, State}
-use Rattle.fm_frames.specs.Steps.{attempted, Caught, caught, caught_in, continued, effect_by, finished, frames_needed, handler_of, InFrames, input_after, next_insn, is_deep, is_over, is_start, Leaves, new_frame, next_effect, objects_made, returned, start_frames, step, stopped, thrown_by, type_at}
+use Rattle.fm_frames.specs.Steps.{attempted, Caught, caught, caught_in, continued, effect_by, finished, frames_needed, handler_of, InFrames, next_insn, is_deep, is_over, is_start, Leaves, new_frame, next_effect, objects_made, returned, start_frames, step, stopped, thrown_by, type_at}
 use Rattle.fm_frames.specs.declared.ends.Ended.{Ended}
 use Rattle.fm_frames.specs.declared.ends.Ended.TheVariants as end
 use Rattle.fm_frames.specs.declared.values.Value.{Value}
@@ -58,15 +57,6 @@ caught_length p t v (f ∷ callers) after is = by_handler (handler_of p f t) (ca
       let same : record f { item = handler; stack = v ∷ [] } ∷ callers ≡ after = cc in
       subst (λ (frames : List Frame). (0 < length frames) × (length frames ≤ length (f ∷ callers))) same (omega arith, omega arith)
   by_handler None below e later = by_start (is_start p.outline f.method) _ below e later
-
-shorter : (n : ℕ) (xs : List ℕ) → length (drop n xs) ≤ length xs
-shorter zero xs = omega arith
-shorter (suc n) [] = omega arith
-shorter (suc n) (x ∷ xs) = let less = shorter n xs in omega (arith, less)
-
-input_shorter : (reads : Bool) (input : List ℕ) → length (input_after reads input) ≤ length input
-input_shorter true input = shorter 1 input
-input_shorter false input = omega arith
 
 -- ---- where a step leads
 
@@ -125,7 +115,6 @@ module _ (p : Program) (ready : StepsAreResolved p) (f : Frame) (i : Insn) (afte
 -- what holds of a state but for its frames
 record IsSoundBeside (o : Outline) (x : State) : Type 0 where
   areas : AreasAreSound o x.areas
-  input : length x.input ≤ MAX_FILE_BYTES
 
 -- ---- the frames after a step
 
@@ -135,7 +124,6 @@ module _ (p : Program) (typings : Typings) (ready : StepsAreResolved p) (typed :
   sound_with frames stand some few = record {
     typed = typed;
     areas = beside.areas;
-    input = beside.input;
     frames = stand;
     running = λ running. some;
     within = few;
@@ -145,7 +133,6 @@ module _ (p : Program) (typings : Typings) (ready : StepsAreResolved p) (typed :
   sound_stopped stand few e = record {
     typed = typed;
     areas = beside.areas;
-    input = beside.input;
     frames = stand;
     running = λ running. absurd (cc);
     within = few;
@@ -274,20 +261,18 @@ module _ (p : Program) (typings : Typings) (ready : StepsAreResolved p) (choose 
       finished_sound : (price : ℕ) → is_deep x (next_effect p x).next ≡ false → (result : Performed) → LeavesSound p.outline result
           → IsSoundBy p typings (finished p price (next_effect p x) x result)
       finished_sound price shallow (Did areas made) kept =
-          let read = input_shorter (next_effect p x).reads z.input in
-          let few = sound.input in
-          next_sound p typings ready sound.typed _ (record { areas = kept; input = omega (arith, read, few) }) f sound.frames sound.within callers i after at_row
+          next_sound p typings ready sound.typed _ (record { areas = kept }) f sound.frames sound.within callers i after at_row
           kinds stands sound.frames.1 sound.within (next_effect p x) areas made kept.statics (next_effect p x).next step_leads
           (room_for x (next_effect p x).next shallow sound.within)
       finished_sound price shallow (FullAt areas needed) kept =
-          sound_stopped p typings ready sound.typed (record x { areas = areas }) (record { areas = kept; input = sound.input }) sound.frames sound.within _
+          sound_stopped p typings ready sound.typed (record x { areas = areas }) (record { areas = kept }) sound.frames sound.within _
       finished_sound price shallow (LostAt v) kept =
-          sound_stopped p typings ready sound.typed x (record { areas = sound.areas; input = sound.input }) sound.frames sound.within _
+          sound_stopped p typings ready sound.typed x (record { areas = sound.areas }) sound.frames sound.within _
 
       attempt_sound : (is_over p.outline z.areas (next_effect p x).actions ≡ false → ActsFit p.outline z.areas.store f [] (next_effect p x).actions)
           → IsSoundBy p typings (attempted p (lawful choose) x (next_effect p x)).state
       attempt_sound fit =
-          let beside : IsSoundBeside p.outline x = record { areas = sound.areas; input = sound.input } in
+          let beside : IsSoundBeside p.outline x = record { areas = sound.areas } in
           moved_by (IsSoundBy p typings) (is_deep x (next_effect p x).next) _ _
           (λ deep. sound_stopped p typings ready sound.typed x beside sound.frames sound.within _)
           (λ shallow. moved_by (IsSoundBy p typings) (is_over p.outline z.areas (next_effect p x).actions) _ _

@@ -2,7 +2,7 @@
 use Rattle.std.specs.Prelude.{◌≡◌, ℕ, ◌^◌, ◌<◌, false, true, List, [], ◌∷◌, ◌++◌, drop, length, take, reverse, Option, Some, None, ◌≤◌, Bool}
 use Rattle.std.specs.List.{AllByRecursion}
 use Rattle.fm_base.specs.declared.kinds.TypeRef.{TypeRef}
-use Rattle.fm_base.specs.declared.limits.TheConstants.{MAX_LIVE_WORDS, MAX_FILE_BYTES}
+use Rattle.fm_base.specs.declared.limits.TheConstants.{MAX_LIVE_WORDS}
 use Rattle.fm_cells.specs.Choices.{lawful}
 use Rattle.fm_cells.specs.Soundness.{CellsFit}
 use Rattle.fm_cells.specs.Stores.{Store, opened}
@@ -38,7 +38,7 @@ use Rattle.fm_law_sound.specs.HeldCells.{HoldsCells}
 use Rattle.fm_law_sound.specs.Leading.{is_call, LeadsAs, NamesField, sources_of}
 use Rattle.fm_law_sound.specs.Resolved.{CallsAreResolved, MainIsReady, StepsAreResolved}
 use Rattle.fm_law_sound.specs.Sound.{AreasAreSound, AreTyped, FrameHasKinds, HaveKinds, IsReference, IsSoundBy, Stand, StandBelow, StandsWithout, static_slots, Typings}
-use Rattle.fm_law_sound.specs.Making.{AreFew, ArgumentsFit, ConstantsAreStatic, HaveTextFirst, HoldsObjects, IsMakeable, MakesAreResolved, NamesAreUnits, NamesMade}
+use Rattle.fm_law_sound.specs.Making.{AreFew, ArgumentsFit, ConstantsAreStatic, HaveTextFirst, HoldsObjects, IsMakeable, MakesAreResolved, MakesFew, NamesAreUnits, NamesMade}
 
 -- ---- kinds
 
@@ -163,6 +163,10 @@ OpeningsFit =
     (p : Program) → IsMakeable p → (job : Job) → ArgumentsFit job.arguments → (store : Store) (f : Frame)
     → ActsFit p.outline store f [] (opening_actions p.outline job)
 
+-- No step changes how many words may live.
+abbrev pub StepsKeepBudgets : Type 0
+StepsKeepBudgets = (p : Program) (choose : Choose) (x : State) → (step p choose x).state.areas.store.budget ≡ x.areas.store.budget
+
 -- ---- places of fields
 
 -- Objects of a class have each field of the class and of its superclasses at the field's place, with its kind; so a place is one of all classes below.
@@ -212,19 +216,31 @@ no_frame = record { method = 0; item = 0; locals = []; stack = [] }
 
 -- ---- typed and linked programs
 
--- The actions of each step of a sound state fit; so each step keeps a state sound, at each choice of a memory that reuses cells in any way, and whatever was
--- freed.
+-- The actions of each step of a sound state fit that makes no object of too many words; so each such step keeps a state sound, at each choice of a memory
+-- that reuses cells in any way, and whatever was freed.
 abbrev pub SoundStatesStep : Type 0
 SoundStatesStep =
-    (p : Program) (typings : Typings) → StepsAreResolved p → MakesAreResolved p → (choose : Choose) (x : State) → IsSoundBy p typings x
+    (p : Program) (typings : Typings) → StepsAreResolved p → MakesAreResolved p → (choose : Choose) (x : State) → IsSoundBy p typings x → MakesFew p x
     → NextActsFit p x × IsSoundBy p typings (step p (lawful choose) x).state
 
--- So each state of a run of a typed and linked program is sound, from its opening on, by the states of the items of each method.
+-- the steps of a run before this one make no object of too many words
+abbrev pub MakesFewBefore : Program → Choose → Job → Store → ℕ → Type 0
+MakesFewBefore p choose job store k = (j : ℕ) → j < k → MakesFew p (after p choose j (opening p choose job store)).state
+
+-- So each state of a run of a typed and linked program before which no object has too many words is sound, from its opening on, by the states of the items
+-- of each method: whatever is read, and however many words may live.
+abbrev pub SoundWhileFew : Type 0
+SoundWhileFew =
+    (p : Program) (typings : Typings) → AreTyped p typings → StepsAreResolved p → MakesAreResolved p → MainIsReady p → (choose : Choose) (job : Job)
+    → ArgumentsFit job.arguments → (budget : ℕ) (limit : Option ℕ) (free : List (List ℕ)) (k : ℕ)
+    → MakesFewBefore p (lawful choose) job (opened budget limit free) k
+    → IsSoundBy p typings (after p (lawful choose) k (opening p (lawful choose) job (opened budget limit free))).state
+
+-- So is each state of a run with no more words than `fmrun` allows at most.
 abbrev pub SoundRuns : Type 0
 SoundRuns =
     (p : Program) (typings : Typings) → AreTyped p typings → StepsAreResolved p → MakesAreResolved p → MainIsReady p → (choose : Choose) (job : Job)
-    → length job.input ≤ MAX_FILE_BYTES → ArgumentsFit job.arguments → (budget : ℕ) (limit : Option ℕ) (free : List (List ℕ))
-    → budget ≤ MAX_LIVE_WORDS → (k : ℕ)
+    → ArgumentsFit job.arguments → (budget : ℕ) (limit : Option ℕ) (free : List (List ℕ)) → budget ≤ MAX_LIVE_WORDS → (k : ℕ)
     → IsSoundBy p typings (after p (lawful choose) k (opening p (lawful choose) job (opened budget limit free))).state
 
 -- ---- cells
@@ -232,13 +248,12 @@ SoundRuns =
 -- A step leads to no cell but to those to which the state led and those of what is held after it: so where these are numbers of 32 bits, those are.
 abbrev pub StepsHoldCells : Type 0
 StepsHoldCells =
-    (p : Program) (typings : Typings) → StepsAreResolved p → MakesAreResolved p → (choose : Choose) (x : State) → IsSoundBy p typings x → HoldsCells p x
-    → CellsFit (step p (lawful choose) x).state.areas.store → HoldsCells p (step p (lawful choose) x).state
+    (p : Program) (typings : Typings) → StepsAreResolved p → MakesAreResolved p → (choose : Choose) (x : State) → IsSoundBy p typings x → MakesFew p x
+    → HoldsCells p x → CellsFit (step p (lawful choose) x).state.areas.store → HoldsCells p (step p (lawful choose) x).state
 
 -- And the opening leads to no other cell.
 abbrev pub OpeningsHoldCells : Type 0
 OpeningsHoldCells =
     (p : Program) → StepsAreResolved p → MakesAreResolved p → (choose : Choose) (job : Job) → ArgumentsFit job.arguments
-    → (budget : ℕ) (limit : Option ℕ) (free : List (List ℕ)) → budget ≤ MAX_LIVE_WORDS
-    → CellsFit (opening p (lawful choose) job (opened budget limit free)).state.areas.store
+    → (budget : ℕ) (limit : Option ℕ) (free : List (List ℕ)) → CellsFit (opening p (lawful choose) job (opened budget limit free)).state.areas.store
     → HoldsCells p (opening p (lawful choose) job (opened budget limit free)).state

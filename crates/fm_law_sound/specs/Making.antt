@@ -25,6 +25,8 @@ use Rattle.fm_frames.specs.Effects.{Action, Make}
 use Rattle.fm_frames.specs.NativeRows.{text_kind, type_name}
 use Rattle.fm_frames.specs.Runnable.{IsRunnable}
 use Rattle.fm_frames.specs.Runs.{arguments_type}
+use Rattle.fm_frames.specs.States.{State}
+use Rattle.fm_frames.specs.Steps.{is_over, next_effect}
 use Rattle.fm_law_sound.specs.Resolved.{IsNamed}
 use Rattle.fm_law_sound.specs.Sound.{IsObjectIn}
 
@@ -111,3 +113,7 @@ IsFew o action = Unit {0}
 -- and so has each of the objects
 abbrev pub AreFew : Outline → List Action → Type 0
 AreFew o actions = AllByRecursion (IsFew o) actions
+
+-- the next step makes no object of more words than may live, unless it passes the budget: so no array and no text is too long (JVMS 2.4)
+abbrev pub MakesFew : Program → State → Type 0
+MakesFew p x = is_over p.outline x.areas (next_effect p x).actions ≡ false → AreFew p.outline (next_effect p x).actions

@@ -7,7 +7,7 @@ use Rattle.std.specs.List.{AllZip, flat_map, slice_index_or}
 use Rattle.fm_base.specs.declared.kinds.Kind.{Kind}
 use Rattle.fm_base.specs.declared.kinds.Kind.TheVariants as kind
 use Rattle.fm_base.specs.declared.kinds.TypeRef.{TypeRef}
-use Rattle.fm_base.specs.declared.limits.TheConstants.{MAX_FILE_BYTES, MAX_LIVE_WORDS}
+use Rattle.fm_base.specs.declared.limits.TheConstants.{MAX_LIVE_WORDS}
 use Rattle.fm_cells.specs.Objects.{Object}
 use Rattle.fm_cells.specs.Stores.{object_at}
 use Rattle.fm_code.specs.AccessFlags.{is_abstract, is_interface, is_static}
@@ -203,8 +203,6 @@ pub record AreasAreSound (o : Outline) (x : Areas) : Type 0 where
   pub statics : HaveKinds (static_slots o) x.statics
   pub started : length x.started ≡ length o.classes
   pub literals : length x.literals ≡ length o.texts
-  -- the words that may live are within the limit
-  pub budget : x.store.budget ≤ MAX_LIVE_WORDS
   -- each object that is held
   pub heap : (cell : ℕ) (object : Object) → object_at x.store cell ≡ Some object → IsObjectIn o object
   -- what was made is held or was freed
@@ -220,13 +218,11 @@ pub record IsSoundBy (p : Program) (typings : Typings) (x : State) : Type 0 wher
   -- each method that has code is typed so
   pub typed : AreTyped p typings
   pub areas : AreasAreSound p.outline x.areas
-  -- what is left of the input is within the limit
-  pub input : length x.input ≤ MAX_FILE_BYTES
   -- the frames, of which there is one while the run goes on, and no more than may be
   pub frames : Stand p typings x.frames
   pub running : x.ended ≡ None → 0 < length x.frames
   pub within : length x.frames ≤ x.depth
 
--- a state is sound by some states of the items
+-- a state is sound by some states of the items, and the words that may live are as many as `fmrun` allows at most
 abbrev pub IsSound : Program → State → Type 0
-IsSound p x = (typings : Typings) × IsSoundBy p typings x
+IsSound p x = (typings : Typings) × IsSoundBy p typings x × (x.areas.store.budget ≤ MAX_LIVE_WORDS)

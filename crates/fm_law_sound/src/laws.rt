@@ -68,6 +68,11 @@ pub fn law_few_words()
     ensures { law.WithinIsFew }
 {}
 
+/// No step changes how many words may live.
+pub fn law_budgets()
+    ensures { law.StepsKeepBudgets }
+{}
+
 /// What the start of classes does to their static fields fits, and with it the effect for which they are
 /// started.
 pub fn law_starts()
@@ -93,9 +98,12 @@ pub fn law_step()
 {}
 
 /// The actions of each step of a sound state fit, so each step of a typed and linked program keeps a state
-/// sound; and each state of its runs is sound, from the opening on, whatever is freed.
+/// sound, unless an object has more words than may live; so each state of its runs is sound, from the
+/// opening on, whatever is read or freed, while no object has so many; with no more words than `fmrun`
+/// allows none has.
 pub fn law_sound()
     ensures steps { law.SoundStatesStep }
+    ensures while_few { law.SoundWhileFew }
     ensures runs { law.SoundRuns }
 {}
 

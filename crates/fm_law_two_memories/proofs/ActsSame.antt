@@ -1,6 +1,6 @@
 -- The actions of a step lead paired areas to paired areas.
 use Rattle.std.proofs.Common.{◌≡◌, ℕ, inl, inr, Bool, true, false, List, Some, refl, sym, ◌∙◌, ap, subst, slice_set}
-use Rattle.std.specs.List.{AllZip}
+use Rattle.std.specs.List.{AllByRecursion, AllZip}
 use Rattle.std.proofs.lemmas.Option.{same_Some}
 use Rattle.fm_base.specs.declared.kinds.Kind.{Kind}
 use Rattle.fm_base.specs.declared.kinds.Kind.TheVariants as kind
@@ -22,12 +22,13 @@ use Rattle.fm_law_sound.proofs.CellsKeep.{SameClasses}
 use Rattle.fm_law_sound.specs.Leading.{sources_of}
 use Rattle.fm_law_sound.specs.Placing.{kind_in, ReadAgrees}
 use Rattle.fm_law_sound.specs.Sound.{field_slot, HasKind, IsReference}
-use Rattle.fm_law_two_memories.specs.Pairing.{AreAlike, ArePaired, AreasPaired, AreTwins, FramesPaired, SameCell, SameElement, SameValue}
+use Rattle.fm_law_two_memories.specs.Pairing.{AreAlike, ArePaired, AreasPaired, AreTwins, FramesPaired, Gone, SameCell, SameElement, SameFound, SameValue}
 use Rattle.fm_law_two_memories.specs.Reading.{IsNumeric, IsOfKind, NumberAgrees}
+use Rattle.fm_law_two_memories.specs.Seeing.{IsSeen, IsThere}
 use Rattle.fm_law_two_memories.proofs.SightsSame.{twins_alike}
 use Rattle.fm_law_two_memories.proofs.SourcesSame.{read_same, source_same}
 use Rattle.fm_law_two_memories.proofs.Stores.{cell_later, put_paired, Stays, value_later, with_stays}
-use Rattle.fm_law_two_memories.proofs.Twins.{not_null}
+use Rattle.fm_law_two_memories.proofs.Twins.{found_same, not_null}
 
 -- ---- values that are kept
 
@@ -41,20 +42,20 @@ of_kind kind.Int v has = subst IsNumeric (sym has.1) tt
 of_kind kind.Long v has = subst IsNumeric (sym has.1) tt
 of_kind (kind.Ref t) v has = has
 
-module _ (one other : Store) where
-  kept_number : (k : Kind) (v w : Value) → SameValue one other v w → IsNumeric v → kept k w ≡ kept k v
+module _ (gone : Gone) (one other : Store) where
+  kept_number : (k : Kind) (v w : Value) → SameValue gone one other v w → IsNumeric v → kept k w ≡ kept k v
   kept_number k value.Top w h number = absurd number
   kept_number k (value.Int n) w h number = ap (kept k) h
   kept_number k (value.Long n) w h number = ap (kept k) h
   kept_number k (value.Ref cell) w h number = absurd number
 
-  kept_reference : (t : TypeRef) (v w : Value) → SameValue one other v w → IsReference v → SameCell one other (kept (kind.Ref t) v) (kept (kind.Ref t) w)
+  kept_reference : (t : TypeRef) (v w : Value) → SameValue gone one other v w → IsReference v → SameCell gone one other (kept (kind.Ref t) v) (kept (kind.Ref t) w)
   kept_reference t value.Top w h reference = absurd reference
   kept_reference t (value.Int n) w h reference = absurd reference
   kept_reference t (value.Long n) w h reference = absurd reference
-  kept_reference t (value.Ref cell) w h reference = subst (λ u. SameCell one other cell.0 (kept (kind.Ref t) u)) (sym h.1) h.2
+  kept_reference t (value.Ref cell) w h reference = subst (λ u. SameCell gone one other cell.0 (kept (kind.Ref t) u)) (sym h.1) h.2
 
-  plain_number : (v : Value) → IsNumeric v → SameValue one other v v
+  plain_number : (v : Value) → IsNumeric v → SameValue gone one other v v
   plain_number value.Top h = absurd h
   plain_number (value.Int n) h = refl
   plain_number (value.Long n) h = refl
@@ -64,19 +65,19 @@ no_number : (t : TypeRef) (n : ℕ) → IsNumeric (read (kind.Ref t) n) → ⊥
 unfolding read
 no_number t n h = h
 
-module _ (o : Outline) (one other : Store) (f g : Frame) (frame : FramesPaired one other f g) (x y : Areas) (made others : List ℕ) (paired : AreasPaired o x y) (stays : Stays one x.store) (other_stays : Stays other y.store) (classes : SameClasses one x.store) (cells : AllZip (SameCell x.store y.store) made others) where
+module _ (gone : Gone) (o : Outline) (one other : Store) (f g : Frame) (frame : FramesPaired gone one other f g) (seen : AllByRecursion (IsSeen gone o one) f.stack) (x y : Areas) (made others : List ℕ) (paired : AreasPaired gone o x y) (stays : Stays one x.store) (other_stays : Stays other y.store) (classes : SameClasses one x.store) (cells : AllZip (SameFound x.store y.store) made others) where
   abbrev first : Source → Value
   first s = value_of (sources_of f x made) s
 
   abbrev second : Source → Value
   second s = value_of (sources_of g y others) s
 
-  same : (s : Source) → ReadAgrees o one f.stack s → NumberAgrees o one f.stack s → SameValue x.store y.store (first s) (second s)
-  same = source_same o one other f g frame x y made others paired stays other_stays classes cells
+  same : (s : Source) → ReadAgrees o one f.stack s → NumberAgrees o one f.stack s → SameValue gone x.store y.store (first s) (second s)
+  same = source_same gone o one other f g frame seen x y made others paired stays other_stays classes cells
 
   -- a source that gives a number needs no reference to be read
-  number_same_from : (s : Source) → NumberAgrees o one f.stack s → IsNumeric (first s) → SameValue x.store y.store (first s) (second s)
-  number_same_from (Plain v) numbers h = plain_number x.store y.store v h
+  number_same_from : (s : Source) → NumberAgrees o one f.stack s → IsNumeric (first s) → SameValue gone x.store y.store (first s) (second s)
+  number_same_from (Plain v) numbers h = plain_number gone x.store y.store v h
   number_same_from (OfOperand n) numbers h = same (OfOperand n) tt numbers
   number_same_from (OfLocal k) numbers h = same (OfLocal k) tt numbers
   number_same_from (LocalPlus k by) numbers h = same (LocalPlus k by) tt numbers
@@ -89,42 +90,42 @@ module _ (o : Outline) (one other : Store) (f g : Frame) (frame : FramesPaired o
 
   -- what is kept of a value of the kind
   pub kept_same : (k : Kind) (s : Source) → ((t : TypeRef) → k ≡ kind.Ref t → ReadAgrees o one f.stack s) → NumberAgrees o one f.stack s
-      → IsOfKind k (first s) → SameElement x.store y.store (Some k) (kept k (first s)) (kept k (second s))
-  kept_same (kind.Ref t) s reads numbers has = kept_reference x.store y.store t (first s) (second s) (same s (reads t refl) numbers) has
-  kept_same k s reads numbers has = kept_number x.store y.store k (first s) (second s) (number_same_from s numbers has) has
+      → IsOfKind k (first s) → SameElement gone x.store y.store (Some k) (kept k (first s)) (kept k (second s))
+  kept_same (kind.Ref t) s reads numbers has = kept_reference gone x.store y.store t (first s) (second s) (same s (reads t refl) numbers) has
+  kept_same k s reads numbers has = kept_number gone x.store y.store k (first s) (second s) (number_same_from s numbers has) has
 
   pub cut_same : (k : Kind) (s : Source) → ((t : TypeRef) → k ≡ kind.Ref t → ReadAgrees o one f.stack s) → NumberAgrees o one f.stack s
-      → IsOfKind k (first s) → SameValue x.store y.store (cut k (first s)) (cut k (second s))
-  cut_same k s reads numbers has = read_same x.store y.store k (kept k (first s)) (kept k (second s)) (kept_same k s reads numbers has)
+      → IsOfKind k (first s) → SameValue gone x.store y.store (cut k (first s)) (cut k (second s))
+  cut_same k s reads numbers has = read_same gone x.store y.store k (kept k (first s)) (kept k (second s)) (kept_same k s reads numbers has)
 
 -- ---- areas
 
 -- the areas with later stores
-pub areas_later : (o : Outline) (x y : Areas) (next following : Store) → AreasPaired o x y → Stays x.store next → Stays y.store following
-    → ArePaired o next following → AreasPaired o (record x { store = next }) (record y { store = following })
-areas_later o x y next following paired stays other_stays stores = record {
+pub areas_later : (gone : Gone) (o : Outline) (x y : Areas) (next following : Store) → AreasPaired gone o x y → Stays x.store next → Stays y.store following
+    → ArePaired gone o next following → AreasPaired gone o (record x { store = next }) (record y { store = following })
+areas_later gone o x y next following paired stays other_stays stores = record {
   store = stores;
-  statics = zip-implied (SameValue x.store y.store) (SameValue next following) (value_later x.store y.store next following stays other_stays)
+  statics = zip-implied (SameValue gone x.store y.store) (SameValue gone next following) (value_later gone x.store y.store next following stays other_stays)
       x.statics y.statics paired.statics;
-  literals = zip-implied (SameCell x.store y.store) (SameCell next following) (cell_later x.store y.store next following stays other_stays)
+  literals = zip-implied (SameCell gone x.store y.store) (SameCell gone next following) (cell_later gone x.store y.store next following stays other_stays)
       x.literals y.literals paired.literals;
   started = paired.started;
 }
 
 -- a static field is set
-pub static_same : (o : Outline) (x y : Areas) (slot : ℕ) (k : Kind) (v w : Value) → AreasPaired o x y
-    → SameValue x.store y.store (cut k v) (cut k w) → AreasPaired o (set_static x slot k v) (set_static y slot k w)
-static_same o x y slot k v w paired h = record {
+pub static_same : (gone : Gone) (o : Outline) (x y : Areas) (slot : ℕ) (k : Kind) (v w : Value) → AreasPaired gone o x y
+    → SameValue gone x.store y.store (cut k v) (cut k w) → AreasPaired gone o (set_static x slot k v) (set_static y slot k w)
+static_same gone o x y slot k v w paired h = record {
   store = paired.store;
-  statics = zip-set (SameValue x.store y.store) slot (cut k v) (cut k w) x.statics y.statics h paired.statics;
+  statics = zip-set (SameValue gone x.store y.store) slot (cut k v) (cut k w) x.statics y.statics h paired.statics;
   literals = paired.literals;
   started = paired.started;
 }
 
 -- a class is started
-pub start_same : (o : Outline) (x y : Areas) (class : ℕ) → AreasPaired o x y
-    → AreasPaired o (record x { started = slice_set x.started class true }) (record y { started = slice_set y.started class true })
-start_same o x y class paired = record {
+pub start_same : (gone : Gone) (o : Outline) (x y : Areas) (class : ℕ) → AreasPaired gone o x y
+    → AreasPaired gone o (record x { started = slice_set x.started class true }) (record y { started = slice_set y.started class true })
+start_same gone o x y class paired = record {
   store = paired.store;
   statics = paired.statics;
   literals = paired.literals;
@@ -133,25 +134,28 @@ start_same o x y class paired = record {
 
 -- ---- what is put
 
-module _ (o : Outline) (x y : Areas) (paired : AreasPaired o x y) (v w : Value) (place : ℕ) (k : Kind) (object : Object) (held : object_at x.store (cell_of v) ≡ Some object) (kind_is : kind_in o object place ≡ Some k) (no_text : is_text_type o (type_numbered o object.class) ≡ false) where
-  -- the twin of the object
-  put_at : (a b : ℕ) → SameCell x.store y.store a b → object_at x.store a ≡ Some object → AreTwins x.store y.store a b
+module _ (gone : Gone) (o : Outline) (x y : Areas) (paired : AreasPaired gone o x y) (v w : Value) (place : ℕ) (k : Kind) (object : Object) (held : object_at x.store (cell_of v) ≡ Some object) (there : gone.births object.birth ≡ false) (kind_is : kind_in o object place ≡ Some k) (no_text : is_text_type o (type_numbered o object.class) ≡ false) where
+  -- the object isn't gone, and this is its twin
+  is_there : (a : ℕ) → object_at x.store a ≡ Some object → IsThere gone x.store a
+  is_there a at other other_at = ap (λ (it : Object). gone.births it.birth) (same_Some other object (sym other_at ∙ at)) ∙ there
+
+  put_at : (a b : ℕ) → SameFound x.store y.store a b → object_at x.store a ≡ Some object → AreTwins x.store y.store a b
   put_at a b (inl null) at = absurd (not_null x.store a object paired.store.orderly at null.0)
   put_at a b (inr t) at = t
 
-  pub put_same : SameCell x.store y.store (cell_of v) (cell_of w) → (u i : Value) → SameElement x.store y.store (Some k) (kept k u) (kept k i)
-      → AreasPaired o (put_value x v place k u) (put_value y w place k i)
+  pub put_same : SameCell gone x.store y.store (cell_of v) (cell_of w) → (u i : Value) → SameElement gone x.store y.store (Some k) (kept k u) (kept k i)
+      → AreasPaired gone o (put_value x v place k u) (put_value y w place k i)
   put_same cells u i h =
       let a : ℕ = cell_of v in
       let b : ℕ = cell_of w in
-      let t : AreTwins x.store y.store a b = put_at a b cells held in
+      let t : AreTwins x.store y.store a b = put_at a b (found_same gone x.store y.store a b (is_there a held) cells) held in
       let is : t.object ≡ object = same_Some t.object object (sym t.held ∙ held) in
-      let alike : AreAlike o x.store y.store object t.second = subst (λ it. AreAlike o x.store y.store it t.second) is (twins_alike o x.store y.store paired.store a b t) in
+      let alike : AreAlike gone o x.store y.store object t.second = subst (λ it. AreAlike gone o x.store y.store it t.second) is (twins_alike gone o x.store y.store paired.store a b t) in
       let next : Store = with_object x.store a (with_element object place (kept k u)) in
       let following : Store = with_object y.store b (with_element t.second place (kept k i)) in
-      subst (λ s. AreasPaired o (record x { store = s }) (put_value y w place k i)) (sym (put_by-some x.store a place (kept k u) object held))
-      (subst (λ s. AreasPaired o (record x { store = next }) (record y { store = s })) (sym (put_by-some y.store b place (kept k i) t.second t.twin_held))
-      (areas_later o x y next following paired (with_stays x.store a object (with_element object place (kept k u)) held refl)
+      subst (λ s. AreasPaired gone o (record x { store = s }) (put_value y w place k i)) (sym (put_by-some x.store a place (kept k u) object held))
+      (subst (λ s. AreasPaired gone o (record x { store = next }) (record y { store = s })) (sym (put_by-some y.store b place (kept k i) t.second t.twin_held))
+      (areas_later gone o x y next following paired (with_stays x.store a object (with_element object place (kept k u)) held refl)
       (with_stays y.store b t.second (with_element t.second place (kept k i)) t.twin_held refl)
-      (put_paired o x.store y.store paired.store a b object t.second held t.twin_held alike place (kept k u) (kept k i) no_text
-      (subst (λ found. SameElement x.store y.store found (kept k u) (kept k i)) (sym kind_is) h))))
+      (put_paired gone o x.store y.store paired.store a b object t.second held t.twin_held alike place (kept k u) (kept k i) no_text
+      (subst (λ found. SameElement gone x.store y.store found (kept k u) (kept k i)) (sym kind_is) h))))

@@ -17,4 +17,5 @@ pub mod HiddenFirst
 pub mod NextSame
 pub mod ActsSame
 pub mod MakesSame
+pub mod FreesSame
 pub mod StepActs

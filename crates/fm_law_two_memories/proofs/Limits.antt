@@ -1,5 +1,5 @@
 -- Actions leave the budget and the limit of a store as they are; and a store that is full has less than twice the words that may live.
-use Rattle.std.proofs.Common.{◌≡◌, ℕ, ◌+◌, ◌*◌, ◌<◌, ◌≤◌, Bool, true, false, List, [], ◌∷◌, nat_lt, Option, Some, None, refl, sym, ◌∙◌, ap, subst, arith}
+use Rattle.std.proofs.Common.{◌≡◌, ℕ, ◌+◌, ◌*◌, ◌^◌, ◌<◌, ◌≤◌, Bool, true, false, List, [], ◌∷◌, nat_lt, Option, Some, None, refl, sym, ◌∙◌, ap, subst, arith}
 use Rattle.std.specs.Option.{option_map, unwrap_or}
 use Rattle.std.proofs.lemmas.Bool.{false≢true, ltb-true}
 use Rattle.std.proofs.lemmas.List.{length-replicate}
@@ -16,8 +16,9 @@ use Rattle.fm_world.specs.Programs.{Outline}
 use Rattle.fm_frames.specs.Acts.{with_content}
 use Rattle.fm_law_sound.proofs.ActsKeep.{content_in, new_held}
 use Rattle.fm_law_sound.specs.Acting.{ContentFits}
-use Rattle.fm_law_two_memories.specs.Pairing.{ArePaired}
-use Rattle.fm_law_two_memories.specs.Results.{IsTooSmall, KeepsLimits}
+use Rattle.fm_law_two_memories.specs.Pairing.{ArePaired, Gone}
+use Rattle.fm_law_two_memories.specs.Results.{IsFewGone, IsTooSmall, KeepsLimits}
+use Rattle.fm_law_two_memories.proofs.WordsSame.{Fits}
 
 -- ---- kept limits
 
@@ -42,9 +43,9 @@ limits_put store cell place element = by_object (object_at store cell) refl wher
   by_object (Some object) is = subst (KeepsLimits store) (sym (put_by-some store cell place element object is)) (record { limit = refl; budget = refl })
 
 -- a limit that is too small later was so before
-pub small_before : (store later : Store) → KeepsLimits store later → IsTooSmall later.limit later.budget → IsTooSmall store.limit store.budget
-small_before store later keeps small =
-    (small.0, sym keeps.limit ∙ small.1, subst (λ budget. small.0 < 2 * budget) keeps.budget small.2)
+pub small_before : (gone : Gone) (budget other : ℕ) (store later : Store) → KeepsLimits store later → IsTooSmall gone later.limit budget other
+    → IsTooSmall gone store.limit budget other
+small_before gone budget other store later keeps small = (small.0, sym keeps.limit ∙ small.1, small.2, small.3)
 
 -- ---- words that live
 
@@ -69,28 +70,39 @@ pub unlimited : (store : Store) (request : Request) → store.limit ≡ None →
 unlimited store request none passes =
     false≢true (sym (ap (λ (l : Option ℕ). unwrap_or (option_map (λ limit. nat_lt limit (store.made_words + cell_words (request_words request))) l) false) none) ∙ passes)
 
-small_limit : (limit made live words budget : ℕ) → limit < made + cell_words words → made ≤ 2 * live → 0 < words → live + words ≤ budget
-    → budget ≤ MAX_LIVE_WORDS → limit < 2 * budget
-small_limit limit made live words budget passed within some fit few =
-    let double : cell_words words < 2 * words = cell_words-lt-double words some (omega (arith, fit, few)) in omega (arith, passed, within, double, fit)
+small_limit : (limit made live words budget : ℕ) → limit < made + cell_words words → made ≤ 2 * live → 0 < words → words ≤ 2 ^ 36 → live + words ≤ budget
+    → limit < 2 * budget
+small_limit limit made live words budget passed within some few fit =
+    let double : cell_words words < 2 * words = cell_words-lt-double words some few in omega (arith, passed, within, double, fit)
 
--- of paired stores the second is full for an object within the budget only where its limit is less than twice the budget
-pub full_small : (o : Outline) (one other : Store) → ArePaired o one other → (request : Request) → passes_limit other request ≡ true
-    → 0 < request_words request → live_words other + request_words request ≤ other.budget → other.budget ≤ MAX_LIVE_WORDS
-    → IsTooSmall other.limit other.budget
-full_small o one other paired request passes some fit few = by_limit other.limit refl passes where
-  made : other.made_words ≤ 2 * live_words other
-  made =
-      let live : live_words other ≡ live_words one = paired.words in
-      subst (λ n. other.made_words ≤ 2 * n) (sym live) (paired.made_words (omega (arith, live, fit, few)))
+-- of paired stores the second is full for an object within both budgets only where its limit is less than twice either
+pub full_small : (gone : Gone) → IsFewGone gone → (o : Outline) (one other : Store) → ArePaired gone o one other → (request : Request)
+    → passes_limit other request ≡ true → 0 < request_words request → (budget words : ℕ)
+    → Fits (record { first = budget; second = words; gone = gone.words }) (live_words other + request_words request) → words ≤ MAX_LIVE_WORDS
+    → IsTooSmall gone other.limit budget words
+full_small gone few_gone o one other paired request passes some budget words fit few = by_limit other.limit refl passes where
+  within : live_words other + request_words request ≤ words
+  within = fit.0
+
+  within_first : live_words other + request_words request + gone.words ≤ budget
+  within_first = fit.1
+
+  live : live_words other + gone.words ≡ live_words one
+  live = paired.words
+
+  made : other.made_words ≤ 2 * live_words one
+  made = let fewer : gone.words ≤ 2 ^ 35 = few_gone in paired.made_words (omega (arith, live, within, few, fewer))
 
   by_limit : (found : Option ℕ) → other.limit ≡ found
       → unwrap_or (option_map (λ limit. nat_lt limit (other.made_words + cell_words (request_words request))) found) false ≡ true
-      → IsTooSmall other.limit other.budget
+      → IsTooSmall gone other.limit budget words
   by_limit None is past = absurd (false≢true past)
-  by_limit (Some limit) is past = (
-    limit,
-    is,
-    small_limit limit other.made_words (live_words other) (request_words request) other.budget
-        (ltb-true limit (other.made_words + cell_words (request_words request)) past) made some fit few,
-  )
+  by_limit (Some limit) is past =
+      let passed : limit < other.made_words + cell_words (request_words request) =
+      ltb-true limit (other.made_words + cell_words (request_words request)) past in
+      let fits : request_words request ≤ 2 ^ 36 = omega (arith, within, few) in (
+        limit,
+        is,
+        small_limit limit other.made_words (live_words one) (request_words request) (words + gone.words) passed made some fits (omega (arith, within, live)),
+        small_limit limit other.made_words (live_words one) (request_words request) budget passed made some fits (omega (arith, within_first, live)),
+      )

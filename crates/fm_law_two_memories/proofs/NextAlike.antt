@@ -105,8 +105,9 @@ module _ (o : Outline) (constants : ConstantsFit o) (store : Store) (f : Frame) 
     acts = AllByRecursion-append (ActsAlike o store f) (start_actions o classes) e.actions (starts_alike classes) h.acts;
     thrown = h.thrown;
     thrown_numbers = h.thrown_numbers;
+    thrown_found = h.thrown_found;
   }
-  methods_alike classes (m ∷ methods) e h = record { numbers = tt; acts = starts_alike classes; thrown = tt; thrown_numbers = tt }
+  methods_alike classes (m ∷ methods) e h = record { numbers = tt; acts = starts_alike classes; thrown = tt; thrown_numbers = tt; thrown_found = tt }
 
   class_alike : (started : List Bool) (e : Effect) (class : Option ℕ) → EffectAlike o store f e → EffectAlike o store f (for_class o started e class)
   class_alike started e None h = h

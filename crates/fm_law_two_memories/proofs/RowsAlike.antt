@@ -35,7 +35,7 @@ use Rattle.fm_world.specs.declared.uses.Use.{Use}
 use Rattle.fm_world.specs.declared.uses.Use.TheVariants as resolved
 use Rattle.fm_frames.specs.ArrayRows as arrays
 use Rattle.fm_frames.specs.CallRows as calls
-use Rattle.fm_frames.specs.Effects.{acting, Calls, Effect, faulty, Faults, going, int_word, loaded, long_words, Make, making, OfOperand, OfPlace, OfStatic, OfMade, Put, SetStatic, Source, stuck, words}
+use Rattle.fm_frames.specs.Effects.{acting, Calls, Effect, faulty, Faults, going, int_word, loaded, long_words, Make, making, Next, OfOperand, OfPlace, OfStatic, OfMade, Put, SetStatic, Source, stuck, Throws, words}
 use Rattle.fm_frames.specs.JumpRows as jumps
 use Rattle.fm_frames.specs.NativeRows as table
 use Rattle.fm_frames.specs.Natives.{Native, ObjectInit, ObjectHashCode, ObjectEquals, ObjectToString, StringLength, CharAt, StringEquals, StringHashCode, CompareTo, StringToString, Substring, ValueOf, BuilderInit, Append, BuilderLength, BuilderToString, BufferInitOf, Exit, Print, Println, PrintlnNothing, Read, ThrowableInit, ThrowableInitOf, GetMessage, ThrowableToString, FreeMeFree, FreeMeLink, FreeMeFreeChain}
@@ -46,8 +46,9 @@ use Rattle.fm_frames.specs.Rows.{effect_of}
 use Rattle.fm_frames.specs.Sights.{Looks, Sight, sights}
 use Rattle.fm_frames.specs.States.{Frame, word_at}
 use Rattle.fm_same.specs.Covering.{is_free_me}
+use Rattle.fm_same.specs.Evenness.{IsObjectSource}
 use Rattle.fm_law_sound.specs.Making.{HaveTextFirst}
-use Rattle.fm_law_sound.specs.Placing.{ReadAgrees, sources_in}
+use Rattle.fm_law_sound.specs.Placing.{ReadAgrees, sources_in, thrown_in}
 use Rattle.fm_law_sound.proofs.Cases.{by_any, by_builder, by_held, by_if, by_inner, by_int, by_long, by_object, by_on_field, by_on_method, by_on_type, by_passing, by_reference, by_shown, by_text, by_thrown}
 use Rattle.fm_law_sound.proofs.FoundMethods.{select_alike, special_alike}
 use Rattle.fm_law_sound.proofs.InsnActs.{elements_deep}
@@ -85,6 +86,10 @@ module _ (o : Outline) (store : Store) (f : Frame) where
 
   -- ---- effects
 
+  none_thrown : (next : Next) → sources_of_next next ≡ [] → AllByRecursion IsObjectSource (thrown_in next)
+  none_thrown (Throws source) quiet = absurd (cc)
+  none_thrown next quiet = tt
+
   -- an effect that throws nothing
   plain : (e : Effect) → AllByRecursion Numbers (sources_in e) → AllByRecursion (ActsAlike o store f) e.actions → sources_of_next e.next ≡ [] → A e
   plain e reads acts quiet = record {
@@ -92,25 +97,33 @@ module _ (o : Outline) (store : Store) (f : Frame) where
     acts = acts;
     thrown = subst (AllByRecursion (ReadAgrees o store f.stack)) (sym quiet) tt;
     thrown_numbers = subst (AllByRecursion Numbers) (sym quiet) tt;
+    thrown_found = none_thrown e.next quiet;
   }
 
   pub none : A stuck
-  none = record { numbers = tt; acts = tt; thrown = (refl, tt); thrown_numbers = (tt, tt) }
+  none = record { numbers = tt; acts = tt; thrown = (refl, tt); thrown_numbers = (tt, tt); thrown_found = tt }
 
   lost : (n : ℕ) → A (faulty n)
-  lost n = record { numbers = tt; acts = tt; thrown = (tt, tt); thrown_numbers = (tt, tt) }
+  lost n = record { numbers = tt; acts = tt; thrown = (tt, tt); thrown_numbers = (tt, tt); thrown_found = tt }
 
   raises : (name : List ℕ) → A (thrown o name)
-  raises name = record { numbers = (tt, tt); acts = (tt, tt); thrown = (tt, tt); thrown_numbers = (tt, tt) }
+  raises name = record { numbers = (tt, tt); acts = (tt, tt); thrown = (tt, tt); thrown_numbers = (tt, tt); thrown_found = (tt, tt) }
 
   null : A (thrown_null o)
   null = raises (codes "java/lang/NullPointerException")
 
   started : (class : ℕ) (e : Effect) → A e → A (objects.starting class e)
-  started class e h = record { numbers = h.numbers; acts = h.acts; thrown = h.thrown; thrown_numbers = h.thrown_numbers }
+  started class e h =
+      record { numbers = h.numbers; acts = h.acts; thrown = h.thrown; thrown_numbers = h.thrown_numbers; thrown_found = h.thrown_found }
 
   inner_lost : (n : ℕ) → HasPlace o store f.stack n 0 (table.text_kind o) → A (going 0 (Faults (OfPlace n 0 (table.text_kind o))))
-  inner_lost n place = record { numbers = tt; acts = tt; thrown = ((place.0, place.1, table.text_type o, place.2), tt); thrown_numbers = (tt, tt) }
+  inner_lost n place = record {
+    numbers = tt;
+    acts = tt;
+    thrown = ((place.0, place.1, table.text_type o, place.2), tt);
+    thrown_numbers = (tt, tt);
+    thrown_found = tt;
+  }
 
   -- ---- built-in methods
 
@@ -506,7 +519,7 @@ module _ (o : Outline) (store : Store) (f : Frame) where
     unfolding jumps.throw_effect
     throws_row =
         by_object A o (throwable_type o) s 0 _ null none (lost 0)
-        (λ it seen fits. record { numbers = (tt, tt); acts = tt; thrown = (tt, tt); thrown_numbers = (tt, tt) })
+        (λ it seen fits. record { numbers = (tt, tt); acts = tt; thrown = (tt, tt); thrown_numbers = (tt, tt); thrown_found = (tt, tt) })
 
     -- ---- the whole table
 

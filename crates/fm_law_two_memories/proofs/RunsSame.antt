@@ -1,19 +1,30 @@
 -- Two runs that begin alike go alike, step for step.
-use Rattle.std.proofs.Common.{◌≡◌, ℕ, zero, suc, ◌≤◌, List, [], ◌++◌, Option, Some, None, refl, sym, ◌∙◌, ap, subst, append-nil, append_assoc}
+use Rattle.std.proofs.Common.{◌≡◌, ℕ, zero, suc, ◌≤◌, ◌⊎◌, inl, inr, Bool, true, false, List, [], ◌∷◌, ◌++◌, Option, Some, None, refl, sym, ◌∙◌, ap, subst, append-nil, append_assoc, arith}
+use Rattle.std.specs.List.{AllByRecursion}
+use Rattle.std.proofs.lemmas.Bool.{false≢true}
 use Rattle.fm_base.specs.declared.limits.TheConstants.{MAX_LIVE_WORDS}
 use Rattle.fm_cells.specs.Choices.{lawful}
+use Rattle.fm_cells.specs.Stores.{Store}
 use Rattle.fm_world.specs.Programs.{Outline, Program}
 use Rattle.fm_frames.specs.Acts.{Choose}
+use Rattle.fm_frames.specs.Effects.{Effect}
 use Rattle.fm_frames.specs.Runs.{after}
 use Rattle.fm_frames.specs.States.{Moved, State}
-use Rattle.fm_frames.specs.Steps.{step}
+use Rattle.fm_frames.specs.Steps.{attempted, is_deep, is_over, next_effect, stack_of, step}
 use Rattle.fm_frames.specs.declared.ends.Ended.{Ended}
 use Rattle.fm_frames.specs.declared.ends.Ended.TheVariants as end
+use Rattle.fm_frames.specs.declared.values.Value.{Value}
+use Rattle.fm_law_sound.proofs.FewWords.{few_within}
+use Rattle.fm_law_sound.proofs.NextActs.{next_acts_fit}
+use Rattle.fm_law_sound.proofs.StepsSound.{moved_by, step_sound}
 use Rattle.fm_law_sound.specs.Sound.{IsSoundBy, Typings}
-use Rattle.fm_law_two_memories.specs.Pairing.{EndAlike}
+use Rattle.fm_law_two_memories.specs.Pairing.{EndAlike, Gone, none_gone}
+use Rattle.fm_law_two_memories.specs.Results.{IsFewGone}
 use Rattle.fm_law_two_memories.specs.Runs.{Alike, FirstLacks, GoAlike, IsPrefix, SecondIsFull, SecondLacks}
+use Rattle.fm_law_two_memories.specs.Seeing.{IsSeen}
+use Rattle.fm_law_two_memories.proofs.EffectsSame.{effects_same}
 use Rattle.fm_law_two_memories.proofs.StepSame.{AlikeStill, Both, GoesAlike, IsReady, OneLacks, OtherIsFull, OtherLacks, step_alike}
-use Rattle.fm_frames.proofs.StepCounts.{step_ended}
+use Rattle.fm_frames.proofs.StepCounts.{step_ended, step_going}
 
 -- ---- what was printed
 
@@ -31,62 +42,138 @@ prefix_both before other printed all same h =
 abbrev joined : Moved → Moved → Moved
 joined before next = record { state = next.state; printed = before.printed ++ next.printed }
 
-module _ (o : Outline) (budget other : ℕ) (limit : Option ℕ) where
-  both_joined : (x y u v : Moved) → y.printed ≡ x.printed → GoesAlike o budget other limit u v → GoesAlike o budget other limit (joined x u) (joined y v)
+module _ (gone : Gone) (o : Outline) (budget other : ℕ) (limit : Option ℕ) where
+  both_joined : (x y u v : Moved) → y.printed ≡ x.printed → GoesAlike gone o budget other limit u v
+      → GoesAlike gone o budget other limit (joined x u) (joined y v)
   both_joined x y u v same (Both still printed) = Both still (ap (λ bytes. bytes ++ v.printed) same ∙ ap (λ bytes. x.printed ++ bytes) printed)
   both_joined x y u v same (OneLacks less lacks prefix) = OneLacks less lacks (prefix_both x.printed y.printed u.printed v.printed same prefix)
   both_joined x y u v same (OtherLacks less lacks prefix) = OtherLacks less lacks (prefix_both y.printed x.printed v.printed u.printed (sym same) prefix)
-  both_joined x y u v same (OtherIsFull words is less full prefix) =
-      OtherIsFull words is less full (prefix_both y.printed x.printed v.printed u.printed (sym same) prefix)
+  both_joined x y u v same (OtherIsFull small full prefix) =
+      OtherIsFull small full (prefix_both y.printed x.printed v.printed u.printed (sym same) prefix)
 
-  pub told : (x y : Moved) → GoesAlike o budget other limit x y → GoAlike o budget other limit x y
+  pub told : (x y : Moved) → GoesAlike gone o budget other limit x y → GoAlike gone o budget other limit x y
   told x y (Both still printed) = Alike still.paired printed
   told x y (OneLacks less lacks prefix) = FirstLacks less lacks prefix
   told x y (OtherLacks less lacks prefix) = SecondLacks less lacks prefix
-  told x y (OtherIsFull words is less full prefix) = SecondIsFull words is less full prefix
+  told x y (OtherIsFull small full prefix) = SecondIsFull small full prefix
 
 -- ---- a run
 
+-- where nothing is gone nothing that is gone is seen
+pub all_seen : (o : Outline) (store : Store) (stack : List Value) → AllByRecursion (IsSeen none_gone o store) stack
+all_seen o store [] = tt
+all_seen o store (v ∷ vs) = (record { word = λ object held. refl; hidden = λ object held hides other at. refl }, all_seen o store vs)
+
+pub few_none : IsFewGone none_gone
+few_none = omega arith
+
 module _ (p : Program) (typings : Typings) (ready : IsReady p) (first second : Choose) (budget other : ℕ) (limit : Option ℕ) (few : other ≤ MAX_LIVE_WORDS) where
   abbrev Go : Moved → Moved → Type 0
-  Go x y = GoesAlike p.outline budget other limit x y
+  Go x y = GoesAlike none_gone p.outline budget other limit x y
+
+  abbrev Still : State → State → Type 0
+  Still x y = AlikeStill none_gone p.outline budget other limit x y
+
+  -- the run has ended
+  abbrev HasEnded : State → Type 0
+  HasEnded y = (e : Ended) × (y.ended ≡ Some e)
+
+  -- the first run is sound as long as the second one goes on
+  abbrev IsFollowed : State → State → Type 0
+  IsFollowed x y = IsSoundBy p typings x ⊎ HasEnded y
 
   -- paired states that have ended stay so
-  ended_alike : (x y : State) (e : Ended) → x.ended ≡ Some e → AlikeStill p.outline budget other limit x y
-      → Go (step p (lawful first) x) (step p (lawful second) y)
+  ended_alike : (x y : State) (e : Ended) → x.ended ≡ Some e → Still x y → Go (step p (lawful first) x) (step p (lawful second) y)
   ended_alike x y e is still =
-      let others = subst (λ ended. EndAlike x.areas.store y.areas.store ended y.ended) is still.paired.ended in
+      let others = subst (λ ended. EndAlike none_gone x.areas.store y.areas.store ended y.ended) is still.paired.ended in
       subst (λ m. Go m (step p (lawful second) y)) (sym (step_ended p (lawful first) x e is))
       (subst (λ m. Go (record { state = x; printed = [] }) m) (sym (step_ended p (lawful second) y others.0 others.1)) (Both still refl))
 
-  moves_alike : (x y : State) → IsSoundBy p typings x → AlikeStill p.outline budget other limit x y → Go (step p (lawful first) x) (step p (lawful second) y)
-  moves_alike x y sound still = by_end x.ended refl where
+  moves_alike : (x y : State) → IsFollowed x y → Still x y → Go (step p (lawful first) x) (step p (lawful second) y)
+  moves_alike x y followed still = by_end x.ended refl where
+    by_followed : x.ended ≡ None → IsFollowed x y → Go (step p (lawful first) x) (step p (lawful second) y)
+    by_followed is (inl sound) =
+        step_alike none_gone few_none p typings ready first second budget other limit few x y sound still (all_seen p.outline x.areas.store (stack_of x)) is
+    by_followed is (inr ended) =
+        let going : y.ended ≡ None = subst (λ end. EndAlike none_gone x.areas.store y.areas.store end y.ended) is still.paired.ended in
+        let no : Some ended.0 ≡ None = sym ended.1 ∙ going in absurd (cc)
+
     by_end : (ended : Option Ended) → x.ended ≡ ended → Go (step p (lawful first) x) (step p (lawful second) y)
-    by_end None is = step_alike p typings ready first second budget other limit few x y sound still is
+    by_end None is = by_followed is followed
     by_end (Some e) is = ended_alike x y e is still
 
   -- one more step
-  goes_on : (x y : Moved) → IsSoundBy p typings x.state → Go x y
+  goes_on : (x y : Moved) → IsFollowed x.state y.state → Go x y
       → Go (joined x (step p (lawful first) x.state)) (joined y (step p (lawful second) y.state))
-  goes_on x y sound (Both still printed) =
-      both_joined p.outline budget other limit x y (step p (lawful first) x.state) (step p (lawful second) y.state) printed
-      (moves_alike x.state y.state sound still)
-  goes_on x y sound (OneLacks less lacks prefix) =
+  goes_on x y followed (Both still printed) =
+      both_joined none_gone p.outline budget other limit x y (step p (lawful first) x.state) (step p (lawful second) y.state) printed
+      (moves_alike x.state y.state followed still)
+  goes_on x y followed (OneLacks less lacks prefix) =
       subst (λ m. Go (joined x m) (joined y (step p (lawful second) y.state)))
       (sym (step_ended p (lawful first) x.state (end.Exhausted lacks.0 lacks.1) lacks.2))
       (OneLacks less lacks (prefix_more x.printed y.printed (step p (lawful second) y.state).printed prefix))
-  goes_on x y sound (OtherLacks less lacks prefix) =
+  goes_on x y followed (OtherLacks less lacks prefix) =
       subst (λ m. Go (joined x (step p (lawful first) x.state)) (joined y m))
       (sym (step_ended p (lawful second) y.state (end.Exhausted lacks.0 lacks.1) lacks.2))
       (OtherLacks less lacks (prefix_more y.printed x.printed (step p (lawful first) x.state).printed prefix))
-  goes_on x y sound (OtherIsFull words is less full prefix) =
+  goes_on x y followed (OtherIsFull small full prefix) =
       subst (λ m. Go (joined x (step p (lawful first) x.state)) (joined y m))
       (sym (step_ended p (lawful second) y.state (end.StoreFull full.0 full.1) full.2))
-      (OtherIsFull words is less full (prefix_more y.printed x.printed (step p (lawful first) x.state).printed prefix))
+      (OtherIsFull small full (prefix_more y.printed x.printed (step p (lawful first) x.state).printed prefix))
 
-  pub runs_alike : (x y : Moved) → ((k : ℕ) → IsSoundBy p typings (after p (lawful first) k x).state) → Go x y
-      → (k : ℕ) → Go (after p (lawful first) k x) (after p (lawful second) k y)
+  -- ---- the first run is sound still
+
+  sound_stays : (x y : State) (e : Ended) → x.ended ≡ Some e → IsSoundBy p typings x → IsFollowed (step p (lawful first) x).state (step p (lawful second) y).state
+  sound_stays x y e is sound = inl (subst (λ (m : Moved). IsSoundBy p typings m.state) (sym (step_ended p (lawful first) x e is)) sound)
+
+  end_stays : (x y : State) → HasEnded y → IsFollowed (step p (lawful first) x).state (step p (lawful second) y).state
+  end_stays x y ended = inr (subst (λ (m : Moved). HasEnded m.state) (sym (step_ended p (lawful second) y ended.0 ended.1)) ended)
+
+  -- what would pass the budget isn't done
+  over_ends : (y : State) (e : Effect) → is_over p.outline y.areas e.actions ≡ true → HasEnded (attempted p (lawful second) y e).state
+  over_ends y e over =
+      moved_by HasEnded (is_deep y e.next) _ _ (λ deep. (_, refl))
+      (λ shallow. moved_by HasEnded (is_over p.outline y.areas e.actions) _ _ (λ is. (_, refl)) (λ within. absurd (false≢true (sym within ∙ over))))
+
+  both_follow : (x y : State) → IsSoundBy p typings x → Still x y → x.ended ≡ None
+      → IsFollowed (step p (lawful first) x).state (step p (lawful second) y).state
+  both_follow x y sound still going = by_over (is_over p.outline y.areas (next_effect p x).actions) refl where
+    other_going : y.ended ≡ None
+    other_going = subst (λ ended. EndAlike none_gone x.areas.store y.areas.store ended y.ended) going still.paired.ended
+
+    theirs : step p (lawful second) y ≡ attempted p (lawful second) y (next_effect p x)
+    theirs =
+        step_going p (lawful second) y other_going
+        ∙ ap (attempted p (lawful second) y) (effects_same none_gone p ready.hidden x y still.paired (all_seen p.outline x.areas.store (stack_of x))).0
+
+    now_few : y.areas.store.budget ≤ MAX_LIVE_WORDS
+    now_few = subst (λ n. n ≤ MAX_LIVE_WORDS) (sym still.other_is) few
+
+    by_over : (b : Bool) → is_over p.outline y.areas (next_effect p x).actions ≡ b → IsFollowed (step p (lawful first) x).state (step p (lawful second) y).state
+    by_over false within =
+        inl (step_sound p typings ready.steps first x sound
+        (λ running. next_acts_fit p typings ready.steps ready.makes x sound (λ fits. few_within p.outline y.areas (next_effect p x).actions now_few within)))
+    by_over true over = inr (subst (λ (m : Moved). HasEnded m.state) (sym theirs) (over_ends y (next_effect p x) over))
+
+  follows_on : (x y : Moved) → IsFollowed x.state y.state → Go x y → IsFollowed (step p (lawful first) x.state).state (step p (lawful second) y.state).state
+  follows_on x y (inr ended) go = end_stays x.state y.state ended
+  follows_on x y (inl sound) (Both still printed) = by_end x.state.ended refl where
+    by_end : (ended : Option Ended) → x.state.ended ≡ ended → IsFollowed (step p (lawful first) x.state).state (step p (lawful second) y.state).state
+    by_end None is = both_follow x.state y.state sound still is
+    by_end (Some e) is = sound_stays x.state y.state e is sound
+  follows_on x y (inl sound) (OneLacks less lacks prefix) = sound_stays x.state y.state (end.Exhausted lacks.0 lacks.1) lacks.2 sound
+  follows_on x y (inl sound) (OtherLacks less lacks prefix) = end_stays x.state y.state (end.Exhausted lacks.0 lacks.1, lacks.2)
+  follows_on x y (inl sound) (OtherIsFull small full prefix) = end_stays x.state y.state (end.StoreFull full.0 full.1, full.2)
+
+  both_so : (x y : Moved) → IsSoundBy p typings x.state → Go x y
+      → (k : ℕ) → Go (after p (lawful first) k x) (after p (lawful second) k y) × IsFollowed (after p (lawful first) k x).state (after p (lawful second) k y).state
   unfolding after
-  runs_alike x y sound begins zero = begins
-  runs_alike x y sound begins (suc k) =
-      goes_on (after p (lawful first) k x) (after p (lawful second) k y) (sound k) (runs_alike x y sound begins k)
+  both_so x y sound begins zero = (begins, inl sound)
+  both_so x y sound begins (suc k) =
+      let before = both_so x y sound begins k in (
+        goes_on (after p (lawful first) k x) (after p (lawful second) k y) before.1 before.0,
+        follows_on (after p (lawful first) k x) (after p (lawful second) k y) before.1 before.0,
+      )
+
+  pub runs_alike : (x y : Moved) → IsSoundBy p typings x.state → Go x y → (k : ℕ) → Go (after p (lawful first) k x) (after p (lawful second) k y)
+  runs_alike x y sound begins k = (both_so x y sound begins k).0

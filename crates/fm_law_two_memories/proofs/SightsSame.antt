@@ -1,6 +1,6 @@
 -- What is seen of a value on the one memory is seen of the same value on the other.
 use Rattle.std.proofs.Common.{◌≡◌, ℕ, zero, suc, inl, inr, Bool, true, false, cond, List, [], ◌∷◌, Some, refl, sym, ◌∙◌, ap, subst, slice_index_or}
-use Rattle.std.specs.List.{AllZip}
+use Rattle.std.specs.List.{AllByRecursion, AllZip}
 use Rattle.std.proofs.lemmas.Option.{same_Some}
 use Rattle.fm_cells.specs.Objects.{Object}
 use Rattle.fm_cells.specs.Soundness.{IsOrderly}
@@ -11,22 +11,23 @@ use Rattle.fm_frames.specs.Sights.{has_hidden_field, inner_of, led_to, looks, No
 use Rattle.fm_frames.specs.declared.values.Value.{Value}
 use Rattle.fm_frames.specs.declared.values.Value.TheVariants as value
 use Rattle.fm_law_two_memories.specs.Hidden.{HiddenComesFirst}
-use Rattle.fm_law_two_memories.specs.Pairing.{AreAlike, ArePaired, AreTwins, HasTwin, SameCell, SameElement, SameValue}
-use Rattle.fm_law_two_memories.proofs.Twins.{not_null}
+use Rattle.fm_law_two_memories.specs.Pairing.{AreAlike, ArePaired, AreTwins, Gone, HasTwin, SameCell, SameElement, SameFound, SameValue}
+use Rattle.fm_law_two_memories.specs.Seeing.{IsSeen, IsThere}
+use Rattle.fm_law_two_memories.proofs.Twins.{found_same, not_null, twin_there}
 
-module _ (o : Outline) (one other : Store) (paired : ArePaired o one other) where
+module _ (gone : Gone) (o : Outline) (one other : Store) (paired : ArePaired gone o one other) where
   -- twins are alike
-  pub twins_alike : (a b : ℕ) (t : AreTwins one other a b) → AreAlike o one other t.object t.second
+  pub twins_alike : (a b : ℕ) (t : AreTwins one other a b) → AreAlike gone o one other t.object t.second
   twins_alike a b t =
-      let found : HasTwin o one other t.object = paired.objects a t.object t.held in
+      let found : HasTwin gone o one other t.object = paired.objects a t.object t.held (twin_there gone o one other paired a b t) in
       let cell : found.cell ≡ b =
       paired.other_orderly.births_apart found.cell b found.twin t.second found.held t.twin_held (found.alike.birth ∙ sym t.born) in
       let is : found.twin ≡ t.second = same_Some found.twin t.second (sym found.held ∙ ap (object_at other) cell ∙ t.twin_held) in
-      subst (λ twin. AreAlike o one other t.object twin) is found.alike
+      subst (λ twin. AreAlike gone o one other t.object twin) is found.alike
 
   -- ---- what is seen of an object
 
-  module _ (object second : Object) (alike : AreAlike o one other object second) where
+  module _ (object second : Object) (alike : AreAlike gone o one other object second) where
     type_same : type_numbered o second.class ≡ type_numbered o object.class
     type_same = ap (type_numbered o) alike.class
 
@@ -51,15 +52,19 @@ module _ (o : Outline) (one other : Store) (paired : ArePaired o one other) wher
   led_held store zero object orderly held = absurd (not_null store zero object orderly held refl)
   led_held store (suc cell) object orderly held = ap (text_in o) held
 
-  led_same : (a b : ℕ) → SameCell one other a b → led_to o other b ≡ led_to o one a
+  led_same : (a b : ℕ) → SameFound one other a b → led_to o other b ≡ led_to o one a
   led_same a b (inl null) = ap (led_to o other) null.1 ∙ sym (ap (led_to o one) null.0)
   led_same a b (inr t) =
       led_held other b t.second paired.other_orderly t.twin_held ∙ text_same t.object t.second (twins_alike a b t)
       ∙ sym (led_held one a t.object paired.orderly t.held)
 
   module _ (hidden : HiddenComesFirst o) where
-    inner_same : (object second : Object) → AreAlike o one other object second → inner_of o other second ≡ inner_of o one object
-    inner_same object second alike =
+    -- the text that the object has hidden isn't gone
+    abbrev HidesFound : Object → Type 0
+    HidesFound object = has_hidden_field o (type_numbered o object.class) ≡ true → IsThere gone one (slice_index_or object.elements 0 0)
+
+    inner_same : (object second : Object) → AreAlike gone o one other object second → HidesFound object → inner_of o other second ≡ inner_of o one object
+    inner_same object second alike there =
         ap (λ t. cond (has_hidden_field o t) (led_to o other (slice_index_or second.elements 0 0)) NoField) (type_same object second alike)
         ∙ by_test (has_hidden_field o (type_numbered o object.class)) refl where
           T : Bool
@@ -70,22 +75,22 @@ module _ (o : Outline) (one other : Store) (paired : ArePaired o one other) wher
               ≡ cond (has_hidden_field o (type_numbered o object.class)) (led_to o one (slice_index_or object.elements 0 0)) NoField
           by_test true is =
               let first = hidden (type_numbered o object.class) is in
-              let same : SameCell one other (slice_index_or object.elements 0 0) (slice_index_or second.elements 0 0) =
-              subst (λ k. SameElement one other k (slice_index_or object.elements 0 0) (slice_index_or second.elements 0 0)) first.1 (alike.elements 0) in
-              ap (λ found. cond (has_hidden_field o (type_numbered o object.class)) found NoField) (led_same _ _ same)
+              let same : SameCell gone one other (slice_index_or object.elements 0 0) (slice_index_or second.elements 0 0) =
+              subst (λ k. SameElement gone one other k (slice_index_or object.elements 0 0) (slice_index_or second.elements 0 0)) first.1 (alike.elements 0) in
+              ap (λ found. cond (has_hidden_field o (type_numbered o object.class)) found NoField) (led_same _ _ (found_same gone one other _ _ (there is) same))
           by_test false is =
               ap (λ b. cond b (led_to o other (slice_index_or second.elements 0 0)) NoField) is
               ∙ sym (ap (λ b. cond b (led_to o one (slice_index_or object.elements 0 0)) NoField) is)
 
-    pub looks_same : (object second : Object) → AreAlike o one other object second → looks o other second ≡ looks o one object
+    pub looks_same : (object second : Object) → AreAlike gone o one other object second → HidesFound object → looks o other second ≡ looks o one object
     unfolding looks
-    looks_same object second alike = λ i. record {
+    looks_same object second alike there = λ i. record {
       type = type_same object second alike i;
       birth = alike.birth i;
       len = alike.len i;
       fixed = alike.fixed i;
       units = units_same object second alike i;
-      inner = inner_same object second alike i;
+      inner = inner_same object second alike there i;
     }
 
     -- ---- what is seen of a value
@@ -95,22 +100,25 @@ module _ (o : Outline) (one other : Store) (paired : ArePaired o one other) wher
     seen_held store zero object orderly held = absurd (not_null store zero object orderly held refl)
     seen_held store (suc cell) object orderly held = ap (sight_of_object o store) held
 
-    cell_seen_same : (a b : ℕ) → SameCell one other a b → sight_of_cell o other b ≡ sight_of_cell o one a
-    cell_seen_same a b (inl null) = ap (sight_of_cell o other) null.1 ∙ sym (ap (sight_of_cell o one) null.0)
-    cell_seen_same a b (inr t) =
+    cell_seen_same : (a b : ℕ) → SameFound one other a b → ((object : Object) → object_at one a ≡ Some object → HidesFound object)
+        → sight_of_cell o other b ≡ sight_of_cell o one a
+    cell_seen_same a b (inl null) there = ap (sight_of_cell o other) null.1 ∙ sym (ap (sight_of_cell o one) null.0)
+    cell_seen_same a b (inr t) there =
         seen_held other b t.second paired.other_orderly t.twin_held
-        ∙ ap (λ it. Thing it) (looks_same t.object t.second (twins_alike a b t))
+        ∙ ap (λ it. Thing it) (looks_same t.object t.second (twins_alike a b t) (there t.object t.held))
         ∙ sym (seen_held one a t.object paired.orderly t.held)
 
-    pub sight_same : (v w : Value) → SameValue one other v w → sight o other w ≡ sight o one v
-    sight_same value.Top w h = ap (sight o other) h
-    sight_same (value.Int n) w h = ap (sight o other) h
-    sight_same (value.Long n) w h = ap (sight o other) h
-    sight_same (value.Ref cell) w h = ap (sight o other) h.1 ∙ cell_seen_same cell.0 h.0 h.2
+    pub sight_same : (v w : Value) → SameValue gone one other v w → IsSeen gone o one v → sight o other w ≡ sight o one v
+    sight_same value.Top w h seen = ap (sight o other) h
+    sight_same (value.Int n) w h seen = ap (sight o other) h
+    sight_same (value.Long n) w h seen = ap (sight o other) h
+    sight_same (value.Ref cell) w h seen =
+        ap (sight o other) h.1 ∙ cell_seen_same cell.0 h.0 (found_same gone one other cell.0 h.0 seen.word h.2) seen.hidden
 
-    pub sights_same : (vs ws : List Value) → AllZip (SameValue one other) vs ws → sights o other ws ≡ sights o one vs
-    sights_same [] [] h = refl
-    sights_same [] (w ∷ ws) h = absurd h
-    sights_same (v ∷ vs) [] h = absurd h
-    sights_same (v ∷ vs) (w ∷ ws) h =
-        ap (λ s. s ∷ sights o other ws) (sight_same v w h.0) ∙ ap (λ all. sight o one v ∷ all) (sights_same vs ws h.1)
+    pub sights_same : (vs ws : List Value) → AllZip (SameValue gone one other) vs ws → AllByRecursion (IsSeen gone o one) vs
+        → sights o other ws ≡ sights o one vs
+    sights_same [] [] h seen = refl
+    sights_same [] (w ∷ ws) h seen = absurd h
+    sights_same (v ∷ vs) [] h seen = absurd h
+    sights_same (v ∷ vs) (w ∷ ws) h seen =
+        ap (λ s. s ∷ sights o other ws) (sight_same v w h.0 seen.0) ∙ ap (λ all. sight o one v ∷ all) (sights_same vs ws h.1 seen.1)

@@ -1,5 +1,5 @@
 -- All actions of a step, one after the other, lead paired areas to paired areas, or the second store is full.
-use Rattle.std.proofs.Common.{◌≡◌, ℕ, ◌+◌, ◌^◌, ◌<◌, ◌≤◌, ◌||◌, Bool, true, false, cond, List, [], ◌∷◌, ◌++◌, length, Option, Some, None, refl, sym, ◌∙◌, ap, subst, slice_get, slice_set, arith}
+use Rattle.std.proofs.Common.{◌≡◌, ℕ, ◌+◌, ◌^◌, ◌<◌, ◌≤◌, inl, ◌||◌, Bool, true, false, cond, List, [], ◌∷◌, ◌++◌, length, Option, Some, None, refl, sym, ◌∙◌, ap, subst, slice_get, slice_index_or, slice_set, arith}
 use Rattle.std.specs.List.{AllByRecursion, AllZip}
 use Rattle.std.specs.Option.{unwrap_or}
 use Rattle.std.proofs.lemmas.List.Elements.{AllZip-push}
@@ -23,7 +23,6 @@ use Rattle.fm_frames.specs.Elements.{kept}
 use Rattle.fm_frames.specs.NativeRows.{text_type}
 use Rattle.fm_frames.specs.Sights.{type_numbered}
 use Rattle.fm_frames.specs.States.{Areas, Frame, word_at}
-use Rattle.fm_frames.specs.Steps.{is_over}
 use Rattle.fm_frames.specs.declared.values.Value.{Value}
 use Rattle.fm_law_sound.proofs.ActsKeep.{class_set, Keeps, keeps_later, literal_set, Makes, makes, object_keeps, one_made, static_set, with_areas}
 use Rattle.fm_law_sound.proofs.CellsKeep.{SameClasses}
@@ -32,16 +31,17 @@ use Rattle.fm_law_sound.specs.Leading.{sources_of}
 use Rattle.fm_law_sound.specs.Placing.{PutAgrees, ReadAgrees}
 use Rattle.fm_law_sound.specs.Sound.{AreasAreSound, field_slot, static_slots}
 use Rattle.fm_law_two_memories.specs.Laws.{MadeAlike}
-use Rattle.fm_law_two_memories.specs.Pairing.{AreasPaired, FramesPaired, SameCell}
+use Rattle.fm_law_two_memories.specs.Pairing.{AreasPaired, FramesPaired, Gone, SameCell, SameFound}
 use Rattle.fm_law_two_memories.specs.Reading.{ActsAlike, NumberAgrees, StaticFits}
-use Rattle.fm_law_two_memories.specs.Results.{IsTooSmall, KeepsLimits, ResultsAlike}
+use Rattle.fm_law_two_memories.specs.Results.{ActionsKeepPaired, IsFewGone, IsTooSmall, KeepsLimits, ResultsAlike}
+use Rattle.fm_law_two_memories.specs.Seeing.{IsSeen, IsThere}
 use Rattle.fm_law_two_memories.proofs.ActsSame.{areas_later, cut_same, kept_same, of_kind, put_same, start_same, static_same}
 use Rattle.fm_law_two_memories.proofs.Limits.{full_small, limits_filled, limits_put, limits_same, limits_then, small_before, unlimited, words_filled}
 use Rattle.fm_law_two_memories.proofs.MakesSame.{made_alike, stays_then}
-use Rattle.fm_law_two_memories.proofs.SourcesSame.{source_same}
-use Rattle.fm_law_two_memories.proofs.Stores.{cell_later, Stays, with_stays}
-use Rattle.fm_law_two_memories.proofs.Twins.{cell_same}
-use Rattle.fm_law_two_memories.proofs.WordsSame.{next_within, there_same, Within, within_budget, within_literal, within_rest, within_there}
+use Rattle.fm_law_two_memories.proofs.SourcesSame.{number_same, source_same, word_there}
+use Rattle.fm_law_two_memories.proofs.Stores.{found_later, Stays, with_stays}
+use Rattle.fm_law_two_memories.proofs.Twins.{cell_same, found_there}
+use Rattle.fm_law_two_memories.proofs.WordsSame.{Fits, next_within, Room, there_same, Within, within_budgets, within_literal, within_rest, within_there}
 
 -- ---- stores
 
@@ -57,16 +57,20 @@ type_is : (o : Outline) (t : TypeRef) (len : ℕ) (content : List ℕ) (fixed : 
 type_is o t len content fixed h =
     ap (λ n. type_numbered o (unwrap_or n 0)) h.number_is ∙ get_or_from_slice_get o.types h.number t _ h.there
 
-module _ (o : Outline) (sizes : (class : ℕ) → size_of o.classes class < 2 ^ 31) (choose second : Choose) (may : (s : Store) (request : Request) → MayReuse s request (choose s request)) (other_may : (s : Store) (request : Request) → MayReuse s request (second s request)) (one other : Store) (none : one.limit ≡ None) (few : other.budget ≤ MAX_LIVE_WORDS) (f g : Frame) (frame : FramesPaired one other f g) where
+module _ (gone : Gone) (few_gone : IsFewGone gone) (o : Outline) (sizes : (class : ℕ) → size_of o.classes class < 2 ^ 31) (choose second : Choose) (may : (s : Store) (request : Request) → MayReuse s request (choose s request)) (other_may : (s : Store) (request : Request) → MayReuse s request (second s request)) (one other : Store) (none : one.limit ≡ None) (few : other.budget ≤ MAX_LIVE_WORDS) (f g : Frame) (frame : FramesPaired gone one other f g) (seen : AllByRecursion (IsSeen gone o one) f.stack) where
+  -- the budgets of both memories, and the words that are gone
+  abbrev room : Room
+  room = record { first = one.budget; second = other.budget; gone = gone.words }
+
   -- what is known along the actions
   pub record Along (x y : Areas) (types : List TypeRef) (made others : List ℕ) : Type 0 where
     pub keeps : Keeps o one x types made
     pub limits : KeepsLimits one x.store
     pub other_limits : KeepsLimits other y.store
-    pub paired : AreasPaired o x y
+    pub paired : AreasPaired gone o x y
     pub stays : Stays one x.store
     pub other_stays : Stays other y.store
-    pub cells : AllZip (SameCell x.store y.store) made others
+    pub cells : AllZip (SameFound x.store y.store) made others
 
   classes_of : (x : Areas) (types : List TypeRef) (made : List ℕ) → Keeps o one x types made → SameClasses one x.store
   classes_of x types made h cell object now was is =
@@ -79,20 +83,20 @@ module _ (o : Outline) (sizes : (class : ℕ) → size_of o.classes class < 2 ^ 
     pub other_limits_now : KeepsLimits y.store following
     pub live : live_words following ≡ live_words y.store + words
     pub some : 0 < twin
-    pub alike : MadeAlike o x.store y.store next following cell twin
+    pub alike : MadeAlike gone o x.store y.store next following cell twin
 
   -- one object is made in both, or the second store is full
-  pub make_case : (R : Performed → Performed → Type 0) → ((later : Areas) (words : ℕ) (u : Performed) → IsTooSmall other.limit other.budget → R (FullAt later words) u)
+  pub make_case : (R : Performed → Performed → Type 0) → ((later : Areas) (words : ℕ) (u : Performed) → IsTooSmall gone other.limit one.budget other.budget → R (FullAt later words) u)
       → (x y : Areas) (types : List TypeRef) (made others : List ℕ) (t : TypeRef) (len : ℕ) (content : List ℕ) (fixed : Bool) (mine theirs : Choice)
       (follows their_follows : Areas → ℕ → Performed) → Along x y types made others → MakeFits o t len content
       → MayReuse x.store (requested o t len fixed) mine → MayReuse y.store (requested o t len fixed) theirs
-      → live_words y.store + request_words (requested o t len fixed) ≤ y.store.budget
+      → Fits room (live_words y.store + request_words (requested o t len fixed))
       → ((next following : Store) (cell twin : ℕ) → BothMade x y t (request_words (requested o t len fixed)) next following cell twin
       → R (their_follows (record y { store = following }) twin) (follows (record x { store = next }) cell))
       → R (made_then y (requested o t len fixed) content theirs their_follows) (made_then x (requested o t len fixed) content mine follows)
   make_case R full x y types made others t len content fixed mine RefuseStore follows their_follows h fits can they within rest =
-      full y (request_words (requested o t len fixed)) _ (small_before other y.store h.other_limits (full_small o x.store y.store h.paired.store (requested o t len fixed) they (omega arith) within
-      (subst (λ n. n ≤ MAX_LIVE_WORDS) (sym h.other_limits.budget) few)))
+      full y (request_words (requested o t len fixed)) _ (small_before gone one.budget other.budget other y.store h.other_limits
+      (full_small gone few_gone o x.store y.store h.paired.store (requested o t len fixed) they (omega arith) one.budget other.budget within few))
   make_case R full x y types made others t len content fixed RefuseStore (Take twin other_grows) follows their_follows h fits can they within rest =
       absurd (unlimited x.store (requested o t len fixed) (h.limits.limit ∙ none) can)
   make_case R full x y types made others t len content fixed (Take cell grows) (Take twin other_grows) follows their_follows h fits can they within rest =
@@ -104,7 +108,7 @@ module _ (o : Outline) (sizes : (class : ℕ) → size_of o.classes class < 2 ^ 
         other_limits_now = limits_filled y.store request twin other_grows content;
         live = words_filled o t y.store request twin other_grows content fits.content_fits they.1;
         some = they.0;
-        alike = made_alike o x.store y.store h.paired.store request cell twin grows other_grows can they t (type_is o t len content fixed fits) content
+        alike = made_alike gone o x.store y.store h.paired.store request cell twin grows other_grows can they t (type_is o t len content fixed fits) content
             fits.content_fits;
       })
 
@@ -120,31 +124,46 @@ module _ (o : Outline) (sizes : (class : ℕ) → size_of o.classes class < 2 ^ 
     keeps = one_made o one x next types made cell t h.keeps both.makes_one;
     limits = limits_then one x.store next h.limits both.limits_now;
     other_limits = limits_then other y.store following h.other_limits both.other_limits_now;
-    paired = areas_later o x y next following h.paired both.alike.stays both.alike.other_stays both.alike.paired;
+    paired = areas_later gone o x y next following h.paired both.alike.stays both.alike.other_stays both.alike.paired;
     stays = stays_then one x.store next h.stays both.alike.stays;
     other_stays = stays_then other y.store following h.other_stays both.alike.other_stays;
-    cells = AllZip-push (SameCell next following) made others cell twin
-        (zip-implied (SameCell x.store y.store) (SameCell next following) (cell_later x.store y.store next following both.alike.stays both.alike.other_stays)
+    cells = AllZip-push (SameFound next following) made others cell twin
+        (zip-implied (SameFound x.store y.store) (SameFound next following) (found_later gone x.store y.store next following both.alike.stays both.alike.other_stays)
         made others h.cells) both.alike.twins;
   }
 
-  -- the object that is put into
-  object_at_put : (x : Areas) (types : List TypeRef) (made : List ℕ) (source : Source) (place : ℕ) (k : Kind) → Keeps o one x types made
+  -- null leads to nothing
+  null_there : (x y : Areas) (types : List TypeRef) (made others : List ℕ) → Along x y types made others → IsThere gone one 0
+  null_there x y types made others h object held =
+      let now = h.stays 0 object held in
+      let no : None ≡ Some now.0 = sym h.paired.store.orderly.null_not_held ∙ now.1 in absurd (cc)
+
+  -- the object that is put into, which isn't gone
+  object_at_put : (x y : Areas) (types : List TypeRef) (made others : List ℕ) (source : Source) (place : ℕ) (k : Kind) → Along x y types made others
       → ObjectFits o one f types source place k
       → (now : Object) × (object_at x.store (cell_of (value_of (sources_of f x made) source)) ≡ Some now) × PlaceFits o (type_numbered o now.class) place k
-      × ReadAgrees o one f.stack source × NumberAgrees o one f.stack source
-  object_at_put x types made (OfOperand n) place k h fits =
-      let now = h.kept (cell_of (word_at f.stack n)) fits.0 fits.1 in
-      (now.0, now.1, subst (λ class. PlaceFits o (type_numbered o class) place k) (sym now.2) fits.2, tt, tt)
-  object_at_put x types made (OfMade n) place k h fits =
-      let now = h.made_is n fits.0 fits.1 in (now.0, now.1, subst (λ t. PlaceFits o t place k) (sym now.2) fits.2, tt, tt)
-  object_at_put x types made source place k h fits = absurd fits
+      × (gone.births now.birth ≡ false) × ReadAgrees o one f.stack source × NumberAgrees o one f.stack source
+  object_at_put x y types made others (OfOperand n) place k h fits =
+      let cell : ℕ = cell_of (word_at f.stack n) in
+      let now = h.keeps.kept cell fits.0 fits.1 in
+      let still = h.stays cell fits.0 fits.1 in
+      let there : gone.births now.0.birth ≡ false =
+      ap (λ (it : Object). gone.births it.birth) (same_Some now.0 still.0 (sym now.1 ∙ still.1)) ∙ ap gone.births still.2
+      ∙ word_there gone o one (null_there x y types made others h) f.stack n seen fits.0 fits.1 in
+      (now.0, now.1, subst (λ class. PlaceFits o (type_numbered o class) place k) (sym now.2) fits.2, there, tt, tt)
+  object_at_put x y types made others (OfMade n) place k h fits =
+      let now = h.keeps.made_is n fits.0 fits.1 in
+      let there : gone.births now.0.birth ≡ false =
+      found_there gone o x.store y.store h.paired.store (slice_index_or made n 0) (slice_index_or others n 0)
+      (number_same (SameFound x.store y.store) (inl (refl, refl)) made others n h.cells) now.0 now.1 in
+      (now.0, now.1, subst (λ t. PlaceFits o t place k) (sym now.2) fits.2, there, tt, tt)
+  object_at_put x y types made others source place k h fits = absurd fits
 
   pub literal_on : (x y : Areas) (types : List TypeRef) (made others : List ℕ) (t : TypeRef) (words text : ℕ) (next following : Store) (cell twin : ℕ)
       → Along x y types made others → BothMade x y t words next following cell twin
       → Along (literal_made (record x { store = next }) text cell) (literal_made (record y { store = following }) text twin) types made others
   literal_on x y types made others t words text next following cell twin h both =
-      let later = areas_later o x y next following h.paired both.alike.stays both.alike.other_stays both.alike.paired in
+      let later = areas_later gone o x y next following h.paired both.alike.stays both.alike.other_stays both.alike.paired in
       record {
         keeps = with_areas o sizes choose may one f (record x { store = next }) (literal_made (record x { store = next }) text cell) types made
             (keeps_later o one x next types made h.keeps both.makes_one.follows both.makes_one.sound) refl
@@ -154,13 +173,13 @@ module _ (o : Outline) (sizes : (class : ℕ) → size_of o.classes class < 2 ^ 
         paired = record {
           store = later.store;
           statics = later.statics;
-          literals = zip-set (SameCell next following) text cell twin x.literals y.literals both.alike.twins later.literals;
+          literals = zip-set (SameCell gone next following) text cell twin x.literals y.literals (inl both.alike.twins) later.literals;
           started = later.started;
         };
         stays = stays_then one x.store next h.stays both.alike.stays;
         other_stays = stays_then other y.store following h.other_stays both.alike.other_stays;
-        cells = zip-implied (SameCell x.store y.store) (SameCell next following)
-            (cell_later x.store y.store next following both.alike.stays both.alike.other_stays) made others h.cells;
+        cells = zip-implied (SameFound x.store y.store) (SameFound next following)
+            (found_later gone x.store y.store next following both.alike.stays both.alike.other_stays) made others h.cells;
       }
 
   module _ (x y : Areas) (types : List TypeRef) (made others : List ℕ) (h : Along x y types made others) where
@@ -174,9 +193,9 @@ module _ (o : Outline) (sizes : (class : ℕ) → size_of o.classes class < 2 ^ 
         → PutAgrees o one f.stack (Put object place k v) → NumberAgrees o one f.stack v
         → Along (put_value x (mine object) place k (mine v)) (put_value y (theirs object) place k (theirs v)) types made others
     put_on object v place k fits value_fits agrees numbers =
-        let now = object_at_put x types made object place k h.keeps fits in
+        let now = object_at_put x y types made others object place k h fits in
         let classes = classes_of x types made h.keeps in
-        let same = source_same o one other f g frame x y made others h.paired h.stays h.other_stays classes h.cells object now.3 now.4 in
+        let same = source_same gone o one other f g frame seen x y made others h.paired h.stays h.other_stays classes h.cells object now.4 now.5 in
         let next : Store = put_by x.store (cell_of (mine object)) place (kept k (mine v)) in
         let following : Store = put_by y.store (cell_of (theirs object)) place (kept k (theirs v)) in
         let stays : Stays x.store next = put_stays x.store (cell_of (mine object)) place (kept k (mine v)) in
@@ -185,15 +204,15 @@ module _ (o : Outline) (sizes : (class : ℕ) → size_of o.classes class < 2 ^ 
           keeps = object_keeps o sizes choose may one f x types made object v place k h.keeps fits value_fits;
           limits = limits_then one x.store next h.limits (limits_put x.store (cell_of (mine object)) place (kept k (mine v)));
           other_limits = limits_then other y.store following h.other_limits (limits_put y.store (cell_of (theirs object)) place (kept k (theirs v)));
-          paired = put_same o x y h.paired (mine object) (theirs object) place k now.0 now.1 now.2.kind now.2.no_text
-              (cell_same x.store y.store (mine object) (theirs object) same) (mine v) (theirs v)
-              (kept_same o one other f g frame x y made others h.paired h.stays h.other_stays classes h.cells k v
+          paired = put_same gone o x y h.paired (mine object) (theirs object) place k now.0 now.1 now.3 now.2.kind now.2.no_text
+              (cell_same gone x.store y.store (mine object) (theirs object) same) (mine v) (theirs v)
+              (kept_same gone o one other f g frame seen x y made others h.paired h.stays h.other_stays classes h.cells k v
               (λ t is. subst (λ other_kind. PutAgrees o one f.stack (Put object place other_kind v)) is agrees) numbers
               (of_kind k (mine v) (value_fits x made h.keeps.sound.statics)));
           stays = stays_then one x.store next h.stays stays;
           other_stays = stays_then other y.store following h.other_stays other_stays;
-          cells = zip-implied (SameCell x.store y.store) (SameCell next following)
-              (cell_later x.store y.store next following stays other_stays) made others h.cells;
+          cells = zip-implied (SameFound x.store y.store) (SameFound next following)
+              (found_later gone x.store y.store next following stays other_stays) made others h.cells;
         }
 
     pub set_on : (slot : ℕ) (k : Kind) (v : Source) → slice_get (static_slots o) slot ≡ Some (field_slot k) → StaticFits o f k v
@@ -204,8 +223,8 @@ module _ (o : Outline) (sizes : (class : ℕ) → size_of o.classes class < 2 ^ 
           (static_set o sizes choose may one f x slot k (mine v) h.keeps.sound fits);
       limits = h.limits;
       other_limits = h.other_limits;
-      paired = static_same o x y slot k (mine v) (theirs v) h.paired
-          (cut_same o one other f g frame x y made others h.paired h.stays h.other_stays (classes_of x types made h.keeps) h.cells k v
+      paired = static_same gone o x y slot k (mine v) (theirs v) h.paired
+          (cut_same gone o one other f g frame seen x y made others h.paired h.stays h.other_stays (classes_of x types made h.keeps) h.cells k v
           (λ t is. subst (λ other_kind. PutAgrees o one f.stack (SetStatic slot other_kind v)) is agrees) numbers
           (value_fits x made h.keeps.sound.statics));
       stays = h.stays;
@@ -220,7 +239,7 @@ module _ (o : Outline) (sizes : (class : ℕ) → size_of o.classes class < 2 ^ 
           (class_set o sizes choose may one f x class h.keeps.sound);
       limits = h.limits;
       other_limits = h.other_limits;
-      paired = start_same o x y class h.paired;
+      paired = start_same gone o x y class h.paired;
       stays = h.stays;
       other_stays = h.other_stays;
       cells = h.cells;
@@ -231,75 +250,73 @@ module _ (o : Outline) (sizes : (class : ℕ) → size_of o.classes class < 2 ^ 
       → text < length y.literals
   texts_there x y types made others h text inside =
       let count : length x.literals ≡ length o.texts = h.keeps.sound.literals in
-      let same : length x.literals ≡ length y.literals = zip-length (SameCell x.store y.store) x.literals y.literals h.paired.literals in
+      let same : length x.literals ≡ length y.literals = zip-length (SameCell gone x.store y.store) x.literals y.literals h.paired.literals in
       omega (arith, inside, count, same)
 
-  pub acts_alike : (actions : List Action) (x y : Areas) (types : List TypeRef) (made others : List ℕ) → Within o y actions → ActsFit o one f types actions
+  pub acts_alike : (actions : List Action) (x y : Areas) (types : List TypeRef) (made others : List ℕ) → Within o room y actions → ActsFit o one f types actions
       → AllByRecursion (PutAgrees o one f.stack) actions → AllByRecursion (ActsAlike o one f) actions → Along x y types made others
-      → ResultsAlike o one other (performed o second g.locals g.stack actions y others) (performed o choose f.locals f.stack actions x made)
+      → ResultsAlike gone o one other (performed o second g.locals g.stack actions y others) (performed o choose f.locals f.stack actions x made)
   unfolding performed
   acts_alike [] x y types made others within fit agrees alikes h =
       (h.paired, h.stays, h.other_stays, classes_of x types made h.keeps, h.limits, h.other_limits, h.cells)
   acts_alike (Make t len content ∷ more) x y types made others within fit agrees alikes h =
-      make_case (ResultsAlike o one other) (λ later words u small. small) x y types made others t len content false (choose x.store (requested o t len false)) (second y.store (requested o t len false))
+      make_case (ResultsAlike gone o one other) (λ later words u small. small) x y types made others t len content false (choose x.store (requested o t len false)) (second y.store (requested o t len false))
       (λ areas cell. performed o choose f.locals f.stack more areas (made ++ cell ∷ []))
       (λ areas cell. performed o second g.locals g.stack more areas (others ++ cell ∷ [])) h fit.0
       (may x.store (requested o t len false)) (other_may y.store (requested o t len false))
-      (next_within o y (Make t len content) more (request_words (requested o t len false)) refl (omega arith) within)
+      (next_within o room y (Make t len content) more (request_words (requested o t len false)) refl (omega arith) within)
       (λ next following cell twin both. acts_alike more (record x { store = next }) (record y { store = following })
       (types ++ t ∷ []) (made ++ cell ∷ []) (others ++ twin ∷ [])
-      (within_rest o y (Make t len content) more (record y { store = following }) refl refl (omega (arith, both.live)) both.other_limits_now.budget within)
+      (within_rest o room y (Make t len content) more (record y { store = following }) refl refl (omega (arith, both.live)) within)
       fit.1 agrees.1 alikes.1 (made_on x y types made others t (request_words (requested o t len false)) next following cell twin h both))
   acts_alike (MakeFixed t ∷ more) x y types made others within fit agrees alikes h =
-      make_case (ResultsAlike o one other) (λ later words u small. small) x y types made others t 0 [] true (choose x.store (requested o t 0 true)) (second y.store (requested o t 0 true))
+      make_case (ResultsAlike gone o one other) (λ later words u small. small) x y types made others t 0 [] true (choose x.store (requested o t 0 true)) (second y.store (requested o t 0 true))
       (λ areas cell. performed o choose f.locals f.stack more areas (made ++ cell ∷ []))
       (λ areas cell. performed o second g.locals g.stack more areas (others ++ cell ∷ [])) h fit.0
       (may x.store (requested o t 0 true)) (other_may y.store (requested o t 0 true))
-      (next_within o y (MakeFixed t) more (request_words (requested o t 0 true)) refl (omega arith) within)
+      (next_within o room y (MakeFixed t) more (request_words (requested o t 0 true)) refl (omega arith) within)
       (λ next following cell twin both. acts_alike more (record x { store = next }) (record y { store = following })
       (types ++ t ∷ []) (made ++ cell ∷ []) (others ++ twin ∷ [])
-      (within_rest o y (MakeFixed t) more (record y { store = following }) refl refl (omega (arith, both.live)) both.other_limits_now.budget within)
+      (within_rest o room y (MakeFixed t) more (record y { store = following }) refl refl (omega (arith, both.live)) within)
       fit.1 agrees.1 alikes.1 (made_on x y types made others t (request_words (requested o t 0 true)) next following cell twin h both))
   acts_alike (MakeLiteral text ∷ more) x y types made others within fit agrees alikes h =
       let t : TypeRef = text_type o in
       let len : ℕ = length (literal_text o text) in
       let words : ℕ = request_words (requested o t len true) in
-      either (ResultsAlike o one other) (is_there x text) (is_there y text) _ _ _ _ (there_same o x y h.paired text)
-      (λ there. acts_alike more x y types made others (within_there o y text more there within) fit.1 agrees.1 alikes.1 h)
-      (λ none_there. make_case (ResultsAlike o one other) (λ later words u small. small) x y types made others t len (literal_text o text) true (choose x.store (requested o t len true))
+      either (ResultsAlike gone o one other) (is_there x text) (is_there y text) _ _ _ _ (there_same gone o x y h.paired text)
+      (λ there. acts_alike more x y types made others (within_there o room y text more there within) fit.1 agrees.1 alikes.1 h)
+      (λ none_there. make_case (ResultsAlike gone o one other) (λ later words u small. small) x y types made others t len (literal_text o text) true (choose x.store (requested o t len true))
       (second y.store (requested o t len true))
       (λ areas cell. performed o choose f.locals f.stack more (literal_made areas text cell) made)
       (λ areas cell. performed o second g.locals g.stack more (literal_made areas text cell) others) h fit.0
       (may x.store (requested o t len true)) (other_may y.store (requested o t len true))
-      (next_within o y (MakeLiteral text) more words (ap (λ b. cond (b || false) 0 words) none_there) (omega arith) within)
+      (next_within o room y (MakeLiteral text) more words (ap (λ b. cond (b || false) 0 words) none_there) (omega arith) within)
       (λ next following cell twin both. acts_alike more (literal_made (record x { store = next }) text cell)
       (literal_made (record y { store = following }) text twin) types made others
-      (within_literal o y text following twin (texts_there x y types made others h text alikes.0) both.some more none_there both.live
-      both.other_limits_now.budget within)
+      (within_literal o y text following twin (texts_there x y types made others h text alikes.0) both.some room more none_there both.live within)
       fit.1 agrees.1 alikes.1 (literal_on x y types made others t words text next following cell twin h both)))
   acts_alike (Put object place k v ∷ more) x y types made others within fit agrees alikes h =
       let cell : ℕ = cell_of (value_of (sources_of g y others) object) in
       let element : ℕ = kept k (value_of (sources_of g y others) v) in
       acts_alike more _ (record y { store = put_by y.store cell place element }) types made others
-      (within_rest o y (Put object place k v) more (record y { store = put_by y.store cell place element }) refl refl
-      (let words : live_words (put_by y.store cell place element) ≡ live_words y.store = live_words-put_by y.store cell place element in omega (arith, words))
-      (limits_put y.store cell place element).budget within)
+      (within_rest o room y (Put object place k v) more (record y { store = put_by y.store cell place element }) refl refl
+      (let words : live_words (put_by y.store cell place element) ≡ live_words y.store = live_words-put_by y.store cell place element in omega (arith, words)) within)
       fit.2 agrees.1 alikes.1 (put_on x y types made others h object v place k fit.0 fit.1 agrees.0 alikes.0)
   acts_alike (SetStatic slot k v ∷ more) x y types made others within fit agrees alikes h =
       let value : Value = value_of (sources_of g y others) v in
       acts_alike more _ (set_static y slot k value) types made others
-      (within_rest o y (SetStatic slot k v) more (set_static y slot k value) refl refl (omega arith) refl within)
+      (within_rest o room y (SetStatic slot k v) more (set_static y slot k value) refl refl (omega arith) within)
       fit.1 agrees.1 alikes.1 (set_on x y types made others h slot k v fit.0 alikes.0.1 agrees.0 alikes.0.0)
   acts_alike (Start class ∷ more) x y types made others within fit agrees alikes h =
       acts_alike more _ (record y { started = slice_set y.started class true }) types made others
-      (within_rest o y (Start class) more (record y { started = slice_set y.started class true }) refl refl (omega arith) refl within)
+      (within_rest o room y (Start class) more (record y { started = slice_set y.started class true }) refl refl (omega arith) within)
       fit agrees.1 alikes.1 (start_on x y types made others h class)
   acts_alike (Free operand ∷ more) x y types made others within fit agrees alikes h = absurd alikes.0
   acts_alike (SetChain operand to ∷ more) x y types made others within fit agrees alikes h = absurd alikes.0
   acts_alike (FreeChain operand ∷ more) x y types made others within fit agrees alikes h = absurd alikes.0
 
   -- nothing is done yet
-  pub begins : (x y : Areas) → x.store ≡ one → y.store ≡ other → AreasPaired o x y → AreasAreSound o x → Along x y [] [] []
+  pub begins : (x y : Areas) → x.store ≡ one → y.store ≡ other → AreasPaired gone o x y → AreasAreSound o x → Along x y [] [] []
   begins x y is other_is paired sound = record {
     keeps = record {
       sound = sound;
@@ -316,14 +333,10 @@ module _ (o : Outline) (sizes : (class : ℕ) → size_of o.classes class < 2 ^ 
   }
 
 -- from a step's beginning on
-pub actions_alike : (o : Outline) → ((class : ℕ) → size_of o.classes class < 2 ^ 31) → (first second : Choose) → (f g : Frame) (x y : Areas)
-    → FramesPaired x.store y.store f g → AreasPaired o x y → AreasAreSound o x → x.store.limit ≡ None → y.store.budget ≤ MAX_LIVE_WORDS
-    → (actions : List Action) → is_over o y actions ≡ false
-    → ActsFit o x.store f [] actions → AllByRecursion (PutAgrees o x.store f.stack) actions → AllByRecursion (ActsAlike o x.store f) actions
-    → ResultsAlike o x.store y.store (performed o (lawful second) g.locals g.stack actions y []) (performed o (lawful first) f.locals f.stack actions x [])
-actions_alike o sizes first second f g x y frame paired sound none few actions over fit agrees alikes =
+pub actions_alike : ActionsKeepPaired
+actions_alike gone few_gone o sizes first second f g x y frame seen paired sound none few actions over other_over fit agrees alikes =
     let may : (s : Store) (request : Request) → MayReuse s request (lawful first s request) = λ s request. lawful_choice-may s request (first s request) in
     let other_may : (s : Store) (request : Request) → MayReuse s request (lawful second s request) = λ s request. lawful_choice-may s request (second s request) in
-    acts_alike o sizes (lawful first) (lawful second) may other_may x.store y.store none few f g frame actions x y [] [] []
-    (within_budget o y actions few over) fit agrees alikes
-    (begins o sizes (lawful first) (lawful second) may other_may x.store y.store none few f g frame x y refl refl paired sound)
+    acts_alike gone few_gone o sizes (lawful first) (lawful second) may other_may x.store y.store none few f g frame seen actions x y [] [] []
+    (within_budgets gone o x y actions paired few over other_over) fit agrees alikes
+    (begins gone few_gone o sizes (lawful first) (lawful second) may other_may x.store y.store none few f g frame seen x y refl refl paired sound)

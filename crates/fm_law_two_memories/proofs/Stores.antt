@@ -20,8 +20,8 @@ use Rattle.fm_frames.specs.declared.values.Value.{Value}
 use Rattle.fm_frames.specs.declared.values.Value.TheVariants as value
 use Rattle.fm_law_sound.proofs.ActsKeep.{new_held, zeros_at}
 use Rattle.fm_law_sound.specs.Placing.{kind_in}
-use Rattle.fm_law_two_memories.specs.Pairing.{AreAlike, ArePaired, HasTwin, SameCell, SameElement, SameValue}
-use Rattle.fm_law_two_memories.proofs.Twins.{cells_apart}
+use Rattle.fm_law_two_memories.specs.Pairing.{AreAlike, ArePaired, Gone, HasTwin, none_gone, SameCell, SameElement, SameFound, SameValue}
+use Rattle.fm_law_two_memories.proofs.Twins.{back}
 
 -- ---- what goes over to later stores
 
@@ -30,25 +30,31 @@ abbrev pub Stays : Store → Store → Type 0
 Stays store later =
     (cell : ℕ) (object : Object) → object_at store cell ≡ Some object → (now : Object) × (object_at later cell ≡ Some now) × (now.birth ≡ object.birth)
 
-module _ (one other next following : Store) (stays : Stays one next) (other_stays : Stays other following) where
-  pub cell_later : (a b : ℕ) → SameCell one other a b → SameCell next following a b
-  cell_later a b (inl null) = inl null
-  cell_later a b (inr twins) =
+module _ (gone : Gone) (one other next following : Store) (stays : Stays one next) (other_stays : Stays other following) where
+  pub found_later : (a b : ℕ) → SameFound one other a b → SameFound next following a b
+  found_later a b (inl null) = inl null
+  found_later a b (inr twins) =
       let now = stays a twins.object twins.held in
       let then_ = other_stays b twins.second twins.twin_held in
       inr (record { object = now.0; held = now.1; second = then_.0; twin_held = then_.1; born = then_.2 ∙ twins.born ∙ sym now.2 })
 
-  pub value_later : (v w : Value) → SameValue one other v w → SameValue next following v w
+  pub cell_later : (a b : ℕ) → SameCell gone one other a b → SameCell gone next following a b
+  cell_later a b (inl found) = inl (found_later a b found)
+  cell_later a b (inr lost) =
+      let now = stays a lost.object lost.held in
+      inr (record { object = now.0; held = now.1; gone_is = ap gone.births now.2 ∙ lost.gone_is; some = lost.some })
+
+  pub value_later : (v w : Value) → SameValue gone one other v w → SameValue gone next following v w
   value_later value.Top w h = h
   value_later (value.Int n) w h = h
   value_later (value.Long n) w h = h
   value_later (value.Ref cell) w h = (h.0, h.1, cell_later cell.0 h.0 h.2)
 
-  element_later : (k : Option Kind) (a b : ℕ) → SameElement one other k a b → SameElement next following k a b
+  element_later : (k : Option Kind) (a b : ℕ) → SameElement gone one other k a b → SameElement gone next following k a b
   element_later (Some (kind.Ref t)) a b h = cell_later a b h
   element_later k a b h = h
 
-  pub alike_later : (o : Outline) (object twin : Object) → AreAlike o one other object twin → AreAlike o next following object twin
+  pub alike_later : (o : Outline) (object twin : Object) → AreAlike gone o one other object twin → AreAlike gone o next following object twin
   alike_later o object twin h = record {
     class = h.class;
     birth = h.birth;
@@ -62,13 +68,16 @@ module _ (one other next following : Store) (stays : Stays one next) (other_stay
 -- ---- opened stores
 
 pub opened_paired : (o : Outline) (one other : Store) → live_words one ≡ 0 → live_words other ≡ 0 → one.births ≡ 0 → other.births ≡ 0
-    → IsOrderly one → IsOrderly other → other.made_words ≡ 0 → ((cell : ℕ) → object_at one cell ≡ None) → ArePaired o one other
+    → IsOrderly one → IsOrderly other → other.made_words ≡ 0 → ((cell : ℕ) → object_at one cell ≡ None) → ArePaired none_gone o one other
 opened_paired o one other words other_words births other_births orderly other_orderly made none = record {
   births = other_births ∙ sym births;
   orderly = orderly;
   other_orderly = other_orderly;
-  objects = λ cell object held. let no : None ≡ Some object = sym (none cell) ∙ held in absurd (cc);
-  words = other_words ∙ sym words;
+  objects = λ cell object held there. let no : None ≡ Some object = sym (none cell) ∙ held in absurd (cc);
+  absent = λ cell object held. refl;
+  past = λ birth is. absurd (false≢true is);
+  loose = λ cell object held is. absurd (false≢true is);
+  words = omega (arith, words, other_words);
   made_words = λ few. omega (arith, made);
 }
 
@@ -99,9 +108,9 @@ with_stays store cell old object held born q found at =
           (found, object_at-with_object store cell object q ∙ ap (λ b. cond b (Some object) (object_at store q)) (ne_eqb q cell there) ∙ at, refl)
     ]
 
-module _ (o : Outline) (one other : Store) (paired : ArePaired o one other) (cell twin : ℕ) (object second : Object) (held : object_at one cell ≡ Some object) (twin_held : object_at other twin ≡ Some second) (born : second.birth ≡ object.birth) where
+module _ (gone : Gone) (o : Outline) (one other : Store) (paired : ArePaired gone o one other) (cell twin : ℕ) (object second : Object) (held : object_at one cell ≡ Some object) (twin_held : object_at other twin ≡ Some second) (born : second.birth ≡ object.birth) where
   -- an object and its twin are changed, and are alike again
-  module _ (now second_now : Object) (alike : AreAlike o one other now second_now) (same_birth : now.birth ≡ object.birth) (same_words : object_words now ≡ object_words object) (second_words : object_words second_now ≡ object_words second) where
+  module _ (now second_now : Object) (alike : AreAlike gone o one other now second_now) (same_birth : now.birth ≡ object.birth) (same_words : object_words now ≡ object_words object) (second_words : object_words second_now ≡ object_words second) where
     abbrev next : Store
     next = with_object one cell now
 
@@ -117,10 +126,14 @@ module _ (o : Outline) (one other : Store) (paired : ArePaired o one other) (cel
     following_stays : Stays other following
     following_stays = with_stays other twin second second_now twin_held second_birth
 
+    -- the object and its twin aren't gone
+    there : gone.births object.birth ≡ false
+    there = ap gone.births (sym born) ∙ paired.absent twin second twin_held
+
     -- the object that was changed and those that weren't
-    twin_of : (q : ℕ) (found : Object) → object_at next q ≡ Some found → HasTwin o next following found
-    twin_of q found at =
-        elim (cases_eq q cell) as (λ _. HasTwin o next following found) [
+    twin_of : (q : ℕ) (found : Object) → object_at next q ≡ Some found → gone.births found.birth ≡ false → HasTwin gone o next following found
+    twin_of q found at stays_there =
+        elim (cases_eq q cell) as (λ _. HasTwin gone o next following found) [
           | inl here ↦
               let is : now ≡ found =
               same_Some now found (ap (λ b. cond b (Some now) (object_at one q)) (sym (eq-eqb q cell here)) ∙ sym (object_at-with_object one cell now q) ∙ at) in
@@ -128,27 +141,50 @@ module _ (o : Outline) (one other : Store) (paired : ArePaired o one other) (cel
                 cell = twin;
                 twin = second_now;
                 held = object_at-with_object other twin second_now twin ∙ ap (λ b. cond b (Some second_now) (object_at other twin)) (eq-eqb twin twin refl);
-                alike = subst (λ x. AreAlike o next following x second_now) is
-                    (alike_later one other next following next_stays following_stays o now second_now alike);
+                alike = subst (λ x. AreAlike gone o next following x second_now) is
+                    (alike_later gone one other next following next_stays following_stays o now second_now alike);
               }
-          | inr there ↦
+          | inr elsewhere ↦
               let was : object_at one q ≡ Some found =
-              ap (λ b. cond b (Some now) (object_at one q)) (sym (ne_eqb q cell there)) ∙ sym (object_at-with_object one cell now q) ∙ at in
-              let old : HasTwin o one other found = paired.objects q found was in
-              let apart =
-              (cells_apart o one other paired q cell old.cell twin
+              ap (λ b. cond b (Some now) (object_at one q)) (sym (ne_eqb q cell elsewhere)) ∙ sym (object_at-with_object one cell now q) ∙ at in
+              let old : HasTwin gone o one other found = paired.objects q found was stays_there in
+              let apart : old.cell ≡ twin → q ≡ cell =
+              back one other q cell old.cell twin paired.orderly paired.other_orderly
               (inr (record { object = found; held = was; second = old.twin; twin_held = old.held; born = old.alike.birth }))
-              (inr (record { object = object; held = held; second = second; twin_held = twin_held; born = born }))).1 in
+              (inr (record { object = object; held = held; second = second; twin_held = twin_held; born = born })) in
               record {
                 cell = old.cell;
                 twin = old.twin;
                 held = object_at-with_object other twin second_now old.cell
-                    ∙ ap (λ b. cond b (Some second_now) (object_at other old.cell)) (ne_eqb old.cell twin (λ is. there (apart is))) ∙ old.held;
-                alike = alike_later one other next following next_stays following_stays o found old.twin old.alike;
+                    ∙ ap (λ b. cond b (Some second_now) (object_at other old.cell)) (ne_eqb old.cell twin (λ is. elsewhere (apart is))) ∙ old.held;
+                alike = alike_later gone one other next following next_stays following_stays o found old.twin old.alike;
               }
         ]
 
-    pub changed_paired : ArePaired o next following
+    -- what is held in the second store still isn't gone, and what is gone in the first is what it was
+    changed_absent : (q : ℕ) (found : Object) → object_at following q ≡ Some found → gone.births found.birth ≡ false
+    changed_absent q found at =
+        elim (cases_eq q twin) as (λ _. gone.births found.birth ≡ false) [
+          | inl here ↦
+              let is : second_now ≡ found =
+              same_Some second_now found (ap (λ b. cond b (Some second_now) (object_at other q)) (sym (eq-eqb q twin here)) ∙ sym (object_at-with_object other twin second_now q) ∙ at) in
+              ap (λ (x : Object). gone.births x.birth) (sym is) ∙ ap gone.births (alike.birth ∙ same_birth) ∙ there
+          | inr elsewhere ↦
+              paired.absent q found (ap (λ b. cond b (Some second_now) (object_at other q)) (sym (ne_eqb q twin elsewhere)) ∙ sym (object_at-with_object other twin second_now q) ∙ at)
+        ]
+
+    changed_loose : (q : ℕ) (found : Object) → object_at next q ≡ Some found → gone.births found.birth ≡ true → found.fixed ≡ false
+    changed_loose q found at gone_is =
+        elim (cases_eq q cell) as (λ _. found.fixed ≡ false) [
+          | inl here ↦
+              let is : now ≡ found =
+              same_Some now found (ap (λ b. cond b (Some now) (object_at one q)) (sym (eq-eqb q cell here)) ∙ sym (object_at-with_object one cell now q) ∙ at) in
+              absurd (false≢true (sym (ap (λ (x : Object). gone.births x.birth) (sym is) ∙ ap gone.births same_birth ∙ there) ∙ gone_is))
+          | inr elsewhere ↦
+              paired.loose q found (ap (λ b. cond b (Some now) (object_at one q)) (sym (ne_eqb q cell elsewhere)) ∙ sym (object_at-with_object one cell now q) ∙ at) gone_is
+        ]
+
+    pub changed_paired : ArePaired gone o next following
     changed_paired =
         let words : live_words next ≡ live_words one = live_words-with_object one cell object now held same_words in
         let others : live_words following ≡ live_words other = live_words-with_object other twin second second_now twin_held second_words in
@@ -157,14 +193,17 @@ module _ (o : Outline) (one other : Store) (paired : ArePaired o one other) (cel
           orderly = IsOrderly-with_object one cell object now paired.orderly held same_birth;
           other_orderly = IsOrderly-with_object other twin second second_now paired.other_orderly twin_held second_birth;
           objects = twin_of;
-          words = others ∙ paired.words ∙ sym words;
+          absent = changed_absent;
+          past = paired.past;
+          loose = changed_loose;
+          words = ap (λ n. n + gone.words) others ∙ paired.words ∙ sym words;
           made_words = λ within.
               subst (λ n. other.made_words ≤ 2 * n) (sym words) (paired.made_words (subst (λ n. n ≤ 2 ^ 36) words within));
         }
 
 -- an element is put into an object and into its twin
-module _ (o : Outline) (one other : Store) (paired : ArePaired o one other) (cell twin : ℕ) (object second : Object) (held : object_at one cell ≡ Some object) (twin_held : object_at other twin ≡ Some second) (alike : AreAlike o one other object second) (place element set_element : ℕ) (no_text : is_text_type o (type_numbered o object.class) ≡ false) (same : SameElement one other (kind_in o object place) element set_element) where
-  put_alike : AreAlike o one other (with_element object place element) (with_element second place set_element)
+module _ (gone : Gone) (o : Outline) (one other : Store) (paired : ArePaired gone o one other) (cell twin : ℕ) (object second : Object) (held : object_at one cell ≡ Some object) (twin_held : object_at other twin ≡ Some second) (alike : AreAlike gone o one other object second) (place element set_element : ℕ) (no_text : is_text_type o (type_numbered o object.class) ≡ false) (same : SameElement gone one other (kind_in o object place) element set_element) where
+  put_alike : AreAlike gone o one other (with_element object place element) (with_element second place set_element)
   put_alike = record {
     class = alike.class;
     birth = alike.birth;
@@ -172,21 +211,21 @@ module _ (o : Outline) (one other : Store) (paired : ArePaired o one other) (cel
     fixed = alike.fixed;
     len = length-set second.elements place set_element ∙ alike.len ∙ sym (length-set object.elements place element);
     units = λ is. absurd (false≢true (sym no_text ∙ is));
-    elements = λ k. set_both (SameElement one other (kind_in o object k)) object.elements second.elements place element set_element k alike.len
-        (λ is. subst (λ n. SameElement one other (kind_in o object n) element set_element) is same) (alike.elements k);
+    elements = λ k. set_both (SameElement gone one other (kind_in o object k)) object.elements second.elements place element set_element k alike.len
+        (λ is. subst (λ n. SameElement gone one other (kind_in o object n) element set_element) is same) (alike.elements k);
   }
 
-  pub put_paired : ArePaired o (with_object one cell (with_element object place element)) (with_object other twin (with_element second place set_element))
+  pub put_paired : ArePaired gone o (with_object one cell (with_element object place element)) (with_object other twin (with_element second place set_element))
   put_paired =
-      changed_paired o one other paired cell twin object second held twin_held alike.birth (with_element object place element)
+      changed_paired gone o one other paired cell twin object second held twin_held alike.birth (with_element object place element)
       (with_element second place set_element) put_alike refl (object_words-with_element object place element)
       (object_words-with_element second place set_element)
 
 -- ---- what is made
 
-pub same_zero : (one other : Store) (k : Option Kind) → SameElement one other k 0 0
-same_zero one other (Some (kind.Ref t)) = inl (refl, refl)
-same_zero one other k = refl
+pub same_zero : (gone : Gone) (one other : Store) (k : Option Kind) → SameElement gone one other k 0 0
+same_zero gone one other (Some (kind.Ref t)) = inl (inl (refl, refl))
+same_zero gone one other k = refl
 
 -- a new object leaves those that are held
 pub made_stays : (store : Store) (request : Request) (cell : ℕ) (grows : Bool) → object_at store cell ≡ None
@@ -208,7 +247,7 @@ made_within : (made live words : ℕ) (grows : Bool) → made ≤ 2 * live → 0
 made_within made live words true few some within = let double : cell_words words < 2 * words = cell_words-lt-double words some within in omega (arith, few, double)
 made_within made live words false few some within = omega (arith, few)
 
-module _ (o : Outline) (one other : Store) (paired : ArePaired o one other) (request : Request) (cell twin : ℕ) (grows other_grows : Bool) (may : MayReuse one request (Take cell grows)) (other_may : MayReuse other request (Take twin other_grows)) where
+module _ (gone : Gone) (o : Outline) (one other : Store) (paired : ArePaired gone o one other) (request : Request) (cell twin : ℕ) (grows other_grows : Bool) (may : MayReuse one request (Take cell grows)) (other_may : MayReuse other request (Take twin other_grows)) where
   abbrev new : Object
   new = new_object one.births request
 
@@ -221,7 +260,7 @@ module _ (o : Outline) (one other : Store) (paired : ArePaired o one other) (req
   abbrev made_following : Store
   made_following = made_by other request (Take twin other_grows)
 
-  pub new_alike : (k : Outline) (first second : Store) → AreAlike k first second new second_new
+  pub new_alike : (k : Outline) (first second : Store) → AreAlike gone k first second new second_new
   new_alike k first second = record {
     class = refl;
     birth = paired.births;
@@ -230,7 +269,7 @@ module _ (o : Outline) (one other : Store) (paired : ArePaired o one other) (req
     len = refl;
     units = λ is. refl;
     elements = λ place.
-        subst (λ n. SameElement first second (kind_in k new place) n n) (sym (zeros_at request.len place)) (same_zero first second (kind_in k new place));
+        subst (λ n. SameElement gone first second (kind_in k new place) n n) (sym (zeros_at request.len place)) (same_zero gone first second (kind_in k new place));
   }
 
   new_there : object_at made_next cell ≡ Some new
@@ -239,28 +278,57 @@ module _ (o : Outline) (one other : Store) (paired : ArePaired o one other) (req
   second_there : object_at made_following twin ≡ Some second_new
   second_there = new_held other request twin other_grows
 
-  made_twin : (q : ℕ) (found : Object) → object_at made_next q ≡ Some found → HasTwin o made_next made_following found
-  made_twin q found at =
-      elim (cases_eq q cell) as (λ _. HasTwin o made_next made_following found) [
+  -- what is made isn't gone
+  fresh : gone.births one.births ≡ false
+  fresh = by_test (gone.births one.births) refl where
+    by_test : (b : Bool) → gone.births one.births ≡ b → gone.births one.births ≡ false
+    by_test true is = let early = paired.past one.births is in absurd (omega (arith, early))
+    by_test false is = is
+
+  made_twin : (q : ℕ) (found : Object) → object_at made_next q ≡ Some found → gone.births found.birth ≡ false → HasTwin gone o made_next made_following found
+  made_twin q found at stays_there =
+      elim (cases_eq q cell) as (λ _. HasTwin gone o made_next made_following found) [
         | inl here ↦
             let is : new ≡ found = same_Some new found (sym new_there ∙ sym (ap (object_at made_next) here) ∙ at) in
-            record { cell = twin; twin = second_new; held = second_there; alike = subst (λ x. AreAlike o made_next made_following x second_new) is (new_alike o made_next made_following) }
+            record { cell = twin; twin = second_new; held = second_there; alike = subst (λ x. AreAlike gone o made_next made_following x second_new) is (new_alike o made_next made_following) }
         | inr there ↦
             let was : object_at one q ≡ Some found =
             ap (λ b. cond b (Some new) (object_at one q)) (sym (ne_eqb q cell there)) ∙ sym (object_at-made_by one request cell grows q) ∙ at in
-            let old : HasTwin o one other found = paired.objects q found was in
+            let old : HasTwin gone o one other found = paired.objects q found was stays_there in
             let none : twin ≡ old.cell → ⊥ = λ is. (let no : None ≡ Some old.twin = sym other_may.1 ∙ ap (object_at other) is ∙ old.held in absurd (cc)) in
             record {
               cell = old.cell;
               twin = old.twin;
               held = object_at-made_by other request twin other_grows old.cell
                   ∙ ap (λ b. cond b (Some second_new) (object_at other old.cell)) (ne_eqb old.cell twin (λ is. none (sym is))) ∙ old.held;
-              alike = alike_later one other made_next made_following (made_stays one request cell grows may.1)
+              alike = alike_later gone one other made_next made_following (made_stays one request cell grows may.1)
                   (made_stays other request twin other_grows other_may.1) o found old.twin old.alike;
             }
       ]
 
-  pub made_paired : ArePaired o made_next made_following
+  made_absent : (q : ℕ) (found : Object) → object_at made_following q ≡ Some found → gone.births found.birth ≡ false
+  made_absent q found at =
+      elim (cases_eq q twin) as (λ _. gone.births found.birth ≡ false) [
+        | inl here ↦
+            let is : second_new ≡ found = same_Some second_new found (sym second_there ∙ sym (ap (object_at made_following) here) ∙ at) in
+            ap (λ (x : Object). gone.births x.birth) (sym is) ∙ ap gone.births paired.births ∙ fresh
+        | inr elsewhere ↦
+            paired.absent q found (ap (λ b. cond b (Some second_new) (object_at other q)) (sym (ne_eqb q twin elsewhere))
+            ∙ sym (object_at-made_by other request twin other_grows q) ∙ at)
+      ]
+
+  made_loose : (q : ℕ) (found : Object) → object_at made_next q ≡ Some found → gone.births found.birth ≡ true → found.fixed ≡ false
+  made_loose q found at gone_is =
+      elim (cases_eq q cell) as (λ _. found.fixed ≡ false) [
+        | inl here ↦
+            let is : new ≡ found = same_Some new found (sym new_there ∙ sym (ap (object_at made_next) here) ∙ at) in
+            absurd (false≢true (sym (ap (λ (x : Object). gone.births x.birth) (sym is) ∙ fresh) ∙ gone_is))
+        | inr elsewhere ↦
+            paired.loose q found (ap (λ b. cond b (Some new) (object_at one q)) (sym (ne_eqb q cell elsewhere))
+            ∙ sym (object_at-made_by one request cell grows q) ∙ at) gone_is
+      ]
+
+  pub made_paired : ArePaired gone o made_next made_following
   made_paired =
       let words : live_words made_next ≡ live_words one + request_words request = live_words-made_by one request cell grows may.1 in
       let others : live_words made_following ≡ live_words other + request_words request = live_words-made_by other request twin other_grows other_may.1 in
@@ -269,7 +337,10 @@ module _ (o : Outline) (one other : Store) (paired : ArePaired o one other) (req
         orderly = IsOrderly-made_by one request cell grows paired.orderly may;
         other_orderly = IsOrderly-made_by other request twin other_grows paired.other_orderly other_may;
         objects = made_twin;
-        words = others ∙ ap (λ n. n + request_words request) paired.words ∙ sym words;
+        absent = made_absent;
+        past = λ birth is. let early = paired.past birth is in omega (arith, early);
+        loose = made_loose;
+        words = let lives = paired.words in omega (arith, words, others, lives);
         made_words = λ within.
             let few : live_words one + request_words request ≤ 2 ^ 36 = subst (λ n. n ≤ 2 ^ 36) words within in
             subst (λ n. made_following.made_words ≤ 2 * n) (sym words)
@@ -277,5 +348,5 @@ module _ (o : Outline) (one other : Store) (paired : ArePaired o one other) (req
       }
 
   -- the new objects correspond to each other
-  pub new_twins : SameCell made_next made_following cell twin
+  pub new_twins : SameFound made_next made_following cell twin
   new_twins = inr (record { object = new; held = new_there; second = second_new; twin_held = second_there; born = paired.births })

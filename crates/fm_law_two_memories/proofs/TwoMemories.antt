@@ -1,5 +1,5 @@
 -- A program goes alike on two memories, from the opening on.
-use Rattle.std.proofs.Common.{ℕ, Option, None, refl, arith}
+use Rattle.std.proofs.Common.{ℕ, ◌*◌, ◌<◌, Option, None, refl, arith}
 use Rattle.fm_cells.specs.Choices.{lawful}
 use Rattle.fm_cells.specs.Stores.{opened}
 use Rattle.fm_world.specs.Programs.{Outline, Program}
@@ -7,12 +7,12 @@ use Rattle.fm_frames.specs.Runs.{opening}
 use Rattle.fm_frames.specs.States.{Moved}
 use Rattle.fm_frames.specs.Steps.{step}
 use Rattle.fm_law_sound.proofs.HiddenFields.{text_first}
-use Rattle.fm_law_sound.proofs.NextActs.{next_acts_fit}
+use Rattle.fm_law_sound.proofs.Opening.{opening_sound}
 use Rattle.fm_law_sound.proofs.OpeningActs.{opening_fits}
-use Rattle.fm_law_sound.proofs.RunsSound.{runs_sound}
 use Rattle.fm_law_sound.proofs.StartActs.{start_alone}
 use Rattle.fm_law_sound.specs.Laws.{no_frame}
 use Rattle.fm_law_sound.specs.Sound.{Typings}
+use Rattle.fm_law_two_memories.specs.Pairing.{none_gone}
 use Rattle.fm_law_two_memories.specs.Runs.{Alike, AreTheSame, FirstLacks, GoAlike, IsRoomy, IsWithoutFrees, run_after, RunsAreTheSame, RunsGoAlike, SecondIsFull, SecondLacks}
 use Rattle.fm_law_two_memories.specs.Whole.{NextEffectsAreAlike, StepsKeepAlike}
 use Rattle.fm_law_two_memories.proofs.NextAlike.{next_alike}
@@ -28,30 +28,32 @@ next_effects_alike p typings h z f callers stands =
     next_alike p typings h.typed h.steps h.makes.makeable (text_first p h.makes.makeable.runnable h.makes.makeable.tree) h.no_free h.constants z f callers stands
 
 pub steps_go_alike : StepsKeepAlike
-steps_go_alike p typings h first second x y sound paired unlimited few going =
-    told p.outline x.areas.store.budget y.areas.store.budget y.areas.store.limit (step p (lawful first) x) (step p (lawful second) y)
-    (step_alike p typings (ready_for p typings h) first second x.areas.store.budget y.areas.store.budget y.areas.store.limit few x y sound
-    (record { paired = paired; unlimited = unlimited; budget_is = refl; limit_is = refl; other_is = refl }) going)
+steps_go_alike gone few_gone p typings h first second x y sound paired seen unlimited few going =
+    told gone p.outline x.areas.store.budget y.areas.store.budget y.areas.store.limit (step p (lawful first) x) (step p (lawful second) y)
+    (step_alike gone few_gone p typings (ready_for p typings h) first second x.areas.store.budget y.areas.store.budget y.areas.store.limit few x y sound
+    (record { paired = paired; unlimited = unlimited; budget_is = refl; limit_is = refl; other_is = refl }) seen going)
 
 pub runs_go_alike : RunsGoAlike
-runs_go_alike p typings h first second job input given budget other limit free freed few other_few k =
-    told p.outline budget other limit (run_after p first job (opened budget None free) k) (run_after p second job (opened other limit freed) k)
-    (runs_alike p typings (ready_for p typings h) first second budget other limit other_few (opening p (lawful first) job (opened budget None free))
+runs_go_alike p typings h first second job given budget other limit free freed few k =
+    told none_gone p.outline budget other limit (run_after p first job (opened budget None free) k) (run_after p second job (opened other limit freed) k)
+    (runs_alike p typings (ready_for p typings h) first second budget other limit few (opening p (lawful first) job (opened budget None free))
     (opening p (lawful second) job (opened other limit freed))
-    (runs_sound p typings h.typed h.steps h.main (λ x sound running. next_acts_fit p typings h.steps h.makes x sound) first job input budget None free few (record {
+    (opening_sound p typings h.typed h.steps h.main first job budget None free (record {
       opening = opening_fits p h.makes.makeable (opened budget None free) no_frame job given;
       start = start_alone p h.makes.makeable h.makes.constants (opened budget None free) no_frame;
     }))
-    (openings_alike p (ready_for p typings h) first second job given budget other limit free freed few other_few) k)
+    (openings_alike p (ready_for p typings h) first second job given budget other limit free freed few) k)
 
 -- neither lacks what the other has
-the_same : (o : Outline) (budget : ℕ) (limit : Option ℕ) → IsRoomy limit budget → (x y : Moved) → GoAlike o budget budget limit x y → AreTheSame o x y
+the_same : (o : Outline) (budget : ℕ) (limit : Option ℕ) → IsRoomy limit budget → (x y : Moved) → GoAlike none_gone o budget budget limit x y
+    → AreTheSame o x y
 the_same o budget limit roomy x y (Alike paired printed) = (paired, printed)
 the_same o budget limit roomy x y (FirstLacks less lacks prefix) = absurd (omega (arith, less))
 the_same o budget limit roomy x y (SecondLacks less lacks prefix) = absurd (omega (arith, less))
-the_same o budget limit roomy x y (SecondIsFull words is less full prefix) = let room = roomy words is in absurd (omega (arith, less, room))
+the_same o budget limit roomy x y (SecondIsFull small full prefix) =
+    let room = roomy small.0 small.1 in let less : small.0 < 2 * budget = small.3 in absurd (omega (arith, less, room))
 
 pub same_limits : RunsAreTheSame
-same_limits p typings h first second job input given budget limit free freed few roomy k =
+same_limits p typings h first second job given budget limit free freed few roomy k =
     the_same p.outline budget limit roomy (run_after p first job (opened budget None free) k) (run_after p second job (opened budget limit freed) k)
-    (runs_go_alike p typings h first second job input given budget budget limit free freed few few k)
+    (runs_go_alike p typings h first second job given budget budget limit free freed few k)

@@ -14,7 +14,7 @@ use Rattle.fm_frames.specs.NativeRows.{text_type}
 use Rattle.fm_frames.specs.States.{Areas}
 use Rattle.fm_frames.specs.Steps.{is_over, literal_of, makes, most_words, words_among, words_made, words_of}
 use Rattle.fm_frames.specs.declared.ends.Ended.TheVariants as end
-use Rattle.fm_law_two_memories.specs.Pairing.{AreasPaired, SameCell}
+use Rattle.fm_law_two_memories.specs.Pairing.{AreasPaired, Gone, SameCell, SameEnd}
 use Rattle.fm_law_two_memories.proofs.SourcesSame.{number_same}
 use Rattle.fm_law_two_memories.proofs.Twins.{not_null}
 
@@ -24,34 +24,36 @@ positive : (store : Store) (cell : ℕ) (object : Object) → IsOrderly store �
 positive store zero object orderly held = absurd (not_null store zero object orderly held refl)
 positive store (suc cell) object orderly held = lt-ltb 0 (suc cell) (omega arith)
 
-cell_there : (o : Outline) (x y : Areas) → AreasPaired o x y → (c d : ℕ) → SameCell x.store y.store c d → nat_lt 0 d ≡ nat_lt 0 c
-cell_there o x y paired c d (inl null) = ap (nat_lt 0) null.1 ∙ sym (ap (nat_lt 0) null.0)
-cell_there o x y paired c d (inr t) =
+cell_there : (gone : Gone) (o : Outline) (x y : Areas) → AreasPaired gone o x y → (c d : ℕ) → SameCell gone x.store y.store c d → nat_lt 0 d ≡ nat_lt 0 c
+cell_there gone o x y paired c d (inl (inl null)) = ap (nat_lt 0) null.1 ∙ sym (ap (nat_lt 0) null.0)
+cell_there gone o x y paired c d (inr lost) =
+    lt-ltb 0 d lost.some ∙ sym (positive x.store c lost.object paired.store.orderly lost.held)
+cell_there gone o x y paired c d (inl (inr t)) =
     positive y.store d t.second paired.store.other_orderly t.twin_held ∙ sym (positive x.store c t.object paired.store.orderly t.held)
 
 -- a literal is there on both memories or on none
-pub there_same : (o : Outline) (x y : Areas) → AreasPaired o x y → (text : ℕ) → is_there y text ≡ is_there x text
-there_same o x y paired text =
-    cell_there o x y paired _ _ (number_same x.store y.store x.literals y.literals text paired.literals)
+pub there_same : (gone : Gone) (o : Outline) (x y : Areas) → AreasPaired gone o x y → (text : ℕ) → is_there y text ≡ is_there x text
+there_same gone o x y paired text =
+    cell_there gone o x y paired _ _ (number_same (SameCell gone x.store y.store) (inl (inl (refl, refl))) x.literals y.literals text paired.literals)
 
 -- ---- words on both memories
 
-word_same : (o : Outline) (x y : Areas) → AreasPaired o x y → (literals : List ℕ) (action : Action)
+word_same : (gone : Gone) (o : Outline) (x y : Areas) → AreasPaired gone o x y → (literals : List ℕ) (action : Action)
     → words_of o y literals action ≡ words_of o x literals action
-word_same o x y paired literals (MakeLiteral text) =
+word_same gone o x y paired literals (MakeLiteral text) =
     ap (λ b. cond (b || is_among text literals) 0 (request_words (requested o (text_type o) (length (literal_text o text)) true)))
-    (there_same o x y paired text)
-word_same o x y paired literals action = refl
+    (there_same gone o x y paired text)
+word_same gone o x y paired literals action = refl
 
-words_same : (o : Outline) (x y : Areas) → AreasPaired o x y → (literals : List ℕ) (actions : List Action)
+words_same : (gone : Gone) (o : Outline) (x y : Areas) → AreasPaired gone o x y → (literals : List ℕ) (actions : List Action)
     → words_among o y literals actions ≡ words_among o x literals actions
-words_same o x y paired literals [] = refl
-words_same o x y paired literals (action ∷ more) =
-    ap (λ n. n + words_among o y (literal_of action ++ literals) more) (word_same o x y paired literals action)
-    ∙ ap (λ n. words_of o x literals action + n) (words_same o x y paired (literal_of action ++ literals) more)
+words_same gone o x y paired literals [] = refl
+words_same gone o x y paired literals (action ∷ more) =
+    ap (λ n. n + words_among o y (literal_of action ++ literals) more) (word_same gone o x y paired literals action)
+    ∙ ap (λ n. words_of o x literals action + n) (words_same gone o x y paired (literal_of action ++ literals) more)
 
-needed_same : (o : Outline) (x y : Areas) → AreasPaired o x y → (actions : List Action) → words_made o y actions ≡ words_made o x actions
-needed_same o x y paired actions = ap (λ n. min n most_words) (words_same o x y paired [] actions)
+needed_same : (gone : Gone) (o : Outline) (x y : Areas) → AreasPaired gone o x y → (actions : List Action) → words_made o y actions ≡ words_made o x actions
+needed_same gone o x y paired actions = ap (λ n. min n most_words) (words_same gone o x y paired [] actions)
 
 -- ---- budgets
 
@@ -59,36 +61,45 @@ needed_same o x y paired actions = ap (λ n. min n most_words) (words_same o x y
 abbrev over_by : (making : Bool) (needed budget live : ℕ) → Bool
 over_by making needed budget live = cond making (nat_lt 0 needed && nat_lt budget (live + needed)) false
 
--- of two budgets the one that is passed is less than the one that isn't
-over_less : (making : Bool) (needed budget other live : ℕ) → over_by making needed budget live ≡ true → over_by making needed other live ≡ false
-    → budget < other
-over_less false needed budget other live over within = absurd (false≢true over)
-over_less true needed budget other live over within =
+-- Of two budgets the one that is passed is less than the one that isn't, where fewer words live in the second store by those that are gone.
+over_less : (making : Bool) (needed budget other live fewer gone : ℕ) → fewer + gone ≡ live → over_by making needed budget live ≡ true
+    → over_by making needed other fewer ≡ false → budget < other + gone
+over_less false needed budget other live fewer gone lives over within = absurd (false≢true over)
+over_less true needed budget other live fewer gone lives over within =
     let parts = and_parts (nat_lt 0 needed) (nat_lt budget (live + needed)) over in
     let passed : budget < live + needed = ltb-true budget (live + needed) parts.1 in
-    ⊎_elim (λ past. absurd (false≢true (sym within ∙ and_from (nat_lt 0 needed) (nat_lt other (live + needed)) parts.0 (lt-ltb other (live + needed) past))))
-    (λ inside. omega (arith, passed, inside)) (cases_lt other (live + needed))
+    ⊎_elim (λ past. absurd (false≢true (sym within ∙ and_from (nat_lt 0 needed) (nat_lt other (fewer + needed)) parts.0 (lt-ltb other (fewer + needed) past))))
+    (λ inside. omega (arith, passed, inside, lives)) (cases_lt other (fewer + needed))
 
-module _ (o : Outline) (x y : Areas) (paired : AreasPaired o x y) (actions : List Action) where
-  over_is : over_by (makes actions) (words_made o x actions) y.store.budget (live_words x.store) ≡ is_over o y actions
-  over_is =
-      ap (λ n. over_by (makes actions) n y.store.budget (live_words x.store)) (sym (needed_same o x y paired actions))
-      ∙ ap (λ n. over_by (makes actions) (words_made o y actions) y.store.budget n) (sym paired.store.words)
+less_over : (making : Bool) (needed budget other live fewer gone : ℕ) → fewer + gone ≡ live → over_by making needed budget live ≡ false
+    → over_by making needed other fewer ≡ true → other + gone < budget
+less_over false needed budget other live fewer gone lives within over = absurd (false≢true over)
+less_over true needed budget other live fewer gone lives within over =
+    let parts = and_parts (nat_lt 0 needed) (nat_lt other (fewer + needed)) over in
+    let passed : other < fewer + needed = ltb-true other (fewer + needed) parts.1 in
+    ⊎_elim (λ past. absurd (false≢true (sym within ∙ and_from (nat_lt 0 needed) (nat_lt budget (live + needed)) parts.0 (lt-ltb budget (live + needed) past))))
+    (λ inside. omega (arith, passed, inside, lives)) (cases_lt budget (live + needed))
+
+module _ (gone : Gone) (o : Outline) (x y : Areas) (paired : AreasPaired gone o x y) (actions : List Action) where
+  -- the second memory needs as many words as the first one
+  over_is : over_by (makes actions) (words_made o x actions) y.store.budget (live_words y.store) ≡ is_over o y actions
+  over_is = ap (λ n. over_by (makes actions) n y.store.budget (live_words y.store)) (sym (needed_same gone o x y paired actions))
 
   -- the budget that is passed is less than the other one
-  pub first_less : is_over o x actions ≡ true → is_over o y actions ≡ false → x.store.budget < y.store.budget
+  pub first_less : is_over o x actions ≡ true → is_over o y actions ≡ false → x.store.budget < y.store.budget + gone.words
   first_less over within =
-      over_less (makes actions) (words_made o x actions) x.store.budget y.store.budget (live_words x.store) over (over_is ∙ within)
+      over_less (makes actions) (words_made o x actions) x.store.budget y.store.budget (live_words x.store) (live_words y.store) gone.words paired.store.words over
+      (over_is ∙ within)
 
-  pub second_less : is_over o x actions ≡ false → is_over o y actions ≡ true → y.store.budget < x.store.budget
+  pub second_less : is_over o x actions ≡ false → is_over o y actions ≡ true → y.store.budget + gone.words < x.store.budget
   second_less within over =
-      over_less (makes actions) (words_made o x actions) y.store.budget x.store.budget (live_words x.store) (over_is ∙ over) within
+      less_over (makes actions) (words_made o x actions) x.store.budget y.store.budget (live_words x.store) (live_words y.store) gone.words paired.store.words within
+      (over_is ∙ over)
 
   -- both end alike where both pass
-  pub lacks_same : end.Exhausted (live_words y.store) (words_made o y actions) ≡ end.Exhausted (live_words x.store) (words_made o x actions)
-  lacks_same =
-      ap (λ n. end.Exhausted n (words_made o y actions)) paired.store.words
-      ∙ ap (λ n. end.Exhausted (live_words x.store) n) (needed_same o x y paired actions)
+  pub lacks_same : SameEnd gone x.store y.store (end.Exhausted (live_words x.store) (words_made o x actions))
+      (end.Exhausted (live_words y.store) (words_made o y actions))
+  lacks_same = (live_words y.store, ap (λ n. end.Exhausted (live_words y.store) n) (needed_same gone o x y paired actions), paired.store.words)
 
 -- what makes nothing needs no words
 none_needed : (o : Outline) (x : Areas) (literals : List ℕ) (actions : List Action) → makes actions ≡ false → words_among o x literals actions ≡ 0
@@ -103,26 +114,51 @@ none_needed o x literals (Free operand ∷ more) none = ap (λ n. 0 + n) (none_n
 none_needed o x literals (SetChain operand to ∷ more) none = ap (λ n. 0 + n) (none_needed o x literals more none)
 none_needed o x literals (FreeChain operand ∷ more) none = ap (λ n. 0 + n) (none_needed o x literals more none)
 
-needed_within : (needed live budget : ℕ) → 0 < needed → budget ≤ MAX_LIVE_WORDS
-    → (nat_lt 0 (min needed most_words) && nat_lt budget (live + min needed most_words)) ≡ false → live + needed ≤ budget
-needed_within needed live budget some few over =
+needed_within : (needed live budget : ℕ) → 0 < needed → (nat_lt 0 (min needed most_words) && nat_lt budget (live + min needed most_words)) ≡ false
+    → live + min needed most_words ≤ budget
+needed_within needed live budget some over =
     let positive : nat_lt 0 (min needed most_words) ≡ true = lt-ltb 0 (min needed most_words) (omega (arith, some)) in
     ⊎_elim (λ past. absurd (false≢true (sym over ∙ and_from (nat_lt 0 (min needed most_words)) (nat_lt budget (live + min needed most_words)) positive
-    (lt-ltb budget (live + min needed most_words) past)))) (λ inside. omega (arith, inside, few)) (cases_lt budget (live + min needed most_words))
+    (lt-ltb budget (live + min needed most_words) past)))) (λ inside. inside) (cases_lt budget (live + min needed most_words))
 
 -- ---- what is left of the actions
 
--- the words that actions need, if they do, may live beside those that do
-abbrev pub Within : Outline → Areas → List Action → Type 0
-Within o y actions = 0 < words_among o y [] actions → live_words y.store + words_among o y [] actions ≤ y.store.budget
+-- the budgets of words of both memories, and the words that are gone
+pub record Room : Type 0 where
+  pub first : ℕ
+  pub second : ℕ
+  pub gone : ℕ
 
-pub within_budget : (o : Outline) (y : Areas) (actions : List Action) → y.store.budget ≤ MAX_LIVE_WORDS → is_over o y actions ≡ false → Within o y actions
-within_budget o y actions few over some = by_making (makes actions) refl where
-  by_making : (b : Bool) → makes actions ≡ b → live_words y.store + words_among o y [] actions ≤ y.store.budget
+-- this many words, of those that live in the second store and those that are needed, are within both budgets
+abbrev pub Fits : Room → ℕ → Type 0
+Fits room words = (words ≤ room.second) × (words + room.gone ≤ room.first)
+
+-- the words that actions need, if they do, may live beside those that do
+abbrev pub Within : Outline → Room → Areas → List Action → Type 0
+Within o room y actions = 0 < words_among o y [] actions → Fits room (live_words y.store + words_among o y [] actions)
+
+-- as many words as aren't counted above the greatest number that is reported
+exact : (needed live budget : ℕ) → live + min needed most_words ≤ budget → budget ≤ MAX_LIVE_WORDS → min needed most_words ≡ needed
+exact needed live budget within few = omega (arith, within, few)
+
+pub within_budgets : (gone : Gone) (o : Outline) (x y : Areas) (actions : List Action) → AreasPaired gone o x y → y.store.budget ≤ MAX_LIVE_WORDS
+    → is_over o x actions ≡ false → is_over o y actions ≡ false
+    → Within o (record { first = x.store.budget; second = y.store.budget; gone = gone.words }) y actions
+within_budgets gone o x y actions paired few over other_over some = by_making (makes actions) refl where
+  by_making : (b : Bool) → makes actions ≡ b
+      → Fits (record { first = x.store.budget; second = y.store.budget; gone = gone.words }) (live_words y.store + words_among o y [] actions)
   by_making false none = let nothing : words_among o y [] actions ≡ 0 = none_needed o y [] actions none in absurd (omega (arith, some, nothing))
   by_making true making =
-      needed_within (words_among o y [] actions) (live_words y.store) y.store.budget some few
-      (sym (ap (λ b. over_by b (words_made o y actions) y.store.budget (live_words y.store)) making) ∙ over)
+      let same : words_among o y [] actions ≡ words_among o x [] actions = words_same gone o x y paired [] actions in
+      let theirs : live_words y.store + min (words_among o y [] actions) most_words ≤ y.store.budget =
+      needed_within (words_among o y [] actions) (live_words y.store) y.store.budget some
+      (sym (ap (λ b. over_by b (words_made o y actions) y.store.budget (live_words y.store)) making) ∙ other_over) in
+      let ours : live_words x.store + min (words_among o x [] actions) most_words ≤ x.store.budget =
+      needed_within (words_among o x [] actions) (live_words x.store) x.store.budget (omega (arith, some, same))
+      (sym (ap (λ b. over_by b (words_made o x actions) x.store.budget (live_words x.store)) making) ∙ over) in
+      let all : min (words_among o y [] actions) most_words ≡ words_among o y [] actions = exact (words_among o y [] actions) (live_words y.store) y.store.budget theirs few in
+      let lives : live_words y.store + gone.words ≡ live_words x.store = paired.store.words in
+      (omega (arith, theirs, all), omega (arith, ours, all, lives, same))
 
 -- a literal is there, or was made by what came before
 abbrev is_made : Areas → List ℕ → ℕ → Bool
@@ -160,21 +196,22 @@ fewer o x y (action ∷ more) literals others h =
     let rest : words_among o y (literal_of action ++ others) more ≤ words_among o x (literal_of action ++ literals) more =
     fewer o x y more (literal_of action ++ literals) (literal_of action ++ others) (more_made x y literals others h action) in omega (arith, head, rest)
 
-left_within : (head tail rest live later budget now : ℕ) → (0 < head + tail → live + (head + tail) ≤ budget) → rest ≤ tail → later ≤ live + head
-    → now ≡ budget → 0 < rest → later + rest ≤ now
-left_within head tail rest live later budget now h less is same some =
-    let all : live + (head + tail) ≤ budget = h (omega (arith, some, less)) in omega (arith, all, less, is, same)
+left_within : (room : Room) (head tail rest live later : ℕ) → (0 < head + tail → Fits room (live + (head + tail))) → rest ≤ tail → later ≤ live + head
+    → 0 < rest → Fits room (later + rest)
+left_within room head tail rest live later h less is some =
+    let all : Fits room (live + (head + tail)) = h (omega (arith, some, less)) in
+    let second : live + (head + tail) ≤ room.second = all.0 in
+    let first : live + (head + tail) + room.gone ≤ room.first = all.1 in (omega (arith, second, less, is), omega (arith, first, less, is))
 
 -- one action is done, and the literals are those of before
-pub within_rest : (o : Outline) (y : Areas) (action : Action) (more : List Action) (following : Areas) → literal_of action ≡ [] → following.literals ≡ y.literals
-    → live_words following.store ≤ live_words y.store + words_of o y [] action → following.store.budget ≡ y.store.budget
-    → Within o y (action ∷ more) → Within o following more
-within_rest o y action more following none literals live budget h =
-    left_within (words_of o y [] action) (words_among o y (literal_of action ++ []) more) (words_among o following [] more) (live_words y.store)
-    (live_words following.store) y.store.budget following.store.budget h
+pub within_rest : (o : Outline) (room : Room) (y : Areas) (action : Action) (more : List Action) (following : Areas) → literal_of action ≡ [] → following.literals ≡ y.literals
+    → live_words following.store ≤ live_words y.store + words_of o y [] action → Within o room y (action ∷ more) → Within o room following more
+within_rest o room y action more following none literals live h =
+    left_within room (words_of o y [] action) (words_among o y (literal_of action ++ []) more) (words_among o following [] more) (live_words y.store)
+    (live_words following.store) h
     (fewer o y following more (literal_of action ++ []) []
     (λ text is. ap (λ (cells : List ℕ). nat_lt 0 (slice_index_or cells text 0) || false) literals
-    ∙ sym (ap (λ (texts : List ℕ). is_there y text || is_among text (texts ++ [])) none) ∙ is)) live budget
+    ∙ sym (ap (λ (texts : List ℕ). is_there y text || is_among text (texts ++ [])) none) ∙ is)) live
 
 -- a literal that is there already
 there_made : (y : Areas) (text : ℕ) → is_there y text ≡ true → (k : ℕ) → is_made y (text ∷ []) k ≡ true → is_made y [] k ≡ true
@@ -182,10 +219,11 @@ there_made y text there k is =
     ⊎_elim (λ k_there. or_left (is_there y k) false k_there)
     (λ among. or_left (is_there y k) false (ap (is_there y) (among_one k text among) ∙ there)) (or_cases (is_there y k) (is_among k (text ∷ [])) is)
 
-pub within_there : (o : Outline) (y : Areas) (text : ℕ) (more : List Action) → is_there y text ≡ true → Within o y (MakeLiteral text ∷ more) → Within o y more
-within_there o y text more there h =
-    left_within (words_of o y [] (MakeLiteral text)) (words_among o y (text ∷ []) more) (words_among o y [] more) (live_words y.store)
-    (live_words y.store) y.store.budget y.store.budget h (fewer o y y more (text ∷ []) [] (there_made y text there)) (omega arith) refl
+pub within_there : (o : Outline) (room : Room) (y : Areas) (text : ℕ) (more : List Action) → is_there y text ≡ true → Within o room y (MakeLiteral text ∷ more)
+    → Within o room y more
+within_there o room y text more there h =
+    left_within room (words_of o y [] (MakeLiteral text)) (words_among o y (text ∷ []) more) (words_among o y [] more) (live_words y.store)
+    (live_words y.store) h (fewer o y y more (text ∷ []) [] (there_made y text there)) (omega arith)
 
 -- a literal that is made
 literal_at : (cells : List ℕ) (text cell : ℕ) → text < length cells → slice_index_or (slice_set cells text cell) text 0 ≡ cell
@@ -219,18 +257,22 @@ module _ (o : Outline) (y : Areas) (text : ℕ) (following : Store) (twin : ℕ)
   abbrev literal_words : ℕ
   literal_words = request_words (requested o (text_type o) (length (literal_text o text)) true)
 
-  pub within_literal : (more : List Action) → is_there y text ≡ false → live_words following ≡ live_words y.store + literal_words
-      → following.budget ≡ y.store.budget → Within o y (MakeLiteral text ∷ more) → Within o made_later more
-  within_literal more none live budget h =
+  pub within_literal : (room : Room) (more : List Action) → is_there y text ≡ false → live_words following ≡ live_words y.store + literal_words
+      → Within o room y (MakeLiteral text ∷ more) → Within o room made_later more
+  within_literal room more none live h =
       let head : words_of o y [] (MakeLiteral text) ≡ literal_words = ap (λ b. cond (b || false) 0 literal_words) none in
-      left_within (words_of o y [] (MakeLiteral text)) (words_among o y (text ∷ []) more) (words_among o made_later [] more) (live_words y.store)
-      (live_words following) y.store.budget following.budget h (fewer o y made_later more (text ∷ []) [] literal_stays) (omega (arith, head, live)) budget
+      left_within room (words_of o y [] (MakeLiteral text)) (words_among o y (text ∷ []) more) (words_among o made_later [] more) (live_words y.store)
+      (live_words following) h (fewer o y made_later more (text ∷ []) [] literal_stays) (omega (arith, head, live))
 
 -- an object that is made next may live beside what does
-first_within : (head tail live budget words : ℕ) → (0 < head + tail → live + (head + tail) ≤ budget) → head ≡ words → 0 < words → live + words ≤ budget
-first_within head tail live budget words h is some = let all : live + (head + tail) ≤ budget = h (omega (arith, is, some)) in omega (arith, all, is)
+first_within : (room : Room) (head tail live words : ℕ) → (0 < head + tail → Fits room (live + (head + tail))) → head ≡ words → 0 < words
+    → Fits room (live + words)
+first_within room head tail live words h is some =
+    let all : Fits room (live + (head + tail)) = h (omega (arith, is, some)) in
+    let second : live + (head + tail) ≤ room.second = all.0 in
+    let first : live + (head + tail) + room.gone ≤ room.first = all.1 in (omega (arith, second, is), omega (arith, first, is))
 
-pub next_within : (o : Outline) (y : Areas) (action : Action) (more : List Action) (words : ℕ) → words_of o y [] action ≡ words → 0 < words
-    → Within o y (action ∷ more) → live_words y.store + words ≤ y.store.budget
-next_within o y action more words is some h =
-    first_within (words_of o y [] action) (words_among o y (literal_of action ++ []) more) (live_words y.store) y.store.budget words h is some
+pub next_within : (o : Outline) (room : Room) (y : Areas) (action : Action) (more : List Action) (words : ℕ) → words_of o y [] action ≡ words → 0 < words
+    → Within o room y (action ∷ more) → Fits room (live_words y.store + words)
+next_within o room y action more words is some h =
+    first_within room (words_of o y [] action) (words_among o y (literal_of action ++ []) more) (live_words y.store) words h is some

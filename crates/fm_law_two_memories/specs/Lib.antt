@@ -1,4 +1,5 @@
 pub mod Pairing
+pub mod Seeing
 pub mod Hidden
 pub mod Constants
 pub mod Reading

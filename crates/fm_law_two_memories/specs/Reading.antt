@@ -12,8 +12,9 @@ use Rattle.fm_frames.specs.Effects.{Action, Effect, Faults, Free, FreeChain, Mak
 use Rattle.fm_frames.specs.States.{Areas, Frame, word_at}
 use Rattle.fm_frames.specs.declared.values.Value.{Value}
 use Rattle.fm_frames.specs.declared.values.Value.TheVariants as value
+use Rattle.fm_same.specs.Evenness.{IsObjectSource}
 use Rattle.fm_law_sound.specs.Leading.{sources_of}
-use Rattle.fm_law_sound.specs.Placing.{kind_in, ReadAgrees, sources_in}
+use Rattle.fm_law_sound.specs.Placing.{kind_in, ReadAgrees, sources_in, thrown_in}
 use Rattle.fm_law_sound.specs.Sound.{HaveKinds, IsReference, static_slots}
 
 -- a number is read where no reference is
@@ -62,3 +63,5 @@ pub record EffectAlike (o : Outline) (store : Store) (f : Frame) (e : Effect) : 
   pub acts : AllByRecursion (ActsAlike o store f) e.actions
   pub thrown : AllByRecursion (ReadAgrees o store f.stack) (sources_of_next e.next)
   pub thrown_numbers : AllByRecursion (NumberAgrees o store f.stack) (sources_of_next e.next)
+  -- what is thrown is a word of the stack, or was made
+  pub thrown_found : AllByRecursion IsObjectSource (thrown_in e.next)

@@ -1,6 +1,6 @@
 -- One program on two memories that may both have limits on their stores.
-use Rattle.std.specs.Prelude.{◌≡◌, ℕ, ◌≤◌, List, length, None, Option, Some}
-use Rattle.fm_base.specs.declared.limits.TheConstants.{MAX_FILE_BYTES, MAX_LIVE_WORDS}
+use Rattle.std.specs.Prelude.{◌≡◌, ℕ, ◌≤◌, List, None, Option, Some}
+use Rattle.fm_base.specs.declared.limits.TheConstants.{MAX_LIVE_WORDS}
 use Rattle.fm_cells.specs.Choices.{lawful}
 use Rattle.fm_cells.specs.Stores.{opened}
 use Rattle.fm_world.specs.Programs.{Program}
@@ -30,14 +30,14 @@ pub record HaveDoneTheSame (x y : Moved) : Type 0 where
 -- On two memories with one budget of words, each with room for twice as many, the program does the same after as many steps.
 abbrev pub DoesTheSameOnMemories : Program → Type 0
 DoesTheSameOnMemories p =
-    (first second : Choose) (job : Job) → length job.input ≤ MAX_FILE_BYTES → ArgumentsFit job.arguments → (budget : ℕ) (limit other : Option ℕ)
+    (first second : Choose) (job : Job) → ArgumentsFit job.arguments → (budget : ℕ) (limit other : Option ℕ)
     (free freed : List (List ℕ)) → budget ≤ MAX_LIVE_WORDS → IsRoomy limit budget → IsRoomy other budget → (k : ℕ)
     → HaveDoneTheSame (run_after p first job (opened budget limit free) k) (run_after p second job (opened budget other freed) k)
 
 -- And so it does in whole runs that one budget of steps allows.
 abbrev pub RunsTheSameOnMemories : Program → Type 0
 RunsTheSameOnMemories p =
-    (first second : Choose) (job : Job) → length job.input ≤ MAX_FILE_BYTES → ArgumentsFit job.arguments → (budget : ℕ) (limit other : Option ℕ)
+    (first second : Choose) (job : Job) → ArgumentsFit job.arguments → (budget : ℕ) (limit other : Option ℕ)
     (free freed : List (List ℕ)) → budget ≤ MAX_LIVE_WORDS → IsRoomy limit budget → IsRoomy other budget → (steps : ℕ) (x y : Moved)
     → IsRun p (lawful first) steps (opening p (lawful first) job (opened budget limit free)) x
     → IsRun p (lawful second) steps (opening p (lawful second) job (opened budget other freed)) y → HaveDoneTheSame x y

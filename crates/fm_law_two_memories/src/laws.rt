@@ -7,25 +7,29 @@ ghost use Rattle.fm_law_two_memories.specs.Reuses.{MemoriesServeAlike, WholeRuns
 ghost use Rattle.fm_law_two_memories.specs.Runs.{RunsAreTheSame, RunsEndAlike, RunsGoAlike};
 ghost use Rattle.fm_law_two_memories.specs.Whole.{NextEffectsAreAlike, StepsKeepAlike};
 
-/// Cells that correspond to each other do so one to one.
+/// Cells that correspond to each other do so one to one, unless what they hold is gone.
 pub fn law_cells()
     ensures { law.CellsAreApart }
 {}
 
-/// References are the same on one memory where they are on the other.
+/// References to what isn't gone are the same on one memory where they are on the other.
 pub fn law_values()
     ensures cells { law.CellsOfValues }
     ensures tests { law.TestsAgree }
 {}
 
-/// Stores stay paired where an object is made in each for one request, in whichever cells; and where
-/// the same is put into an object and into its twin.
+/// Stores stay paired where an object is made in each for one request, in whichever cells; where the
+/// same is put into an object and into its twin; and where the second one frees an object, which is
+/// gone from then on.
 pub fn law_stores()
     ensures made { law.MakesKeepPaired }
     ensures put { law.PutsKeepPaired }
+    ensures freed { law.FreesKeepPaired }
+    ensures freed_areas { law.FreesKeepAreas }
+    ensures freed_frames { law.FreesKeepFrames }
 {}
 
-/// An instruction sees the same of the same words on both memories.
+/// An instruction sees the same of the same words on both memories, where none leads to what is gone.
 pub fn law_sights()
     ensures { law.SightsAgree }
 {}
@@ -74,7 +78,8 @@ pub fn law_hidden()
     ensures { HiddenFieldsComeFirst }
 {}
 
-/// A step leads paired states to paired ones, or one of the memories lacks words.
+/// A step that sees nothing that is gone leads paired states to paired ones, or one of the memories
+/// lacks words.
 pub fn law_step()
     ensures { StepsKeepAlike }
 {}

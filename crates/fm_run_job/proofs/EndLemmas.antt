@@ -4,7 +4,7 @@ use Rattle.std.specs.List.{slice_get, slice_index_or}
 use Rattle.fm_base.specs.declared.kinds.Base.{Base}
 use Rattle.fm_base.specs.declared.kinds.Base.TheVariants as base
 use Rattle.fm_base.specs.declared.kinds.TypeRef.{TypeRef}
-use Rattle.fm_base.specs.declared.limits.TheConstants.{MAX_FILE_BYTES, MAX_LIVE_WORDS}
+use Rattle.fm_base.specs.declared.limits.TheConstants.{MAX_LIVE_WORDS}
 use Rattle.fm_cells.specs.Choices.{lawful}
 use Rattle.fm_cells.specs.Objects.{Object}
 use Rattle.fm_cells.specs.Stores.{live_words, object_at, opened, Store}
@@ -28,12 +28,8 @@ use Rattle.fm_frames.specs.declared.ends.Ended.{Ended}
 use Rattle.fm_frames.specs.declared.ends.Ended.TheVariants as end
 use Rattle.fm_frames.specs.declared.values.Value.{Value}
 use Rattle.fm_run_job.specs.Reports.{IsEndIn}
-use Rattle.fm_law_sound.proofs.NextActs.{next_acts_fit}
-use Rattle.fm_law_sound.proofs.OpeningActs.{opening_fits}
 use Rattle.fm_law_sound.proofs.RunsSound.{runs_sound}
-use Rattle.fm_law_sound.proofs.StartActs.{start_alone}
 use Rattle.fm_law_can_step.specs.Ready.{CanRun}
-use Rattle.fm_law_sound.specs.Laws.{no_frame}
 use Rattle.fm_law_sound.specs.Making.{ArgumentsFit}
 use Rattle.fm_law_sound.specs.Sound.{AreTyped, IsSoundBy, Stand, Typings}
 
@@ -235,15 +231,11 @@ stand_there p runnable typings x sound going = record { some = sound.running goi
 
 -- each state of a run from its opening on
 pub ends_there : (p : Program) (typings : Typings) → AreTyped p typings → CanRun p → (choose : Choose) (job : Job)
-    → length job.input ≤ MAX_FILE_BYTES → ArgumentsFit job.arguments → (budget : ℕ) (limit : Option ℕ) (free : List (List ℕ)) → budget ≤ MAX_LIVE_WORDS → (k : ℕ)
+    → ArgumentsFit job.arguments → (budget : ℕ) (limit : Option ℕ) (free : List (List ℕ)) → budget ≤ MAX_LIVE_WORDS → (k : ℕ)
     → IsEndIn p (end_of (after p (lawful choose) k (opening p (lawful choose) job (opened budget limit free))).state)
-ends_there p typings typed can choose job input given budget limit free few k =
+ends_there p typings typed can choose job given budget limit free few k =
     let ready = can.steps in
-    let made = can.makes in
-    let sound = runs_sound p typings typed ready can.main (λ x sound running. next_acts_fit p typings ready made x sound) choose job input budget limit free few (record {
-      opening = opening_fits p made.makeable (opened budget limit free) no_frame job given;
-      start = start_alone p made.makeable made.constants (opened budget limit free) no_frame;
-    }) in
+    let sound = runs_sound p typings typed ready can.makes can.main choose job given budget limit free few in
     let runnable = ready.calls.runnable in
     let start = opening p (lawful choose) job (opened budget limit free) in
     end_there p runnable (after p (lawful choose) k start).state

@@ -3,7 +3,7 @@ use Rattle.std.proofs.Common.{◌≡◌, ◌<◌, ◌≤◌, ◌^◌, ℕ, zero,
 use Rattle.std.specs.Prelude.{IsSome}
 use Rattle.std.specs.List.{AllByRecursion}
 use Rattle.fm_base.proofs.ListFacts.{AllByRecursion-weaker}
-use Rattle.fm_base.specs.declared.limits.TheConstants.{MAX_ARGUMENTS, MAX_FILE_BYTES}
+use Rattle.fm_base.specs.declared.limits.TheConstants.{MAX_ARGUMENTS}
 use Rattle.fm_cells.specs.Choices.{IsLawful, last_choice}
 use Rattle.fm_cells.specs.Soundness.{CellsFit}
 use Rattle.fm_cells.specs.Stores.{empty_lists, opened}
@@ -66,11 +66,11 @@ short_texts arguments given = AllByRecursion-weaker (λ text. (length text < 2 ^
 
 -- from it the run can go on
 pub opened_goes : (p : Program) (b : Budgets) (arguments : List (List ℕ)) (input : List ℕ) → IsLawful choice → CanRun p → AreTyped p → AreWithin b
-    → length arguments ≤ MAX_ARGUMENTS → ArgumentsFit arguments → length input ≤ MAX_FILE_BYTES → CellsFit (opened_run p b arguments input).areas.store
+    → length arguments ≤ MAX_ARGUMENTS → ArgumentsFit arguments → CellsFit (opened_run p b arguments input).areas.store
     → CanGo p b.steps (opened_run p b arguments input)
-opened_goes p b arguments input may can typed within few given short fit =
+opened_goes p b arguments input may can typed within few given fit =
     let job = job_of b arguments input in
-    let steady = opened_steady p (typings_of p typed) choice job may can (typings_are p typed) short given b.words (Some b.store) empty_lists within.words fit in
+    let steady = opened_steady p (typings_of p typed) choice job may can (typings_are p typed) given b.words (Some b.store) empty_lists within.words fit in
     let births = opened_births p choice job (opened b.words (Some b.store) empty_lists) may can in
     let texts = can.few_texts in
     let steps = within.steps in record {
@@ -88,11 +88,11 @@ last_after p b arguments input last before later runs = ap (after p choice runs.
 
 -- what the end of the run names is there
 pub end_told : (p : Program) (b : Budgets) (arguments : List (List ℕ)) (input : List ℕ) → CanRun p → AreTyped p → AreWithin b → ArgumentsFit arguments
-    → length input ≤ MAX_FILE_BYTES → (last : State) (before later : Output) → RunsTo p choice b.steps (opened_run p b arguments input) last before later
+    → (last : State) (before later : Output) → RunsTo p choice b.steps (opened_run p b arguments input) last before later
     → IsEndIn p (report_of last).end
-end_told p b arguments input can typed within given short last before later runs =
+end_told p b arguments input can typed within given last before later runs =
     let job = job_of b arguments input in
-    let there = ends_there p (typings_of p typed) (typings_are p typed) can last_choice job short given b.words (Some b.store) empty_lists within.words runs.run.count in
+    let there = ends_there p (typings_of p typed) (typings_are p typed) can last_choice job given b.words (Some b.store) empty_lists within.words runs.run.count in
     subst (λ (m : Moved). IsEndIn p (end_of m.state)) (last_after p b arguments input last before later runs) there
 
 -- ---- what is left undone

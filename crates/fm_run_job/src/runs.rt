@@ -1,7 +1,7 @@
 // The run of a program from its opening on.
 
 ghost use Rattle.std.specs.Prelude.{◌≤◌, length};
-ghost use Rattle.fm_base.specs.declared.limits.TheConstants.{MAX_ARGUMENTS, MAX_FILE_BYTES};
+ghost use Rattle.fm_base.specs.declared.limits.TheConstants.{MAX_ARGUMENTS};
 ghost use Rattle.fm_law_can_step.specs.Ready.{CanRun};
 ghost use Rattle.fm_run_job.specs.Runs.{AreWithin, ComesOfRun};
 ghost use Rattle.fm_law_sound.specs.Making.{ArgumentsFit};
@@ -54,7 +54,6 @@ pub fn run_program<O: Sink>(
     requires within { AreWithin budgets }
     requires few { length arguments.now ≤ MAX_ARGUMENTS }
     requires given { ArgumentsFit arguments.now }
-    requires short { length input.now ≤ MAX_FILE_BYTES }
     ensures { ComesOfRun program.now budgets arguments.now input.now
         (O.output out.old) (O.output out.new) result }
 {

@@ -6,11 +6,7 @@ use Rattle.fm_cells.specs.Stores.{opened}
 use Rattle.fm_code.specs.declared.code_array.Code.{Code}
 use Rattle.fm_conn.specs.Facts.{AreFacts, Facts}
 use Rattle.fm_frames.specs.States.{State}
-use Rattle.fm_law_sound.proofs.NextActs.{next_acts_fit}
-use Rattle.fm_law_sound.proofs.OpeningActs.{opening_fits}
 use Rattle.fm_law_sound.proofs.RunsSound.{runs_sound}
-use Rattle.fm_law_sound.proofs.StartActs.{start_alone}
-use Rattle.fm_law_sound.specs.Laws.{no_frame}
 use Rattle.fm_law_sound.specs.Making.{MakesAreResolved}
 use Rattle.fm_law_sound.specs.Resolved.{MainIsReady, StepsAreResolved}
 use Rattle.fm_law_sound.specs.Sound.{AreTyped}
@@ -45,14 +41,10 @@ dead_of_sound_run p facts exact ready no_free choose job budget limit free run c
 
 -- each state of a run is sound
 pub run_is_sound : (p : Program) (facts : Facts) → AreFacts p facts → StepsAreResolved p → MakesAreResolved p → MainIsReady p → InEachRun p (AreSound p facts)
-run_is_sound p facts exact steps made main choose job input given budget limit free few k =
-    runs_sound p facts.typing (facts_type p facts exact) steps main (λ x sound running. next_acts_fit p facts.typing steps made x sound) choose job input budget
-    limit free few (record {
-      opening = opening_fits p made.makeable (opened budget limit free) no_frame job given;
-      start = start_alone p made.makeable made.constants (opened budget limit free) no_frame;
-    }) k
+run_is_sound p facts exact steps made main choose job given budget limit free few k =
+    runs_sound p facts.typing (facts_type p facts exact) steps made main choose job given budget limit free few k
 
 pub dead_of_run : DeadRegions
-dead_of_run p facts exact ready steps made main no_free choose job input given budget limit free few covers =
+dead_of_run p facts exact ready steps made main no_free choose job given budget limit free few covers =
     dead_of_sound_run p facts exact ready no_free choose job budget limit free
-    (run_is_sound p facts exact steps made main choose job input given budget limit free few) covers
+    (run_is_sound p facts exact steps made main choose job given budget limit free few) covers

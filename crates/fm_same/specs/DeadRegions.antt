@@ -4,7 +4,7 @@ use Rattle.std.specs.Prelude.{◌≡◌, ℕ, suc, ◌+◌, ◌<◌, ◌≤◌, 
 use Rattle.std.specs.List.{slice_index_or}
 use Rattle.fm_base.specs.declared.kinds.Kind.TheVariants as kind
 use Rattle.fm_base.specs.declared.kinds.TypeRef.{TypeRef}
-use Rattle.fm_base.specs.declared.limits.TheConstants.{MAX_FILE_BYTES, MAX_LIVE_WORDS}
+use Rattle.fm_base.specs.declared.limits.TheConstants.{MAX_LIVE_WORDS}
 use Rattle.fm_cells.specs.Objects.{Object}
 use Rattle.fm_cells.specs.Stores.{object_at, opened, Store}
 use Rattle.fm_code.specs.declared.code_array.Code.{Code}
@@ -130,8 +130,7 @@ states_of p choose job store k = (after p (lawful choose) k (opening p (lawful c
 -- this holds of the states of each run within the limits of a run
 abbrev pub InEachRun : Program → ((ℕ → State) → Type 0) → Type 0
 InEachRun p IsSo =
-    (choose : Choose) (job : Job) → length job.input ≤ MAX_FILE_BYTES → ArgumentsFit job.arguments
-    → (budget : ℕ) (limit : Option ℕ) (free : List (List ℕ)) → budget ≤ MAX_LIVE_WORDS → IsSo (states_of p choose job (opened budget limit free))
+    (choose : Choose) (job : Job) → ArgumentsFit job.arguments → (budget : ℕ) (limit : Option ℕ) (free : List (List ℕ)) → budget ≤ MAX_LIVE_WORDS → IsSo (states_of p choose job (opened budget limit free))
 
 -- in these states what a captured class led to is dead from the one on in which the class isn't busy, or the activation is gone
 abbrev pub RegionsDieIn : Program → Facts → (ℕ → State) → Type 0

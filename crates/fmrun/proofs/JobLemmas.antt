@@ -75,11 +75,6 @@ taken_accepted {contents} {files} {classes} all = are_accepted contents files cl
 pub taken_few : {contents : Contents} {files : List Bytes} {classes : List ClassDef} → AllTaken contents files classes → length classes ≤ MAX_CLASS_FILES
 taken_few {contents} {files} {classes} all = let few = all.few in omega (arith, same_number contents files classes all.taken)
 
--- an input is no longer than a file may be
-pub input_is_short : (named : Option Bytes) (contents : Contents) (input : Bytes) → IsInputOf named contents input → length input ≤ MAX_FILE_BYTES
-input_is_short None contents input is = let P : Bytes → Type 0 = λ bytes. length bytes ≤ MAX_FILE_BYTES in subst P (sym is) (omega arith)
-input_is_short (Some file) contents input is = is.0
-
 -- ---- a job whose class files are read
 
 pub record HasClasses (job : FmrunJob) (classes : List ClassDef) (old between : Disk) : Type 0 where
@@ -194,9 +189,6 @@ module _ {job : FmrunJob} {classes : List ClassDef} {old between : Disk} (has : 
     ends_without_input out r now = absurd now
 
     module _ {input : Bytes} (read : IsInputRead job.input input between new) where
-      pub input_short : length input ≤ MAX_FILE_BYTES
-      input_short = input_is_short job.input between.contents input read.input_is
-
       untouched : IsUntouched old new
       untouched = record { faultless = faultless_then old between new has.read.faultless read.faultless; kept = kept }
 

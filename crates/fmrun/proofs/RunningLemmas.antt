@@ -2,7 +2,7 @@
 use Rattle.std.proofs.Common.{◌≤◌, ℕ, inl, inr, List, length, Some, Ok, Err, refl, sym, subst}
 use Rattle.std.specs.List.{AllByRecursion}
 use Rattle.fm_base.proofs.ListFacts.{AllByRecursion-weaker}
-use Rattle.fm_base.specs.declared.limits.TheConstants.{MAX_CLASS_FILES, MAX_FILE_BYTES}
+use Rattle.fm_base.specs.declared.limits.TheConstants.{MAX_CLASS_FILES}
 use Rattle.fm_cells.specs.Choices.{last_choice}
 use Rattle.fm_cells.specs.Stores.{empty_lists}
 use Rattle.fm_code.specs.Profile.{IsSupported, IsWithinLimits, Profile}
@@ -65,25 +65,25 @@ module _ (classes : List ClassDef) (main : List ℕ) where
 
       -- a run of the program doesn't end in a fault where no method calls FreeMe
       never_faults : LinkedProgramsNeverFault → AllByRecursion ClassIsSpelled classes → AllByRecursion Profile classes → length classes ≤ MAX_CLASS_FILES
-          → AreWithin b → ArgumentsFit arguments → length input ≤ MAX_FILE_BYTES → (last : State)
+          → AreWithin b → ArgumentsFit arguments → (last : State)
           → RunsTo (program_of classes main) choice b.steps (opened_run (program_of classes main) b arguments input) last before after
           → CallsNoFreeMe (program_of classes main) → HasNoFault last
-      never_faults law spelled accepted few within given short last runs frees_none =
+      never_faults law spelled accepted few within given last runs frees_none =
           let p = program_of classes main in
           let supported = AllByRecursion-weaker Profile IsSupported (λ c profile. profile.supported) classes accepted in
           let kept = law classes main (have_spellings classes spelled) supported comes.0.0 few (typings_of p are_program.typed)
-          (typings_are p are_program.typed) frees_none last_choice (job_of b arguments input) short given b.words (Some b.store) empty_lists
+          (typings_are p are_program.typed) frees_none last_choice (job_of b arguments input) given b.words (Some b.store) empty_lists
           within.words runs.run.count in
           subst (λ (m : Moved). HasNoFault m.state) (last_after p b arguments input last before after runs) kept.1
 
       -- their run is reported
       pub comes_told : LinkedProgramsNeverFault → AllByRecursion ClassIsSpelled classes → AllByRecursion Profile classes → length classes ≤ MAX_CLASS_FILES
-          → AreWithin b → ArgumentsFit arguments → length input ≤ MAX_FILE_BYTES → (told : RunReport) → ComesOfRun program b arguments input before after (Ok told)
+          → AreWithin b → ArgumentsFit arguments → (told : RunReport) → ComesOfRun program b arguments input before after (Ok told)
           → ComesOfClasses classes main b arguments input before after (Ok told)
-      comes_told law spelled accepted few within given short told now =
+      comes_told law spelled accepted few within given told now =
           let P : Program → Type 0 = λ p. IsToldOf p b arguments input told before after in
           let own : IsToldOf (program_of classes main) b arguments input told before after = subst P comes.0.1 now in
-          (are_program, record { told = own; no_fault = never_faults law spelled accepted few within given short own.last own.runs })
+          (are_program, record { told = own; no_fault = never_faults law spelled accepted few within given own.last own.runs })
 
       -- or a step of it couldn't be done
       pub comes_failed : (f : StepFail) (e : JobFail) → IsOfStep f e → ComesOfRun program b arguments input before after (Err f) → ComesOfClasses classes main b arguments input before after (Err e)

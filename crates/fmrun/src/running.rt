@@ -2,7 +2,7 @@
 
 ghost use Rattle.std.specs.List.{AllByRecursion};
 ghost use Rattle.std.specs.Prelude.{◌≤◌, length};
-ghost use Rattle.fm_base.specs.declared.limits.TheConstants.{MAX_ARGUMENTS, MAX_CLASS_FILES, MAX_FILE_BYTES};
+ghost use Rattle.fm_base.specs.declared.limits.TheConstants.{MAX_ARGUMENTS, MAX_CLASS_FILES};
 ghost use Rattle.fm_code.specs.Profile.{Profile};
 ghost use Rattle.fm_load.specs.Taking.{ClassIsSpelled};
 ghost use Rattle.fm_run_job.specs.Runs.{AreWithin};
@@ -37,7 +37,6 @@ pub fn run_classes<'a, O: Sink>(
     requires within { AreWithin budgets }
     requires few { length arguments.now ≤ MAX_ARGUMENTS }
     requires given { ArgumentsFit arguments.now }
-    requires short { length input.now ≤ MAX_FILE_BYTES }
     ensures { ComesOfClasses classes.items (modified main.now) budgets arguments.now input.now
         (O.output out.old) (O.output out.new) result }
 {

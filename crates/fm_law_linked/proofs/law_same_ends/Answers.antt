@@ -13,13 +13,13 @@ same_end x (Some (end.Fault method offset cell)) b is none h = absurd (none meth
 same_end x (Some e) b is none h = h
 
 pub returns : goal.returns
-returns c given main spelled supported none few typings typed no_free first second job input fits budget limit other free freed room roomy other_roomy steps x y
+returns c given main spelled supported none few typings typed no_free first second job fits budget limit other free freed room roomy other_roomy steps x y
     one two =
     let did =
-    (c.law_two_memories.ensures.limited given main spelled supported none few typings typed no_free).1 first second job input fits budget limit other free
+    (c.law_two_memories.ensures.limited given main spelled supported none few typings typed no_free).1 first second job fits budget limit other free
     freed room roomy other_roomy steps x y one two in
     let sound =
-    (c.law_linked_no_fault.ensures given main spelled supported none few typings typed no_free first job input fits budget limit free room one.count).1 in (
+    (c.law_linked_no_fault.ensures given main spelled supported none few typings typed no_free first job fits budget limit free room one.count).1 in (
       did.printed,
       same_end x.state x.state.ended y.state.ended refl (subst (λ m. HasNoFault m.state) (sym one.is) sound) did.ended,
     )

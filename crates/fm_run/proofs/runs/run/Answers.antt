@@ -80,6 +80,7 @@ pub returns-clause-no_fault : goal.returns-clause-no_fault
 returns-clause-no_fault g c =
     run-keeps_whole c.law_no_fault.ensures.steps c.args.program.now g.M.Memory.choose c.births-births.ensures.lawful c.requires.can c.args.steps
     c.args.machine.now c.loop-alloc.machine (g.S.Sink.output c.args.out.now) (g.S.Sink.output c.loop-alloc.out) (returns-clause-runs g c)
+    c.requires.going.sound
 
 pub returns-clause-most_held : goal.returns-clause-most_held
 returns-clause-most_held g c =

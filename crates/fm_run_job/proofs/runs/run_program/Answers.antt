@@ -33,7 +33,7 @@ run-requires-clause-going g c =
     c.in_ok-machine.ensures ∙ ap (λ s. (opening p choice (job_of b c.args.arguments.now c.args.input.now) s).state) c.new-memory.ensures in
     subst (CanGo p b.steps) (sym is)
     (opened_goes p b c.args.arguments.now c.args.input.now c.births-births.ensures.lawful c.requires.can c.requires.typed c.requires.within c.requires.few
-    c.requires.given c.requires.short (subst (λ (x : State). CellsFit x.areas.store) is c.births-births.ensures.sound.cells_fit))
+    c.requires.given (subst (λ (x : State). CellsFit x.areas.store) is c.births-births.ensures.sound.cells_fit))
 
 pub report_line-requires : goal.report_line-requires
 report_line-requires g c =
@@ -44,7 +44,7 @@ report_line-requires g c =
     let is : c.in_ok-machine.machine ≡ opened_run p b c.args.arguments.now c.args.input.now =
     c.in_ok-machine.ensures ∙ ap (λ s. (opening p choice (job_of b c.args.arguments.now c.args.input.now) s).state) c.new-memory.ensures in
     subst (λ (r : Report). IsEndIn p r.end) (sym c.in_ok-report.ensures.report)
-    (end_told p b c.args.arguments.now c.args.input.now c.requires.can c.requires.typed c.requires.within c.requires.given c.requires.short c.run.new.machine before
+    (end_told p b c.args.arguments.now c.args.input.now c.requires.can c.requires.typed c.requires.within c.requires.given c.run.new.machine before
     later (subst (λ x. RunsTo p choice b.steps x c.run.new.machine before later) is c.in_ok-report.ensures.runs))
 
 pub returns-in_err-line : goal.returns-in_err-line

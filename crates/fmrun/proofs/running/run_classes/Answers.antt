@@ -36,4 +36,4 @@ returns g c =
     let later = g.O.Sink.output c.run_program.new.out in
     comes_told c.args.classes.items (modified c.args.main.now) c.args.budgets c.args.arguments.now c.args.input.now before later c.in_ok-program.program
     c.in_ok-program.ensures c.law_linked_no_fault.ensures c.requires.spelled c.requires.accepted c.requires.few_files c.requires.within c.requires.given
-    c.requires.short c.in_ok-told.told c.in_ok-told.ensures
+    c.in_ok-told.told c.in_ok-told.ensures

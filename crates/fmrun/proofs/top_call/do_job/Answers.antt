@@ -1,6 +1,6 @@
 use Rattle.std.proofs.Common.{refl, arith, subst, sym, ◌∙◌}
 use Rattle.std.proofs.lemmas.Result.{err_from_is_err_and}
-use Rattle.fmrun.proofs.JobLemmas.{accepted, all_of_names, both_within, classes_of, classes_within, ends_at_once, ends_run_as, ends_unread, ends_without_input, few_classes, few_of, input_of, input_short, none_within, spelled, unread_of}
+use Rattle.fmrun.proofs.JobLemmas.{accepted, all_of_names, both_within, classes_of, classes_within, ends_at_once, ends_run_as, ends_unread, ends_without_input, few_classes, few_of, input_of, none_within, spelled, unread_of}
 use Rattle.std.specs.List.{AllByRecursion}
 use Rattle.fmrun.proofs.RequestLimits.{Fits, fit_array, text_within}
 use Rattle.fm_cli_requests.specs.FmrunRequest.{job_of}
@@ -60,12 +60,6 @@ run_classes-requires-clause-within g c =
 pub run_classes-requires-clause-given : goal.run_classes-requires-clause-given
 run_classes-requires-clause-given g c =
     fit_array _ (omega (arith, c.if-arguments.false)) (subst (AllByRecursion Fits) (sym c.deref-arguments.ensures.value) c.in_ok-given.ensures.fit)
-
-pub run_classes-requires-clause-short : goal.run_classes-requires-clause-short
-run_classes-requires-clause-short g c =
-    let has = classes_of c.args.request c.deref-names.ensures.value refl c.read_classes.ensures.within c.in_ok-classes.ensures.comes in
-    let few = few_of c.deref-arguments.ensures.value c.in_ok-given.ensures.given (omega (arith, c.if-arguments.false)) in
-    input_short has few (g.F.Files.disk c.read_input.new.files) c.read_input.ensures.reads (input_of c.deref-input.ensures.value c.in_ok-bytes.ensures.comes)
 
 pub returns-clause-within : goal.returns-clause-within
 returns-clause-within g c =
