@@ -125,15 +125,15 @@ next_role old plan k r next here there =
 
 -- ---- the roles of one old item
 
-length-before : (j : ℕ) (hs : List ℕ) → length (flat_map (before_roles j) hs) ≡ freed_items * length hs
+pub length-before : (j : ℕ) (hs : List ℕ) → length (flat_map (before_roles j) hs) ≡ freed_items * length hs
 length-before j [] = refl
 length-before j (h ∷ hs) = let rest = length-before j hs in omega (arith, rest)
 
-length-after : (j : ℕ) (hs : List ℕ) → length (flat_map (after_roles j) hs) ≡ top_stored_items * length hs
+pub length-after : (j : ℕ) (hs : List ℕ) → length (flat_map (after_roles j) hs) ≡ top_stored_items * length hs
 length-after j [] = refl
 length-after j (h ∷ hs) = let rest = length-after j hs in omega (arith, rest)
 
-length-start : (h n : ℕ) → length (flat_map start_roles (range_with_len h n)) ≡ null_stored_items * n
+pub length-start : (h n : ℕ) → length (flat_map start_roles (range_with_len h n)) ≡ null_stored_items * n
 length-start h zero = refl
 length-start h (suc n) = let rest = length-start (h + 1) n in omega (arith, rest)
 

@@ -22,7 +22,7 @@ use Rattle.fm_law_woven_flow.specs.inner.RolesOf.{kept_new, moved_by, new_roles,
 
 -- ---- the items that are kept
 
-number_inside : (free : ℕ) (old : Code) (plan : Insertions) (j : ℕ) → j < length old.items
+pub number_inside : (free : ℕ) (old : Code) (plan : Insertions) (j : ℕ) → j < length old.items
     → number_of free old plan j ≡ first_of free old plan (kept_new old plan j)
 unfolding number_of
 number_inside free old plan j inside =

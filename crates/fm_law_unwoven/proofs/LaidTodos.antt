@@ -1,0 +1,361 @@
+-- What is inserted between old items, and where these are, in code with insertions.
+use Rattle.std.proofs.Common.{◌≡◌, ℕ, zero, suc, ◌+◌, ◌*◌, ◌<◌, ◌≤◌, ◌⊎◌, inl, inr, Bool, true, false, List, [], ◌∷◌, ◌++◌, length, map, Option, Some, None, IsSomeAnd, refl, sym, ap, subst, ◌∙◌, arith, append_assoc, length-append, if◌then◌else◌}
+use Rattle.std.specs.Prelude.{nat_lt, slice_get, slice_index}
+use Rattle.std.specs.List.{AllByRecursion, flat_map, range_with_len}
+use Rattle.std.specs.Option.{option_map}
+use Rattle.std.proofs.lemmas.Bool.{cases_lt, false≢true, lt-ltb}
+use Rattle.std.proofs.lemmas.Option.{none-some, slice_get_within, slice_get-map}
+use Rattle.std.proofs.lemmas.List.{append-nil, map-append}
+use Rattle.fm_base.proofs.ListFacts.{AllByRecursion-append}
+use Rattle.fm_code.specs.Edges.{insn_of, MeetsCodeRules}
+use Rattle.fm_code.specs.SpellsCode.{with_targets}
+use Rattle.fm_code.specs.declared.code_array.Code.{Code}
+use Rattle.fm_code.specs.declared.code_array.Item.{Item}
+use Rattle.fm_code.specs.declared.instructions.Insn.{Insn}
+use Rattle.fm_code.specs.declared.instructions.Insn.TheVariants as insn
+use Rattle.fm_code.specs.declared.operations.Reg.TheVariants as reg
+use Rattle.fm_flow.proofs.CodeFacts.{items_counted}
+use Rattle.fm_layout.specs.Laid.{laid_of}
+use Rattle.fm_layout.specs.Spelling.{conditional, opposite}
+use Rattle.fm_place.proofs.FullLemmas.{some-same}
+use Rattle.fm_place.specs.Insertions.{after_at, before_at, Insertions}
+use Rattle.fm_place.specs.Woven.{anchors_of, count_at, freed_items, local_of, null_stored_items, top_stored_items, woven, woven_code, woven_marks}
+use Rattle.fm_law_woven_flow.proofs.Caught.{anchor_inside, first_le, goes_le}
+use Rattle.fm_law_woven_flow.proofs.LaidItems.{first_of, goes_to, is_split_of, item_total, laid_insn, lays, split_insn, SplitAt, whole_insn}
+use Rattle.fm_law_woven_flow.proofs.LaidRoles.{width}
+use Rattle.fm_law_woven_flow.proofs.NewItems.{HasWhole, new_count}
+use Rattle.fm_law_woven_flow.proofs.RoleLists.{first_anchor, get_behind, kept_role, length-after, length-before, length-start, next_anchor, Part, part_of}
+use Rattle.fm_law_woven_flow.proofs.Standing.{code_stands, number_inside}
+use Rattle.fm_law_woven_flow.specs.Roles.{CanStand, DupAfter, FreeBefore, JumpOf, Keep, LoadBefore, NullBefore, Role, StandsFor, StartNull, StartStore, StoreAfter, StoreBefore}
+use Rattle.fm_law_woven_flow.specs.inner.RolesOf.{after_roles, before_roles, kept_new, moved_by, new_roles, number_of, roles_from, roles_of, start_roles}
+use Rattle.fm_law_unwoven.proofs.RoleMarks.{mark_of, marks_are}
+use Rattle.fm_law_unwoven.specs.Laid.{all_insns_to, CodesAreLaid, frees_at, insns_to, IsKept, IsLaid, IsSplit, IsWhole, keeps_at, LieInserted, mark_at, moved_to, starts_of, Todo, ToFree, ToKeep, ToStart}
+
+-- ---- runs of inserted items
+
+-- one run after another
+lies-append : (new : Code) (marks : List (Option ℕ)) (n middle next : ℕ) (insns others : List Insn) → LieInserted new marks n insns middle
+    → LieInserted new marks middle others next → LieInserted new marks n (insns ++ others) next
+lies-append new marks n middle next [] others here there = subst (λ m. LieInserted new marks m others next) (sym here) there
+lies-append new marks n middle next (i ∷ insns) others here there = (here.0, here.1, lies-append new marks (n + 1) middle next insns others here.2 there)
+
+-- a role of something inserted, and its instruction
+abbrev IsInserted : Role → Type 0
+IsInserted (Keep j) = ⊥
+IsInserted (JumpOf j) = ⊥
+IsInserted r = Unit {0}
+
+abbrev role_insn : (free : ℕ) → Code → Role → Insn
+role_insn free old (StartNull h) = insn.Null
+role_insn free old (StartStore h) = insn.Store reg.Ref (local_of old h)
+role_insn free old (LoadBefore j h) = insn.Load reg.Ref (local_of old h)
+role_insn free old (FreeBefore j h) = insn.Static free
+role_insn free old (NullBefore j h) = insn.Null
+role_insn free old (StoreBefore j h) = insn.Store reg.Ref (local_of old h)
+role_insn free old (Keep j) = insn.Nop
+role_insn free old (JumpOf j) = insn.Nop
+role_insn free old (DupAfter j h) = insn.Dup
+role_insn free old (StoreAfter j h) = insn.Store reg.Ref (local_of old h)
+
+has_insn : (free : ℕ) (old : Code) (goes : ℕ → ℕ) (r : Role) (i : Insn) → IsInserted r → HasWhole free old goes r i → i ≡ role_insn free old r
+has_insn free old goes (StartNull h) i inserted whole = whole
+has_insn free old goes (StartStore h) i inserted whole = whole
+has_insn free old goes (LoadBefore j h) i inserted whole = whole
+has_insn free old goes (FreeBefore j h) i inserted whole = whole
+has_insn free old goes (NullBefore j h) i inserted whole = whole
+has_insn free old goes (StoreBefore j h) i inserted whole = whole
+has_insn free old goes (Keep j) i inserted whole = absurd inserted
+has_insn free old goes (JumpOf j) i inserted whole = absurd inserted
+has_insn free old goes (DupAfter j h) i inserted whole = whole
+has_insn free old goes (StoreAfter j h) i inserted whole = whole
+
+no_mark : (r : Role) → IsInserted r → mark_of r ≡ None
+no_mark (StartNull h) inserted = refl
+no_mark (StartStore h) inserted = refl
+no_mark (LoadBefore j h) inserted = refl
+no_mark (FreeBefore j h) inserted = refl
+no_mark (NullBefore j h) inserted = refl
+no_mark (StoreBefore j h) inserted = refl
+no_mark (Keep j) inserted = absurd inserted
+no_mark (JumpOf j) inserted = absurd inserted
+no_mark (DupAfter j h) inserted = refl
+no_mark (StoreAfter j h) inserted = refl
+
+some_is : (o : Option Insn) (x : Insn) → IsSomeAnd o (λ i. i ≡ x) → o ≡ Some x
+some_is None x found = absurd found
+some_is (Some i) x found = ap Some found
+
+weaken : (P Q : Insn → Type 0) → ((i : Insn) → P i → Q i) → (o : Option Insn) → IsSomeAnd o P → IsSomeAnd o Q
+weaken P Q each None found = absurd found
+weaken P Q each (Some i) found = each i found
+
+-- the mark of a role
+join_mark : (o : Option Role) (r : Role) → o ≡ Some r → option_map mark_of o ≡ Some (mark_of r)
+join_mark o r is = ap (option_map mark_of) is
+
+module _ (free : ℕ) (old : Code) (plan : Insertions) where
+  abbrev new : Code
+  new = woven_code free old plan
+
+  abbrev marks : List (Option ℕ)
+  marks = woven_marks free old plan
+
+  abbrev roles : List Role
+  roles = new_roles old plan
+
+  abbrev first : ℕ → ℕ
+  first k = first_of free old plan k
+
+  abbrev anchor : ℕ → ℕ
+  anchor t = slice_index (anchors_of plan old.items) t
+
+  abbrev joined : Option (Option ℕ) → Option ℕ
+  joined None = None
+  joined (Some o) = o
+
+  -- the mark of an item by its role
+  mark_by : (n : ℕ) (r : Role) → slice_get (roles_of free old plan) n ≡ Some r → mark_at marks n ≡ mark_of r
+  mark_by n r found =
+      ap (λ xs. mark_at xs n) (marks_are free old plan)
+      ∙ ap joined (slice_get-map mark_of (roles_of free old plan) n ∙ join_mark (slice_get (roles_of free old plan) n) r found)
+
+  -- an inserted item isn't split
+  not_split : (k : ℕ) (r : Role) → slice_get roles k ≡ Some r → IsInserted r → (b : Bool) → is_split_of free old plan k ≡ b → b ≡ false
+  not_split k r found inserted false is = refl
+  not_split k r found inserted true is = absurd (subst IsInserted (split_insn free old plan k r found is).is inserted)
+
+  step_whole : (k : ℕ) (r : Role) → slice_get roles k ≡ Some r → is_split_of free old plan k ≡ false → first (suc k) ≡ first k + 1
+  step_whole k r found way =
+      (lays free old plan).step k (slice_get_within roles k r found) ∙ ap (λ b. first k + width b) way
+
+  -- inserted roles that follow one another are inserted items that do
+  run : (run_roles front back : List Role) (k next : ℕ) → roles ≡ front ++ (run_roles ++ back) → length front ≡ k → k + length run_roles ≡ next
+      → AllByRecursion IsInserted run_roles → LieInserted new marks (first k) (map (role_insn free old) run_roles) (first next)
+  run [] front back k next is at ends all = let same : k ≡ next = omega arith in ap first same
+  run (r ∷ rest) front back k next is at ends all =
+      let size = length-append front (r ∷ []) in
+      let place : k ≡ length front + 0 = omega arith in
+      let there : slice_get roles k ≡ Some r = (λ i. slice_get (is i) (place i)) ∙ get_behind front (r ∷ (rest ++ back)) 0 in
+      let way = not_split k r there all.0 (is_split_of free old plan k) refl in
+      let step = step_whole k r there way in
+      let insn = some_is (laid_insn free old plan (first k)) (role_insn free old r)
+      (weaken (HasWhole free old (goes_to free old plan) r) (λ i. i ≡ role_insn free old r) (λ i whole. has_insn free old (goes_to free old plan) r i all.0 whole)
+      (laid_insn free old plan (first k)) (whole_insn free old plan k r there way)) in
+      let mark = mark_by (first k) r ((lays free old plan).first k r there) ∙ no_mark r all.0 in
+      let later = run rest (front ++ (r ∷ [])) back (suc k) next (is ∙ sym (append_assoc front (r ∷ []) (rest ++ back))) (omega arith) (omega arith) all.1 in
+      (insn, mark, subst (λ n. LieInserted new marks n (map (role_insn free old) rest) (first next)) step later)
+
+  -- ---- the runs that there are
+
+  frees_inserted : (j : ℕ) (hs : List ℕ) → AllByRecursion IsInserted (flat_map (before_roles j) hs)
+  frees_inserted j [] = tt
+  frees_inserted j (h ∷ hs) = (tt, (tt, (tt, (tt, frees_inserted j hs))))
+
+  keeps_inserted : (j : ℕ) (hs : List ℕ) → AllByRecursion IsInserted (flat_map (after_roles j) hs)
+  keeps_inserted j [] = tt
+  keeps_inserted j (h ∷ hs) = (tt, (tt, keeps_inserted j hs))
+
+  starts_inserted : (hs : List ℕ) → AllByRecursion IsInserted (flat_map start_roles hs)
+  starts_inserted [] = tt
+  starts_inserted (h ∷ hs) = (tt, (tt, starts_inserted hs))
+
+  frees_are : (j : ℕ) (hs : List ℕ) → map (role_insn free old) (flat_map (before_roles j) hs) ≡ all_insns_to free old (map ToFree hs)
+  frees_are j [] = refl
+  frees_are j (h ∷ hs) =
+      ap (λ xs. insn.Load reg.Ref (local_of old h) ∷ insn.Static free ∷ insn.Null ∷ insn.Store reg.Ref (local_of old h) ∷ xs) (frees_are j hs)
+
+  keeps_are : (j : ℕ) (hs : List ℕ) → map (role_insn free old) (flat_map (after_roles j) hs) ≡ all_insns_to free old (map ToKeep hs)
+  keeps_are j [] = refl
+  keeps_are j (h ∷ hs) = ap (λ xs. insn.Dup ∷ insn.Store reg.Ref (local_of old h) ∷ xs) (keeps_are j hs)
+
+  starts_are : (hs : List ℕ) → map (role_insn free old) (flat_map start_roles hs) ≡ all_insns_to free old (map ToStart hs)
+  starts_are [] = refl
+  starts_are (h ∷ hs) = ap (λ xs. insn.Null ∷ insn.Store reg.Ref (local_of old h) ∷ xs) (starts_are hs)
+
+  both_are : (one two : List Todo) → all_insns_to free old (one ++ two) ≡ all_insns_to free old one ++ all_insns_to free old two
+  both_are [] two = refl
+  both_are (t ∷ one) two =
+      ap (λ xs. insns_to free old t ++ xs) (both_are one two) ∙ sym (append_assoc (insns_to free old t) (all_insns_to free old one) (all_insns_to free old two))
+
+  before_kept : (j : ℕ) → j < length old.items → LieInserted new marks (goes_to free old plan j) (all_insns_to free old (frees_at plan j)) (first (kept_new old plan j))
+  before_kept j inside =
+      let part = part_of old plan j inside in
+      let size = length-before j (before_at plan j) in
+      subst (λ xs. LieInserted new marks (goes_to free old plan j) xs (first (kept_new old plan j))) (frees_are j (before_at plan j))
+      (run (flat_map (before_roles j) (before_at plan j)) part.front (Keep j ∷ (flat_map (after_roles j) (after_at plan j) ++ part.back)) (anchor j) (kept_new old plan j)
+      part.is part.at (omega (arith, size)) (frees_inserted j (before_at plan j)))
+
+  behind_kept : (j : ℕ) → j < length old.items
+      → LieInserted new marks (first (suc (kept_new old plan j))) (all_insns_to free old (keeps_at plan j)) (goes_to free old plan (suc j))
+  behind_kept j inside =
+      let part = part_of old plan j inside in
+      let before = flat_map (before_roles j) (before_at plan j) in
+      let after = flat_map (after_roles j) (after_at plan j) in
+      let size = length-before j (before_at plan j) in
+      let after_size = length-after j (after_at plan j) in
+      let at = part.at in
+      let next = part.next in
+      let first_two = length-append part.front before in
+      let all = length-append (part.front ++ before) (Keep j ∷ []) in
+      let is : roles ≡ ((part.front ++ before) ++ (Keep j ∷ [])) ++ (after ++ part.back) =
+      part.is ∙ sym (append_assoc part.front before (Keep j ∷ (after ++ part.back)))
+      ∙ sym (append_assoc (part.front ++ before) (Keep j ∷ []) (after ++ part.back)) in
+      subst (λ xs. LieInserted new marks (first (suc (kept_new old plan j))) xs (goes_to free old plan (suc j))) (keeps_are j (after_at plan j))
+      (run after ((part.front ++ before) ++ (Keep j ∷ [])) part.back (suc (kept_new old plan j)) (anchor (suc j)) is
+      (omega (arith, all, first_two, size, at)) (omega (arith, after_size, next)) (keeps_inserted j (after_at plan j)))
+
+  at_start : LieInserted new marks 0 (all_insns_to free old (starts_of plan)) (goes_to free old plan 0)
+  at_start =
+      let holders = range_with_len 0 (length plan.holders) in
+      let size = length-start 0 (length plan.holders) in
+      let anchor_is = first_anchor old plan in
+      subst (λ n. LieInserted new marks n (all_insns_to free old (starts_of plan)) (goes_to free old plan 0)) (lays free old plan).begin
+      (subst (λ xs. LieInserted new marks (first 0) xs (goes_to free old plan 0)) (starts_are holders)
+      (run (flat_map start_roles holders) [] (roles_from plan 0 old.items) 0 (anchor 0) refl refl (omega (arith, size, anchor_is)) (starts_inserted holders)))
+
+  -- ---- old items
+
+  kept_below : (j : ℕ) → j < length old.items → kept_new old plan j < length roles
+  kept_below j inside = slice_get_within roles (kept_new old plan j) (Keep j) (kept_role old plan j inside)
+
+  -- the entry, the item and the next entry rise
+  kept_between : (j : ℕ) → j < length old.items → (goes_to free old plan j ≤ first (kept_new old plan j)) × (first (kept_new old plan j) < goes_to free old plan (suc j))
+  kept_between j inside =
+      let next = next_anchor old plan j inside in
+      let below = kept_below j inside in
+      let all = anchor_inside old plan (suc j) (omega arith) in
+      (
+        first_le free old plan (anchor j) (kept_new old plan j) (omega arith) (omega arith),
+        (lays free old plan).rise (kept_new old plan j) (anchor (suc j)) (omega (arith, next)) all,
+      )
+
+  covered : (t j : ℕ) → t ≤ length old.items → j < length old.items
+      → (goes_to free old plan t ≤ first (kept_new old plan j) → t ≤ j) × (t ≤ j → goes_to free old plan t ≤ first (kept_new old plan j))
+  covered t j within inside = (down, up) where
+    sides : (goes_to free old plan j ≤ first (kept_new old plan j)) × (first (kept_new old plan j) < goes_to free old plan (suc j))
+    sides = kept_between j inside
+
+    down : goes_to free old plan t ≤ first (kept_new old plan j) → t ≤ j
+    down low = by_place (cases_lt j t) where
+      by_place : (j < t) ⊎ (t ≤ j) → t ≤ j
+      by_place (inl past) = let up = goes_le free old plan (suc j) t (omega arith) within in let high = sides.1 in absurd (omega arith)
+      by_place (inr le) = le
+
+    up : t ≤ j → goes_to free old plan t ≤ first (kept_new old plan j)
+    up le = let below = goes_le free old plan t j le (omega arith) in let low = sides.0 in omega arith
+
+  keep_is : (i j : ℕ) → Keep i ≡ Keep j → i ≡ j
+  keep_is i j same = some-same (ap mark_of same)
+
+  insn_is : (j : ℕ) (i : Insn) (goes : ℕ → ℕ) (o : Option Insn) (x : Insn) → o ≡ Some x → IsSomeAnd o (λ was. i ≡ with_targets goes was) → i ≡ with_targets goes x
+  insn_is j i goes None x is whole = absurd whole
+  insn_is j i goes (Some was) x is whole = whole ∙ ap (with_targets goes) (some-same is)
+
+  kept_as : (j : ℕ) (i : Insn) → j < length old.items → insn_of old j ≡ Some i → (b : Bool) → is_split_of free old plan (kept_new old plan j) ≡ b
+      → IsKept old new marks (goes_to free old plan) j i (first (kept_new old plan j)) (first (suc (kept_new old plan j)))
+  kept_as j i inside found false way =
+      let k = kept_new old plan j in
+      let role = kept_role old plan j inside in
+      let whole = whole_insn free old plan k (Keep j) role way in
+      IsWhole
+      (some_is (laid_insn free old plan (first k)) (with_targets (goes_to free old plan) i)
+      (weaken (HasWhole free old (goes_to free old plan) (Keep j)) (λ x. x ≡ with_targets (goes_to free old plan) i)
+      (λ x has. insn_is j x (goes_to free old plan) (insn_of old j) i found has) (laid_insn free old plan (first k)) whole))
+      (step_whole k (Keep j) role way)
+  kept_as j i inside found true way =
+      let k = kept_new old plan j in
+      let role = kept_role old plan j inside in
+      let split = split_insn free old plan k (Keep j) role way in
+      let item_is : split.item ≡ j = sym (keep_is j split.item split.is) in
+      let step : first (suc k) ≡ first k + 2 = (lays free old plan).step k (kept_below j inside) ∙ ap (λ b. first k + width b) way in
+      IsSplit split.condition split.target split.other
+      (some-same (sym found ∙ ap (λ n. insn_of old n) (sym item_is) ∙ split.branch))
+      split.test
+      (λ more. other_is j k more split.other split.other_is step (let below = kept_below (j + 1) more in let rise = later j more in omega arith))
+      split.jump
+      (mark_by (first k + 1) (JumpOf j) ((lays free old plan).second k (Keep j) way role))
+      step where
+        later : (j : ℕ) → j + 1 < length old.items → kept_new old plan j < kept_new old plan (j + 1)
+        later j more =
+            let next = next_anchor old plan j (omega arith) in
+            let same : anchor (suc j) ≡ anchor (j + 1) = let one : suc j ≡ j + 1 = omega arith in ap anchor one in
+            omega (arith, next, same)
+
+        other_is : (j k : ℕ) → j + 1 < length old.items → (other : ℕ) → other ≡ (if nat_lt (k + 1) (length (woven free old plan)) then first k + 2 else first k + 1)
+            → first (suc k) ≡ first k + 2 → k + 1 < length roles → other ≡ first (suc k)
+        other_is j k more other is step below =
+            let count = new_count free old plan in
+            let less : nat_lt (k + 1) (length (woven free old plan)) ≡ true = lt-ltb (k + 1) (length (woven free old plan)) (omega (arith, count)) in
+            is ∙ ap (λ b. if b then first k + 2 else first k + 1) less ∙ sym step
+
+  insn_inside : (j : ℕ) (i : Insn) → insn_of old j ≡ Some i → j < length old.items
+  insn_inside j i found = by_item (slice_get old.items j) refl found where
+    by_item : (o : Option Item) → slice_get old.items j ≡ o → option_map (λ (x : Item). x.insn) o ≡ Some i → j < length old.items
+    by_item None is none = absurd (none-some i none)
+    by_item (Some x) is some = slice_get_within old.items j x is
+
+  marked : (j : ℕ) → j < length old.items → mark_at marks (first (kept_new old plan j)) ≡ Some j
+  marked j inside = mark_by (first (kept_new old plan j)) (Keep j) ((lays free old plan).first (kept_new old plan j) (Keep j) (kept_role old plan j inside))
+
+  -- an item with a mark keeps an old one
+  kept_by : (r : Role) (j : ℕ) → mark_of r ≡ Some j → r ≡ Keep j
+  kept_by (Keep i) j is = ap Keep (some-same is)
+  kept_by (StartNull h) j is = absurd (none-some j is)
+  kept_by (StartStore h) j is = absurd (none-some j is)
+  kept_by (LoadBefore i h) j is = absurd (none-some j is)
+  kept_by (FreeBefore i h) j is = absurd (none-some j is)
+  kept_by (NullBefore i h) j is = absurd (none-some j is)
+  kept_by (StoreBefore i h) j is = absurd (none-some j is)
+  kept_by (JumpOf i) j is = absurd (none-some j is)
+  kept_by (DupAfter i h) j is = absurd (none-some j is)
+  kept_by (StoreAfter i h) j is = absurd (none-some j is)
+
+  once : MeetsCodeRules old → CanStand old plan → (n j : ℕ) → mark_at marks n ≡ Some j → (j < length old.items) × (n ≡ first (kept_new old plan j))
+  once rules can n j is = by_role (slice_get (roles_of free old plan) n) refl where
+    stands : StandsFor free old plan (woven_code free old plan) (roles_of free old plan) (number_of free old plan) (moved_by free old plan)
+    stands = code_stands free old plan rules can
+
+    inside_by : n < item_total free old plan → n ≡ number_of free old plan j → (j < length old.items) ⊎ (length old.items ≤ j) → j < length old.items
+    inside_by below number (inl less) = less
+    inside_by below number (inr past) = let high = stands.beyond j past in absurd (omega arith)
+
+    by_role : (o : Option Role) → slice_get (roles_of free old plan) n ≡ o → (j < length old.items) × (n ≡ first (kept_new old plan j))
+    by_role None none =
+        absurd (none-some j
+        (sym (ap (λ xs. mark_at xs n) (marks_are free old plan) ∙ ap joined (slice_get-map mark_of (roles_of free old plan) n ∙ ap (option_map mark_of) none)) ∙ is))
+    by_role (Some r) found =
+        let role = kept_by r j (sym (mark_by n r found) ∙ is) in
+        let number = stands.kept_once n j (found ∙ ap Some role) in
+        let within = slice_get_within (roles_of free old plan) n r found in
+        let each = stands.one_each in
+        let inside = inside_by (omega (arith, each)) number (cases_lt j (length old.items)) in
+        (inside, number ∙ number_inside free old plan j inside)
+
+  -- ---- together
+
+  pub laid : MeetsCodeRules old → CanStand old plan → IsLaid free old plan new marks
+  laid rules can = record {
+    numbers = λ j. first (kept_new old plan j);
+    entries = goes_to free old plan;
+    behind = λ j. first (suc (kept_new old plan j));
+    start =
+        subst (λ xs. LieInserted new marks 0 xs (first (kept_new old plan 0))) (sym (both_are (starts_of plan) (frees_at plan 0)))
+        (lies-append new marks 0 (goes_to free old plan 0) (first (kept_new old plan 0)) (all_insns_to free old (starts_of plan)) (all_insns_to free old (frees_at plan 0))
+        at_start (before_kept 0 (items_counted old rules).0));
+    entered = before_kept;
+    left = λ j more.
+        let next : suc j ≡ j + 1 = omega arith in
+        subst (λ xs. LieInserted new marks (first (suc (kept_new old plan j))) xs (first (kept_new old plan (j + 1)))) (sym (both_are (keeps_at plan j) (frees_at plan (j + 1))))
+        (lies-append new marks (first (suc (kept_new old plan j))) (goes_to free old plan (j + 1)) (first (kept_new old plan (j + 1)))
+        (all_insns_to free old (keeps_at plan j)) (all_insns_to free old (frees_at plan (j + 1)))
+        (subst (λ t. LieInserted new marks (first (suc (kept_new old plan j))) (all_insns_to free old (keeps_at plan j)) (goes_to free old plan t)) next (behind_kept j (omega arith)))
+        (before_kept (j + 1) more));
+    kept = λ j i found. kept_as j i (insn_inside j i found) found (is_split_of free old plan (kept_new old plan j)) refl;
+    marked = marked;
+    once = once rules can;
+    handlers = refl;
+    covered = covered;
+  }
+
+pub codes_laid : CodesAreLaid
+codes_laid free old plan rules can = laid free old plan rules can

@@ -1,0 +1,227 @@
+-- What is inserted is done, one thing after the other.
+use Rattle.std.proofs.Common.{◌≡◌, ℕ, zero, suc, ◌+◌, ◌<◌, List, [], ◌∷◌, ◌++◌, length, Option, Some, None, option_and_then, is_some, refl, sym, ap, subst, ◌∙◌, arith}
+use Rattle.std.specs.Prelude.{false, slice_get, slice_set}
+use Rattle.std.specs.List.{slice_index_or}
+use Rattle.fm_code.specs.Edges.{insn_of}
+use Rattle.fm_code.specs.declared.code_array.Code.{Code}
+use Rattle.fm_code.specs.declared.instructions.Insn.{Insn}
+use Rattle.fm_code.specs.declared.instructions.Insn.TheVariants as insn
+use Rattle.fm_code.specs.declared.operations.Reg.TheVariants as reg
+use Rattle.fm_conn.specs.Facts.{Facts}
+use Rattle.fm_frames.specs.Acts.{cell_of, Choose}
+use Rattle.fm_frames.specs.States.{Areas, Frame, Moved, null, State, word_at}
+use Rattle.fm_frames.specs.Steps.{next_insn, offset_at, step}
+use Rattle.fm_frames.specs.declared.values.Value.{Value}
+use Rattle.fm_law_same_runs.specs.Beside.{IsAtInserted, Marks}
+use Rattle.fm_law_sound.specs.Sound.{IsReference}
+use Rattle.fm_law_unwoven.proofs.InsertedSteps.{counted, dup_step, free_held, free_lost, free_null, goes_to, load_step, null_step, seen, Seen, SeenGone, SeenNull, SeenThing, store_step}
+use Rattle.fm_law_unwoven.specs.Doing.{all_areas_after, all_locals_after, all_steps_to, AllDone, areas_after, freed_from, IsDone, IsLost, IsPassed, locals_after, MayDo, MayDoAll, OneLost, state_after, steps_to, TodosAreDone, with_frame}
+use Rattle.fm_law_unwoven.specs.Laid.{all_insns_to, LieInserted, mark_at, Todo, ToFree, ToKeep, ToStart}
+use Rattle.fm_law_unwoven.specs.WovenFrom.{CallsFree, IsWoven}
+use Rattle.fm_place.specs.Insertions.{Insertions}
+use Rattle.fm_place.specs.Woven.{local_of, woven_code}
+use Rattle.fm_types.specs.Typed.{use_in}
+use Rattle.fm_world.specs.Programs.{code_at, Program}
+
+-- ---- steps one after the other
+
+pub passed-append : (q : Program) (marks : Marks) (choose : Choose) (a b n : ℕ) (x y z : State) → n ≡ a + b → IsPassed q marks choose a x y
+    → IsPassed q marks choose b y z → IsPassed q marks choose n x z
+passed-append q marks choose zero b n x y z count here there =
+    let same : b ≡ n = omega (arith, count) in
+    subst (λ m. IsPassed q marks choose m x z) same (subst (λ s. IsPassed q marks choose b s z) (sym here) there)
+passed-append q marks choose (suc a) b zero x y z count here there = absurd (omega (arith, count))
+passed-append q marks choose (suc a) b (suc n) x y z count here there =
+    (here.0, here.1, passed-append q marks choose a b n (step q choose x).state y z (omega (arith, count)) here.2 there)
+
+-- one step, at an item without a mark
+one_passed : (q : Program) (marks : Marks) (choose : Choose) (y : State) (f : Frame) (callers : List Frame) (next : State) (n : ℕ) (z : State)
+    → mark_at (slice_index_or marks f.method []) f.item ≡ None → step q choose (with_frame y f callers) ≡ record { state = next; printed = [] }
+    → IsPassed q marks choose n next z → IsPassed q marks choose (suc n) (with_frame y f callers) z
+one_passed q marks choose y f callers next n z mark is rest = (
+  record { goes_on = refl; inserted = ap is_some mark },
+  ap (λ (m : Moved). m.printed) is,
+  subst (λ s. IsPassed q marks choose n s z) (sym (ap (λ (m : Moved). m.state) is)) rest,
+)
+
+-- one more for each step
+abbrev behind : ℕ → Todo → ℕ
+behind n (ToStart h) = n + 1 + 1
+behind n (ToKeep h) = n + 1 + 1
+behind n (ToFree h) = n + 1 + 1 + 1 + 1
+
+behind_is : (n : ℕ) (t : Todo) → behind n t ≡ n + steps_to t
+behind_is n (ToStart h) = omega arith
+behind_is n (ToKeep h) = omega arith
+behind_is n (ToFree h) = omega arith
+
+module _ (p q : Program) (facts : Facts) (marks : Marks) (choose : Choose) (method : ℕ) (old : Code) (plan : Insertions) (w : IsWoven p q facts marks method old plan)
+    (callers : List Frame) where
+  abbrev new : Code
+  new = woven_code w.free old plan
+
+  abbrev own : List (Option ℕ)
+  own = slice_index_or marks method []
+
+  abbrev Done : State → Frame → List Todo → ℕ → Type 0
+  Done y f todos next = IsDone q marks choose old y f callers todos next
+
+  abbrev Passed : ℕ → State → State → Type 0
+  Passed n y z = IsPassed q marks choose n y z
+
+  -- the method's frame at an item, with these locals and this stack
+  abbrev at : ℕ → List Value → List Value → Frame
+  at item locals stack = record { method = method; item = item; locals = locals; stack = stack }
+
+  insn_at : (item : ℕ) (locals stack : List Value) (i : Insn) → insn_of new item ≡ Some i → next_insn q (at item locals stack) ≡ Some i
+  insn_at item locals stack i is = ap (option_and_then (λ (code : Code). insn_of code item)) w.code_is ∙ is
+
+  -- the state after one thing is done
+  abbrev onwards : State → List Value → Todo → State
+  onwards y locals t = record y { areas = areas_after old locals t y.areas; steps = behind y.steps t }
+
+  abbrev frame_after : ℕ → List Value → List Value → Todo → Frame
+  frame_after item locals stack t = at (behind item t) (locals_after old stack t locals) stack
+
+  -- one thing, and then all others
+  join : (y : State) (item : ℕ) (locals stack : List Value) (t : Todo) (todos : List Todo) (next : ℕ)
+      → Passed (steps_to t) (with_frame y (at item locals stack) callers) (with_frame (onwards y locals t) (frame_after item locals stack t) callers)
+      → Done (onwards y locals t) (frame_after item locals stack t) todos next → Done y (at item locals stack) (t ∷ todos) next
+  join y item locals stack t todos next passed (AllDone all) =
+      let one = behind_is y.steps t in
+      let count : behind y.steps t + all_steps_to todos ≡ y.steps + (steps_to t + all_steps_to todos) = omega (arith, one) in
+      let there = state_after old (onwards y locals t) (frame_after item locals stack t) callers todos next in
+      AllDone
+      (passed-append q marks choose (steps_to t) (all_steps_to todos) (all_steps_to (t ∷ todos)) (with_frame y (at item locals stack) callers)
+      (with_frame (onwards y locals t) (frame_after item locals stack t) callers) (state_after old y (at item locals stack) callers (t ∷ todos) next) refl passed
+      (subst (λ s. Passed (all_steps_to todos) (with_frame (onwards y locals t) (frame_after item locals stack t) callers) s)
+      (ap (λ n. record there { steps = n }) count) all))
+  join y item locals stack t todos next passed (OneLost count m offset cell z lost few steps inserted ended printed) =
+      OneLost (steps_to t + count) m offset cell z
+      (record {
+        before = t ∷ lost.before;
+        holder = lost.holder;
+        behind = lost.behind;
+        is = ap (λ more. t ∷ more) lost.is;
+        cell = lost.cell;
+        cell_is = lost.cell_is;
+        lost = lost.lost;
+      })
+      (omega (arith, few))
+      (passed-append q marks choose (steps_to t) count (steps_to t + count) (with_frame y (at item locals stack) callers)
+      (with_frame (onwards y locals t) (frame_after item locals stack t) callers) z refl passed steps)
+      inserted ended printed
+
+  -- ---- each thing
+
+  abbrev LiesTwo : ℕ → Insn → Insn → Type 0
+  LiesTwo item one two = (insn_of new item ≡ Some one) × (mark_at own item ≡ None) × (insn_of new (item + 1) ≡ Some two) × (mark_at own (item + 1) ≡ None)
+
+  -- two steps, the second of which stores what the first one puts on top
+  start_passed : (y : State) (item : ℕ) (locals stack : List Value) (h : ℕ) → LiesTwo item insn.Null (insn.Store reg.Ref (local_of old h))
+      → Passed 2 (with_frame y (at item locals stack) callers)
+      (with_frame (onwards y locals (ToStart h)) (frame_after item locals stack (ToStart h)) callers)
+  start_passed y item locals stack h lies =
+      let k = local_of old h in
+      let last = with_frame (counted q choose (counted q choose y)) (at (item + 1 + 1) (slice_set locals k null) stack) callers in
+      one_passed q marks choose y (at item locals stack) callers (with_frame (counted q choose y) (at (item + 1) locals (null ∷ stack)) callers) 1
+      last lies.1 (null_step q choose y (at item locals stack) callers (insn_at item locals stack insn.Null lies.0))
+      (one_passed q marks choose (counted q choose y) (at (item + 1) locals (null ∷ stack)) callers last 0 last lies.3
+      (store_step q choose (counted q choose y) (at (item + 1) locals stack) callers k null stack (insn_at (item + 1) locals stack (insn.Store reg.Ref k) lies.2)) refl)
+
+  -- the same of what is on top
+  keep_passed : (y : State) (item : ℕ) (locals : List Value) (v : Value) (rest : List Value) (h : ℕ) → LiesTwo item insn.Dup (insn.Store reg.Ref (local_of old h))
+      → Passed 2 (with_frame y (at item locals (v ∷ rest)) callers)
+      (with_frame (onwards y locals (ToKeep h)) (frame_after item locals (v ∷ rest) (ToKeep h)) callers)
+  keep_passed y item locals v rest h lies =
+      let k = local_of old h in
+      let last = with_frame (counted q choose (counted q choose y)) (at (item + 1 + 1) (slice_set locals k v) (v ∷ rest)) callers in
+      one_passed q marks choose y (at item locals (v ∷ rest)) callers (with_frame (counted q choose y) (at (item + 1) locals (v ∷ v ∷ rest)) callers) 1
+      last lies.1 (dup_step q choose y (at item locals rest) callers v rest (insn_at item locals rest insn.Dup lies.0))
+      (one_passed q marks choose (counted q choose y) (at (item + 1) locals (v ∷ v ∷ rest)) callers last 0 last lies.3
+      (store_step q choose (counted q choose y) (at (item + 1) locals (v ∷ rest)) callers k v (v ∷ rest)
+      (insn_at (item + 1) locals (v ∷ rest) (insn.Store reg.Ref k) lies.2)) refl)
+
+  -- what is inserted to free a holder
+  module _ (y : State) (item : ℕ) (locals stack : List Value) (h : ℕ) (todos : List Todo) (next : ℕ)
+      (reference : IsReference (word_at locals (local_of old h)))
+      (lies : LieInserted new own item (all_insns_to w.free old (ToFree h ∷ todos)) next) where
+    abbrev k : ℕ
+    k = local_of old h
+
+    abbrev v : Value
+    v = word_at locals k
+
+    abbrev loaded : State
+    loaded = with_frame (counted q choose y) (at (item + 1) locals (v ∷ stack)) callers
+
+    load_is : step q choose (with_frame y (at item locals stack) callers) ≡ record { state = loaded; printed = [] }
+    load_is = load_step q choose y (at item locals stack) callers k (insn_at item locals stack (insn.Load reg.Ref k) lies.0)
+
+    free_there : next_insn q (at (item + 1) locals stack) ≡ Some (insn.Static w.free)
+    free_there = insn_at (item + 1) locals stack (insn.Static w.free) lies.2.0
+
+    calls : CallsFree q.outline (use_in q method w.free)
+    calls = w.frees (item + 1) lies.2.0
+
+    -- after the call the holder becomes null
+    rest_passed : (areas : Areas) → freed_from y.areas (cell_of v) ≡ areas
+        → step q choose loaded
+        ≡ goes_to q choose (record y { areas = areas; steps = y.steps + 1 + 1 }) (at (item + 1 + 1) locals stack) callers
+        → Passed 4 (with_frame y (at item locals stack) callers)
+        (with_frame (onwards y locals (ToFree h)) (frame_after item locals stack (ToFree h)) callers)
+    rest_passed areas freed is =
+        let z : State = record y { areas = areas; steps = y.steps + 1 + 1 } in
+        let nulled = with_frame (counted q choose z) (at (item + 1 + 1 + 1) locals (null ∷ stack)) callers in
+        let last = with_frame (counted q choose (counted q choose z)) (at (item + 1 + 1 + 1 + 1) (slice_set locals k null) stack) callers in
+        subst (λ (a : Areas). Passed 4 (with_frame y (at item locals stack) callers)
+        (with_frame (record y { areas = a; steps = y.steps + 1 + 1 + 1 + 1 }) (frame_after item locals stack (ToFree h)) callers)) (sym freed)
+        (one_passed q marks choose y (at item locals stack) callers loaded 3 last lies.1 load_is
+        (one_passed q marks choose (counted q choose y) (at (item + 1) locals (v ∷ stack)) callers (with_frame z (at (item + 1 + 1) locals stack) callers) 2 last lies.2.1 is
+        (one_passed q marks choose z (at (item + 1 + 1) locals stack) callers nulled 1 last lies.2.2.1
+        (null_step q choose z (at (item + 1 + 1) locals stack) callers (insn_at (item + 1 + 1) locals stack insn.Null lies.2.2.0))
+        (one_passed q marks choose (counted q choose z) (at (item + 1 + 1 + 1) locals (null ∷ stack)) callers last 0 last lies.2.2.2.1
+        (store_step q choose (counted q choose z) (at (item + 1 + 1 + 1) locals stack) callers k null stack
+        (insn_at (item + 1 + 1 + 1) locals stack (insn.Store reg.Ref k) lies.2.2.2.0)) refl))))
+
+    pub free_done : Done (onwards y locals (ToFree h)) (frame_after item locals stack (ToFree h)) todos next
+        → Done y (at item locals stack) (ToFree h ∷ todos) next
+    free_done later = by_sight (seen q.outline y.areas v reference) where
+      by_sight : Seen q.outline y.areas v → Done y (at item locals stack) (ToFree h ∷ todos) next
+      by_sight (SeenNull sight_is areas_are) =
+          join y item locals stack (ToFree h) todos next
+          (rest_passed y.areas areas_are
+          (free_null q choose (counted q choose y) (at (item + 1) locals stack) callers w.free v stack calls free_there sight_is)) later
+      by_sight (SeenThing it sight_is areas_are) =
+          join y item locals stack (ToFree h) todos next
+          (rest_passed _ areas_are
+          (free_held q choose (counted q choose y) (at (item + 1) locals stack) callers w.free v stack calls free_there it sight_is)) later
+      by_sight (SeenGone n cell_is lost sight_is) =
+          let fault = free_lost q choose (counted q choose y) (at (item + 1) locals stack) callers w.free v stack calls free_there sight_is in
+          OneLost 1 method (offset_at q (at (item + 1) locals stack)) (cell_of v) loaded
+          (record { before = []; holder = h; behind = todos; is = refl; cell = n; cell_is = cell_is; lost = lost })
+          (omega arith)
+          (one_passed q marks choose y (at item locals stack) callers loaded 0 loaded lies.1 load_is refl)
+          (record { goes_on = refl; inserted = ap is_some lies.2.1 }) fault.0 fault.1
+
+  -- ---- all things
+
+  pub all_done : (todos : List Todo) (next item : ℕ) (locals stack : List Value) → LieInserted new own item (all_insns_to w.free old todos) next
+      → MayDoAll old stack locals todos → (y : State) → Done y (at item locals stack) todos next
+  all_done [] next item locals stack lies may y =
+      let same : y.steps ≡ y.steps + 0 = omega arith in
+      AllDone (λ i. record y { frames = at (lies i) locals stack ∷ callers; steps = same i; ended = None })
+  all_done (ToStart h ∷ todos) next item locals stack lies may y =
+      join y item locals stack (ToStart h) todos next (start_passed y item locals stack h (lies.0, lies.1, lies.2.0, lies.2.1))
+      (all_done todos next (item + 1 + 1) (slice_set locals (local_of old h) null) stack lies.2.2 may.1 (onwards y locals (ToStart h)))
+  all_done (ToKeep h ∷ todos) next item locals [] lies may y = absurd (let some = may.0.0 in omega arith)
+  all_done (ToKeep h ∷ todos) next item locals (v ∷ rest) lies may y =
+      join y item locals (v ∷ rest) (ToKeep h) todos next (keep_passed y item locals v rest h (lies.0, lies.1, lies.2.0, lies.2.1))
+      (all_done todos next (item + 1 + 1) (slice_set locals (local_of old h) v) (v ∷ rest) lies.2.2 may.1 (onwards y locals (ToKeep h)))
+  all_done (ToFree h ∷ todos) next item locals stack lies may y =
+      free_done y item locals stack h todos next may.0.0 lies
+      (all_done todos next (item + 1 + 1 + 1 + 1) (slice_set locals (local_of old h) null) stack lies.2.2.2.2 may.1 (onwards y locals (ToFree h)))
+
+pub todos_done : TodosAreDone
+todos_done p q facts marks choose f old plan w todos next lies may y callers =
+    all_done p q facts marks choose f.method old plan w callers todos next f.item f.locals f.stack lies may y

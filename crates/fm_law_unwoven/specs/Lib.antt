@@ -1,0 +1,4 @@
+pub mod UnseenCode
+pub mod Laid
+pub mod WovenFrom
+pub mod Doing

@@ -1,0 +1,26 @@
+// Laws of the definitions, each as the contract of a function that does nothing.
+
+ghost use Rattle.fm_law_unwoven.specs.Doing.{TodosAreDone};
+ghost use Rattle.fm_law_unwoven.specs.Laid.{CodesAreLaid};
+ghost use Rattle.fm_law_unwoven.specs.UnseenCode.{LocalsAreNamed, LocalsAreUnseen, OppositesExchange, TargetsAreUnseen};
+
+/// The effect of an instruction doesn't look at where its targets lead, and uses no locals but those that
+/// the instruction names; the opposite of a branch goes where the branch doesn't.
+pub fn law_unseen_code()
+    ensures targets { TargetsAreUnseen }
+    ensures opposites { OppositesExchange }
+    ensures named { LocalsAreNamed }
+    ensures locals { LocalsAreUnseen }
+{}
+
+/// Code with insertions has the items of the old code in their order, with just what is inserted between
+/// them: each jump, handler and next item leads to what is inserted before the old item.
+pub fn law_laid_code()
+    ensures { CodesAreLaid }
+{}
+
+/// Inserted items change the locals of holders and free what these kept, step by step, and nothing else;
+/// or the run ends in a fault where that isn't held.
+pub fn law_todos()
+    ensures { TodosAreDone }
+{}

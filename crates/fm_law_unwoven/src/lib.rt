@@ -1,0 +1,6 @@
+// One program and its woven form on the same memory: what a step of the one is of the other.
+#![tactic(auto)]
+
+mod laws;
+
+pub use laws::{law_laid_code, law_todos, law_unseen_code};
