@@ -131,6 +131,39 @@ site_at facts x j is = by_state (is_some (state_at x.states j)) refl is where
 carried : (s t after other : TypeState) → s ≡ t → after ≡ other → GivesObject s after → GivesObject t other
 carried s t after other first second g = subst (GivesObject t) second (subst (λ z. GivesObject z after) first g)
 
+-- ---- holders
+
+-- a holder that is named after an item, with its site
+pub record IsHolder (facts : Facts) (t : TypedMethod) (plan : Insertions) (j h : ℕ) : Type 0 where
+  pub holder : Holder
+  pub at : slice_get plan.holders h ≡ Some holder
+  pub site_is : holder.site ≡ j
+  pub some : is_some (site_kind facts t j) ≡ true
+
+pub holder_after : (facts : Facts) (t : TypedMethod) (plan : Insertions) → AreSafe facts t plan → (j h : ℕ) → Contains (after_at plan j) h
+    → IsHolder facts t plan j h
+holder_after facts t plan safe j h there =
+    let n = numbers-found (λ (g : Holder). g.site == j) 0 plan.holders h there in
+    let number : n.place ≡ h = let is = n.number in omega (arith, is) in
+    let site_is : n.holder.site ≡ j = eqb-true n.holder.site j n.passes in
+    let one = all_at (IsSafeHolder facts t) plan.holders n.place n.holder safe.holders n.there in
+    record {
+      holder = n.holder;
+      at = ap (slice_get plan.holders) (sym number) ∙ n.there;
+      site_is = site_is;
+      some = ap (λ k. is_some (site_kind facts t k)) (sym site_is)
+          ∙ first_of (is_some (site_kind facts t n.holder.site)) (is_captured facts t (site_class facts t n.holder.site)) one.captured;
+    }
+
+-- what is inserted safely can be
+pub safe_can : (facts : Facts) (t : TypedMethod) (plan : Insertions) → AreSafe facts t plan → CanStand t.code plan
+safe_can facts t plan safe = record {
+  some = safe.some;
+  goes_on = λ j h there.
+      let site = site_at facts t j (holder_after facts t plan safe j h there).some in
+      IsSomeAnd-from_some (insn_of t.code j) (λ i. falls_through i ≡ true) site.i site.there (site-falls facts t j site.i site.kind_some);
+}
+
 -- ---- a method
 
 module _ (numbered : ClassTypesAreNumbered) (stand : CodesStand) (given : List ClassDef) (main : List ℕ) (plans : Plans) (spelled : AllByRecursion HasSpelling given)
@@ -197,36 +230,8 @@ module _ (numbered : ClassTypesAreNumbered) (stand : CodesStand) (given : List C
     abbrev states : List (Option TypeState)
     states = all_trimmed (facts.typing method)
 
-    -- ---- holders
-
-    -- a holder that is named before or after an item, with its site
-    record IsHolder (j h : ℕ) : Type 0 where
-      holder : Holder
-      at : slice_get plan.holders h ≡ Some holder
-      site_is : holder.site ≡ j
-      some : is_some (site_kind facts (typed_method (program_of given main) facts.typing method code) j) ≡ true
-
-    holder_after : (j h : ℕ) → Contains (after_at plan j) h → IsHolder j h
-    holder_after j h there =
-        let n = numbers-found (λ (g : Holder). g.site == j) 0 plan.holders h there in
-        let number : n.place ≡ h = let is = n.number in omega (arith, is) in
-        let site_is : n.holder.site ≡ j = eqb-true n.holder.site j n.passes in
-        let one = all_at (IsSafeHolder facts t) plan.holders n.place n.holder safe.holders n.there in
-        record {
-          holder = n.holder;
-          at = ap (slice_get plan.holders) (sym number) ∙ n.there;
-          site_is = site_is;
-          some = ap (λ k. is_some (site_kind facts t k)) (sym site_is)
-              ∙ first_of (is_some (site_kind facts t n.holder.site)) (is_captured facts t (site_class facts t n.holder.site)) one.captured;
-        }
-
     can : CanStand code plan
-    can = record {
-      some = safe.some;
-      goes_on = λ j h there.
-          let site = site_at facts t j (holder_after j h there).some in
-          IsSomeAnd-from_some (insn_of code j) (λ i. falls_through i ≡ true) site.i site.there (site-falls facts t j site.i site.kind_some);
-    }
+    can = safe_can facts t plan safe
 
     roles : HasRoles (free_index x.own) code plan
     roles = stand (free_index x.own) code plan rules can
@@ -260,7 +265,7 @@ module _ (numbered : ClassTypesAreNumbered) (stand : CodesStand) (given : List C
         linked.calls method (insn.Special index) m n false
         (record { code = code; code_is = code_is; item = j; insn_is = there ∙ ap Some is; use_is = used }) refl
 
-    gives : (j h : ℕ) → IsHolder j h → (s after : TypeState) → state_at (facts.typing method) j ≡ Some s
+    gives : (j h : ℕ) → IsHolder facts t plan j h → (s after : TypeState) → state_at (facts.typing method) j ≡ Some s
         → after_item (program_of given main) method code j s ≡ Some after → GivesObject s after
     gives j h holder s after at is =
         let site = site_at facts t j holder.some in
@@ -273,7 +278,7 @@ module _ (numbered : ClassTypesAreNumbered) (stand : CodesStand) (given : List C
         (no_static j i site.there) row
 
     -- the same where states are trimmed
-    gives_trimmed : (j h : ℕ) → IsHolder j h → (s after : TypeState) → state_at (all_trimmed (facts.typing method)) j ≡ Some s
+    gives_trimmed : (j h : ℕ) → IsHolder facts t plan j h → (s after : TypeState) → state_at (all_trimmed (facts.typing method)) j ≡ Some s
         → after_item (program_of given main) method code j s ≡ Some after → GivesObject s after
     gives_trimmed j h holder s after at is =
         let found = option_map-some trimmed_state (state_at (facts.typing method) j) s (sym (trimmed_at (facts.typing method) j) ∙ at) in
@@ -307,7 +312,7 @@ module _ (numbered : ClassTypesAreNumbered) (stand : CodesStand) (given : List C
     held : (j h : ℕ) (s after : TypeState) → Contains (after_at plan j) h → state_at (all_trimmed (facts.typing method)) j ≡ Some s
         → after_item (program_of given main) method code j s ≡ Some after → IsHeld w h s after
     held j h s after there at is =
-        let holder = holder_after j h there in
+        let holder = holder_after facts t plan safe j h there in
         let g = gives_trimmed j h holder s after at is in
         let row = after_item (program_of given main) method code in
         let type_is : type_of holder.holder ≡ g.type =
@@ -373,7 +378,7 @@ module _ (numbered : ClassTypesAreNumbered) (stand : CodesStand) (given : List C
       frees = frees;
       counted = length-map plan.holders type_of;
       before = before;
-      after = λ j h there. let holder = holder_after j h there in slice_get_within plan.holders h holder.holder holder.at;
+      after = λ j h there. let holder = holder_after facts t plan safe j h there in slice_get_within plan.holders h holder.holder holder.at;
       held = held;
     }
 

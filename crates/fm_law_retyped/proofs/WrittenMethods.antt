@@ -1,6 +1,6 @@
 -- A method that has code is one of a given class, and has its new code among the methods of the written class.
 use Rattle.std.proofs.Common.{◌≡◌, refl, sym, ◌∙◌, ap, ℕ, zero, suc, ◌+◌, ◌-◌, ◌<◌, ◌≤◌, ◌⊎◌, inl, inr, List, [], ◌∷◌, ◌++◌, length, map, replicate, get_or, Option, Some, None, Contains, slice_get, arith}
-use Rattle.std.specs.List.{flat_map}
+use Rattle.std.specs.List.{flat_map, range_with_len, slice_index_or}
 use Rattle.std.proofs.lemmas.Bool.{cases_lt}
 use Rattle.std.proofs.lemmas.List.{get_or-append-add, get_or-replicate, get_or_append_left, length-map, length-replicate}
 use Rattle.std.proofs.lemmas.Option.{none-some}
@@ -11,7 +11,9 @@ use Rattle.fm_code.specs.Members.{code_of}
 use Rattle.fm_code.specs.declared.class_file.ClassDef.{ClassDef}
 use Rattle.fm_code.specs.declared.class_file.Member.{Member}
 use Rattle.fm_code.specs.declared.code_array.Code.{Code}
-use Rattle.fm_place.specs.Rewriting.{first_given, free_index, Plans, rewritten, rewritten_class, rewritten_from}
+use Rattle.fm_place.specs.Insertions.{Insertions}
+use Rattle.fm_place.specs.Rewriting.{first_given, free_index, marks_from, marks_of_methods, marks_with, Plans, rewritten, rewritten_class, rewritten_from}
+use Rattle.fm_place.specs.Woven.{woven_marks}
 use Rattle.fm_law_linked.proofs.Rows.{all_methods}
 use Rattle.fm_types.specs.Named.{class_of_method}
 use Rattle.fm_world.specs.BuiltIns.{built_in}
@@ -39,6 +41,25 @@ member_there (m ∷ members) (suc i) within =
     let rest = member_there members i (omega (arith, within)) in
     record { member = rest.member; among = Contains-later m members rest.member rest.among; code_is = rest.code_is }
 
+-- the marks of a method by its code
+abbrev pub marks_in : (free : ℕ) → Option Code → Option Insertions → List (Option ℕ)
+marks_in free None plan = []
+marks_in free (Some code) None = map (λ j. Some j) (range_with_len 0 (length code.items))
+marks_in free (Some code) (Some plan) = woven_marks free code plan
+
+methods_marks : (plans : Plans) (free first : ℕ) (methods : List Member) (i : ℕ)
+    → get_or (marks_of_methods plans free first methods) i [] ≡ marks_in free (get_or (map code_of methods) i None) (plans (first + i))
+methods_marks plans free first [] i = refl
+methods_marks plans free first (m ∷ methods) zero =
+    let same : first ≡ first + 0 = omega arith in ap (λ n. marks_in free (code_of m) (plans n)) same
+methods_marks plans free first (m ∷ methods) (suc i) =
+    let same : first + 1 + i ≡ first + suc i = omega arith in
+    methods_marks plans free (first + 1) methods i ∙ ap (λ n. marks_in free (get_or (map code_of methods) i None) (plans n)) same
+
+marks_count : (plans : Plans) (free first : ℕ) (methods : List Member) → length (marks_of_methods plans free first methods) ≡ length methods
+marks_count plans free first [] = refl
+marks_count plans free first (m ∷ methods) = ap suc (marks_count plans free (first + 1) methods)
+
 -- the method of a number among those of some files, whose codes begin with this number
 record IsFound (plans : Plans) (first class file : ℕ) (files : List ClassDef) (i : ℕ) (code : Code) : Type 0 where
   place : ℕ
@@ -48,6 +69,7 @@ record IsFound (plans : Plans) (first class file : ℕ) (files : List ClassDef) 
   new_at : slice_get (rewritten_from plans first files) place ≡ Some (rewritten_class plans start own)
   class_is : (get_or (methods_from class (declared_from file files)) i nobody).class ≡ class + place
   new_is : get_or (all_codes (rewritten_from plans first files)) i None ≡ code_with (free_index own) (plans (first + i)) (Some code)
+  marks_are : get_or (marks_from plans first files) i [] ≡ marks_in (free_index own) (Some code) (plans (first + i))
   old : HasMember own.methods (Some code)
   new : HasMember (rewritten_class plans start own).methods (get_or (all_codes (rewritten_from plans first files)) i None)
 
@@ -79,6 +101,15 @@ found plans first class file (c ∷ files) i code is =
 
       rest : List OwnedMethod
       rest = methods_from (class + 1) (declared_from (file + 1) files)
+
+      own_marks : List (List (Option ℕ))
+      own_marks = marks_of_methods plans (free_index c) first c.methods
+
+      other_marks : List (List (Option ℕ))
+      other_marks = marks_from plans (first + length c.methods) files
+
+      own_marks_count : length own_marks ≡ length c.methods
+      own_marks_count = marks_count plans (free_index c) first c.methods
 
       old_count : length own_codes ≡ length c.methods
       old_count = length-map c.methods code_of
@@ -116,6 +147,9 @@ found plans first class file (c ∷ files) i code is =
                 ap (λ (m : OwnedMethod). m.class) (get_or_append_left owned rest nobody i (omega (arith, within, owned_count)))
                 ∙ own_class class declared i (omega (arith, within, declared_count)) ∙ same_class;
             new_is = new_here ∙ class_code plans first c i within ∙ ap (code_with (free_index c) (plans (first + i))) old_is;
+            marks_are =
+                get_or_append_left own_marks other_marks [] i (omega (arith, within, own_marks_count))
+                ∙ methods_marks plans (free_index c) first c.methods i ∙ ap (λ o. marks_in (free_index c) o (plans (first + i))) old_is;
             old = record { member = old.member; among = old.among; code_is = old.code_is ∙ old_is };
             new = record { member = new.member; among = new.among; code_is = new.code_is ∙ sym new_here };
           }
@@ -124,6 +158,7 @@ found plans first class file (c ∷ files) i code is =
           let old_place : i ≡ length own_codes + k = omega (arith, past, old_count) in
           let new_place : i ≡ length new_codes + k = omega (arith, past, new_count) in
           let owned_place : i ≡ length owned + k = omega (arith, past, owned_count) in
+          let marks_place : i ≡ length own_marks + k = omega (arith, past, own_marks_count) in
           let number : first + length c.methods + k ≡ first + i = omega (arith, past) in
           let there : get_or (all_codes files) k None ≡ Some code =
           sym (ap (λ n. get_or (own_codes ++ all_codes files) n None) old_place ∙ get_or-append-add own_codes (all_codes files) k None) ∙ is in
@@ -142,6 +177,9 @@ found plans first class file (c ∷ files) i code is =
                 (ap (λ n. get_or (owned ++ rest) n nobody) owned_place ∙ get_or-append-add owned rest k nobody)
                 ∙ x.class_is ∙ next_class;
             new_is = new_there ∙ x.new_is ∙ ap (λ n. code_with (free_index x.own) (plans n) (Some code)) number;
+            marks_are =
+                ap (λ n. get_or (own_marks ++ other_marks) n []) marks_place ∙ get_or-append-add own_marks other_marks k [] ∙ x.marks_are
+                ∙ ap (λ n. marks_in (free_index x.own) (Some code) (plans n)) number;
             old = x.old;
             new = record { member = x.new.member; among = x.new.among; code_is = x.new.code_is ∙ sym new_there };
           }
@@ -157,6 +195,7 @@ pub record IsWritten (given : List ClassDef) (main : List ℕ) (plans : Plans) (
   pub new_at : slice_get (rewritten plans given) place ≡ Some (rewritten_class plans start own)
   pub class_is : class_of_method (outline_of given main) method ≡ length built_in + place
   pub new_is : code_at (program_of (rewritten plans given) main) method ≡ code_with (free_index own) (plans method) (Some code)
+  pub marks_are : slice_index_or (marks_with plans given) method [] ≡ marks_in (free_index own) (Some code) (plans method)
   pub old : HasMember own.methods (Some code)
   pub new : HasMember (rewritten_class plans start own).methods (code_at (program_of (rewritten plans given) main) method)
 
@@ -166,6 +205,10 @@ unfolding program_of codes_of outline_of
 written_method given main plans method code is = by_place (cases_lt method first_given) where
   front : List (Option Code)
   front = replicate (length (methods_of built_in)) None
+
+  -- built-in methods have no marks
+  no_marks : List (List (Option ℕ))
+  no_marks = replicate first_given []
 
   count : length front ≡ first_given
   count = length-replicate (length (methods_of built_in)) None
@@ -178,6 +221,8 @@ written_method given main plans method code is = by_place (cases_lt method first
       let k = method - first_given in
       let place : method ≡ length front + k = omega (arith, past, count) in
       let number : first_given + k ≡ method = omega (arith, past) in
+      let none_count : length no_marks ≡ first_given = length-replicate first_given [] in
+      let marks_place : method ≡ length no_marks + k = omega (arith, past, none_count) in
       let at_front : (others : List (Option Code)) → get_or (front ++ others) method None ≡ get_or others k None =
       λ others. ap (λ n. get_or (front ++ others) n None) place ∙ get_or-append-add front others k None in
       let x = found plans first_given (length built_in) 0 given k code (sym (at_front (all_codes given)) ∙ is) in
@@ -194,6 +239,10 @@ written_method given main plans method code is = by_place (cases_lt method first
             ∙ get_or-append-add (methods_of built_in) rest k nobody)
             ∙ x.class_is;
         new_is = at_front (all_codes (rewritten plans given)) ∙ x.new_is ∙ ap (λ n. code_with (free_index x.own) (plans n) (Some code)) number;
+        marks_are =
+            ap (λ n. get_or (no_marks ++ marks_from plans first_given given) n []) marks_place
+            ∙ get_or-append-add no_marks (marks_from plans first_given given) k [] ∙ x.marks_are
+            ∙ ap (λ n. marks_in (free_index x.own) (Some code) (plans n)) number;
         old = x.old;
         new = record { member = x.new.member; among = x.new.among; code_is = x.new.code_is ∙ sym (at_front (all_codes (rewritten plans given))) };
       }

@@ -5,3 +5,4 @@ pub mod RoleMarks
 pub mod LaidTodos
 pub mod InsertedSteps
 pub mod TodosDone
+pub mod WovenPrograms

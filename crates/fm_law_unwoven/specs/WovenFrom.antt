@@ -12,7 +12,7 @@ use Rattle.fm_code.specs.declared.instructions.Insn.{Insn}
 use Rattle.fm_code.specs.declared.instructions.Insn.TheVariants as insn
 use Rattle.fm_conn.specs.Facts.{Facts}
 use Rattle.fm_conn.specs.Links.{typed_method}
-use Rattle.fm_frames.specs.CallRows.{native_of, words_of_arguments}
+use Rattle.fm_frames.specs.CallRows.{native_of}
 use Rattle.fm_frames.specs.Natives.{FreeMeFree}
 use Rattle.fm_frames.specs.Starts.{to_start}
 use Rattle.fm_place.specs.Insertions.{Insertions}
@@ -26,6 +26,7 @@ use Rattle.fm_world.specs.declared.uses.Use.{Use}
 use Rattle.fm_world.specs.declared.uses.Use.TheVariants as resolved
 use Rattle.fm_law_same_runs.specs.Beside.{kept_item, Marks}
 use Rattle.fm_law_same_runs.specs.Programs.{AreTaken}
+use Rattle.fm_law_woven_flow.specs.Roles.{CanStand}
 
 -- ---- one method
 
@@ -56,7 +57,7 @@ pub record IsWoven (p q : Program) (facts : Facts) (marks : Marks) (method : ℕ
   pub code_is : code_at q method ≡ Some (woven_code free code plan)
   pub frees : (n : ℕ) → insn_of (woven_code free code plan) n ≡ Some (insn.Static free) → CallsFree q.outline (use_in q method free)
   pub safe : AreSafe facts (typed_method p facts.typing method code) plan
-  pub rules : MeetsCodeRules code
+  pub can : CanStand code plan
   pub marked : slice_index_or marks method [] ≡ woven_marks free code plan
 
 -- by the plan of the method
@@ -70,6 +71,7 @@ IsWovenBy p q facts marks method code (Some plan) = IsWoven p q facts marks meth
 pub record IsWovenFrom (p q : Program) (facts : Facts) (plans : Plans) (marks : Marks) : Type 0 where
   pub outline : q.outline ≡ p.outline
   pub bare : (method : ℕ) → code_at p method ≡ None → code_at q method ≡ None
+  pub rules : (method : ℕ) (code : Code) → code_at p method ≡ Some code → MeetsCodeRules code
   pub named : (method : ℕ) (code : Code) → code_at p method ≡ Some code → NamesTheSame p q method code
   pub methods : (method : ℕ) (code : Code) → code_at p method ≡ Some code → IsWovenBy p q facts marks method code (plans method)
 

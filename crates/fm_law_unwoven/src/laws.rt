@@ -3,6 +3,20 @@
 ghost use Rattle.fm_law_unwoven.specs.Doing.{TodosAreDone};
 ghost use Rattle.fm_law_unwoven.specs.Laid.{CodesAreLaid};
 ghost use Rattle.fm_law_unwoven.specs.UnseenCode.{LocalsAreNamed, LocalsAreUnseen, OppositesExchange, TargetsAreUnseen};
+ghost use Rattle.fm_law_unwoven.specs.WovenFrom.{SafeProgramsAreWoven};
+
+use fm_law_linked::law_resolved;
+use fm_world::law_class_types;
+
+/// The program of classes with safe insertions has the outline of the given one, and its methods with what
+/// is inserted: its instructions and catch types name the same, and the inserted calls are of FreeMe.free.
+pub fn law_woven()
+    ensures { SafeProgramsAreWoven }
+{
+    // By these laws.
+    law_class_types();
+    law_resolved();
+}
 
 /// The effect of an instruction doesn't look at where its targets lead, and uses no locals but those that
 /// the instruction names; the opposite of a branch goes where the branch doesn't.

@@ -1,0 +1,254 @@
+-- The program of classes with safe insertions is that of the given ones with what these insert.
+use Rattle.std.proofs.Common.{◌≡◌, ℕ, zero, suc, ◌+◌, ◌<◌, ◌⊎◌, inl, inr, List, [], ◌∷◌, length, map, Option, Some, None, Contains, option_and_then, option_map, refl, sym, ap, subst, ◌∙◌, arith}
+use Rattle.std.specs.Prelude.{slice_get}
+use Rattle.std.specs.List.{AllByRecursion, range_with_len, slice_index_or}
+use Rattle.std.proofs.lemmas.Option.{none-some, same_Some, slice_get_within, slice_get-map}
+use Rattle.fm_base.proofs.OptionFacts.{same_value}
+use Rattle.fm_code.proofs.EdgesLemmas.{MeetsCodeRules-method}
+use Rattle.fm_code.specs.Edges.{insn_of, MeetsCodeRules}
+use Rattle.fm_code.specs.SpellsCode.{with_targets}
+use Rattle.fm_code.specs.Spells.{HasSpelling}
+use Rattle.fm_code.specs.declared.class_file.ClassDef.{ClassDef}
+use Rattle.fm_code.specs.declared.code_array.Code.{Code}
+use Rattle.fm_code.specs.declared.code_array.Handler.{Handler}
+use Rattle.fm_code.specs.declared.instructions.Insn.{Insn}
+use Rattle.fm_code.specs.declared.instructions.Insn.TheVariants as insn
+use Rattle.fm_conn.proofs.ListLemmas.{Contains-map}
+use Rattle.fm_conn.specs.Facts.{Facts}
+use Rattle.fm_conn.specs.Links.{typed_method}
+use Rattle.fm_conn.specs.Nodes.{TypedMethod}
+use Rattle.fm_exec_calls.proofs.BuiltInStarts.{nothing-starts}
+use Rattle.fm_frames.specs.CallRows.{native_of}
+use Rattle.fm_frames.specs.Natives.{FreeMeFree, Native, native_of_row}
+use Rattle.fm_frames.specs.Starts.{to_start}
+use Rattle.fm_law_linked.specs.Laws.{ProgramsAreResolved}
+use Rattle.fm_law_relinked.proofs.Codes.{codes_woven, no_code}
+use Rattle.fm_law_relinked.proofs.FreeMethod.{free_class_number, free_method_number, free_type}
+use Rattle.fm_law_relinked.proofs.FreeUse.{ClassTypesAreNumbered, has_free, type_found}
+use Rattle.fm_law_relinked.specs.Codes.{code_with}
+use Rattle.fm_law_retyped.proofs.KeptRows.{same_row}
+use Rattle.fm_law_retyped.proofs.SafeMethods.{safe_can}
+use Rattle.fm_law_retyped.proofs.WrittenMethods.{HasMember, IsWritten, marks_in, written_method}
+use Rattle.fm_law_retyped.proofs.WrittenUses.{free_use, freed_use, handler_use, insn_use, outlines_same, program_outline, used_by_item}
+use Rattle.fm_law_same_runs.specs.Beside.{kept_item, Marks}
+use Rattle.fm_law_same_runs.specs.Programs.{AreTaken}
+use Rattle.fm_law_unwoven.proofs.LaidTodos.{laid}
+use Rattle.fm_law_unwoven.specs.Laid.{IsKept, IsLaid, IsSplit, IsWhole, mark_at, moved_to}
+use Rattle.fm_law_unwoven.specs.WovenFrom.{CallsFree, IsUnchanged, IsWoven, IsWovenBy, IsWovenFrom, NamesTheSame, SafeProgramsAreWoven}
+use Rattle.fm_law_woven_flow.specs.Roles.{CanStand, IsOpposite, IsRetargeted}
+use Rattle.fm_layout.specs.Spelling.{conditional, opposite}
+use Rattle.fm_link_supers.proofs.ParentRefusals.{spelled_at}
+use Rattle.fm_place.specs.Insertions.{Insertions}
+use Rattle.fm_place.specs.Rewriting.{free_index, marks_with, Plans, rewritten, rewritten_class}
+use Rattle.fm_place.specs.Safe.{AreSafe, method_in_facts, Safe}
+use Rattle.fm_place.specs.Woven.{woven_code, woven_marks}
+use Rattle.fm_same.specs.Resolved.{IsResolved}
+use Rattle.fm_types.specs.Named.{class_of_method}
+use Rattle.fm_types.specs.Typed.{use_by, use_in}
+use Rattle.fm_world.specs.BuiltIns.{built_in}
+use Rattle.fm_world.specs.Members.{method_at, methods_of}
+use Rattle.fm_world.specs.Programs.{classes_of, code_at, Outline, outline_of, Program, program_of}
+
+-- ---- FreeMe.free
+
+-- its row is that of this number
+row_is : (given : List ClassDef) → (method_at (classes_of given) free_method_number).method.row ≡ Some 41
+unfolding classes_of built_in methods_of
+row_is given = refl
+
+classes_are : (given : List ClassDef) (main : List ℕ) → (program_of given main).outline.classes ≡ classes_of given
+unfolding outline_of program_of
+classes_are given main = refl
+
+own_row : (given : List ClassDef) (main : List ℕ) → (method_at (program_of given main).outline.classes free_method_number).method.row ≡ Some 41
+own_row given main = ap (λ classes. (method_at classes free_method_number).method.row) (classes_are given main) ∙ row_is given
+
+native_is : (given : List ClassDef) (main : List ℕ) → native_of (program_of given main).outline free_method_number ≡ Some FreeMeFree
+native_is given main = ap (λ row. option_and_then native_of_row row) (own_row given main)
+
+calls_free : ClassTypesAreNumbered → (given : List ClassDef) (main : List ℕ) → IsResolved (program_of given main) → CallsFree (program_of given main).outline free_use
+calls_free numbered given main resolved = record {
+  method = record { 0 = free_method_number };
+  number = record { 0 = free_class_number };
+  type = free_type;
+  use_is = refl;
+  type_is =
+      ap (λ (o : Outline). slice_get o.types free_class_number) (program_outline given main)
+      ∙ type_found (outline_of given main).types (has_free numbered given main).number;
+  row = native_is given main;
+  started = λ started. nothing-starts (program_of given main) started free_method_number 41 resolved.runnable resolved.rows (own_row given main);
+}
+
+-- ---- one method
+
+-- the marks where nothing is inserted
+all_kept : (n k j : ℕ) → j < n → mark_at (map (λ i. Some i) (range_with_len k n)) j ≡ Some (k + j)
+all_kept zero k j inside = absurd (omega (arith, inside))
+all_kept (suc n) k zero inside = let same : k ≡ k + 0 = omega arith in ap Some same
+all_kept (suc n) k (suc j) inside = let same : k + 1 + j ≡ k + suc j = omega arith in all_kept n (k + 1) j (omega (arith, inside)) ∙ ap Some same
+
+kept_once : (n k at j : ℕ) → mark_at (map (λ i. Some i) (range_with_len k n)) at ≡ Some j → (at < n) × (j ≡ k + at)
+kept_once zero k at j is = absurd (none-some j is)
+kept_once (suc n) k zero j is = let same : k ≡ k + 0 = omega arith in (omega arith, sym (same_Some k j is) ∙ same)
+kept_once (suc n) k (suc at) j is =
+    let later = kept_once n (k + 1) at j is in
+    let less = later.0 in
+    let place = later.1 in
+    (omega (arith, less), omega (arith, place))
+
+module _ (numbered : ClassTypesAreNumbered) (given : List ClassDef) (main : List ℕ) (plans : Plans) (spelled : AllByRecursion HasSpelling given)
+    (resolved : IsResolved (program_of given main)) (facts : Facts) (method : ℕ) (code : Code) (code_is : code_at (program_of given main) method ≡ Some code) where
+  abbrev p : Program
+  p = program_of given main
+
+  abbrev q : Program
+  q = program_of (rewritten plans given) main
+
+  x : IsWritten given main plans method code
+  x = written_method given main plans method code code_is
+
+  abbrev free : ℕ
+  free = free_index x.own
+
+  member_of : (new : Code) → code_at q method ≡ Some new → HasMember (rewritten_class plans x.start x.own).methods (Some new)
+  member_of new new_is = record { member = x.new.member; among = x.new.among; code_is = x.new.code_is ∙ new_is }
+
+  pub rules : MeetsCodeRules code
+  rules = MeetsCodeRules-method x.own x.old.member code (spelled_at given x.place x.own spelled x.at) x.old.among x.old.code_is
+
+  -- ---- as it was
+
+  module _ (none : plans method ≡ None) where
+    same_code : code_at q method ≡ Some code
+    same_code = x.new_is ∙ ap (λ o. code_with free o (Some code)) none
+
+    same_names : NamesTheSame p q method code
+    same_names = record {
+      insns = λ j i there. insn_use numbered given main plans spelled method code x i i j j code refl there (member_of code same_code) there;
+      handlers = λ h listed. handler_use numbered given main plans spelled method code x h h code refl listed (member_of code same_code) listed;
+    }
+
+    marks_none : slice_index_or (marks_with plans given) method [] ≡ map (λ j. Some j) (range_with_len 0 (length code.items))
+    marks_none = x.marks_are ∙ ap (marks_in free (Some code)) none
+
+    unchanged : IsUnchanged q (marks_with plans given) method code
+    unchanged = record {
+      code_is = same_code;
+      marked = λ j inside.
+          let place : 0 + j ≡ j = omega arith in
+          ap (λ marks. mark_at marks j) marks_none ∙ all_kept (length code.items) 0 j inside ∙ ap Some place;
+      once = λ n j is.
+          let found = kept_once (length code.items) 0 n j (sym (ap (λ marks. mark_at marks n) marks_none) ∙ is) in
+          let place = found.1 in
+          let less = found.0 in
+          (omega (arith, less, place), omega (arith, place));
+    }
+
+  -- ---- with a plan
+
+  module _ (plan : Insertions) (planned : plans method ≡ Some plan) (safe : AreSafe facts (typed_method (program_of given main) facts.typing method code) plan) where
+    abbrev new : Code
+    new = woven_code free code plan
+
+    new_is : code_at q method ≡ Some new
+    new_is = x.new_is ∙ ap (λ o. code_with free o (Some code)) planned
+
+    can : CanStand code plan
+    can = safe_can facts (typed_method p facts.typing method code) plan safe
+
+    own : IsLaid free code plan new (woven_marks free code plan)
+    own = laid free code plan rules can
+
+    -- an instruction is in the new code, but for its targets
+    kept_use : (j : ℕ) (i : Insn) → insn_of code j ≡ Some i → (kept : Insn) → IsRetargeted i kept ⊎ IsOpposite i kept → insn_of new (own.numbers j) ≡ Some kept
+        → use_by q method i ≡ use_by p method i
+    kept_use j i there kept same at =
+        insn_use numbered given main plans spelled method code x i kept j (own.numbers j) new (same_row i kept same).operand there (member_of new new_is) at
+
+    named_insn : (j : ℕ) (i : Insn) → insn_of code j ≡ Some i → IsKept code new (woven_marks free code plan) own.entries j i (own.numbers j) (own.behind j)
+        → use_by q method i ≡ use_by p method i
+    named_insn j i there (IsWhole at behind) = kept_use j i there (with_targets own.entries i) (inl (record { targets = own.entries; is = refl })) at
+    named_insn j i there (IsSplit condition target other is at follows jump mark behind) =
+        kept_use j i there (conditional (opposite condition) other)
+        (inr (record { condition = condition; target = target; other = other; branch = is; test = refl })) at
+
+    names : NamesTheSame p q method code
+    names = record {
+      insns = λ j i there. named_insn j i there (own.kept j i there);
+      handlers = λ h listed.
+          handler_use numbered given main plans spelled method code x h (moved_to own.entries h) new refl listed (member_of new new_is)
+          (subst (λ l. Contains l (moved_to own.entries h)) (sym own.handlers) (Contains-map (moved_to own.entries) code.handlers h listed));
+    }
+
+    frees : (n : ℕ) → insn_of new n ≡ Some (insn.Static free) → CallsFree q.outline (use_in q method free)
+    frees n there =
+        let used = used_by_item (rewritten_class plans x.start x.own) new (member_of new new_is) n (insn.Static free) free there refl in
+        let use_is = freed_use numbered given main plans spelled method code x used in
+        subst (λ u. CallsFree q.outline u) (sym use_is)
+        (subst (λ o. CallsFree o free_use) (sym (outlines_same given main plans spelled)) (calls_free numbered given main resolved))
+
+    woven : IsWoven p q facts (marks_with plans given) method code plan
+    woven = record {
+      free = free;
+      code_is = new_is;
+      frees = frees;
+      safe = safe;
+      can = can;
+      marked = x.marks_are ∙ ap (marks_in free (Some code)) planned;
+    }
+
+  -- ---- by the plan
+
+  pub method_named : (plan : Option Insertions) → plans method ≡ plan
+      → ((own : Insertions) → plan ≡ Some own → AreSafe facts (typed_method (program_of given main) facts.typing method code) own) → NamesTheSame p q method code
+  method_named None is safe = same_names is
+  method_named (Some plan) is safe = names plan is (safe plan refl)
+
+  pub method_woven : (plan : Option Insertions) → plans method ≡ plan
+      → ((own : Insertions) → plan ≡ Some own → AreSafe facts (typed_method (program_of given main) facts.typing method code) own)
+      → IsWovenBy p q facts (marks_with plans given) method code plan
+  method_woven None is safe = unchanged is
+  method_woven (Some plan) is safe = woven plan is (safe plan refl)
+
+-- ---- all methods
+
+module _ (numbered : ClassTypesAreNumbered) (given : List ClassDef) (main : List ℕ) (spelled : AllByRecursion HasSpelling given)
+    (resolved : IsResolved (program_of given main)) (written : List ClassDef) (marks : Marks) (safe : Safe given main written marks) where
+  abbrev p : Program
+  p = program_of given main
+
+  abbrev q : Program
+  q = program_of (rewritten safe.plans given) main
+
+  no_code_written : (method : ℕ) → code_at p method ≡ None → code_at q method ≡ None
+  no_code_written method none =
+      let woven = codes_woven given main safe.plans method in
+      woven.new_is ∙ ap (code_with woven.free (safe.plans method)) none ∙ no_code woven.free (safe.plans method)
+
+  safe_at : (method : ℕ) (code : Code) → code_at p method ≡ Some code → (plan : Insertions) → safe.plans method ≡ Some plan
+      → AreSafe safe.facts (typed_method p safe.facts.typing method code) plan
+  safe_at method code is plan so =
+      let own = safe.methods method plan so in
+      let typed = typed_method p safe.facts.typing method code in
+      let there : method_in_facts p safe.facts method ≡ Some typed = ap (option_map (typed_method p safe.facts.typing method)) is in
+      subst (λ z. AreSafe safe.facts z plan) (same_value (method_in_facts p safe.facts method) own.x typed own.is there) own.safe
+
+  all_woven : IsWovenFrom p q safe.facts safe.plans (marks_with safe.plans given)
+  all_woven = record {
+    outline = outlines_same given main safe.plans spelled;
+    bare = no_code_written;
+    rules = λ method code is. rules numbered given main safe.plans spelled resolved safe.facts method code is;
+    named = λ method code is.
+        method_named numbered given main safe.plans spelled resolved safe.facts method code is (safe.plans method) refl (safe_at method code is);
+    methods = λ method code is.
+        method_woven numbered given main safe.plans spelled resolved safe.facts method code is (safe.plans method) refl (safe_at method code is);
+  }
+
+  pub written_woven : IsWovenFrom p (program_of written main) safe.facts safe.plans marks
+  written_woven =
+      subst (λ files. IsWovenFrom p (program_of files main) safe.facts safe.plans marks) (sym safe.written_is)
+      (subst (λ m. IsWovenFrom p q safe.facts safe.plans m) (sym safe.marks_are) all_woven)
+
+pub programs_woven : ClassTypesAreNumbered → ProgramsAreResolved → SafeProgramsAreWoven
+programs_woven numbered resolve given main taken written marks safe =
+    written_woven numbered given main taken.spelled (resolve given main taken.spelled taken.linked taken.few) written marks safe
