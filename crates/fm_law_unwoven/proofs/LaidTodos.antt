@@ -20,6 +20,7 @@ use Rattle.fm_layout.specs.Spelling.{conditional, opposite}
 use Rattle.fm_place.proofs.FullLemmas.{some-same}
 use Rattle.fm_place.specs.Insertions.{after_at, before_at, Insertions}
 use Rattle.fm_place.specs.Woven.{anchors_of, count_at, freed_items, local_of, null_stored_items, top_stored_items, woven, woven_code, woven_marks}
+use Rattle.fm_law_retyped.proofs.SlotLists.{insn_inside}
 use Rattle.fm_law_woven_flow.proofs.Caught.{anchor_inside, first_le, goes_le}
 use Rattle.fm_law_woven_flow.proofs.LaidItems.{first_of, goes_to, is_split_of, item_total, laid_insn, lays, split_insn, SplitAt, whole_insn}
 use Rattle.fm_law_woven_flow.proofs.LaidRoles.{width}
@@ -288,12 +289,6 @@ module _ (free : ℕ) (old : Code) (plan : Insertions) where
             let less : nat_lt (k + 1) (length (woven free old plan)) ≡ true = lt-ltb (k + 1) (length (woven free old plan)) (omega (arith, count)) in
             is ∙ ap (λ b. if b then first k + 2 else first k + 1) less ∙ sym step
 
-  insn_inside : (j : ℕ) (i : Insn) → insn_of old j ≡ Some i → j < length old.items
-  insn_inside j i found = by_item (slice_get old.items j) refl found where
-    by_item : (o : Option Item) → slice_get old.items j ≡ o → option_map (λ (x : Item). x.insn) o ≡ Some i → j < length old.items
-    by_item None is none = absurd (none-some i none)
-    by_item (Some x) is some = slice_get_within old.items j x is
-
   marked : (j : ℕ) → j < length old.items → mark_at marks (first (kept_new old plan j)) ≡ Some j
   marked j inside = mark_by (first (kept_new old plan j)) (Keep j) ((lays free old plan).first (kept_new old plan j) (Keep j) (kept_role old plan j inside))
 
@@ -335,6 +330,7 @@ module _ (free : ℕ) (old : Code) (plan : Insertions) where
 
   pub laid : MeetsCodeRules old → CanStand old plan → IsLaid free old plan new marks
   laid rules can = record {
+    locals = refl;
     numbers = λ j. first (kept_new old plan j);
     entries = goes_to free old plan;
     behind = λ j. first (suc (kept_new old plan j));
@@ -350,7 +346,7 @@ module _ (free : ℕ) (old : Code) (plan : Insertions) where
         (all_insns_to free old (keeps_at plan j)) (all_insns_to free old (frees_at plan (j + 1)))
         (subst (λ t. LieInserted new marks (first (suc (kept_new old plan j))) (all_insns_to free old (keeps_at plan j)) (goes_to free old plan t)) next (behind_kept j (omega arith)))
         (before_kept (j + 1) more));
-    kept = λ j i found. kept_as j i (insn_inside j i found) found (is_split_of free old plan (kept_new old plan j)) refl;
+    kept = λ j i found. kept_as j i (insn_inside old j i found) found (is_split_of free old plan (kept_new old plan j)) refl;
     marked = marked;
     once = once rules can;
     handlers = refl;

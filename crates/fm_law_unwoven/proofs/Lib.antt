@@ -3,6 +3,7 @@ pub mod UsedLocals
 pub mod UnseenLocals
 pub mod RoleMarks
 pub mod LaidTodos
+pub mod LaidSame
 pub mod InsertedSteps
 pub mod TodosDone
 pub mod WovenPrograms

@@ -1,13 +1,11 @@
 -- What is inserted is done, one thing after the other.
 use Rattle.std.proofs.Common.{◌≡◌, ℕ, zero, suc, ◌+◌, ◌<◌, List, [], ◌∷◌, ◌++◌, length, Option, Some, None, option_and_then, is_some, refl, sym, ap, subst, ◌∙◌, arith}
 use Rattle.std.specs.Prelude.{false, slice_get, slice_set}
-use Rattle.std.specs.List.{slice_index_or}
 use Rattle.fm_code.specs.Edges.{insn_of}
 use Rattle.fm_code.specs.declared.code_array.Code.{Code}
 use Rattle.fm_code.specs.declared.instructions.Insn.{Insn}
 use Rattle.fm_code.specs.declared.instructions.Insn.TheVariants as insn
 use Rattle.fm_code.specs.declared.operations.Reg.TheVariants as reg
-use Rattle.fm_conn.specs.Facts.{Facts}
 use Rattle.fm_frames.specs.Acts.{cell_of, Choose}
 use Rattle.fm_frames.specs.States.{Areas, Frame, Moved, null, State, word_at}
 use Rattle.fm_frames.specs.Steps.{next_insn, offset_at, step}
@@ -17,9 +15,9 @@ use Rattle.fm_law_sound.specs.Sound.{IsReference}
 use Rattle.fm_law_unwoven.proofs.InsertedSteps.{counted, dup_step, free_held, free_lost, free_null, goes_to, load_step, null_step, seen, Seen, SeenGone, SeenNull, SeenThing, store_step}
 use Rattle.fm_law_unwoven.specs.Doing.{all_areas_after, all_locals_after, all_steps_to, AllDone, areas_after, freed_from, IsDone, IsLost, IsPassed, locals_after, MayDo, MayDoAll, OneLost, state_after, steps_to, TodosAreDone, with_frame}
 use Rattle.fm_law_unwoven.specs.Laid.{all_insns_to, LieInserted, mark_at, Todo, ToFree, ToKeep, ToStart}
-use Rattle.fm_law_unwoven.specs.WovenFrom.{CallsFree, IsWoven}
+use Rattle.fm_law_unwoven.specs.WovenFrom.{CallsFree, HasInserted, own_marks}
 use Rattle.fm_place.specs.Insertions.{Insertions}
-use Rattle.fm_place.specs.Woven.{local_of, woven_code}
+use Rattle.fm_place.specs.Woven.{local_of}
 use Rattle.fm_types.specs.Typed.{use_in}
 use Rattle.fm_world.specs.Programs.{code_at, Program}
 
@@ -36,7 +34,7 @@ passed-append q marks choose (suc a) b (suc n) x y z count here there =
 
 -- one step, at an item without a mark
 one_passed : (q : Program) (marks : Marks) (choose : Choose) (y : State) (f : Frame) (callers : List Frame) (next : State) (n : ℕ) (z : State)
-    → mark_at (slice_index_or marks f.method []) f.item ≡ None → step q choose (with_frame y f callers) ≡ record { state = next; printed = [] }
+    → mark_at (own_marks marks f.method) f.item ≡ None → step q choose (with_frame y f callers) ≡ record { state = next; printed = [] }
     → IsPassed q marks choose n next z → IsPassed q marks choose (suc n) (with_frame y f callers) z
 one_passed q marks choose y f callers next n z mark is rest = (
   record { goes_on = refl; inserted = ap is_some mark },
@@ -55,13 +53,13 @@ behind_is n (ToStart h) = omega arith
 behind_is n (ToKeep h) = omega arith
 behind_is n (ToFree h) = omega arith
 
-module _ (p q : Program) (facts : Facts) (marks : Marks) (choose : Choose) (method : ℕ) (old : Code) (plan : Insertions) (w : IsWoven p q facts marks method old plan)
+module _ (q : Program) (marks : Marks) (choose : Choose) (method : ℕ) (old : Code) (plan : Insertions) (w : HasInserted q marks method old plan)
     (callers : List Frame) where
   abbrev new : Code
-  new = woven_code w.free old plan
+  new = w.new
 
   abbrev own : List (Option ℕ)
-  own = slice_index_or marks method []
+  own = own_marks marks method
 
   abbrev Done : State → Frame → List Todo → ℕ → Type 0
   Done y f todos next = IsDone q marks choose old y f callers todos next
@@ -74,7 +72,7 @@ module _ (p q : Program) (facts : Facts) (marks : Marks) (choose : Choose) (meth
   at item locals stack = record { method = method; item = item; locals = locals; stack = stack }
 
   insn_at : (item : ℕ) (locals stack : List Value) (i : Insn) → insn_of new item ≡ Some i → next_insn q (at item locals stack) ≡ Some i
-  insn_at item locals stack i is = ap (option_and_then (λ (code : Code). insn_of code item)) w.code_is ∙ is
+  insn_at item locals stack i is = ap (option_and_then (λ (code : Code). insn_of code item)) w.new_is ∙ is
 
   -- the state after one thing is done
   abbrev onwards : State → List Value → Todo → State
@@ -162,7 +160,7 @@ module _ (p q : Program) (facts : Facts) (marks : Marks) (choose : Choose) (meth
     free_there = insn_at (item + 1) locals stack (insn.Static w.free) lies.2.0
 
     calls : CallsFree q.outline (use_in q method w.free)
-    calls = w.frees (item + 1) lies.2.0
+    calls = w.frees (item + 1) lies.2.0 lies.2.1
 
     -- after the call the holder becomes null
     rest_passed : (areas : Areas) → freed_from y.areas (cell_of v) ≡ areas
@@ -223,5 +221,5 @@ module _ (p q : Program) (facts : Facts) (marks : Marks) (choose : Choose) (meth
       (all_done todos next (item + 1 + 1 + 1 + 1) (slice_set locals (local_of old h) null) stack lies.2.2.2.2 may.1 (onwards y locals (ToFree h)))
 
 pub todos_done : TodosAreDone
-todos_done p q facts marks choose f old plan w todos next lies may y callers =
-    all_done p q facts marks choose f.method old plan w callers todos next f.item f.locals f.stack lies may y
+todos_done q marks choose f old plan w todos next lies may y callers =
+    all_done q marks choose f.method old plan w callers todos next f.item f.locals f.stack lies may y

@@ -6,7 +6,7 @@ use Rattle.fm_base.specs.Texts.{units}
 use Rattle.fm_base.specs.declared.kinds.Kind.{Kind}
 use Rattle.fm_cells.specs.Changes.{Choice, RefuseStore, Take}
 use Rattle.fm_cells.specs.Objects.{Request}
-use Rattle.fm_code.specs.SpellsCode.{LocalsFit}
+use Rattle.fm_code.specs.SpellsCode.{LocalsFit, targets_of}
 use Rattle.fm_code.specs.declared.instructions.Insn.{Insn}
 use Rattle.fm_world.specs.Members.{field_at}
 use Rattle.fm_world.specs.Numbers.{text_number}
@@ -23,7 +23,7 @@ use Rattle.fm_frames.specs.declared.values.Value.{Value}
 use Rattle.fm_law_sound.proofs.Opening.{all_flat, with_text}
 use Rattle.fm_law_sound.proofs.StartActs.{after_methods, for_class}
 use Rattle.fm_law_unwoven.proofs.UsedLocals.{rows_within}
-use Rattle.fm_law_unwoven.specs.UnseenCode.{ActsWithout, IsWithin, LocalsAreNamed, LocalsAreUnseen, UsesLocals}
+use Rattle.fm_law_unwoven.specs.UnseenCode.{ActsWithout, IsWithin, LocalsAreUnseen, OnlyNamedIsUsed, UsesNamed}
 
 -- ---- values
 
@@ -109,8 +109,8 @@ starts_without o classes =
           (λ field. constant_without o field (field_at o.classes field).field.value),
     ))
 
-module _ (max : ℕ) (o : Outline) (started : List Bool) (e : Effect) (uses : UsesLocals max e) where
-  methods_within : (classes methods : List ℕ) → UsesLocals max (after_methods o classes e methods)
+module _ (max targets : ℕ) (o : Outline) (started : List Bool) (e : Effect) (uses : UsesNamed max targets e) where
+  methods_within : (classes methods : List ℕ) → UsesNamed max targets (after_methods o classes e methods)
   methods_within classes [] = record {
     acts = AllByRecursion-append ActsWithout (start_actions o classes) e.actions (starts_without o classes) uses.acts;
     gives = uses.gives;
@@ -119,12 +119,14 @@ module _ (max : ℕ) (o : Outline) (started : List Bool) (e : Effect) (uses : Us
   }
   methods_within classes (m ∷ methods) = record { acts = starts_without o classes; gives = tt; writes = tt; next = tt }
 
-  class_within : (class : Option ℕ) → UsesLocals max (for_class o started e class)
+  class_within : (class : Option ℕ) → UsesNamed max targets (for_class o started e class)
   class_within None = uses
   class_within (Some class) = methods_within (to_start o started class) (start_methods o (to_start o started class))
 
-  pub start_within : UsesLocals max (with_start o started e)
+  pub start_within : UsesNamed max targets (with_start o started e)
   start_within = class_within e.starts
 
-pub locals_named : LocalsAreNamed
-locals_named max o started method u i byte s fits = start_within max o started (effect_of o method u i byte s) (rows_within max o s method i u byte fits)
+pub only_named : OnlyNamedIsUsed
+only_named max o started method u i byte s fits =
+    let targets = length (targets_of i) in
+    start_within max targets o started (effect_of o method u i byte s) (rows_within max targets o s method i u byte fits (omega arith))

@@ -1,13 +1,14 @@
 -- An instruction uses the locals that it names at most.
-use Rattle.std.proofs.Common.{◌≡◌, ℕ, ℤ, pos, ◌+◌, ◌-◌, ◌*◌, ◌<◌, ◌||◌, not, Bool, true, false, arith, List, [], ◌∷◌, ◌++◌, codes, reverse, length, Option, Some, None, option_and_then, option_map, refl, sym, subst}
-use Rattle.std.specs.Prelude.{int_lt, unsigned_abs, nat_lt}
+use Rattle.std.proofs.Common.{◌≡◌, ℕ, ℤ, pos, ◌+◌, ◌-◌, ◌*◌, ◌<◌, ◌≤◌, ◌||◌, not, Bool, true, false, arith, List, [], ◌∷◌, ◌++◌, codes, reverse, length, Option, Some, None, option_and_then, option_map, refl, sym, subst}
+use Rattle.std.specs.Prelude.{int_lt, position, take, unsigned_abs, nat_lt}
 use Rattle.std.specs.List.{AllByRecursion, list_any, range_with_len}
+use Rattle.std.specs.Ordering.{int_eq}
 use Rattle.fm_alu.specs.Operations.{result_of_op}
 use Rattle.fm_base.specs.declared.kinds.Base.{Base}
 use Rattle.fm_base.specs.declared.kinds.Kind.{Kind}
 use Rattle.fm_base.specs.declared.kinds.Kind.TheVariants as kind
 use Rattle.fm_base.specs.declared.kinds.TypeRef.{TypeRef}
-use Rattle.fm_code.specs.SpellsCode.{LocalFits, LocalsFit}
+use Rattle.fm_code.specs.SpellsCode.{LocalFits, LocalsFit, targets_of}
 use Rattle.fm_code.specs.declared.instructions.Insn.{Insn}
 use Rattle.fm_code.specs.declared.instructions.Insn.TheVariants as insn
 use Rattle.fm_code.specs.declared.operations.Conv.{Conv}
@@ -21,9 +22,9 @@ use Rattle.fm_frames.specs.ArrayRows as arrays
 use Rattle.fm_frames.specs.ArrayRows.{array_actions, arrays_made, element_kind, element_type, on_element, put_element, put_reference}
 use Rattle.fm_frames.specs.CallRows as calls
 use Rattle.fm_frames.specs.CallRows.{entered, native_of, receiver_class, words_of_arguments}
-use Rattle.fm_frames.specs.Effects.{acting, Calls, Effect, faulty, Faults, going, int_word, loaded, Make, making, OfMade, OfOperand, OfPlace, OfStatic, Put, SetStatic, Source, stuck, words}
+use Rattle.fm_frames.specs.Effects.{acting, Calls, Effect, faulty, Faults, going, int_word, Jumps, loaded, Make, making, OfMade, OfOperand, OfPlace, OfStatic, Put, SetStatic, Source, stuck, words}
 use Rattle.fm_frames.specs.JumpRows as jumps
-use Rattle.fm_frames.specs.JumpRows.{jumps_if}
+use Rattle.fm_frames.specs.JumpRows.{jumps_if, key_target, table_target}
 use Rattle.fm_frames.specs.NativeRows as table
 use Rattle.fm_frames.specs.NativeRows.{has_text, shown_words, text_made, thrown_outside}
 use Rattle.fm_frames.specs.Natives.{Native, native_of_row, ObjectInit, ObjectHashCode, ObjectEquals, ObjectToString, StringLength, CharAt, StringEquals, StringHashCode, CompareTo, StringToString, Substring, ValueOf, BuilderInit, Append, BuilderLength, BuilderToString, BufferInitOf, Exit, Print, Println, PrintlnNothing, Read, ThrowableInit, ThrowableInitOf, GetMessage, ThrowableToString, FreeMeFree, FreeMeLink, FreeMeFreeChain}
@@ -44,8 +45,9 @@ use Rattle.fm_world.specs.declared.uses.Use.{Use}
 use Rattle.fm_world.specs.declared.uses.Use.TheVariants as resolved
 use Rattle.fm_base.specs.Kinds.{kind_words}
 use Rattle.fm_base.proofs.ListFacts.{AllByRecursion-append}
+use Rattle.fm_law_sound.proofs.JumpRows.{few_keys, key_within, table_within}
 use Rattle.fm_law_sound.proofs.Opening.{all_flat}
-use Rattle.fm_law_unwoven.specs.UnseenCode.{ActsWithout, GoesWithout, IsWithin, UsesLocals}
+use Rattle.fm_law_unwoven.specs.UnseenCode.{ActsWithout, GoesWithin, IsWithin, UsesNamed}
 
 pub loaded_within : (max : ℕ) (k : Kind) (source : Source) → IsWithin max source → AllByRecursion (IsWithin max) (loaded k source)
 loaded_within max kind.Long source within = (tt, (within, tt))
@@ -56,9 +58,9 @@ loaded_within max kind.Short source within = (within, tt)
 loaded_within max kind.Int source within = (within, tt)
 loaded_within max (kind.Ref t) source within = (within, tt)
 
-jumps_without : (taken : Bool) → GoesWithout (jumps_if taken)
-jumps_without true = tt
-jumps_without false = tt
+jumps_within : (targets : ℕ) → 0 < targets → (taken : Bool) → GoesWithin targets (jumps_if taken)
+jumps_within targets some true = some
+jumps_within targets some false = tt
 
 -- the arrays of arrays that one instruction makes
 arrays_without : (t : TypeRef) (counts : List ℕ) (first : ℕ) → AllByRecursion ActsWithout (array_actions t counts first)
@@ -77,12 +79,12 @@ arrays_without t (count ∷ next ∷ counts) first = (
       (arrays_without (element_type t) (next ∷ counts) (first + 1 + place * arrays_made (next ∷ counts))) ((tt, tt), tt)),
 )
 
-module _ (max : ℕ) (o : Outline) where
+module _ (max targets : ℕ) (o : Outline) where
   abbrev A : Effect → Type 0
-  A e = UsesLocals max e
+  A e = UsesNamed max targets e
 
   -- what writes no local
-  row : (e : Effect) → AllByRecursion ActsWithout e.actions → AllByRecursion (IsWithin max) e.gives → e.writes ≡ [] → GoesWithout e.next → A e
+  row : (e : Effect) → AllByRecursion ActsWithout e.actions → AllByRecursion (IsWithin max) e.gives → e.writes ≡ [] → GoesWithin targets e.next → A e
   row e acts gives none next = record {
     acts = acts;
     gives = gives;
@@ -436,57 +438,62 @@ module _ (max : ℕ) (o : Outline) where
 
     -- ---- all instructions
 
-    pub rows_within : (method : ℕ) (i : Insn) (u : Use) (byte : Option ℕ) → LocalsFit max i → A (effect_of o method u i byte s)
+    pub rows_within : (method : ℕ) (i : Insn) (u : Use) (byte : Option ℕ) → LocalsFit max i → length (targets_of i) ≤ targets → A (effect_of o method u i byte s)
     unfolding effect_of numbers.move_effect numbers.int_negate_effect numbers.long_negate_effect numbers.int_shift_effect numbers.long_shift_effect numbers.compare_effect jumps.int_jump_effect jumps.pair_jump_effect jumps.null_jump_effect jumps.table_effect jumps.lookup_effect jumps.throw_effect
-    rows_within method insn.Nop u byte fits = row _ tt tt refl tt
-    rows_within method insn.Null u byte fits = row _ tt (tt, tt) refl tt
-    rows_within method (insn.Const n) u byte fits = row _ tt (tt, tt) refl tt
-    rows_within method (insn.LongConst n) u byte fits = row _ tt (tt, (tt, tt)) refl tt
-    rows_within method (insn.LoadPool index) u byte fits = constant_row u
-    rows_within method (insn.Load r k) u byte fits = load_row r k fits
-    rows_within method (insn.Store r k) u byte fits = store_row r k fits
-    rows_within method (insn.Inc k by) u byte fits = record { acts = tt; gives = tt; writes = ((fits, fits), tt); next = tt }
-    rows_within method insn.Pop u byte fits = row _ tt tt refl tt
-    rows_within method insn.Pop2 u byte fits = row _ tt tt refl tt
-    rows_within method insn.Dup u byte fits = row _ tt (tt, (tt, tt)) refl tt
-    rows_within method insn.DupX1 u byte fits = row _ tt (tt, (tt, (tt, tt))) refl tt
-    rows_within method insn.DupX2 u byte fits = row _ tt (tt, (tt, (tt, (tt, tt)))) refl tt
-    rows_within method insn.Dup2 u byte fits = row _ tt (tt, (tt, (tt, (tt, tt)))) refl tt
-    rows_within method insn.Dup2X1 u byte fits = row _ tt (tt, (tt, (tt, (tt, (tt, tt))))) refl tt
-    rows_within method insn.Dup2X2 u byte fits = row _ tt (tt, (tt, (tt, (tt, (tt, (tt, tt)))))) refl tt
-    rows_within method insn.Swap u byte fits = row _ tt (tt, (tt, tt)) refl tt
-    rows_within method (insn.IntOp op) u byte fits = operation_row op
-    rows_within method (insn.LongOp op) u byte fits = long_operation_row op
-    rows_within method insn.IntNeg u byte fits = by_int A s 0 _ none (λ a. row _ tt (tt, tt) refl tt)
-    rows_within method insn.LongNeg u byte fits = by_long A s 1 _ none (λ a. row _ tt (tt, (tt, tt)) refl tt)
-    rows_within method (insn.IntShift shift) u byte fits = by_int A s 0 _ none (λ n. by_int A s 1 _ none (λ a. row _ tt (tt, tt) refl tt))
-    rows_within method (insn.LongShift shift) u byte fits = by_int A s 0 _ none (λ n. by_long A s 2 _ none (λ a. row _ tt (tt, (tt, tt)) refl tt))
-    rows_within method (insn.Convert to) u byte fits = convert_row to
-    rows_within method insn.LongCompare u byte fits = by_long A s 1 _ none (λ b. by_long A s 3 _ none (λ a. row _ tt (tt, tt) refl tt))
-    rows_within method (insn.IfInt test target) u byte fits = by_int A s 0 _ none (λ a. row _ tt tt refl (jumps_without _))
-    rows_within method (insn.IfPair test target) u byte fits = by_int A s 0 _ none (λ b. by_int A s 1 _ none (λ a. row _ tt tt refl (jumps_without _)))
-    rows_within method (insn.IfSame same target) u byte fits = row _ tt tt refl tt
-    rows_within method (insn.IfNull is_null target) u byte fits = by_reference A s 0 _ none (λ b. row _ tt tt refl (jumps_without _))
-    rows_within method (insn.Goto target) u byte fits = row _ tt tt refl tt
-    rows_within method (insn.Table low others targets) u byte fits = by_int A s 0 _ none (λ key. row _ tt tt refl tt)
-    rows_within method (insn.Lookup others keys targets) u byte fits = by_int A s 0 _ none (λ key. row _ tt tt refl tt)
-    rows_within method (insn.Return value) u byte fits = return_row value
-    rows_within method insn.Throw u byte fits = by_object A o (throwable_type o) s 0 _ null none (lost 0) (λ it seen passes. row _ tt tt refl tt)
-    rows_within method (insn.New index) u byte fits = new_row u
-    rows_within method (insn.GetStatic index) u byte fits = get_static_row u
-    rows_within method (insn.PutStatic index) u byte fits = put_static_row u
-    rows_within method (insn.GetField index) u byte fits = get_field_row u
-    rows_within method (insn.PutField index) u byte fits = put_field_row u
-    rows_within method (insn.Cast index) u byte fits = cast_row u
-    rows_within method (insn.IsA index) u byte fits = is_a_row u
-    rows_within method (insn.ArrayLoad e) u byte fits = array_load_row e
-    rows_within method (insn.ArrayStore e) u byte fits = array_store_row e
-    rows_within method insn.Length u byte fits = length_row
-    rows_within method (insn.NewArray e) u byte fits = new_array_row e
-    rows_within method (insn.NewRefs index) u byte fits = new_references_row u
-    rows_within method (insn.MultiArray index dimensions) u byte fits = multi_array_row u dimensions
-    rows_within method (insn.Virtual index) u byte fits = virtual_row u byte
-    rows_within method (insn.Interface index) u byte fits = interface_row u byte
-    rows_within method (insn.Special index) u byte fits = special_row method u byte
-    rows_within method (insn.Static index) u byte fits = static_row u byte
-    rows_within method (insn.LeftOut opcode) u byte fits = none
+    rows_within method insn.Nop u byte fits few = row _ tt tt refl tt
+    rows_within method insn.Null u byte fits few = row _ tt (tt, tt) refl tt
+    rows_within method (insn.Const n) u byte fits few = row _ tt (tt, tt) refl tt
+    rows_within method (insn.LongConst n) u byte fits few = row _ tt (tt, (tt, tt)) refl tt
+    rows_within method (insn.LoadPool index) u byte fits few = constant_row u
+    rows_within method (insn.Load r k) u byte fits few = load_row r k fits
+    rows_within method (insn.Store r k) u byte fits few = store_row r k fits
+    rows_within method (insn.Inc k by) u byte fits few = record { acts = tt; gives = tt; writes = ((fits, fits), tt); next = tt }
+    rows_within method insn.Pop u byte fits few = row _ tt tt refl tt
+    rows_within method insn.Pop2 u byte fits few = row _ tt tt refl tt
+    rows_within method insn.Dup u byte fits few = row _ tt (tt, (tt, tt)) refl tt
+    rows_within method insn.DupX1 u byte fits few = row _ tt (tt, (tt, (tt, tt))) refl tt
+    rows_within method insn.DupX2 u byte fits few = row _ tt (tt, (tt, (tt, (tt, tt)))) refl tt
+    rows_within method insn.Dup2 u byte fits few = row _ tt (tt, (tt, (tt, (tt, tt)))) refl tt
+    rows_within method insn.Dup2X1 u byte fits few = row _ tt (tt, (tt, (tt, (tt, (tt, tt))))) refl tt
+    rows_within method insn.Dup2X2 u byte fits few = row _ tt (tt, (tt, (tt, (tt, (tt, (tt, tt)))))) refl tt
+    rows_within method insn.Swap u byte fits few = row _ tt (tt, (tt, tt)) refl tt
+    rows_within method (insn.IntOp op) u byte fits few = operation_row op
+    rows_within method (insn.LongOp op) u byte fits few = long_operation_row op
+    rows_within method insn.IntNeg u byte fits few = by_int A s 0 _ none (λ a. row _ tt (tt, tt) refl tt)
+    rows_within method insn.LongNeg u byte fits few = by_long A s 1 _ none (λ a. row _ tt (tt, (tt, tt)) refl tt)
+    rows_within method (insn.IntShift shift) u byte fits few = by_int A s 0 _ none (λ n. by_int A s 1 _ none (λ a. row _ tt (tt, tt) refl tt))
+    rows_within method (insn.LongShift shift) u byte fits few = by_int A s 0 _ none (λ n. by_long A s 2 _ none (λ a. row _ tt (tt, (tt, tt)) refl tt))
+    rows_within method (insn.Convert to) u byte fits few = convert_row to
+    rows_within method insn.LongCompare u byte fits few = by_long A s 1 _ none (λ b. by_long A s 3 _ none (λ a. row _ tt (tt, tt) refl tt))
+    rows_within method (insn.IfInt test target) u byte fits few = by_int A s 0 _ none (λ a. row _ tt tt refl (jumps_within targets (omega arith) _))
+    rows_within method (insn.IfPair test target) u byte fits few = by_int A s 0 _ none (λ b. by_int A s 1 _ none (λ a. row _ tt tt refl (jumps_within targets (omega arith) _)))
+    rows_within method (insn.IfSame same target) u byte fits few = let some : 0 < targets = omega arith in row _ tt tt refl some
+    rows_within method (insn.IfNull is_null target) u byte fits few = by_reference A s 0 _ none (λ b. row _ tt tt refl (jumps_within targets (omega arith) _))
+    rows_within method (insn.Goto target) u byte fits few = let some : 0 < targets = omega arith in row _ tt tt refl some
+    rows_within method (insn.Table low others goals) u byte fits few =
+        by_int A s 0 _ none (λ key. let within = table_within low (length goals) key in row (going 1 (Jumps (table_target low (length goals) key))) tt tt refl (omega (arith, within)))
+    rows_within method (insn.Lookup others keys goals) u byte fits few =
+        by_int A s 0 _ none
+        (λ key.
+        let within = key_within (take (length goals) keys) key (length goals) (few_keys keys (length goals)) in
+        row (going 1 (Jumps (key_target (position (int_eq key) (take (length goals) keys))))) tt tt refl (omega (arith, within)))
+    rows_within method (insn.Return value) u byte fits few = return_row value
+    rows_within method insn.Throw u byte fits few = by_object A o (throwable_type o) s 0 _ null none (lost 0) (λ it seen passes. row _ tt tt refl tt)
+    rows_within method (insn.New index) u byte fits few = new_row u
+    rows_within method (insn.GetStatic index) u byte fits few = get_static_row u
+    rows_within method (insn.PutStatic index) u byte fits few = put_static_row u
+    rows_within method (insn.GetField index) u byte fits few = get_field_row u
+    rows_within method (insn.PutField index) u byte fits few = put_field_row u
+    rows_within method (insn.Cast index) u byte fits few = cast_row u
+    rows_within method (insn.IsA index) u byte fits few = is_a_row u
+    rows_within method (insn.ArrayLoad e) u byte fits few = array_load_row e
+    rows_within method (insn.ArrayStore e) u byte fits few = array_store_row e
+    rows_within method insn.Length u byte fits few = length_row
+    rows_within method (insn.NewArray e) u byte fits few = new_array_row e
+    rows_within method (insn.NewRefs index) u byte fits few = new_references_row u
+    rows_within method (insn.MultiArray index dimensions) u byte fits few = multi_array_row u dimensions
+    rows_within method (insn.Virtual index) u byte fits few = virtual_row u byte
+    rows_within method (insn.Interface index) u byte fits few = interface_row u byte
+    rows_within method (insn.Special index) u byte fits few = special_row method u byte
+    rows_within method (insn.Static index) u byte fits few = static_row u byte
+    rows_within method (insn.LeftOut opcode) u byte fits few = none

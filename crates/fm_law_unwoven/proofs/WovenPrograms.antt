@@ -28,13 +28,15 @@ use Rattle.fm_law_relinked.proofs.FreeUse.{ClassTypesAreNumbered, has_free, type
 use Rattle.fm_law_relinked.specs.Codes.{code_with}
 use Rattle.fm_law_retyped.proofs.KeptRows.{same_row}
 use Rattle.fm_law_retyped.proofs.SafeMethods.{safe_can}
+use Rattle.fm_law_retyped.proofs.SlotLists.{insn_inside}
 use Rattle.fm_law_retyped.proofs.WrittenMethods.{HasMember, IsWritten, marks_in, written_method}
 use Rattle.fm_law_retyped.proofs.WrittenUses.{free_use, freed_use, handler_use, insn_use, outlines_same, program_outline, used_by_item}
-use Rattle.fm_law_same_runs.specs.Beside.{kept_item, Marks}
+use Rattle.fm_law_same_runs.specs.Beside.{Marks}
 use Rattle.fm_law_same_runs.specs.Programs.{AreTaken}
 use Rattle.fm_law_unwoven.proofs.LaidTodos.{laid}
 use Rattle.fm_law_unwoven.specs.Laid.{IsKept, IsLaid, IsSplit, IsWhole, mark_at, moved_to}
-use Rattle.fm_law_unwoven.specs.WovenFrom.{CallsFree, IsUnchanged, IsWoven, IsWovenBy, IsWovenFrom, NamesTheSame, SafeProgramsAreWoven}
+use Rattle.fm_law_unwoven.proofs.LaidSame.{same_laid}
+use Rattle.fm_law_unwoven.specs.WovenFrom.{CallsFree, HasInserted, inserted_by, IsWovenFrom, NamesTheSame, nothing_inserted, own_marks, SafeProgramsAreWoven}
 use Rattle.fm_law_woven_flow.specs.Roles.{CanStand, IsOpposite, IsRetargeted}
 use Rattle.fm_layout.specs.Spelling.{conditional, opposite}
 use Rattle.fm_link_supers.proofs.ParentRefusals.{spelled_at}
@@ -131,17 +133,27 @@ module _ (numbered : ClassTypesAreNumbered) (given : List ClassDef) (main : List
     marks_none : slice_index_or (marks_with plans given) method [] ≡ map (λ j. Some j) (range_with_len 0 (length code.items))
     marks_none = x.marks_are ∙ ap (marks_in free (Some code)) none
 
-    unchanged : IsUnchanged q (marks_with plans given) method code
+    all_marked : (j : ℕ) → j < length code.items → mark_at (own_marks (marks_with plans given) method) j ≡ Some j
+    all_marked j inside =
+        let place : 0 + j ≡ j = omega arith in
+        ap (λ marks. mark_at marks j) marks_none ∙ all_kept (length code.items) 0 j inside ∙ ap Some place
+
+    marked_once : (n j : ℕ) → mark_at (own_marks (marks_with plans given) method) n ≡ Some j → (j < length code.items) × (n ≡ j)
+    marked_once n j is =
+        let found = kept_once (length code.items) 0 n j (sym (ap (λ marks. mark_at marks n) marks_none) ∙ is) in
+        let place = found.1 in
+        let less = found.0 in
+        (omega (arith, less, place), omega (arith, place))
+
+    unchanged : HasInserted q (marks_with plans given) method code nothing_inserted
     unchanged = record {
-      code_is = same_code;
-      marked = λ j inside.
-          let place : 0 + j ≡ j = omega arith in
-          ap (λ marks. mark_at marks j) marks_none ∙ all_kept (length code.items) 0 j inside ∙ ap Some place;
-      once = λ n j is.
-          let found = kept_once (length code.items) 0 n j (sym (ap (λ marks. mark_at marks n) marks_none) ∙ is) in
-          let place = found.1 in
-          let less = found.0 in
-          (omega (arith, less, place), omega (arith, place));
+      free = free;
+      new = code;
+      new_is = same_code;
+      laid = same_laid free code (own_marks (marks_with plans given) method) all_marked marked_once;
+      frees = λ n there none.
+          let inside = insn_inside code n (insn.Static free) there in
+          absurd (none-some n (sym none ∙ all_marked n inside));
     }
 
   -- ---- with a plan
@@ -187,14 +199,13 @@ module _ (numbered : ClassTypesAreNumbered) (given : List ClassDef) (main : List
         subst (λ u. CallsFree q.outline u) (sym use_is)
         (subst (λ o. CallsFree o free_use) (sym (outlines_same given main plans spelled)) (calls_free numbered given main resolved))
 
-    woven : IsWoven p q facts (marks_with plans given) method code plan
+    woven : HasInserted q (marks_with plans given) method code plan
     woven = record {
       free = free;
-      code_is = new_is;
-      frees = frees;
-      safe = safe;
-      can = can;
-      marked = x.marks_are ∙ ap (marks_in free (Some code)) planned;
+      new = new;
+      new_is = new_is;
+      laid = subst (IsLaid free code plan new) (sym (x.marks_are ∙ ap (marks_in free (Some code)) planned)) own;
+      frees = λ n there none. frees n there;
     }
 
   -- ---- by the plan
@@ -206,7 +217,7 @@ module _ (numbered : ClassTypesAreNumbered) (given : List ClassDef) (main : List
 
   pub method_woven : (plan : Option Insertions) → plans method ≡ plan
       → ((own : Insertions) → plan ≡ Some own → AreSafe facts (typed_method (program_of given main) facts.typing method code) own)
-      → IsWovenBy p q facts (marks_with plans given) method code plan
+      → HasInserted q (marks_with plans given) method code (inserted_by plan)
   method_woven None is safe = unchanged is
   method_woven (Some plan) is safe = woven plan is (safe plan refl)
 
@@ -242,6 +253,7 @@ module _ (numbered : ClassTypesAreNumbered) (given : List ClassDef) (main : List
         method_named numbered given main safe.plans spelled resolved safe.facts method code is (safe.plans method) refl (safe_at method code is);
     methods = λ method code is.
         method_woven numbered given main safe.plans spelled resolved safe.facts method code is (safe.plans method) refl (safe_at method code is);
+    safe = λ method code plan is so. safe_at method code is plan so;
   }
 
   pub written_woven : IsWovenFrom p (program_of written main) safe.facts safe.plans marks

@@ -1,21 +1,19 @@
 -- What inserted items do to a state: they change holders and free what these kept, and nothing else.
-use Rattle.std.specs.Prelude.{◌≡◌, ℕ, zero, suc, ◌+◌, ◌<◌, List, [], ◌∷◌, ◌++◌, length, Some, None, Contains, slice_set}
-use Rattle.std.specs.List.{AllByRecursion, slice_index_or}
+use Rattle.std.specs.Prelude.{◌≡◌, ℕ, zero, suc, ◌+◌, ◌<◌, List, [], ◌∷◌, ◌++◌, length, Some, None, slice_set}
 use Rattle.fm_code.specs.declared.code_array.Code.{Code}
 use Rattle.fm_frames.specs.Acts.{cell_of, Choose, freed}
 use Rattle.fm_cells.specs.Stores.{object_at}
-use Rattle.fm_conn.specs.Facts.{Facts}
 use Rattle.fm_frames.specs.States.{Areas, Frame, null, State, word_at}
 use Rattle.fm_frames.specs.Steps.{step}
 use Rattle.fm_frames.specs.declared.ends.Ended.TheVariants as end
 use Rattle.fm_frames.specs.declared.values.Value.{Value}
 use Rattle.fm_place.specs.Insertions.{Insertions}
-use Rattle.fm_place.specs.Woven.{local_of, woven_code}
+use Rattle.fm_place.specs.Woven.{local_of}
 use Rattle.fm_world.specs.Programs.{Program}
 use Rattle.fm_law_same_runs.specs.Beside.{IsAtInserted, Marks}
 use Rattle.fm_law_sound.specs.Sound.{IsReference}
 use Rattle.fm_law_unwoven.specs.Laid.{all_insns_to, LieInserted, Todo, ToFree, ToKeep, ToStart}
-use Rattle.fm_law_unwoven.specs.WovenFrom.{IsWoven}
+use Rattle.fm_law_unwoven.specs.WovenFrom.{HasInserted, own_marks}
 
 -- ---- inserted steps
 
@@ -112,11 +110,10 @@ pub data IsDone (q : Program) (marks : Marks) (choose : Choose) (old : Code) (y 
       → (step q choose z).state.ended ≡ Some (end.Fault (record { 0 = method }) offset cell) → (step q choose z).printed ≡ []
       → IsDone q marks choose old y f callers todos next
 
--- what is inserted into a woven method is done, from where it is inserted on
+-- what is inserted into a method is done, from where it is inserted on
 abbrev pub TodosAreDone : Type 0
 TodosAreDone =
-    (p q : Program) (facts : Facts) (marks : Marks) (choose : Choose) (f : Frame) (old : Code) (plan : Insertions) (w : IsWoven p q facts marks f.method old plan)
-    → (todos : List Todo) (next : ℕ)
-    → LieInserted (woven_code w.free old plan) (slice_index_or marks f.method []) f.item (all_insns_to w.free old todos) next
+    (q : Program) (marks : Marks) (choose : Choose) (f : Frame) (old : Code) (plan : Insertions) (w : HasInserted q marks f.method old plan)
+    → (todos : List Todo) (next : ℕ) → LieInserted w.new (own_marks marks f.method) f.item (all_insns_to w.free old todos) next
     → MayDoAll old f.stack f.locals todos → (y : State) (callers : List Frame)
     → IsDone q marks choose old y f callers todos next

@@ -71,6 +71,8 @@ moved_to entries h = record { start = entries h.start; end = entries h.end; hand
 
 -- The new code has the items of the old one in their order, with just what its plan inserts between them.
 pub record IsLaid (free : ℕ) (old : Code) (plan : Insertions) (new : Code) (marks : List (Option ℕ)) : Type 0 where
+  -- a local for each holder comes after those of the old code
+  pub locals : new.max_locals ≡ old.max_locals + length plan.holders
   -- the item that keeps an old one; where control enters an old one; and what follows it
   pub numbers : ℕ → ℕ
   pub entries : ℕ → ℕ

@@ -1,7 +1,7 @@
 -- What the effect of an instruction doesn't look at: where targets lead, and locals but those that the instruction names.
-use Rattle.std.specs.Prelude.{◌≡◌, ℕ, ◌<◌, not, Bool, List, Option}
+use Rattle.std.specs.Prelude.{◌≡◌, ℕ, ◌<◌, not, Bool, List, length, Option}
 use Rattle.std.specs.List.{AllByRecursion}
-use Rattle.fm_code.specs.SpellsCode.{LocalsFit, with_targets}
+use Rattle.fm_code.specs.SpellsCode.{LocalsFit, targets_of, with_targets}
 use Rattle.fm_code.specs.declared.instructions.Insn.{Insn}
 use Rattle.fm_layout.specs.Spelling.{conditional, opposite}
 use Rattle.fm_layout.specs.declared.rooms.Condition.{Condition}
@@ -52,23 +52,25 @@ ActsWithout (Put object place kind v) = IsWithin 0 object × IsWithin 0 v
 ActsWithout (SetStatic slot kind v) = IsWithin 0 v
 ActsWithout action = Unit {0}
 
--- what is thrown, or meets a fault, comes from no local
-abbrev pub GoesWithout : Next → Type 0
-GoesWithout (Throws source) = IsWithin 0 source
-GoesWithout (Faults source) = IsWithin 0 source
-GoesWithout next = Unit {0}
+-- a target that follows is one of this many, and what is thrown, or meets a fault, comes from no local
+abbrev pub GoesWithin : (targets : ℕ) → Next → Type 0
+GoesWithin targets (Jumps n) = n < targets
+GoesWithin targets (JumpsIfSame same) = 0 < targets
+GoesWithin targets (Throws source) = IsWithin 0 source
+GoesWithin targets (Faults source) = IsWithin 0 source
+GoesWithin targets next = Unit {0}
 
--- an effect reads and writes the first n locals at most; its actions, and what follows, read none
-pub record UsesLocals (n : ℕ) (e : Effect) : Type 0 where
+-- An effect reads and writes the first locals at most, its actions read none, and it goes to one of the first targets.
+pub record UsesNamed (locals targets : ℕ) (e : Effect) : Type 0 where
   pub acts : AllByRecursion ActsWithout e.actions
-  pub gives : AllByRecursion (IsWithin n) e.gives
-  pub writes : AllByRecursion (λ (w : ℕ × Source). (w.0 < n) × IsWithin n w.1) e.writes
-  pub next : GoesWithout e.next
+  pub gives : AllByRecursion (IsWithin locals) e.gives
+  pub writes : AllByRecursion (λ (w : ℕ × Source). (w.0 < locals) × IsWithin locals w.1) e.writes
+  pub next : GoesWithin targets e.next
 
--- an instruction that fits n locals uses these at most, also where a class has to be started before
-abbrev pub LocalsAreNamed : Type 0
-LocalsAreNamed = (n : ℕ) (o : Outline) (started : List Bool) (method : ℕ) (u : Use) (i : Insn) (byte : Option ℕ) (s : List Sight)
-    → LocalsFit n i → UsesLocals n (with_start o started (effect_of o method u i byte s))
+-- an instruction that fits the locals uses these at most, and goes to a target that it names; also where a class has to be started before
+abbrev pub OnlyNamedIsUsed : Type 0
+OnlyNamedIsUsed = (locals : ℕ) (o : Outline) (started : List Bool) (method : ℕ) (u : Use) (i : Insn) (byte : Option ℕ) (s : List Sight)
+    → LocalsFit locals i → UsesNamed locals (length (targets_of i)) (with_start o started (effect_of o method u i byte s))
 
 -- actions that read no local do the same over any locals
 abbrev pub LocalsAreUnseen : Type 0

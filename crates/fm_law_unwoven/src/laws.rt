@@ -2,7 +2,7 @@
 
 ghost use Rattle.fm_law_unwoven.specs.Doing.{TodosAreDone};
 ghost use Rattle.fm_law_unwoven.specs.Laid.{CodesAreLaid};
-ghost use Rattle.fm_law_unwoven.specs.UnseenCode.{LocalsAreNamed, LocalsAreUnseen, OppositesExchange, TargetsAreUnseen};
+ghost use Rattle.fm_law_unwoven.specs.UnseenCode.{LocalsAreUnseen, OnlyNamedIsUsed, OppositesExchange, TargetsAreUnseen};
 ghost use Rattle.fm_law_unwoven.specs.WovenFrom.{SafeProgramsAreWoven};
 
 use fm_law_linked::law_resolved;
@@ -18,12 +18,12 @@ pub fn law_woven()
     law_resolved();
 }
 
-/// The effect of an instruction doesn't look at where its targets lead, and uses no locals but those that
-/// the instruction names; the opposite of a branch goes where the branch doesn't.
+/// The effect of an instruction doesn't look at where its targets lead, and uses no locals and targets but
+/// those that the instruction names; the opposite of a branch goes where the branch doesn't.
 pub fn law_unseen_code()
     ensures targets { TargetsAreUnseen }
     ensures opposites { OppositesExchange }
-    ensures named { LocalsAreNamed }
+    ensures named { OnlyNamedIsUsed }
     ensures locals { LocalsAreUnseen }
 {}
 
