@@ -20,7 +20,7 @@ use Rattle.fm_layout.specs.Spelling.{conditional, opposite}
 use Rattle.fm_place.proofs.FullLemmas.{some-same}
 use Rattle.fm_place.specs.Insertions.{after_at, before_at, Insertions}
 use Rattle.fm_place.specs.Woven.{anchors_of, count_at, freed_items, local_of, null_stored_items, top_stored_items, woven, woven_code, woven_marks}
-use Rattle.fm_law_retyped.proofs.SlotLists.{insn_inside}
+use Rattle.fm_law_sound.proofs.FramesStand.{item_within}
 use Rattle.fm_law_woven_flow.proofs.Caught.{anchor_inside, first_le, goes_le}
 use Rattle.fm_law_woven_flow.proofs.LaidItems.{first_of, goes_to, is_split_of, item_total, laid_insn, lays, split_insn, SplitAt, whole_insn}
 use Rattle.fm_law_woven_flow.proofs.LaidRoles.{width}
@@ -224,8 +224,7 @@ module _ (free : ℕ) (old : Code) (plan : Insertions) where
   kept_between j inside =
       let next = next_anchor old plan j inside in
       let below = kept_below j inside in
-      let all = anchor_inside old plan (suc j) (omega arith) in
-      (
+      let all = anchor_inside old plan (suc j) (omega arith) in (
         first_le free old plan (anchor j) (kept_new old plan j) (omega arith) (omega arith),
         (lays free old plan).rise (kept_new old plan j) (anchor (suc j)) (omega (arith, next)) all,
       )
@@ -346,7 +345,7 @@ module _ (free : ℕ) (old : Code) (plan : Insertions) where
         (all_insns_to free old (keeps_at plan j)) (all_insns_to free old (frees_at plan (j + 1)))
         (subst (λ t. LieInserted new marks (first (suc (kept_new old plan j))) (all_insns_to free old (keeps_at plan j)) (goes_to free old plan t)) next (behind_kept j (omega arith)))
         (before_kept (j + 1) more));
-    kept = λ j i found. kept_as j i (insn_inside old j i found) found (is_split_of free old plan (kept_new old plan j)) refl;
+    kept = λ j i found. kept_as j i (item_within old j i found) found (is_split_of free old plan (kept_new old plan j)) refl;
     marked = marked;
     once = once rules can;
     handlers = refl;

@@ -7,3 +7,8 @@ pub mod LaidSame
 pub mod InsertedSteps
 pub mod TodosDone
 pub mod WovenPrograms
+pub mod OldFrames
+pub mod KeptEffects
+pub mod KeptGoes
+pub mod KeptCatches
+pub mod KeptNext

@@ -19,10 +19,12 @@ use Rattle.fm_frames.specs.NativeRows.{text_type}
 use Rattle.fm_frames.specs.Rows.{effect_of}
 use Rattle.fm_frames.specs.Starts.{fields_at, set_constant, start_actions, start_methods, start_of_class, to_start, with_start}
 use Rattle.fm_frames.specs.States.{Areas, word_at}
+use Rattle.fm_frames.specs.Steps.{is_start}
 use Rattle.fm_frames.specs.declared.values.Value.{Value}
 use Rattle.fm_law_sound.proofs.Opening.{all_flat, with_text}
 use Rattle.fm_law_sound.proofs.StartActs.{after_methods, for_class}
 use Rattle.fm_law_unwoven.proofs.UsedLocals.{rows_within}
+use Rattle.fm_same.proofs.Starting.{starts_are}
 use Rattle.fm_law_unwoven.specs.UnseenCode.{ActsWithout, IsWithin, LocalsAreUnseen, OnlyNamedIsUsed, UsesNamed}
 
 -- ---- values
@@ -109,21 +111,26 @@ starts_without o classes =
           (λ field. constant_without o field (field_at o.classes field).field.value),
     ))
 
-module _ (max targets : ℕ) (o : Outline) (started : List Bool) (e : Effect) (uses : UsesNamed max targets e) where
-  methods_within : (classes methods : List ℕ) → UsesNamed max targets (after_methods o classes e methods)
-  methods_within classes [] = record {
+module _ (max targets : ℕ) (o : Outline) (started : List Bool) (e : Effect) (uses : UsesNamed o max targets e) where
+  methods_within : (classes methods : List ℕ) → start_methods o classes ≡ methods → UsesNamed o max targets (after_methods o classes e methods)
+  methods_within classes [] are = record {
     acts = AllByRecursion-append ActsWithout (start_actions o classes) e.actions (starts_without o classes) uses.acts;
     gives = uses.gives;
     writes = uses.writes;
     next = uses.next;
   }
-  methods_within classes (m ∷ methods) = record { acts = starts_without o classes; gives = tt; writes = tt; next = tt }
+  methods_within classes (m ∷ methods) are = record {
+    acts = starts_without o classes;
+    gives = tt;
+    writes = tt;
+    next = subst (AllByRecursion (λ n. is_start o n ≡ true)) are (starts_are o classes);
+  }
 
-  class_within : (class : Option ℕ) → UsesNamed max targets (for_class o started e class)
+  class_within : (class : Option ℕ) → UsesNamed o max targets (for_class o started e class)
   class_within None = uses
-  class_within (Some class) = methods_within (to_start o started class) (start_methods o (to_start o started class))
+  class_within (Some class) = methods_within (to_start o started class) (start_methods o (to_start o started class)) refl
 
-  pub start_within : UsesNamed max targets (with_start o started e)
+  pub start_within : UsesNamed o max targets (with_start o started e)
   start_within = class_within e.starts
 
 pub only_named : OnlyNamedIsUsed

@@ -58,9 +58,9 @@ loaded_within max kind.Short source within = (within, tt)
 loaded_within max kind.Int source within = (within, tt)
 loaded_within max (kind.Ref t) source within = (within, tt)
 
-jumps_within : (targets : ℕ) → 0 < targets → (taken : Bool) → GoesWithin targets (jumps_if taken)
-jumps_within targets some true = some
-jumps_within targets some false = tt
+jumps_within : (o : Outline) (targets : ℕ) → 0 < targets → (taken : Bool) → GoesWithin o targets (jumps_if taken)
+jumps_within o targets some true = some
+jumps_within o targets some false = tt
 
 -- the arrays of arrays that one instruction makes
 arrays_without : (t : TypeRef) (counts : List ℕ) (first : ℕ) → AllByRecursion ActsWithout (array_actions t counts first)
@@ -81,10 +81,10 @@ arrays_without t (count ∷ next ∷ counts) first = (
 
 module _ (max targets : ℕ) (o : Outline) where
   abbrev A : Effect → Type 0
-  A e = UsesNamed max targets e
+  A e = UsesNamed o max targets e
 
   -- what writes no local
-  row : (e : Effect) → AllByRecursion ActsWithout e.actions → AllByRecursion (IsWithin max) e.gives → e.writes ≡ [] → GoesWithin targets e.next → A e
+  row : (e : Effect) → AllByRecursion ActsWithout e.actions → AllByRecursion (IsWithin max) e.gives → e.writes ≡ [] → GoesWithin o targets e.next → A e
   row e acts gives none next = record {
     acts = acts;
     gives = gives;
@@ -300,7 +300,7 @@ module _ (max targets : ℕ) (o : Outline) where
     get_field_row : (u : Use) → A (objects.get_field_effect o u s)
     unfolding objects.get_field_effect
     get_field_row u =
-        by_on_field A o u _ none (λ g n t is at. by_object A o t s 0 _ null none (lost 0) 
+        by_on_field A o u _ none (λ g n t is at. by_object A o t s 0 _ null none (lost 0)
         (λ it seen passes. row (words 1 _) tt
         (loaded_within max (objects.kind_of_field o g.0) (OfPlace 0 (slot_of o.classes g.0) (objects.kind_of_field o g.0)) tt) refl tt))
 
@@ -465,10 +465,10 @@ module _ (max targets : ℕ) (o : Outline) where
     rows_within method (insn.LongShift shift) u byte fits few = by_int A s 0 _ none (λ n. by_long A s 2 _ none (λ a. row _ tt (tt, (tt, tt)) refl tt))
     rows_within method (insn.Convert to) u byte fits few = convert_row to
     rows_within method insn.LongCompare u byte fits few = by_long A s 1 _ none (λ b. by_long A s 3 _ none (λ a. row _ tt (tt, tt) refl tt))
-    rows_within method (insn.IfInt test target) u byte fits few = by_int A s 0 _ none (λ a. row _ tt tt refl (jumps_within targets (omega arith) _))
-    rows_within method (insn.IfPair test target) u byte fits few = by_int A s 0 _ none (λ b. by_int A s 1 _ none (λ a. row _ tt tt refl (jumps_within targets (omega arith) _)))
+    rows_within method (insn.IfInt test target) u byte fits few = by_int A s 0 _ none (λ a. row _ tt tt refl (jumps_within o targets (omega arith) _))
+    rows_within method (insn.IfPair test target) u byte fits few = by_int A s 0 _ none (λ b. by_int A s 1 _ none (λ a. row _ tt tt refl (jumps_within o targets (omega arith) _)))
     rows_within method (insn.IfSame same target) u byte fits few = let some : 0 < targets = omega arith in row _ tt tt refl some
-    rows_within method (insn.IfNull is_null target) u byte fits few = by_reference A s 0 _ none (λ b. row _ tt tt refl (jumps_within targets (omega arith) _))
+    rows_within method (insn.IfNull is_null target) u byte fits few = by_reference A s 0 _ none (λ b. row _ tt tt refl (jumps_within o targets (omega arith) _))
     rows_within method (insn.Goto target) u byte fits few = let some : 0 < targets = omega arith in row _ tt tt refl some
     rows_within method (insn.Table low others goals) u byte fits few =
         by_int A s 0 _ none (λ key. let within = table_within low (length goals) key in row (going 1 (Jumps (table_target low (length goals) key))) tt tt refl (omega (arith, within)))

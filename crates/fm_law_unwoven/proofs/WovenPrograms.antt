@@ -28,7 +28,7 @@ use Rattle.fm_law_relinked.proofs.FreeUse.{ClassTypesAreNumbered, has_free, type
 use Rattle.fm_law_relinked.specs.Codes.{code_with}
 use Rattle.fm_law_retyped.proofs.KeptRows.{same_row}
 use Rattle.fm_law_retyped.proofs.SafeMethods.{safe_can}
-use Rattle.fm_law_retyped.proofs.SlotLists.{insn_inside}
+use Rattle.fm_law_sound.proofs.FramesStand.{item_within}
 use Rattle.fm_law_retyped.proofs.WrittenMethods.{HasMember, IsWritten, marks_in, written_method}
 use Rattle.fm_law_retyped.proofs.WrittenUses.{free_use, freed_use, handler_use, insn_use, outlines_same, program_outline, used_by_item}
 use Rattle.fm_law_same_runs.specs.Beside.{Marks}
@@ -152,7 +152,7 @@ module _ (numbered : ClassTypesAreNumbered) (given : List ClassDef) (main : List
       new_is = same_code;
       laid = same_laid free code (own_marks (marks_with plans given) method) all_marked marked_once;
       frees = λ n there none.
-          let inside = insn_inside code n (insn.Static free) there in
+          let inside = item_within code n (insn.Static free) there in
           absurd (none-some n (sym none ∙ all_marked n inside));
     }
 

@@ -93,18 +93,18 @@ pub record IsAtKept (p q : Program) (facts : Facts) (plans : Plans) (marks : Mar
 -- or at the start of a method
 pub data GoesOn (q : Program) (marks : Marks) (f g : Frame) (old : Code) (plan : Insertions) (w : HasInserted q marks g.method old plan) (j : ℕ) : Type 0 where
   GoesBehind : f.item ≡ j + 1 → g.item ≡ w.laid.behind j → GoesOn q marks f g old plan w j
-  GoesTo : g.item ≡ w.laid.entries f.item → GoesOn q marks f g old plan w j
+  GoesBefore : g.item ≡ w.laid.entries f.item → GoesOn q marks f g old plan w j
   GoesByJump : insn_of w.new g.item ≡ Some (insn.Goto (w.laid.entries f.item)) → mark_at (own_marks marks g.method) g.item ≡ None
       → GoesOn q marks f g old plan w j
 
 -- the frame goes on with its holders as they were at old item j; or it begins
 pub data FrameGoes (p q : Program) (facts : Facts) (plans : Plans) (marks : Marks) (f g : Frame) : Type 0 where
-  GoesWithin : (j : ℕ) (old : Code) (code_is : code_at p g.method ≡ Some old) (w : HasInserted q marks g.method old (inserted_by (plans g.method)))
+  InMethod : (j : ℕ) (old : Code) (code_is : code_at p g.method ≡ Some old) (w : HasInserted q marks g.method old (inserted_by (plans g.method)))
       → GoesOn q marks f g old (inserted_by (plans g.method)) w j
       → HoldersStand facts (typed_method p facts.typing g.method old) (inserted_by (plans g.method)) g j
       → FrameGoes p q facts plans marks f g
   Begins : f.item ≡ 0 → g.item ≡ 0 → g.stack ≡ [] → length g.locals ≡ max_locals_of q g.method → FrameGoes p q facts plans marks f g
-  StaysAtKept : StandsAtKept p facts plans marks g → kept_item marks g.method g.item ≡ Some f.item → FrameGoes p q facts plans marks f g
+  Resumes : StandsAtKept p facts plans marks g → kept_item marks g.method g.item ≡ Some f.item → FrameGoes p q facts plans marks f g
 
 -- the frames of both states after a step
 pub record FramesGo (p q : Program) (facts : Facts) (plans : Plans) (marks : Marks) (f g : Frame) (callers below : List Frame) : Type 0 where

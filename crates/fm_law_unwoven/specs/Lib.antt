@@ -2,3 +2,4 @@ pub mod UnseenCode
 pub mod Laid
 pub mod WovenFrom
 pub mod Doing
+pub mod Kept
