@@ -92,8 +92,8 @@ module _ (p q : Program) (facts : Facts) (plans : Plans) (marks : Marks) (from :
         ap (nat_le (w.laid.entries h.start)) at.1 ∙ le_same (w.laid.entries h.start) (w.laid.numbers j) h.start j low.0 low.1 ∙ sym (ap (nat_le h.start) item_is) in
         let end : nat_lt g.item (w.laid.entries h.end) ≡ nat_lt f.item h.end =
         ap (λ n. nat_lt n (w.laid.entries h.end)) at.1 ∙ lt_same (w.laid.numbers j) (w.laid.entries h.end) j h.end high.0 high.1 ∙ sym (ap (λ n. nat_lt n h.end) item_is) in
-        let use = (from.named g.method code code_is).handlers h listed in
-        (λ k. start k && end k && takes_by (from.outline k) t h.catch_class (use k))
+        let uses = (from.named g.method code code_is).handlers h listed in
+        (λ k. start k && end k && takes_by (from.outline k) t h.catch_class (uses k))
 
     among_same : (handlers : List Handler) → ((h : Handler) → Contains handlers h → Contains code.handlers h)
         → handler_among q g t (map (moved_to w.laid.entries) handlers) ≡ option_map w.laid.entries (handler_among p f t handlers)

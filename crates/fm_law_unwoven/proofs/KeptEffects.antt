@@ -86,8 +86,8 @@ module _ (p q : Program) (facts : Facts) (plans : Plans) (marks : Marks) (from :
       → effect_of q.outline g.method (use_by q g.method kept) kept byte (sights q.outline z.areas.store g.stack)
       ≡ effect_of p.outline g.method (use_by p g.method i) kept byte (sights p.outline z.areas.store g.stack)
   kept_named kept same =
-      let use : use_by q g.method kept ≡ use_by p g.method i = (same_row i kept same).used q g.method ∙ (from.named g.method code code_is).insns j i found in
-      (λ t. effect_of (from.outline t) g.method (use t) kept byte (sights (from.outline t) z.areas.store g.stack))
+      let uses : use_by q g.method kept ≡ use_by p g.method i = (same_row i kept same).used q g.method ∙ (from.named g.method code code_is).insns j i found in
+      (λ t. effect_of (from.outline t) g.method (uses t) kept byte (sights (from.outline t) z.areas.store g.stack))
 
   -- the effects of both frames, with the start of a class
   old_effect : next_effect p x ≡ with_start p.outline z.areas.started own
