@@ -34,7 +34,7 @@ use Rattle.fm_world.specs.declared.uses.Use.{Use}
 abbrev StartsNone : Effect → Type 0
 StartsNone e = e.starts ≡ None
 
-branch_starts : (o : Outline) (method : ℕ) (u : Use) (c : Condition) (target : ℕ) (byte : Option ℕ) (s : List Sight)
+pub branch_starts : (o : Outline) (method : ℕ) (u : Use) (c : Condition) (target : ℕ) (byte : Option ℕ) (s : List Sight)
     → (effect_of o method u (conditional c target) byte s).starts ≡ None
 unfolding effect_of int_jump_effect pair_jump_effect null_jump_effect
 branch_starts o method u (condition.Int t) target byte s = by_int StartsNone s 0 _ refl (λ a. refl)
@@ -90,7 +90,7 @@ module _ (p q : Program) (facts : Facts) (plans : Plans) (marks : Marks) (from :
       (λ t. effect_of (from.outline t) g.method (uses t) kept byte (sights (from.outline t) z.areas.store g.stack))
 
   -- the effects of both frames, with the start of a class
-  old_effect : next_effect p x ≡ with_start p.outline z.areas.started own
+  pub old_effect : next_effect p x ≡ with_start p.outline z.areas.started own
   unfolding next_effect
   old_effect = ap (λ o. with_start p.outline z.areas.started (effect_by p x f o)) old_next
 

@@ -56,14 +56,14 @@ module _ (p q : Program) (facts : Facts) (plans : Plans) (marks : Marks) (from :
   abbrev w : HasInserted q marks g.method code (inserted_by (plans g.method))
   w = from.methods g.method code code_is
 
-  abbrev new_source : Sources
+  abbrev pub new_source : Sources
   new_source = new_from (max_locals_of p g.method) g.locals g.stack areas made
 
-  abbrev old_source : Sources
+  abbrev pub old_source : Sources
   old_source = old_from (max_locals_of p g.method) g.locals g.stack areas made
 
   -- the states when the actions are done
-  abbrev done_with : Next → List Frame → State
+  abbrev pub done_with : Next → List Frame → State
   done_with next frames = record z {
     frames = frames;
     areas = areas;
@@ -71,7 +71,7 @@ module _ (p q : Program) (facts : Facts) (plans : Plans) (marks : Marks) (from :
     steps = (if is_done next then z.steps + price else z.steps);
   }
 
-  abbrev Alike : State → State → Type 0
+  abbrev pub Alike : State → State → Type 0
   Alike xs ys = StepsAlike p q facts plans marks (record { state = xs; printed = printed }) (record { state = ys; printed = printed })
 
   old_item_is : f.item ≡ j
@@ -240,7 +240,7 @@ module _ (p q : Program) (facts : Facts) (plans : Plans) (marks : Marks) (from :
         ended (stopped x e) (stopped y other) e refl (λ k. record (same k) { ended = Some (alike k) })
 
   -- a value that comes from no local
-  without_local : (source : Source) → IsWithin 0 source → value_of new_source source ≡ value_of old_source source
+  pub without_local : (source : Source) → IsWithin 0 source → value_of new_source source ≡ value_of old_source source
   without_local source within = same_value g.locals (take (max_locals_of p g.method) g.locals) g.stack areas made source within
 
   thrown_alike : (source : Source) → IsWithin 0 source → (x y : State) → but_frames y ≡ but_frames x

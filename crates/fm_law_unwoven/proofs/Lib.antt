@@ -12,3 +12,6 @@ pub mod KeptEffects
 pub mod KeptGoes
 pub mod KeptCatches
 pub mod KeptNext
+pub mod KeptSound
+pub mod KeptSplit
+pub mod KeptSteps

@@ -1,11 +1,13 @@
 // Laws of the definitions, each as the contract of a function that does nothing.
 
 ghost use Rattle.fm_law_unwoven.specs.Doing.{TodosAreDone};
+ghost use Rattle.fm_law_unwoven.specs.Kept.{KeptStepsAreSteps};
 ghost use Rattle.fm_law_unwoven.specs.Laid.{CodesAreLaid};
 ghost use Rattle.fm_law_unwoven.specs.UnseenCode.{LocalsAreUnseen, OnlyNamedIsUsed, OppositesExchange, TargetsAreUnseen};
 ghost use Rattle.fm_law_unwoven.specs.WovenFrom.{SafeProgramsAreWoven};
 
 use fm_law_linked::law_resolved;
+use fm_law_sound::law_sound;
 use fm_world::law_class_types;
 
 /// The program of classes with safe insertions has the outline of the given one, and its methods with what
@@ -38,3 +40,13 @@ pub fn law_laid_code()
 pub fn law_todos()
     ensures { TodosAreDone }
 {}
+
+/// A step of the second program at an item that is kept is the step of the first one at the state that it
+/// holds, on the same memory: it does the same to what frames share, prints the same and ends alike, and its
+/// frames hold those of the first program.
+pub fn law_kept_steps()
+    ensures { KeptStepsAreSteps }
+{
+    // By this law.
+    law_sound();
+}
