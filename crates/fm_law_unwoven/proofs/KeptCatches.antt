@@ -47,7 +47,7 @@ le_same a b c d to back = by_order (cases_lt d c) where
   by_order (inr le) = le-leb a b (back le) ∙ sym (le-leb c d le)
   by_order (inl less) = by_other (cases_lt b a) where
     by_other : (b < a) ⊎ (a ≤ b) → nat_le a b ≡ nat_le c d
-    by_other (inl more) = lt-leb b a more ∙ sym (lt-leb d c less)
+    by_other (inl more) = lt-leb a b more ∙ sym (lt-leb c d less)
     by_other (inr le) = absurd (let other = to le in omega (arith, less, other))
 
 lt_same : (a b c d : ℕ) → (b ≤ a → d ≤ c) → (d ≤ c → b ≤ a) → nat_lt a b ≡ nat_lt c d
@@ -86,7 +86,7 @@ module _ (p q : Program) (facts : Facts) (plans : Plans) (marks : Marks) (from :
         let valid = handler_valid code rules h listed in
         let some = valid.not_empty in
         let all = valid.end in
-        let low = w.laid.covered h.start j (omega arith) at.0 in
+        let low = w.laid.covered h.start j (omega (arith, some, all)) at.0 in
         let high = w.laid.covered h.end j all at.0 in
         let start : nat_le (w.laid.entries h.start) g.item ≡ nat_le h.start f.item =
         ap (nat_le (w.laid.entries h.start)) at.1 ∙ le_same (w.laid.entries h.start) (w.laid.numbers j) h.start j low.0 low.1 ∙ sym (ap (nat_le h.start) item_is) in

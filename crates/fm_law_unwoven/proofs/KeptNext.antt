@@ -3,6 +3,7 @@ use Rattle.std.proofs.Common.{◌≡◌, ℕ, zero, suc, ◌+◌, ◌<◌, ◌�
 use Rattle.std.specs.List.{AllByRecursion, slice_index_or}
 use Rattle.std.proofs.lemmas.Bool.{false≢true}
 use Rattle.std.proofs.lemmas.Option.{none-some}
+use Rattle.fm_base.proofs.OptionFacts.{same_value as one_value}
 use Rattle.fm_base.specs.declared.kinds.TypeRef.{TypeRef}
 use Rattle.fm_code.specs.Edges.{insn_of}
 use Rattle.fm_code.specs.SpellsCode.{targets_of, with_targets}
@@ -30,9 +31,6 @@ use Rattle.fm_law_unwoven.specs.WovenFrom.{HasInserted, inserted_by, IsWovenFrom
 use Rattle.fm_place.proofs.WovenLemmas.{targets-of-with}
 use Rattle.fm_place.specs.Rewriting.{Plans}
 use Rattle.fm_world.specs.Programs.{code_at, Outline, Program}
-
-same_option : {X : Type 0} (o : Option X) (x y : X) → o ≡ Some x → o ≡ Some y → x ≡ y
-same_option o x y first second = cc
 
 -- a target that is there, moved
 mapped_at : (f : ℕ → ℕ) (xs : List ℕ) (n d other : ℕ) → n < length xs → slice_index_or (map f xs) n d ≡ f (slice_index_or xs n other)
@@ -87,13 +85,13 @@ module _ (p q : Program) (facts : Facts) (plans : Plans) (marks : Marks) (from :
     item_is = j_is;
     holders = λ other other_is.
         subst (λ c. HoldersStand facts (typed_method p facts.typing g.method c) (inserted_by (plans g.method)) (record g { stack = stack }) j)
-        (same_option (code_at p g.method) code other code_is other_is)
+        (one_value (code_at p g.method) code other code_is other_is)
         (holders_other p q facts plans marks from (typed_method p facts.typing g.method code) (inserted_by (plans g.method)) g (record g { stack = stack }) j refl
         (λ m past. refl) stand);
   }
 
-  ended : (x y : State) (end : Ended) → x.ended ≡ Some end → but_frames y ≡ but_frames x → Alike x y
-  ended x y end is same = BothDo refl same (λ going. absurd (none-some end (sym going ∙ is)))
+  ended : (x y : State) (how : Ended) → x.ended ≡ Some how → but_frames y ≡ but_frames x → Alike x y
+  ended x y how is same = BothDo refl same (λ going. absurd (none-some how (sym going ∙ is)))
 
   -- ---- targets
 

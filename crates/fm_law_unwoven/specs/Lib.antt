@@ -3,3 +3,4 @@ pub mod Laid
 pub mod WovenFrom
 pub mod Doing
 pub mod Kept
+pub mod Runs
