@@ -12,7 +12,7 @@ use Rattle.fm_code.specs.declared.operations.Reg.TheVariants as reg
 use Rattle.fm_frames.proofs.StepCounts.{step_going}
 use Rattle.fm_frames.specs.Acts.{cell_of, Choose, freed, performed}
 use Rattle.fm_frames.specs.CallRows.{entered_as, native_of, static_effect, words_of_arguments}
-use Rattle.fm_frames.specs.Effects.{acting, Effect, faulty, Free, nothing, null_word, OfLocal, OfOperand, words}
+use Rattle.fm_frames.specs.Effects.{acting, Effect, faulty, Free, going, Jumps, null_word, OfLocal, OfOperand, words}
 use Rattle.fm_frames.specs.NativeRows.{free_native, native_effect}
 use Rattle.fm_frames.specs.NumberRows.{load_effect, move_effect, store_effect}
 use Rattle.fm_frames.specs.ObjectRows.{starting}
@@ -21,11 +21,12 @@ use Rattle.fm_frames.specs.Rows.{effect_of}
 use Rattle.fm_frames.specs.Sights.{Gone, looks, Looks, Null, Sight, sight, sight_of_cell, sight_of_object, sights, Thing}
 use Rattle.fm_frames.specs.Starts.{started_by, to_start, with_start}
 use Rattle.fm_frames.specs.States.{Areas, Frame, Moved, null, State, word_at}
-use Rattle.fm_frames.specs.Steps.{attempted, continued, effect_by, next_effect, next_insn, offset_at, step}
+use Rattle.fm_frames.specs.Steps.{attempted, continued, effect_by, next_effect, next_insn, offset_at, step, target_at}
 use Rattle.fm_frames.specs.Uses.{by_type, on_method}
 use Rattle.fm_frames.specs.declared.ends.Ended.TheVariants as end
 use Rattle.fm_frames.specs.declared.values.Value.{Value}
 use Rattle.fm_frames.specs.declared.values.Value.TheVariants as value
+use Rattle.fm_law_sound.proofs.FramesStand.{target_in}
 use Rattle.fm_law_sound.specs.Sound.{IsReference}
 use Rattle.fm_law_unwoven.specs.Doing.{freed_from, with_frame}
 use Rattle.fm_law_unwoven.specs.WovenFrom.{CallsFree}
@@ -130,6 +131,15 @@ module _ (q : Program) (choose : Choose) where
   dup_step y f callers v rest found =
       let e : Effect = words 1 (OfOperand 0 ∷ OfOperand 0 ∷ []) in
       step_by y (record f { stack = v ∷ rest }) callers e (next_is y (record f { stack = v ∷ rest }) callers insn.Dup e e found refl refl)
+
+  -- the goto_w behind a branch that is too far leads to its target
+  pub goto_step : (y : State) (f : Frame) (callers : List Frame) (target : ℕ) → next_insn q f ≡ Some (insn.Goto target)
+      → step q choose (with_frame y f callers) ≡ goes_to (counted y) (record f { item = target }) callers
+  unfolding effect_of performed continued
+  goto_step y f callers target found =
+      let leads : target_at q f 0 ≡ target = ap (target_in 0 f.item) found in
+      step_by y f callers (going 0 (Jumps 0)) (next_is y f callers (insn.Goto target) (going 0 (Jumps 0)) (going 0 (Jumps 0)) found refl refl)
+      ∙ ap (λ n. goes_to (counted y) (record f { item = n }) callers) leads
 
   module _ (y : State) (f : Frame) (callers : List Frame) (free : ℕ) (v : Value) (rest : List Value) (calls : CallsFree q.outline (use_in q f.method free))
       (found : next_insn q f ≡ Some (insn.Static free)) where

@@ -15,3 +15,4 @@ pub mod KeptNext
 pub mod KeptSound
 pub mod KeptSplit
 pub mod KeptSteps
+pub mod TodoLocals
