@@ -16,3 +16,4 @@ pub mod KeptSound
 pub mod KeptSplit
 pub mod KeptSteps
 pub mod TodoLocals
+pub mod TodoAreas

@@ -106,3 +106,17 @@ module _ (old : Code) (stack : List Value) where
             subst IsReference
             (sym (get_or-set_other locals (local_of old (holder_of t)) (local_of old k) (got t) value.Top (λ same. other (omega (arith, same)))))
             (before k below)
+
+  -- also where one more is null
+  pub nulled_references : (count h : ℕ) (locals : List Value) → old.max_locals + count ≤ length locals
+      → ((k : ℕ) → k < count → IsReference (word_at locals (local_of old k)))
+      → (k : ℕ) → k < count → IsReference (word_at (slice_set locals (local_of old h) null) (local_of old k))
+  nulled_references count h locals wide before k below = by_holder (cases_eq k h) where
+    by_holder : (k ≡ h) ⊎ (k ≢ h) → IsReference (word_at (slice_set locals (local_of old h) null) (local_of old k))
+    by_holder (inl same) =
+        subst IsReference
+        (sym (ap (λ n. word_at (slice_set locals (local_of old h) null) (local_of old n)) same
+        ∙ get_or-set_same locals (local_of old h) null value.Top (omega (arith, wide, below, same)))) tt
+    by_holder (inr other) =
+        subst IsReference
+        (sym (get_or-set_other locals (local_of old h) (local_of old k) null value.Top (λ same. other (omega (arith, same))))) (before k below)
