@@ -165,7 +165,7 @@ module _ (p q : Program) (facts : Facts) (plans : Plans) (marks : Marks) (from :
               (holders_other p q facts plans marks from (typed_method p facts.typing g.method code) (inserted_by (plans g.method)) g
               (record g { item = w.laid.entries handler; stack = v ∷ [] }) stands.item refl (λ m past. refl) (stands.holders code code_is));
           callers_are = refl;
-          below = below_other p q facts plans marks from g (record g { item = w.laid.entries handler; stack = v ∷ [] }) refl callers below;
+          stands_below = below_other p q facts plans marks from g (record g { item = w.laid.entries handler; stack = v ∷ [] }) refl callers below;
         }
         by_handler None =
             subst (λ (o : Outline). CaughtAlike (cond (is_start p.outline g.method) (Leaves (end.InitFailed (record { 0 = class_of_method p.outline g.method }))) cp)

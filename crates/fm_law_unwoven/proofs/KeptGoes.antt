@@ -130,7 +130,7 @@ module _ (p q : Program) (facts : Facts) (plans : Plans) (marks : Marks) (from :
     stack = refl;
     top = Begins refl refl refl (new_width method arguments few);
     callers_are = are;
-    below = stand;
+    stands_below = stand;
   }
 
   pub not_begun : (above : Frame) (method : ℕ) (arguments : List Value) → is_start q.outline above.method ≡ true → length arguments ≤ max_locals_of p method
@@ -176,5 +176,5 @@ module _ (p q : Program) (facts : Facts) (plans : Plans) (marks : Marks) (from :
               (written_length max g.locals g.stack areas made e.writes g.locals)
               (λ k past. further_stay max g.locals g.stack areas made k (let is = max_is in omega (arith, is, past)) e.writes g.locals uses.writes) stand);
           callers_are = refl;
-          below = below_other g (new_went n) refl callers below;
+          stands_below = below_other g (new_went n) refl callers below;
         }

@@ -137,7 +137,7 @@ module _ (p q : Program) (facts : Facts) (plans : Plans) (marks : Marks) (from :
     stack = refl;
     top = Resumes (waits g.stack) (j_is ∙ ap Some (sym old_item_is));
     callers_are = refl;
-    below = below;
+    stands_below = below;
   }
   entered (m ∷ methods) all codes =
       let starts = ap (λ (o : Outline). is_start o m) from.outline ∙ all.0 in
@@ -168,7 +168,7 @@ module _ (p q : Program) (facts : Facts) (plans : Plans) (marks : Marks) (from :
               (holders_other p q facts plans marks from (typed_method p facts.typing next.method c) (inserted_by (plans next.method)) next now kept.item refl
               (λ m past. refl) (kept.holders c c_is));
           callers_are = refl;
-          below = below_other p q facts plans marks from next now refl rest under;
+          stands_below = below_other p q facts plans marks from next now refl rest under;
         }
 
     -- it is a frame that waits for its class, or one at a kept item
@@ -179,7 +179,7 @@ module _ (p q : Program) (facts : Facts) (plans : Plans) (marks : Marks) (from :
       stack = refl;
       top = Resumes kept (kept.item_is ∙ ap Some (sym (ap (λ o. unwrap_or o 0) kept.item_is)));
       callers_are = refl;
-      below = under;
+      stands_below = under;
     }
 
   begun : (next : Frame) (rest : List Frame) (c : Code) → code_at p next.method ≡ Some c → HasNotBegun q g next → StandBelow p q facts plans marks next rest
@@ -191,7 +191,7 @@ module _ (p q : Program) (facts : Facts) (plans : Plans) (marks : Marks) (from :
     top = Begins (ap (λ k. unwrap_or (kept_item marks next.method k) 0) stands.first ∙ first_old p q facts plans marks from next.method c c_is)
         stands.first stands.empty stands.width;
     callers_are = refl;
-    below = under;
+    stands_below = under;
   }
 
   -- what a call was: nothing is between it and what comes behind it

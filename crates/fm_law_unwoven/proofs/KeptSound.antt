@@ -98,8 +98,8 @@ module _ (p q : Program) (facts : Facts) (plans : Plans) (marks : Marks) (from :
   pub call_whole : (f next : Frame) → Calling p typings f (old_frame p marks next) ⊎ Starting p typings f (old_frame p marks next) → is_start p.outline f.method ≡ false
       → (c : Code) (c_is : code_at p next.method ≡ Some c) (item : ℕ) → kept_item marks next.method next.item ≡ Some item
       → (from.methods next.method c c_is).laid.behind item ≡ (from.methods next.method c c_is).laid.numbers item + 1
-  call_whole f next (inr starting) no c c_is item item_is = absurd (false≢true (sym no ∙ starting.starts))
-  call_whole f next (inl calling) no c c_is item item_is = by_kept (w.laid.kept item calling.called called_there) where
+  call_whole f next (inr starting) none c c_is item item_is = absurd (false≢true (sym none ∙ starting.starts))
+  call_whole f next (inl calling) none c c_is item item_is = by_kept (w.laid.kept item calling.called called_there) where
     w : HasInserted q marks next.method c (inserted_by (plans next.method))
     w = from.methods next.method c c_is
 

@@ -274,15 +274,15 @@ module _ (p q : Program) (facts : Facts) (plans : Plans) (marks : Marks) (from :
         (branch_next p.outline g.method (use_by p g.method i) c target (slice_get z.input 0) (sights p.outline z.areas.store g.stack)))
 
     deep_split : (next : Next) → FollowsBranch next → is_deep y (exchanged next) ≡ is_deep x next
-    deep_split Falls kind = refl
-    deep_split (Jumps n) kind = refl
-    deep_split (JumpsIfSame same) kind = refl
-    deep_split (Calls m) kind = absurd kind
-    deep_split (Returns n) kind = absurd kind
-    deep_split (Throws source) kind = absurd kind
-    deep_split (Enters methods) kind = absurd kind
-    deep_split (Exits n) kind = absurd kind
-    deep_split (Faults source) kind = refl
+    deep_split Falls after = refl
+    deep_split (Jumps n) after = refl
+    deep_split (JumpsIfSame same) after = refl
+    deep_split (Calls m) after = absurd after
+    deep_split (Returns n) after = absurd after
+    deep_split (Throws source) after = absurd after
+    deep_split (Enters methods) after = absurd after
+    deep_split (Exits n) after = absurd after
+    deep_split (Faults source) after = refl
 
     -- a frame behind the branch is at an item that is there
     behind_inside : (item : ℕ) (locals stack : List Value) → item ≡ f.item + 1

@@ -113,7 +113,7 @@ pub record FramesGo (p q : Program) (facts : Facts) (plans : Plans) (marks : Mar
   pub stack : g.stack ≡ f.stack
   pub top : FrameGoes p q facts plans marks f g
   pub callers_are : map (old_frame p marks) below ≡ callers
-  pub below : StandBelow p q facts plans marks g below
+  pub stands_below : StandBelow p q facts plans marks g below
 
 -- of states with frames
 abbrev pub StatesGo : Program → Program → Facts → Plans → Marks → List Frame → List Frame → Type 0
