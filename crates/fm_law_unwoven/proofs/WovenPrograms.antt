@@ -225,26 +225,26 @@ module _ (numbered : ClassTypesAreNumbered) (given : List ClassDef) (main : List
 
 module _ (numbered : ClassTypesAreNumbered) (given : List ClassDef) (main : List ℕ) (spelled : AllByRecursion HasSpelling given)
     (resolved : IsResolved (program_of given main)) (written : List ClassDef) (marks : Marks) (safe : Safe given main written marks) where
-  abbrev p : Program
-  p = program_of given main
+  abbrev first : Program
+  first = program_of given main
 
-  abbrev q : Program
-  q = program_of (rewritten safe.plans given) main
+  abbrev second : Program
+  second = program_of (rewritten safe.plans given) main
 
-  no_code_written : (method : ℕ) → code_at p method ≡ None → code_at q method ≡ None
+  no_code_written : (method : ℕ) → code_at first method ≡ None → code_at second method ≡ None
   no_code_written method none =
       let woven = codes_woven given main safe.plans method in
       woven.new_is ∙ ap (code_with woven.free (safe.plans method)) none ∙ no_code woven.free (safe.plans method)
 
-  safe_at : (method : ℕ) (code : Code) → code_at p method ≡ Some code → (plan : Insertions) → safe.plans method ≡ Some plan
-      → AreSafe safe.facts (typed_method p safe.facts.typing method code) plan
+  safe_at : (method : ℕ) (code : Code) → code_at first method ≡ Some code → (plan : Insertions) → safe.plans method ≡ Some plan
+      → AreSafe safe.facts (typed_method first safe.facts.typing method code) plan
   safe_at method code is plan so =
       let own = safe.methods method plan so in
-      let typed = typed_method p safe.facts.typing method code in
-      let there : method_in_facts p safe.facts method ≡ Some typed = ap (option_map (typed_method p safe.facts.typing method)) is in
-      subst (λ z. AreSafe safe.facts z plan) (same_value (method_in_facts p safe.facts method) own.x typed own.is there) own.safe
+      let typed = typed_method first safe.facts.typing method code in
+      let there : method_in_facts first safe.facts method ≡ Some typed = ap (option_map (typed_method first safe.facts.typing method)) is in
+      subst (λ z. AreSafe safe.facts z plan) (same_value (method_in_facts first safe.facts method) own.x typed own.is there) own.safe
 
-  all_woven : IsWovenFrom p q safe.facts safe.plans (marks_with safe.plans given)
+  all_woven : IsWovenFrom first second safe.facts safe.plans (marks_with safe.plans given)
   all_woven = record {
     outline = outlines_same given main safe.plans spelled;
     bare = no_code_written;
@@ -256,10 +256,10 @@ module _ (numbered : ClassTypesAreNumbered) (given : List ClassDef) (main : List
     safe = λ method code plan is so. safe_at method code is plan so;
   }
 
-  pub written_woven : IsWovenFrom p (program_of written main) safe.facts safe.plans marks
+  pub written_woven : IsWovenFrom first (program_of written main) safe.facts safe.plans marks
   written_woven =
-      subst (λ files. IsWovenFrom p (program_of files main) safe.facts safe.plans marks) (sym safe.written_is)
-      (subst (λ m. IsWovenFrom p q safe.facts safe.plans m) (sym safe.marks_are) all_woven)
+      subst (λ files. IsWovenFrom first (program_of files main) safe.facts safe.plans marks) (sym safe.written_is)
+      (subst (λ m. IsWovenFrom first second safe.facts safe.plans m) (sym safe.marks_are) all_woven)
 
 pub programs_woven : ClassTypesAreNumbered → ProgramsAreResolved → SafeProgramsAreWoven
 programs_woven numbered resolve given main taken written marks safe =
