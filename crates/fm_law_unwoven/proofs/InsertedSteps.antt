@@ -1,11 +1,9 @@
 -- The step of each instruction that is inserted.
-use Rattle.std.proofs.Common.{◌≡◌, ℕ, zero, suc, ◌+◌, Bool, List, [], ◌∷◌, Option, Some, None, option_and_then, refl, sym, ap, subst, ◌∙◌}
+use Rattle.std.proofs.Common.{◌≡◌, ℕ, zero, suc, ◌+◌, Bool, List, [], ◌∷◌, Option, Some, None, refl, sym, ap, ◌∙◌}
 use Rattle.std.specs.Prelude.{slice_get, slice_set}
 use Rattle.fm_base.specs.declared.kinds.TypeRef.{TypeRef}
 use Rattle.fm_cells.specs.Objects.{Object}
-use Rattle.fm_cells.specs.Stores.{object_at, Store}
-use Rattle.fm_code.specs.Edges.{insn_of}
-use Rattle.fm_code.specs.declared.code_array.Code.{Code}
+use Rattle.fm_cells.specs.Stores.{object_at}
 use Rattle.fm_code.specs.declared.instructions.Insn.{Insn}
 use Rattle.fm_code.specs.declared.instructions.Insn.TheVariants as insn
 use Rattle.fm_code.specs.declared.operations.Reg.TheVariants as reg
@@ -19,7 +17,7 @@ use Rattle.fm_frames.specs.ObjectRows.{starting}
 use Rattle.fm_frames.specs.Operands.{on_held_of}
 use Rattle.fm_frames.specs.Rows.{effect_of}
 use Rattle.fm_frames.specs.Sights.{Gone, looks, Looks, Null, Sight, sight, sight_of_cell, sight_of_object, sights, Thing}
-use Rattle.fm_frames.specs.Starts.{started_by, to_start, with_start}
+use Rattle.fm_frames.specs.Starts.{started_by, with_start}
 use Rattle.fm_frames.specs.States.{Areas, Frame, Moved, null, State, word_at}
 use Rattle.fm_frames.specs.Steps.{attempted, continued, effect_by, next_effect, next_insn, offset_at, step, target_at}
 use Rattle.fm_frames.specs.Uses.{by_type, on_method}
@@ -32,7 +30,7 @@ use Rattle.fm_law_unwoven.specs.Doing.{freed_from, with_frame}
 use Rattle.fm_law_unwoven.specs.WovenFrom.{CallsFree}
 use Rattle.fm_types.specs.Named.{class_of_method}
 use Rattle.fm_types.specs.Typed.{use_by, use_in}
-use Rattle.fm_world.specs.Programs.{code_at, Outline, Program}
+use Rattle.fm_world.specs.Programs.{Outline, Program}
 use Rattle.fm_world.specs.declared.uses.Use.{Use}
 
 -- ---- what is seen of a reference

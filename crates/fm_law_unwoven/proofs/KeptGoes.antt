@@ -1,7 +1,5 @@
 -- The frames after a step at a kept item: the topmost one goes on with its holders as they were, or a new one begins.
-use Rattle.std.proofs.Common.{◌≡◌, ℕ, zero, suc, ◌+◌, ◌-◌, ◌<◌, ◌≤◌, ◌⊎◌, inl, inr, true, List, [], ◌∷◌, ◌++◌, length, length-append, map, take, drop, replicate, Option, Some, None, unwrap_or, refl, sym, ap, subst, ◌∙◌, arith}
-use Rattle.std.specs.Prelude.{slice_get}
-use Rattle.std.specs.List.{AllByRecursion}
+use Rattle.std.proofs.Common.{◌≡◌, ℕ, ◌+◌, ◌-◌, ◌<◌, ◌≤◌, ◌⊎◌, inl, inr, true, List, [], ◌∷◌, ◌++◌, length, length-append, map, take, drop, replicate, Option, Some, None, unwrap_or, refl, sym, ap, subst, ◌∙◌, arith}
 use Rattle.std.proofs.Math.Seq.{take-append-add}
 use Rattle.std.proofs.lemmas.List.{length-replicate, take-replicate}
 use Rattle.std.proofs.lemmas.Option.{none-some, same_Some}
@@ -10,25 +8,23 @@ use Rattle.fm_code.specs.declared.instructions.Insn.{Insn}
 use Rattle.fm_conn.specs.Facts.{Facts}
 use Rattle.fm_conn.specs.Links.{typed_method}
 use Rattle.fm_conn.specs.Nodes.{TypedMethod}
-use Rattle.fm_frames.specs.Acts.{Sources, value_of}
 use Rattle.fm_frames.specs.Effects.{Effect}
-use Rattle.fm_frames.specs.States.{Areas, Frame, State, word_at}
-use Rattle.fm_frames.specs.Steps.{is_start, max_locals_of, new_frame, start_frames, went, written}
+use Rattle.fm_frames.specs.States.{Areas, Frame, word_at}
+use Rattle.fm_frames.specs.Steps.{is_start, max_locals_of, new_frame, went}
 use Rattle.fm_frames.specs.declared.values.Value.{Value}
 use Rattle.fm_frames.specs.declared.values.Value.TheVariants as value
 use Rattle.fm_law_no_fault.proofs.FramesKeep.{max_locals_in}
 use Rattle.fm_law_same_runs.specs.Beside.{kept_item, Marks}
 use Rattle.fm_law_sound.specs.Sound.{IsReference}
 use Rattle.fm_law_unwoven.proofs.OldFrames.{further_stay, new_from, old_from, same_gives, same_written, written_length}
-use Rattle.fm_law_unwoven.specs.Kept.{Begins, FrameGoes, FramesGo, GoesOn, HasNotBegun, HoldersStand, HoldersStandAt, InMethod, old_frame, Resumes, StandBelow, StandsAtKept, StatesGo}
+use Rattle.fm_law_unwoven.specs.Kept.{Begins, FramesGo, GoesOn, HasNotBegun, HoldersStand, InMethod, old_frame, StandBelow, StandsAtKept}
 use Rattle.fm_law_unwoven.specs.Laid.{all_insns_to, frees_at, LieInserted, mark_at, starts_of}
 use Rattle.fm_law_unwoven.specs.UnseenCode.{UsesNamed}
 use Rattle.fm_law_unwoven.specs.WovenFrom.{HasInserted, inserted_by, IsWovenFrom, own_marks}
-use Rattle.fm_place.specs.Insertions.{Holder, Insertions}
-use Rattle.fm_place.specs.Places.{is_busy}
+use Rattle.fm_place.specs.Insertions.{Insertions}
 use Rattle.fm_place.specs.Rewriting.{Plans}
 use Rattle.fm_place.specs.Woven.{local_of}
-use Rattle.fm_world.specs.Programs.{code_at, Outline, Program}
+use Rattle.fm_world.specs.Programs.{code_at, Program}
 
 -- a run of inserted items is empty, or begins at one without a mark
 lies_first : (new : Code) (marks : List (Option ℕ)) (n next : ℕ) (insns : List Insn) → LieInserted new marks n insns next → (n ≡ next) ⊎ (mark_at marks n ≡ None)

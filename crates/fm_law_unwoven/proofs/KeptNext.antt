@@ -1,5 +1,5 @@
 -- What follows after the actions of a step at a kept item is alike in both programs.
-use Rattle.std.proofs.Common.{◌≡◌, ℕ, zero, suc, ◌+◌, ◌<◌, ◌≤◌, ◌⊎◌, inl, inr, not, Bool, true, false, cond, List, [], ◌∷◌, ◌++◌, length, map, take, drop, reverse, Option, Some, None, option_and_then, unwrap_or, refl, sym, ap, subst, ◌∙◌, arith, if◌then◌else◌}
+use Rattle.std.proofs.Common.{◌≡◌, ℕ, zero, suc, ◌+◌, ◌<◌, ◌≤◌, inl, inr, not, Bool, true, false, cond, List, [], ◌∷◌, ◌++◌, length, map, take, drop, reverse, Some, unwrap_or, refl, sym, ap, subst, ◌∙◌, arith, if◌then◌else◌}
 use Rattle.std.specs.List.{AllByRecursion, slice_index_or}
 use Rattle.std.proofs.lemmas.Bool.{false≢true}
 use Rattle.std.proofs.lemmas.Option.{none-some}
@@ -13,19 +13,19 @@ use Rattle.fm_conn.specs.Facts.{Facts}
 use Rattle.fm_conn.specs.Links.{typed_method}
 use Rattle.fm_frames.specs.Acts.{cell_of, same_cell, Sources, value_of}
 use Rattle.fm_frames.specs.Effects.{Calls, Effect, Enters, Exits, Falls, Faults, Jumps, JumpsIfSame, Next, Returns, Source, Throws}
-use Rattle.fm_frames.specs.States.{Areas, Frame, Moved, State, word_at}
-use Rattle.fm_frames.specs.Steps.{caught, Caught, continued, InFrames, input_after, is_done, is_start, Leaves, max_locals_of, new_frame, next_insn, offset_at, returned, start_frames, stopped, target_at, thrown_by, type_at}
+use Rattle.fm_frames.specs.States.{Areas, Frame, State, word_at}
+use Rattle.fm_frames.specs.Steps.{caught, Caught, continued, InFrames, input_after, is_done, is_start, Leaves, max_locals_of, new_frame, offset_at, returned, start_frames, stopped, target_at, thrown_by, type_at}
 use Rattle.fm_frames.specs.declared.ends.Ended.{Ended}
 use Rattle.fm_frames.specs.declared.ends.Ended.TheVariants as end
 use Rattle.fm_frames.specs.declared.values.Value.{Value}
 use Rattle.fm_law_same_runs.specs.Beside.{kept_item, Marks}
 use Rattle.fm_law_sound.proofs.FramesStand.{target_in}
-use Rattle.fm_law_unwoven.proofs.KeptCatches.{AreCoded, caught_alike, CaughtAlike}
+use Rattle.fm_law_unwoven.proofs.KeptCatches.{caught_alike, CaughtAlike}
 use Rattle.fm_law_unwoven.proofs.KeptEffects.{at_number, item_is, new_next, old_next}
 use Rattle.fm_law_unwoven.proofs.KeptGoes.{begins, below_other, first_old, goes, holders_other, new_went, not_begun, old_new, old_went}
 use Rattle.fm_law_unwoven.proofs.OldFrames.{new_from, old_from}
 use Rattle.fm_law_unwoven.proofs.UnseenLocals.{same_value}
-use Rattle.fm_law_unwoven.specs.Kept.{Begins, BothDo, BothFault, but_frames, FramesGo, GoesBefore, GoesBehind, HasNotBegun, HoldersStand, HoldersStandAt, InMethod, old_frame, Resumes, StandBelow, StandsAtKept, StatesGo, StepsAlike}
+use Rattle.fm_law_unwoven.specs.Kept.{Begins, BothDo, BothFault, but_frames, GoesBefore, GoesBehind, HasNotBegun, HoldersStand, InMethod, old_frame, Resumes, StandBelow, StandsAtKept, StatesGo, StepsAlike}
 use Rattle.fm_law_unwoven.specs.UnseenCode.{GoesWithin, IsWithin, UsesNamed}
 use Rattle.fm_law_unwoven.specs.WovenFrom.{HasInserted, inserted_by, IsWovenFrom}
 use Rattle.fm_place.proofs.WovenLemmas.{targets-of-with}

@@ -1,16 +1,14 @@
 -- What soundness says of the frames that a step at a kept item leads to: their methods have code, arguments fit their locals, and a frame waits at a call.
-use Rattle.std.proofs.Common.{◌≡◌, ℕ, zero, suc, ◌+◌, ◌-◌, ◌<◌, ◌≤◌, ◌⊎◌, inl, inr, true, false, List, [], ◌∷◌, ◌++◌, length, length-append, map, replicate, Option, Some, None, option_and_then, unwrap_or, refl, sym, ap, subst, ◌∙◌, arith}
+use Rattle.std.proofs.Common.{◌≡◌, ℕ, suc, ◌+◌, ◌-◌, ◌<◌, ◌≤◌, ◌⊎◌, inl, inr, false, List, [], ◌∷◌, ◌++◌, length, length-append, replicate, Some, option_and_then, unwrap_or, refl, sym, ap, ◌∙◌, arith}
 use Rattle.std.specs.List.{AllByRecursion, AllZip}
 use Rattle.std.proofs.lemmas.Bool.{false≢true}
-use Rattle.std.proofs.lemmas.List.{length-replicate}
 use Rattle.std.proofs.lemmas.Option.{none-some}
 use Rattle.fm_base.proofs.OptionFacts.{option_and_then-some, Some-from_some_and}
 use Rattle.fm_code.specs.Edges.{insn_of, IsNormalEdge}
 use Rattle.fm_code.specs.declared.code_array.Code.{Code}
-use Rattle.fm_code.specs.declared.instructions.Insn.{Insn}
 use Rattle.fm_conn.specs.Facts.{Facts}
-use Rattle.fm_frames.specs.States.{Frame, State}
-use Rattle.fm_frames.specs.Steps.{is_start, max_locals_of, new_frame, next_insn, start_frames}
+use Rattle.fm_frames.specs.States.{Frame}
+use Rattle.fm_frames.specs.Steps.{is_start, max_locals_of, new_frame, start_frames}
 use Rattle.fm_frames.specs.declared.values.Value.{Value}
 use Rattle.fm_frames.specs.declared.values.Value.TheVariants as value
 use Rattle.fm_law_no_fault.proofs.FramesKeep.{max_locals_in}
@@ -20,13 +18,12 @@ use Rattle.fm_law_sound.specs.Sound.{AreTyped, Calling, LocalHasKind, Stand, Sta
 use Rattle.fm_law_unwoven.specs.Kept.{old_frame}
 use Rattle.fm_law_unwoven.specs.Laid.{IsKept, IsSplit, IsWhole}
 use Rattle.fm_law_unwoven.specs.WovenFrom.{HasInserted, inserted_by, IsWovenFrom, own_marks}
-use Rattle.fm_layout.specs.Spelling.{conditional, opposite}
+use Rattle.fm_layout.specs.Spelling.{conditional}
 use Rattle.fm_layout.specs.declared.rooms.Condition.{Condition}
 use Rattle.fm_layout.specs.declared.rooms.Condition.TheVariants as condition
 use Rattle.fm_place.specs.Rewriting.{Plans}
 use Rattle.fm_types.specs.Rows.{row_after}
-use Rattle.fm_types.specs.States.{TypeState}
-use Rattle.fm_types.specs.Typed.{after_item, FitsAt, IsTypingOf, made_at, MeetsItem, use_by}
+use Rattle.fm_types.specs.Typed.{after_item, FitsAt, made_at, MeetsItem, use_by}
 use Rattle.fm_types.specs.declared.slots.Slot.{Slot}
 use Rattle.fm_world.specs.Programs.{code_at, Outline, Program}
 

@@ -1,5 +1,5 @@
 -- A step at a kept item is the step of the first program at the state that is held.
-use Rattle.std.proofs.Common.{◌≡◌, ℕ, zero, suc, ◌+◌, ◌<◌, ◌≤◌, Bool, true, false, cond, List, [], ◌∷◌, ◌++◌, length, map, max, take, drop, reverse, Option, Some, None, option_map, unwrap_or, nat_lt, refl, sym, ap, subst, ◌∙◌, arith, if◌then◌else◌}
+use Rattle.std.proofs.Common.{◌≡◌, ℕ, suc, ◌+◌, ◌<◌, Bool, true, false, cond, List, [], ◌∷◌, length, map, max, take, reverse, Some, None, option_map, unwrap_or, nat_lt, refl, sym, ap, subst, ◌∙◌, arith, if◌then◌else◌}
 use Rattle.std.specs.Prelude.{slice_get}
 use Rattle.std.specs.List.{AllByRecursion}
 use Rattle.std.proofs.lemmas.List.{length-map}
@@ -22,8 +22,7 @@ use Rattle.fm_frames.specs.Rows.{effect_of}
 use Rattle.fm_frames.specs.Sights.{sights}
 use Rattle.fm_frames.specs.Starts.{with_start}
 use Rattle.fm_frames.specs.States.{Areas, Frame, Moved, State}
-use Rattle.fm_frames.specs.Steps.{attempted, continued, done_by, halted, is_deep, is_over, max_locals_of, new_frame, next_effect, objects_made, start_frames, step, target_at, words_made}
-use Rattle.fm_frames.specs.declared.ends.Ended.{Ended}
+use Rattle.fm_frames.specs.Steps.{attempted, continued, done_by, halted, is_deep, is_over, max_locals_of, next_effect, objects_made, step, target_at, words_made}
 use Rattle.fm_frames.specs.declared.ends.Ended.TheVariants as end
 use Rattle.fm_frames.specs.declared.values.Value.{Value}
 use Rattle.fm_law_no_fault.proofs.FramesKeep.{max_locals_in}
@@ -38,9 +37,9 @@ use Rattle.fm_law_unwoven.proofs.KeptNext.{Alike, CallsAreWhole, done_with, IsEn
 use Rattle.fm_law_unwoven.proofs.KeptSound.{arguments_fit, call_whole, codes_below, item_of, methods_coded}
 use Rattle.fm_law_unwoven.proofs.KeptSplit.{branch_next, FollowsBranch, HasNext, split_alike}
 use Rattle.fm_law_unwoven.proofs.UnseenLocals.{locals_unseen, only_named}
-use Rattle.fm_law_unwoven.specs.Kept.{BothDo, BothFault, but_frames, HoldersStand, IsAtKept, KeptStepsAreSteps, old_frame, old_state, StandBelow, StandKept, StepsAlike}
+use Rattle.fm_law_unwoven.specs.Kept.{BothDo, BothFault, but_frames, HoldersStand, IsAtKept, KeptStepsAreSteps, old_frame, old_state, StandBelow, StepsAlike}
 use Rattle.fm_law_unwoven.specs.Laid.{IsKept, IsSplit, IsWhole, mark_at}
-use Rattle.fm_law_unwoven.specs.UnseenCode.{exchanged, GoesWithin, UsesNamed, with_exchanged}
+use Rattle.fm_law_unwoven.specs.UnseenCode.{exchanged, UsesNamed}
 use Rattle.fm_law_unwoven.specs.WovenFrom.{HasInserted, inserted_by, IsWovenFrom, own_marks}
 use Rattle.fm_law_woven_flow.proofs.RoleLists.{element_at}
 use Rattle.fm_layout.specs.Spelling.{conditional, opposite}
@@ -48,7 +47,7 @@ use Rattle.fm_layout.specs.declared.rooms.Condition.{Condition}
 use Rattle.fm_place.proofs.WovenLemmas.{all-at}
 use Rattle.fm_place.specs.Rewriting.{Plans}
 use Rattle.fm_types.specs.Typed.{use_by}
-use Rattle.fm_world.specs.Programs.{code_at, Outline, Program}
+use Rattle.fm_world.specs.Programs.{code_at, Program}
 
 module _ (p q : Program) (facts : Facts) (plans : Plans) (marks : Marks) (from : IsWovenFrom p q facts plans marks) (ready : StepsAreResolved p) (makes : MakesAreResolved p)
     (sound_steps : SoundStatesStep) (choose : Choose) (z : State) (g : Frame) (callers : List Frame)

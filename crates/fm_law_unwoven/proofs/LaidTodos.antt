@@ -1,36 +1,31 @@
 -- What is inserted between old items, and where these are, in code with insertions.
-use Rattle.std.proofs.Common.{◌≡◌, ℕ, zero, suc, ◌+◌, ◌*◌, ◌<◌, ◌≤◌, ◌⊎◌, inl, inr, Bool, true, false, List, [], ◌∷◌, ◌++◌, length, map, Option, Some, None, IsSomeAnd, refl, sym, ap, subst, ◌∙◌, arith, append_assoc, length-append, if◌then◌else◌}
+use Rattle.std.proofs.Common.{◌≡◌, ℕ, suc, ◌+◌, ◌<◌, ◌≤◌, ◌⊎◌, inl, inr, Bool, true, false, List, [], ◌∷◌, ◌++◌, length, map, Option, Some, None, IsSomeAnd, refl, sym, ap, subst, ◌∙◌, arith, append_assoc, length-append, if◌then◌else◌}
 use Rattle.std.specs.Prelude.{nat_lt, slice_get, slice_index}
 use Rattle.std.specs.List.{AllByRecursion, flat_map, range_with_len}
 use Rattle.std.specs.Option.{option_map}
-use Rattle.std.proofs.lemmas.Bool.{cases_lt, false≢true, lt-ltb}
+use Rattle.std.proofs.lemmas.Bool.{cases_lt, lt-ltb}
 use Rattle.std.proofs.lemmas.Option.{none-some, slice_get_within, slice_get-map}
-use Rattle.std.proofs.lemmas.List.{append-nil, map-append}
-use Rattle.fm_base.proofs.ListFacts.{AllByRecursion-append}
 use Rattle.fm_code.specs.Edges.{insn_of, MeetsCodeRules}
 use Rattle.fm_code.specs.SpellsCode.{with_targets}
 use Rattle.fm_code.specs.declared.code_array.Code.{Code}
-use Rattle.fm_code.specs.declared.code_array.Item.{Item}
 use Rattle.fm_code.specs.declared.instructions.Insn.{Insn}
 use Rattle.fm_code.specs.declared.instructions.Insn.TheVariants as insn
 use Rattle.fm_code.specs.declared.operations.Reg.TheVariants as reg
 use Rattle.fm_flow.proofs.CodeFacts.{items_counted}
-use Rattle.fm_layout.specs.Laid.{laid_of}
-use Rattle.fm_layout.specs.Spelling.{conditional, opposite}
 use Rattle.fm_place.proofs.FullLemmas.{some-same}
 use Rattle.fm_place.specs.Insertions.{after_at, before_at, Insertions}
-use Rattle.fm_place.specs.Woven.{anchors_of, count_at, freed_items, local_of, null_stored_items, top_stored_items, woven, woven_code, woven_marks}
+use Rattle.fm_place.specs.Woven.{anchors_of, local_of, woven, woven_code, woven_marks}
 use Rattle.fm_law_sound.proofs.FramesStand.{item_within}
 use Rattle.fm_law_woven_flow.proofs.Caught.{anchor_inside, first_le, goes_le}
-use Rattle.fm_law_woven_flow.proofs.LaidItems.{first_of, goes_to, is_split_of, item_total, laid_insn, lays, split_insn, SplitAt, whole_insn}
+use Rattle.fm_law_woven_flow.proofs.LaidItems.{first_of, goes_to, is_split_of, item_total, laid_insn, lays, split_insn, whole_insn}
 use Rattle.fm_law_woven_flow.proofs.LaidRoles.{width}
 use Rattle.fm_law_woven_flow.proofs.NewItems.{HasWhole, new_count}
-use Rattle.fm_law_woven_flow.proofs.RoleLists.{first_anchor, get_behind, kept_role, length-after, length-before, length-start, next_anchor, Part, part_of}
+use Rattle.fm_law_woven_flow.proofs.RoleLists.{first_anchor, get_behind, kept_role, length-after, length-before, length-start, next_anchor, part_of}
 use Rattle.fm_law_woven_flow.proofs.Standing.{code_stands, number_inside}
 use Rattle.fm_law_woven_flow.specs.Roles.{CanStand, DupAfter, FreeBefore, JumpOf, Keep, LoadBefore, NullBefore, Role, StandsFor, StartNull, StartStore, StoreAfter, StoreBefore}
 use Rattle.fm_law_woven_flow.specs.inner.RolesOf.{after_roles, before_roles, kept_new, moved_by, new_roles, number_of, roles_from, roles_of, start_roles}
 use Rattle.fm_law_unwoven.proofs.RoleMarks.{mark_of, marks_are}
-use Rattle.fm_law_unwoven.specs.Laid.{all_insns_to, CodesAreLaid, frees_at, insns_to, IsKept, IsLaid, IsSplit, IsWhole, keeps_at, LieInserted, mark_at, moved_to, starts_of, Todo, ToFree, ToKeep, ToStart}
+use Rattle.fm_law_unwoven.specs.Laid.{all_insns_to, CodesAreLaid, frees_at, insns_to, IsKept, IsLaid, IsSplit, IsWhole, keeps_at, LieInserted, mark_at, starts_of, Todo, ToFree, ToKeep, ToStart}
 
 -- ---- runs of inserted items
 

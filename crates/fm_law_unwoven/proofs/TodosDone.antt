@@ -1,6 +1,6 @@
 -- What is inserted is done, one thing after the other.
-use Rattle.std.proofs.Common.{◌≡◌, ℕ, zero, suc, ◌+◌, ◌<◌, List, [], ◌∷◌, ◌++◌, length, Option, Some, None, option_and_then, is_some, refl, sym, ap, subst, ◌∙◌, arith}
-use Rattle.std.specs.Prelude.{false, slice_get, slice_set}
+use Rattle.std.proofs.Common.{◌≡◌, ℕ, zero, suc, ◌+◌, List, [], ◌∷◌, Option, Some, None, option_and_then, is_some, refl, sym, ap, subst, ◌∙◌, arith}
+use Rattle.std.specs.Prelude.{slice_set}
 use Rattle.fm_code.specs.Edges.{insn_of}
 use Rattle.fm_code.specs.declared.code_array.Code.{Code}
 use Rattle.fm_code.specs.declared.instructions.Insn.{Insn}
@@ -10,16 +10,16 @@ use Rattle.fm_frames.specs.Acts.{cell_of, Choose}
 use Rattle.fm_frames.specs.States.{Areas, Frame, Moved, null, State, word_at}
 use Rattle.fm_frames.specs.Steps.{next_insn, offset_at, step}
 use Rattle.fm_frames.specs.declared.values.Value.{Value}
-use Rattle.fm_law_same_runs.specs.Beside.{IsAtInserted, Marks}
+use Rattle.fm_law_same_runs.specs.Beside.{Marks}
 use Rattle.fm_law_sound.specs.Sound.{IsReference}
 use Rattle.fm_law_unwoven.proofs.InsertedSteps.{counted, dup_step, free_held, free_lost, free_null, goes_to, load_step, null_step, seen, Seen, SeenGone, SeenNull, SeenThing, store_step}
-use Rattle.fm_law_unwoven.specs.Doing.{all_areas_after, all_locals_after, all_steps_to, AllDone, areas_after, freed_from, IsDone, IsLost, IsPassed, locals_after, MayDo, MayDoAll, OneLost, state_after, steps_to, TodosAreDone, with_frame}
+use Rattle.fm_law_unwoven.specs.Doing.{all_steps_to, AllDone, areas_after, freed_from, IsDone, IsPassed, locals_after, MayDoAll, OneLost, state_after, steps_to, TodosAreDone, with_frame}
 use Rattle.fm_law_unwoven.specs.Laid.{all_insns_to, LieInserted, mark_at, Todo, ToFree, ToKeep, ToStart}
 use Rattle.fm_law_unwoven.specs.WovenFrom.{CallsFree, HasInserted, own_marks}
 use Rattle.fm_place.specs.Insertions.{Insertions}
 use Rattle.fm_place.specs.Woven.{local_of}
 use Rattle.fm_types.specs.Typed.{use_in}
-use Rattle.fm_world.specs.Programs.{code_at, Program}
+use Rattle.fm_world.specs.Programs.{Program}
 
 -- ---- steps one after the other
 

@@ -1,20 +1,18 @@
 -- What actions do is the same over any locals, and so is what the start of a class does before an instruction.
-use Rattle.std.proofs.Common.{◌≡◌, ℕ, Bool, true, false, cond, List, [], ◌∷◌, ◌++◌, length, Option, Some, None, refl, arith, sym, ap, subst, ◌∙◌}
+use Rattle.std.proofs.Common.{◌≡◌, ℕ, Bool, true, false, cond, List, [], ◌∷◌, ◌++◌, length, Option, Some, None, refl, arith, ap, subst, ◌∙◌}
 use Rattle.std.specs.List.{AllByRecursion}
 use Rattle.fm_base.proofs.ListFacts.{AllByRecursion-append}
 use Rattle.fm_base.specs.Texts.{units}
-use Rattle.fm_base.specs.declared.kinds.Kind.{Kind}
 use Rattle.fm_cells.specs.Changes.{Choice, RefuseStore, Take}
 use Rattle.fm_cells.specs.Objects.{Request}
-use Rattle.fm_code.specs.SpellsCode.{LocalsFit, targets_of}
-use Rattle.fm_code.specs.declared.instructions.Insn.{Insn}
+use Rattle.fm_code.specs.SpellsCode.{targets_of}
 use Rattle.fm_world.specs.Members.{field_at}
 use Rattle.fm_world.specs.Numbers.{text_number}
 use Rattle.fm_world.specs.Programs.{Outline}
 use Rattle.fm_world.specs.declared.declarations.Constant.{Constant}
 use Rattle.fm_world.specs.declared.declarations.Constant.TheVariants as constant
-use Rattle.fm_frames.specs.Acts.{cell_of, chain_freed, chain_from, chained, Choose, class_started, freed, is_there, literal_made, literal_text, made_then, performed, Performed, put_value, requested, set_static, Sources, value_of}
-use Rattle.fm_frames.specs.Effects.{Action, Effect, Enters, Free, FreeChain, LocalPlus, Make, MakeFixed, MakeLiteral, nothing, OfLiteral, OfLocal, OfMade, OfOperand, OfPlace, OfStatic, Plain, Put, SameOperands, SetChain, SetStatic, Source, Start}
+use Rattle.fm_frames.specs.Acts.{cell_of, chain_freed, chain_from, chained, class_started, freed, is_there, literal_made, literal_text, made_then, performed, Performed, put_value, requested, set_static, value_of}
+use Rattle.fm_frames.specs.Effects.{Effect, Free, FreeChain, LocalPlus, Make, MakeFixed, MakeLiteral, OfLiteral, OfLocal, OfMade, OfOperand, OfPlace, OfStatic, Plain, Put, SameOperands, SetChain, SetStatic, Source, Start}
 use Rattle.fm_frames.specs.NativeRows.{text_type}
 use Rattle.fm_frames.specs.Rows.{effect_of}
 use Rattle.fm_frames.specs.Starts.{fields_at, set_constant, start_actions, start_methods, start_of_class, to_start, with_start}

@@ -1,23 +1,18 @@
 -- An effect doesn't look at targets, and the opposite of a branch goes where the branch doesn't.
-use Rattle.std.proofs.Common.{◌≡◌, ℕ, ℤ, pos, not, Bool, true, false, List, map, length, Option, Some, None, refl, sym, ap, ◌∙◌, arith, if◌then◌else◌, slice_get}
+use Rattle.std.proofs.Common.{◌≡◌, ℕ, ℤ, pos, not, Bool, true, false, Option, Some, None, refl, sym, ap, ◌∙◌, arith, slice_get}
 use Rattle.std.specs.Prelude.{int_lt, int_le}
 use Rattle.std.specs.Ordering.{int_eq}
 use Rattle.std.proofs.Math.Bool.{not-not}
 use Rattle.std.proofs.lemmas.Int.{ints}
 use Rattle.std.proofs.lemmas.List.{length-map}
-use Rattle.fm_code.specs.SpellsCode.{with_targets}
-use Rattle.fm_code.specs.declared.instructions.Insn.{Insn}
 use Rattle.fm_code.specs.declared.instructions.Insn.TheVariants as insn
 use Rattle.fm_code.specs.declared.operations.Test.{Test}
 use Rattle.fm_code.specs.declared.operations.Test.TheVariants as test
-use Rattle.fm_layout.specs.Spelling.{conditional, opposite, opposite_test}
-use Rattle.fm_layout.specs.declared.rooms.Condition.{Condition}
+use Rattle.fm_layout.specs.Spelling.{opposite_test}
 use Rattle.fm_layout.specs.declared.rooms.Condition.TheVariants as condition
-use Rattle.fm_world.specs.Programs.{Outline}
-use Rattle.fm_world.specs.declared.uses.Use.{Use}
 use Rattle.fm_frames.specs.Effects.{Effect, going}
 use Rattle.fm_frames.specs.JumpRows.{holds, int_jump_effect, jumps_if, lookup_effect, null_jump_effect, pair_jump_effect, table_effect}
-use Rattle.fm_frames.specs.Operands.{on_int, on_int_of, on_reference_of}
+use Rattle.fm_frames.specs.Operands.{on_int_of, on_reference_of}
 use Rattle.fm_frames.specs.Rows.{effect_of}
 use Rattle.fm_frames.specs.Sights.{Gone, Null, Sight, Thing, Word}
 use Rattle.fm_frames.specs.declared.values.Value.TheVariants as value

@@ -1,5 +1,5 @@
 -- An instruction uses the locals that it names at most.
-use Rattle.std.proofs.Common.{◌≡◌, ℕ, ℤ, pos, ◌+◌, ◌-◌, ◌*◌, ◌<◌, ◌≤◌, ◌||◌, not, Bool, true, false, arith, List, [], ◌∷◌, ◌++◌, codes, reverse, length, Option, Some, None, option_and_then, option_map, refl, sym, subst}
+use Rattle.std.proofs.Common.{◌≡◌, ℕ, ℤ, pos, ◌+◌, ◌-◌, ◌*◌, ◌<◌, ◌≤◌, ◌||◌, not, Bool, true, false, arith, List, [], ◌∷◌, ◌++◌, codes, reverse, length, Option, Some, None, option_map, refl, sym, subst}
 use Rattle.std.specs.Prelude.{int_lt, position, take, unsigned_abs, nat_lt}
 use Rattle.std.specs.List.{AllByRecursion, list_any, range_with_len}
 use Rattle.std.specs.Ordering.{int_eq}
@@ -27,7 +27,7 @@ use Rattle.fm_frames.specs.JumpRows as jumps
 use Rattle.fm_frames.specs.JumpRows.{jumps_if, key_target, table_target}
 use Rattle.fm_frames.specs.NativeRows as table
 use Rattle.fm_frames.specs.NativeRows.{has_text, shown_words, text_made, thrown_outside}
-use Rattle.fm_frames.specs.Natives.{Native, native_of_row, ObjectInit, ObjectHashCode, ObjectEquals, ObjectToString, StringLength, CharAt, StringEquals, StringHashCode, CompareTo, StringToString, Substring, ValueOf, BuilderInit, Append, BuilderLength, BuilderToString, BufferInitOf, Exit, Print, Println, PrintlnNothing, Read, ThrowableInit, ThrowableInitOf, GetMessage, ThrowableToString, FreeMeFree, FreeMeLink, FreeMeFreeChain}
+use Rattle.fm_frames.specs.Natives.{Native, ObjectInit, ObjectHashCode, ObjectEquals, ObjectToString, StringLength, CharAt, StringEquals, StringHashCode, CompareTo, StringToString, Substring, ValueOf, BuilderInit, Append, BuilderLength, BuilderToString, BufferInitOf, Exit, Print, Println, PrintlnNothing, Read, ThrowableInit, ThrowableInitOf, GetMessage, ThrowableToString, FreeMeFree, FreeMeLink, FreeMeFreeChain}
 use Rattle.fm_frames.specs.NumberRows as numbers
 use Rattle.fm_frames.specs.ObjectRows as objects
 use Rattle.fm_frames.specs.Operands.{size_of_type, thrown, thrown_null}
@@ -38,7 +38,7 @@ use Rattle.fm_types.specs.Named.{built_in_type, class_of_method, throwable_type}
 use Rattle.fm_world.specs.BuiltIns.{string_name}
 use Rattle.fm_world.specs.Chains.{is_sub}
 use Rattle.fm_world.specs.Lookups.{select, special_target}
-use Rattle.fm_world.specs.Members.{method_at, slot_of}
+use Rattle.fm_world.specs.Members.{slot_of}
 use Rattle.fm_world.specs.Programs.{class_of_type, Outline}
 use Rattle.fm_world.specs.Uses.{array_of, base_of_elem}
 use Rattle.fm_world.specs.declared.uses.Use.{Use}

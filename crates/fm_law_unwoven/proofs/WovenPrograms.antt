@@ -1,8 +1,8 @@
 -- The program of classes with safe insertions is that of the given ones with what these insert.
-use Rattle.std.proofs.Common.{◌≡◌, ℕ, zero, suc, ◌+◌, ◌<◌, ◌⊎◌, inl, inr, List, [], ◌∷◌, length, map, Option, Some, None, Contains, option_and_then, option_map, refl, sym, ap, subst, ◌∙◌, arith}
+use Rattle.std.proofs.Common.{◌≡◌, ℕ, zero, suc, ◌+◌, ◌<◌, ◌⊎◌, inl, inr, List, [], length, map, Option, Some, None, Contains, option_and_then, option_map, refl, sym, ap, subst, ◌∙◌, arith}
 use Rattle.std.specs.Prelude.{slice_get}
 use Rattle.std.specs.List.{AllByRecursion, range_with_len, slice_index_or}
-use Rattle.std.proofs.lemmas.Option.{none-some, same_Some, slice_get_within, slice_get-map}
+use Rattle.std.proofs.lemmas.Option.{none-some, same_Some}
 use Rattle.fm_base.proofs.OptionFacts.{same_value}
 use Rattle.fm_code.proofs.EdgesLemmas.{MeetsCodeRules-method}
 use Rattle.fm_code.specs.Edges.{insn_of, MeetsCodeRules}
@@ -10,17 +10,14 @@ use Rattle.fm_code.specs.SpellsCode.{with_targets}
 use Rattle.fm_code.specs.Spells.{HasSpelling}
 use Rattle.fm_code.specs.declared.class_file.ClassDef.{ClassDef}
 use Rattle.fm_code.specs.declared.code_array.Code.{Code}
-use Rattle.fm_code.specs.declared.code_array.Handler.{Handler}
 use Rattle.fm_code.specs.declared.instructions.Insn.{Insn}
 use Rattle.fm_code.specs.declared.instructions.Insn.TheVariants as insn
 use Rattle.fm_conn.proofs.ListLemmas.{Contains-map}
 use Rattle.fm_conn.specs.Facts.{Facts}
 use Rattle.fm_conn.specs.Links.{typed_method}
-use Rattle.fm_conn.specs.Nodes.{TypedMethod}
 use Rattle.fm_exec_calls.proofs.BuiltInStarts.{nothing-starts}
 use Rattle.fm_frames.specs.CallRows.{native_of}
-use Rattle.fm_frames.specs.Natives.{FreeMeFree, Native, native_of_row}
-use Rattle.fm_frames.specs.Starts.{to_start}
+use Rattle.fm_frames.specs.Natives.{FreeMeFree, native_of_row}
 use Rattle.fm_law_linked.specs.Laws.{ProgramsAreResolved}
 use Rattle.fm_law_relinked.proofs.Codes.{codes_woven, no_code}
 use Rattle.fm_law_relinked.proofs.FreeMethod.{free_class_number, free_method_number, free_type}
@@ -32,7 +29,6 @@ use Rattle.fm_law_sound.proofs.FramesStand.{item_within}
 use Rattle.fm_law_retyped.proofs.WrittenMethods.{HasMember, IsWritten, marks_in, written_method}
 use Rattle.fm_law_retyped.proofs.WrittenUses.{free_use, freed_use, handler_use, insn_use, outlines_same, program_outline, used_by_item}
 use Rattle.fm_law_same_runs.specs.Beside.{Marks}
-use Rattle.fm_law_same_runs.specs.Programs.{AreTaken}
 use Rattle.fm_law_unwoven.proofs.LaidTodos.{laid}
 use Rattle.fm_law_unwoven.specs.Laid.{IsKept, IsLaid, IsSplit, IsWhole, mark_at, moved_to}
 use Rattle.fm_law_unwoven.proofs.LaidSame.{same_laid}
@@ -45,7 +41,6 @@ use Rattle.fm_place.specs.Rewriting.{free_index, marks_with, Plans, rewritten, r
 use Rattle.fm_place.specs.Safe.{AreSafe, method_in_facts, Safe}
 use Rattle.fm_place.specs.Woven.{woven_code, woven_marks}
 use Rattle.fm_same.specs.Resolved.{IsResolved}
-use Rattle.fm_types.specs.Named.{class_of_method}
 use Rattle.fm_types.specs.Typed.{use_by, use_in}
 use Rattle.fm_world.specs.BuiltIns.{built_in}
 use Rattle.fm_world.specs.Members.{method_at, methods_of}

@@ -1,5 +1,5 @@
 -- A state of the program with insertions at an item that is kept, and the state of the first program that it holds.
-use Rattle.std.specs.Prelude.{◌≡◌, ℕ, ◌+◌, ◌<◌, ◌⊎◌, true, false, List, [], ◌∷◌, length, map, take, Option, Some, None, unwrap_or, slice_get}
+use Rattle.std.specs.Prelude.{◌≡◌, ℕ, ◌+◌, ◌<◌, ◌⊎◌, true, false, List, [], ◌∷◌, length, map, take, Some, None, unwrap_or, slice_get}
 use Rattle.fm_code.specs.Edges.{insn_of}
 use Rattle.fm_code.specs.declared.code_array.Code.{Code}
 use Rattle.fm_code.specs.declared.instructions.Insn.TheVariants as insn
@@ -9,10 +9,8 @@ use Rattle.fm_conn.specs.Links.{typed_method}
 use Rattle.fm_conn.specs.Nodes.{TypedMethod}
 use Rattle.fm_frames.specs.Acts.{Choose}
 use Rattle.fm_frames.specs.States.{Frame, Moved, null, State, word_at}
-use Rattle.fm_frames.specs.Steps.{is_start, max_locals_of, new_frame, step}
-use Rattle.fm_frames.specs.declared.ends.Ended.{Ended}
+use Rattle.fm_frames.specs.Steps.{is_start, max_locals_of, step}
 use Rattle.fm_frames.specs.declared.ends.Ended.TheVariants as end
-use Rattle.fm_frames.specs.declared.values.Value.{Value}
 use Rattle.fm_law_same_runs.specs.Beside.{kept_item, Marks}
 use Rattle.fm_law_sound.specs.Making.{MakesAreResolved}
 use Rattle.fm_law_sound.specs.Resolved.{StepsAreResolved}
