@@ -1,0 +1,2 @@
+pub mod Uninitialised
+pub mod Laws
