@@ -1,1 +1,14 @@
 pub mod Apart
+pub mod Slots
+pub mod Leaving
+pub mod EffectTakes
+pub mod PlainRows
+pub mod CallsLeave
+pub mod CallRows
+pub mod FramesMade
+pub mod NewObjects
+pub mod NextMade
+pub mod StepMade
+pub mod StepsMade
+pub mod OpeningMade
+pub mod Below

@@ -2,7 +2,12 @@
 
 ghost use Rattle.fm_law_holders.specs.Laws as law;
 
-/// The objects of two `new` items of a method are never one object, while they aren't initialised.
+/// Each place that the checker has for the object of a `new` leads to an object that was made at the item of
+/// this `new`: at the opening, and after each step of a program that calls no FreeMe, whatever the memory
+/// chooses. So the objects of two items are never one, and a live one has no own region of a frame above.
 pub fn law_uninitialised()
+    ensures opening { law.OpeningIsMade }
+    ensures steps { law.StepsKeepMade }
     ensures apart { law.UninitialisedAreApart }
+    ensures below { law.UninitialisedAreBelow }
 {}

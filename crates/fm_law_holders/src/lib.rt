@@ -1,4 +1,4 @@
-// What holders of objects rest on: objects that aren't initialised are apart, and what a site gives is new.
+// What holders of objects rest on: of an object that isn't initialised it is known where it was made.
 #![tactic(auto)]
 
 mod laws;

@@ -1,0 +1,499 @@
+-- The frame that a row of no call leaves is as the state after it.
+use Rattle.std.proofs.Common.{◌≡◌, ℕ, ℤ, ◌+◌, ◌-◌, ◌==◌, ◌&&◌, not, Bool, true, false, List, [], ◌∷◌, ◌++◌, length, drop, replicate, reverse, cond, codes, if◌then◌else◌, pos, nat_le, nat_lt, Option, Some, None, option_and_then, refl, sym, ◌∙◌, ap, subst, slice_get, slice_set, slice_index_or}
+use Rattle.std.specs.List.{AllByRecursion, list_any, range_with_len}
+use Rattle.std.proofs.lemmas.Bool.{false≢true}
+use Rattle.std.proofs.lemmas.List.{length-replicate}
+use Rattle.std.proofs.lemmas.Option.{same_Some}
+use Rattle.fm_base.proofs.OptionFacts.{cond-some_then, option_and_then-some, option_map-some}
+use Rattle.fm_base.specs.Kinds.{kind_words}
+use Rattle.fm_base.specs.declared.kinds.Base.{Base}
+use Rattle.fm_base.specs.declared.kinds.Base.TheVariants as base
+use Rattle.fm_base.specs.declared.kinds.Kind.{Kind}
+use Rattle.fm_base.specs.declared.kinds.Kind.TheVariants as kind
+use Rattle.fm_base.specs.declared.kinds.TypeRef.{TypeRef}
+use Rattle.fm_code.specs.StackWords.{element_words}
+use Rattle.fm_code.specs.declared.instructions.Insn.{Insn}
+use Rattle.fm_code.specs.declared.instructions.Insn.TheVariants as insn
+use Rattle.fm_code.specs.declared.operations.Conv.{Conv}
+use Rattle.fm_code.specs.declared.operations.Conv.TheVariants as conv
+use Rattle.fm_code.specs.declared.operations.Elem.{Elem}
+use Rattle.fm_code.specs.declared.operations.Elem.TheVariants as elem
+use Rattle.fm_code.specs.declared.operations.Reg.{Reg}
+use Rattle.fm_code.specs.declared.operations.Reg.TheVariants as reg
+use Rattle.fm_types.specs.ArrayRows as typed
+use Rattle.fm_types.specs.ArrayRows.{array_load_row, array_store_row, is_array_of, length_row, multi_array_row, new_array_row, new_references_row, null_element, on_array, stored_element}
+use Rattle.fm_types.specs.Fits.{fits}
+use Rattle.fm_types.specs.Named.{field_words, object_slot, throwable_type}
+use Rattle.fm_types.specs.NumberRows.{constant_row, convert_row, increment_row, is_int, load_row, loaded, move_row, store_row, stored_from, suits}
+use Rattle.fm_types.specs.ObjectRows.{cast_row, get_field_row, get_static_row, has_objects, is_a_row, new_row, put_field_row, put_static_row, takes_field}
+use Rattle.fm_types.specs.Rows.{row_after}
+use Rattle.fm_types.specs.States.{is_long, is_reference, is_uninit, local_at, pushed, replaced, stack_slots, stored, taken, TypeState, worked}
+use Rattle.fm_types.specs.declared.slots.Slot.{Slot}
+use Rattle.fm_types.specs.declared.slots.Slot.TheVariants as slot
+use Rattle.fm_world.specs.Chains.{is_sub}
+use Rattle.fm_world.specs.Members.{slot_of}
+use Rattle.fm_world.specs.Programs.{class_of_type, Outline}
+use Rattle.fm_world.specs.Uses.{array_of}
+use Rattle.fm_world.specs.declared.uses.Use.{Use}
+use Rattle.fm_world.specs.declared.uses.Use.TheVariants as resolved
+use Rattle.fm_frames.specs.Acts.{sum_of}
+use Rattle.fm_frames.specs.ArrayRows.{array_load_effect, array_made, array_store_effect, length_effect, element_kind, multi_array_effect, ints_at, arrays_of, new_array_effect, new_references_effect, put_element, put_reference}
+use Rattle.fm_frames.specs.Effects.{acting, Effect, going, int_word, Jumps, long_words, Make, null_word, OfOperand, OfPlace, OfStatic, Put, SetStatic, words}
+use Rattle.fm_frames.specs.Effects as effects
+use Rattle.fm_frames.specs.JumpRows.{int_jump_effect, lookup_effect, null_jump_effect, pair_jump_effect, return_effect, same_jump_effect, table_effect, throw_effect}
+use Rattle.fm_frames.specs.NumberRows.{compare_effect, constant_effect, convert_effect, increment_effect, int_negate_effect, int_op_effect, int_shift_effect, load_effect, long_negate_effect, long_op_effect, long_shift_effect, move_effect, store_effect}
+use Rattle.fm_frames.specs.ObjectRows.{cast_effect, class_of_field, get_field_effect, get_static_effect, is_a_effect, kind_of_field, made_of, new_effect, put_field_effect, put_static_effect, starting}
+use Rattle.fm_frames.specs.Operands.{thrown}
+use Rattle.fm_frames.specs.Rows.{effect_of}
+use Rattle.fm_frames.specs.Sights.{Sight}
+use Rattle.fm_frames.specs.States.{ref, word_at}
+use Rattle.fm_frames.specs.declared.values.Value.{Value}
+use Rattle.fm_frames.specs.declared.values.Value.TheVariants as value
+use Rattle.fm_law_sound.specs.Leading.{is_call}
+use Rattle.fm_law_sound.proofs.ArrayRows.{by_array}
+use Rattle.fm_law_sound.proofs.Cases.{by_held, by_if, by_int, by_long, by_object, by_on_field, by_on_type}
+use Rattle.fm_law_sound.proofs.Leaving.{kind_slots}
+use Rattle.fm_law_sound.proofs.ObjectRows.{row_of_field, row_of_type}
+use Rattle.fm_law_holders.specs.Uninitialised.{IsMadeAt}
+use Rattle.fm_law_holders.proofs.EffectTakes.{arrays_take, compare_takes, element_takes, int_jump_takes, int_negate_takes, int_op_takes, int_shift_takes, length_takes, long_negate_takes, long_op_takes, long_shift_takes, lookup_takes, made_takes, null_jump_takes, pair_jump_takes, put_takes, table_takes}
+use Rattle.fm_law_holders.proofs.Leaving.{above_goes, Goes, Leads, leaves_stack, Left, moved_leaves, one_stored, pushed_goes, Row, Takes, two_stored, worked_below_goes, worked_goes}
+use Rattle.fm_law_holders.proofs.Slots.{Are, AreAt, Is, is_at, IsOther, other_is, replaced_are, written_are}
+
+-- ---- slots of which nothing is asked
+
+pub kind_other : (k : Kind) → AllByRecursion IsOther (stack_slots (k ∷ []))
+kind_other kind.Boolean = (tt, tt)
+kind_other kind.Byte = (tt, tt)
+kind_other kind.Char = (tt, tt)
+kind_other kind.Short = (tt, tt)
+kind_other kind.Int = (tt, tt)
+kind_other kind.Long = (tt, (tt, tt))
+kind_other (kind.Ref t) = (tt, tt)
+
+null_other : (e : Elem) → AllByRecursion IsOther (null_element e)
+null_other elem.Long = (tt, (tt, tt))
+null_other e = (tt, tt)
+
+element_other : (e : Elem) (t : TypeRef) → AllByRecursion IsOther (typed.element_of e t)
+element_other elem.Long t = (tt, (tt, tt))
+element_other e t = (tt, tt)
+
+int_other : (s : Slot) → is_int s ≡ true → IsOther s
+int_other slot.Int is = tt
+int_other s is = absurd (false≢true is)
+
+none_given : (o : Outline) (method field : ℕ) (t : TypeRef) (below : Slot) (slots : List Slot) → takes_field o method field t below ≡ Some slots
+    → AllByRecursion IsOther slots
+none_given o method field t below slots is =
+    let parts = cond-some_then _ (Some []) slots is in subst (AllByRecursion IsOther) (same_Some [] slots parts.1) tt
+
+module _ (r : Row) where
+  abbrev o : Outline
+  o = r.outline
+
+  -- where the effect leads as the checker's row does
+  abbrev Keeps : Insn → Effect → Type 0
+  Keeps i e = Leads r i e → Goes r e
+
+  -- where an effect does nothing but make one object, that is of this item
+  abbrev pub NewIs : Effect → Type 0
+  NewIs e = (t : TypeRef) (n : ℕ) → e.actions ≡ Make t n [] ∷ [] → IsMadeAt r.store r.made r.frame.item (slice_index_or r.cells 0 0)
+
+  -- ---- constants
+
+  constant_goes : (index : ℕ) (u : Use) → constant_row o u r.before ≡ Some r.after → Keeps (insn.LoadPool index) (constant_effect u)
+  unfolding constant_row constant_effect
+  constant_goes index (resolved.OfType t) row leads = absurd (cc)
+  constant_goes index (resolved.OfField g t) row leads = absurd (cc)
+  constant_goes index (resolved.OfMethod m t) row leads = absurd (cc)
+  constant_goes index (resolved.OfInt n) row leads = pushed_goes r (slot.Int ∷ []) (insn.LoadPool index) (words 0 (int_word n)) row (tt, tt) (refl, refl) leads
+  constant_goes index (resolved.OfLong n) row leads =
+      pushed_goes r (slot.Top ∷ slot.Long ∷ []) (insn.LoadPool index) (words 0 (long_words n)) row (tt, (tt, tt)) (refl, refl) leads
+  constant_goes index (resolved.OfText text) row leads =
+      pushed_goes r (slot.Ref _ ∷ []) (insn.LoadPool index) (constant_effect (resolved.OfText text)) row (tt, tt) (refl, refl) leads
+  constant_goes index resolved.Unused row leads = absurd (cc)
+
+  -- ---- locals
+
+  loaded_goes : (q : Reg) (k : ℕ) (found : Slot) → slice_get r.before.locals k ≡ Some found
+      → cond (suits q found) (Some (pushed (loaded q found) r.before)) None ≡ Some r.after → Goes r (load_effect q k)
+  unfolding load_effect
+  loaded_goes reg.Int k found at is =
+      let parts = cond-some_then (suits reg.Int found) (Some (pushed (loaded reg.Int found) r.before)) r.after is in
+      leaves_stack r (found ∷ r.before.stack) (load_effect reg.Int k) (same_Some _ r.after parts.1) refl
+      (is_at r.store r.made r.before.locals r.frame.locals k found r.locals at, r.stack)
+  loaded_goes reg.Long k found at is =
+      let parts = cond-some_then (suits reg.Long found) (Some (pushed (loaded reg.Long found) r.before)) r.after is in
+      leaves_stack r (slot.Top ∷ found ∷ r.before.stack) (load_effect reg.Long k) (same_Some _ r.after parts.1) refl
+      (tt, (is_at r.store r.made r.before.locals r.frame.locals k found r.locals at, r.stack))
+  loaded_goes reg.Ref k found at is =
+      let parts = cond-some_then (suits reg.Ref found) (Some (pushed (loaded reg.Ref found) r.before)) r.after is in
+      leaves_stack r (found ∷ r.before.stack) (load_effect reg.Ref k) (same_Some _ r.after parts.1) refl
+      (is_at r.store r.made r.before.locals r.frame.locals k found r.locals at, r.stack)
+
+  load_goes : (q : Reg) (k : ℕ) → load_row q k r.before ≡ Some r.after → Goes r (load_effect q k)
+  unfolding load_row
+  load_goes q k row =
+      let found = option_and_then-some (λ found. cond (suits q found) (Some (pushed (loaded q found) r.before)) None) (slice_get r.before.locals k) r.after row in
+      loaded_goes q k found.0 found.1 found.2
+
+  stored_state : (k : ℕ) (slots stack : List Slot) → stored_from k slots stack r.before ≡ Some r.after
+      → (locals : List Slot) × (stored k slots r.before.locals ≡ Some locals) × (record r.before { locals = locals; stack = stack } ≡ r.after)
+  stored_state k slots stack row =
+      option_map-some (λ locals. record r.before { locals = locals; stack = stack }) (stored k slots r.before.locals) r.after row
+
+  -- the words of a stack one by one
+  first_is : (s : Slot) (stack : List Slot) (values : List Value) → Are r.store r.made (s ∷ stack) values
+      → Is r.store r.made s (word_at values 0) × Are r.store r.made stack (drop 1 values)
+  first_is s stack [] h = absurd h
+  first_is s stack (v ∷ values) h = h
+
+  second_is : (half s : Slot) (stack : List Slot) (values : List Value) → Are r.store r.made (half ∷ s ∷ stack) values
+      → Is r.store r.made s (word_at values 1) × Are r.store r.made stack (drop 2 values)
+  second_is half s stack [] h = absurd h
+  second_is half s stack (v ∷ []) h = absurd h.1
+  second_is half s stack (v ∷ w ∷ values) h = h.1
+
+  one_goes : (k : ℕ) (found : Slot) (stack : List Slot) → r.before.stack ≡ found ∷ stack → stored_from k (found ∷ []) stack r.before ≡ Some r.after
+      → Left r (store_effect reg.Int k)
+  unfolding store_effect
+  one_goes k found stack is row =
+      let parts = stored_state k (found ∷ []) stack row in
+      let top = first_is found stack r.frame.stack (subst (λ xs. Are r.store r.made xs r.frame.stack) is r.stack) in
+      subst (λ (t : TypeState). AreAt r.store r.made t (slice_set r.frame.locals k (word_at r.frame.stack 0)) (drop 1 r.frame.stack)) parts.2
+      (record { in_locals = one_stored r k found parts.0 (word_at r.frame.stack 0) parts.1 top.0; in_stack = top.1 })
+
+  two_go : (k : ℕ) (half found : Slot) (stack : List Slot) → r.before.stack ≡ half ∷ found ∷ stack
+      → stored_from k (found ∷ slot.Top ∷ []) stack r.before ≡ Some r.after → Left r (store_effect reg.Long k)
+  unfolding store_effect
+  two_go k half found stack is row =
+      let parts = stored_state k (found ∷ slot.Top ∷ []) stack row in
+      let top = second_is half found stack r.frame.stack (subst (λ xs. Are r.store r.made xs r.frame.stack) is r.stack) in
+      subst (λ (t : TypeState). AreAt r.store r.made t (slice_set (slice_set r.frame.locals k (word_at r.frame.stack 1)) (k + 1) value.Top)
+      (drop 2 r.frame.stack)) parts.2
+      (record { in_locals = two_stored r k found parts.0 (word_at r.frame.stack 1) parts.1 top.0; in_stack = top.1 })
+
+  -- the row of a store over a stack of its own
+  abbrev stored_by : Reg → ℕ → List Slot → Option TypeState
+  stored_by q k [] = None
+  stored_by reg.Int k (found ∷ stack) = cond (is_int found) (stored_from k (found ∷ []) stack r.before) None
+  stored_by reg.Ref k (found ∷ stack) = cond (is_reference found) (stored_from k (found ∷ []) stack r.before) None
+  stored_by reg.Long k (half ∷ []) = None
+  stored_by reg.Long k (half ∷ found ∷ stack) = cond (is_long found) (stored_from k (found ∷ slot.Top ∷ []) stack r.before) None
+
+  store_by : (q : Reg) (k : ℕ) (stack : List Slot) → r.before.stack ≡ stack → stored_by q k stack ≡ Some r.after → Goes r (store_effect q k)
+  unfolding store_effect
+  store_by reg.Int k [] is row = absurd (cc)
+  store_by reg.Ref k [] is row = absurd (cc)
+  store_by reg.Long k [] is row = absurd (cc)
+  store_by reg.Int k (found ∷ stack) is row = one_goes k found stack is (cond-some_then (is_int found) (stored_from k (found ∷ []) stack r.before) r.after row).1
+  store_by reg.Ref k (found ∷ stack) is row =
+      one_goes k found stack is (cond-some_then (is_reference found) (stored_from k (found ∷ []) stack r.before) r.after row).1
+  store_by reg.Long k (half ∷ []) is row = absurd (cc)
+  store_by reg.Long k (half ∷ found ∷ stack) is row =
+      two_go k half found stack is (cond-some_then (is_long found) (stored_from k (found ∷ slot.Top ∷ []) stack r.before) r.after row).1
+
+  store_goes : (q : Reg) (k : ℕ) → store_row o q k r.before ≡ Some r.after → Goes r (store_effect q k)
+  unfolding store_row
+  store_goes reg.Int k row = store_by reg.Int k r.before.stack refl row
+  store_goes reg.Long k row = store_by reg.Long k r.before.stack refl row
+  store_goes reg.Ref k row = store_by reg.Ref k r.before.stack refl row
+
+  increment_goes : (k : ℕ) (by : ℤ) → increment_row k r.before ≡ Some r.after → Goes r (increment_effect k by)
+  unfolding increment_row
+  increment_goes k by row =
+      let parts = cond-some_then (is_int (local_at r.before.locals k)) (Some r.before) r.after row in
+      let v : Value = sum_of (word_at r.frame.locals k) by in
+      subst (λ (t : TypeState). AreAt r.store r.made t (slice_set r.frame.locals k v) r.frame.stack) (same_Some r.before r.after parts.1)
+      (record {
+        in_locals = written_are r.store r.made k v r.before.locals r.frame.locals (int_other (local_at r.before.locals k) parts.0) r.locals;
+        in_stack = r.stack;
+      })
+
+  -- ---- moves of the stack
+
+  move_goes : (i : Insn) → move_row i r.before ≡ Some r.after → Goes r (move_effect i)
+  unfolding move_row move_effect
+  move_goes insn.Pop row = moved_leaves r (record { takes = 1; gives = [] }) row
+  move_goes insn.Pop2 row = moved_leaves r (record { takes = 2; gives = [] }) row
+  move_goes insn.Dup row = moved_leaves r (record { takes = 1; gives = 0 ∷ 0 ∷ [] }) row
+  move_goes insn.DupX1 row = moved_leaves r (record { takes = 2; gives = 0 ∷ 1 ∷ 0 ∷ [] }) row
+  move_goes insn.DupX2 row = moved_leaves r (record { takes = 3; gives = 0 ∷ 1 ∷ 2 ∷ 0 ∷ [] }) row
+  move_goes insn.Dup2 row = moved_leaves r (record { takes = 2; gives = 0 ∷ 1 ∷ 0 ∷ 1 ∷ [] }) row
+  move_goes insn.Dup2X1 row = moved_leaves r (record { takes = 3; gives = 0 ∷ 1 ∷ 2 ∷ 0 ∷ 1 ∷ [] }) row
+  move_goes insn.Dup2X2 row = moved_leaves r (record { takes = 4; gives = 0 ∷ 1 ∷ 2 ∷ 3 ∷ 0 ∷ 1 ∷ [] }) row
+  move_goes insn.Swap row = moved_leaves r (record { takes = 2; gives = 1 ∷ 0 ∷ [] }) row
+  move_goes i row = absurd (cc)
+
+  -- ---- conversions
+
+  convert_goes : (to : Conv) (sights : List Sight) → convert_row o to r.before ≡ Some r.after → Keeps (insn.Convert to) (convert_effect to sights)
+  unfolding convert_row convert_effect
+  convert_goes conv.IntToLong sights row leads =
+      worked_goes r (slot.Int ∷ []) (slot.Top ∷ slot.Long ∷ []) (insn.Convert conv.IntToLong) (convert_effect conv.IntToLong sights) row (tt, (tt, tt))
+      (by_int (Takes 1) sights 0 _ tt (λ a. (refl, refl))) leads
+  convert_goes conv.LongToInt sights row leads =
+      worked_goes r (slot.Top ∷ slot.Long ∷ []) (slot.Int ∷ []) (insn.Convert conv.LongToInt) (convert_effect conv.LongToInt sights) row (tt, tt)
+      (by_long (Takes 2) sights 1 _ tt (λ a. (refl, refl))) leads
+  convert_goes conv.IntToByte sights row leads =
+      worked_goes r (slot.Int ∷ []) (slot.Int ∷ []) (insn.Convert conv.IntToByte) (convert_effect conv.IntToByte sights) row (tt, tt)
+      (by_int (Takes 1) sights 0 _ tt (λ a. (refl, refl))) leads
+  convert_goes conv.IntToChar sights row leads =
+      worked_goes r (slot.Int ∷ []) (slot.Int ∷ []) (insn.Convert conv.IntToChar) (convert_effect conv.IntToChar sights) row (tt, tt)
+      (by_int (Takes 1) sights 0 _ tt (λ a. (refl, refl))) leads
+  convert_goes conv.IntToShort sights row leads =
+      worked_goes r (slot.Int ∷ []) (slot.Int ∷ []) (insn.Convert conv.IntToShort) (convert_effect conv.IntToShort sights) row (tt, tt)
+      (by_int (Takes 1) sights 0 _ tt (λ a. (refl, refl))) leads
+
+  -- ---- returns
+
+  return_goes : (value : Option Reg) → Goes r (return_effect value)
+  unfolding return_effect
+  return_goes None = tt
+  return_goes (Some reg.Int) = tt
+  return_goes (Some reg.Long) = tt
+  return_goes (Some reg.Ref) = tt
+
+  throw_goes : (sights : List Sight) → Goes r (throw_effect o sights)
+  unfolding throw_effect
+  throw_goes sights = by_object (Goes r) o (throwable_type o) sights 0 _ tt tt tt (λ it seen passes. tt)
+
+  -- ---- objects and fields
+
+  new_made : (t : TypeRef) (class : Option ℕ) (b : Bool)
+      → cond b (Some (record r.before { locals = replaced (is_uninit r.frame.item) slot.Top r.before.locals; stack = slot.Uninit r.frame.item ∷ r.before.stack })) None
+      ≡ Some r.after → NewIs (made_of o t class) → Goes r (made_of o t class)
+  new_made t None b row new = tt
+  new_made t (Some class) b row new =
+      let parts = cond-some_then b _ r.after row in
+      subst (λ (s : TypeState). AreAt r.store r.made s r.frame.locals (ref (slice_index_or r.cells 0 0) ∷ r.frame.stack)) (same_Some _ r.after parts.1)
+      (record {
+        in_locals = replaced_are r.store r.made (is_uninit r.frame.item) slot.Top tt r.before.locals r.frame.locals r.locals;
+        in_stack = (new t _ refl, r.stack);
+      })
+
+  new_goes : (u : Use) → new_row o r.frame.item u r.before ≡ Some r.after → NewIs (new_effect o u) → Goes r (new_effect o u)
+  unfolding new_row new_effect
+  new_goes u row =
+      by_on_type (λ e. NewIs e → Goes r e) o u _ (λ new. tt)
+      (λ n t is at new. new_made t (class_of_type t) _ (row_of_type o u _ n t r.after is at row) new)
+
+  get_static_goes : (index : ℕ) (u : Use) → get_static_row o u r.before ≡ Some r.after → Keeps (insn.GetStatic index) (get_static_effect o u)
+  unfolding get_static_row get_static_effect
+  get_static_goes index u row =
+      by_on_field (Keeps (insn.GetStatic index)) o u _ (λ leads. tt)
+      (λ g n t is at leads. pushed_goes r (field_words o g.0) (insn.GetStatic index)
+      (starting (class_of_field o g.0) (words 0 (effects.loaded (kind_of_field o g.0) (OfStatic (slot_of o.classes g.0)))))
+      (row_of_field o u _ g n t r.after is at row) (kind_other (kind_of_field o g.0)) (refl, refl) leads)
+
+  put_static_goes : (index : ℕ) (u : Use) → put_static_row o u r.before ≡ Some r.after → Keeps (insn.PutStatic index) (put_static_effect o u)
+  unfolding put_static_row put_static_effect
+  put_static_goes index u row =
+      by_on_field (Keeps (insn.PutStatic index)) o u _ (λ leads. tt)
+      (λ g n t is at leads. worked_goes r (field_words o g.0) [] (insn.PutStatic index)
+      (starting (class_of_field o g.0) (acting (kind_words (kind_of_field o g.0)) (SetStatic (slot_of o.classes g.0) (kind_of_field o g.0) (OfOperand (kind_words (kind_of_field o g.0) - 1)) ∷ [])))
+      (row_of_field o u _ g n t r.after is at row) tt (kind_slots (kind_of_field o g.0), refl) leads)
+
+  get_field_goes : (index : ℕ) (u : Use) (sights : List Sight) → get_field_row o u r.before ≡ Some r.after
+      → Keeps (insn.GetField index) (get_field_effect o u sights)
+  unfolding get_field_row get_field_effect
+  get_field_goes index u sights row =
+      by_on_field (Keeps (insn.GetField index)) o u _ (λ leads. tt)
+      (λ g n t is at. by_object (Keeps (insn.GetField index)) o t sights 0 _ (λ leads. tt) (λ leads. tt) (λ leads. tt)
+      (λ it seen passes leads. worked_goes r (slot.Ref t ∷ []) (field_words o g.0) (insn.GetField index)
+      (words 1 (effects.loaded (kind_of_field o g.0) (OfPlace 0 (slot_of o.classes g.0) (kind_of_field o g.0))))
+      (row_of_field o u _ g n t r.after is at row) (kind_other (kind_of_field o g.0)) (refl, refl) leads))
+
+  put_field_goes : (index : ℕ) (u : Use) (sights : List Sight) → put_field_row o r.frame.method u r.before ≡ Some r.after
+      → Keeps (insn.PutField index) (put_field_effect o u sights)
+  unfolding put_field_row put_field_effect
+  put_field_goes index u sights row =
+      by_on_field (Keeps (insn.PutField index)) o u _ (λ leads. tt)
+      (λ g n t is at. by_object (Keeps (insn.PutField index)) o t sights (kind_words (kind_of_field o g.0)) _ (λ leads. tt) (λ leads. tt) (λ leads. tt)
+      (λ it seen passes leads. worked_below_goes r (field_words o g.0) (takes_field o r.frame.method g.0 t) (insn.PutField index)
+      (acting (kind_words (kind_of_field o g.0) + 1) (Put (OfOperand (kind_words (kind_of_field o g.0))) (slot_of o.classes g.0) (kind_of_field o g.0) (OfOperand (kind_words (kind_of_field o g.0) - 1)) ∷ []))
+      (row_of_field o u _ g n t r.after is at row) (λ below slots given. none_given o r.frame.method g.0 t below slots given)
+      (ap (λ k. k + 1) (kind_slots (kind_of_field o g.0)), refl) leads))
+
+  cast_are : (w : Slot) (t : TypeRef) (stack rest : List Slot) (values : List Value) → taken o (w ∷ []) stack ≡ Some rest → Are r.store r.made stack values
+      → Are r.store r.made (slot.Ref t ∷ rest) values
+  cast_are w t [] rest values is h = absurd (cc)
+  cast_are w t (s ∷ stack) rest [] is h = absurd h
+  cast_are w t (s ∷ stack) rest (v ∷ values) is h =
+      (tt, subst (λ xs. Are r.store r.made xs values) (same_Some stack rest (cond-some_then (fits o s w) (Some stack) rest is).1) h.1)
+
+  cast_leaves : (t : TypeRef) → worked o (object_slot o ∷ []) (slot.Ref t ∷ []) r.before ≡ Some r.after → Left r (words 0 [])
+  cast_leaves t row =
+      let rest = option_map-some (λ stack. record r.before { stack = slot.Ref t ∷ stack }) (taken o (object_slot o ∷ []) r.before.stack) r.after row in
+      leaves_stack r (slot.Ref t ∷ rest.0) (words 0 []) rest.2 refl (cast_are (object_slot o) t r.before.stack rest.0 r.frame.stack rest.1 r.stack)
+
+  cast_goes : (u : Use) (sights : List Sight) → cast_row o u r.before ≡ Some r.after → Goes r (cast_effect o u sights)
+  unfolding cast_row cast_effect
+  cast_goes u sights row =
+      by_on_type (Goes r) o u _ tt
+      (λ n t is at.
+      let leaves : Left r (words 0 []) = cast_leaves t (row_of_type o u _ n t r.after is at row) in
+      by_held (Goes r) (words 0 []) sights 0 _ leaves tt tt
+      (λ it seen. by_if (Goes r) (is_sub o.classes it.type t) (words 0 []) (thrown o (codes "java/lang/ClassCastException"))
+      (λ passes. leaves) (λ fails. tt)))
+
+  is_a_goes : (index : ℕ) (u : Use) (sights : List Sight) → is_a_row o u r.before ≡ Some r.after → Keeps (insn.IsA index) (is_a_effect o u sights)
+  unfolding is_a_row is_a_effect
+  is_a_goes index u sights row =
+      by_on_type (Keeps (insn.IsA index)) o u _ (λ leads. tt)
+      (λ n t is at.
+      let there = row_of_type o u _ n t r.after is at row in
+      by_held (Keeps (insn.IsA index)) _ sights 0 _
+      (λ leads. worked_goes r (object_slot o ∷ []) (slot.Int ∷ []) (insn.IsA index) (words 1 (int_word (pos 0))) there (tt, tt) (refl, refl) leads)
+      (λ leads. tt) (λ leads. tt)
+      (λ it seen leads. worked_goes r (object_slot o ∷ []) (slot.Int ∷ []) (insn.IsA index)
+      (words 1 (int_word (if is_sub o.classes it.type t then pos 1 else pos 0))) there (tt, tt) (refl, refl) leads))
+
+  -- ---- arrays
+
+  array_load_goes : (e : Elem) (sights : List Sight) → array_load_row o e r.before ≡ Some r.after → Keeps (insn.ArrayLoad e) (array_load_effect o e sights)
+  unfolding array_load_row array_load_effect
+  array_load_goes e sights row leads =
+      worked_below_goes r (slot.Int ∷ []) (on_array (is_array_of e) (null_element e) (typed.element_of e)) (insn.ArrayLoad e) (array_load_effect o e sights) row
+      (λ below slots given. by_array (AllByRecursion IsOther) (is_array_of e) (null_element e) (typed.element_of e) below slots (null_other e) (element_other e) given)
+      (element_takes 2 o e sights 0 (λ it place. words 2 (effects.loaded (element_kind it.type) (OfPlace 1 place (element_kind it.type)))) (λ it place. (refl, refl))) leads
+
+  array_store_goes : (e : Elem) (sights : List Sight) → array_store_row o e r.before ≡ Some r.after → Takes (length (stored_element o e ++ slot.Int ∷ []) + 1) (array_store_effect o e sights)
+      → Keeps (insn.ArrayStore e) (array_store_effect o e sights)
+  unfolding array_store_row
+  array_store_goes e sights row takes leads =
+      worked_below_goes r (stored_element o e ++ slot.Int ∷ []) (on_array (is_array_of e) [] (λ t. [])) (insn.ArrayStore e) (array_store_effect o e sights) row
+      (λ below slots given. by_array (AllByRecursion IsOther) (is_array_of e) [] (λ t. []) below slots tt (λ t. tt) given)
+      takes leads
+
+  array_store_takes : (e : Elem) (sights : List Sight) → Takes (length (stored_element o e ++ slot.Int ∷ []) + 1) (array_store_effect o e sights)
+  unfolding array_store_effect
+  array_store_takes elem.Boolean sights = element_takes 3 o elem.Boolean sights 1 (λ it place. put_element 1 it place) (λ it place. (refl, refl))
+  array_store_takes elem.Byte sights = element_takes 3 o elem.Byte sights 1 (λ it place. put_element 1 it place) (λ it place. (refl, refl))
+  array_store_takes elem.Char sights = element_takes 3 o elem.Char sights 1 (λ it place. put_element 1 it place) (λ it place. (refl, refl))
+  array_store_takes elem.Short sights = element_takes 3 o elem.Short sights 1 (λ it place. put_element 1 it place) (λ it place. (refl, refl))
+  array_store_takes elem.Int sights = element_takes 3 o elem.Int sights 1 (λ it place. put_element 1 it place) (λ it place. (refl, refl))
+  array_store_takes elem.Long sights = element_takes 4 o elem.Long sights 2 (λ it place. put_element 2 it place) (λ it place. (refl, refl))
+  array_store_takes elem.Ref sights =
+      element_takes 3 o elem.Ref sights 1 (λ it place. put_reference o sights it place) (λ it place. put_takes o sights it place)
+
+  length_goes : (sights : List Sight) → length_row o r.before ≡ Some r.after → Keeps insn.Length (length_effect o sights)
+  unfolding length_row
+  length_goes sights row leads =
+      worked_below_goes r [] (on_array (λ t. nat_lt 0 t.dims) (slot.Int ∷ []) (λ t. slot.Int ∷ [])) insn.Length (length_effect o sights) row
+      (λ below slots given. by_array (AllByRecursion IsOther) (λ t. nat_lt 0 t.dims) (slot.Int ∷ []) (λ t. slot.Int ∷ []) below slots (tt, tt) (λ t. (tt, tt)) given)
+      (length_takes o sights) leads
+
+  made_goes : (i : Insn) (t : Option TypeRef) (given : TypeRef) (sights : List Sight) → worked o (slot.Int ∷ []) (slot.Ref given ∷ []) r.before ≡ Some r.after
+      → Keeps i (array_made o t sights)
+  made_goes i t given sights row leads =
+      worked_goes r (slot.Int ∷ []) (slot.Ref given ∷ []) i (array_made o t sights) row (tt, tt) (made_takes o t sights) leads
+
+  new_array_goes : (e : Elem) (sights : List Sight) → new_array_row o e r.before ≡ Some r.after → Keeps (insn.NewArray e) (new_array_effect o e sights)
+  unfolding new_array_row new_array_effect
+  new_array_goes elem.Boolean sights row leads = made_goes (insn.NewArray elem.Boolean) (Some (record { dims = 1; base = base.Boolean })) (record { dims = 1; base = base.Boolean }) sights row leads
+  new_array_goes elem.Byte sights row leads = made_goes (insn.NewArray elem.Byte) (Some (record { dims = 1; base = base.Byte })) (record { dims = 1; base = base.Byte }) sights row leads
+  new_array_goes elem.Char sights row leads = made_goes (insn.NewArray elem.Char) (Some (record { dims = 1; base = base.Char })) (record { dims = 1; base = base.Char }) sights row leads
+  new_array_goes elem.Short sights row leads = made_goes (insn.NewArray elem.Short) (Some (record { dims = 1; base = base.Short })) (record { dims = 1; base = base.Short }) sights row leads
+  new_array_goes elem.Int sights row leads = made_goes (insn.NewArray elem.Int) (Some (record { dims = 1; base = base.Int })) (record { dims = 1; base = base.Int }) sights row leads
+  new_array_goes elem.Long sights row leads = made_goes (insn.NewArray elem.Long) (Some (record { dims = 1; base = base.Long })) (record { dims = 1; base = base.Long }) sights row leads
+  new_array_goes elem.Ref sights row leads = absurd (cc)
+
+  new_references_goes : (index : ℕ) (u : Use) (sights : List Sight) → new_references_row o u r.before ≡ Some r.after
+      → Keeps (insn.NewRefs index) (new_references_effect o u sights)
+  unfolding new_references_row new_references_effect
+  new_references_goes index u sights row =
+      by_on_type (Keeps (insn.NewRefs index)) o u _ (λ leads. tt)
+      (λ n t is at leads.
+      let found = option_and_then-some (λ array. worked o (slot.Int ∷ []) (slot.Ref array ∷ []) r.before) (array_of t) r.after
+      (row_of_type o u _ n t r.after is at row) in
+      made_goes (insn.NewRefs index) (array_of t) found.0 sights found.2 leads)
+
+  multi_array_goes : (index dimensions : ℕ) (u : Use) (sights : List Sight) → multi_array_row o u dimensions r.before ≡ Some r.after
+      → Keeps (insn.MultiArray index dimensions) (multi_array_effect o u dimensions sights)
+  unfolding multi_array_row multi_array_effect
+  multi_array_goes index dimensions u sights row =
+      by_on_type (Keeps (insn.MultiArray index dimensions)) o u _ (λ leads. tt)
+      (λ n t is at leads.
+      let parts = cond-some_then (nat_lt 0 dimensions && nat_le dimensions t.dims) (worked o (replicate dimensions slot.Int) (slot.Ref t ∷ []) r.before) r.after
+      (row_of_type o u _ n t r.after is at row) in
+      let counts : Option (List ℤ) = ints_at sights (reverse (range_with_len 0 dimensions)) in
+      worked_goes r (replicate dimensions slot.Int) (slot.Ref t ∷ []) (insn.MultiArray index dimensions) (arrays_of o t dimensions counts) parts.1 (tt, tt)
+      (subst (λ k. Takes k (arrays_of o t dimensions counts)) (sym (length-replicate dimensions slot.Int)) (arrays_take o t dimensions counts).takes) leads)
+
+  -- ---- all rows but calls
+
+  pub plain_goes : (i : Insn) (u : Use) (news : ℕ → Option TypeRef) (byte : Option ℕ) (sights : List Sight) → is_call i ≡ false
+      → row_after o r.frame.method r.frame.item news u i r.before ≡ Some r.after → Leads r i (effect_of o r.frame.method u i byte sights)
+      → NewIs (effect_of o r.frame.method u i byte sights) → Goes r (effect_of o r.frame.method u i byte sights)
+  unfolding row_after effect_of
+  plain_goes insn.Nop u news byte sights call row leads new = pushed_goes r [] insn.Nop (words 0 []) row tt (refl, refl) leads
+  plain_goes insn.Null u news byte sights call row leads new = pushed_goes r (slot.Null ∷ []) insn.Null (words 0 null_word) row (tt, tt) (refl, refl) leads
+  plain_goes (insn.Const n) u news byte sights call row leads new =
+      pushed_goes r (slot.Int ∷ []) (insn.Const n) (words 0 (int_word n)) row (tt, tt) (refl, refl) leads
+  plain_goes (insn.LongConst n) u news byte sights call row leads new =
+      pushed_goes r (slot.Top ∷ slot.Long ∷ []) (insn.LongConst n) (words 0 (long_words n)) row (tt, (tt, tt)) (refl, refl) leads
+  plain_goes (insn.LoadPool index) u news byte sights call row leads new = constant_goes index u row leads
+  plain_goes (insn.Load q k) u news byte sights call row leads new = load_goes q k row
+  plain_goes (insn.Store q k) u news byte sights call row leads new = store_goes q k row
+  plain_goes (insn.Inc k by) u news byte sights call row leads new = increment_goes k by row
+  plain_goes insn.Pop u news byte sights call row leads new = move_goes insn.Pop row
+  plain_goes insn.Pop2 u news byte sights call row leads new = move_goes insn.Pop2 row
+  plain_goes insn.Dup u news byte sights call row leads new = move_goes insn.Dup row
+  plain_goes insn.DupX1 u news byte sights call row leads new = move_goes insn.DupX1 row
+  plain_goes insn.DupX2 u news byte sights call row leads new = move_goes insn.DupX2 row
+  plain_goes insn.Dup2 u news byte sights call row leads new = move_goes insn.Dup2 row
+  plain_goes insn.Dup2X1 u news byte sights call row leads new = move_goes insn.Dup2X1 row
+  plain_goes insn.Dup2X2 u news byte sights call row leads new = move_goes insn.Dup2X2 row
+  plain_goes insn.Swap u news byte sights call row leads new = move_goes insn.Swap row
+  plain_goes (insn.IntOp op) u news byte sights call row leads new =
+      worked_goes r (slot.Int ∷ slot.Int ∷ []) (slot.Int ∷ []) (insn.IntOp op) (int_op_effect o op sights) row (tt, tt) (int_op_takes o op sights) leads
+  plain_goes (insn.LongOp op) u news byte sights call row leads new =
+      worked_goes r (slot.Top ∷ slot.Long ∷ slot.Top ∷ slot.Long ∷ []) (slot.Top ∷ slot.Long ∷ []) (insn.LongOp op) (long_op_effect o op sights) row (tt, (tt, tt))
+      (long_op_takes o op sights) leads
+  plain_goes insn.IntNeg u news byte sights call row leads new =
+      worked_goes r (slot.Int ∷ []) (slot.Int ∷ []) insn.IntNeg (int_negate_effect sights) row (tt, tt) (int_negate_takes sights) leads
+  plain_goes insn.LongNeg u news byte sights call row leads new =
+      worked_goes r (slot.Top ∷ slot.Long ∷ []) (slot.Top ∷ slot.Long ∷ []) insn.LongNeg (long_negate_effect sights) row (tt, (tt, tt)) (long_negate_takes sights) leads
+  plain_goes (insn.IntShift shift) u news byte sights call row leads new =
+      worked_goes r (slot.Int ∷ slot.Int ∷ []) (slot.Int ∷ []) (insn.IntShift shift) (int_shift_effect shift sights) row (tt, tt) (int_shift_takes shift sights) leads
+  plain_goes (insn.LongShift shift) u news byte sights call row leads new =
+      worked_goes r (slot.Int ∷ slot.Top ∷ slot.Long ∷ []) (slot.Top ∷ slot.Long ∷ []) (insn.LongShift shift) (long_shift_effect shift sights) row (tt, (tt, tt))
+      (long_shift_takes shift sights) leads
+  plain_goes (insn.Convert to) u news byte sights call row leads new = convert_goes to sights row leads
+  plain_goes insn.LongCompare u news byte sights call row leads new =
+      worked_goes r (slot.Top ∷ slot.Long ∷ slot.Top ∷ slot.Long ∷ []) (slot.Int ∷ []) insn.LongCompare (compare_effect sights) row (tt, tt) (compare_takes sights) leads
+  plain_goes (insn.IfInt test target) u news byte sights call row leads new =
+      worked_goes r (slot.Int ∷ []) [] (insn.IfInt test target) (int_jump_effect test sights) row tt (int_jump_takes test sights) leads
+  plain_goes (insn.IfPair test target) u news byte sights call row leads new =
+      worked_goes r (slot.Int ∷ slot.Int ∷ []) [] (insn.IfPair test target) (pair_jump_effect test sights) row tt (pair_jump_takes test sights) leads
+  plain_goes (insn.IfSame same target) u news byte sights call row leads new =
+      worked_goes r (object_slot o ∷ object_slot o ∷ []) [] (insn.IfSame same target) (same_jump_effect same) row tt (refl, refl) leads
+  plain_goes (insn.IfNull null target) u news byte sights call row leads new =
+      worked_goes r (object_slot o ∷ []) [] (insn.IfNull null target) (null_jump_effect null sights) row tt (null_jump_takes null sights) leads
+  plain_goes (insn.Goto target) u news byte sights call row leads new =
+      pushed_goes r [] (insn.Goto target) (going 0 (Jumps 0)) row tt (refl, refl) leads
+  plain_goes (insn.Table low others targets) u news byte sights call row leads new =
+      worked_goes r (slot.Int ∷ []) [] (insn.Table low others targets) (table_effect low (length targets) sights) row tt (table_takes low (length targets) sights) leads
+  plain_goes (insn.Lookup others keys targets) u news byte sights call row leads new =
+      worked_goes r (slot.Int ∷ []) [] (insn.Lookup others keys targets) (lookup_effect keys (length targets) sights) row tt (lookup_takes keys (length targets) sights) leads
+  plain_goes (insn.Return value) u news byte sights call row leads new = return_goes value
+  plain_goes insn.Throw u news byte sights call row leads new = throw_goes sights
+  plain_goes (insn.New index) u news byte sights call row leads new = new_goes u row new
+  plain_goes (insn.GetStatic index) u news byte sights call row leads new = get_static_goes index u row leads
+  plain_goes (insn.PutStatic index) u news byte sights call row leads new = put_static_goes index u row leads
+  plain_goes (insn.GetField index) u news byte sights call row leads new = get_field_goes index u sights row leads
+  plain_goes (insn.PutField index) u news byte sights call row leads new = put_field_goes index u sights row leads
+  plain_goes (insn.Cast index) u news byte sights call row leads new = cast_goes u sights row
+  plain_goes (insn.IsA index) u news byte sights call row leads new = is_a_goes index u sights row leads
+  plain_goes (insn.ArrayLoad e) u news byte sights call row leads new = array_load_goes e sights row leads
+  plain_goes (insn.ArrayStore e) u news byte sights call row leads new = array_store_goes e sights row (array_store_takes e sights) leads
+  plain_goes insn.Length u news byte sights call row leads new = length_goes sights row leads
+  plain_goes (insn.NewArray e) u news byte sights call row leads new = new_array_goes e sights row leads
+  plain_goes (insn.NewRefs index) u news byte sights call row leads new = new_references_goes index u sights row leads
+  plain_goes (insn.MultiArray index dimensions) u news byte sights call row leads new = multi_array_goes index dimensions u sights row leads
+  plain_goes (insn.Virtual index) u news byte sights call row leads new = absurd (false≢true (sym call))
+  plain_goes (insn.Interface index) u news byte sights call row leads new = absurd (false≢true (sym call))
+  plain_goes (insn.Special index) u news byte sights call row leads new = absurd (false≢true (sym call))
+  plain_goes (insn.Static index) u news byte sights call row leads new = absurd (false≢true (sym call))
+  plain_goes (insn.LeftOut opcode) u news byte sights call row leads new = absurd (cc)
