@@ -8,8 +8,8 @@ use Rattle.fm_code.proofs.Tested.{read, meant, items_spelled}
 use Rattle.fm_code.specs.ClassBytes.{item_bytes}
 use Rattle.fm_code.specs.CodeRules.{CodeIsValid}
 use Rattle.fm_code.specs.InstructionTable.{insn_at}
-use Rattle.fm_code.specs.Edges.{FallsOff, MeetsCodeRules, insn_of, falls_through, LeadsTo, Catches, IsHandlerEdge, IsEdge, IsReachable}
-use Rattle.fm_code.specs.EdgesExample.{onward, handlers_of, edges_listed, example_code, example_items, falling_code}
+use Rattle.fm_code.specs.Edges.{FallsOff, MeetsCodeRules, insn_of, falls_through, LeadsTo, Catches, IsHandlerEdge, IsEdge, IsReachable, onward, handlers_of, edges_listed}
+use Rattle.fm_code.specs.EdgesExample.{example_code, example_items, falling_code}
 use Rattle.fm_code.specs.Live.{Keeps, Live}
 use Rattle.fm_code.specs.Members.{code_of, MethodAttrIsValid, MethodIsValid}
 use Rattle.fm_code.specs.Spells.{HasSpelling}
