@@ -8,7 +8,7 @@ use Rattle.fm_summ_shapes.proofs.LeastLemmas.{below_same, calls_same, depth_same
 use Rattle.fm_base.specs.declared.kinds.Kind.{Kind}
 use Rattle.fm_base.specs.declared.limits.TheConstants.{MAX_LOCAL_WORDS}
 use Rattle.fm_code.specs.Edges.{insn_of}
-use Rattle.fm_code.specs.EdgesExample.{edges_listed}
+use Rattle.fm_code.specs.Edges.{edges_listed}
 use Rattle.fm_code.specs.declared.code_array.Code.{Code}
 use Rattle.fm_code.specs.declared.instructions.Insn.{Insn}
 use Rattle.fm_code.specs.declared.instructions.Insn.TheVariants as insn

@@ -7,8 +7,7 @@ use Rattle.std.proofs.lemmas.List.{length-replicate}
 use Rattle.std.proofs.lemmas.List.FromFn.{get_or-map-range_with_len, length-map-range_with_len}
 use Rattle.fm_base.specs.Rows.{has}
 use Rattle.fm_code.proofs.EdgesLemmas.{edge-from_edges_listed, edges_listed-from_edge}
-use Rattle.fm_code.specs.Edges.{IsEdge}
-use Rattle.fm_code.specs.Edges.{edges_listed}
+use Rattle.fm_code.specs.Edges.{IsEdge, edges_listed}
 use Rattle.fm_conn.proofs.ListLemmas.{Contains-from_range, Contains-range}
 use Rattle.fm_conn.specs.Facts.{Facts}
 use Rattle.fm_conn.specs.Nodes.{TypedMethod}
